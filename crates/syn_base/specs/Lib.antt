@@ -1,0 +1,4 @@
+pub mod Arithmetic
+pub mod Integer
+pub mod Name
+pub mod Rows

@@ -1,5 +1,5 @@
 //! A list that contracts see as its elements.
-ghost use Rattle.std.specs.Prelude.{◌≡◌, length};
+ghost use Rattle.std.specs.Prelude.{◌≡◌, ◌<◌, length, slice_set};
 
 use std::marker::Model;
 
@@ -38,5 +38,13 @@ impl<T: Drop> Items<T> {
         ensures { result.now ≡ self.now }
     {
         self.items.as_slice()
+    }
+
+    /// Puts a value in the place of an element. It takes no memory.
+    pub fn set(&mut self, at: usize, value: T)
+        requires { at < length self.old }
+        ensures { self.new ≡ slice_set self.old at value }
+    {
+        self.items[at] = value;
     }
 }

@@ -1,10 +1,20 @@
 //! Numbers, names, rows and limits: what every other crate speaks of.
 #![tactic(auto)]
 
+mod arithmetic;
+mod integer;
 mod items;
 mod limits;
 mod memory;
+mod name;
+mod rows;
+mod shape;
 
+pub use arithmetic::{Op, apply};
+pub use integer::{NumFault, print_int, read_int};
 pub use items::Items;
 pub use limits::{LimitFault, LimitKind};
 pub use memory::OutOfMemory;
+pub use name::{Name, NameFault};
+pub use rows::{ActRows, SensorRows};
+pub use shape::Shape;
