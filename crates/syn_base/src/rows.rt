@@ -67,7 +67,7 @@ impl Rows {
         ensures len { length result.now ≡ slice_index self.now.lens vector }
     {
         let start = self.shape.start(vector);
-        let len = self.shape.lens()[vector] as usize;
+        let len = self.shape.len_of(vector);
         &self.rows[k].as_slice()[start..start + len]
     }
 

@@ -54,6 +54,14 @@ impl Shape {
         self.lens.as_slice()
     }
 
+    /// The length of a vector.
+    pub fn len_of(&self, vector: usize) -> usize
+        requires { vector < length self.now }
+        ensures { result ≡ slice_index self.now vector }
+    {
+        self.lens[vector] as usize
+    }
+
     /// The length of the row.
     pub fn width(&self) -> usize
         ensures { result ≡ sum self.now }
