@@ -1,0 +1,19 @@
+-- Texts as lists of bytes.
+use Rattle.std.specs.Prelude.{◌≡◌, ℕ, List, [], ◌∷◌, ◌++◌, Option, option_map, find}
+use Rattle.std.specs.Str.{bytes_eq}
+
+abbrev pub Bytes : Type 0
+Bytes = List ℕ
+
+-- the text begins so
+abbrev pub IsPrefix : Bytes → Bytes → Type 0
+IsPrefix front text = (rest : Bytes) × (text ≡ front ++ rest)
+
+-- the pieces, one after another
+abbrev pub joined : List Bytes → Bytes
+joined [] = []
+joined (piece ∷ pieces) = piece ++ joined pieces
+
+-- the bytes of the first entry with this name
+abbrev pub named : List (Bytes × Bytes) → Bytes → Option Bytes
+named entries name = option_map (λ entry. entry.1) (find (λ entry. bytes_eq entry.0 name) entries)
