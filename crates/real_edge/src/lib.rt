@@ -1,0 +1,154 @@
+//! The real outside: files, standard output and standard error. None of them tells what it holds;
+//! each counts its faults. Nothing here is proved beyond that: what a file gives and what a terminal
+//! takes is trusted.
+#![tactic(auto)]
+
+ghost use Rattle.std.specs.Prelude.{◌≡◌, ◌≤◌, length, IfSome};
+
+use outside::{Failed, File, Shelf, Sink};
+use std::fs;
+use std::io::Write;
+use std::os::unix::fs::FileExt;
+
+/// Files where they lie, each opened when its first bytes are asked for.
+#[derive(Drop)]
+pub struct FileShelf<'r> {
+    rt: &'r HostRuntime,
+    open: Option<fs::File>,
+    faults: [u64; 5],
+}
+
+impl<'r> FileShelf<'r> {
+    /// A shelf over the files that the runtime reaches.
+    pub fn new(rt: &'r HostRuntime) -> FileShelf<'r> {
+        FileShelf {
+            rt,
+            open: None,
+            faults: [0; 5],
+        }
+    }
+
+    /// Reads from a place on; the file is opened anew at place 0.
+    fn read(&mut self, name: &str, at: u64, into: &mut [u8]) -> Option<usize>
+        ensures counts { self.new.faults ≡ self.old.faults }
+        ensures fits { IfSome result (λ n. n ≤ length into.old) }
+    {
+        if at == 0 {
+            self.open = fs::open(self.rt, name).ok();
+        }
+        let file = self.open.as_ref()?;
+        file.read_at(into, at).ok()
+    }
+}
+
+impl Shelf for FileShelf<'_> {
+    ghost use Rattle.std.specs.Prelude.{None};
+    ghost use Rattle.outside.specs.ShelfMemory.{faults_of};
+
+    ghost held = { λ s. record { told = λ name. None; faults = faults_of s.faults } };
+
+    fn piece(&mut self, file: File, name: &str, at: u64, into: &mut [u8]) -> Result<usize, Failed> {
+        match self.read(name, at, into) {
+            Some(n) => Ok(n),
+            None => {
+                let place = file as usize;
+                self.faults[place] = self.faults[place].saturating_add(1);
+                Err(Failed)
+            }
+        }
+    }
+}
+
+/// Standard output.
+#[derive(Drop)]
+pub struct StdSink<'r> {
+    rt: &'r HostRuntime,
+    faults: u64,
+}
+
+impl<'r> StdSink<'r> {
+    /// The runtime's standard output.
+    pub fn new(rt: &'r HostRuntime) -> StdSink<'r> {
+        StdSink { rt, faults: 0 }
+    }
+}
+
+impl Sink for StdSink<'_> {
+    ghost use Rattle.std.specs.Prelude.{None};
+
+    ghost sunk = { λ s. record { told = None; faults = s.faults } };
+
+    fn put(&mut self, bytes: &[u8]) -> Result<usize, Failed> {
+        match self.rt.stdout().write(bytes) {
+            Ok(n) if n > 0 || bytes.is_empty() => Ok(n),
+            _ => {
+                self.faults = self.faults.saturating_add(1);
+                Err(Failed)
+            }
+        }
+    }
+}
+
+/// Standard error.
+#[derive(Drop)]
+pub struct ErrSink<'r> {
+    rt: &'r HostRuntime,
+    faults: u64,
+}
+
+impl<'r> ErrSink<'r> {
+    /// The runtime's standard error.
+    pub fn new(rt: &'r HostRuntime) -> ErrSink<'r> {
+        ErrSink { rt, faults: 0 }
+    }
+}
+
+impl Sink for ErrSink<'_> {
+    ghost use Rattle.std.specs.Prelude.{None};
+
+    ghost sunk = { λ s. record { told = None; faults = s.faults } };
+
+    fn put(&mut self, bytes: &[u8]) -> Result<usize, Failed> {
+        match self.rt.stderr().write(bytes) {
+            Ok(n) if n > 0 || bytes.is_empty() => Ok(n),
+            _ => {
+                self.faults = self.faults.saturating_add(1);
+                Err(Failed)
+            }
+        }
+    }
+}
+
+#[cfg(test)]
+mod tests {
+    use super::*;
+    use outside::{read_whole, write_whole};
+    use std::test::Fail;
+
+    #[test]
+    fn reads_a_file_and_counts_an_absent_one(rt: HostRuntime) -> Result<(), Fail> {
+        fs::write(&rt, "words.txt", "algorithm 1\n")?;
+        let mut shelf = FileShelf::new(&rt);
+        let bytes = read_whole(rt.alloc(), &mut shelf, File::Algorithm, "words.txt")?;
+        assert_eq!(rt; bytes.as_slice(), b"algorithm 1\n".as_slice());
+        assert!(rt; read_whole(rt.alloc(), &mut shelf, File::Sensors, "absent.txt").is_err());
+        assert_eq!(rt; shelf.faults.as_slice(), [0, 0, 1, 0, 0].as_slice());
+        Ok(())
+    }
+
+    #[test]
+    fn writes_to_standard_output(rt: HostRuntime) -> Result<(), Fail> {
+        let mut out = StdSink::new(&rt);
+        write_whole(&mut out, b"to standard output\n")?;
+        assert_eq!(rt; out.faults, 0);
+        Ok(())
+    }
+
+    #[test]
+    fn writes_to_standard_error(rt: HostRuntime) -> Result<(), Fail> {
+        let mut err = ErrSink::new(&rt);
+        write_whole(&mut err, b"to standard error\n")?;
+        assert_eq!(rt; err.faults, 0);
+        Ok(())
+    }
+}
