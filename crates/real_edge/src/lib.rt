@@ -130,6 +130,7 @@ mod tests {
         fs::write(&rt, "words.txt", "algorithm 1\n")?;
         let mut shelf = FileShelf::new(&rt);
         let bytes = read_whole(rt.alloc(), &mut shelf, File::Algorithm, "words.txt")?;
+        fs::remove_file(&rt, "words.txt")?;
         assert_eq!(rt; bytes.as_slice(), b"algorithm 1\n".as_slice());
         assert!(rt; read_whole(rt.alloc(), &mut shelf, File::Sensors, "absent.txt").is_err());
         assert_eq!(rt; shelf.faults.as_slice(), [0, 0, 1, 0, 0].as_slice());
