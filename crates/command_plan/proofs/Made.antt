@@ -1,0 +1,74 @@
+-- From what a plan may make to what it makes where the files are told.
+use Rattle.std.proofs.lemmas.Bool.Decides.{nat_tests}
+use Rattle.std.specs.Prelude.{if◌then◌else◌, nat_lt, option_and_then}
+use Rattle.std.proofs.Common.{◌≡◌, ℕ, ◌≤◌, ◌<◌, ◌∙◌, length, Result, Ok, Err, Option, Some, None, IfSome, inl, inr, refl, sym, true, false, subst, arith}
+use Rattle.outside.specs.Bytes.{Bytes}
+use Rattle.outside.specs.Faults.{Rose}
+use Rattle.outside.specs.Shelf.{Held, file_bound}
+use Rattle.outside.specs.declared.file.File.{File}
+use Rattle.command_plan.specs.Plan.{Plan, give, refuse, read, outcome, ReadsOnly}
+use Rattle.command_plan.specs.Ending.{Ending, done, refused, unread, unwritten, no_memory}
+use Rattle.command_plan.specs.Run.{Gives, FailsToRead, Makes, gives, refuses, not_read, was_read}
+
+-- what was made is what is defined, or a file's count rose, or memory ran out
+pub data Made {R : Type 0} (names : File → Option Bytes) (old new : Held) (plan : Plan R) : Result Bytes (Ending R) → Type 0 where
+  text_made : (bytes : Bytes) → ((o : Result Bytes R) → outcome old.told plan ≡ Some o → o ≡ Ok bytes) → Made names old new plan (Ok bytes)
+  refusal_made : (r : R) → ((o : Result Bytes R) → outcome old.told plan ≡ Some o → o ≡ Err r) → Made names old new plan (Err (refused r))
+  fault_found : (file : File) (name : Bytes) → names file ≡ Some name → Rose (old.faults file name) (new.faults file name) → Made names old new plan (Err (unread file))
+  wanting : Made names old new plan (Err no_memory)
+
+same_some : {X : Type 0} (x y : X) → Some x ≡ Some y → y ≡ x
+same_some x y e = cc
+
+not_above : {X : Type 0} (n : ℕ) (x y : X) → n ≤ file_bound → (if nat_lt file_bound n then x else y) ≡ y
+not_above n x y h = let t : nat_lt file_bound n ≡ false = grind (arith, nat_tests) in rw t refl
+
+is_above : {X : Type 0} (n : ℕ) (x y : X) → file_bound < n → (if nat_lt file_bound n then x else y) ≡ x
+is_above n x y h = let t : nat_lt file_bound n ≡ true = grind (arith, nat_tests) in rw t refl
+
+module _ {R : Type 0} where
+  -- the same, of a plan that goes on from one whose told outcome is its own
+  made_on : (names : File → Option Bytes) (old new : Held) (plan plan' : Plan R) (made : Result Bytes (Ending R))
+      → ((o : Result Bytes R) → outcome old.told plan' ≡ Some o → outcome old.told plan ≡ Some o) → Made names old new plan made → Made names old new plan' made
+  made_on names old new plan plan' _ h (text_made bytes e) = text_made bytes (λ o p. e o (h o p))
+  made_on names old new plan plan' _ h (refusal_made r e) = refusal_made r (λ o p. e o (h o p))
+  made_on names old new plan plan' _ h (fault_found file name e rose) = fault_found file name e rose
+  made_on names old new plan plan' _ h wanting = wanting
+
+  given_text : (names : File → Option Bytes) (old new : Held) (bytes : Bytes) (made : Result Bytes (Ending R)) → Gives (Ok bytes) made → Made names old new (give bytes) made
+  given_text names old new bytes made (inl e) = subst (λ r. Made names old new (give bytes) r) (sym e) (text_made bytes (λ o p. same_some _ _ p))
+  given_text names old new bytes made (inr e) = subst (λ r. Made names old new (give bytes) r) (sym e) wanting
+
+  given_refusal : (names : File → Option Bytes) (old new : Held) (r : R) (made : Result Bytes (Ending R)) → Gives (Err (refused r)) made → Made names old new (refuse r) made
+  given_refusal names old new r made (inl e) = subst (λ x. Made names old new (refuse r) x) (sym e) (refusal_made r (λ o p. same_some _ _ p))
+  given_refusal names old new r made (inr e) = subst (λ x. Made names old new (refuse r) x) (sym e) wanting
+
+  -- a file that is told and read is short
+  read_on : (next : Bytes → Option (Result Bytes R)) (refusal : R) (told : Option Bytes) (bytes : Bytes) (o : Result Bytes R) → length bytes ≤ file_bound → IfSome told (λ b. bytes ≡ b)
+      → option_and_then (λ b. if nat_lt file_bound (length b) then Some (Err refusal) else next b) told ≡ Some o → next bytes ≡ Some o
+  read_on next refusal None bytes o short h e = cc
+  read_on next refusal (Some b) bytes o short h e =
+      let l : length b ≤ file_bound = subst (λ (x : Bytes). length x ≤ file_bound) h short in
+      subst (λ (x : Bytes). next x ≡ Some o) (sym h) (sym (not_above (length b) (Some (Err refusal)) (next b) l) ∙ e)
+
+  above_bound : (next : Bytes → Option (Result Bytes R)) (refusal : R) (told : Option Bytes) (o : Result Bytes R) → IfSome told (λ b. file_bound < length b)
+      → option_and_then (λ b. if nat_lt file_bound (length b) then Some (Err refusal) else next b) told ≡ Some o → o ≡ Err refusal
+  above_bound next refusal None o h e = cc
+  above_bound next refusal (Some b) o h e = same_some _ _ (sym (is_above (length b) (Some (Err refusal)) (next b) h) ∙ e)
+
+  unread_made : (names : File → Option Bytes) (old new : Held) (file : File) (name : Bytes) (long : R) (next : Bytes → Plan R) (ending : Ending R) → names file ≡ Some name
+      → FailsToRead file name long old new ending → Made names old new (read file name long next) (Err ending)
+  unread_made names old new file name long next (unread f) e h = subst (λ x. Made names old new (read file name long next) (Err (unread x))) (sym h.0) (fault_found file name e h.1)
+  unread_made names old new file name long next (refused r) e h = subst (λ x. Made names old new (read file name long next) (Err (refused x))) (sym h.0)
+      (refusal_made long (λ o p. above_bound (λ b. outcome old.told (next b)) long (old.told name) o h.1 p))
+  unread_made names old new file name long next no_memory e h = wanting
+  unread_made names old new file name long next done e h = absurd h
+  unread_made names old new file name long next unwritten e h = absurd h
+
+  pub made_of : (names : File → Option Bytes) (old new : Held) (plan : Plan R) (made : Result Bytes (Ending R)) → ReadsOnly names plan → Makes old new plan made → Made names old new plan made
+  made_of names old new (give bytes) made only (gives g) = given_text names old new bytes made g
+  made_of names old new (refuse r) made only (refuses g) = given_refusal names old new r made g
+  made_of names old new (read file name long next) _ only (not_read {ending = s} f) = unread_made names old new file name long next s only.0 f
+  made_of names old new (read file name long next) made only (was_read bytes is m) =
+      made_on names old new (next bytes) (read file name long next) made (λ o e. read_on (λ b. outcome old.told (next b)) long (old.told name) bytes o is.0 is.1 e)
+      (made_of names old new (next bytes) made (only.1 bytes) m)

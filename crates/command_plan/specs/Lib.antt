@@ -1,0 +1,4 @@
+pub mod Plan
+pub mod Ending
+pub mod Run
+pub mod Answers
