@@ -1,7 +1,7 @@
 //! The value of an expression, and the outputs of a function.
 ghost use Rattle.std.specs.Prelude.{◌≡◌, ◌<◌, length, map, pos, slice_index_or, All};
 ghost use Rattle.syn_base.specs.Arithmetic.{wrapped};
-ghost use Rattle.body_lang.specs.Expression.{view, value_of, vector_at, element_at, total, PortsBelow};
+ghost use Rattle.body_lang.specs.Expr.{view, value_of, vector_at, element_at, total, PortsBelow};
 
 use crate::expression::Expr;
 use crate::inputs::Ins;
@@ -11,7 +11,7 @@ use syn_base::{Op, apply};
 /// number of vectors. It takes no memory and always answers.
 pub fn value(e: &Expr, ins: &Ins, j: u32) -> i64
     requires { PortsBelow (length ins.now) (view e.now) }
-    ensures { result ≡ value_of (view e.now) ins.now (pos j) }
+    ensures { result ≡ value_of (view e.now) ins.now j }
 {
     match e {
         Expr::Lit(v) => *v,

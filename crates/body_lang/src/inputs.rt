@@ -1,7 +1,7 @@
 //! The values at the ports of an operation.
 ghost use Rattle.std.specs.Prelude.{◌≡◌, ◌+◌, ◌<◌, ◌≤◌, ◌++◌, length, take, drop, slice_index, slice_index_or, slice_set, map, replicate, pos, [], IfOk};
 ghost use Rattle.syn_base.specs.Rows.{with_value};
-ghost use Rattle.body_lang.specs.Expression.{vector_at, zeros};
+ghost use Rattle.body_lang.specs.Expr.{vector_at, zeros};
 
 use std::alloc::{AllocError, Global};
 use std::marker::Model;
@@ -17,7 +17,7 @@ pub struct Ins {
 impl Model for Ins {
     ghost use Rattle.std.specs.Prelude.{◌≡◌, length, sum};
     ghost use Rattle.syn_base.specs.Rows.{cut};
-    ghost use Rattle.body_lang.specs.Expression.{Values};
+    ghost use Rattle.body_lang.specs.Expr.{Values};
 
     ghost Value = { Values };
 

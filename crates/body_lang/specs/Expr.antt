@@ -47,9 +47,9 @@ total [] = pos 0
 total (x ∷ xs) = x +ℤ total xs
 
 -- the value of an expression for element number j of an output
-abbrev pub value_of : Expr → Values → ℤ → ℤ
+abbrev pub value_of : Expr → Values → ℕ → ℤ
 value_of (literal v) ins j = v
-value_of index ins j = j
+value_of index ins j = pos j
 value_of (element k e) ins j = element_at (vector_at ins k) (value_of e ins j)
 value_of (sum_over k) ins j = wrapped (total (vector_at ins k))
 value_of (negation e) ins j = applied Neg (value_of e ins j) (pos 0)
@@ -83,4 +83,4 @@ vector_of len f = map f (numbers_below len)
 abbrev pub function_outputs : List ℕ → List Expr → Values → Values
 function_outputs [] es ins = []
 function_outputs (len ∷ lens) [] ins = zeros len ∷ function_outputs lens [] ins
-function_outputs (len ∷ lens) (e ∷ es) ins = vector_of len (λ j. value_of e ins (pos j)) ∷ function_outputs lens es ins
+function_outputs (len ∷ lens) (e ∷ es) ins = vector_of len (value_of e ins) ∷ function_outputs lens es ins
