@@ -1,0 +1,3 @@
+pub mod Fuel
+pub mod InOrder
+pub mod CyclesLemmas

@@ -1,0 +1,4 @@
+pub mod Level
+pub mod Order
+pub mod Cycles
+pub mod Parts
