@@ -1,0 +1,4 @@
+pub mod Counting
+pub mod Between
+pub mod Numbers
+pub mod Cuts

@@ -1,0 +1,12 @@
+pub mod Totals
+pub mod Told
+pub mod Families
+pub mod Media
+pub mod Pairs
+pub mod Progress
+pub mod Serial
+pub mod Fresh
+pub mod OneMore
+mod Example
+mod ExampleMedium
+pub mod Synchronized

@@ -1,0 +1,9 @@
+pub mod System
+pub mod Sound
+pub mod Owners
+pub mod Media
+pub mod Pairs
+pub mod Order
+pub mod Fresh
+pub mod Synchronized
+pub mod Laws

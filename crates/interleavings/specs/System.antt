@@ -1,0 +1,143 @@
+-- Sequences of micro-steps on shared words, with private state that no other sequence sees: step, run, and what counts tell.
+use Rattle.std.specs.Prelude.{ℕ, zero, suc, ◌+◌, ◌-◌, ◌*◌, ◌%◌, Bool, true, false, cond, nat_eq, nat_lt, nat_le, List, [], ◌∷◌, length, Option, Some, None, ℤ, pos}
+use Rattle.consistent_cuts.specs.Sites.{Code, step_at, reaction_at, passes}
+use Rattle.consistent_cuts.specs.Precedence.{one_more}
+
+-- A micro-step. Semaphore x: `take` at depth 1, `see` and then `sub` at a greater depth. Medium m: i is a half of a transfer of one reaction.
+-- Element y: i is the number of the access in one reaction, among the stores of y in the serial order.
+pub data Micro : Type 0 where
+  take see sub signal : ℕ → Micro
+  await : (m i : ℕ) → (exact : Bool) → Micro
+  advance : (m i : ℕ) → Micro
+  load store : (y i : ℕ) → Micro
+
+abbrev pub is_take : ℕ → Micro → Bool
+is_take x (take y) = nat_eq y x
+is_take x (sub y) = nat_eq y x
+is_take x _ = false
+
+abbrev pub is_signal : ℕ → Micro → Bool
+is_signal x (signal y) = nat_eq y x
+is_signal x _ = false
+
+abbrev pub advances : ℕ → Micro → Bool
+advances m (advance n i) = nat_eq n m
+advances m _ = false
+
+abbrev pub stores : ℕ → Micro → Bool
+stores y (store z i) = nat_eq z y
+stores y _ = false
+
+-- P is private state. `absorb s n p v` is it after step n of sequence s loaded v, `emit s n p` what that step stores, `after s n p` what is left then.
+pub record System (P : Type 0) : Type 0 where
+  pub sequences : ℕ
+  pub reactions : ℕ
+  pub codes : ℕ → Code Micro
+  -- halves of transfers of a medium in one reaction, stores of an element in one reaction, and places of an element
+  pub halves : ℕ → ℕ
+  pub period : ℕ → ℕ
+  pub depth : ℕ → ℕ
+  pub start : ℕ → P
+  pub absorb : ℕ → ℕ → P → ℤ → P
+  pub emit : ℕ → ℕ → P → ℤ
+  pub after : ℕ → ℕ → P → P
+
+pub record State (P : Type 0) : Type 0 where
+  pub counts : ℕ → ℕ
+  pub semaphores : ℕ → ℕ
+  pub turns : ℕ → ℕ
+  pub elements : ℕ → ℕ → ℤ
+  pub own : ℕ → P
+
+abbrev pub put : {A : Type 0} → (ℕ → A) → ℕ → A → ℕ → A
+put f i a j = cond (nat_eq j i) a (f j)
+
+module _ {P : Type 0} (w : System P) where
+  abbrev pub full : ℕ → ℕ
+  full s = length (w.codes s).prologue + w.reactions * length (w.codes s).turn
+
+  abbrev pub next : (ℕ → ℕ) → ℕ → Option Micro
+  next c s = cond (nat_lt s w.sequences) (cond (nat_lt (c s) (full s)) (step_at (w.codes s) (c s)) None) None
+
+  abbrev pub opening : State P
+  opening = record { counts = λ _. 0; semaphores = λ _. 0; turns = λ _. 0; elements = λ _ _. pos 0; own = w.start }
+
+  -- the number over all reactions of the half i, or of the access i, in the reaction of step n of s
+  abbrev pub half_number : ℕ → ℕ → ℕ → ℕ → ℕ
+  half_number s n m i = reaction_at (w.codes s) n * w.halves m + i
+
+  abbrev pub round_number : ℕ → ℕ → ℕ → ℕ → ℕ
+  round_number s n y i = reaction_at (w.codes s) n * w.period y + i
+
+  abbrev pub place_number : ℕ → ℕ → ℕ → ℕ → ℕ
+  place_number s n y i = round_number s n y i % w.depth y
+
+  abbrev pub turn_reached : Bool → ℕ → ℕ → Bool
+  turn_reached true turn a = nat_eq turn a
+  turn_reached false turn a = nat_le a turn
+
+  -- only a take, a see and a wait can be not enabled
+  abbrev pub enabled_by : State P → ℕ → Option Micro → Bool
+  enabled_by z s None = false
+  enabled_by z s (Some (take x)) = nat_eq (z.semaphores x) 1
+  enabled_by z s (Some (see x)) = nat_le 1 (z.semaphores x)
+  enabled_by z s (Some (sub x)) = true
+  enabled_by z s (Some (signal x)) = true
+  enabled_by z s (Some (await m i e)) = turn_reached e (z.turns m) (half_number s (z.counts s) m i)
+  enabled_by z s (Some (advance m i)) = true
+  enabled_by z s (Some (load y i)) = true
+  enabled_by z s (Some (store y i)) = true
+
+  abbrev pub enabled : State P → ℕ → Bool
+  enabled z s = enabled_by z s (next z.counts s)
+
+  abbrev pub done_by : State P → ℕ → Option Micro → State P
+  done_by z s None = z
+  done_by z s (Some (take x)) = record z { counts = one_more z.counts s; semaphores = put z.semaphores x 0 }
+  done_by z s (Some (see x)) = record z { counts = one_more z.counts s }
+  done_by z s (Some (sub x)) = record z { counts = one_more z.counts s; semaphores = put z.semaphores x (z.semaphores x - 1) }
+  done_by z s (Some (signal x)) = record z { counts = one_more z.counts s; semaphores = put z.semaphores x (z.semaphores x + 1) }
+  done_by z s (Some (await m i e)) = record z { counts = one_more z.counts s }
+  done_by z s (Some (advance m i)) = record z { counts = one_more z.counts s; turns = put z.turns m (z.turns m + 1) }
+  done_by z s (Some (load y i)) = record z {
+    counts = one_more z.counts s;
+    own = put z.own s (w.absorb s (z.counts s) (z.own s) (z.elements y (place_number s (z.counts s) y i)));
+  }
+  done_by z s (Some (store y i)) = record z {
+    counts = one_more z.counts s;
+    elements = put z.elements y (put (z.elements y) (place_number s (z.counts s) y i) (w.emit s (z.counts s) (z.own s)));
+    own = put z.own s (w.after s (z.counts s) (z.own s));
+  }
+
+  abbrev pub step : State P → ℕ → State P
+  step z s = cond (enabled z s) (done_by z s (next z.counts s)) z
+
+  abbrev pub run_from : State P → List ℕ → State P
+  run_from z [] = z
+  run_from z (s ∷ ss) = run_from (step z s) ss
+
+  abbrev pub run : List ℕ → State P
+  run list = run_from opening list
+
+  -- how often all sequences together passed the test p
+  abbrev pub total_to : (Micro → Bool) → (ℕ → ℕ) → ℕ → ℕ
+  total_to p c zero = 0
+  total_to p c (suc n) = total_to p c n + passes p (w.codes n) (c n)
+
+  abbrev pub total : (Micro → Bool) → (ℕ → ℕ) → ℕ
+  total p c = total_to p c w.sequences
+
+  -- the value of the last of the first t rounds that used place p
+  abbrev pub latest : (ℕ → ℤ) → ℕ → ℕ → ℕ → ℤ
+  latest f d zero p = pos 0
+  latest f d (suc t) p = cond (nat_eq p (t % d)) (f t) (latest f d t p)
+
+  -- What counts tell, where `stored y t` is the value of element y in round t, and `owned s n` the private state of s after n steps.
+  abbrev pub told : (ℕ → ℕ → ℤ) → (ℕ → ℕ → P) → (ℕ → ℕ) → State P
+  told stored owned c = record {
+    counts = c;
+    semaphores = λ x. total (is_signal x) c - total (is_take x) c;
+    turns = λ m. total (advances m) c;
+    elements = λ y p. latest (stored y) (w.depth y) (total (stores y) c) p;
+    own = λ s. owned s (c s);
+  }

@@ -1,0 +1,29 @@
+//! The laws of every interleaving of sequences that share semaphores, buffers and media.
+//!
+//! A system is a number of sequences of micro-steps, each with private state, and a run makes them in
+//! the order of a list of sequence numbers. Semaphores guard buffers of one or more places, media carry
+//! transfers in a fixed order over a wire. The crate names no graph or program: its laws are the
+//! contracts of functions that do nothing.
+#![tactic(auto)]
+
+ghost use Rattle.interleavings.specs.Laws.{RunsAreTold, RunsAreFresh, RunsProgress, RunsGoOn};
+
+/// Whatever the order, a run is a function of how far each sequence has come.
+pub fn every_run_is_told()
+    ensures { RunsAreTold }
+{}
+
+/// No load finds an element of another round than its own.
+pub fn every_run_is_fresh()
+    ensures { RunsAreFresh }
+{}
+
+/// After every list of sequence numbers some sequence is enabled until all is done.
+pub fn some_sequence_is_enabled()
+    ensures { RunsProgress }
+{}
+
+/// From reached counts, one more enabled step gives reached counts, which tell that step.
+pub fn one_more_step_goes_on()
+    ensures { RunsGoOn }
+{}
