@@ -1,5 +1,5 @@
 //! The value of an expression, and the outputs of a function.
-ghost use Rattle.std.specs.Prelude.{◌≡◌, ◌<◌, length, map, pos, slice_index_or, All};
+ghost use Rattle.std.specs.Prelude.{◌≡◌, ◌<◌, ◌↔◌, IsTrue, length, map, pos, slice_index_or, All};
 ghost use Rattle.syn_base.specs.Arithmetic.{wrapped};
 ghost use Rattle.body_lang.specs.Expr.{view, value_of, vector_at, element_at, total, PortsBelow};
 
@@ -23,6 +23,24 @@ pub fn value(e: &Expr, ins: &Ins, j: u32) -> i64
         Expr::Select(condition, a, b) => {
             let chosen = if value(condition, ins, j) == 0 { b } else { a };
             value(chosen, ins, j)
+        }
+    }
+}
+
+/// Whether each port that an expression names has a number below `ports`. It takes no memory.
+pub fn has_ports_below(e: &Expr, ports: usize) -> bool
+    ensures { IsTrue result ↔ PortsBelow ports (view e.now) }
+{
+    match e {
+        Expr::Lit(_) | Expr::Index => true,
+        Expr::Elem(port, at) => (*port as usize) < ports && has_ports_below(at, ports),
+        Expr::SumOf(port) => (*port as usize) < ports,
+        Expr::Neg(a) => has_ports_below(a, ports),
+        Expr::Apply(_, a, b) => has_ports_below(a, ports) && has_ports_below(b, ports),
+        Expr::Select(condition, a, b) => {
+            has_ports_below(condition, ports)
+                && has_ports_below(a, ports)
+                && has_ports_below(b, ports)
         }
     }
 }

@@ -4,7 +4,9 @@
 mod evaluate;
 mod expression;
 mod inputs;
+#[cfg(test)]
+mod tests;
 
-pub use evaluate::value;
+pub use evaluate::{has_ports_below, value};
 pub use expression::{Expr, Port};
 pub use inputs::Ins;

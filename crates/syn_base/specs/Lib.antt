@@ -1,4 +1,5 @@
 pub mod Arithmetic
 pub mod Integer
+pub mod Limits
 pub mod Name
 pub mod Rows

@@ -1,6 +1,7 @@
 //! Integers as texts.
-ghost use Rattle.std.specs.Prelude.{◌≡◌, ◌+◌, ◌*◌, ◌++◌, ◌^◌, ◌<◌, ◌≤◌, OnOk, OnErr, min, length, None, true, false};
+ghost use Rattle.std.specs.Prelude.{◌≡◌, ◌+◌, ◌*◌, ◌++◌, ◌^◌, ◌<◌, ◌≤◌, OnOk, OnErr, FitsSigned, ℤ, min, length, None, true, false};
 ghost use Rattle.std.specs.Fmt.{signed_decimal};
+ghost use Rattle.std.specs.Int.{w64};
 ghost use Rattle.std.specs.List.{list_all};
 ghost use Rattle.syn_base.specs.Name.{is_digit};
 ghost use Rattle.syn_base.specs.Integer.{integer_of, signed, first_other, number_of, too_large, with_sign};
@@ -99,3 +100,9 @@ pub fn print_int(v: i64, out: &mut Vec<u8>) -> Result<(), OutOfMemory>
     out.extend_from_slice(buffer.format(v).as_bytes())?;
     Ok(())
 }
+
+/// What is printed is read back as the same number.
+#[tactic(auto, using(crate::proofs::Decimal::reads_back))]
+pub fn printed_reads_back()
+    ensures { (v : ℤ) → FitsSigned w64 v → integer_of (signed_decimal v) ≡ Ok v }
+{}

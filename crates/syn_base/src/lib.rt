@@ -9,9 +9,11 @@ mod memory;
 mod name;
 mod rows;
 mod shape;
+#[cfg(test)]
+mod tests;
 
 pub use arithmetic::{Op, apply};
-pub use integer::{NumFault, print_int, read_int};
+pub use integer::{NumFault, print_int, printed_reads_back, read_int};
 pub use items::Items;
 pub use limits::{LimitFault, LimitKind};
 pub use memory::OutOfMemory;

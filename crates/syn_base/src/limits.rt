@@ -1,4 +1,6 @@
 //! The bounds of this profile, and how far a quantity is above one.
+ghost use Rattle.std.specs.Prelude.{◌≡◌};
+
 use std::fmt;
 
 /// A quantity that is bounded.
@@ -42,8 +44,12 @@ pub enum LimitKind {
 }
 
 impl LimitKind {
+    ghost use Rattle.syn_base.specs.Limits.{bound_of, word_of};
+
     /// The word by which messages name the quantity.
-    pub fn word(self) -> &'static str {
+    pub fn word(self) -> &'static str
+        ensures { result.now ≡ word_of self }
+    {
         match self {
             LimitKind::File => "file",
             LimitKind::Tokens => "tokens",
@@ -62,6 +68,30 @@ impl LimitKind {
             LimitKind::Reactions => "reactions",
             LimitKind::Output => "output",
             LimitKind::Total => "total",
+        }
+    }
+
+    /// The most that the quantity may be.
+    pub const fn bound(self) -> u128
+        ensures { result ≡ bound_of self }
+    {
+        match self {
+            LimitKind::File => 16_777_216,
+            LimitKind::Tokens => 512,
+            LimitKind::PortLength
+            | LimitKind::Ports
+            | LimitKind::Copies
+            | LimitKind::Cases
+            | LimitKind::References
+            | LimitKind::Connections => 64,
+            LimitKind::Depth => 8,
+            LimitKind::Operations => 2_048,
+            LimitKind::Operators | LimitKind::Media => 16,
+            LimitKind::Words => 65_536,
+            LimitKind::MicroSteps => 262_144,
+            LimitKind::Reactions => 10_000,
+            LimitKind::Output => 2_000_000,
+            LimitKind::Total => 20_000_000,
         }
     }
 }

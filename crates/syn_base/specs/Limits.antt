@@ -1,0 +1,42 @@
+-- The bounds of this profile, and the words that messages have for them.
+use Rattle.std.specs.Prelude.{ℕ, List, codes}
+use Rattle.syn_base.specs.declared.limits.LimitKind.{LimitKind}
+use Rattle.syn_base.specs.declared.limits.LimitKind.TheVariants.{File, Tokens, PortLength, Ports, Copies, Cases, References, Depth, Operations, Operators, Media, Connections, Words, MicroSteps, Reactions, Output, Total}
+
+abbrev pub word_of : LimitKind → List ℕ
+word_of File = codes "file"
+word_of Tokens = codes "tokens"
+word_of PortLength = codes "length"
+word_of Ports = codes "ports"
+word_of Copies = codes "copies"
+word_of Cases = codes "cases"
+word_of References = codes "references"
+word_of Depth = codes "depth"
+word_of Operations = codes "operations"
+word_of Operators = codes "operators"
+word_of Media = codes "media"
+word_of Connections = codes "connections"
+word_of Words = codes "words"
+word_of MicroSteps = codes "steps"
+word_of Reactions = codes "reactions"
+word_of Output = codes "output"
+word_of Total = codes "total"
+
+abbrev pub bound_of : LimitKind → ℕ
+bound_of File = 16777216
+bound_of Tokens = 512
+bound_of PortLength = 64
+bound_of Ports = 64
+bound_of Copies = 64
+bound_of Cases = 64
+bound_of References = 64
+bound_of Depth = 8
+bound_of Operations = 2048
+bound_of Operators = 16
+bound_of Media = 16
+bound_of Connections = 64
+bound_of Words = 65536
+bound_of MicroSteps = 262144
+bound_of Reactions = 10000
+bound_of Output = 2000000
+bound_of Total = 20000000
