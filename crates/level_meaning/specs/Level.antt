@@ -58,10 +58,6 @@ abbrev pub numbers_below : ℕ → List ℕ
 numbers_below zero = []
 numbers_below (suc n) = numbers_below n ++ n ∷ []
 
--- a vector by its elements
-abbrev pub vector_of : ℕ → (ℕ → ℤ) → Vector
-vector_of len f = map f (numbers_below len)
-
 -- What a node does in a reaction, from this row of the sensors, the kept values below it and its inputs:
 -- its outputs, and what is kept next. And what its delays keep at the start.
 pub record Behaviour : Type 0 where

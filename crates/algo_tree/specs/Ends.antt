@@ -1,0 +1,71 @@
+-- Sensors and actuators stand in the main graph alone, and are numbered there.
+use Rattle.std.specs.Prelude.{◌≡◌, ℕ, List, [], ◌∷◌, ◌++◌, map, length, slice_index_or}
+use Rattle.level_meaning.specs.declared.source.Source.{Source}
+use Rattle.level_meaning.specs.Level.{numbers_below}
+use Rattle.algo_tree.specs.Tree.{Kind, sensor, actuator, Vertex, vertex, Vertices, no_vertices, and_vertex}
+use Rattle.algo_tree.specs.Typed.{outs_of, source_length}
+
+abbrev pub IsNoEnd : Kind → Type 0
+IsNoEnd (sensor n) = ⊥
+IsNoEnd (actuator n) = ⊥
+IsNoEnd _ = Unit {0}
+
+abbrev mutual
+  pub HasNoEnds : Vertex → Type 0
+  HasNoEnds (vertex l us) = IsNoEnd l.kind × AllNoEnds us
+
+  pub AllNoEnds : Vertices → Type 0
+  AllNoEnds no_vertices = Unit {0}
+  AllNoEnds (and_vertex u us) = HasNoEnds u × AllNoEnds us
+
+-- no sensor and no actuator stands inside one of these vertices
+abbrev pub NoneInside : Vertices → Type 0
+NoneInside no_vertices = Unit {0}
+NoneInside (and_vertex (vertex l vs) us) = AllNoEnds vs × NoneInside us
+
+abbrev pub sensor_number : Kind → List ℕ
+sensor_number (sensor n) = n ∷ []
+sensor_number _ = []
+
+abbrev pub actuator_number : Kind → List ℕ
+actuator_number (actuator n) = n ∷ []
+actuator_number _ = []
+
+-- the numbers of the sensors, and of the actuators, in declared order
+abbrev pub sensor_numbers : Vertices → List ℕ
+sensor_numbers no_vertices = []
+sensor_numbers (and_vertex (vertex l vs) us) = sensor_number l.kind ++ sensor_numbers us
+
+abbrev pub actuator_numbers : Vertices → List ℕ
+actuator_numbers no_vertices = []
+actuator_numbers (and_vertex (vertex l vs) us) = actuator_number l.kind ++ actuator_numbers us
+
+pub record AreEndsNumbered (us : Vertices) : Type 0 where
+  pub sensors : sensor_numbers us ≡ numbers_below (length (sensor_numbers us))
+  pub actuators : actuator_numbers us ≡ numbers_below (length (actuator_numbers us))
+
+abbrev pub first_length : List ℕ → ℕ
+first_length ns = slice_index_or ns 0 0
+
+abbrev pub sensor_length : Kind → List ℕ → List ℕ
+sensor_length (sensor n) outs = first_length outs ∷ []
+sensor_length _ outs = []
+
+abbrev pub actuator_length : Kind → List ℕ → List ℕ
+actuator_length (actuator n) lens = first_length lens ∷ []
+actuator_length _ lens = []
+
+abbrev pub sensor_lengths_in : Vertices → List ℕ
+sensor_lengths_in no_vertices = []
+sensor_lengths_in (and_vertex (vertex l vs) us) = sensor_length l.kind l.outs ++ sensor_lengths_in us
+
+abbrev pub actuator_lengths_in : (Source → ℕ) → Vertices → List ℕ
+actuator_lengths_in len no_vertices = []
+actuator_lengths_in len (and_vertex (vertex l vs) us) = actuator_length l.kind (map len l.ins) ++ actuator_lengths_in len us
+
+-- the lengths of the sensors, and of the actuators, of the main graph in declared order
+abbrev pub sensor_lengths : Vertex → List ℕ
+sensor_lengths (vertex l us) = sensor_lengths_in us
+
+abbrev pub actuator_lengths : Vertex → List ℕ
+actuator_lengths (vertex l us) = actuator_lengths_in (source_length [] (outs_of us)) us

@@ -1,0 +1,9 @@
+pub mod Tree
+pub mod View
+pub mod Meaning
+pub mod Well
+pub mod Typed
+pub mod Ends
+pub mod Counted
+pub mod Valid
+pub mod Code

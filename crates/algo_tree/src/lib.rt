@@ -1,0 +1,8 @@
+//! The resolved algorithm: the main graph with everything inside it, and its synchronous meaning.
+#![tactic(auto)]
+
+mod tree;
+mod vertex;
+
+pub use tree::Tree;
+pub use vertex::{Kind, Vertex};

@@ -1,0 +1,51 @@
+//! A vertex of the resolved algorithm and what is inside it.
+use body_lang::Expr;
+use level_meaning::{Feed, Give, Guard, Part, Source};
+use syn_base::Items;
+
+/// What a vertex is. Explode, implode and merge are made by flattening; all others stand in a
+/// resolved algorithm.
+#[derive(Drop)]
+pub enum Kind {
+    /// The sensor of this number, counted from 0 in declared order.
+    Sensor(u32),
+    /// The actuator of this number, counted from 0 in declared order.
+    Actuator(u32),
+    /// Its values.
+    Constant(Items<i64>),
+    /// Its initial values.
+    Delay(Items<i64>),
+    /// One expression for each output.
+    Function(Items<Expr>),
+    /// Gives the parts of its input.
+    Explode,
+    /// Gives its inputs, one after another.
+    Implode,
+    /// Gives the input of the case that its first input selects, by the values of the cases.
+    Merge(Items<i64>),
+    /// The sources of its outputs.
+    Graph(Items<Source>),
+    /// The values of its cases, and the names of its outputs. Its first input selects the case; the
+    /// last case is `otherwise`.
+    Switch(Items<i64>, Items<Items<u8>>),
+    /// The number of copies, how each input of the body is fed, and the outputs.
+    Repeat(u32, Items<Feed>, Items<Give>),
+}
+
+/// A vertex: a reference, a case or a body, with what is inside it.
+#[derive(Drop)]
+pub struct Vertex {
+    /// What it adds to the path around it.
+    pub part: Part,
+    /// The name of its definition.
+    pub definition: Items<u8>,
+    /// The sources of its inputs, in port order.
+    pub ins: Items<Source>,
+    /// The conditions under which it is active. A resolved algorithm has none.
+    pub guards: Items<Guard>,
+    /// The lengths of its outputs, in port order.
+    pub outs: Items<u32>,
+    pub kind: Kind,
+    /// The vertices of a graph, the cases of a switch, the body of a repetition.
+    pub inner: Vec<Vertex>,
+}
