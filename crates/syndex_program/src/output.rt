@@ -1,0 +1,64 @@
+//! The text of what the actuators take.
+ghost use Rattle.std.specs.Prelude.{◌≡◌, ◌+◌, ◌<◌, ◌≤◌, ◌++◌, ◌^◌, [], length, map, slice_index_or, IfOk, OnOk};
+ghost use Rattle.syndex_program.specs.OutputText.{values_text, actuator_line, reaction_text, output_text};
+
+use crate::append::{append, append_count};
+use std::alloc::Global;
+use syn_base::{ActRows, OutOfMemory, print_int};
+
+/// For each reaction in order and each actuator in declared order the line `k name v0 v1` and so on.
+pub fn output(alloc: Global, names: &[&[u8]], rows: &ActRows) -> Result<Vec<u8>, OutOfMemory>
+    requires names { length names.now ≤ length rows.now.lens }
+    requires count { length rows.now.reactions < 2 ^ 32 }
+    ensures { IfOk result (λ text. text.items ≡ output_text (map (λ s. s.now) names.now) rows.now.reactions) }
+{
+    let mut text = Vec::new(alloc);
+    for k in 0..rows.count() {
+        append_reaction(&mut text, names, rows, k)?;
+    }
+    Ok(text)
+}
+
+/// Appends the lines of reaction k.
+fn append_reaction(
+    text: &mut Vec<u8>,
+    names: &[&[u8]],
+    rows: &ActRows,
+    k: usize,
+) -> Result<(), OutOfMemory>
+    requires names { length names.now ≤ length rows.now.lens }
+    requires count { length rows.now.reactions < 2 ^ 32 }
+    requires reaction { k < length rows.now.reactions }
+    ensures { OnOk result (text.new.items ≡ text.old.items ++ reaction_text k 0 (map (λ s. s.now) names.now) (slice_index_or rows.now.reactions k [])) }
+{
+    for (a, name) in names.iter().enumerate() {
+        append_line(text, k as u32, name, rows.vector(k, a))?;
+    }
+    Ok(())
+}
+
+/// Appends the line of one actuator.
+fn append_line(
+    text: &mut Vec<u8>,
+    k: u32,
+    name: &[u8],
+    values: &[i64],
+) -> Result<(), OutOfMemory>
+    ensures { OnOk result (text.new.items ≡ text.old.items ++ actuator_line k name.now values.now) }
+{
+    append_count(text, k)?;
+    append(text, b" ")?;
+    append(text, name)?;
+    append_values(text, values)?;
+    append(text, b"\n")
+}
+
+fn append_values(text: &mut Vec<u8>, values: &[i64]) -> Result<(), OutOfMemory>
+    ensures { OnOk result (text.new.items ≡ text.old.items ++ values_text values.now) }
+{
+    for value in values {
+        append(text, b" ")?;
+        print_int(*value, text)?;
+    }
+    Ok(())
+}
