@@ -1,10 +1,15 @@
 //! The tree that is kept whole.
-ghost use Rattle.std.specs.Prelude.{◌≡◌, ◌+◌, ◌≤◌, length, IfOk};
-ghost use Rattle.algo_tree.specs.View.{view};
+ghost use Rattle.std.specs.Prelude.{◌≡◌, [], map, slice_index_or, option_to_list, IfOk};
+ghost use Rattle.algo_tree.specs.View.{kind_view, view, vertices_view};
+ghost use Rattle.algo_tree.specs.Typed.{outs_of, source_length};
+ghost use Rattle.algo_tree.specs.Ends.{first_length, sensor_length, sensor_lengths, sensor_lengths_in, actuator_length, actuator_lengths, actuator_lengths_in};
 ghost use Rattle.algo_tree.specs.Valid.{IsTree};
 
-use crate::vertex::Vertex;
+use crate::vertex::{Kind, Vertex};
+use level_meaning::Source;
+use std::alloc::Global;
 use std::marker::Model;
+use syn_base::OutOfMemory;
 
 /// The resolved algorithm: the main graph and all that is inside it, seen in contracts as plain
 /// data. It is well formed, the lengths of its values fit, its sensors and actuators are numbered in
@@ -41,6 +46,20 @@ impl Tree {
         Tree { main }
     }
 
+    /// The lengths of the sensors, in declared order.
+    pub fn sensor_lens(&self, alloc: Global) -> Result<Vec<u32>, OutOfMemory>
+        ensures { IfOk result (λ lens. lens.items ≡ sensor_lengths self.now) }
+    {
+        sensor_lens_in(alloc, &self.main.inner)
+    }
+
+    /// The lengths of the actuators, in declared order.
+    pub fn actuator_lens(&self, alloc: Global) -> Result<Vec<u32>, OutOfMemory>
+        ensures { IfOk result (λ lens. lens.items ≡ actuator_lengths self.now) }
+    {
+        actuator_lens_in(alloc, &self.main.inner)
+    }
+
     /// The main graph. It takes no memory.
     pub fn main(&self) -> &Vertex
         ensures same { view result.now ≡ self.now }
@@ -48,4 +67,80 @@ impl Tree {
     {
         &self.main
     }
+}
+
+fn sensor_lens_in(alloc: Global, vertices: &[Vertex]) -> Result<Vec<u32>, OutOfMemory>
+    ensures { IfOk result (λ lens. lens.items ≡ sensor_lengths_in (vertices_view vertices.now)) }
+{
+    let mut lens = Vec::new(alloc);
+    for vertex in vertices {
+        if let Some(len) = sensor_len(&vertex.kind, vertex.outs.as_slice()) {
+            lens.push(len)?;
+        }
+    }
+    Ok(lens)
+}
+
+/// The length of a vertex that is a sensor.
+fn sensor_len(kind: &Kind, outs: &[u32]) -> Option<u32>
+    ensures { option_to_list result ≡ sensor_length (kind_view kind.now) outs.now }
+{
+    match kind {
+        Kind::Sensor(_) => Some(first_or_zero(outs)),
+        _ => None,
+    }
+}
+
+fn actuator_lens_in(alloc: Global, vertices: &[Vertex]) -> Result<Vec<u32>, OutOfMemory>
+    ensures { IfOk result (λ lens. lens.items ≡ actuator_lengths_in (source_length [] (outs_of (vertices_view vertices.now))) (vertices_view vertices.now)) }
+{
+    let mut lens = Vec::new(alloc);
+    for vertex in vertices {
+        if let Some(len) = actuator_len(vertices, &vertex.kind, vertex.ins.as_slice()) {
+            lens.push(len)?;
+        }
+    }
+    Ok(lens)
+}
+
+/// The length of a vertex of the main graph that is an actuator.
+fn actuator_len(vertices: &[Vertex], kind: &Kind, ins: &[Source]) -> Option<u32>
+    ensures { option_to_list result ≡ actuator_length (kind_view kind.now) (map (source_length [] (outs_of (vertices_view vertices.now))) ins.now) }
+{
+    match kind {
+        Kind::Actuator(_) => Some(taken_len(vertices, ins)),
+        _ => None,
+    }
+}
+
+fn first_or_zero(lens: &[u32]) -> u32
+    ensures { result ≡ first_length lens.now }
+{
+    lens.first().copied().unwrap_or(0)
+}
+
+/// The length of the value that the first of these sources gives, where the level has no own inputs.
+fn taken_len(vertices: &[Vertex], sources: &[Source]) -> u32
+    ensures { result ≡ first_length (map (source_length [] (outs_of (vertices_view vertices.now))) sources.now) }
+{
+    match sources.first() {
+        Some(Source::Of(vertex, port)) => output_len(vertices, *vertex as usize, *port as usize),
+        _ => 0,
+    }
+}
+
+fn output_len(vertices: &[Vertex], vertex: usize, port: usize) -> u32
+    ensures { result ≡ slice_index_or (slice_index_or (outs_of (vertices_view vertices.now)) vertex []) port 0 }
+{
+    if vertex < vertices.len() {
+        len_at(vertices[vertex].outs.as_slice(), port)
+    } else {
+        0
+    }
+}
+
+fn len_at(lens: &[u32], at: usize) -> u32
+    ensures { result ≡ slice_index_or lens.now at 0 }
+{
+    if at < lens.len() { lens[at] } else { 0 }
 }
