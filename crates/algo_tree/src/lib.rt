@@ -1,6 +1,7 @@
 //! The resolved algorithm: the main graph with everything inside it, and its synchronous meaning.
 #![tactic(auto)]
 
+mod count;
 mod tree;
 mod vertex;
 

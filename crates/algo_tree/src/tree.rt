@@ -3,8 +3,10 @@ ghost use Rattle.std.specs.Prelude.{◌≡◌, [], map, slice_index_or, option_t
 ghost use Rattle.algo_tree.specs.View.{kind_view, view, vertices_view};
 ghost use Rattle.algo_tree.specs.Typed.{outs_of, source_length};
 ghost use Rattle.algo_tree.specs.Ends.{first_length, sensor_length, sensor_lengths, sensor_lengths_in, actuator_length, actuator_lengths, actuator_lengths_in};
+ghost use Rattle.algo_tree.specs.Counted.{operations};
 ghost use Rattle.algo_tree.specs.Valid.{IsTree};
 
+use crate::count::count_operations;
 use crate::vertex::{Kind, Vertex};
 use level_meaning::Source;
 use std::alloc::Global;
@@ -58,6 +60,13 @@ impl Tree {
         ensures { IfOk result (λ lens. lens.items ≡ actuator_lengths self.now) }
     {
         actuator_lens_in(alloc, &self.main.inner)
+    }
+
+    /// The number of flat operations that the tree stands for, at most 2,048. It takes no memory.
+    pub fn operations(&self) -> u32
+        ensures { result ≡ operations self.now }
+    {
+        count_operations(&self.main) as u32
     }
 
     /// The main graph. It takes no memory.
