@@ -1,0 +1,153 @@
+//! Lines of a text, and words of a line.
+//!
+//! Lines end at a line feed; the last line may lack one. Tab, carriage return and space are blanks.
+//! From `#` on a line is comment. This project's profile.
+#![tactic(auto)]
+
+ghost use Rattle.std.specs.Prelude.{◌≡◌, ℕ, ◌+◌, ◌<◌, ◌≤◌, length, drop, take, map, None, Some, MatchResult, IfOk, All, position};
+ghost use Rattle.std.specs.List.{position_or_len};
+ghost use Rattle.text_lines.specs.Text.{is_feed, is_blank, is_foreign, is_hash, code_of, foreign_place, words_of, text_at, IsWithin, Reads};
+ghost use Rattle.text_lines.specs.declared.WordFault.TheVariants.{OutOfMemory};
+
+use std::alloc::Global;
+use syn_base::OutOfMemory;
+
+/// A part of a line, from a place up to another.
+#[derive(Clone, Copy, Drop)]
+pub struct Span {
+    pub from: usize,
+    pub to: usize,
+}
+
+/// Why a line was not cut into words.
+#[derive(Clone, Copy, Debug, PartialEq, Eq)]
+pub enum WordFault {
+    /// The place in the line of the first byte that may not stand there.
+    NotText(usize),
+    OutOfMemory,
+}
+
+impl From<OutOfMemory> for WordFault {
+    ghost from_gives = { λ _ e. e ≡ OutOfMemory };
+
+    fn from(_want: OutOfMemory) -> Self {
+        WordFault::OutOfMemory
+    }
+}
+
+/// The place of the next line feed, or the end.
+#[tactic(auto, using(crate::proofs::Places::found_at, crate::proofs::Places::missing_at))]
+pub fn line_end(bytes: &[u8], from: usize) -> usize
+    requires { from ≤ length bytes.now }
+    ensures next { result ≡ from + position_or_len is_feed (drop from bytes.now) }
+    ensures within { result ≤ length bytes.now }
+{
+    match feed_in(&bytes[from..]) {
+        Some(n) => from + n,
+        None => bytes.len(),
+    }
+}
+
+fn is_blank_byte(b: u8) -> bool
+    ensures { result ≡ is_blank b }
+{
+    b == b'\t' || b == b'\r' || b == b' '
+}
+
+fn is_foreign_byte(b: u8) -> bool
+    ensures { result ≡ is_foreign b }
+{
+    !(is_blank_byte(b) || (33 <= b && b <= 126))
+}
+
+#[tactic(auto, using(crate::proofs::Places::found_at, crate::proofs::Places::missing_at))]
+fn code_end(line: &[u8]) -> usize
+    ensures place { result ≡ position_or_len is_hash line.now }
+    ensures within { result ≤ length line.now }
+{
+    match hash_in(line) {
+        Some(n) => n,
+        None => line.len(),
+    }
+}
+
+#[tactic(auto, using(crate::proofs::Places::found_at, crate::proofs::Places::missing_at))]
+fn word_end(code: &[u8], from: usize) -> usize
+    requires { from ≤ length code.now }
+    ensures next { result ≡ from + position_or_len is_blank (drop from code.now) }
+    ensures within { result ≤ length code.now }
+{
+    match blank_in(&code[from..]) {
+        Some(n) => from + n,
+        None => code.len(),
+    }
+}
+
+fn feed_in(bytes: &[u8]) -> Option<usize>
+    ensures { result ≡ position is_feed bytes.now }
+{
+    bytes.iter().position(|b| *b == b'\n')
+}
+
+fn hash_in(bytes: &[u8]) -> Option<usize>
+    ensures { result ≡ position is_hash bytes.now }
+{
+    bytes.iter().position(|b| *b == b'#')
+}
+
+fn blank_in(bytes: &[u8]) -> Option<usize>
+    ensures { result ≡ position is_blank bytes.now }
+{
+    bytes.iter().position(|b| is_blank_byte(*b))
+}
+
+fn foreign_in(code: &[u8]) -> Option<usize>
+    ensures { result ≡ position is_foreign code.now }
+{
+    code.iter().position(|b| is_foreign_byte(*b))
+}
+
+/// The words of a line, up to its comment. NotText comes exactly where a byte before the comment may
+/// not stand there.
+pub fn words(alloc: Global, line: &[u8]) -> Result<Vec<Span>, WordFault>
+    ensures { Reads line.now result }
+{
+    let code = &line[..code_end(line)];
+    if let Some(place) = foreign_in(code) {
+        return Err(WordFault::NotText(place));
+    }
+    Ok(spans(alloc, code)?)
+}
+
+/// A line up to its comment.
+pub fn code(line: &[u8]) -> &[u8]
+    ensures { result.now ≡ code_of line.now }
+{
+    &line[..code_end(line)]
+}
+
+/// The place of the first byte that may not stand in a line.
+pub fn foreign(line: &[u8]) -> Option<usize>
+    ensures { result ≡ foreign_place line.now }
+{
+    foreign_in(code(line))
+}
+
+/// The words of a line without comment.
+pub fn spans(alloc: Global, code: &[u8]) -> Result<Vec<Span>, OutOfMemory>
+    ensures read { IfOk result (λ v. map (text_at code.now) v.items ≡ words_of code.now) }
+    ensures within { IfOk result (λ v. All (IsWithin (length code.now)) v.items) }
+{
+    let mut spans = Vec::new(alloc);
+    let mut at = 0;
+    while at < code.len() {
+        if is_blank_byte(code[at]) {
+            at += 1;
+            continue;
+        }
+        let to = word_end(code, at);
+        spans.push(Span { from: at, to })?;
+        at = to;
+    }
+    Ok(spans)
+}
