@@ -1,3 +1,4 @@
+pub mod Simple
 pub mod Tree
 pub mod View
 pub mod Meaning

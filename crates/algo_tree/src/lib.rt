@@ -2,8 +2,12 @@
 #![tactic(auto)]
 
 mod count;
+mod simple;
+#[cfg(test)]
+mod tests;
 mod tree;
 mod vertex;
 
+pub use simple::{SimpleFault, read_simple};
 pub use tree::Tree;
 pub use vertex::{Kind, Vertex};
