@@ -1,0 +1,4 @@
+pub mod Bounds
+pub mod Flags
+pub mod Names
+pub mod Rounds

@@ -1,0 +1,3 @@
+pub mod Archi
+pub mod Routes
+pub mod Sequences

@@ -1,0 +1,60 @@
+//! Which operators hops over the media join.
+ghost use Rattle.std.specs.Prelude.{◌≡◌, ℕ, ◌<◌, ◌≤◌, ◌||◌, ◌&&◌, All, false, nat_eq, slice_index_or};
+ghost use Rattle.std.specs.List.{list_all, list_any};
+ghost use Rattle.archi_graph.specs.Archi.{are_joined, stands_at};
+ghost use Rattle.archi_graph.specs.Routes.{AreOperators};
+
+use crate::medium::Medium;
+
+/// A flag for each operator.
+type Flags = [bool; 16];
+
+/// Whether each of so many operators is reached from operator 0.
+pub fn are_joined(operators: usize, media: &[Medium]) -> bool
+    requires few { operators ≤ 16 }
+    requires known { AreOperators 16 media.now }
+    ensures { result ≡ are_joined operators media.now }
+{
+    let mut reached: Flags = [false; 16];
+    reached[0] = true;
+    for _hops in 0..operators {
+        reached = one_hop_further(&reached, media);
+    }
+    are_all_set(&reached[..operators])
+}
+
+fn are_all_set(flags: &[bool]) -> bool
+    ensures { result ≡ list_all (λ is_set. is_set) flags.now }
+{
+    flags.iter().all(|is_set| *is_set)
+}
+
+fn one_hop_further(near: &Flags, media: &[Medium]) -> Flags
+    requires { AreOperators 16 media.now }
+    ensures { (o : ℕ) → o < 16 → slice_index_or result o false ≡ (slice_index_or near.now o false || list_any (λ m. stands_at m o && list_any (λ p. slice_index_or near.now p false) m.stands) media.now) }
+{
+    let mut far = *near;
+    for medium in media {
+        let stands = medium.stands.as_slice();
+        if is_any_set(near, stands) {
+            set_all(&mut far, stands);
+        }
+    }
+    far
+}
+
+fn is_any_set(flags: &Flags, operators: &[u32]) -> bool
+    requires { All (λ o. o < 16) operators.now }
+    ensures { result ≡ list_any (λ p. slice_index_or flags.now p false) operators.now }
+{
+    operators.iter().any(|o| flags[*o as usize])
+}
+
+fn set_all(flags: &mut Flags, operators: &[u32])
+    requires { All (λ o. o < 16) operators.now }
+    ensures { (o : ℕ) → o < 16 → slice_index_or flags.new o false ≡ (slice_index_or flags.old o false || list_any (nat_eq o) operators.now) }
+{
+    for o in operators {
+        flags[*o as usize] = true;
+    }
+}

@@ -1,0 +1,55 @@
+//! The sequences of an architecture, in their order.
+ghost use Rattle.std.specs.Prelude.{◌≡◌, ◌≤◌, ◌++◌, length, OnOk, IfOk};
+ghost use Rattle.std.specs.List.{flat_map, list_any, range_with_len};
+ghost use Rattle.archi_graph.specs.Sequences.{communicators, sequences_of};
+ghost use Rattle.archi_graph.specs.Archi.{stands_at};
+
+use crate::medium::{Medium, Seq};
+use std::alloc::Global;
+use syn_base::OutOfMemory;
+
+/// The sequences of so many operators at these media.
+pub fn all_sequences(
+    alloc: Global,
+    operators: usize,
+    media: &[Medium],
+) -> Result<Vec<Seq>, OutOfMemory>
+    requires operators { operators ≤ 16 }
+    requires media { length media.now ≤ 16 }
+    ensures { IfOk result (λ s. s.items ≡ flat_map (sequences_of media.now) (range_with_len 0 operators)) }
+{
+    let mut sequences = Vec::new(alloc);
+    for operator in 0..operators {
+        add_sequences(operator as u32, media, &mut sequences)?;
+    }
+    Ok(sequences)
+}
+
+fn add_sequences(
+    operator: u32,
+    media: &[Medium],
+    sequences: &mut Vec<Seq>,
+) -> Result<(), OutOfMemory>
+    requires { length media.now ≤ 16 }
+    ensures { OnOk result (sequences.new.items ≡ sequences.old.items ++ sequences_of media.now operator) }
+{
+    sequences.push(Seq {
+        operator,
+        medium: None,
+    })?;
+    for (number, medium) in media.iter().enumerate() {
+        if is_stand(operator, medium) {
+            sequences.push(Seq {
+                operator,
+                medium: Some(number as u32),
+            })?;
+        }
+    }
+    Ok(())
+}
+
+fn is_stand(operator: u32, medium: &Medium) -> bool
+    ensures { result ≡ stands_at medium.now operator }
+{
+    medium.stands.as_slice().contains(&operator)
+}
