@@ -1,0 +1,47 @@
+-- Laws of the flat meaning.
+use Rattle.std.specs.Prelude.{◌≡◌, ℕ, ◌+◌, IsTrue, List, [], ◌∷◌, ◌++◌, map, length, Some, slice_get}
+use Rattle.level_meaning.specs.Level.{Values}
+use Rattle.flat_graph.specs.declared.vertex.Kind.{Kind}
+use Rattle.flat_graph.specs.declared.vertex.Kind.TheVariants.{Sensor, Get}
+use Rattle.flat_graph.specs.declared.vertex.Vertex.{Vertex}
+use Rattle.flat_graph.specs.Graph.{Graph}
+use Rattle.flat_graph.specs.Valid.{is_flat}
+use Rattle.flat_graph.specs.Fire.{fired}
+use Rattle.flat_graph.specs.Meaning.{sensed, cell_of, outputs_in, value_in, conditions, inputs, next_cells, cells_after, flat_outputs, flat_act_row}
+
+-- each operation gives what it makes of what its sources give
+abbrev pub IsFixedPoint : Type 0
+IsFixedPoint = (g : Graph) (cells row : Values) → IsTrue (is_flat g) → (v : ℕ) (x : Vertex) → slice_get g.vertices v ≡ Some x
+    → outputs_in g cells row v ≡ fired g.bodies x (cell_of g cells v) (sensed x.kind row) (conditions (value_in g cells row) x) (inputs (value_in g cells row) x)
+
+-- a run over rows that follow others is a run over these alone, from the cells that the others leave
+abbrev pub RunsInWindows : Type 0
+RunsInWindows = (g : Graph) (before after : List Values) (opening : Values) (k : ℕ)
+    → let left = cells_after g before opening (length before) in
+    (cells_after g (before ++ after) opening (length before + k) ≡ cells_after g after left k)
+    × ((v : ℕ) → flat_outputs g (before ++ after) opening v (length before + k) ≡ flat_outputs g after left v k)
+    × (flat_act_row g (before ++ after) opening (length before + k) ≡ flat_act_row g after left k)
+
+abbrev pub sensor_len : Kind → List ℕ → List ℕ
+sensor_len (Sensor i) outs = outs
+sensor_len _ outs = []
+
+-- the lengths of the sensors' vectors
+abbrev pub sensor_lens : List Vertex → List ℕ
+sensor_lens [] = []
+sensor_lens (x ∷ xs) = sensor_len x.kind x.outs ++ sensor_lens xs
+
+abbrev pub delay_len : Kind → List ℕ
+delay_len (Get z) = length z ∷ []
+delay_len _ = []
+
+-- the lengths of the delays' cells
+abbrev pub delay_lens : List Vertex → List ℕ
+delay_lens [] = []
+delay_lens (x ∷ xs) = delay_len x.kind ++ delay_lens xs
+
+-- with a row and cells of the right lengths each output has its length, and the cells keep theirs
+abbrev pub KeepsLengths : Type 0
+KeepsLengths = (g : Graph) (cells row : Values) → IsTrue (is_flat g) → map length row ≡ sensor_lens g.vertices → map length cells ≡ delay_lens g.vertices
+    → ((v : ℕ) (x : Vertex) → slice_get g.vertices v ≡ Some x → map length (outputs_in g cells row v) ≡ x.outs)
+    × (map length (next_cells g cells row) ≡ delay_lens g.vertices)

@@ -1,0 +1,6 @@
+pub mod Graph
+pub mod Order
+pub mod Valid
+pub mod Fire
+pub mod Meaning
+pub mod Laws

@@ -1,0 +1,101 @@
+//! The inputs and outputs of each kind.
+ghost use Rattle.std.specs.Prelude.{◌≡◌, length, map, slice_get, sum, Some};
+ghost use Rattle.std.specs.List.{list_all};
+ghost use Rattle.body_lang.specs.Expr.{view};
+ghost use Rattle.flat_graph.specs.Graph.{bodies_view, lens_of};
+ghost use Rattle.flat_graph.specs.Valid.{fits, is_body, is_merge, is_only, ports_below};
+
+use crate::lengths::{adds_up, is_only, len_of, sources_add_up};
+use crate::vertex::{Kind, Source, Vertex};
+use body_lang::{Expr, has_ports_below};
+use syn_base::Items;
+
+/// Whether an operation's inputs and outputs have the number and lengths of its kind.
+pub fn fits(vertices: &[Vertex], bodies: &[Items<Expr>], vertex: &Vertex) -> bool
+    ensures { result ≡ fits (bodies_view bodies.now) vertex.now.kind (lens_of vertices.now vertex.now.ins) vertex.now.outs }
+{
+    let ins = vertex.ins.as_slice();
+    let outs = vertex.outs.as_slice();
+    match &vertex.kind {
+        Kind::Sensor(_) => ins.is_empty() && outs.len() == 1,
+        Kind::Actuator(_) => ins.len() == 1 && outs.is_empty(),
+        Kind::Function(body) => is_function(bodies, *body, ins.len(), outs.len()),
+        Kind::Constant(values) => ins.is_empty() && is_only(values.as_slice().len(), outs),
+        Kind::Get(values) => ins.is_empty() && is_only(values.as_slice().len(), outs),
+        Kind::Set => ins.len() == 1 && outs.is_empty(),
+        Kind::Explode => is_explode(vertices, ins, outs),
+        Kind::Implode => is_implode(vertices, ins, outs),
+        Kind::Merge(values) => is_merge(vertices, values.as_slice().len(), ins, outs),
+    }
+}
+
+fn is_function(bodies: &[Items<Expr>], body: u32, ins: usize, outs: usize) -> bool
+    ensures { result ≡ is_body ins outs (slice_get (bodies_view bodies.now) body) }
+{
+    match bodies.get(body as usize) {
+        Some(body) => is_body(body.as_slice(), ins, outs),
+        None => false,
+    }
+}
+
+fn is_body(body: &[Expr], ins: usize, outs: usize) -> bool
+    ensures { result ≡ is_body ins outs (Some (map view body.now)) }
+{
+    body.len() == outs && are_expressions(body, ins)
+}
+
+fn are_expressions(body: &[Expr], ins: usize) -> bool
+    ensures { result ≡ list_all (λ e. ports_below ins (view e)) body.now }
+{
+    body.iter().all(|e| is_expression(e, ins))
+}
+
+fn is_expression(e: &Expr, ins: usize) -> bool
+    ensures { result ≡ ports_below ins (view e.now) }
+{
+    has_ports_below(e, ins)
+}
+
+fn is_explode(vertices: &[Vertex], ins: &[Source], outs: &[u32]) -> bool
+    ensures { result ≡ is_only (sum outs.now) (lens_of vertices.now ins.now) }
+{
+    match ins {
+        [only] => adds_up(len_of(vertices, *only), outs),
+        _ => false,
+    }
+}
+
+#[tactic(auto, using(crate::proofs::Bodies::sum_map))]
+fn is_implode(vertices: &[Vertex], ins: &[Source], outs: &[u32]) -> bool
+    ensures { result ≡ is_only (sum (lens_of vertices.now ins.now)) outs.now }
+{
+    match outs {
+        [only] => sources_add_up(vertices, *only, ins),
+        _ => false,
+    }
+}
+
+fn is_merge(vertices: &[Vertex], values: usize, ins: &[Source], outs: &[u32]) -> bool
+    ensures { result ≡ is_merge values (lens_of vertices.now ins.now) outs.now }
+{
+    match ins {
+        [] => false,
+        [condition, cases @ ..] => {
+            len_of(vertices, *condition) == 1
+                && !cases.is_empty()
+                && cases.len() - 1 == values
+                && have_length_of(vertices, cases, outs)
+        }
+    }
+}
+
+fn have_length_of(vertices: &[Vertex], sources: &[Source], outs: &[u32]) -> bool
+    ensures { result ≡ list_all (λ n. is_only n outs.now) (lens_of vertices.now sources.now) }
+{
+    for source in sources {
+        if !is_only(len_of(vertices, *source) as usize, outs) {
+            return false;
+        }
+    }
+    true
+}

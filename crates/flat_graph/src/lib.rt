@@ -1,0 +1,16 @@
+//! Flat operations: their sources, guards and kinds, which lists of them are valid, and what each
+//! gives in each reaction.
+#![tactic(auto)]
+
+mod flat;
+mod forms;
+mod lengths;
+mod numbering;
+mod order;
+mod twins;
+mod valid;
+mod vertex;
+
+pub use flat::Flat;
+pub use valid::is_flat;
+pub use vertex::{Guard, Kind, Source, Vertex};
