@@ -1,0 +1,14 @@
+//! Laws of the flat meaning, each the contract of a function that does nothing.
+ghost use Rattle.flat_graph.specs.Laws.{IsFixedPoint, RunsInWindows};
+
+/// Each operation gives what it makes of what its sources give.
+#[tactic(auto, using(crate::proofs::Settled::fixed_point))]
+pub fn values_are_a_fixed_point()
+    ensures { IsFixedPoint }
+{}
+
+/// A run may be cut into windows.
+#[tactic(auto, using(crate::proofs::Windows::runs_in_windows))]
+pub fn runs_in_windows()
+    ensures { RunsInWindows }
+{}
