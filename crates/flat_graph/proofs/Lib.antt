@@ -3,3 +3,6 @@ pub mod Rounds
 pub mod Nodes
 pub mod Settled
 pub mod Windows
+pub mod KindLens
+pub mod Facts
+pub mod Sizes

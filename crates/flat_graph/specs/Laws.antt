@@ -1,5 +1,5 @@
 -- Laws of the flat meaning.
-use Rattle.std.specs.Prelude.{◌≡◌, ℕ, ◌+◌, IsTrue, List, [], ◌∷◌, ◌++◌, map, length, Some, slice_get}
+use Rattle.std.specs.Prelude.{◌≡◌, ℕ, ◌+◌, IsTrue, List, [], ◌∷◌, ◌++◌, map, length, Some, slice_get, slice_index_or}
 use Rattle.level_meaning.specs.Level.{Values}
 use Rattle.flat_graph.specs.declared.vertex.Kind.{Kind}
 use Rattle.flat_graph.specs.declared.vertex.Kind.TheVariants.{Sensor, Get}
@@ -23,7 +23,7 @@ RunsInWindows = (g : Graph) (before after : List Values) (opening : Values) (k :
     × (flat_act_row g (before ++ after) opening (length before + k) ≡ flat_act_row g after left k)
 
 abbrev pub sensor_len : Kind → List ℕ → List ℕ
-sensor_len (Sensor i) outs = outs
+sensor_len (Sensor i) outs = slice_index_or outs 0 0 ∷ []
 sensor_len _ outs = []
 
 -- the lengths of the sensors' vectors

@@ -73,21 +73,21 @@ abbrev pub names : Option ℕ → ℕ → Bool
 names None v = false
 names (Some u) v = u == v
 
+abbrev pub is_set_half_by : List Vertex → ℕ → ℕ → Vertex → Kind → Bool
+is_set_half_by vertices v len y Set = names y.twin v && is_only len (lens_of vertices y.ins)
+is_set_half_by vertices v len y _ = false
+
 -- it is the set half of a delay of this length, whose get half is operation v
 abbrev pub is_set_half_of : List Vertex → ℕ → ℕ → Vertex → Bool
-is_set_half_of vertices v len y = by y.kind
-  where
-    by : Kind → Bool
-    by Set = names y.twin v && is_only len (lens_of vertices y.ins)
-    by _ = false
+is_set_half_of vertices v len y = is_set_half_by vertices v len y y.kind
+
+abbrev pub is_get_half_by : ℕ → Vertex → Kind → Bool
+is_get_half_by v y (Get z) = names y.twin v
+is_get_half_by v y _ = false
 
 -- it is the get half of a delay whose set half is operation v
 abbrev pub is_get_half_of : ℕ → Vertex → Bool
-is_get_half_of v y = by y.kind
-  where
-    by : Kind → Bool
-    by (Get z) = names y.twin v
-    by _ = false
+is_get_half_of v y = is_get_half_by v y y.kind
 
 abbrev pub has_set_half : List Vertex → ℕ → ℕ → Option ℕ → Bool
 has_set_half vertices v len None = false

@@ -1,5 +1,5 @@
 //! Laws of the flat meaning, each the contract of a function that does nothing.
-ghost use Rattle.flat_graph.specs.Laws.{IsFixedPoint, RunsInWindows};
+ghost use Rattle.flat_graph.specs.Laws.{IsFixedPoint, KeepsLengths, RunsInWindows};
 
 /// Each operation gives what it makes of what its sources give.
 #[tactic(auto, using(crate::proofs::Settled::fixed_point))]
@@ -11,4 +11,9 @@ pub fn values_are_a_fixed_point()
 #[tactic(auto, using(crate::proofs::Windows::runs_in_windows))]
 pub fn runs_in_windows()
     ensures { RunsInWindows }
+{}
+
+/// With a row and cells of the right lengths each output has its length, and the cells keep theirs.
+pub fn lengths_are_kept()
+    ensures { KeepsLengths }
 {}

@@ -13,6 +13,6 @@ mod valid;
 mod vertex;
 
 pub use flat::Flat;
-pub use laws::{runs_in_windows, values_are_a_fixed_point};
+pub use laws::{lengths_are_kept, runs_in_windows, values_are_a_fixed_point};
 pub use valid::is_flat;
 pub use vertex::{Guard, Kind, Source, Vertex};
