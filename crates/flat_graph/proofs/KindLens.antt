@@ -22,7 +22,7 @@ pub length-zeros : (outs : List ℕ) → map length (map zeros outs) ≡ outs
 length-zeros [] = refl
 length-zeros (n ∷ outs) = λ i. length-replicate n (pos 0) i ∷ length-zeros outs i
 
-sum-cons : (n : ℕ) (ns : List ℕ) → sum (n ∷ ns) ≡ n + sum ns
+pub sum-cons : (n : ℕ) (ns : List ℕ) → sum (n ∷ ns) ≡ n + sum ns
 sum-cons n ns = sum_by-cons (λ x. x) n ns
 
 pub only_is : (n : ℕ) (lens : List ℕ) → is_only n lens ≡ true → lens ≡ n ∷ []
@@ -43,7 +43,7 @@ numbers_long : (n : ℕ) → length (numbers_below n) ≡ n
 numbers_long zero = refl
 numbers_long (suc n) = length-append (numbers_below n) (n ∷ []) ∙ (let e = numbers_long n in omega arith)
 
-function_lens : (outs : List ℕ) (es : List Expr) (ins : Values) → map length (function_outputs outs es ins) ≡ outs
+pub function_lens : (outs : List ℕ) (es : List Expr) (ins : Values) → map length (function_outputs outs es ins) ≡ outs
 function_lens [] es ins = refl
 function_lens (n ∷ outs) [] ins = λ i. length-replicate n (pos 0) i ∷ function_lens outs [] ins i
 function_lens (n ∷ outs) (e ∷ es) ins = λ i. (length-map (numbers_below n) (value_of e ins) ∙ numbers_long n) i ∷ function_lens outs es ins i
@@ -56,7 +56,7 @@ parts_lens (n ∷ outs) v h =
     let rest = parts_lens outs (drop n v) (let e : length (drop n v) ≡ sum outs = omega (arith, length-drop n v) in e) in
     λ i. first i ∷ rest i
 
-joined_len : (vs : Values) → length (all_joined vs) ≡ sum (map length vs)
+pub joined_len : (vs : Values) → length (all_joined vs) ≡ sum (map length vs)
 joined_len [] = refl
 joined_len (v ∷ vs) = length-append v (all_joined vs) ∙ ap (λ n. length v + n) (joined_len vs) ∙ sym (sum-cons (length v) (map length vs))
 

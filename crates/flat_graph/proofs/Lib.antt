@@ -6,3 +6,4 @@ pub mod Windows
 pub mod KindLens
 pub mod Facts
 pub mod Sizes
+pub mod Fill

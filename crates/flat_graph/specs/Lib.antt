@@ -2,5 +2,6 @@ pub mod Graph
 pub mod Order
 pub mod Valid
 pub mod Fire
+pub mod Put
 pub mod Meaning
 pub mod Laws

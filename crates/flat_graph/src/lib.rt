@@ -3,6 +3,7 @@
 #![tactic(auto)]
 
 mod flat;
+mod put;
 mod forms;
 mod laws;
 mod lengths;
