@@ -5,7 +5,7 @@ use Rattle.outside.specs.Shelf.{Held, Stays, IsRead, file_bound}
 use Rattle.outside.specs.declared.file.File.{File}
 use Rattle.command_plan.specs.Plan.{Plan, give, refuse, read, after}
 use Rattle.command_plan.specs.Ending.{Ending, done, refused, unread, unwritten, no_memory}
-use Rattle.command_plan.specs.Run.{FailsToRead, Makes, gives, refuses, not_read}
+use Rattle.command_plan.specs.Run.{FailsToRead, Makes, gives, refuses, not_read, was_read}
 
 -- want of memory may come anywhere
 pub memory : {R : Type 0} (old new : Held) (plan : Plan R) → Makes old new plan (Err no_memory)
@@ -37,3 +37,10 @@ fails_before a b c file name too_long (refused r) s h = (h.0, subst (λ (o : Opt
 fails_before a b c file name too_long no_memory s h = tt
 fails_before a b c file name too_long done s h = h
 fails_before a b c file name too_long unwritten s h = h
+
+-- what was carried out later was carried out from before
+pub makes_before : {R : Type 0} (a b c : Held) (plan : Plan R) (made : Result Bytes (Ending R)) → Stays a b → Makes b c plan made → Makes a c plan made
+makes_before a b c (give text) made s (gives g) = gives g
+makes_before a b c (refuse refusal) made s (refuses g) = refuses g
+makes_before a b c (read file name too_long next) _ s (not_read {ending = ending} f) = not_read (fails_before a b c file name too_long ending s f)
+makes_before a b c (read file name too_long next) made s (was_read bytes is m) = was_read bytes (read_before a b name bytes s is) (makes_before a b c (next bytes) made s m)

@@ -1,0 +1,4 @@
+pub mod Splits
+pub mod EndCounts
+pub mod Steps
+pub mod Replies

@@ -1,4 +1,11 @@
 pub mod Status
 pub mod Lines
+pub mod Words
 pub mod OutputText
+pub mod Ends
 pub mod SensorTable
+pub mod TableAnswers
+pub mod StandIn
+pub mod Sim
+pub mod Replies
+pub mod View

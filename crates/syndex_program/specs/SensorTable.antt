@@ -1,13 +1,15 @@
 -- The simple sensor table: comma separated, no quotes, a header, and one row for each reaction.
-use Rattle.std.specs.Prelude.{◌&&◌, ◌||◌, ◌==◌, ℕ, zero, suc, ◌+◌, ◌*◌, ◌-◌, ℤ, pos, Bool, true, false, not, nat_lt, nat_le, if◌then◌else◌, List, [], ◌∷◌, ◌++◌, length, take, drop, slice_index, filter, sum, Option, Some, None, option_map, option_and_then, codes}
+use Rattle.std.specs.Prelude.{◌&&◌, ◌||◌, ◌==◌, ℕ, zero, suc, ◌+◌, ◌*◌, ◌-◌, ℤ, pos, Bool, true, false, not, nat_eq, nat_lt, if◌then◌else◌, List, [], ◌∷◌, ◌++◌, length, drop, filter, sum, Option, Some, None, option_map, option_and_then, codes}
 use Rattle.std.specs.Fmt.{signed_decimal}
-use Rattle.std.specs.List.{slice_split, list_any}
+use Rattle.std.specs.List.{slice_split, list_any, starts_with, ends_with}
 use Rattle.std.specs.Ordering.{int_eq}
 use Rattle.std.specs.Result.{result_ok}
 use Rattle.std.specs.Str.{bytes_eq}
 use Rattle.outside.specs.Bytes.{Bytes}
 use Rattle.syn_base.specs.Integer.{integer_of}
+use Rattle.syn_base.specs.Limits.{bound_of}
 use Rattle.syn_base.specs.Rows.{cut}
+use Rattle.syn_base.specs.declared.limits.LimitKind.TheVariants.{Reactions}
 
 abbrev pub is_line_end : ℕ → Bool
 is_line_end b = (b == 10) || (b == 13)
@@ -24,15 +26,19 @@ order_mark = 239 ∷ 187 ∷ 191 ∷ []
 
 -- the text, a byte order mark before it passed over
 abbrev pub without_mark : Bytes → Bytes
-without_mark text = if bytes_eq (take 3 text) order_mark then drop 3 text else text
+without_mark text = if starts_with nat_eq text order_mark then drop 3 text else text
+
+abbrev pub has_bytes : Bytes → Bool
+has_bytes [] = false
+has_bytes (b ∷ bs) = true
 
 -- the records of a text without quotes: what stands between line ends, unless it is empty
 abbrev pub records_of : Bytes → List Bytes
-records_of text = filter (λ line. nat_lt 0 (length line)) (slice_split is_line_end text)
+records_of text = filter has_bytes (slice_split is_line_end text)
 
 -- each line ends with a line feed, and no field has quotes
 abbrev pub has_plain_lines : Bytes → Bool
-has_plain_lines text = (slice_index text (length text - 1) == 10) && not (list_any is_quote text)
+has_plain_lines text = ends_with nat_eq text (codes "\n") && not (list_any is_quote text)
 
 -- `,NAME.j` for n element numbers j, from this one on
 abbrev pub element_fields : Bytes → ℕ → ℕ → Bytes
@@ -68,7 +74,7 @@ row_of lens n line = option_and_then (row_in lens n) (numbers_of (slice_split is
 
 -- the most reactions
 abbrev pub reaction_bound : ℕ
-reaction_bound = 10000
+reaction_bound = bound_of Reactions
 
 -- the rows of the records behind the header, the first of which is row n
 abbrev pub rows_from : List ℕ → ℕ → List Bytes → Option (List (List (List ℤ)))

@@ -2,7 +2,8 @@
 ghost use Rattle.std.specs.Prelude.{◌≡◌, ◌++◌, pos, OnOk};
 ghost use Rattle.std.specs.Fmt.{signed_decimal};
 
-use syn_base::{OutOfMemory, print_int};
+use itoa::Buffer;
+use syn_base::OutOfMemory;
 
 /// Appends bytes.
 pub fn append(out: &mut Vec<u8>, bytes: &[u8]) -> Result<(), OutOfMemory>
@@ -13,8 +14,9 @@ pub fn append(out: &mut Vec<u8>, bytes: &[u8]) -> Result<(), OutOfMemory>
 }
 
 /// Appends the decimal of a count.
-pub fn append_count(out: &mut Vec<u8>, count: u32) -> Result<(), OutOfMemory>
+pub fn append_count(out: &mut Vec<u8>, count: usize) -> Result<(), OutOfMemory>
     ensures { OnOk result (out.new.items ≡ out.old.items ++ signed_decimal (pos count)) }
 {
-    print_int(i64::from(count), out)
+    let mut buffer = Buffer::new();
+    append(out, buffer.format(count).as_bytes())
 }

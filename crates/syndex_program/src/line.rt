@@ -1,12 +1,12 @@
 //! The line on the error sink, written piece by piece without memory.
 ghost use Rattle.std.specs.Prelude.{◌≡◌, is_ok};
 ghost use Rattle.outside.specs.Sink.{Wrote};
-ghost use Rattle.syndex_program.specs.Lines.{file_word, limit_word, limit_line, line_of, Said};
+ghost use Rattle.syndex_program.specs.Lines.{file_word, limit_line, line_of, Said};
 
 use crate::status::Status;
 use itoa::Buffer;
 use outside::{Failed, File, Sink, write_pieces, write_whole};
-use syn_base::{LimitFault, LimitKind};
+use syn_base::LimitFault;
 
 /// Writes the status's line. What happens there changes nothing else.
 pub fn say<E: Sink>(err: &mut E, status: &Status)
@@ -36,7 +36,7 @@ fn write_limit<E: Sink>(err: &mut E, fault: &LimitFault) -> Result<(), Failed>
     let mut bound = Buffer::new();
     let count = count.format(fault.count).as_bytes();
     let bound = bound.format(fault.bound).as_bytes();
-    let word = word_of_limit(fault.which);
+    let word = fault.which.word().as_bytes();
     write_pieces(
         err,
         &[b"limit ", word, b": ", count, b" above ", bound, b"\n"],
@@ -52,29 +52,5 @@ fn word_of(file: File) -> &'static [u8]
         File::Sensors => b"sensors",
         File::Code => b"code",
         File::Durations => b"durations",
-    }
-}
-
-fn word_of_limit(kind: LimitKind) -> &'static [u8]
-    ensures { result.now ≡ limit_word kind }
-{
-    match kind {
-        LimitKind::File => b"file",
-        LimitKind::Tokens => b"tokens",
-        LimitKind::PortLength => b"length",
-        LimitKind::Ports => b"ports",
-        LimitKind::Copies => b"copies",
-        LimitKind::Cases => b"cases",
-        LimitKind::References => b"references",
-        LimitKind::Depth => b"depth",
-        LimitKind::Operations => b"operations",
-        LimitKind::Operators => b"operators",
-        LimitKind::Media => b"media",
-        LimitKind::Connections => b"connections",
-        LimitKind::Words => b"words",
-        LimitKind::MicroSteps => b"steps",
-        LimitKind::Reactions => b"reactions",
-        LimitKind::Output => b"output",
-        LimitKind::Total => b"total",
     }
 }

@@ -1,5 +1,5 @@
 //! The text of what the actuators take.
-ghost use Rattle.std.specs.Prelude.{◌≡◌, ◌+◌, ◌<◌, ◌≤◌, ◌++◌, ◌^◌, [], length, map, slice_index_or, IfOk, OnOk};
+ghost use Rattle.std.specs.Prelude.{◌≡◌, ◌+◌, ◌<◌, ◌≤◌, ◌++◌, [], length, map, slice_index_or, IfOk, OnOk};
 ghost use Rattle.syndex_program.specs.OutputText.{values_text, actuator_line, reaction_text, output_text};
 
 use crate::append::{append, append_count};
@@ -8,8 +8,7 @@ use syn_base::{ActRows, OutOfMemory, print_int};
 
 /// For each reaction in order and each actuator in declared order the line `k name v0 v1` and so on.
 pub fn output(alloc: Global, names: &[&[u8]], rows: &ActRows) -> Result<Vec<u8>, OutOfMemory>
-    requires names { length names.now ≤ length rows.now.lens }
-    requires count { length rows.now.reactions < 2 ^ 32 }
+    requires { length names.now ≤ length rows.now.lens }
     ensures { IfOk result (λ text. text.items ≡ output_text (map (λ s. s.now) names.now) rows.now.reactions) }
 {
     let mut text = Vec::new(alloc);
@@ -27,23 +26,17 @@ fn append_reaction(
     k: usize,
 ) -> Result<(), OutOfMemory>
     requires names { length names.now ≤ length rows.now.lens }
-    requires count { length rows.now.reactions < 2 ^ 32 }
     requires reaction { k < length rows.now.reactions }
     ensures { OnOk result (text.new.items ≡ text.old.items ++ reaction_text k 0 (map (λ s. s.now) names.now) (slice_index_or rows.now.reactions k [])) }
 {
     for (a, name) in names.iter().enumerate() {
-        append_line(text, k as u32, name, rows.vector(k, a))?;
+        append_line(text, k, name, rows.vector(k, a))?;
     }
     Ok(())
 }
 
 /// Appends the line of one actuator.
-fn append_line(
-    text: &mut Vec<u8>,
-    k: u32,
-    name: &[u8],
-    values: &[i64],
-) -> Result<(), OutOfMemory>
+fn append_line(text: &mut Vec<u8>, k: usize, name: &[u8], values: &[i64]) -> Result<(), OutOfMemory>
     ensures { OnOk result (text.new.items ≡ text.old.items ++ actuator_line k name.now values.now) }
 {
     append_count(text, k)?;
