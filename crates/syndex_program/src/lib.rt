@@ -111,3 +111,6 @@ fn write_text<K: Sink>(out: &mut K, made: Result<Vec<u8>, Status>) -> Status
         },
     }
 }
+
+#[cfg(test)]
+mod tests;

@@ -220,3 +220,45 @@ fn append_elements(header: &mut Vec<u8>, name: &[u8], len: u32) -> Result<(), Ou
     }
     Ok(())
 }
+
+#[cfg(test)]
+mod tests {
+    use super::*;
+    use std::test::Fail;
+
+    const NAMES: [&[u8]; 2] = [b"s", b"t"];
+
+    #[test]
+    fn reads_one_row_for_each_reaction(rt: HostRuntime) -> Result<(), Fail> {
+        let rows = b"\xEF\xBB\xBFk,s.0,s.1,t.0\r\n\n0,5,-1,007\r\n01,2,-0,3\n";
+        let rows = read_table(rt.alloc(), &NAMES, &[2, 1], rows)?;
+        let wanted: [[&[i64]; 2]; 2] = [[&[5, -1], &[7]], [&[2, 0], &[3]]];
+        assert_eq!(rt; rows.count(), 2);
+        assert_eq!(rt; rows.lens().len(), 2);
+        for (k, row) in wanted.iter().enumerate() {
+            for (v, vector) in row.iter().enumerate() {
+                assert_eq!(rt; rows.vector(k, v), *vector);
+            }
+        }
+        Ok(())
+    }
+
+    #[test]
+    fn refuses_what_is_not_simple(rt: HostRuntime) {
+        let tables: [&[u8]; 9] = [
+            b"",
+            b"\n",
+            b"k,s.0,t.0",
+            b"k,s.0\n",
+            b"k,s.0,t.0 \n",
+            b"k,s.0,t.0\n0,1\n",
+            b"k,s.0,t.0\n1,1,2\n",
+            b"k,s.0,t.0\n0,1,\n",
+            b"k,s.0,t.0\n0,\"1\",2\n",
+        ];
+        for table in tables {
+            let refused = read_table(rt.alloc(), &NAMES, &[1, 1], table).err();
+            assert_eq!(rt; refused, Some(TableFault::NotBuilt));
+        }
+    }
+}

@@ -1,0 +1,39 @@
+//! The program `syndex`: the top call over real files, standard output and standard error.
+#![tactic(auto)]
+
+use outside::{GateFree, write_whole};
+use real_edge::{ErrSink, FileShelf, StdSink};
+use std::process::ExitCode;
+use std::{env, io};
+use syndex_program::{Status, syndex};
+
+/// The words of the command line; none where one of them is no text.
+fn words_of(rt: &HostRuntime) -> io::Result<Vec<String>> {
+    match env::args(rt) {
+        Ok(words) => Ok(words.collect(rt.alloc())?),
+        Err(error) if error.kind() == io::ErrorKind::InvalidData => Ok(Vec::new(rt.alloc())),
+        Err(error) => Err(error),
+    }
+}
+
+fn main(rt: HostRuntime) -> ExitCode {
+    let mut shelf = FileShelf::new(&rt);
+    let mut out = StdSink::new(&rt);
+    let mut err = ErrSink::new(&rt);
+    let status = match words_of(&rt) {
+        Ok(words) => syndex(
+            &rt,
+            rt.alloc(),
+            words.as_slice(),
+            &mut shelf,
+            &mut out,
+            &mut err,
+            &GateFree,
+        ),
+        Err(_) => {
+            let _ = write_whole(&mut err, b"out of memory\n");
+            Status::OutOfMemory
+        }
+    };
+    ExitCode::from(status.number())
+}
