@@ -12,7 +12,7 @@ use Rattle.command_plan.proofs.Meaning.{answers_of}
 use Rattle.algo_tree.specs.Tree.{Vertex}
 use Rattle.syndex_program.specs.Sim.{built, sim_plan, table_plan, plan_of, rows_of}
 use Rattle.syndex_program.specs.Status.{Refusal, not_built}
-use Rattle.syndex_program.specs.StandIn.{tree_of}
+use Rattle.algo_tree.specs.Simple.{simple_tree}
 use Rattle.syndex_program.specs.Words.{Command, sim, sim_names, names_of}
 
 built_reads : {X : Type 0} (names : File → Option Bytes) (answer : Option X) (next : X → Plan Refusal) → ((x : X) → ReadsOnly names (next x)) → ReadsOnly names (built answer next)
@@ -23,7 +23,7 @@ table_reads : (a s : Bytes) (main : Vertex) → ReadsOnly (sim_names a s) (table
 table_reads a s main = (refl, λ table. built_reads (sim_names a s) (rows_of main table) _ (λ rows. tt))
 
 sim_reads : (a s : Bytes) → ReadsOnly (sim_names a s) (sim_plan a s)
-sim_reads a s = (refl, λ text. built_reads (sim_names a s) (tree_of text) (λ main. table_plan main s) (table_reads a s))
+sim_reads a s = (refl, λ text. built_reads (sim_names a s) (simple_tree text) (λ main. table_plan main s) (table_reads a s))
 
 reads_only : (command : Option Command) → ReadsOnly (names_of command) (plan_of command)
 reads_only None = tt

@@ -11,7 +11,7 @@ use Rattle.command_plan.proofs.Makes.{memory, makes_before}
 use Rattle.syndex_program.specs.Sim.{built, read_file}
 use Rattle.syndex_program.specs.Status.{Refusal, not_built, ending_of}
 use Rattle.syndex_program.specs.View.{Refuses, Yields, ReadsTree}
-use Rattle.syndex_program.specs.StandIn.{tree_of}
+use Rattle.algo_tree.specs.Simple.{simple_tree}
 use Rattle.syndex_program.specs.declared.status.Status.{Status}
 use Rattle.syndex_program.specs.declared.status.Status.TheVariants.{Done, Usage, ReadFault, WriteFault, Limit, NotBuilt, OutOfMemory}
 
@@ -34,12 +34,12 @@ built_not old new answer next WriteFault h = absurd h
 built_not old new answer next (Limit fault) h = absurd h
 
 -- a text was read, and then its algorithm
-pub tree_read : (name text : Bytes) (old new : Held) (result : Result Vertex Status) → IsRead name old text → Yields (tree_of text) result → ReadsTree name old new result
+pub tree_read : (name text : Bytes) (old new : Held) (result : Result Vertex Status) → IsRead name old text → Yields (simple_tree text) result → ReadsTree name old new result
 tree_read name text old new (Ok main) is y = (text, is, y)
-tree_read name text old new (Err status) is y = λ next. was_read text is (built_not old new (tree_of text) next status y)
+tree_read name text old new (Err status) is y = λ next. was_read text is (built_not old new (simple_tree text) next status y)
 
 -- an algorithm was read, and then the plan went on with it
 pub went_on : (name : Bytes) (a b c : Held) (main : Vertex) (next : Vertex → Plan Refusal) (made : Result Bytes (Ending Refusal)) → Stays a b → ReadsTree name a b (Ok main) → Makes b c (next main) made
-    → Makes a c (read_file Algorithm name (λ text. built (tree_of text) next)) made
+    → Makes a c (read_file Algorithm name (λ text. built (simple_tree text) next)) made
 went_on name a b c main next made stays (text, is, t) m =
-    was_read text is (built_some a c (tree_of text) next made main t (makes_before a b c (next main) made stays m))
+    was_read text is (built_some a c (simple_tree text) next made main t (makes_before a b c (next main) made stays m))

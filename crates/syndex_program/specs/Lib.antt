@@ -5,7 +5,6 @@ pub mod OutputText
 pub mod Ends
 pub mod SensorTable
 pub mod TableAnswers
-pub mod StandIn
 pub mod Sim
 pub mod Replies
 pub mod View

@@ -16,7 +16,7 @@ use Rattle.syndex_program.specs.Ends.{sensor_names, actuator_names}
 use Rattle.syndex_program.specs.SensorTable.{table_rows}
 use Rattle.syndex_program.specs.OutputText.{output_text}
 use Rattle.syndex_program.specs.Words.{Command, sim}
-use Rattle.syndex_program.specs.StandIn.{tree_of}
+use Rattle.algo_tree.specs.Simple.{simple_tree}
 
 -- go on with what is there: where nothing is, a form stands that is not built
 abbrev pub built : {X : Type 0} → Option X → (X → Plan Refusal) → Plan Refusal
@@ -49,7 +49,7 @@ table_plan main s = read_file Sensors s (λ table. built (rows_of main table) (�
 
 -- the algorithm file is read, then its text; then it goes on with the sensors
 abbrev pub sim_plan : Bytes → Bytes → Plan Refusal
-sim_plan a s = read_file Algorithm a (λ text. built (tree_of text) (λ main. table_plan main s))
+sim_plan a s = read_file Algorithm a (λ text. built (simple_tree text) (λ main. table_plan main s))
 
 -- the plan of the words
 abbrev pub plan_of : Option Command → Plan Refusal

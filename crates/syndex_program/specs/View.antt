@@ -10,13 +10,13 @@ use Rattle.command_plan.specs.Plan.{Plan}
 use Rattle.command_plan.specs.Run.{Makes}
 use Rattle.command_plan.specs.Ending.{Ending}
 use Rattle.syndex_program.specs.Sim.{built, read_file}
-use Rattle.syndex_program.specs.StandIn.{tree_of}
+use Rattle.algo_tree.specs.Simple.{simple_tree}
 use Rattle.syndex_program.specs.Status.{Refusal, ending_of}
 use Rattle.syndex_program.specs.Words as plain
 use Rattle.syndex_program.specs.declared.status.Status.{Status}
 use Rattle.syndex_program.specs.declared.status.Status.TheVariants.{NotBuilt, OutOfMemory}
-use Rattle.syndex_program.specs.declared.stand_in.SimpleFault.{SimpleFault}
-use Rattle.syndex_program.specs.declared.stand_in.SimpleFault.TheVariants as simple
+use Rattle.algo_tree.specs.declared.simple.SimpleFault.{SimpleFault}
+use Rattle.algo_tree.specs.declared.simple.SimpleFault.TheVariants as simple
 use Rattle.syndex_program.specs.declared.table.TableFault.{TableFault}
 use Rattle.syndex_program.specs.declared.table.TableFault.TheVariants as table
 use Rattle.syndex_program.specs.declared.command.Command.{Command}
@@ -58,6 +58,6 @@ status_of_table table.OutOfMemory = OutOfMemory
 
 -- the file has a simple text of this algorithm; or carrying on from it ends so, whatever follows
 abbrev pub ReadsTree : Bytes → Held → Held → Result Vertex Status → Type 0
-ReadsTree name old new (Ok main) = (text : Bytes) × IsRead name old text × (tree_of text ≡ Some main)
+ReadsTree name old new (Ok main) = (text : Bytes) × IsRead name old text × (simple_tree text ≡ Some main)
 ReadsTree name old new (Err status) =
-    (next : Vertex → Plan Refusal) → Makes old new (read_file Algorithm name (λ text. built (tree_of text) next)) (Err (ending_of status))
+    (next : Vertex → Plan Refusal) → Makes old new (read_file Algorithm name (λ text. built (simple_tree text) next)) (Err (ending_of status))

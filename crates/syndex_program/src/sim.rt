@@ -10,16 +10,16 @@ ghost use Rattle.outside.specs.Shelf.{Stays, IsRead, file_limit};
 ghost use Rattle.command_plan.specs.Run.{FailsToRead, Makes};
 ghost use Rattle.syndex_program.specs.Status.{ending_of, above};
 ghost use Rattle.syndex_program.specs.Sim.{rows_of, sim_output, sim_plan, table_plan};
-ghost use Rattle.syndex_program.specs.StandIn.{tree_of};
+ghost use Rattle.algo_tree.specs.Simple.{simple_tree};
 ghost use Rattle.syndex_program.specs.View.{ReadsTree, bytes_in, status_of_simple, status_of_table, Yields, YieldsRows};
 ghost use Rattle.syndex_program.specs.declared.status.Status.TheVariants.{OutOfMemory as Wants};
 
 use crate::ends::{actuators_of, sensors_of};
 use crate::output::output;
-use crate::stand_in::{SimpleFault, read_simple, simulate};
+use crate::stand_in::simulate;
 use crate::status::Status;
 use crate::table::{TableFault, read_table};
-use algo_tree::Tree;
+use algo_tree::{SimpleFault, Tree, read_simple};
 use outside::{File, ReadAnswer, Shelf, read_whole};
 use std::alloc::Global;
 use syn_base::{OutOfMemory, SensorRows, Shape};
@@ -86,7 +86,7 @@ fn read_file<S: Shelf>(
 
 /// The algorithm of a simple text.
 fn read_tree(alloc: Global, text: &[u8]) -> Result<Tree, Status>
-    ensures { Yields (tree_of text.now) result }
+    ensures { Yields (simple_tree text.now) result }
 {
     Ok(read_simple(alloc, text)?)
 }

@@ -1,25 +1,12 @@
-//! A stand-in for the reader of simple texts and for the simulator.
+//! A stand-in for the simulator.
 ghost use Rattle.std.specs.Prelude.{◌≡◌, length, IfOk, map};
 ghost use Rattle.algo_tree.specs.Ends.{sensor_lengths, actuator_lengths};
 ghost use Rattle.algo_tree.specs.Meaning.{act_row};
 ghost use Rattle.level_meaning.specs.Level.{numbers_below};
-ghost use Rattle.syndex_program.specs.StandIn.{ReadsSimple, tree_of};
 
 use algo_tree::Tree;
 use std::alloc::Global;
 use syn_base::{ActRows, OutOfMemory, SensorRows};
-
-#[derive(Clone, Copy, Debug, PartialEq, Eq)]
-pub enum SimpleFault {
-    NotBuilt,
-    OutOfMemory,
-}
-
-pub fn read_simple(_alloc: Global, _bytes: &[u8]) -> Result<Tree, SimpleFault>
-    ensures { ReadsSimple (tree_of _bytes.now) result }
-{
-    Err(SimpleFault::OutOfMemory)
-}
 
 pub fn simulate(_alloc: Global, _tree: &Tree, _rows: &SensorRows) -> Result<ActRows, OutOfMemory>
     requires { _rows.now.lens ≡ sensor_lengths _tree.now }
