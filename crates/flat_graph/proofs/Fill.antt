@@ -126,7 +126,7 @@ joined_more (v ∷ vs) (suc i) l =
     ∙ ap (λ u. v ++ u) (joined_more vs i (omega arith))
     ∙ sym (append_assoc v (all_joined (take i vs)) (vector_at vs i))
 
-map-take : (i : ℕ) (vs : Values) → map length (take i vs) ≡ take i (map length vs)
+pub map-take : (i : ℕ) (vs : Values) → map length (take i vs) ≡ take i (map length vs)
 map-take zero vs = refl
 map-take (suc i) [] = refl
 map-take (suc i) (v ∷ vs) = ap (λ ns. length v ∷ ns) (map-take i vs)
@@ -154,7 +154,7 @@ pub over_behind : (done v w : Vector) (from : ℕ) → from ≡ length done → 
 over_behind done v w from e =
     let front : take from (done ++ drop from w) ≡ done = ap (λ (n : ℕ). take n (done ++ drop from w)) e ∙ take-append_seam done (drop from w) in
     let back : drop (from + length v) (done ++ drop from w) ≡ drop (from + length v) w =
-      ap (λ (n : ℕ). drop (n + length v) (done ++ drop from w)) e
-      ∙ drop-append-add done (drop from w) (length v)
-      ∙ drop-drop (length v) from w in
+    ap (λ (n : ℕ). drop (n + length v) (done ++ drop from w)) e
+    ∙ drop-append-add done (drop from w) (length v)
+    ∙ drop-drop (length v) from w in
     (λ i. front i ++ (v ++ back i)) ∙ sym (append_assoc done v (drop (from + length v) w))

@@ -73,7 +73,7 @@ each_only outs [] k l h = absurd (omega arith)
 each_only outs (v ∷ vs) zero l h = (and_parts (is_only (length v) outs) (list_all (λ n. is_only n outs) (map length vs)) h).0
 each_only outs (v ∷ vs) (suc k) l h = each_only outs vs k (omega arith) (and_parts (is_only (length v) outs) (list_all (λ n. is_only n outs) (map length vs)) h).1
 
-merge_lens : (values : List ℤ) (ins : Values) (outs : List ℕ) → is_merge (length values) (map length ins) outs ≡ true → length (merged values ins) ∷ [] ≡ outs
+pub merge_lens : (values : List ℤ) (ins : Values) (outs : List ℕ) → is_merge (length values) (map length ins) outs ≡ true → length (merged values ins) ∷ [] ≡ outs
 merge_lens values [] outs h = absurd (false≢true h)
 merge_lens values (c ∷ vs) outs h =
     let each = and_parts ((length c == 1) && (length (map length vs) == length values + 1)) (list_all (λ n. is_only n outs) (map length vs)) h in

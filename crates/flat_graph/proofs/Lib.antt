@@ -7,3 +7,5 @@ pub mod KindLens
 pub mod Facts
 pub mod Sizes
 pub mod Fill
+pub mod Firing
+pub mod ReadLens

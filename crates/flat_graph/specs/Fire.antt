@@ -39,6 +39,17 @@ stored _ active cell input = cell
 abbrev pub kept : Vertex → Vector → Values → Values → Vector
 kept x cell conditions ins = stored x.kind (guards_hold x.guards conditions) cell (vector_at ins 0)
 
+-- the length of its cell, where its inputs have these lengths: a half of a delay has one
+abbrev pub kind_cell_len : Kind → List ℕ → ℕ
+kind_cell_len (Get z) lens = length z
+kind_cell_len Set lens = slice_index_or lens 0 0
+kind_cell_len _ lens = 0
+
+-- the length of what it senses, where its outputs have these lengths
+abbrev pub kind_seen_len : Kind → List ℕ → ℕ
+kind_seen_len (Sensor i) outs = slice_index_or outs 0 0
+kind_seen_len _ outs = 0
+
 -- Operation v of a graph, by its number.
 module _ (g : Graph) (v : ℕ) where
   abbrev pub of_vertex : {A : Type 0} → A → (Vertex → A) → A
@@ -51,22 +62,11 @@ module _ (g : Graph) (v : ℕ) where
   abbrev pub out_lens : List ℕ
   out_lens = of_vertex [] (λ x. x.outs)
 
-  -- the length of its cell: a half of a delay has one
   abbrev pub cell_len : ℕ
-  cell_len = of_vertex 0 (λ x. by x (x.kind))
-    where
-      by : Vertex → Kind → ℕ
-      by x (Get z) = length z
-      by x Set = slice_index_or (lens_of g.vertices x.ins) 0 0
-      by x _ = 0
+  cell_len = of_vertex 0 (λ x. kind_cell_len x.kind (lens_of g.vertices x.ins))
 
-  -- the length of what it senses
   abbrev pub seen_len : ℕ
-  seen_len = of_vertex 0 (λ x. by x (x.kind))
-    where
-      by : Vertex → Kind → ℕ
-      by x (Sensor i) = slice_index_or x.outs 0 0
-      by x _ = 0
+  seen_len = of_vertex 0 (λ x. kind_seen_len x.kind x.outs)
 
   -- its outputs, from its cell, what it senses, and the values of its inputs and then of its guards' sources
   abbrev pub fired_at : Vector → Vector → Values → Values

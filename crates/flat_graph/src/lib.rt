@@ -3,17 +3,19 @@
 #![tactic(auto)]
 
 mod flat;
-mod put;
 mod forms;
 mod laws;
 mod lengths;
 mod numbering;
+mod operation;
 mod order;
+mod put;
 mod twins;
 mod valid;
 mod vertex;
 
 pub use flat::Flat;
 pub use laws::{lengths_are_kept, runs_in_windows, values_are_a_fixed_point};
+pub use operation::fire;
 pub use valid::is_flat;
 pub use vertex::{Guard, Kind, Source, Vertex};

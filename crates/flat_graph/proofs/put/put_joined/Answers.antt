@@ -44,9 +44,9 @@ loop-port-preserved c =
     let more : all_joined (take (port + 1) c.args.ins.now) ≡ done ++ v = joined_more c.args.ins.now port (omega arith) ∙ ap (λ u. done ++ u) (sym c.vector-vector.ensures) in
     record {
       outs =
-        c.put_over.ensures
-        ∙ ap (λ vs. slice_set vs 0 (over from v (vector_at vs 0))) c.loop-port.invariant.outs
-        ∙ ap (λ (u : Vector). u ∷ []) (over_behind done v w from c.loop-port.invariant.from ∙ ap (λ u. u ++ drop (from + length v) w) (sym more));
+          c.put_over.ensures
+          ∙ ap (λ vs. slice_set vs 0 (over from v (vector_at vs 0))) c.loop-port.invariant.outs
+          ∙ ap (λ (u : Vector). u ∷ []) (over_behind done v w from c.loop-port.invariant.from ∙ ap (λ u. u ++ drop (from + length v) w) (sym more));
       from = ap (λ n. n + length v) c.loop-port.invariant.from ∙ sym (ap length more ∙ length-append done v);
     }
 
@@ -57,6 +57,6 @@ returns c =
     let last : c.loop-port.port ≡ count = omega arith in
     let whole = whole_len c.args.outs.now (sum (take count (map length c.args.ins.now))) c.requires.lens in
     let far : length w ≤ c.loop-port.from =
-      omega (arith, whole, first_joined c.args.ins.now count, c.loop-port.invariant.from, ap (λ (n : ℕ). length (all_joined (take n c.args.ins.now))) last) in
+    omega (arith, whole, first_joined c.args.ins.now count, c.loop-port.invariant.from, ap (λ (n : ℕ). length (all_joined (take n c.args.ins.now))) last) in
     c.loop-port.invariant.outs
     ∙ ap (λ (u : Vector). u ∷ []) ((λ i. all_joined (take (last i) c.args.ins.now) ++ drop_all c.loop-port.from w far i) ∙ append-nil (all_joined (take count c.args.ins.now)))

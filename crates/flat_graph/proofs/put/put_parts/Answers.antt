@@ -19,9 +19,9 @@ set_vector-requires-clause-len c =
     let there = sum_by_more_le (λ (x : ℕ). x) c.args.lens.now port 0 c.loop-port-test.true in
     let from = c.loop-port.from in
     let part : length (take (from + n - from) (drop from c.args.whole.now)) ≡ n =
-      omega (arith, there, c.loop-port.invariant.from, length-take (from + n - from) (drop from c.args.whole.now), length-drop from c.args.whole.now) in
+    omega (arith, there, c.loop-port.invariant.from, length-take (from + n - from) (drop from c.args.whole.now), length-drop from c.args.whole.now) in
     let place : length (slice_index_or c.loop-port.outs port []) ≡ n =
-      rw c.loop-port.invariant.outs (len_at_seam (parts_of c.args.lens.now c.args.whole.now) c.args.outs.now c.args.lens.now port (omega arith) c.loop-port-test.true c.requires.lens) in
+    rw c.loop-port.invariant.outs (len_at_seam (parts_of c.args.lens.now c.args.whole.now) c.args.outs.now c.args.lens.now port (omega arith) c.loop-port-test.true c.requires.lens) in
     part ∙ sym place
 
 pub loop-port-preserved : goal.loop-port-preserved
@@ -33,14 +33,14 @@ loop-port-preserved c =
     let many = length-parts_of c.args.lens.now c.args.whole.now in
     let part = take (from + n - from) (drop from c.args.whole.now) in
     let is_part : part ≡ slice_index_or (parts_of c.args.lens.now c.args.whole.now) port [] =
-      ap (λ (k : ℕ). take k (drop from c.args.whole.now)) (let e : from + n - from ≡ n = omega arith in e)
-      ∙ ap (λ (k : ℕ). take n (drop k c.args.whole.now)) c.loop-port.invariant.from
-      ∙ sym (part_at c.args.lens.now c.args.whole.now port c.loop-port-test.true) in
+    ap (λ (k : ℕ). take k (drop from c.args.whole.now)) (let e : from + n - from ≡ n = omega arith in e)
+    ∙ ap (λ (k : ℕ). take n (drop k c.args.whole.now)) c.loop-port.invariant.from
+    ∙ sym (part_at c.args.lens.now c.args.whole.now port c.loop-port-test.true) in
     record {
       outs =
-        c.set_vector.ensures
-        ∙ ap (λ vs. slice_set vs port part) c.loop-port.invariant.outs
-        ∙ fill (parts_of c.args.lens.now c.args.whole.now) c.args.outs.now port [] part (omega arith) (omega arith) is_part;
+          c.set_vector.ensures
+          ∙ ap (λ vs. slice_set vs port part) c.loop-port.invariant.outs
+          ∙ fill (parts_of c.args.lens.now c.args.whole.now) c.args.outs.now port [] part (omega arith) (omega arith) is_part;
       from = ap (λ (k : ℕ). k + n) c.loop-port.invariant.from ∙ sym (sum_by_more (λ (x : ℕ). x) c.args.lens.now port 0 c.loop-port-test.true);
     }
 
