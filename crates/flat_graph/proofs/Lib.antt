@@ -9,3 +9,4 @@ pub mod Sizes
 pub mod Fill
 pub mod Firing
 pub mod ReadLens
+pub mod Fired

@@ -1,18 +1,29 @@
 -- Laws of the flat meaning.
-use Rattle.std.specs.Prelude.{◌≡◌, ℕ, ◌+◌, IsTrue, List, [], ◌∷◌, ◌++◌, map, length, Some, slice_get, slice_index_or}
+use Rattle.std.specs.Prelude.{◌≡◌, ℕ, ◌+◌, ℤ, IsTrue, List, [], ◌∷◌, ◌++◌, map, length, Some, slice_get, slice_index_or}
 use Rattle.level_meaning.specs.Level.{Values}
 use Rattle.flat_graph.specs.declared.vertex.Kind.{Kind}
 use Rattle.flat_graph.specs.declared.vertex.Kind.TheVariants.{Sensor, Get}
 use Rattle.flat_graph.specs.declared.vertex.Vertex.{Vertex}
 use Rattle.flat_graph.specs.Graph.{Graph}
 use Rattle.flat_graph.specs.Valid.{is_flat}
-use Rattle.flat_graph.specs.Fire.{fired}
-use Rattle.flat_graph.specs.Meaning.{sensed, cell_of, outputs_in, value_in, conditions, inputs, next_cells, cells_after, flat_outputs, flat_act_row}
+use Rattle.flat_graph.specs.Fire.{fired, fired_at, kept_at}
+use Rattle.flat_graph.specs.Meaning.{sensed, cell_of, outputs_in, value_in, conditions, inputs, reads, next_cells, cells_after, flat_outputs, flat_act_row}
 
 -- each operation gives what it makes of what its sources give
 abbrev pub IsFixedPoint : Type 0
 IsFixedPoint = (g : Graph) (cells row : Values) → IsTrue (is_flat g) → (v : ℕ) (x : Vertex) → slice_get g.vertices v ≡ Some x
     → outputs_in g cells row v ≡ fired g.bodies x (cell_of g cells v) (sensed x.kind row) (conditions (value_in g cells row) x) (inputs (value_in g cells row) x)
+
+-- an operation that is fired on its cell, what it senses and what its sources give has its outputs
+abbrev pub IsFired : Type 0
+IsFired = (g : Graph) (cells row : Values) → IsTrue (is_flat g) → (v : ℕ) (x : Vertex) → slice_get g.vertices v ≡ Some x
+    → outputs_in g cells row v ≡ fired_at g v (cell_of g cells v) (sensed x.kind row) (reads (value_in g cells row) x)
+
+-- the next cell of a delay is what its set half, fired on the cell and what its sources give, keeps
+abbrev pub IsKept : Type 0
+IsKept = (g : Graph) (cells row : Values) (v t : ℕ) (x y : Vertex) (z : List ℤ)
+    → slice_get g.vertices v ≡ Some x → x.kind ≡ Get z → x.twin ≡ Some t → slice_get g.vertices t ≡ Some y
+    → cell_of g (next_cells g cells row) v ≡ kept_at g t (cell_of g cells v) (reads (value_in g cells row) y)
 
 -- a run over rows that follow others is a run over these alone, from the cells that the others leave
 abbrev pub RunsInWindows : Type 0

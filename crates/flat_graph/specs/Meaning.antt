@@ -78,6 +78,10 @@ conditions look x = map (λ g. look g.source) x.guards
 abbrev pub inputs : (Source → Vector) → Vertex → Values
 inputs look x = map look x.ins
 
+-- all that an operation reads: the values of its inputs, and then of its guards' sources
+abbrev pub reads : (Source → Vector) → Vertex → Values
+reads look x = inputs look x ++ conditions look x
+
 -- the cell of a delay after a reaction, by the set half that is its get half's twin
 abbrev pub next_cell : List Vertex → (Source → Vector) → Option ℕ → Vector → Vector
 next_cell vertices look None cell = cell

@@ -1,10 +1,23 @@
 //! Laws of the flat meaning, each the contract of a function that does nothing.
-ghost use Rattle.flat_graph.specs.Laws.{IsFixedPoint, KeepsLengths, RunsInWindows};
+ghost use Rattle.flat_graph.specs.Laws.{IsFired, IsFixedPoint, IsKept, KeepsLengths, RunsInWindows};
 
 /// Each operation gives what it makes of what its sources give.
 #[tactic(auto, using(crate::proofs::Settled::fixed_point))]
 pub fn values_are_a_fixed_point()
     ensures { IsFixedPoint }
+{}
+
+/// The outputs of an operation are those of `fire` on its cell, what it senses and what its sources
+/// give.
+#[tactic(auto, using(crate::proofs::Fired::is_fired))]
+pub fn outputs_are_fired()
+    ensures { IsFired }
+{}
+
+/// The next cell of a delay is what `fire` of its set half keeps, on the cell and what its sources
+/// give.
+pub fn cells_are_kept()
+    ensures { IsKept }
 {}
 
 /// A run may be cut into windows.

@@ -15,7 +15,12 @@ mod valid;
 mod vertex;
 
 pub use flat::Flat;
-pub use laws::{lengths_are_kept, runs_in_windows, values_are_a_fixed_point};
+pub use laws::{
+    cells_are_kept, lengths_are_kept, outputs_are_fired, runs_in_windows, values_are_a_fixed_point,
+};
 pub use operation::fire;
 pub use valid::is_flat;
 pub use vertex::{Guard, Kind, Source, Vertex};
+
+#[cfg(test)]
+mod tests;
