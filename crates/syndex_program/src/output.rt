@@ -70,6 +70,7 @@ mod tests {
             assert_eq!(rt; rows.lens(), [1, 2].as_slice());
             rows.push(&row)?;
         }
+        assert!(rt; names.len() <= rows.lens().len());
         let text = output(alloc, &names, &rows)?;
         let lines = b"0 a 5\n0 b -7 0\n1 a -1\n1 b 9 -9223372036854775808\n";
         assert_eq!(rt; text.as_slice(), lines.as_slice());

@@ -160,6 +160,24 @@ fn tells_faults_of_the_outside(rt: HostRuntime) -> Result<(), Fail> {
 }
 
 #[test]
+fn reads_the_table_behind_the_algorithm(rt: HostRuntime) -> Result<(), Fail> {
+    let alloc = rt.alloc();
+    let words = ["syndex", "sim", "a", "s"];
+    let unread = Status::ReadFault(File::Sensors);
+    for (algorithm, wanted, calls) in [(ECHO, unread, 3), (WITH_DELAY, Status::NotBuilt, 2)] {
+        let text = Vec::from_slice(alloc, algorithm)?;
+        let mut shelf = shelf_of(alloc, text, TABLE, vec![in alloc; 2]?)?;
+        let mut out = sink(alloc, 10, Vec::new(alloc))?;
+        let mut err = sink(alloc, 100, Vec::new(alloc))?;
+        let status = answer(&rt, alloc, &words, &mut shelf, &mut out, &mut err)?;
+        assert_eq!(rt; status, wanted);
+        assert_eq!(rt; shelf.calls, calls);
+        assert_eq!(rt; out.calls(), 0);
+    }
+    Ok(())
+}
+
+#[test]
 fn bounds_the_bytes_of_a_file(rt: HostRuntime) -> Result<(), Fail> {
     let alloc = rt.alloc();
     let limit = LimitFault {
