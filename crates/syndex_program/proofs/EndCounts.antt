@@ -1,5 +1,5 @@
 -- There are as many names of actuators as lengths.
-use Rattle.std.proofs.Common.{◌≡◌, ◌∙◌, ◌+◌, ◌++◌, ℕ, List, [], ◌∷◌, length, refl, sym, ap, map, length-append}
+use Rattle.std.proofs.Common.{◌≡◌, ◌∙◌, ◌+◌, ℕ, List, [], length, refl, sym, ap, map, length-append}
 use Rattle.level_meaning.specs.declared.source.Source.{Source}
 use Rattle.outside.specs.Bytes.{Bytes}
 use Rattle.algo_tree.specs.Tree.{Kind, sensor, actuator, constant, delay, function, explode, implode, merge, graph, switch, repeat, Vertex, vertex, Vertices, no_vertices, and_vertex}

@@ -1,5 +1,5 @@
 -- The simple sensor table: comma separated, no quotes, a header, and one row for each reaction.
-use Rattle.std.specs.Prelude.{◌&&◌, ◌||◌, ◌==◌, ℕ, zero, suc, ◌+◌, ◌*◌, ◌-◌, ℤ, pos, Bool, true, false, not, nat_eq, nat_lt, if◌then◌else◌, List, [], ◌∷◌, ◌++◌, length, drop, filter, sum, Option, Some, None, option_map, option_and_then, codes}
+use Rattle.std.specs.Prelude.{◌&&◌, ◌||◌, ◌==◌, ℕ, zero, suc, ℤ, pos, Bool, true, false, not, nat_eq, nat_lt, if◌then◌else◌, List, [], ◌∷◌, ◌++◌, length, drop, filter, sum, Option, Some, None, option_and_then, codes}
 use Rattle.std.specs.Fmt.{signed_decimal}
 use Rattle.std.specs.List.{slice_split, list_any, starts_with, ends_with}
 use Rattle.std.specs.Ordering.{int_eq}

@@ -1,4 +1,4 @@
-use Rattle.std.proofs.Common.{◌≡◌, ◌++◌, ◌≤◌, drop, map, get_or, []}
+use Rattle.std.proofs.Common.{◌≡◌, ◌++◌, drop, map, get_or, []}
 use Rattle.syndex_program.specs.OutputText.{reaction_text}
 use Rattle.syndex_program.proofs.output.append_reaction.Given as goal
 

@@ -1,4 +1,4 @@
-use Rattle.std.proofs.Common.{◌≡◌, ◌∙◌, ◌≤◌, length, map, sym, ap, arith, List, ℕ, Bor}
+use Rattle.std.proofs.Common.{◌≡◌, length, map, ap, arith, Bor}
 use Rattle.std.proofs.lemmas.List.{length-map}
 use Rattle.outside.specs.Bytes.{Bytes}
 use Rattle.algo_tree.specs.Ends.{actuator_lengths}

@@ -1,4 +1,4 @@
-use Rattle.std.proofs.Common.{◌≡◌, ◌∙◌, Ok, Some, inl, ap}
+use Rattle.std.proofs.Common.{◌≡◌, Ok, Some, inl, ap}
 use Rattle.std.proofs.lemmas.Result.{err_from_is_err_and}
 use Rattle.outside.specs.Bytes.{Bytes}
 use Rattle.command_plan.specs.Run.{gives, not_read, was_read}

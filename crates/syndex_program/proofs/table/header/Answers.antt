@@ -1,7 +1,6 @@
-use Rattle.std.proofs.Common.{◌≡◌, ◌∙◌, ◌++◌, ◌≤◌, [], ◌∷◌, min, length, map, drop, ℕ, List, Bor, refl, sym, ap, append-nil, arith, rules, length-drop}
+use Rattle.std.proofs.Common.{◌≡◌, ◌∙◌, ◌++◌, [], ◌∷◌, min, length, map, drop, ℕ, List, Bor, refl, sym, ap, append-nil, arith, rules, length-drop}
 use Rattle.std.proofs.lemmas.List.{length-map}
 use Rattle.std.proofs.lemmas.Slice.Zip.{zip_end}
-use Rattle.std.proofs.lemmas.Grind.{common_steps}
 use Rattle.syndex_program.specs.SensorTable.{sensor_fields}
 use Rattle.outside.specs.Bytes.{Bytes}
 use Rattle.syndex_program.proofs.table.header.Goals as goal

@@ -1,4 +1,4 @@
-use Rattle.std.proofs.Common.{◌≡◌, ◌+◌, drop, not}
+use Rattle.std.proofs.Common.{◌≡◌, ◌+◌, drop}
 use Rattle.std.specs.List.{position_or_len}
 use Rattle.syndex_program.specs.SensorTable.{is_line_end}
 use Rattle.syndex_program.proofs.table.record_len.Given as goal
