@@ -1,0 +1,212 @@
+-- A state that was opened for a job stays one with each micro-step that is made.
+use Rattle.std.proofs.Common.{◌≡◌, ◌≢◌, ℕ, zero, suc, ◌+◌, ◌-◌, ◌*◌, ◌^◌, ◌<◌, ◌≤◌, ◌⊎◌, inl, inr, ⊎_elim, Bool, true, false, cond, ltb, List, [], ◌∷◌, length, get_or, Option, Some, None, refl, sym, ap, subst, arith, ◌∙◌}
+use Rattle.std.specs.Prelude.{slice_get, slice_set}
+use Rattle.std.specs.Option.{option_map}
+use Rattle.std.proofs.lemmas.Bool.{cases_eq, cases_lt, lt-ltb, le-ltb}
+use Rattle.std.proofs.lemmas.List.{length-set, length-map, get_or-set_same, get_or-set_other, get_or_past}
+use Rattle.std.proofs.lemmas.Option.{slice_get_read, slice_get-map, same_Some, none-some}
+use Rattle.std.proofs.lemmas.Nat.{mod_below}
+use Rattle.std.proofs.Math.Nat.{mul-add}
+use Rattle.consistent_cuts.specs.Sites.{Code, step_at, place_at}
+use Rattle.interleavings.specs.Owners.{sum_below}
+use Rattle.semaphore_core.specs.declared.program.SeqCode.{SeqCode}
+use Rattle.semaphore_core.specs.declared.steps.MicroStep.{MicroStep}
+use Rattle.semaphore_core.specs.declared.steps.MicroStep.TheVariants.{Take, See, Lower, Signal, Await, Advance, Load, Store}
+use Rattle.semaphore_core.specs.declared.expand.SeqSteps.{SeqSteps}
+use Rattle.semaphore_core.specs.Expanded.{expanded, code_of, next_in}
+use Rattle.semaphore_core.specs.Steps.{steps, steps_by}
+use Rattle.semaphore_core.specs.Job.{JobData, reactions}
+use Rattle.semaphore_core.specs.Core.{Core, count, counted, full, next, done_in}
+use Rattle.semaphore_core.specs.Held.{Held, IsOpened, Fits, FitsWord, made, answer}
+use Rattle.semaphore_core.specs.declared.answer.StepAnswer.TheVariants.{Finished}
+
+pub sum_le : (f g : ℕ → ℕ) (n : ℕ) → ((i : ℕ) → f i ≤ g i) → sum_below f n ≤ sum_below g n
+sum_le f g zero h = omega arith
+sum_le f g (suc n) h = let e = sum_le f g n h in let d = h n in omega arith
+
+sum_same : (f g : ℕ → ℕ) (n s : ℕ) → n ≤ s → ((t : ℕ) → t ≢ s → g t ≡ f t) → sum_below g n ≡ sum_below f n
+sum_same f g zero s l h = refl
+sum_same f g (suc n) s l h = let e = sum_same f g n s (omega arith) h in let d = h n (λ q. omega arith) in omega arith
+
+pub sum_more : (f g : ℕ → ℕ) (n s : ℕ) → s < n → g s ≡ f s + 1 → ((t : ℕ) → t ≢ s → g t ≡ f t) → sum_below g n ≡ sum_below f n + 1
+sum_more f g zero s l e h = absurd (omega arith)
+sum_more f g (suc n) s l e h = by (cases_eq n s) (λ k. sum_more f g n s k e h)
+  where
+    by : (n ≡ s) ⊎ (n ≡ s → ⊥) → (s < n → sum_below g n ≡ sum_below f n + 1) → sum_below g (suc n) ≡ sum_below f (suc n) + 1
+    by (inl q) r = let a = sum_same f g n s (omega arith) h in let b : g n ≡ f n + 1 = ap g q ∙ e ∙ ap (λ (i : ℕ). f i + 1) (sym q) in omega arith
+    by (inr q) r = let a = r (omega arith) in let b = h n q in omega arith
+
+sum_full : (a b : ℕ → ℕ) (n m : ℕ) → sum_below (λ s. a s + n * b s) m ≡ sum_below a m + n * sum_below b m
+sum_full a b n zero = omega arith
+sum_full a b n (suc m) = let e = sum_full a b n m in let d = mul-add n (sum_below b m) (b m) in omega arith
+
+module _ (j : JobData) where
+  -- the counts add up to no more than the limit on micro-steps
+  pub made_few : (h : Held) → IsOpened j h → made h.core ≤ 20000000
+  made_few h o = let a = sum_le (count h.core) (full j) (length h.core.counts) o.within in
+      let b = ap (λ (n : ℕ). sum_below (full j) n) o.counts_there in
+      let c = sum_full (λ s. length (steps j.program s).prologue) (λ s. length (steps j.program s).turn) (reactions j) (length j.program.seqs) in
+      let t = o.total in omega arith
+
+  module _ (h : Held) (o : IsOpened j h) (s : ℕ) (there : s < length j.program.seqs) where
+    pub in_counts : s < length h.core.counts
+    in_counts = let c = o.counts_there in omega arith
+
+    -- the micro-steps that were laid out for s are those of the program
+    pub code_at : (x : SeqSteps) → x ≡ get_or h.steps s x → steps j.program s ≡ code_of x
+    code_at x e = by (slice_get j.program.seqs s) refl
+      where
+        len : length h.steps ≡ length j.program.seqs
+        len = ap (λ (l : List SeqSteps). length l) o.steps_are ∙ length-map j.program.seqs (expanded j.program)
+
+        found : slice_get h.steps s ≡ Some x
+        found = slice_get_read h.steps (length h.steps) s x refl (omega (arith, len)) e
+
+        mapped : option_map (expanded j.program) (slice_get j.program.seqs s) ≡ Some x
+        mapped = sym (slice_get-map (expanded j.program) j.program.seqs s) ∙ ap (λ (l : List SeqSteps). slice_get l s) (sym o.steps_are) ∙ found
+
+        by : (q : Option SeqCode) → slice_get j.program.seqs s ≡ q → steps j.program s ≡ code_of x
+        by None q = let z : option_map (expanded j.program) None ≡ Some x = ap (option_map (expanded j.program)) (sym q) ∙ mapped in absurd cc
+        by (Some c) q = ap (steps_by j.program) q ∙ ap code_of (same_Some (expanded j.program c) x (ap (option_map (expanded j.program)) (sym q) ∙ mapped))
+
+    -- the next micro-step of s
+    pub next_is : (x : SeqSteps) (n : ℕ) → x ≡ get_or h.steps s x → n ≡ count h.core s → next_in (reactions j) x n ≡ next j h.core s
+    next_is x n e c = rw (lt-ltb s (length j.program.seqs) there) ((λ i. next_in (reactions j) x (c i)) ∙ ap (λ (q : Code MicroStep). cond (ltb (count h.core s) (length q.prologue + reactions j * length q.turn)) (step_at q (count h.core s)) None) (sym (code_at x e)))
+
+    module _ (m : MicroStep) (is_next : next j h.core s ≡ Some m) where
+      inner : cond (ltb (count h.core s) (full j s)) (step_at (steps j.program s) (count h.core s)) None ≡ Some m
+      inner = let e = is_next in rw (lt-ltb s (length j.program.seqs) there) at e
+
+      pub pending : count h.core s < full j s
+      pending = by (cases_lt (count h.core s) (full j s))
+        where
+          by : (count h.core s < full j s) ⊎ (full j s ≤ count h.core s) → count h.core s < full j s
+          by (inl l) = l
+          by (inr l) = let e = inner in let z : None ≡ Some m = rw (le-ltb (count h.core s) (full j s) l) at e in absurd cc
+
+      stands : step_at (steps j.program s) (count h.core s) ≡ Some m
+      stands = let e = inner in rw (lt-ltb (count h.core s) (full j s) pending) at e
+
+      pub room : Fits j.graph (get_or h.rooms s 0) (Some m)
+      room = subst (Fits j.graph (get_or h.rooms s 0)) stands (by (ltb (count h.core s) (length (steps j.program s).prologue)))
+        where
+          by : (b : Bool) → Fits j.graph (get_or h.rooms s 0) (cond b (slice_get (steps j.program s).prologue (count h.core s)) (slice_get (steps j.program s).turn (place_at (steps j.program s) (count h.core s))))
+          by true = o.in_prologue s (count h.core s)
+          by false = o.in_turn s (place_at (steps j.program s) (count h.core s))
+
+      pub word : FitsWord h.core m
+      word = by m
+        where
+          by : (m : MicroStep) → FitsWord h.core m
+          by (Take x) = tt
+          by (See x) = tt
+          by (Lower x) = tt
+          by (Signal x) = let a = o.semaphores_few x in let b = made_few h o in omega arith
+          by (Await n i l e) = tt
+          by (Advance n) = let a = o.turns_few n in let b = made_few h o in omega arith
+          by (Load x then) = tt
+          by (Store x what) = tt
+
+      pub count_fits : count h.core s + 1 < 2 ^ 64
+      count_fits = let a = made_few h o in let b = one_of (count h.core) (length h.core.counts) s in_counts in omega arith
+        where
+          one_of : (f : ℕ → ℕ) (n t : ℕ) → t < n → f t ≤ sum_below f n
+          one_of f zero t l = absurd (omega arith)
+          one_of f (suc n) t l = pick (cases_eq n t) (λ k. one_of f n t k)
+            where
+              pick : (n ≡ t) ⊎ (n ≡ t → ⊥) → (t < n → f t ≤ sum_below f n) → f t ≤ sum_below f (suc n)
+              pick (inl q) r = let z = ap f q in omega arith
+              pick (inr q) r = let z = r (omega arith) in omega arith
+
+      -- one more micro-step of s, which raises no word by more than one
+      module _ (z : Core) (counts_are : z.counts ≡ counted h.core s) where
+        at_s : count z s ≡ count h.core s + 1
+        at_s = ap (λ (l : List ℕ). get_or l s 0) counts_are ∙ get_or-set_same h.core.counts s (count h.core s + 1) 0 in_counts
+
+        at_other : (t : ℕ) → t ≢ s → count z t ≡ count h.core t
+        at_other t q = ap (λ (l : List ℕ). get_or l t 0) counts_are ∙ get_or-set_other h.core.counts s t (count h.core s + 1) 0 q
+
+        same_length : length z.counts ≡ length h.core.counts
+        same_length = ap (λ (l : List ℕ). length l) counts_are ∙ length-set h.core.counts s (count h.core s + 1)
+
+        pub made_more : made z ≡ made h.core + 1
+        made_more = ap (λ (n : ℕ). sum_below (count z) n) same_length ∙ sum_more (count h.core) (count z) (length h.core.counts) s in_counts at_s at_other
+
+        kept_by : length z.registers ≡ length h.core.registers → ((x : ℕ) → get_or z.semaphores x 0 ≤ made h.core + 1) → ((x : ℕ) → get_or z.turns x 0 ≤ made h.core + 1)
+            → IsOpened j (record { core = z; steps = h.steps; rooms = h.rooms; lens = h.lens })
+        kept_by r a b = record {
+          single = o.single;
+          steps_are = o.steps_are;
+          counts_there = same_length ∙ o.counts_there;
+          rooms_there = o.rooms_there;
+          registers_there = r ∙ o.registers_there;
+          within = within;
+          semaphores_few = λ x. let d = a x in let e = made_more in omega arith;
+          turns_few = λ x. let d = b x in let e = made_more in omega arith;
+          total = o.total;
+          in_prologue = o.in_prologue;
+          in_turn = o.in_turn;
+        }
+          where
+            within : (t : ℕ) → count z t ≤ full j t
+            within t = ⊎_elim (λ q. subst (λ (u : ℕ). count z u ≤ full j u) (sym q) (let e = at_s in let d = pending in omega arith)) (λ q. let e = at_other t q in let d = o.within t in omega arith) (cases_eq t s)
+
+      semaphores_kept : (x : ℕ) → get_or h.core.semaphores x 0 ≤ made h.core + 1
+      semaphores_kept x = let d = o.semaphores_few x in omega arith
+
+      turns_kept : (x : ℕ) → get_or h.core.turns x 0 ≤ made h.core + 1
+      turns_kept x = let d = o.turns_few x in omega arith
+
+      -- words of which one has another value
+      set_le : (words : List ℕ) (y w n : ℕ) → ((x : ℕ) → get_or words x 0 ≤ n) → w ≤ n → (x : ℕ) → get_or (slice_set words y w) x 0 ≤ n
+      set_le words y w n a b x = ⊎_elim (λ q. inside q (cases_lt x (length words))) (λ q. let e = get_or-set_other words y x w 0 q in let d = a x in omega arith) (cases_eq x y)
+        where
+          inside : x ≡ y → (x < length words) ⊎ (length words ≤ x) → get_or (slice_set words y w) x 0 ≤ n
+          inside q (inl l) = subst (λ (u : ℕ). get_or (slice_set words u w) x 0 ≤ n) q (let e = get_or-set_same words x w 0 l in omega arith)
+          inside q (inr l) = let e = get_or_past (slice_set words y w) x 0 (let g = length-set words y w in omega arith) in omega arith
+
+      pub opened_more : (k : ℕ) → IsOpened j (record { core = done_in j h.core s k m; steps = h.steps; rooms = h.rooms; lens = h.lens })
+      opened_more k = by m
+        where
+          by : (m : MicroStep) → IsOpened j (record { core = done_in j h.core s k m; steps = h.steps; rooms = h.rooms; lens = h.lens })
+          by (Take x) = kept_by (done_in j h.core s k (Take x)) refl refl (set_le h.core.semaphores x 0 (made h.core + 1) semaphores_kept (omega arith)) turns_kept
+          by (See x) = kept_by (done_in j h.core s k (See x)) refl refl semaphores_kept turns_kept
+          by (Lower x) = kept_by (done_in j h.core s k (Lower x)) refl refl (set_le h.core.semaphores x (get_or h.core.semaphores x 0 - 1) (made h.core + 1) semaphores_kept (let d = o.semaphores_few x in omega arith)) turns_kept
+          by (Signal x) = kept_by (done_in j h.core s k (Signal x)) refl refl (set_le h.core.semaphores x (get_or h.core.semaphores x 0 + 1) (made h.core + 1) semaphores_kept (let d = o.semaphores_few x in omega arith)) turns_kept
+          by (Await n i l e) = kept_by (done_in j h.core s k (Await n i l e)) refl refl semaphores_kept turns_kept
+          by (Advance n) = kept_by (done_in j h.core s k (Advance n)) refl refl semaphores_kept (set_le h.core.turns n (get_or h.core.turns n 0 + 1) (made h.core + 1) turns_kept (let d = o.turns_few n in omega arith))
+          by (Load x then) = kept_by (done_in j h.core s k (Load x then)) refl (length-set h.core.registers s _) semaphores_kept turns_kept
+          by (Store x what) = kept_by (done_in j h.core s k (Store x what)) refl (length-set h.core.registers s _) semaphores_kept turns_kept
+
+    -- a sequence that has no next micro-step has made all
+    module _ (none : next j h.core s ≡ None) where
+      abbrev C : Code MicroStep
+      C = steps j.program s
+
+      there_is : (xs : List MicroStep) (i : ℕ) → i < length xs → slice_get xs i ≡ None → ⊥
+      there_is xs i l e = let f = slice_get_past_or xs i l in absurd (none-some f.0 (sym e ∙ f.1))
+        where
+          slice_get_past_or : (xs : List MicroStep) (i : ℕ) → i < length xs → (x : MicroStep) × (slice_get xs i ≡ Some x)
+          slice_get_past_or [] i l = absurd (omega arith)
+          slice_get_past_or (x ∷ xs) zero l = (x, refl)
+          slice_get_past_or (x ∷ xs) (suc i) l = slice_get_past_or xs i (omega arith)
+
+      steps_on : count h.core s < full j s → step_at C (count h.core s) ≡ None → ⊥
+      steps_on l e = by (cases_lt (count h.core s) (length C.prologue))
+        where
+          by : (count h.core s < length C.prologue) ⊎ (length C.prologue ≤ count h.core s) → ⊥
+          by (inl f) = there_is C.prologue (count h.core s) f (let q = e in rw (lt-ltb (count h.core s) (length C.prologue) f) at q)
+          by (inr f) = there_is C.turn (place_at C (count h.core s)) (mod_below (count h.core s - length C.prologue) (length C.turn) some) (let q = e in rw (le-ltb (count h.core s) (length C.prologue) f) at q)
+            where
+              some : 0 < length C.turn
+              some = ⊎_elim (λ d. d) (λ d. let z : length C.turn ≡ 0 = omega arith in let y : reactions j * length C.turn ≡ reactions j * 0 = ap (λ (n : ℕ). reactions j * n) z in absurd (omega arith)) (cases_lt 0 (length C.turn))
+
+      pub all_made : full j s ≤ count h.core s
+      all_made = by (cases_lt (count h.core s) (full j s))
+        where
+          by : (count h.core s < full j s) ⊎ (full j s ≤ count h.core s) → full j s ≤ count h.core s
+          by (inl l) = let e = none in absurd (steps_on l (rw (lt-ltb s (length j.program.seqs) there, lt-ltb (count h.core s) (full j s) l) at e))
+          by (inr l) = l
+
+      pub is_finished : answer j h.core s ≡ Finished
+      is_finished = rw (le-ltb (count h.core s) (full j s) all_made) refl

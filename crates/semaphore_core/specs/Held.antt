@@ -1,0 +1,115 @@
+-- What a state holds beside the state of a run: the micro-steps of its program, laid out, and the room of its registers.
+use Rattle.std.specs.Prelude.{◌≡◌, ℕ, ◌+◌, ◌<◌, ◌≤◌, ◌^◌, cond, max, nat_lt, sum, List, [], ◌∷◌, length, Option, Some, None, slice_get, slice_index_or, ℤ}
+use Rattle.interleavings.specs.Owners.{sum_below}
+use Rattle.semaphore_core.specs.declared.steps.OnLoad.{OnLoad}
+use Rattle.semaphore_core.specs.declared.steps.OnLoad.TheVariants.{Gather, Carry as CarryIn, Compute as ComputeIn}
+use Rattle.semaphore_core.specs.declared.steps.OnStore.{OnStore}
+use Rattle.semaphore_core.specs.declared.steps.OnStore.TheVariants.{Compute as ComputeOut}
+use Rattle.semaphore_core.specs.declared.steps.MicroStep.{MicroStep}
+use Rattle.semaphore_core.specs.declared.steps.MicroStep.TheVariants.{Signal, Advance, Load, Store}
+use Rattle.semaphore_core.specs.declared.expand.SeqSteps.{SeqSteps}
+use Rattle.semaphore_core.specs.Expanded.{AreSteps}
+use Rattle.level_meaning.specs.Level.{Values}
+use Rattle.flat_graph.specs.Graph.{Graph}
+use Rattle.flat_graph.specs.Fire.{out_lens}
+use Rattle.semaphore_core.specs.RegisterFile.{RegisterFile}
+use Rattle.semaphore_core.specs.Registers.{Own, compute, absorb_by, emit_by, after_by}
+use Rattle.semaphore_core.specs.Steps.{IsSingle, steps}
+use Rattle.semaphore_core.specs.Job.{JobData, reactions, total_steps}
+use Rattle.semaphore_core.specs.Core.{Core, count, full, is_enabled}
+use Rattle.semaphore_core.specs.declared.answer.StepAnswer.{StepAnswer}
+use Rattle.semaphore_core.specs.declared.answer.StepAnswer.TheVariants.{Stepped, NotYet, Finished}
+
+-- the delays' cells, and the actuators' rows with the lengths of their vectors
+pub record Kept : Type 0 where
+  pub cells : Values
+  pub rows : List Values
+  pub lens : List ℕ
+
+abbrev pub own_of : RegisterFile → Kept → Own
+own_of r k = record { registers = r.values; cells = k.cells; rows = k.rows }
+
+-- the registers, cells and rows of this, and the rest as it is
+abbrev pub with_values : RegisterFile → Own → RegisterFile
+with_values r c = record r { values = c.registers }
+
+abbrev pub with_kept : Kept → Own → Kept
+with_kept kept c = record kept { cells = c.cells; rows = c.rows }
+
+abbrev pub computed : JobData → ℕ → ℕ → RegisterFile → Kept → Own
+computed j v k r kept = compute j.graph j.sensors v k r.values (own_of r kept)
+
+abbrev pub absorbed : JobData → OnLoad → ℕ → RegisterFile → Kept → ℤ → Own
+absorbed j then k r kept z = absorb_by j.graph j.sensors then k (own_of r kept) z
+
+abbrev pub emitted : JobData → OnStore → ℕ → RegisterFile → Kept → ℤ
+emitted j what k r kept = emit_by j.graph j.sensors what k (own_of r kept)
+
+abbrev pub left : JobData → OnStore → ℕ → RegisterFile → Kept → Own
+left j what k r kept = after_by j.graph j.sensors what k (own_of r kept)
+
+pub record Held : Type 0 where
+  pub core : Core
+  pub steps : List SeqSteps
+  -- how many registers each sequence has room for
+  pub rooms : List ℕ
+  -- the lengths of the actuators' vectors
+  pub lens : List ℕ
+
+-- The highest number of a register that a micro-step uses; a computation may fill as many as the operation has output elements.
+module _ (g : Graph) where
+  abbrev pub outputs_len : ℕ → ℕ
+  outputs_len v = sum (out_lens g v)
+
+  abbrev pub top_load : OnLoad → ℕ
+  top_load CarryIn = 0
+  top_load (Gather r) = r
+  top_load (ComputeIn v r more) = max r (outputs_len v)
+
+  abbrev pub top_store : OnStore → ℕ
+  top_store (ComputeOut v more) = outputs_len v
+  top_store _ = 0
+
+  abbrev pub top : MicroStep → ℕ
+  top (Load x then) = top_load then
+  top (Store x what) = top_store what
+  top _ = 0
+
+  abbrev pub highest : List MicroStep → ℕ
+  highest [] = 0
+  highest (m ∷ ms) = max (top m) (highest ms)
+
+  -- so many registers are enough for the micro-step
+  abbrev pub Fits : ℕ → Option MicroStep → Type 0
+  Fits room None = Unit {0}
+  Fits room (Some m) = top m < room
+
+-- how many micro-steps all sequences together have made
+abbrev pub made : Core → ℕ
+made z = sum_below (count z) (length z.counts)
+
+-- the word that the micro-step raises is below the end of its type
+abbrev pub FitsWord : Core → MicroStep → Type 0
+FitsWord z (Signal x) = slice_index_or z.semaphores x 0 + 1 < 2 ^ 64
+FitsWord z (Advance m) = slice_index_or z.turns m 0 + 1 < 2 ^ 64
+FitsWord z _ = Unit {0}
+
+module _ (j : JobData) where
+  -- The state was opened for this job, and steps were made since.
+  pub record IsOpened (h : Held) : Type 0 where
+    pub single : IsSingle j.program
+    pub steps_are : AreSteps j.program h.steps
+    pub counts_there : length h.core.counts ≡ length j.program.seqs
+    pub rooms_there : length h.rooms ≡ length j.program.seqs
+    pub registers_there : length h.core.registers ≡ length j.program.seqs
+    -- no count is above its full count, and no word above the number of micro-steps made
+    pub within : (s : ℕ) → count h.core s ≤ full j s
+    pub semaphores_few : (x : ℕ) → slice_index_or h.core.semaphores x 0 ≤ made h.core
+    pub turns_few : (m : ℕ) → slice_index_or h.core.turns m 0 ≤ made h.core
+    pub total : total_steps j.program (reactions j) ≤ 20000000
+    pub in_prologue : (s l : ℕ) → Fits j.graph (slice_index_or h.rooms s 0) (slice_get (steps j.program s).prologue l)
+    pub in_turn : (s l : ℕ) → Fits j.graph (slice_index_or h.rooms s 0) (slice_get (steps j.program s).turn l)
+
+  -- what a step of sequence s answers
+  abbrev pub answer : Core → ℕ → StepAnswer
+  answer z s = cond (nat_lt (count z s) (full j s)) (cond (is_enabled j z s) Stepped NotYet) Finished

@@ -1,0 +1,92 @@
+-- A job: a well-formed program with the sensors' rows and the delays' opening values, as a system of interleaved sequences.
+use Rattle.std.specs.Prelude.{ℕ, ◌+◌, ◌-◌, ◌*◌, cond, nat_lt, List, [], ◌∷◌, ◌++◌, map, length, replicate}
+use Rattle.std.specs.List.{sum_by}
+use Rattle.consistent_cuts.specs.Sites.{reaction_at, step_at}
+use Rattle.interleavings.specs.System.{System}
+use Rattle.interleavings.specs.Owners.{sum_below}
+use Rattle.std.specs.Coded.{Coded, code_by, coded×, coded_list, coded_ℕ, coded_ℤ}
+use Rattle.std.specs.Prelude.{refl}
+use Rattle.level_meaning.specs.Level.{Values, zeros}
+use Rattle.flat_graph.specs.declared.vertex.Vertex.{Vertex}
+use Rattle.flat_graph.specs.declared.vertex.Kind.{Kind}
+use Rattle.flat_graph.specs.declared.vertex.Kind.TheVariants.{Actuator}
+use Rattle.flat_graph.specs.Graph.{Graph, lens_of}
+use Rattle.semaphore_core.specs.declared.program.Program.{Program}
+use Rattle.semaphore_core.specs.Blocks.{block_at}
+use Rattle.semaphore_core.specs.Instructions.{len_of, depth_of}
+use Rattle.semaphore_core.specs.MicroSteps.{code, transfers, access, wire_len, buffer_elements}
+use Rattle.semaphore_core.specs.Registers.{Own, absorb_at, emit_at, after_at}
+use Rattle.semaphore_core.specs.Steps.{steps, all_prologues, all_turns}
+
+pub record JobData : Type 0 where
+  pub program : Program
+  pub graph : Graph
+  -- the number of media
+  pub media : ℕ
+  -- by reaction and sensor
+  pub sensors : List Values
+  -- by delay
+  pub opening : Values
+
+-- how many reactions
+abbrev pub reactions : JobData → ℕ
+reactions j = length j.sensors
+
+-- Elements are numbered by buffer, and then by medium. An element lies in the places of its buffer, or once in its wire.
+module _ (p : Program) (media : ℕ) where
+  abbrev pub buffer_at : ℕ → ℕ
+  buffer_at y = block_at (len_of p) (length p.buffers) y
+
+  abbrev pub wire_at : ℕ → ℕ
+  wire_at y = block_at (wire_len p) media (y - buffer_elements p)
+
+  -- its number in its buffer or wire
+  abbrev pub number_at : ℕ → ℕ
+  number_at y = cond (nat_lt y (buffer_elements p)) (y - sum_below (len_of p) (buffer_at y)) (y - buffer_elements p - sum_below (wire_len p) (wire_at y))
+
+  abbrev pub depth_at : ℕ → ℕ
+  depth_at y = cond (nat_lt y (buffer_elements p)) (depth_of p (buffer_at y)) 1
+
+  -- how often it is stored in a reaction
+  abbrev pub period_at : ℕ → ℕ
+  period_at y = cond (nat_lt y (buffer_elements p)) 1 (access p (wire_at y) (number_at y) (transfers p (wire_at y)))
+
+-- the lengths of the vectors that the actuators take, in order
+abbrev pub actuator_len : Graph → Vertex → Kind → List ℕ
+actuator_len g x (Actuator i) = lens_of g.vertices x.ins
+actuator_len g x _ = []
+
+abbrev pub actuator_lens : Graph → List Vertex → List ℕ
+actuator_lens g [] = []
+actuator_lens g (x ∷ xs) = actuator_len g x x.kind ++ actuator_lens g xs
+
+-- the actuators' rows before any is taken
+abbrev pub zero_rows : JobData → List Values
+zero_rows j = replicate (reactions j) (map zeros (actuator_lens j.graph j.graph.vertices))
+
+-- the system of a job's sequences
+abbrev pub system : JobData → System Own
+system j = record {
+  sequences = length j.program.seqs;
+  reactions = reactions j;
+  codes = code j.program;
+  halves = λ m. 2 * transfers j.program m;
+  period = period_at j.program j.media;
+  depth = depth_at j.program j.media;
+  start = λ s. record { registers = []; cells = j.opening; rows = zero_rows j };
+  absorb = λ s n c z. absorb_at j.graph j.sensors (step_at (steps j.program s) n) (reaction_at (code j.program s) n) c z;
+  emit = λ s n c. emit_at j.graph j.sensors (step_at (steps j.program s) n) (reaction_at (code j.program s) n) c;
+  after = λ s n c. after_at j.graph j.sensors (step_at (steps j.program s) n) (reaction_at (code j.program s) n) c;
+}
+
+-- The two bounds of a job: elements that the actuators take, and micro-steps in all.
+abbrev pub output_elements : Graph → ℕ → ℕ
+output_elements g n = n * sum_by (λ l. l) (actuator_lens g g.vertices)
+
+abbrev pub total_steps : Program → ℕ → ℕ
+total_steps p n = all_prologues p + n * all_turns p
+
+-- a job is stored as the tuple of its parts
+abbrev pub job_code : Coded Program → Coded Graph → Coded JobData
+job_code program graph = code_by (Program × (Graph × (ℕ × (List Values × Values)))) (coded× program (coded× graph (coded× coded_ℕ (coded× (coded_list (coded_list (coded_list coded_ℤ))) (coded_list (coded_list coded_ℤ))))))
+    (λ j. (j.program, (j.graph, (j.media, (j.sensors, j.opening))))) (λ p. record { program = p.0; graph = p.1.0; media = p.1.1.0; sensors = p.1.1.1.0; opening = p.1.1.1.1 }) (λ _. refl)

@@ -1,0 +1,16 @@
+pub mod Blocks
+pub mod Instructions
+pub mod MicroSteps
+pub mod Steps
+pub mod Expanded
+pub mod Elements
+pub mod Places
+pub mod WellFormed
+pub mod Operation
+pub mod RegisterFile
+pub mod Registers
+pub mod Job
+pub mod Core
+pub mod Held
+pub mod Told
+pub mod Laws

@@ -1,0 +1,6 @@
+-- The registers of a sequence: those that are in use, and how many there is room for.
+use Rattle.std.specs.Prelude.{ℕ, List, ℤ}
+
+pub record RegisterFile : Type 0 where
+  pub values : List ℤ
+  pub room : ℕ

@@ -1,0 +1,20 @@
+//! The core of the generated executive: programs of instructions, their micro-steps, states, and one
+//! step. There is no thread here: a state is a plain value.
+#![tactic(auto)]
+
+mod answer;
+mod expand;
+mod job;
+mod opening;
+mod program;
+mod reading;
+mod registers;
+mod steps;
+mod words;
+
+pub use answer::StepAnswer;
+pub use expand::{SeqSteps, micro_steps_of};
+pub use job::Job;
+pub use program::{Buffer, Instr, Program, SeqCode};
+pub use registers::Registers;
+pub use steps::{MicroStep, OnLoad, OnStore, Place};

@@ -1,0 +1,101 @@
+//! What a state holds when it is opened: zeros, the opening cells, and room for registers.
+ghost use Rattle.std.specs.Prelude.{◌≡◌, ◌+◌, ◌*◌, ◌<◌, ◌≤◌, ◌++◌, ◌∷◌, [], length, map, max, replicate, pos, take, IfOk, slice_index_or};
+ghost use Rattle.std.specs.List.{range_with_len};
+ghost use Rattle.level_meaning.specs.Level.{zeros};
+ghost use Rattle.semaphore_core.specs.Instructions.{len_of, depth_of};
+ghost use Rattle.semaphore_core.specs.MicroSteps.{sent_len, longest_sent, longest_in, longest_on, wire_len};
+ghost use Rattle.semaphore_core.specs.Steps.{IsSingle};
+ghost use Rattle.semaphore_core.specs.Core.{buffer_zeros, wire_zeros};
+
+use crate::expand::buffer_len;
+use crate::program::{Instr, Program, SeqCode};
+use std::alloc::Global;
+use syn_base::{Items, OutOfMemory};
+
+/// So many zeros.
+pub fn zeros(alloc: Global, len: usize) -> Result<Items<i64>, OutOfMemory>
+    ensures { IfOk result (λ s. s ≡ zeros len) }
+{
+    Ok(Items::new(vec![in alloc; 0; len]?))
+}
+
+/// The length of the buffer that an instruction sends, 0 for another instruction.
+fn sent_len(program: &Program, instr: &Instr) -> u32
+    ensures { result ≡ sent_len program.now instr.now }
+{
+    match instr {
+        Instr::Send { buffer, .. } => buffer_len(program, *buffer),
+        _ => 0,
+    }
+}
+
+/// The length of the longest buffer that these instructions send.
+fn longest_sent(program: &Program, list: &[Instr]) -> u32
+    ensures { result ≡ longest_sent program.now list.now }
+{
+    let mut longest = 0;
+    for instr in list {
+        longest = sent_len(program, instr).max(longest);
+    }
+    longest
+}
+
+/// The length of the longest buffer that a sequence sends over a medium.
+fn longest_in(program: &Program, medium: u32, code: &SeqCode) -> u32
+    ensures { result ≡ longest_in program.now medium code.now }
+{
+    match code.seq.medium {
+        Some(found) if found == medium => longest_sent(program, code.turn.as_slice()),
+        _ => 0,
+    }
+}
+
+/// The length of the wire of a medium.
+fn wire_len(program: &Program, medium: u32) -> u32
+    ensures { result ≡ wire_len program.now medium }
+{
+    let mut longest = 0;
+    for code in program.seqs.as_slice() {
+        longest = longest_in(program, medium, code).max(longest);
+    }
+    longest
+}
+
+/// The elements of all buffers, all zeros.
+fn zero_buffers(alloc: Global, program: &Program) -> Result<Vec<Items<i64>>, OutOfMemory>
+    requires { IsSingle program.now }
+    ensures { IfOk result (λ s. s.items ≡ buffer_zeros program.now) }
+{
+    let mut all = Vec::new(alloc);
+    for buffer in program.buffers.as_slice() {
+        all.push(zeros(alloc, buffer.len as usize)?)?;
+    }
+    Ok(all)
+}
+
+/// The elements of all buffers and then of all wires, all zeros.
+pub fn zero_elements(
+    alloc: Global,
+    program: &Program,
+    media: u32,
+) -> Result<Vec<Items<i64>>, OutOfMemory>
+    requires { IsSingle program.now }
+    ensures { IfOk result (λ s. s.items ≡ buffer_zeros program.now ++ wire_zeros program.now media) }
+{
+    let mut all = zero_buffers(alloc, program)?;
+    for medium in 0..media {
+        all.push(zeros(alloc, wire_len(program, medium) as usize)?)?;
+    }
+    Ok(all)
+}
+
+/// A copy of these lists.
+pub fn copy_of(alloc: Global, lists: &[Items<i64>]) -> Result<Vec<Items<i64>>, OutOfMemory>
+    ensures { IfOk result (λ s. s.items ≡ lists.now) }
+{
+    let mut all = Vec::new(alloc);
+    for list in lists {
+        all.push(Items::new(Vec::from_slice(alloc, list.as_slice())?))?;
+    }
+    Ok(all)
+}
