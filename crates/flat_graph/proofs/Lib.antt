@@ -10,3 +10,4 @@ pub mod Fill
 pub mod Firing
 pub mod ReadLens
 pub mod Fired
+pub mod Loops

@@ -1,5 +1,6 @@
 pub mod Graph
 pub mod Order
+pub mod Cycles
 pub mod Valid
 pub mod Fire
 pub mod Put

@@ -1,4 +1,5 @@
 //! Laws of the flat meaning, each the contract of a function that does nothing.
+ghost use Rattle.flat_graph.specs.Cycles.{RoundsFindCycles};
 ghost use Rattle.flat_graph.specs.Laws.{IsFired, IsFixedPoint, IsKept, KeepsLengths, RunsInWindows};
 
 /// Each operation gives what it makes of what its sources give.
@@ -29,4 +30,10 @@ pub fn runs_in_windows()
 /// With a row and cells of the right lengths each output has its length, and the cells keep theirs.
 pub fn lengths_are_kept()
     ensures { KeepsLengths }
+{}
+
+/// As many rounds as there are operations do all of them exactly where none depends on itself.
+#[tactic(auto, using(crate::proofs::Loops::rounds_find_cycles))]
+pub fn rounds_find_cycles()
+    ensures { RoundsFindCycles }
 {}

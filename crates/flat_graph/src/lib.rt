@@ -16,7 +16,8 @@ mod vertex;
 
 pub use flat::Flat;
 pub use laws::{
-    cells_are_kept, lengths_are_kept, outputs_are_fired, runs_in_windows, values_are_a_fixed_point,
+    cells_are_kept, lengths_are_kept, outputs_are_fired, rounds_find_cycles, runs_in_windows,
+    values_are_a_fixed_point,
 };
 pub use operation::fire;
 pub use valid::is_flat;

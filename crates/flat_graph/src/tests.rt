@@ -1,4 +1,8 @@
 //! Operations made by hand: two functions of a sensor, and a switch over a function, a delay and another function.
+ghost use Rattle.std.specs.Prelude.{◌≡◌, ◌∷◌, [], IfOk, pos};
+ghost use Rattle.flat_graph.specs.Graph.{bodies_view};
+ghost use Rattle.flat_graph.specs.declared.vertex.Kind.TheVariants.{Constant};
+
 use crate::{Flat, Guard, Kind, Source, Vertex, fire, is_flat};
 use body_lang::{Expr, Ins};
 use std::alloc::Global;
@@ -73,7 +77,9 @@ fn one_more(alloc: Global) -> Result<Items<Expr>, Fail> {
     body(alloc, Expr::Apply(Op::Add, x, one))
 }
 
-fn flat(rt: &impl Abort, vertices: Vec<Vertex>, bodies: Vec<Items<Expr>>) -> Flat {
+fn flat(rt: &impl Abort, vertices: Vec<Vertex>, bodies: Vec<Items<Expr>>) -> Flat
+    ensures { result ≡ record { vertices = vertices.items; bodies = bodies_view bodies.items } }
+{
     assert!(rt; is_flat(&vertices, &bodies));
     Flat::new(vertices, bodies)
 }
@@ -105,5 +111,74 @@ fn an_operation_that_reads_itself_is_refused(rt: HostRuntime) -> Result<(), Fail
     let mut vertices = Vec::new(alloc);
     vertices.push(vertex(alloc, b"f", Kind::Function(0), &[of(0, 0)], &[1])?)?;
     assert!(rt; !is_flat(&vertices, &bodies));
+    Ok(())
+}
+
+fn switch(alloc: Global) -> Result<Vec<Vertex>, Fail> {
+    let sensor = of(0, 0);
+    let values = Items::new(Vec::from_slice(alloc, &[0, 3])?);
+    let initial = Items::new(Vec::from_slice(alloc, &[100])?);
+    let get = vertex(alloc, b"w.1/d:get", Kind::Get(initial), &[], &[1])?;
+    let set = vertex(alloc, b"w.1/d:set", Kind::Set, &[of(4, 0)], &[])?;
+    let cases = [sensor, of(1, 0), of(2, 0), of(5, 0)];
+    let mut vertices = Vec::new(alloc);
+    vertices.push(vertex(alloc, b"s", Kind::Sensor(0), &[], &[1])?)?;
+    vertices.push(in_case(alloc, 0, function(alloc, b"w.0", 0, &[sensor])?)?)?;
+    vertices.push(in_case(alloc, 1, with_twin(get, 3))?)?;
+    vertices.push(in_case(alloc, 1, with_twin(set, 2))?)?;
+    vertices.push(in_case(alloc, 1, function(alloc, b"w.1/f", 1, &[of(2, 0), sensor])?)?)?;
+    vertices.push(in_case(alloc, 2, function(alloc, b"w.2", 2, &[sensor])?)?)?;
+    vertices.push(vertex(alloc, b"w:y", Kind::Merge(values), &cases, &[1])?)?;
+    vertices.push(vertex(alloc, b"a", Kind::Actuator(0), &[of(6, 0)], &[])?)?;
+    Ok(vertices)
+}
+
+fn function(alloc: Global, name: &[u8], body: u32, ins: &[Source]) -> Result<Vertex, Fail> {
+    vertex(alloc, name, Kind::Function(body), ins, &[1])
+}
+
+/// The bodies of `Same`, `Add` and `Neg`.
+fn switch_bodies(alloc: Global) -> Result<Vec<Items<Expr>>, Fail> {
+    let x = Box::new(alloc, element(alloc, 0)?)?;
+    let y = Box::new(alloc, element(alloc, 1)?)?;
+    let negated = Box::new(alloc, element(alloc, 0)?)?;
+    let mut bodies = Vec::new(alloc);
+    bodies.push(body(alloc, element(alloc, 0)?)?)?;
+    bodies.push(body(alloc, Expr::Apply(Op::Add, x, y))?)?;
+    bodies.push(body(alloc, Expr::Neg(negated))?)?;
+    Ok(bodies)
+}
+
+#[test]
+fn a_switch_over_a_delay_is_valid(rt: HostRuntime) -> Result<(), Fail> {
+    let alloc = rt.alloc();
+    let flat = flat(&rt, switch(alloc)?, switch_bodies(alloc)?);
+    assert_eq!(rt; flat.vertices().len(), 8);
+    Ok(())
+}
+
+fn constant(alloc: Global) -> Result<Vertex, Fail>
+    ensures { IfOk result (λ x. (x.kind ≡ Constant (pos 7 ∷ pos 8 ∷ [])) × (x.guards ≡ []) × (x.ins ≡ []) × (x.outs ≡ 2 ∷ [])) }
+{
+    Ok(Vertex {
+        name: Items::new(Vec::from_slice(alloc, b"c")?),
+        def: Name::new(alloc, b"D")?,
+        kind: Kind::Constant(Items::new(Vec::from_slice(alloc, &[7, 8])?)),
+        guards: Items::new(Vec::new(alloc)),
+        ins: Items::new(Vec::new(alloc)),
+        outs: Items::new(Vec::from_slice(alloc, &[2])?),
+        twin: None,
+    })
+}
+
+#[test]
+fn a_constant_gives_its_values(rt: HostRuntime) -> Result<(), Fail> {
+    let alloc = rt.alloc();
+    let vertices = vec![in alloc; constant(alloc)?]?;
+    let flat = flat(&rt, vertices, Vec::new(alloc));
+    let ins = Ins::new(alloc, &[])?;
+    let mut outs = Ins::new(alloc, &[2])?;
+    fire(&flat, 0, &ins, &mut [], &[], &mut outs);
+    assert_eq!(rt; outs.vector(0), [7, 8].as_slice());
     Ok(())
 }
