@@ -1,5 +1,5 @@
 -- The tests of bodies and sums, in the forms that the code has.
-use Rattle.std.proofs.Common.{◌≡◌, ℕ, ◌<◌, Bool, true, false, ◌&&◌, ◌==◌, List, [], ◌∷◌, map, length, refl, sym, ap, arith, ◌∙◌}
+use Rattle.std.proofs.Common.{◌≡◌, ℕ, ◌<◌, Bool, true, false, ◌&&◌, ◌==◌, List, map, length, refl, sym, arith}
 use Rattle.std.specs.Prelude.{Some, IsTrue, sum, ◌↔◌, nat_lt}
 use Rattle.std.specs.List.{list_all, sum_by}
 use Rattle.std.proofs.lemmas.Bool.{and_parts, and_from, ltb-true, lt-ltb, eqb-true, false≢true}

@@ -1,10 +1,9 @@
 -- What a valid graph says of each operation, and the places of sensors and delays.
-use Rattle.std.proofs.Common.{◌≡◌, ℕ, zero, suc, ◌+◌, ◌<◌, ◌≤◌, Bool, true, false, ◌&&◌, ◌==◌, List, [], ◌∷◌, ◌++◌, map, length, refl, sym, ap, subst, arith, add-zero, add-one, zero-add, ◌∙◌}
-use Rattle.std.specs.Prelude.{slice_get, slice_index_or, Some, IsTrue, if◌then◌else◌, ℤ, nat_le}
-use Rattle.std.specs.List.{list_all}
+use Rattle.std.proofs.Common.{◌≡◌, ℕ, zero, suc, ◌+◌, Bool, true, ◌==◌, List, [], ◌∷◌, ◌++◌, length, sym, ap, subst, arith, add-zero, add-one, zero-add, ◌∙◌}
+use Rattle.std.specs.Prelude.{slice_get, slice_index_or, Some, if◌then◌else◌, ℤ}
 use Rattle.std.proofs.lemmas.Bool.{and_parts, eqb-true}
 use Rattle.flat_graph.specs.declared.vertex.Kind.{Kind}
-use Rattle.flat_graph.specs.declared.vertex.Kind.TheVariants.{Sensor, Actuator, Function, Constant, Get, Set, Explode, Implode, Merge}
+use Rattle.flat_graph.specs.declared.vertex.Kind.TheVariants.{Sensor, Get}
 use Rattle.flat_graph.specs.declared.vertex.Vertex.{Vertex}
 use Rattle.flat_graph.specs.Graph.{Graph, lens_of}
 use Rattle.flat_graph.specs.Order.{is_acyclic}

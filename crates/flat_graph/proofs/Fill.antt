@@ -1,14 +1,14 @@
 -- Lists that are written place by place.
-use Rattle.std.proofs.Common.{◌≡◌, ℕ, zero, suc, ◌+◌, ◌<◌, ◌≤◌, List, [], ◌∷◌, ◌++◌, map, length, take, drop, refl, sym, ap, subst, arith, add-one, add-zero, zero-add, suc-add, ◌∙◌, length-append, append_assoc, length-take, length-drop, Bool, true, false}
+use Rattle.std.proofs.Common.{◌≡◌, ℕ, zero, suc, ◌+◌, ◌<◌, ◌≤◌, List, [], ◌∷◌, ◌++◌, map, length, take, drop, refl, sym, ap, subst, arith, zero-add, suc-add, ◌∙◌, length-append, append_assoc, length-take, length-drop, Bool, true, false}
 use Rattle.std.specs.Prelude.{slice_index_or, slice_set, sum, ℤ, pos, nat_lt}
 use Rattle.std.proofs.lemmas.Bool.{ltb-true, ltb-false}
 use Rattle.std.proofs.lemmas.List.{length-map, set-set, set-get_or, get_or-set_same, drop-drop, take_all, drop_all, append-nil, get_or-map, get_or_append_left, get_or-append-add}
 use Rattle.std.proofs.lemmas.List.Sums.{sum_by-take-le}
 use Rattle.std.proofs.Math.Seq.{take-append_seam, drop-append-add}
 use Rattle.body_lang.specs.Expr.{Expr, numbers_below, vector_of, value_of, function_outputs}
-use Rattle.level_meaning.specs.Level.{Vector, Values, vector_at, zeros, parts_of, all_joined}
+use Rattle.level_meaning.specs.Level.{Vector, Values, vector_at, parts_of, all_joined}
 use Rattle.flat_graph.specs.Put.{over}
-use Rattle.flat_graph.proofs.KindLens.{length-vector_at, sum-cons, function_lens, joined_len}
+use Rattle.flat_graph.proofs.KindLens.{length-vector_at, sum-cons, joined_len}
 
 -- one place more
 pub fill : {A : Type 0} (target initial : List A) (i : ℕ) (d v : A) → i < length target → i < length initial → v ≡ slice_index_or target i d

@@ -1,6 +1,6 @@
 -- The values and the next cells are what operations give that are fired on what they read.
-use Rattle.std.proofs.Common.{◌≡◌, ℕ, zero, suc, ◌+◌, Bool, true, false, List, [], ◌∷◌, ◌++◌, map, length, take, drop, refl, sym, ap, subst, add-one, ◌∙◌}
-use Rattle.std.specs.Prelude.{slice_get, slice_index_or, Option, Some, if◌then◌else◌, ℤ}
+use Rattle.std.proofs.Common.{◌≡◌, ℕ, zero, suc, ◌+◌, Bool, true, false, List, [], ◌∷◌, length, take, drop, refl, sym, ap, add-one, ◌∙◌}
+use Rattle.std.specs.Prelude.{slice_get, Option, Some, if◌then◌else◌, ℤ}
 use Rattle.std.proofs.Math.Seq.{take-append_seam, drop-append_seam}
 use Rattle.std.proofs.lemmas.List.{length-map}
 use Rattle.level_meaning.specs.Level.{Vector, Values, vector_at}
@@ -8,7 +8,7 @@ use Rattle.flat_graph.specs.declared.vertex.Source.{Source}
 use Rattle.flat_graph.specs.declared.vertex.Kind.{Kind}
 use Rattle.flat_graph.specs.declared.vertex.Kind.TheVariants.{Get}
 use Rattle.flat_graph.specs.declared.vertex.Vertex.{Vertex}
-use Rattle.flat_graph.specs.Graph.{Graph, with_vertex}
+use Rattle.flat_graph.specs.Graph.{with_vertex}
 use Rattle.flat_graph.specs.Fire.{fired, kept}
 use Rattle.flat_graph.specs.Meaning.{sensed, is_get, delay_number, cell_of, value_in, conditions, inputs, reads, next_cell, next_from}
 use Rattle.flat_graph.specs.Laws.{IsFired, IsKept}

@@ -1,6 +1,6 @@
 -- What the fit of an operation says of the vectors that it reads, of which the first are its inputs.
-use Rattle.std.proofs.Common.{◌≡◌, ℕ, zero, suc, ◌+◌, ◌<◌, ◌≤◌, Bool, true, false, ◌&&◌, ◌==◌, List, [], ◌∷◌, map, length, take, refl, sym, ap, subst, arith, ◌∙◌}
-use Rattle.std.specs.Prelude.{slice_get, slice_index_or, Option, None, Some, ℤ, pos, All, nat_lt, if◌then◌else◌}
+use Rattle.std.proofs.Common.{◌≡◌, ℕ, zero, suc, ◌+◌, ◌<◌, ◌≤◌, true, ◌&&◌, ◌==◌, List, [], ◌∷◌, map, length, take, refl, sym, ap, subst, arith, ◌∙◌}
+use Rattle.std.specs.Prelude.{slice_get, slice_index_or, Option, Some, ℤ, pos, All, nat_lt, if◌then◌else◌}
 use Rattle.std.specs.List.{list_all}
 use Rattle.std.specs.Ordering.{int_eq}
 use Rattle.std.proofs.lemmas.Bool.{and_parts, false≢true, ltb-true, eqb-true}

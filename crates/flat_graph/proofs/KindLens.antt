@@ -1,12 +1,12 @@
 -- An operation whose inputs have the lengths that fit its kind gives outputs of their lengths.
-use Rattle.std.proofs.Common.{◌≡◌, ℕ, zero, suc, ◌+◌, ◌<◌, ◌≤◌, Bool, true, false, ◌&&◌, ◌==◌, List, [], ◌∷◌, ◌++◌, cond, map, length, take, drop, refl, sym, ap, subst, arith, ◌∙◌, length-append, length-take, length-drop}
-use Rattle.std.specs.Prelude.{slice_get, slice_index_or, sum, Option, None, Some, replicate, pos, ℤ, nat_le}
+use Rattle.std.proofs.Common.{◌≡◌, ℕ, zero, suc, ◌+◌, ◌<◌, ◌≤◌, Bool, true, false, ◌&&◌, ◌==◌, List, [], ◌∷◌, cond, map, length, take, drop, refl, sym, ap, arith, ◌∙◌, length-append, length-take, length-drop}
+use Rattle.std.specs.Prelude.{slice_index_or, sum, pos, ℤ}
 use Rattle.std.specs.List.{list_all}
 use Rattle.std.specs.Ordering.{int_eq}
 use Rattle.std.proofs.lemmas.Bool.{and_parts, eqb-true, false≢true}
 use Rattle.std.proofs.lemmas.List.{length-map, length-replicate}
 use Rattle.std.proofs.lemmas.List.Sums.{sum_by-cons}
-use Rattle.body_lang.specs.Expr.{Expr, function_outputs, numbers_below, vector_of, value_of}
+use Rattle.body_lang.specs.Expr.{Expr, function_outputs, numbers_below, value_of}
 use Rattle.level_meaning.specs.Level.{Vector, Values, vector_at, zeros, selected, element_at, parts_of, all_joined, merged}
 use Rattle.flat_graph.specs.declared.vertex.Kind.{Kind}
 use Rattle.flat_graph.specs.declared.vertex.Kind.TheVariants.{Sensor, Actuator, Function, Constant, Get, Set, Explode, Implode, Merge}

@@ -1,8 +1,8 @@
 -- The rounds do all operations exactly where none depends on itself.
-use Rattle.std.proofs.Common.{◌≡◌, ℕ, zero, suc, ◌+◌, ◌<◌, ◌≤◌, Bool, true, false, ◌&&◌, List, [], ◌∷◌, map, length, refl, sym, ap, subst, arith, zero-add, ◌∙◌, ◌⊎◌, inl, inr}
-use Rattle.std.specs.Prelude.{slice_get, slice_index_or, Option, None, Some, Contains, IsTrue, option_map}
+use Rattle.std.proofs.Common.{◌≡◌, ℕ, zero, suc, ◌<◌, Bool, true, false, ◌&&◌, List, [], ◌∷◌, map, length, refl, sym, ap, subst, arith, zero-add, ◌∙◌, ◌⊎◌, inl, inr}
+use Rattle.std.specs.Prelude.{slice_get, slice_index_or, Option, None, Some, Contains, option_map}
 use Rattle.std.specs.List.{list_all, range_with_len}
-use Rattle.std.proofs.lemmas.Bool.{and_parts, false≢true}
+use Rattle.std.proofs.lemmas.Bool.{false≢true}
 use Rattle.std.proofs.lemmas.Option.{slice_get_within, slice_get-map}
 use Rattle.std.proofs.lemmas.List.{length-map}
 use Rattle.std.proofs.lemmas.List.FromFn.{get_or-range_with_len, length-range_with_len}
@@ -10,13 +10,13 @@ use Rattle.std.proofs.lemmas.List.Sums.{AllPass-from_list_all, list_all-from_All
 use Rattle.level_meaning.specs.declared.part.Part.TheVariants.{Numbered}
 use Rattle.level_meaning.specs.declared.source.Source.TheVariants.{Of}
 use Rattle.level_meaning.specs.Level.{Node, with_node}
-use Rattle.level_meaning.specs.Order.{sources_ready, is_ready, settled, IsAcyclic}
-use Rattle.level_meaning.specs.Cycles.{IsAmong, IsGuarding, Asks, Reaches, asks, goes, AllInRange, ReachesNoneItself}
+use Rattle.level_meaning.specs.Order.{sources_ready, is_ready, settled}
+use Rattle.level_meaning.specs.Cycles.{IsAmong, IsGuarding, Asks, Reaches, asks, goes, AllInRange}
 use Rattle.level_meaning.proofs.CyclesLemmas.{acyclic-from_reaching}
 use Rattle.flat_graph.specs.declared.vertex.Vertex.{Vertex}
 use Rattle.flat_graph.specs.Graph.{with_vertex}
 use Rattle.flat_graph.specs.Order.{depends_on, is_done, is_acyclic}
-use Rattle.flat_graph.specs.Cycles.{DependsOn, LeadsTo, at_once, through, NoneLeadsToItself, AllAreThere, RoundsFindCycles}
+use Rattle.flat_graph.specs.Cycles.{DependsOn, LeadsTo, at_once, through, RoundsFindCycles}
 
 -- in range, each is done
 done_of : (vertices : List Vertex) → is_acyclic vertices ≡ true → (v : ℕ) → v < length vertices → is_done vertices (length vertices) v ≡ true

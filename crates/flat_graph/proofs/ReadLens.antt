@@ -1,5 +1,5 @@
 -- What an operation of a valid graph reads: its inputs, and then its guards' sources.
-use Rattle.std.proofs.Common.{◌≡◌, ℕ, zero, suc, ◌+◌, ◌<◌, ◌≤◌, Bool, true, ◌&&◌, List, [], ◌∷◌, ◌++◌, map, length, take, refl, sym, ap, subst, arith, length-append, ◌∙◌}
+use Rattle.std.proofs.Common.{◌≡◌, ℕ, zero, suc, ◌+◌, ◌<◌, ◌≤◌, true, ◌&&◌, List, [], ◌∷◌, ◌++◌, map, length, take, sym, ap, arith, length-append, ◌∙◌}
 use Rattle.std.specs.Prelude.{slice_get, slice_index_or, Option, Some, All, nat_le, replicate}
 use Rattle.std.specs.List.{list_all}
 use Rattle.std.proofs.lemmas.Bool.{and_parts, leb-true}
@@ -9,9 +9,8 @@ use Rattle.std.proofs.lemmas.List.Sums.{AllPass-from_list_all}
 use Rattle.level_meaning.specs.Level.{Vector, Values}
 use Rattle.flat_graph.specs.declared.vertex.Vertex.{Vertex}
 use Rattle.flat_graph.specs.Graph.{Graph, with_vertex, len_of, lens_of}
-use Rattle.flat_graph.specs.Valid.{is_flat, is_vertex, is_path, is_len, is_guard, fits, has_twin}
+use Rattle.flat_graph.specs.Valid.{is_vertex, is_path, is_len, is_guard, fits, has_twin}
 use Rattle.flat_graph.specs.Fire.{read_lens, cell_len, seen_len, out_lens, kind_cell_len, kind_seen_len}
-use Rattle.flat_graph.proofs.Facts.{vertex_valid, fits_of}
 
 -- the element at a place
 pub element_there : (xs : List Vertex) (v : ℕ) (x : Vertex) → v < length xs → x ≡ slice_index_or xs v x → slice_get xs v ≡ Some x

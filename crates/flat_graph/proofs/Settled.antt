@@ -1,18 +1,17 @@
 -- The flat values are a fixed point.
-use Rattle.std.proofs.Common.{◌≡◌, ℕ, ◌<◌, Bool, true, false, ◌&&◌, ◌==◌, List, [], ◌∷◌, map, length, drop, refl, sym, ap, ◌∙◌}
-use Rattle.std.specs.Prelude.{slice_get, Some, IsTrue, if◌then◌else◌, nat_le}
+use Rattle.std.proofs.Common.{◌≡◌, true, ◌&&◌, ◌==◌, List, [], ◌∷◌, map, refl, ap, ◌∙◌}
+use Rattle.std.specs.Prelude.{IsTrue, if◌then◌else◌}
 use Rattle.std.proofs.lemmas.Bool.{and_parts}
 use Rattle.level_meaning.specs.declared.source.Source as of_level
-use Rattle.level_meaning.specs.Level.{Vector, Values, zeros, selected, vector_at, all_hold, level_value}
+use Rattle.level_meaning.specs.Level.{Vector, zeros, selected, all_hold, level_value}
 use Rattle.level_meaning.proofs.Fuel.{out_is}
 use Rattle.flat_graph.specs.declared.vertex.Source.{Source}
 use Rattle.flat_graph.specs.declared.vertex.Guard.{Guard}
-use Rattle.flat_graph.specs.declared.vertex.Vertex.{Vertex}
 use Rattle.flat_graph.specs.Graph.{Graph}
 use Rattle.flat_graph.specs.Order.{is_acyclic}
 use Rattle.flat_graph.specs.Valid.{is_flat}
-use Rattle.flat_graph.specs.Fire.{guards_hold, kind_outputs, fired}
-use Rattle.flat_graph.specs.Meaning.{level_source, level_guard, node_of, cell_of, level, sensed, no_state, value_in, conditions, inputs}
+use Rattle.flat_graph.specs.Fire.{guards_hold, kind_outputs}
+use Rattle.flat_graph.specs.Meaning.{level_source, level_guard, node_of, cell_of, level, sensed, no_state}
 use Rattle.flat_graph.specs.Laws.{IsFixedPoint}
 use Rattle.flat_graph.proofs.Nodes.{node_at, has_no_cycle}
 

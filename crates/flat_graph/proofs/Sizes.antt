@@ -1,9 +1,9 @@
 -- With a row and cells of the right lengths each output has its length, and the cells keep theirs.
-use Rattle.std.proofs.Common.{◌≡◌, ℕ, zero, suc, ◌+◌, ◌<◌, ◌≤◌, Bool, true, false, ◌&&◌, ◌==◌, List, [], ◌∷◌, ◌++◌, map, length, drop, refl, sym, ap, subst, arith, ◌∙◌}
-use Rattle.std.specs.Prelude.{slice_get, slice_index_or, Option, None, Some, if◌then◌else◌, ℤ, nat_lt}
+use Rattle.std.proofs.Common.{◌≡◌, ℕ, zero, suc, ◌+◌, Bool, true, false, List, [], ◌∷◌, ◌++◌, map, length, drop, refl, sym, ap, subst, ◌∙◌}
+use Rattle.std.specs.Prelude.{slice_get, slice_index_or, Option, None, Some, if◌then◌else◌, nat_lt}
 use Rattle.std.proofs.lemmas.Bool.{and_parts, false≢true}
 use Rattle.level_meaning.specs.declared.source.Source as of_level
-use Rattle.level_meaning.specs.Level.{Vector, Values, Node, with_node, vector_at, zeros, all_hold, source_value, out}
+use Rattle.level_meaning.specs.Level.{Vector, Values, vector_at, zeros, all_hold, source_value, out}
 use Rattle.flat_graph.specs.declared.vertex.Source.{Source}
 use Rattle.flat_graph.specs.declared.vertex.Kind.{Kind}
 use Rattle.flat_graph.specs.declared.vertex.Kind.TheVariants.{Sensor, Actuator, Function, Constant, Get, Set, Explode, Implode, Merge}
@@ -11,11 +11,11 @@ use Rattle.flat_graph.specs.declared.vertex.Vertex.{Vertex}
 use Rattle.flat_graph.specs.Graph.{Graph, with_vertex, len_of, lens_of}
 use Rattle.flat_graph.specs.Valid.{is_flat, is_vertex, fits, names, is_only, is_set_half_by, is_set_half_of, has_set_half, has_twin, all_from}
 use Rattle.flat_graph.specs.Fire.{guards_hold, kind_outputs, stored, kept}
-use Rattle.flat_graph.specs.Meaning.{level_source, level_guard, sensed, is_get, delay_number, node_of, no_state, cell_of, level, outputs_in, value_in, conditions, inputs, next_cell, next_from, next_cells}
+use Rattle.flat_graph.specs.Meaning.{level_source, level_guard, sensed, is_get, delay_number, no_state, cell_of, level, value_in, conditions, inputs, next_cell, next_from}
 use Rattle.flat_graph.specs.Laws.{sensor_lens, delay_len, delay_lens, KeepsLengths}
 use Rattle.flat_graph.proofs.Facts.{all_valid, vertex_valid, fits_of, twin_of, sensor_at, delay_at}
 use Rattle.flat_graph.proofs.KindLens.{length-vector_at, length-zeros, only_is, HasSeen, HasCell, kind_lens}
-use Rattle.flat_graph.proofs.Nodes.{node_at, none_at, length-nodes_from}
+use Rattle.flat_graph.proofs.Nodes.{node_at, none_at}
 
 module _ (g : Graph) (cells row : Values) (valid : is_flat g ≡ true) (rows_fit : map length row ≡ sensor_lens g.vertices) (cells_fit : map length cells ≡ delay_lens g.vertices) where
   has_seen : (v : ℕ) (x : Vertex) → slice_get g.vertices v ≡ Some x → HasSeen x.kind x.outs (sensed x.kind row)

@@ -4,7 +4,6 @@ use Rattle.std.specs.List.{list_all, list_any}
 use Rattle.std.specs.Str.{bytes_eq}
 use Rattle.syn_base.specs.Name.{is_name_byte}
 use Rattle.body_lang.specs.Expr.{Expr, literal, index, element, sum_over, negation, apply, select}
-use Rattle.flat_graph.specs.declared.vertex.Source.{Source}
 use Rattle.flat_graph.specs.declared.vertex.Guard.{Guard}
 use Rattle.flat_graph.specs.declared.vertex.Kind.{Kind}
 use Rattle.flat_graph.specs.declared.vertex.Kind.TheVariants.{Sensor, Actuator, Function, Constant, Get, Set, Explode, Implode, Merge}

@@ -115,38 +115,65 @@ fn an_operation_that_reads_itself_is_refused(rt: HostRuntime) -> Result<(), Fail
 }
 
 fn switch(alloc: Global) -> Result<Vec<Vertex>, Fail> {
-    let sensor = of(0, 0);
-    let values = Items::new(Vec::from_slice(alloc, &[0, 3])?);
-    let initial = Items::new(Vec::from_slice(alloc, &[100])?);
-    let get = vertex(alloc, b"w.1/d:get", Kind::Get(initial), &[], &[1])?;
-    let set = vertex(alloc, b"w.1/d:set", Kind::Set, &[of(4, 0)], &[])?;
-    let cases = [sensor, of(1, 0), of(2, 0), of(5, 0)];
     let mut vertices = Vec::new(alloc);
     vertices.push(vertex(alloc, b"s", Kind::Sensor(0), &[], &[1])?)?;
-    vertices.push(in_case(alloc, 0, function(alloc, b"w.0", 0, &[sensor])?)?)?;
-    vertices.push(in_case(alloc, 1, with_twin(get, 3))?)?;
-    vertices.push(in_case(alloc, 1, with_twin(set, 2))?)?;
-    vertices.push(in_case(alloc, 1, function(alloc, b"w.1/f", 1, &[of(2, 0), sensor])?)?)?;
-    vertices.push(in_case(alloc, 2, function(alloc, b"w.2", 2, &[sensor])?)?)?;
-    vertices.push(vertex(alloc, b"w:y", Kind::Merge(values), &cases, &[1])?)?;
+    vertices.push(function(alloc, b"w.0", 0, &[of(0, 0)], 0)?)?;
+    vertices.push(get_half(alloc)?)?;
+    vertices.push(set_half(alloc)?)?;
+    vertices.push(function(alloc, b"w.1/f", 1, &[of(2, 0), of(0, 0)], 1)?)?;
+    vertices.push(function(alloc, b"w.2", 2, &[of(0, 0)], 2)?)?;
+    vertices.push(merge(alloc)?)?;
     vertices.push(vertex(alloc, b"a", Kind::Actuator(0), &[of(6, 0)], &[])?)?;
     Ok(vertices)
 }
 
-fn function(alloc: Global, name: &[u8], body: u32, ins: &[Source]) -> Result<Vertex, Fail> {
-    vertex(alloc, name, Kind::Function(body), ins, &[1])
+fn get_half(alloc: Global) -> Result<Vertex, Fail> {
+    let initial = Items::new(Vec::from_slice(alloc, &[100])?);
+    let half = vertex(alloc, b"w.1/d:get", Kind::Get(initial), &[], &[1])?;
+    in_case(alloc, 1, with_twin(half, 3))
+}
+
+fn set_half(alloc: Global) -> Result<Vertex, Fail> {
+    let half = vertex(alloc, b"w.1/d:set", Kind::Set, &[of(4, 0)], &[])?;
+    in_case(alloc, 1, with_twin(half, 2))
+}
+
+fn merge(alloc: Global) -> Result<Vertex, Fail> {
+    let values = Items::new(Vec::from_slice(alloc, &[0, 3])?);
+    let cases = [of(0, 0), of(1, 0), of(2, 0), of(5, 0)];
+    vertex(alloc, b"w:y", Kind::Merge(values), &cases, &[1])
+}
+
+/// A function in a case.
+fn function(
+    alloc: Global,
+    name: &[u8],
+    body: u32,
+    ins: &[Source],
+    case: u32,
+) -> Result<Vertex, Fail> {
+    let function = vertex(alloc, name, Kind::Function(body), ins, &[1])?;
+    in_case(alloc, case, function)
 }
 
 /// The bodies of `Same`, `Add` and `Neg`.
 fn switch_bodies(alloc: Global) -> Result<Vec<Items<Expr>>, Fail> {
-    let x = Box::new(alloc, element(alloc, 0)?)?;
-    let y = Box::new(alloc, element(alloc, 1)?)?;
-    let negated = Box::new(alloc, element(alloc, 0)?)?;
     let mut bodies = Vec::new(alloc);
     bodies.push(body(alloc, element(alloc, 0)?)?)?;
-    bodies.push(body(alloc, Expr::Apply(Op::Add, x, y))?)?;
-    bodies.push(body(alloc, Expr::Neg(negated))?)?;
+    bodies.push(sum(alloc)?)?;
+    bodies.push(negation(alloc)?)?;
     Ok(bodies)
+}
+
+fn sum(alloc: Global) -> Result<Items<Expr>, Fail> {
+    let x = Box::new(alloc, element(alloc, 0)?)?;
+    let y = Box::new(alloc, element(alloc, 1)?)?;
+    body(alloc, Expr::Apply(Op::Add, x, y))
+}
+
+fn negation(alloc: Global) -> Result<Items<Expr>, Fail> {
+    let x = Box::new(alloc, element(alloc, 0)?)?;
+    body(alloc, Expr::Neg(x))
 }
 
 #[test]

@@ -1,11 +1,9 @@
-use Rattle.std.proofs.Common.{◌≡◌, ◌+◌, List, ◌∷◌, [], map, length, take, ap, sym, subst, arith, ◌∙◌}
-use Rattle.std.specs.Prelude.{All, sum, true}
+use Rattle.std.proofs.Common.{◌+◌, List, ◌∷◌, [], map, length, take, ap, sym, subst, arith, ◌∙◌}
+use Rattle.std.specs.Prelude.{All, sum}
 use Rattle.body_lang.specs.declared.expression.Expr as declared
 use Rattle.body_lang.specs.Expr.{view, PortsBelow, function_outputs}
 use Rattle.level_meaning.specs.Level.{selected, vector_at}
-use Rattle.flat_graph.specs.declared.vertex.Kind.TheVariants.{Function, Explode, Merge}
 use Rattle.flat_graph.specs.Graph.{bodies_view}
-use Rattle.flat_graph.specs.Valid.{fits}
 use Rattle.flat_graph.specs.Fire.{kind_outputs}
 use Rattle.flat_graph.proofs.Firing.{ports_all, function_is, explode_len, case_there, merged_is, merged_fits}
 use Rattle.flat_graph.proofs.operation.fire_active.Goals as goal

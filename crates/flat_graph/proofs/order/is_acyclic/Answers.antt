@@ -1,4 +1,4 @@
-use Rattle.std.proofs.Common.{◌≡◌, arith, ◌∙◌}
+use Rattle.std.proofs.Common.{arith, ◌∙◌}
 use Rattle.flat_graph.proofs.Rounds.{after_a_round, all_done}
 use Rattle.flat_graph.proofs.order.is_acyclic.Goals as goal
 

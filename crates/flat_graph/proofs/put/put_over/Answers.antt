@@ -1,4 +1,4 @@
-use Rattle.std.proofs.Common.{◌≡◌, ◌+◌, [], take, ap, refl, arith, rules, w64, FitsSigned, ◌∙◌}
+use Rattle.std.proofs.Common.{◌≡◌, ◌+◌, take, ap, refl, rules, w64, FitsSigned, ◌∙◌}
 use Rattle.std.specs.Prelude.{slice_index_or, slice_set, pos}
 use Rattle.std.proofs.lemmas.Int.{to_z-of_z}
 use Rattle.syn_base.specs.Rows.{with_value}

@@ -1,5 +1,5 @@
 use Rattle.std.proofs.Common.{◌≡◌, ℕ, ◌+◌, ◌-◌, [], length, take, drop, ap, sym, arith, ◌∙◌, length-take, length-drop}
-use Rattle.std.specs.Prelude.{slice_index_or, slice_set, sum}
+use Rattle.std.specs.Prelude.{slice_index_or, slice_set}
 use Rattle.std.proofs.lemmas.List.Sums.{sum_by_more, sum_by_more_le}
 use Rattle.level_meaning.specs.Level.{parts_of}
 use Rattle.flat_graph.proofs.Fill.{fill, in_front, all_written, len_at_seam, count_of_lens, length-parts_of, part_at}

@@ -1,7 +1,7 @@
-use Rattle.std.proofs.Common.{◌≡◌, [], ◌++◌, take, drop, length, ap, sym, arith, ◌∙◌, rules, w64, FitsSigned}
+use Rattle.std.proofs.Common.{[], ◌++◌, take, drop, ap, sym, arith, ◌∙◌, rules, w64, FitsSigned}
 use Rattle.std.proofs.lemmas.Int.{to_z-of_z}
 use Rattle.syn_base.specs.Rows.{with_value}
-use Rattle.std.specs.Prelude.{slice_index_or, slice_set, pos}
+use Rattle.std.specs.Prelude.{slice_set, pos}
 use Rattle.std.proofs.lemmas.List.{get_or-set_same}
 use Rattle.body_lang.specs.Expr.{view, value_of, vector_of}
 use Rattle.level_meaning.specs.Level.{vector_at}
