@@ -10,8 +10,7 @@ use syn_base::{ActRows, OutOfMemory, SensorRows};
 
 pub fn simulate(_alloc: Global, _tree: &Tree, _rows: &SensorRows) -> Result<ActRows, OutOfMemory>
     requires { _rows.now.lens ≡ sensor_lengths _tree.now }
-    ensures lens { IfOk result (λ acts. acts.lens ≡ actuator_lengths _tree.now) }
-    ensures rows { IfOk result (λ acts. acts.reactions ≡ map (act_row _tree.now _rows.now.reactions) (numbers_below (length _rows.now.reactions))) }
+    ensures { IfOk result (λ acts. acts ≡ record { lens = actuator_lengths _tree.now; reactions = map (act_row _tree.now _rows.now.reactions) (numbers_below (length _rows.now.reactions)) }) }
 {
     Err(OutOfMemory)
 }
