@@ -25,7 +25,6 @@ mod ends;
 mod line;
 mod output;
 mod sim;
-mod stand_in;
 mod status;
 mod table;
 

@@ -16,13 +16,13 @@ ghost use Rattle.syndex_program.specs.declared.status.Status.TheVariants.{OutOfM
 
 use crate::ends::{actuators_of, sensors_of};
 use crate::output::output;
-use crate::stand_in::simulate;
 use crate::status::Status;
 use crate::table::{TableFault, read_table};
 use algo_tree::{SimpleFault, Tree, read_simple};
 use outside::{File, ReadAnswer, Shelf, read_whole};
 use std::alloc::Global;
 use syn_base::{OutOfMemory, SensorRows, Shape};
+use sync_meaning::simulate;
 
 /// The most elements of the output: reactions times elements of actuators.
 const OUTPUT_BOUND: usize = 2_000_000;

@@ -1,0 +1,5 @@
+pub mod Store
+pub mod Sound
+pub mod Run
+pub mod First
+pub mod Simulated

@@ -1,0 +1,51 @@
+-- What a reaction of a vertex asks of it.
+use Rattle.std.specs.Prelude.{◌≡◌, ℕ, ◌<◌, Bool, false, List, [], ◌∷◌, map, length, slice_index_or}
+use Rattle.level_meaning.specs.Level.{Node}
+use Rattle.algo_tree.specs.Tree.{Kind, sensor, Vertex, vertex, Vertices, no_vertices, and_vertex}
+use Rattle.algo_tree.specs.Meaning.{node}
+use Rattle.algo_tree.specs.Well.{IsWell, AllWell}
+use Rattle.algo_tree.specs.Typed.{IsTyped, AllTyped}
+use Rattle.algo_tree.specs.View.{view}
+use Rattle.algo_tree.specs.declared.vertex.Vertex.{Vertex as Declared}
+use Rattle.algo_tree.specs.declared.vertex.Kind as declared
+use Rattle.algo_tree.specs.declared.vertex.Kind.TheVariants.{Graph, Switch, Repeat}
+
+-- a sensor is one of those with these lengths
+abbrev pub IsSensor : List ℕ → Kind → List ℕ → Type 0
+IsSensor sensors (sensor n) outs = (n < length sensors) × (outs ≡ slice_index_or sensors n 0 ∷ [])
+IsSensor sensors _ outs = Unit {0}
+
+abbrev mutual
+  pub SensorsFit : List ℕ → Vertex → Type 0
+  SensorsFit sensors (vertex l us) = IsSensor sensors l.kind l.outs × AllSensorsFit sensors us
+
+  pub AllSensorsFit : List ℕ → Vertices → Type 0
+  AllSensorsFit sensors no_vertices = Unit {0}
+  AllSensorsFit sensors (and_vertex u us) = SensorsFit sensors u × AllSensorsFit sensors us
+
+-- a vertex with inputs of these lengths, under sensors of these lengths
+pub record IsSound (sensors lens : List ℕ) (u : Vertex) : Type 0 where
+  pub well : IsWell u
+  pub typed : IsTyped lens u
+  pub sensors_fit : SensorsFit sensors u
+
+-- the vertices of a level with own inputs and outputs of these lengths
+pub record AreSound (sensors own : List ℕ) (outs : List (List ℕ)) (us : Vertices) : Type 0 where
+  pub well : AllWell us
+  pub typed : AllTyped own outs us
+  pub sensors_fit : AllSensorsFit sensors us
+
+-- the level of several declared vertices
+abbrev pub nodes_of : List Declared → List Node
+nodes_of us = map node (map view us)
+
+-- a vertex with nothing inside
+abbrev pub IsAlone : declared.Kind → Type 0
+IsAlone (Graph sources) = ⊥
+IsAlone (Switch values names) = ⊥
+IsAlone (Repeat n feeds gives) = ⊥
+IsAlone _ = Unit {0}
+
+-- whether node r is done, by flags
+abbrev pub is_done : List Bool → ℕ → Bool
+is_done done r = slice_index_or done r false

@@ -1,0 +1,91 @@
+-- What a store beside a vertex stands for, and when it fits the vertex.
+use Rattle.std.specs.Prelude.{◌≡◌, ℕ, ◌<◌, List, [], ◌∷◌, ◌==◌, ◌||◌, length, map, take, replicate, Bool, true, false, if◌then◌else◌, Option, Some, None, slice_get, slice_index_or}
+use Rattle.level_meaning.specs.declared.part.Part.{Part}
+use Rattle.level_meaning.specs.declared.part.Part.TheVariants.{Named, Numbered, Port}
+use Rattle.level_meaning.specs.Level.{Vector, State, Node, same_part, with_node}
+use Rattle.level_meaning.specs.Order.{is_ready}
+use Rattle.algo_tree.specs.Tree.{Kind, delay, graph, switch, repeat, Vertex, vertex, Vertices, no_vertices, and_vertex}
+use Rattle.algo_tree.specs.Meaning.{nodes}
+use Rattle.algo_tree.specs.Typed.{label_of, outs_of, source_length, fed_length}
+use Rattle.sync_meaning.specs.declared.store.Store.{Store, out-Store}
+use Rattle.sync_meaning.specs.declared.store.Store.TheOpen.{Store-F}
+
+-- a delay alone keeps values of its own
+abbrev pub kept_here : Kind → List Vector → List Vector
+kept_here (delay vs) kept = kept
+kept_here _ kept = []
+
+-- a repetition keeps what each copy of its body keeps, and all others what each vertex inside keeps
+abbrev pub kept_inside : Kind → List Vector → List Vector → List Vector
+kept_inside (repeat n feeds gives) level copies = copies
+kept_inside _ level copies = level
+
+abbrev pub kept_at : (Store → List Vector) → Option Store → List Vector
+kept_at kept None = []
+kept_at kept (Some k) = kept k
+
+abbrev pub copy_state : (Store → List Vector) → List Store → Part → List Vector
+copy_state kept ks (Named x) = []
+copy_state kept ks (Port x) = []
+copy_state kept ks (Numbered i) = kept_at kept (slice_get ks i)
+
+abbrev mutual
+  -- what is kept at each path below a vertex
+  pub state_of : Vertex → Store → State
+  state_of (vertex l us) k [] = kept_here l.kind (out-Store k).kept
+  state_of (vertex l us) k (p ∷ q) = kept_inside l.kind (state_in us (out-Store k).inner.items p q) (state_of_copies us (out-Store k).inner.items p q)
+
+  -- what is kept at a path that begins at one of these vertices
+  pub state_in : Vertices → List Store → Part → State
+  state_in no_vertices ks p q = []
+  state_in (and_vertex u us) [] p q = []
+  state_in (and_vertex u us) (k ∷ ks) p q = if same_part (label_of u).part p then state_of u k q else state_in us ks p q
+
+  -- what is kept at a path that begins at a copy of a body
+  pub state_of_copies : Vertices → List Store → Part → State
+  state_of_copies no_vertices ks p q = []
+  state_of_copies (and_vertex u us) ks p q = copy_state (λ k. state_of u k q) ks p
+
+abbrev pub is_among : List ℕ → ℕ → Bool
+is_among [] r = false
+is_among (x ∷ xs) r = (x == r) || is_among xs r
+
+-- node r has not run yet, and all that it asks for has
+pub record MayRun (cs : List Node) (before : List ℕ) (r : ℕ) : Type 0 where
+  pub is_new : is_among before r ≡ false
+  pub ready : with_node (slice_get cs r) false (is_ready (is_among before)) ≡ true
+
+-- an order in which each node of a level runs once, after all that it asks for
+pub record IsOrder (cs : List Node) (order : List ℕ) : Type 0 where
+  pub each : (i : ℕ) → i < length order → MayRun cs (take i order) (slice_index_or order i 0)
+  pub all : (r : ℕ) → r < length cs → is_among order r ≡ true
+
+abbrev pub lengths : List Vector → List ℕ
+lengths vs = map length vs
+
+-- what a kind asks of a store, of those of a level inside with such own inputs and outputs, and of those of copies with such inputs
+abbrev pub FitsKind : Kind → List ℕ → Vertices → Store-F Store → (List ℕ → List (List ℕ) → Type 0) → (List ℕ → Type 0) → Type 0
+FitsKind (delay vs) lens us k level copies = lengths k.kept ≡ lens
+FitsKind (graph sources) lens us k level copies =
+    (IsOrder (nodes us) k.order.items × (map lengths k.outs.items ≡ outs_of us)) × level lens (outs_of us)
+FitsKind (switch values names) lens us k level copies = level lens []
+FitsKind (repeat n feeds gives) lens us k level copies =
+    ((length k.inner.items ≡ n) × (map lengths k.outs.items ≡ replicate n (slice_index_or (outs_of us) 0 []))) × copies (map (fed_length lens) feeds)
+FitsKind _ lens us k level copies = Unit {0}
+
+abbrev mutual
+  -- a store has a place of the right length for each value, beside a vertex whose inputs have these lengths
+  pub Fits : List ℕ → Vertex → Store → Type 0
+  Fits lens (vertex l us) k =
+      (lengths (out-Store k).ins ≡ lens)
+      × FitsKind l.kind lens us (out-Store k) (λ own outs. AllFit own outs us (out-Store k).inner.items) (λ fed. CopiesFit fed us (out-Store k).inner.items)
+
+  pub AllFit : List ℕ → List (List ℕ) → Vertices → List Store → Type 0
+  AllFit own outs no_vertices [] = Unit {0}
+  AllFit own outs no_vertices (k ∷ ks) = ⊥
+  AllFit own outs (and_vertex u us) [] = ⊥
+  AllFit own outs (and_vertex u us) (k ∷ ks) = Fits (map (source_length own outs) (label_of u).ins) u k × AllFit own outs us ks
+
+  pub CopiesFit : List ℕ → Vertices → List Store → Type 0
+  CopiesFit fed no_vertices ks = ⊥
+  CopiesFit fed (and_vertex u us) ks = (i : ℕ) (k : Store) → slice_get ks i ≡ Some k → Fits fed u k

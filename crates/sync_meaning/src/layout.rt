@@ -1,0 +1,191 @@
+//! The stores beside a tree, as they are before the first reaction.
+ghost use Rattle.std.specs.Prelude.{◌≡◌, ◌<◌, ◌∷◌, [], ℕ, length, map, replicate, slice_index, slice_index_or, IfOk};
+ghost use Rattle.body_lang.specs.Expr.{zeros};
+ghost use Rattle.algo_tree.specs.declared.vertex.Vertex.{out-Vertex};
+ghost use Rattle.algo_tree.specs.View.{view, vertices_view};
+ghost use Rattle.algo_tree.specs.Typed.{source_length, fed_length, outs_of, label_of, IsTyped, AllTyped, IsBodyTyped};
+ghost use Rattle.algo_tree.specs.Well.{IsWell, AllWell, IsOne};
+ghost use Rattle.sync_meaning.specs.Store.{lengths};
+ghost use Rattle.sync_meaning.specs.declared.store.Store.{Store};
+ghost use Rattle.sync_meaning.specs.First.{IsFirst, AreFirst, AreCopies};
+
+use crate::lengths::length_of;
+use crate::order::find_order;
+use crate::store::Store;
+use algo_tree::{Kind, Vertex};
+use body_lang::Ins;
+use level_meaning::{Feed, Source};
+use std::alloc::Global;
+use syn_base::OutOfMemory;
+
+/// The lengths of the values of several sources.
+fn lengths_of(
+    alloc: Global,
+    sources: &[Source],
+    own: &[u32],
+    level: &[Vertex],
+) -> Result<Vec<u32>, OutOfMemory>
+    ensures { IfOk result (λ lens. lens.items ≡ map (source_length own.now (outs_of (vertices_view level.now))) sources.now) }
+{
+    let mut lens = Vec::new(alloc);
+    for source in sources {
+        lens.push(length_of(*source, own, level))?;
+    }
+    Ok(lens)
+}
+
+/// The lengths of the inputs of a body.
+fn fed_lengths(alloc: Global, feeds: &[Feed], own: &[u32]) -> Result<Vec<u32>, OutOfMemory>
+    ensures { IfOk result (λ lens. lens.items ≡ map (fed_length own.now) feeds.now) }
+{
+    let mut lens = Vec::new(alloc);
+    for feed in feeds {
+        let len = match feed {
+            Feed::Fork(_, _, len) => *len,
+            Feed::Diffuse(k) | Feed::Iterate(k, _) => own.get(*k as usize).copied().unwrap_or(0),
+        };
+        lens.push(len)?;
+    }
+    Ok(lens)
+}
+
+/// Places for the outputs of each vertex of a level.
+fn level_outputs(alloc: Global, vertices: &Vec<Vertex>) -> Result<Vec<Ins>, OutOfMemory>
+    ensures { IfOk result (λ table. map lengths table.items ≡ outs_of (vertices_view vertices.now.items)) }
+{
+    let mut table = Vec::new(alloc);
+    for vertex in vertices {
+        table.push(Ins::new(alloc, vertex.outs.as_slice())?)?;
+    }
+    Ok(table)
+}
+
+/// Places for the outputs of each copy of a body.
+fn copies_outputs(alloc: Global, body: &Vertex, count: u32) -> Result<Vec<Ins>, OutOfMemory>
+    ensures { IfOk result (λ table. map lengths table.items ≡ replicate count (label_of (view body.now)).outs) }
+{
+    let mut table = Vec::new(alloc);
+    for i in 0..count {
+        table.push(Ins::new(alloc, body.outs.as_slice())?)?;
+    }
+    Ok(table)
+}
+
+/// The initial values of a delay.
+fn initial_values(alloc: Global, lens: &[u32], values: &[i64]) -> Result<Ins, OutOfMemory>
+    requires { lens.now ≡ length values.now ∷ [] }
+    ensures { IfOk result (λ kept. kept ≡ values.now ∷ []) }
+{
+    let mut kept = Ins::new(alloc, lens)?;
+    kept.set_vector(0, values);
+    Ok(kept)
+}
+
+/// The stores of a level, whose vertices are fed by own inputs of these lengths and by `level`.
+#[cycle(layout)]
+fn level_stores(
+    alloc: Global,
+    vertices: &Vec<Vertex>,
+    own: &[u32],
+    level: &[Vertex],
+) -> Result<Vec<Store>, OutOfMemory>
+    requires well { AllWell (vertices_view vertices.now.items) }
+    requires typed { AllTyped own.now (outs_of (vertices_view level.now)) (vertices_view vertices.now.items) }
+    ensures { IfOk result (λ ks. AreFirst own.now (outs_of (vertices_view level.now)) vertices.now.items ks.items) }
+{
+    let mut stores = Vec::new(alloc);
+    for vertex in vertices {
+        let lens = lengths_of(alloc, vertex.ins.as_slice(), own, level)?;
+        stores.push(new_store(alloc, vertex, &lens)?)?;
+    }
+    Ok(stores)
+}
+
+/// The stores of the copies of a body with inputs of these lengths.
+#[cycle(layout)]
+fn copy_stores(
+    alloc: Global,
+    body: &Vertex,
+    count: u32,
+    lens: &[u32],
+) -> Result<Vec<Store>, OutOfMemory>
+    requires well { IsWell (view body.now) }
+    requires typed { IsTyped lens.now (view body.now) }
+    ensures { IfOk result (λ ks. (length ks.items ≡ count) × ((i : ℕ) (k : Store) → i < count → IsFirst lens.now (view body.now) (slice_index_or ks.items i k))) }
+{
+    let mut stores = Vec::new(alloc);
+    for i in 0..count {
+        stores.push(new_store(alloc, body, lens)?)?;
+    }
+    Ok(stores)
+}
+
+/// The outputs and the stores of the copies of a body.
+#[cycle(layout)]
+fn copies(
+    alloc: Global,
+    inner: &Vec<Vertex>,
+    count: u32,
+    feeds: &[Feed],
+    lens: &[u32],
+) -> Result<(Vec<Ins>, Vec<Store>), OutOfMemory>
+    requires one { IsOne (vertices_view inner.now.items) }
+    requires well { AllWell (vertices_view inner.now.items) }
+    requires typed { IsBodyTyped (map (fed_length lens.now) feeds.now) (vertices_view inner.now.items) }
+    ensures { IfOk result (λ p. AreCopies (map (fed_length lens.now) feeds.now) count inner.now.items p.0.items p.1.items) }
+{
+    let body = &inner[0];
+    let fed = fed_lengths(alloc, feeds, lens)?;
+    let outs = copies_outputs(alloc, body, count)?;
+    let stores = copy_stores(alloc, body, count, &fed)?;
+    Ok((outs, stores))
+}
+
+/// The store beside a vertex with inputs of these lengths, before the first reaction.
+#[cycle(layout)]
+pub fn new_store(alloc: Global, vertex: &Vertex, lens: &[u32]) -> Result<Store, OutOfMemory>
+    requires well { IsWell (view vertex.now) }
+    requires typed { IsTyped lens.now (view vertex.now) }
+    ensures { IfOk result (IsFirst lens.now (view vertex.now)) }
+{
+    match &vertex.kind {
+        Kind::Delay(values) => Ok(Store {
+            ins: Ins::new(alloc, lens)?,
+            kept: initial_values(alloc, lens, values.as_slice())?,
+            order: Vec::new(alloc),
+            outs: Vec::new(alloc),
+            inner: Vec::new(alloc),
+        }),
+        Kind::Graph(_) => Ok(Store {
+            ins: Ins::new(alloc, lens)?,
+            kept: Ins::new(alloc, &[])?,
+            order: find_order(alloc, &vertex.inner)?,
+            outs: level_outputs(alloc, &vertex.inner)?,
+            inner: level_stores(alloc, &vertex.inner, lens, &vertex.inner)?,
+        }),
+        Kind::Switch(_, _) => Ok(Store {
+            ins: Ins::new(alloc, lens)?,
+            kept: Ins::new(alloc, &[])?,
+            order: Vec::new(alloc),
+            outs: Vec::new(alloc),
+            inner: level_stores(alloc, &vertex.inner, lens, &[])?,
+        }),
+        Kind::Repeat(count, feeds, _) => {
+            let (outs, inner) = copies(alloc, &vertex.inner, *count, feeds.as_slice(), lens)?;
+            Ok(Store {
+                ins: Ins::new(alloc, lens)?,
+                kept: Ins::new(alloc, &[])?,
+                order: Vec::new(alloc),
+                outs,
+                inner,
+            })
+        }
+        _ => Ok(Store {
+            ins: Ins::new(alloc, lens)?,
+            kept: Ins::new(alloc, &[])?,
+            order: Vec::new(alloc),
+            outs: Vec::new(alloc),
+            inner: Vec::new(alloc),
+        }),
+    }
+}

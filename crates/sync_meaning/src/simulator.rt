@@ -1,0 +1,96 @@
+//! The synchronous meaning of an algorithm, reaction by reaction.
+ghost use Rattle.std.specs.Prelude.{◌≡◌, ◌<◌, ◌++◌, [], length, map, IfOk, OnOk};
+ghost use Rattle.level_meaning.specs.Level.{source_value, all_joined};
+ghost use Rattle.algo_tree.specs.View.{view, vertices_view};
+ghost use Rattle.algo_tree.specs.Meaning.{actuator_values, input_value};
+ghost use Rattle.algo_tree.specs.Typed.{label_of, source_length, AreLengths, AllTyped};
+ghost use Rattle.algo_tree.specs.Ends.{sensor_lengths};
+ghost use Rattle.algo_tree.specs.Valid.{HasNoPorts};
+ghost use Rattle.sync_meaning.specs.Store.{Fits, lengths};
+ghost use Rattle.sync_meaning.specs.Sound.{IsSound};
+ghost use Rattle.sync_meaning.specs.Run.{row_of, given};
+ghost use Rattle.sync_meaning.specs.Simulated.{MainReacts, simulated};
+
+use crate::layout::new_store;
+use crate::react::run_level;
+use crate::store::Store;
+use crate::values::value_of;
+use algo_tree::{Kind, Tree, Vertex};
+use body_lang::Ins;
+use level_meaning::Source;
+use std::alloc::Global;
+use syn_base::{ActRows, OutOfMemory, SensorRows};
+
+/// A reaction of the main graph.
+fn react_main(main: &Vertex, rows: &SensorRows, k: usize, store: &mut Store)
+    requires portless { HasNoPorts (label_of (view main.now)) }
+    requires sound { IsSound rows.now.lens [] (view main.now) }
+    requires reaction { k < length rows.now.reactions }
+    requires fit { Fits [] (view main.now) store.old }
+    ensures { MainReacts (view main.now) (row_of rows.now k) store.old store.new }
+{
+    if let Kind::Graph(_) = &main.kind {
+        let Store {
+            ins,
+            order,
+            outs: table,
+            inner,
+            ..
+        } = store;
+        run_level(&main.inner, rows, k, ins, order, table, inner);
+    }
+}
+
+/// Adds the value of the first source to a row.
+fn append_first(
+    row: &mut Vec<i64>,
+    sources: &[Source],
+    own: &Ins,
+    table: &[Ins],
+) -> Result<(), OutOfMemory>
+    requires { AreLengths (map (source_length (lengths own.now) (map lengths table.now)) sources.now) }
+    ensures { OnOk result (row.new.items ≡ row.old.items ++ input_value (source_value own.now (given table.now)) sources.now) }
+{
+    if let Some(source) = sources.first() {
+        row.extend_from_slice(value_of(*source, own, table))?;
+    }
+    Ok(())
+}
+
+/// The values at the inputs of a level's actuators, one after another.
+fn actuator_row(
+    alloc: Global,
+    vertices: &Vec<Vertex>,
+    own: &Ins,
+    table: &[Ins],
+) -> Result<Vec<i64>, OutOfMemory>
+    requires { AllTyped (lengths own.now) (map lengths table.now) (vertices_view vertices.now.items) }
+    ensures { IfOk result (λ row. row.items ≡ all_joined (actuator_values (source_value own.now (given table.now)) (vertices_view vertices.now.items))) }
+{
+    let mut row = Vec::new(alloc);
+    for vertex in vertices {
+        let Kind::Actuator(_) = &vertex.kind else {
+            continue;
+        };
+        append_first(&mut row, vertex.ins.as_slice(), own, table)?;
+    }
+    Ok(row)
+}
+
+/// What the actuators take in each reaction, over these rows of the sensors. The rows have the
+/// lengths of the tree's sensors. After the first reaction it takes memory for the answer alone.
+pub fn simulate(alloc: Global, tree: &Tree, rows: &SensorRows) -> Result<ActRows, OutOfMemory>
+    requires { rows.now.lens ≡ sensor_lengths tree.now }
+    ensures { IfOk result (λ taken. taken ≡ simulated tree.now rows.now) }
+{
+    let main = tree.main();
+    let mut store = new_store(alloc, main, &[])?;
+    let lens = tree.actuator_lens(alloc)?;
+    let mut taken = ActRows::new(alloc, &lens)?;
+    for k in 0..rows.count() {
+        react_main(main, rows, k, &mut store);
+        let row = actuator_row(alloc, &main.inner, &store.ins, &store.outs)?;
+        taken.push(&row)?;
+    }
+    Ok(taken)
+}
