@@ -1,0 +1,5 @@
+pub mod Acyclic
+pub mod Well
+pub mod Typed
+pub mod Ends
+pub mod Tree
