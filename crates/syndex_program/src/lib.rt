@@ -112,4 +112,6 @@ fn write_text<K: Sink>(out: &mut K, made: Result<Vec<u8>, Status>) -> Status
 }
 
 #[cfg(test)]
+mod rows;
+#[cfg(test)]
 mod tests;
