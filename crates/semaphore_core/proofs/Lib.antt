@@ -3,5 +3,9 @@ pub mod Viewing
 pub mod Opened
 pub mod Openings
 pub mod ReadVectors
+pub mod RowVectors
+pub mod Desks
+pub mod Operate
+pub mod Ready
 pub mod Runs
 mod RowFive

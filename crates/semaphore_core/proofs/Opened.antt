@@ -5,7 +5,7 @@ use Rattle.std.specs.Option.{option_map}
 use Rattle.std.proofs.lemmas.Bool.{cases_eq, cases_lt, lt-ltb, le-ltb}
 use Rattle.std.proofs.lemmas.List.{length-set, length-map, get_or-set_same, get_or-set_other, get_or_past}
 use Rattle.std.proofs.lemmas.Option.{slice_get_read, slice_get-map, same_Some, none-some}
-use Rattle.std.proofs.lemmas.Nat.{mod_below}
+use Rattle.std.proofs.lemmas.Nat.{mod_below, div_below}
 use Rattle.std.proofs.Math.Nat.{mul-add}
 use Rattle.consistent_cuts.specs.Sites.{Code, step_at, place_at}
 use Rattle.interleavings.specs.Owners.{sum_below}
@@ -16,9 +16,10 @@ use Rattle.semaphore_core.specs.declared.expand.SeqSteps.{SeqSteps}
 use Rattle.semaphore_core.specs.Expanded.{expanded, code_of, next_in}
 use Rattle.semaphore_core.specs.Steps.{steps, steps_by}
 use Rattle.semaphore_core.specs.Job.{JobData, reactions}
-use Rattle.semaphore_core.specs.Core.{Core, count, counted, full, next, done_in}
-use Rattle.semaphore_core.specs.Held.{Held, IsOpened, Fits, FitsWord, made, answer}
+use Rattle.semaphore_core.specs.Core.{Core, count, counted, full, next, reaction, done_in, own, element_of}
+use Rattle.semaphore_core.specs.Held.{Held, IsOpened, AreReady, Fits, FitsWord, NeedsReaction, made, answer, kept_of}
 use Rattle.semaphore_core.specs.declared.answer.StepAnswer.TheVariants.{Finished}
+use Rattle.semaphore_core.proofs.Ready.{absorb_ready, after_ready}
 
 pub sum_le : (f g : ℕ → ℕ) (n : ℕ) → ((i : ℕ) → f i ≤ g i) → sum_below f n ≤ sum_below g n
 sum_le f g zero h = omega arith
@@ -94,6 +95,40 @@ module _ (j : JobData) where
           by true = o.in_prologue s (count h.core s)
           by false = o.in_turn s (place_at (steps j.program s) (count h.core s))
 
+      -- a load or a store is made within the reactions
+      pub needs : NeedsReaction m (reaction j h.core s) (reactions j)
+      needs = by (cases_lt (count h.core s) (length C.prologue))
+        where
+          C : Code MicroStep
+          C = steps j.program s
+
+          never : (m : MicroStep) (k n : ℕ) → NeedsReaction m 0 0 → NeedsReaction m k n
+          never (Take x) k n q = tt
+          never (See x) k n q = tt
+          never (Lower x) k n q = tt
+          never (Signal x) k n q = tt
+          never (Await a i l e) k n q = tt
+          never (Advance a) k n q = tt
+          never (Load x then) k n q = absurd (omega (arith, q))
+          never (Store x what) k n q = absurd (omega (arith, q))
+
+          within : (m : MicroStep) (k n : ℕ) → k < n → NeedsReaction m k n
+          within (Take x) k n q = tt
+          within (See x) k n q = tt
+          within (Lower x) k n q = tt
+          within (Signal x) k n q = tt
+          within (Await a i l e) k n q = tt
+          within (Advance a) k n q = tt
+          within (Load x then) k n q = q
+          within (Store x what) k n q = q
+
+          by : (count h.core s < length C.prologue) ⊎ (length C.prologue ≤ count h.core s) → NeedsReaction m (reaction j h.core s) (reactions j)
+          by (inl f) = never m (reaction j h.core s) (reactions j) (o.bare s (count h.core s) m (let q = stands in rw (lt-ltb (count h.core s) (length C.prologue) f) at q))
+          by (inr f) = within m (reaction j h.core s) (reactions j) (div_below (count h.core s - length C.prologue) (length C.turn) (reactions j) some (let e = pending in omega arith))
+            where
+              some : 0 < length C.turn
+              some = ⊎_elim (λ d. d) (λ d. let z : length C.turn ≡ 0 = omega arith in let y : reactions j * length C.turn ≡ reactions j * 0 = ap (λ (n : ℕ). reactions j * n) z in let e = pending in absurd (omega arith)) (cases_lt 0 (length C.turn))
+
       pub word : FitsWord h.core m
       word = by m
         where
@@ -133,9 +168,11 @@ module _ (j : JobData) where
         made_more = ap (λ (n : ℕ). sum_below (count z) n) same_length ∙ sum_more (count h.core) (count z) (length h.core.counts) s in_counts at_s at_other
 
         kept_by : length z.registers ≡ length h.core.registers → ((x : ℕ) → get_or z.semaphores x 0 ≤ made h.core + 1) → ((x : ℕ) → get_or z.turns x 0 ≤ made h.core + 1)
-            → IsOpened j (record { core = z; steps = h.steps; rooms = h.rooms; lens = h.lens })
-        kept_by r a b = record {
+            → AreReady j (record { cells = z.cells; rows = z.rows; lens = h.lens; desks = h.desks })
+            → IsOpened j (record { core = z; steps = h.steps; rooms = h.rooms; lens = h.lens; desks = h.desks })
+        kept_by r a b ready = record {
           single = o.single;
+          ready = ready;
           steps_are = o.steps_are;
           counts_there = same_length ∙ o.counts_there;
           rooms_there = o.rooms_there;
@@ -145,6 +182,7 @@ module _ (j : JobData) where
           turns_few = λ x. let d = b x in let e = made_more in omega arith;
           total = o.total;
           in_prologue = o.in_prologue;
+          bare = o.bare;
           in_turn = o.in_turn;
         }
           where
@@ -165,18 +203,18 @@ module _ (j : JobData) where
           inside q (inl l) = subst (λ (u : ℕ). get_or (slice_set words u w) x 0 ≤ n) q (let e = get_or-set_same words x w 0 l in omega arith)
           inside q (inr l) = let e = get_or_past (slice_set words y w) x 0 (let g = length-set words y w in omega arith) in omega arith
 
-      pub opened_more : (k : ℕ) → IsOpened j (record { core = done_in j h.core s k m; steps = h.steps; rooms = h.rooms; lens = h.lens })
+      pub opened_more : (k : ℕ) → IsOpened j (record { core = done_in j h.core s k m; steps = h.steps; rooms = h.rooms; lens = h.lens; desks = h.desks })
       opened_more k = by m
         where
-          by : (m : MicroStep) → IsOpened j (record { core = done_in j h.core s k m; steps = h.steps; rooms = h.rooms; lens = h.lens })
-          by (Take x) = kept_by (done_in j h.core s k (Take x)) refl refl (set_le h.core.semaphores x 0 (made h.core + 1) semaphores_kept (omega arith)) turns_kept
-          by (See x) = kept_by (done_in j h.core s k (See x)) refl refl semaphores_kept turns_kept
-          by (Lower x) = kept_by (done_in j h.core s k (Lower x)) refl refl (set_le h.core.semaphores x (get_or h.core.semaphores x 0 - 1) (made h.core + 1) semaphores_kept (let d = o.semaphores_few x in omega arith)) turns_kept
-          by (Signal x) = kept_by (done_in j h.core s k (Signal x)) refl refl (set_le h.core.semaphores x (get_or h.core.semaphores x 0 + 1) (made h.core + 1) semaphores_kept (let d = o.semaphores_few x in omega arith)) turns_kept
-          by (Await n i l e) = kept_by (done_in j h.core s k (Await n i l e)) refl refl semaphores_kept turns_kept
-          by (Advance n) = kept_by (done_in j h.core s k (Advance n)) refl refl semaphores_kept (set_le h.core.turns n (get_or h.core.turns n 0 + 1) (made h.core + 1) turns_kept (let d = o.turns_few n in omega arith))
-          by (Load x then) = kept_by (done_in j h.core s k (Load x then)) refl (length-set h.core.registers s _) semaphores_kept turns_kept
-          by (Store x what) = kept_by (done_in j h.core s k (Store x what)) refl (length-set h.core.registers s _) semaphores_kept turns_kept
+          by : (m : MicroStep) → IsOpened j (record { core = done_in j h.core s k m; steps = h.steps; rooms = h.rooms; lens = h.lens; desks = h.desks })
+          by (Take x) = kept_by (done_in j h.core s k (Take x)) refl refl (set_le h.core.semaphores x 0 (made h.core + 1) semaphores_kept (omega arith)) turns_kept o.ready
+          by (See x) = kept_by (done_in j h.core s k (See x)) refl refl semaphores_kept turns_kept o.ready
+          by (Lower x) = kept_by (done_in j h.core s k (Lower x)) refl refl (set_le h.core.semaphores x (get_or h.core.semaphores x 0 - 1) (made h.core + 1) semaphores_kept (let d = o.semaphores_few x in omega arith)) turns_kept o.ready
+          by (Signal x) = kept_by (done_in j h.core s k (Signal x)) refl refl (set_le h.core.semaphores x (get_or h.core.semaphores x 0 + 1) (made h.core + 1) semaphores_kept (let d = o.semaphores_few x in omega arith)) turns_kept o.ready
+          by (Await n i l e) = kept_by (done_in j h.core s k (Await n i l e)) refl refl semaphores_kept turns_kept o.ready
+          by (Advance n) = kept_by (done_in j h.core s k (Advance n)) refl refl semaphores_kept (set_le h.core.turns n (get_or h.core.turns n 0 + 1) (made h.core + 1) turns_kept (let d = o.turns_few n in omega arith)) o.ready
+          by (Load x then) = kept_by (done_in j h.core s k (Load x then)) refl (length-set h.core.registers s _) semaphores_kept turns_kept (absorb_ready j (kept_of h) then k (own j h.core s) (element_of j h.core x k) o.ready)
+          by (Store x what) = kept_by (done_in j h.core s k (Store x what)) refl (length-set h.core.registers s _) semaphores_kept turns_kept (after_ready j (kept_of h) what k (own j h.core s) o.ready)
 
     -- a sequence that has no next micro-step has made all
     module _ (none : next j h.core s ≡ None) where

@@ -116,7 +116,7 @@ abbrev reading : ℤ → List (List ℤ)
 reading z = (z ∷ []) ∷ []
 
 abbrev job : Program → JobData
-job p = record { program = p; graph = graph; media = 1; sensors = reading (pos 5) ∷ reading (negsuc 0) ∷ reading (pos 0) ∷ []; opening = [] }
+job p = record { program = p; graph = graph; media = 1; sensors = reading (pos 5) ∷ reading (negsuc 0) ∷ reading (pos 0) ∷ []; lens = 1 ∷ []; opening = [] }
 
 -- the greatest enabled sequence below n, and else n
 abbrev greatest : (j : JobData) → Core → ℕ → ℕ

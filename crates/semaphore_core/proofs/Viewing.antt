@@ -35,7 +35,7 @@ abbrev pub core_of : List ℕ → List ℕ → List ℕ → List (List ℤ) → 
 core_of counts semaphores turns elements regs kept = record { counts = counts; semaphores = semaphores; turns = turns; elements = elements; registers = values_of regs; cells = kept.cells; rows = kept.rows }
 
 abbrev pub held_of : List ℕ → List ℕ → List ℕ → List (List ℤ) → List RegisterFile → Kept → List SeqSteps → Held
-held_of counts semaphores turns elements regs kept steps = record { core = core_of counts semaphores turns elements regs kept; steps = steps; rooms = rooms_of regs; lens = kept.lens }
+held_of counts semaphores turns elements regs kept steps = record { core = core_of counts semaphores turns elements regs kept; steps = steps; rooms = rooms_of regs; lens = kept.lens; desks = kept.desks }
 
 module _ (j : JobData) (counts semaphores turns : List ℕ) (elements : List (List ℤ)) (regs : List RegisterFile) (kept : Kept) (steps : List SeqSteps) (s k n : ℕ) (r r' : RegisterFile)
     (few : s < length counts) (there : s < length regs) (n_is : n ≡ get_or counts s n) (r_is : r ≡ get_or regs s r) where
@@ -47,7 +47,7 @@ module _ (j : JobData) (counts semaphores turns : List ℕ) (elements : List (Li
 
   -- the sequence has this of its own now
   left_by : (elements' more : List (List ℤ)) (kept' : Kept) (o o' : Own) → o ≡ o' → r' ≡ with_values r o → kept' ≡ with_kept kept o → elements' ≡ more
-      → held_of (slice_set counts s (n + 1)) semaphores turns elements' (slice_set regs s r') kept' steps ≡ record { core = with_own j z s more o'; steps = steps; rooms = rooms_of regs; lens = kept.lens }
+      → held_of (slice_set counts s (n + 1)) semaphores turns elements' (slice_set regs s r') kept' steps ≡ record { core = with_own j z s more o'; steps = steps; rooms = rooms_of regs; lens = kept.lens; desks = kept.desks }
   left_by elements' more kept' o o' q a b e = λ i. record {
     core = record {
       counts = slice_set counts s (count_is i + 1);
@@ -61,6 +61,7 @@ module _ (j : JobData) (counts semaphores turns : List ℕ) (elements : List (Li
     steps = steps;
     rooms = rooms_are i;
     lens = lens_are i;
+    desks = desks_are i;
   }
     where
       cells_are : kept'.cells ≡ o'.cells
@@ -72,6 +73,9 @@ module _ (j : JobData) (counts semaphores turns : List ℕ) (elements : List (Li
       lens_are : kept'.lens ≡ kept.lens
       lens_are = ap (λ (c : Kept). c.lens) b
 
+      desks_are : kept'.desks ≡ kept.desks
+      desks_are = ap (λ (c : Kept). c.desks) b
+
       count_is : n ≡ get_or counts s 0
       count_is = sym (read_at counts s n 0 few n_is)
 
@@ -82,12 +86,12 @@ module _ (j : JobData) (counts semaphores turns : List ℕ) (elements : List (Li
       rooms_are = map-set_same (λ (f : RegisterFile). f.room) regs s r' r (ap (λ (f : RegisterFile). f.room) a ∙ ap (λ (f : RegisterFile). f.room) r_is)
 
   pub loaded : (x : Place) (then : OnLoad) (v : ℤ) (kept' : Kept) → v ≡ element_of j z x k → r' ≡ with_values r (absorbed j then k r kept v) → kept' ≡ with_kept kept (absorbed j then k r kept v)
-      → held_of (slice_set counts s (n + 1)) semaphores turns elements (slice_set regs s r') kept' steps ≡ record { core = load_by j z s x then k; steps = steps; rooms = rooms_of regs; lens = kept.lens }
+      → held_of (slice_set counts s (n + 1)) semaphores turns elements (slice_set regs s r') kept' steps ≡ record { core = load_by j z s x then k; steps = steps; rooms = rooms_of regs; lens = kept.lens; desks = kept.desks }
   loaded x then v kept' e a b = left_by elements elements kept' _ _ (λ i. absorb_by j.graph j.sensors then k (sym own_is i) (e i)) a b refl
 
   pub stored : (x : Place) (what : OnStore) (v : ℤ) (home slot : ℕ) (elements' : List (List ℤ)) (kept' : Kept) → v ≡ emitted j what k r kept → home ≡ home_of j.program x → slot ≡ slot_of j.program x k
       → elements' ≡ with_element_in elements home slot v → r' ≡ with_values r (left j what k r kept) → kept' ≡ with_kept kept (left j what k r kept)
-      → held_of (slice_set counts s (n + 1)) semaphores turns elements' (slice_set regs s r') kept' steps ≡ record { core = store_by j z s x what k; steps = steps; rooms = rooms_of regs; lens = kept.lens }
+      → held_of (slice_set counts s (n + 1)) semaphores turns elements' (slice_set regs s r') kept' steps ≡ record { core = store_by j z s x what k; steps = steps; rooms = rooms_of regs; lens = kept.lens; desks = kept.desks }
   stored x what v home slot elements' kept' e h t f a b = left_by elements' (with_element j z x k (emit_by j.graph j.sensors what k (own j z s))) kept' _ _ (λ i. after_by j.graph j.sensors what k (sym own_is i)) a b
       (f ∙ (λ i. with_element_in elements (h i) (t i) ((e ∙ ap (emit_by j.graph j.sensors what k) (sym own_is)) i)))
 

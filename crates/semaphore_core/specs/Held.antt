@@ -1,5 +1,5 @@
 -- What a state holds beside the state of a run: the micro-steps of its program, laid out, and the room of its registers.
-use Rattle.std.specs.Prelude.{◌≡◌, ℕ, ◌+◌, ◌<◌, ◌≤◌, ◌^◌, cond, max, nat_lt, sum, List, [], ◌∷◌, length, Option, Some, None, slice_get, slice_index_or, ℤ}
+use Rattle.std.specs.Prelude.{◌≡◌, ℕ, ◌+◌, ◌<◌, ◌≤◌, ◌^◌, cond, true, max, nat_lt, sum, List, [], ◌∷◌, length, Option, Some, None, slice_get, slice_index_or, ℤ}
 use Rattle.interleavings.specs.Owners.{sum_below}
 use Rattle.semaphore_core.specs.declared.steps.OnLoad.{OnLoad}
 use Rattle.semaphore_core.specs.declared.steps.OnLoad.TheVariants.{Gather, Carry as CarryIn, Compute as ComputeIn}
@@ -9,9 +9,14 @@ use Rattle.semaphore_core.specs.declared.steps.MicroStep.{MicroStep}
 use Rattle.semaphore_core.specs.declared.steps.MicroStep.TheVariants.{Signal, Advance, Load, Store}
 use Rattle.semaphore_core.specs.declared.expand.SeqSteps.{SeqSteps}
 use Rattle.semaphore_core.specs.Expanded.{AreSteps}
-use Rattle.level_meaning.specs.Level.{Values}
-use Rattle.flat_graph.specs.Graph.{Graph}
-use Rattle.flat_graph.specs.Fire.{out_lens}
+use Rattle.level_meaning.specs.Level.{Values, vector_at}
+use Rattle.flat_graph.specs.declared.vertex.Vertex.{Vertex}
+use Rattle.flat_graph.specs.declared.vertex.Kind.TheVariants.{Actuator, Sensor}
+use Rattle.flat_graph.specs.Valid.{is_flat}
+use Rattle.semaphore_core.specs.Operation.{delay_of}
+use Rattle.flat_graph.specs.Graph.{Graph, lens_of}
+use Rattle.flat_graph.specs.Fire.{out_lens, cell_len, seen_len}
+use Rattle.semaphore_core.specs.Desk.{DeskLens, IsDesk}
 use Rattle.semaphore_core.specs.RegisterFile.{RegisterFile}
 use Rattle.semaphore_core.specs.Registers.{Own, compute, absorb_by, emit_by, after_by}
 use Rattle.semaphore_core.specs.Steps.{IsSingle, steps}
@@ -20,11 +25,12 @@ use Rattle.semaphore_core.specs.Core.{Core, count, full, is_enabled}
 use Rattle.semaphore_core.specs.declared.answer.StepAnswer.{StepAnswer}
 use Rattle.semaphore_core.specs.declared.answer.StepAnswer.TheVariants.{Stepped, NotYet, Finished}
 
--- the delays' cells, and the actuators' rows with the lengths of their vectors
+-- the delays' cells, the actuators' rows with the lengths of their vectors, and the operations' desks
 pub record Kept : Type 0 where
   pub cells : Values
   pub rows : List Values
   pub lens : List ℕ
+  pub desks : List DeskLens
 
 abbrev pub own_of : RegisterFile → Kept → Own
 own_of r k = record { registers = r.values; cells = k.cells; rows = k.rows }
@@ -48,13 +54,28 @@ emitted j what k r kept = emit_by j.graph j.sensors what k (own_of r kept)
 abbrev pub left : JobData → OnStore → ℕ → RegisterFile → Kept → Own
 left j what k r kept = after_by j.graph j.sensors what k (own_of r kept)
 
+-- Operations can be computed: each has its desk, and what it keeps, senses and takes has the lengths of its kind.
+pub record AreReady (j : JobData) (k : Kept) : Type 0 where
+  pub valid : is_flat j.graph ≡ true
+  pub desks_there : length k.desks ≡ length j.graph.vertices
+  pub desk : (v : ℕ) (x : Vertex) (d : DeskLens) → slice_get j.graph.vertices v ≡ Some x → slice_get k.desks v ≡ Some d → IsDesk j.graph v x d
+  pub cells_fit : (v : ℕ) (x : Vertex) (c : ℕ) → slice_get j.graph.vertices v ≡ Some x → delay_of j.graph v x ≡ Some c → (c < length k.cells) × (length (vector_at k.cells c) ≡ cell_len j.graph v)
+  pub no_cell : (v : ℕ) (x : Vertex) → slice_get j.graph.vertices v ≡ Some x → delay_of j.graph v x ≡ None → cell_len j.graph v ≡ 0
+  pub rows_there : length k.rows ≡ reactions j
+  pub row_fits : (v : ℕ) (x : Vertex) (a : ℕ) → slice_get j.graph.vertices v ≡ Some x → x.kind ≡ Actuator a → (a < length k.lens) × (slice_index_or k.lens a 0 ≡ slice_index_or (lens_of j.graph.vertices x.ins) 0 0)
+  pub sensor_fits : (v : ℕ) (x : Vertex) (i : ℕ) → slice_get j.graph.vertices v ≡ Some x → x.kind ≡ Sensor i → (i < length j.lens) × (slice_index_or j.lens i 0 ≡ seen_len j.graph v)
+
 pub record Held : Type 0 where
   pub core : Core
   pub steps : List SeqSteps
   -- how many registers each sequence has room for
   pub rooms : List ℕ
-  -- the lengths of the actuators' vectors
+  -- the lengths of the actuators' vectors, and the operations' desks
   pub lens : List ℕ
+  pub desks : List DeskLens
+
+abbrev pub kept_of : Held → Kept
+kept_of h = record { cells = h.core.cells; rows = h.core.rows; lens = h.lens; desks = h.desks }
 
 -- The highest number of a register that a micro-step uses; a computation may fill as many as the operation has output elements.
 module _ (g : Graph) where
@@ -94,10 +115,17 @@ FitsWord z (Signal x) = slice_index_or z.semaphores x 0 + 1 < 2 ^ 64
 FitsWord z (Advance m) = slice_index_or z.turns m 0 + 1 < 2 ^ 64
 FitsWord z _ = Unit {0}
 
+-- loads and stores are made within the reactions
+abbrev pub NeedsReaction : MicroStep → ℕ → ℕ → Type 0
+NeedsReaction (Load x then) k n = k < n
+NeedsReaction (Store x what) k n = k < n
+NeedsReaction _ k n = Unit {0}
+
 module _ (j : JobData) where
   -- The state was opened for this job, and steps were made since.
   pub record IsOpened (h : Held) : Type 0 where
     pub single : IsSingle j.program
+    pub ready : AreReady j (kept_of h)
     pub steps_are : AreSteps j.program h.steps
     pub counts_there : length h.core.counts ≡ length j.program.seqs
     pub rooms_there : length h.rooms ≡ length j.program.seqs
@@ -108,6 +136,8 @@ module _ (j : JobData) where
     pub turns_few : (m : ℕ) → slice_index_or h.core.turns m 0 ≤ made h.core
     pub total : total_steps j.program (reactions j) ≤ 20000000
     pub in_prologue : (s l : ℕ) → Fits j.graph (slice_index_or h.rooms s 0) (slice_get (steps j.program s).prologue l)
+    -- a prologue neither loads nor stores
+    pub bare : (s l : ℕ) (m : MicroStep) → slice_get (steps j.program s).prologue l ≡ Some m → NeedsReaction m 0 0
     pub in_turn : (s l : ℕ) → Fits j.graph (slice_index_or h.rooms s 0) (slice_get (steps j.program s).turn l)
 
   -- what a step of sequence s answers

@@ -23,8 +23,9 @@ pub record JobData : Type 0 where
   pub graph : Graph
   -- the number of media
   pub media : ℕ
-  -- by reaction and sensor
+  -- by reaction and sensor, and the lengths of a reaction's vectors
   pub sensors : List Values
+  pub lens : List ℕ
   -- by delay
   pub opening : Values
 
@@ -88,5 +89,5 @@ total_steps p n = all_prologues p + n * all_turns p
 
 -- a job is stored as the tuple of its parts
 abbrev pub job_code : Coded Program → Coded Graph → Coded JobData
-job_code program graph = code_by (Program × (Graph × (ℕ × (List Values × Values)))) (coded× program (coded× graph (coded× coded_ℕ (coded× (coded_list (coded_list (coded_list coded_ℤ))) (coded_list (coded_list coded_ℤ))))))
-    (λ j. (j.program, (j.graph, (j.media, (j.sensors, j.opening))))) (λ p. record { program = p.0; graph = p.1.0; media = p.1.1.0; sensors = p.1.1.1.0; opening = p.1.1.1.1 }) (λ _. refl)
+job_code program graph = code_by (Program × (Graph × (ℕ × (List Values × (List ℕ × Values))))) (coded× program (coded× graph (coded× coded_ℕ (coded× (coded_list (coded_list (coded_list coded_ℤ))) (coded× (coded_list coded_ℕ) (coded_list (coded_list coded_ℤ)))))))
+    (λ j. (j.program, (j.graph, (j.media, (j.sensors, (j.lens, j.opening)))))) (λ p. record { program = p.0; graph = p.1.0; media = p.1.1.0; sensors = p.1.1.1.0; lens = p.1.1.1.1.0; opening = p.1.1.1.1.1 }) (λ _. refl)

@@ -7,6 +7,8 @@ pub mod Elements
 pub mod Places
 pub mod WellFormed
 pub mod Operation
+pub mod Desk
+pub mod Rows
 pub mod RegisterFile
 pub mod Registers
 pub mod Job

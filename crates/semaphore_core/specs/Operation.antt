@@ -1,5 +1,5 @@
 -- One operation of the flat graph, as the core makes it: from what was loaded to what is stored, kept and taken.
-use Rattle.std.specs.Prelude.{◌≡◌, ℕ, ◌+◌, List, [], ◌∷◌, ◌++◌, map, take, drop, replicate, length, Option, Some, None, slice_index_or, slice_set, ℤ}
+use Rattle.std.specs.Prelude.{◌≡◌, ℕ, ◌+◌, ◌<◌, List, [], ◌∷◌, ◌++◌, map, take, drop, replicate, length, Option, Some, None, slice_index_or, slice_set, ℤ}
 use Rattle.std.specs.List.{range_with_len}
 use Rattle.level_meaning.specs.Level.{Vector, Values, element_at, vector_at}
 use Rattle.flat_graph.specs.declared.vertex.Vertex.{Vertex}
@@ -35,9 +35,19 @@ abbrev pub cell_at : Values → Option ℕ → Vector
 cell_at cells None = []
 cell_at cells (Some d) = vector_at cells d
 
+-- the cell is there and has this length; without a delay the length is 0
+abbrev pub HasCell : Values → Option ℕ → ℕ → Type 0
+HasCell cells None n = n ≡ 0
+HasCell cells (Some d) n = (d < length cells) × (length (vector_at cells d) ≡ n)
+
 abbrev pub with_cell : Values → Option ℕ → Vector → Values
 with_cell cells None z = cells
 with_cell cells (Some d) z = slice_set cells d z
+
+-- the rows afterwards: an actuator takes its input as its vector of reaction k
+abbrev pub rows_by : Kind → ℕ → Vector → List Values → List Values
+rows_by (Actuator i) k z rows = slice_set rows k (slice_set (slice_index_or rows k []) i z)
+rows_by _ k z rows = rows
 
 module _ (g : Graph) where
   -- the lengths of what operation x reads; a guard's source has one element
@@ -54,11 +64,6 @@ module _ (g : Graph) where
   -- the cells afterwards: a set half that is active stores its input
   abbrev pub cells_left : ℕ → Vertex → Values → Values → Values
   cells_left v x vs cells = with_cell cells (delay_of v x) (kept x (cell_at cells (delay_of v x)) (conditions_in x vs) (inputs_in x vs))
-
-  -- the rows afterwards: an actuator takes its input as its vector of reaction k
-  abbrev pub rows_by : Kind → ℕ → Vector → List Values → List Values
-  rows_by (Actuator i) k z rows = slice_set rows k (slice_set (slice_index_or rows k []) i z)
-  rows_by _ k z rows = rows
 
   abbrev pub rows_left : Vertex → ℕ → Values → List Values → List Values
   rows_left x k vs rows = rows_by x.kind k (vector_at (inputs_in x vs) 0) rows

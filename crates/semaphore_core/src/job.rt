@@ -1,7 +1,7 @@
 //! A job: a well-formed program with the sensors' rows and the delays' opening values.
 use crate::program::Program;
 use archi_graph::Archi;
-use flat_graph::Flat;
+use flat_graph::{Flat, Kind, Vertex};
 use std::marker::Model;
 use syn_base::{Items, SensorRows};
 
@@ -26,11 +26,13 @@ impl<'a> Model for Job<'a> {
 
     ghost coded = { job_code (Prim.hlevel codes) (graph_code (Prim.hlevel codes) (expr_code (Prim.hlevel codes))) };
 
-    ghost view = { λ s. record { program = s.program.now; graph = s.flat.now; media = length s.archi.now.media; sensors = s.rows.now.reactions; opening = s.opening } };
+    ghost view = { λ s. record { program = s.program.now; graph = s.flat.now; media = length s.archi.now.media; sensors = s.rows.now.reactions; lens = s.rows.now.lens; opening = s.opening } };
 }
 
 impl<'a> Job<'a> {
-    ghost use Rattle.std.specs.Prelude.{◌≡◌, length};
+    ghost use Rattle.std.specs.Prelude.{◌≡◌, ℕ, ◌<◌, length, slice_index_or, []};
+    ghost use Rattle.flat_graph.specs.declared.vertex.Kind.TheVariants.{Sensor};
+    ghost use Rattle.flat_graph.specs.Meaning.{sensed};
 
     /// The program.
     pub fn program(&self) -> &Program
@@ -51,5 +53,18 @@ impl<'a> Job<'a> {
         ensures { result ≡ length self.now.sensors }
     {
         self.rows.count()
+    }
+
+    /// What an operation senses in a reaction.
+    pub fn sensed(&self, x: &Vertex, reaction: usize) -> &[i64]
+        requires sensor { (i : ℕ) → x.now.kind ≡ Sensor i → i < length self.now.lens }
+        requires reaction { reaction < length self.now.sensors }
+        ensures value { result.now ≡ sensed x.now.kind (slice_index_or self.now.sensors reaction []) }
+        ensures len { (i : ℕ) → x.now.kind ≡ Sensor i → length result.now ≡ slice_index_or self.now.lens i 0 }
+    {
+        match &x.kind {
+            Kind::Sensor(i) => self.rows.vector(reaction, *i as usize),
+            _ => &[],
+        }
     }
 }

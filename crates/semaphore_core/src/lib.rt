@@ -3,12 +3,15 @@
 #![tactic(auto)]
 
 mod answer;
+mod desk;
 mod expand;
 mod job;
 mod opening;
+mod operations;
 mod program;
 mod reading;
 mod registers;
+mod state;
 mod steps;
 mod words;
 
@@ -17,4 +20,5 @@ pub use expand::{SeqSteps, micro_steps_of};
 pub use job::Job;
 pub use program::{Buffer, Instr, Program, SeqCode};
 pub use registers::Registers;
+pub use state::{State, run_list, try_step};
 pub use steps::{MicroStep, OnLoad, OnStore, Place};

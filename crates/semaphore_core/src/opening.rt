@@ -1,7 +1,10 @@
 //! What a state holds when it is opened: zeros, the opening cells, and room for registers.
-ghost use Rattle.std.specs.Prelude.{◌≡◌, ◌+◌, ◌*◌, ◌<◌, ◌≤◌, ◌++◌, ◌∷◌, [], length, map, max, replicate, pos, take, IfOk, slice_index_or};
+ghost use Rattle.std.specs.Prelude.{◌≡◌, ◌+◌, ◌*◌, ◌<◌, ◌≤◌, ◌++◌, ◌∷◌, [], length, map, max, replicate, pos, take, IfOk, OnOk, slice_index_or};
 ghost use Rattle.std.specs.List.{range_with_len};
 ghost use Rattle.level_meaning.specs.Level.{zeros};
+ghost use Rattle.flat_graph.specs.Graph.{len_of as source_len, lens_of};
+ghost use Rattle.flat_graph.specs.Meaning.{initial_cell, initial_cells};
+ghost use Rattle.semaphore_core.specs.Job.{actuator_len, actuator_lens};
 ghost use Rattle.semaphore_core.specs.Instructions.{len_of, depth_of};
 ghost use Rattle.semaphore_core.specs.MicroSteps.{sent_len, longest_sent, longest_in, longest_on, wire_len};
 ghost use Rattle.semaphore_core.specs.Steps.{IsSingle};
@@ -9,6 +12,7 @@ ghost use Rattle.semaphore_core.specs.Core.{buffer_zeros, wire_zeros};
 
 use crate::expand::buffer_len;
 use crate::program::{Instr, Program, SeqCode};
+use flat_graph::{Flat, Kind, Source, Vertex};
 use std::alloc::Global;
 use syn_base::{Items, OutOfMemory};
 
@@ -98,4 +102,73 @@ pub fn copy_of(alloc: Global, lists: &[Items<i64>]) -> Result<Vec<Items<i64>>, O
         all.push(Items::new(Vec::from_slice(alloc, list.as_slice())?))?;
     }
     Ok(all)
+}
+
+/// The initial value of a delay, where the operation is its get half.
+fn push_initial(alloc: Global, kind: &Kind, all: &mut Vec<Items<i64>>) -> Result<(), OutOfMemory>
+    ensures { OnOk result (all.new.items ≡ all.old.items ++ initial_cell kind.now) }
+{
+    match kind {
+        Kind::Get(z) => all.push(Items::new(Vec::from_slice(alloc, z.as_slice())?))?,
+        _ => {}
+    }
+    Ok(())
+}
+
+/// The initial values of the delays.
+pub fn opening_of(alloc: Global, flat: &Flat) -> Result<Items<Items<i64>>, OutOfMemory>
+    ensures { IfOk result (λ s. s ≡ initial_cells flat.now.vertices) }
+{
+    let mut all = Vec::new(alloc);
+    for x in flat.vertices() {
+        push_initial(alloc, &x.kind, &mut all)?;
+    }
+    Ok(Items::new(all))
+}
+
+/// The length of a source, 0 where there is none.
+fn source_len(vertices: &[Vertex], source: Source) -> u32
+    ensures { result ≡ source_len vertices.now source }
+{
+    match vertices.get(source.vertex as usize) {
+        Some(vertex) => len_at(vertex.outs.as_slice(), source.port as usize),
+        None => 0,
+    }
+}
+
+fn len_at(lens: &[u32], port: usize) -> u32
+    ensures { result ≡ slice_index_or lens.now port 0 }
+{
+    if port < lens.len() { lens[port] } else { 0 }
+}
+
+/// The lengths of some sources.
+fn push_lens(flat: &Flat, sources: &[Source], lens: &mut Vec<u32>) -> Result<(), OutOfMemory>
+    ensures { OnOk result (lens.new.items ≡ lens.old.items ++ lens_of flat.now.vertices sources.now) }
+{
+    for source in sources {
+        lens.push(source_len(flat.vertices(), *source))?;
+    }
+    Ok(())
+}
+
+/// The length of the vector that an operation takes, where it is an actuator.
+fn push_actuator(flat: &Flat, x: &Vertex, lens: &mut Vec<u32>) -> Result<(), OutOfMemory>
+    ensures { OnOk result (lens.new.items ≡ lens.old.items ++ actuator_len flat.now x.now x.now.kind) }
+{
+    match &x.kind {
+        Kind::Actuator(_) => push_lens(flat, x.ins.as_slice(), lens),
+        _ => Ok(()),
+    }
+}
+
+/// The lengths of the vectors that the actuators take, in order.
+pub fn actuator_lens(alloc: Global, flat: &Flat) -> Result<Items<u32>, OutOfMemory>
+    ensures { IfOk result (λ s. s ≡ actuator_lens flat.now flat.now.vertices) }
+{
+    let mut lens = Vec::new(alloc);
+    for x in flat.vertices() {
+        push_actuator(flat, x, &mut lens)?;
+    }
+    Ok(Items::new(lens))
 }

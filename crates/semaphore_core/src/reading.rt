@@ -20,7 +20,7 @@ fn read_vector(ins: &mut Ins, port: usize, registers: &Registers, at: u128)
 
 /// Puts registers, from this one on, in the vectors of so many ports, and gives the number of the
 /// register behind them.
-fn read_ports(ins: &mut Ins, first: u32, count: u32, registers: &Registers, at: u128) -> u128
+pub fn read_ports(ins: &mut Ins, first: u32, count: u32, registers: &Registers, at: u128) -> u128
     requires ports { first + count ≤ length ins.old }
     requires fits { at ≤ 2 ^ 100 }
     ensures ins { ReadsPorts registers.now.values at first count ins.old ins.new }

@@ -1,0 +1,41 @@
+-- The desk of an operation: what it reads and what it gives.
+use Rattle.std.specs.Prelude.{◌≡◌, ℕ, ◌++◌, List, map, take, drop, length, Option, ℤ}
+use Rattle.level_meaning.specs.Level.{Values}
+use Rattle.flat_graph.specs.declared.vertex.Vertex.{Vertex}
+use Rattle.flat_graph.specs.Graph.{Graph}
+use Rattle.flat_graph.specs.Fire.{read_lens, out_lens}
+use Rattle.semaphore_core.specs.Operation.{vectors_from, delay_of}
+
+pub record DeskData : Type 0 where
+  -- the inputs' vectors, and then those of the guards' sources
+  pub read : Values
+  pub outs : Values
+  pub guards : ℕ
+  pub inputs : ℕ
+  pub delay : Option ℕ
+
+-- the lengths in the order in which they are loaded: the guards' sources first
+abbrev pub load_lens : DeskData → List ℕ
+load_lens d = drop d.inputs (map length d.read) ++ take d.inputs (map length d.read)
+
+abbrev pub loaded_in : DeskData → List ℤ → Values
+loaded_in d row = vectors_from row 0 (load_lens d)
+
+-- what of a desk stays the same
+pub record DeskLens : Type 0 where
+  pub reads : List ℕ
+  pub gives : List ℕ
+  pub guards : ℕ
+  pub inputs : ℕ
+  pub delay : Option ℕ
+
+abbrev pub lens_of_desk : DeskData → DeskLens
+lens_of_desk d = record { reads = map length d.read; gives = map length d.outs; guards = d.guards; inputs = d.inputs; delay = d.delay }
+
+-- it is the desk of operation v, which is x
+pub record IsDesk (g : Graph) (v : ℕ) (x : Vertex) (d : DeskLens) : Type 0 where
+  pub reads : d.reads ≡ read_lens g v
+  pub gives : d.gives ≡ out_lens g v
+  pub guards : d.guards ≡ length x.guards
+  pub inputs : d.inputs ≡ length x.ins
+  pub delay : d.delay ≡ delay_of g v x

@@ -1,0 +1,213 @@
+//! What operations keep and take: the delays' cells and the actuators' rows.
+ghost use Rattle.std.specs.Prelude.{◌≡◌, ℕ, true, ◌+◌, ◌<◌, ◌≤◌, ◌++◌, length, map, take, drop, slice_get, slice_index_or, slice_set, Some, None, [], IfSome};
+ghost use Rattle.level_meaning.specs.Level.{vector_at};
+ghost use Rattle.flat_graph.specs.declared.vertex.Kind.TheVariants.{Actuator, Sensor};
+ghost use Rattle.flat_graph.specs.Graph.{lens_of};
+ghost use Rattle.flat_graph.specs.Valid.{is_flat};
+ghost use Rattle.flat_graph.specs.Fire.{fired_at, kept_at, cell_len, seen_len, out_lens, read_lens};
+ghost use Rattle.semaphore_core.specs.Operation.{cell_at, with_cell, rows_by, HasCell, delay_of};
+ghost use Rattle.semaphore_core.specs.Desk.{IsDesk, lens_of_desk};
+ghost use Rattle.semaphore_core.specs.Registers.{compute_by};
+ghost use Rattle.semaphore_core.specs.Rows.{with_vector, TakesRow};
+ghost use Rattle.semaphore_core.specs.Held.{AreReady, outputs_len, computed, top_load, top_store, absorbed, emitted, left, with_values, with_kept};
+
+use crate::desk::Desk;
+use crate::job::Job;
+use crate::registers::Registers;
+use crate::steps::{OnLoad, OnStore};
+use flat_graph::{Flat, Kind, Vertex};
+use std::marker::Model;
+use syn_base::ActRows;
+
+/// Computes an operation on its desk, with the cell of its delay, if it is a half of one.
+fn fire_on(desk: &mut Desk, flat: &Flat, vertex: u32, cells: &mut Vec<Vec<i64>>, seen: &[i64])
+    requires there { vertex < length flat.now.vertices }
+    requires reads { map length desk.old.read ≡ read_lens flat.now vertex }
+    requires gives { map length desk.old.outs ≡ out_lens flat.now vertex }
+    requires cell { HasCell (map (λ c. c.items) cells.old.items) desk.old.delay (cell_len flat.now vertex) }
+    requires seen { length seen.now ≡ seen_len flat.now vertex }
+    ensures outs { desk.new ≡ record desk.old { outs = fired_at flat.now vertex (cell_at (map (λ c. c.items) cells.old.items) desk.old.delay) seen.now desk.old.read } }
+    ensures cells { map (λ c. c.items) cells.new.items ≡ with_cell (map (λ c. c.items) cells.old.items) desk.old.delay (kept_at flat.now vertex (cell_at (map (λ c. c.items) cells.old.items) desk.old.delay) desk.old.read) }
+{
+    match desk.delay() {
+        None => desk.fire(flat, vertex, &mut [], seen),
+        Some(delay) => {
+            let cell = &mut cells[delay as usize];
+            desk.fire(flat, vertex, cell.as_mut_slice(), seen);
+        }
+    }
+}
+
+/// Puts a vector in the place of that of an actuator in a reaction.
+fn put_row(rows: &mut ActRows, reaction: usize, actuator: usize, vector: &[i64])
+    requires reaction { reaction < length rows.old.reactions }
+    requires actuator { actuator < length rows.old.lens }
+    requires len { length vector.now ≡ slice_index_or rows.old.lens actuator 0 }
+    ensures { rows.new ≡ record rows.old { reactions = with_vector rows.old.reactions reaction actuator vector.now } }
+{
+    let _len = rows.vector(reaction, actuator).len();
+    for j in 0..vector.len() {
+        rows.set(reaction, actuator, j, vector[j]);
+    }
+}
+
+/// An actuator takes its input.
+fn take_row(rows: &mut ActRows, vertex: &Vertex, reaction: usize, desk: &Desk)
+    requires reaction { reaction < length rows.old.reactions }
+    requires actuator { TakesRow vertex.now rows.old.lens desk.now.read }
+    ensures { rows.new ≡ record rows.old { reactions = rows_by vertex.now.kind reaction (vector_at desk.now.read 0) rows.old.reactions } }
+{
+    match &vertex.kind {
+        Kind::Actuator(actuator) => put_row(rows, reaction, *actuator as usize, desk.input(0)),
+        _ => {}
+    }
+}
+
+/// Makes an operation on its desk: it reads the registers, and leaves its outputs in them.
+fn operate(
+    job: &Job,
+    vertex: u32,
+    x: &Vertex,
+    reaction: usize,
+    desk: &mut Desk,
+    cells: &mut Vec<Vec<i64>>,
+    rows: &mut ActRows,
+    registers: &mut Registers,
+)
+    requires valid { is_flat job.now.graph ≡ true }
+    requires there { slice_get job.now.graph.vertices vertex ≡ Some x.now }
+    requires desk { IsDesk job.now.graph vertex x.now (lens_of_desk desk.old) }
+    requires cell { HasCell (map (λ c. c.items) cells.old.items) (delay_of job.now.graph vertex x.now) (cell_len job.now.graph vertex) }
+    requires sensor { (i : ℕ) → x.now.kind ≡ Sensor i → (i < length job.now.lens) × (slice_index_or job.now.lens i 0 ≡ seen_len job.now.graph vertex) }
+    requires actuator { (a : ℕ) → x.now.kind ≡ Actuator a → (a < length rows.old.lens) × (slice_index_or rows.old.lens a 0 ≡ slice_index_or (lens_of job.now.graph.vertices x.now.ins) 0 0) }
+    requires reaction { (reaction < length job.now.sensors) × (reaction < length rows.old.reactions) }
+    requires room { outputs_len job.now.graph vertex < registers.old.room }
+    ensures registers { registers.new ≡ record registers.old { values = (compute_by job.now.graph job.now.sensors vertex reaction registers.old.values (record { registers = registers.old.values; cells = map (λ c. c.items) cells.old.items; rows = rows.old.reactions }) (Some x.now)).registers } }
+    ensures cells { map (λ c. c.items) cells.new.items ≡ (compute_by job.now.graph job.now.sensors vertex reaction registers.old.values (record { registers = registers.old.values; cells = map (λ c. c.items) cells.old.items; rows = rows.old.reactions }) (Some x.now)).cells }
+    ensures rows { rows.new ≡ record rows.old { reactions = (compute_by job.now.graph job.now.sensors vertex reaction registers.old.values (record { registers = registers.old.values; cells = map (λ c. c.items) cells.old.items; rows = rows.old.reactions }) (Some x.now)).rows } }
+    ensures desk { lens_of_desk desk.new ≡ lens_of_desk desk.old }
+{
+    desk.read(registers);
+    fire_on(desk, job.flat(), vertex, cells, job.sensed(x, reaction));
+    desk.give(registers);
+    take_row(rows, x, reaction, desk);
+}
+
+/// The cells of the delays, the rows of the actuators, and a desk for each operation.
+#[derive(Drop)]
+pub struct Operations {
+    cells: Vec<Vec<i64>>,
+    rows: ActRows,
+    desks: Vec<Desk>,
+}
+
+impl Model for Operations {
+    ghost use Rattle.std.specs.Prelude.{map};
+    ghost use Rattle.semaphore_core.specs.Held.{Kept};
+    ghost use Rattle.semaphore_core.specs.Desk.{lens_of_desk};
+
+    ghost Value = { Kept };
+
+    ghost view = { λ s. record { cells = map (λ c. c.items) s.cells.items; rows = s.rows.reactions; lens = s.rows.lens; desks = map lens_of_desk s.desks.items } };
+}
+
+impl Operations {
+    /// The rows of the actuators.
+    pub fn rows(&self) -> &ActRows
+        ensures { result.now ≡ record { lens = self.now.lens; reactions = self.now.rows } }
+    {
+        &self.rows
+    }
+
+    /// What a load does with an element.
+    pub fn absorb(
+        &mut self,
+        job: &Job,
+        reaction: u64,
+        then: OnLoad,
+        value: i64,
+        registers: &mut Registers,
+    )
+        requires ready { AreReady job.now self.old }
+        requires reaction { reaction < length job.now.sensors }
+        requires room { top_load job.now.graph then < registers.old.room }
+        ensures registers { registers.new ≡ with_values registers.old (absorbed job.now then reaction registers.old self.old value) }
+        ensures kept { self.new ≡ with_kept self.old (absorbed job.now then reaction registers.old self.old value) }
+    {
+        match then {
+            OnLoad::Carry => registers.put(0, value),
+            OnLoad::Gather(register) => registers.put(register as usize, value),
+            OnLoad::Compute {
+                vertex,
+                register,
+                more,
+            } => {
+                registers.put(register as usize, value);
+                self.compute(job, vertex, reaction, registers);
+                registers.keep(more);
+            }
+        }
+    }
+
+    /// What a store writes.
+    pub fn emit(
+        &mut self,
+        job: &Job,
+        reaction: u64,
+        what: OnStore,
+        registers: &mut Registers,
+    ) -> i64
+        requires ready { AreReady job.now self.old }
+        requires reaction { reaction < length job.now.sensors }
+        requires room { top_store job.now.graph what < registers.old.room }
+        ensures value { result ≡ emitted job.now what reaction registers.old self.old }
+        ensures registers { registers.new ≡ with_values registers.old (left job.now what reaction registers.old self.old) }
+        ensures kept { self.new ≡ with_kept self.old (left job.now what reaction registers.old self.old) }
+    {
+        match what {
+            OnStore::Carry => {
+                let value = registers.get(0);
+                registers.clear();
+                value
+            }
+            OnStore::Give { register, more } => {
+                let value = registers.get(register as usize);
+                registers.keep(more);
+                value
+            }
+            OnStore::Compute { vertex, more } => {
+                registers.clear();
+                self.compute(job, vertex, reaction, registers);
+                let value = registers.get(0);
+                registers.keep(more);
+                value
+            }
+        }
+    }
+
+    /// Computes an operation on what the registers hold, which then hold its outputs.
+    fn compute(&mut self, job: &Job, vertex: u32, reaction: u64, registers: &mut Registers)
+        requires ready { AreReady job.now self.old }
+        requires reaction { reaction < length job.now.sensors }
+        requires room { outputs_len job.now.graph vertex < registers.old.room }
+        ensures registers { registers.new ≡ with_values registers.old (computed job.now vertex reaction registers.old self.old) }
+        ensures kept { self.new ≡ with_kept self.old (computed job.now vertex reaction registers.old self.old) }
+    {
+        let vertices = job.flat().vertices();
+        if (vertex as usize) < vertices.len() {
+            let x = &vertices[vertex as usize];
+            operate(
+                job,
+                vertex,
+                x,
+                reaction as usize,
+                &mut self.desks[vertex as usize],
+                &mut self.cells,
+                &mut self.rows,
+                registers,
+            );
+        } else {
+            registers.clear();
+        }
+    }
+}

@@ -1,0 +1,274 @@
+//! The state of a run, and one micro-step of it.
+ghost use Rattle.std.specs.Prelude.{◌≡◌, ℕ, ◌+◌, ◌*◌, ◌^◌, ◌<◌, ◌≤◌, length, slice_index_or, slice_set, slice_get, Some, IsTrue, cond, pos, map};
+ghost use Rattle.semaphore_core.specs.Core.{count, counted, done_in, next, reaction, step, run_from, enabled_in, load_by, store_by, with_element, home_of, slot_of};
+ghost use Rattle.semaphore_core.specs.Held.{AreReady, IsOpened, FitsWord, NeedsReaction, answer, kept_of, top, top_load, top_store};
+ghost use Rattle.semaphore_core.specs.Steps.{IsSingle};
+
+use crate::answer::StepAnswer;
+use crate::expand::SeqSteps;
+use crate::job::Job;
+use crate::operations::Operations;
+use crate::program::Program;
+use crate::registers::Registers;
+use crate::steps::{MicroStep, OnLoad, OnStore, Place};
+use crate::words;
+use std::marker::Model;
+use syn_base::{ActRows, Items};
+
+/// The state of a run of a job.
+#[derive(Drop)]
+pub struct State {
+    steps: Vec<SeqSteps>,
+    counts: Vec<u64>,
+    semaphores: Vec<u64>,
+    turns: Vec<u64>,
+    elements: Vec<Items<i64>>,
+    registers: Vec<Registers>,
+    operations: Operations,
+}
+
+impl Model for State {
+    ghost use Rattle.std.specs.Prelude.{map};
+    ghost use Rattle.semaphore_core.specs.Held.{Held};
+
+    ghost Value = { Held };
+
+    ghost view = { λ s. record {
+      core = record {
+        counts = s.counts.items;
+        semaphores = s.semaphores.items;
+        turns = s.turns.items;
+        elements = s.elements.items;
+        registers = map (λ r. r.values) s.registers.items;
+        cells = s.operations.cells;
+        rows = s.operations.rows;
+      };
+      steps = s.steps.items;
+      rooms = map (λ r. r.room) s.registers.items;
+      lens = s.operations.lens;
+      desks = s.operations.desks;
+    } };
+}
+
+/// The list of elements that holds a place.
+fn home(program: &Program, place: Place) -> usize
+    ensures { result ≡ home_of program.now place }
+{
+    match place {
+        Place::Buffer { buffer, .. } => buffer as usize,
+        Place::Wire { medium, .. } => program.buffers.as_slice().len() + medium as usize,
+    }
+}
+
+/// The place in its list, which is the same in all reactions where each buffer has one place.
+fn slot(program: &Program, place: Place) -> usize
+    requires { IsSingle program.now }
+    ensures { (k : ℕ) → result ≡ slot_of program.now place k }
+{
+    match place {
+        Place::Buffer { number, .. } => number as usize,
+        Place::Wire { number, .. } => number as usize,
+    }
+}
+
+impl State {
+    /// Whether a micro-step of this reaction is enabled.
+    fn is_enabled(&self, step: MicroStep, reaction: u64) -> bool
+        ensures { result ≡ enabled_in self.now.core reaction step }
+    {
+        match step {
+            MicroStep::Take(x) => words::word_at(&self.semaphores, x as usize) == 1,
+            MicroStep::See(x) => words::word_at(&self.semaphores, x as usize) >= 1,
+            MicroStep::Await {
+                medium,
+                half,
+                halves,
+                exact,
+            } => {
+                let half = reaction as u128 * halves as u128 + half as u128;
+                words::turn_reached(exact, words::word_at(&self.turns, medium as usize), half)
+            }
+            _ => true,
+        }
+    }
+
+    /// Makes a load of a sequence.
+    fn load(&mut self, job: &Job, seq: usize, reaction: u64, place: Place, then: OnLoad)
+        requires single { IsSingle job.now.program }
+        requires ready { AreReady job.now (kept_of self.old) }
+        requires reaction { reaction < length job.now.sensors }
+        requires counted { (seq < length self.old.core.counts) × (count self.old.core seq + 1 < 2 ^ 64) }
+        requires room { (seq < length self.old.rooms) × (top_load job.now.graph then < slice_index_or self.old.rooms seq 0) }
+        ensures { self.new ≡ record self.old { core = load_by job.now self.old.core seq place then reaction } }
+    {
+        let program = job.program();
+        let value = words::element_in(&self.elements, home(program, place), slot(program, place));
+        self.counts[seq] += 1;
+        let registers = &mut self.registers[seq];
+        self.operations
+            .absorb(job, reaction, then, value, registers);
+    }
+
+    /// Makes a store of a sequence.
+    fn store(&mut self, job: &Job, seq: usize, reaction: u64, place: Place, what: OnStore)
+        requires single { IsSingle job.now.program }
+        requires ready { AreReady job.now (kept_of self.old) }
+        requires reaction { reaction < length job.now.sensors }
+        requires counted { (seq < length self.old.core.counts) × (count self.old.core seq + 1 < 2 ^ 64) }
+        requires room { (seq < length self.old.rooms) × (top_store job.now.graph what < slice_index_or self.old.rooms seq 0) }
+        ensures { self.new ≡ record self.old { core = store_by job.now self.old.core seq place what reaction } }
+    {
+        self.counts[seq] += 1;
+        let registers = &mut self.registers[seq];
+        let value = self.operations.emit(job, reaction, what, registers);
+        let program = job.program();
+        words::put_element(
+            &mut self.elements,
+            home(program, place),
+            slot(program, place),
+            value,
+        );
+    }
+
+    /// Counts one more micro-step of a sequence.
+    fn count_up(&mut self, seq: usize)
+        requires { (seq < length self.old.core.counts) × (count self.old.core seq + 1 < 2 ^ 64) }
+        ensures { self.new ≡ record self.old { core = record self.old.core { counts = counted self.old.core seq } } }
+    {
+        self.counts[seq] += 1;
+    }
+
+    /// Puts a word in a semaphore.
+    fn put_semaphore(&mut self, x: u64, word: u64)
+        ensures { self.new ≡ record self.old { core = record self.old.core { semaphores = slice_set self.old.core.semaphores x word } } }
+    {
+        let x = x as usize;
+        if x < self.semaphores.len() {
+            self.semaphores[x] = word;
+        }
+    }
+
+    /// Puts a word in the turn of a medium.
+    fn put_turn(&mut self, medium: u32, word: u64)
+        ensures { self.new ≡ record self.old { core = record self.old.core { turns = slice_set self.old.core.turns medium word } } }
+    {
+        let medium = medium as usize;
+        if medium < self.turns.len() {
+            self.turns[medium] = word;
+        }
+    }
+
+    /// Makes a micro-step of a sequence.
+    fn make(&mut self, job: &Job, seq: usize, reaction: u64, step: MicroStep)
+        requires single { IsSingle job.now.program }
+        requires ready { AreReady job.now (kept_of self.old) }
+        requires reaction { NeedsReaction step reaction (length job.now.sensors) }
+        requires counted { (seq < length self.old.core.counts) × (count self.old.core seq + 1 < 2 ^ 64) }
+        requires room { (seq < length self.old.rooms) × (top job.now.graph step < slice_index_or self.old.rooms seq 0) }
+        requires words { FitsWord self.old.core step }
+        ensures { self.new ≡ record self.old { core = done_in job.now self.old.core seq reaction step } }
+    {
+        match step {
+            MicroStep::Take(x) => {
+                self.count_up(seq);
+                self.put_semaphore(x, 0);
+            }
+            MicroStep::Lower(x) => {
+                self.count_up(seq);
+                let word = words::word_at(&self.semaphores, x as usize);
+                self.put_semaphore(x, word.saturating_sub(1));
+            }
+            MicroStep::Signal(x) => {
+                self.count_up(seq);
+                let word = words::word_at(&self.semaphores, x as usize);
+                self.put_semaphore(x, word + 1);
+            }
+            MicroStep::Advance { medium } => {
+                self.count_up(seq);
+                let turn = words::word_at(&self.turns, medium as usize);
+                self.put_turn(medium, turn + 1);
+            }
+            MicroStep::See(_) | MicroStep::Await { .. } => self.count_up(seq),
+            MicroStep::Load { place, then } => self.load(job, seq, reaction, place, then),
+            MicroStep::Store { place, what } => self.store(job, seq, reaction, place, what),
+        }
+    }
+
+    /// How many micro-steps a sequence has made.
+    pub fn count(&self, seq: u32) -> u64
+        requires { seq < length self.now.core.counts }
+        ensures { result ≡ count self.now.core seq }
+    {
+        self.counts[seq as usize]
+    }
+
+    /// What the actuators have taken; zeros before.
+    pub fn rows(&self) -> &ActRows
+        ensures { result.now ≡ record { lens = self.now.lens; reactions = self.now.core.rows } }
+    {
+        self.operations.rows()
+    }
+
+    /// The next micro-step of a sequence.
+    fn next(&self, job: &Job, seq: usize) -> Option<MicroStep>
+        requires opened { IsOpened job.now self.now }
+        requires there { seq < length job.now.program.seqs }
+        ensures { result ≡ next job.now self.now.core seq }
+    {
+        words::next_in(&self.steps[seq], job.reactions() as u64, self.counts[seq])
+    }
+
+    /// The reaction of the next micro-step of a sequence.
+    fn reaction(&self, job: &Job, seq: usize) -> u64
+        requires opened { IsOpened job.now self.now }
+        requires there { seq < length job.now.program.seqs }
+        ensures { result ≡ reaction job.now self.now.core seq }
+    {
+        words::reaction_at(&self.steps[seq], self.counts[seq])
+    }
+}
+
+/// Makes the next micro-step of a sequence where it is enabled. It takes no memory.
+pub fn try_step(job: &Job, state: &mut State, seq: u32) -> StepAnswer
+    requires opened { IsOpened job.now state.old }
+    requires there { seq < length job.now.program.seqs }
+    ensures answer { result ≡ answer job.now state.old.core seq }
+    ensures state { state.new ≡ record state.old { core = step job.now state.old.core seq } }
+    ensures opened { IsOpened job.now state.new }
+{
+    let seq = seq as usize;
+    match state.next(job, seq) {
+        None => StepAnswer::Finished,
+        Some(step) => {
+            let reaction = state.reaction(job, seq);
+            if state.is_enabled(step, reaction) {
+                state.make(job, seq, reaction, step);
+                StepAnswer::Stepped
+            } else {
+                StepAnswer::NotYet
+            }
+        }
+    }
+}
+
+/// Makes the next micro-step of the sequence of this number, if there is one and it is enabled.
+fn try_named(job: &Job, state: &mut State, seq: u32)
+    requires { IsOpened job.now state.old }
+    ensures state { state.new ≡ record state.old { core = step job.now state.old.core seq } }
+    ensures opened { IsOpened job.now state.new }
+{
+    if (seq as usize) < job.program().seqs.as_slice().len() {
+        let _ = try_step(job, state, seq);
+    }
+}
+
+/// Tries each named sequence in order, and passes over a number that names none. It takes no memory.
+pub fn run_list(job: &Job, state: &mut State, list: &[u32])
+    requires { IsOpened job.now state.old }
+    ensures state { state.new ≡ record state.old { core = run_from job.now state.old.core list.now } }
+    ensures opened { IsOpened job.now state.new }
+{
+    for seq in list {
+        try_named(job, state, *seq);
+    }
+}
