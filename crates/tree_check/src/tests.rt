@@ -42,8 +42,7 @@ fn sensor(alloc: Global, name: &[u8], number: u32) -> Result<Vertex, Fail> {
     )
 }
 
-fn actuator(alloc: Global, name: &[u8], source: Source) -> Result<Vertex, Fail> {
-    let part = named(alloc, name)?;
+fn actuator(alloc: Global, part: Part, source: Source) -> Result<Vertex, Fail> {
     vertex(
         alloc,
         part,
@@ -102,51 +101,76 @@ fn main_of(alloc: Global, vertices: Vec<Vertex>) -> Result<Vertex, Fail> {
 fn switched(alloc: Global, first: Vertex) -> Result<Vertex, Fail> {
     let sense = sensor(alloc, b"s", 0)?;
     let chosen = switch(alloc, first)?;
-    let act = actuator(alloc, b"a", Source::Of(1, 0))?;
+    let act = actuator(alloc, named(alloc, b"a")?, Source::Of(1, 0))?;
     main_of(alloc, vec![in alloc; sense, chosen, act]?)
 }
 
+/// Whether a tree may hold this in a case of its switch.
+fn may_be_a_case(alloc: Global, first: Vertex) -> Result<bool, Fail> {
+    let main = switched(alloc, first)?;
+    Ok(is_tree(alloc, &main)?)
+}
+
+/// Whether a tree may hold such a delay in a case of its switch.
+fn may_be_delayed(alloc: Global, part: Part, len: usize, source: Source) -> Result<bool, Fail> {
+    may_be_a_case(alloc, delay(alloc, part, len, source)?)
+}
+
+/// Whether this alone may be the main graph's one vertex.
+fn may_be_alone(alloc: Global, only: Vertex) -> Result<bool, Fail> {
+    let main = main_of(alloc, vec![in alloc; only]?)?;
+    Ok(is_tree(alloc, &main)?)
+}
+
+/// Whether a tree may hold two sensors of these names.
+fn may_be_two(alloc: Global, first: &[u8], second: &[u8]) -> Result<bool, Fail> {
+    let sensors = vec![in alloc; sensor(alloc, first, 0)?, sensor(alloc, second, 1)?]?;
+    let main = main_of(alloc, sensors)?;
+    Ok(is_tree(alloc, &main)?)
+}
+
 #[test]
-fn a_delay_in_a_case_is_a_tree(rt: HostRuntime) -> Result<(), Fail> {
+fn a_case_may_hold_a_delay_that_fits(rt: HostRuntime) -> Result<(), Fail> {
     let alloc = rt.alloc();
-    let main = switched(alloc, delay(alloc, Part::Numbered(0), 1, Source::Own(1))?)?;
-    assert_eq!(rt; is_tree(alloc, &main), Ok(true));
+    let source = Source::Own(1);
+    assert_eq!(rt; may_be_delayed(alloc, Part::Numbered(0), 1, source)?, true);
+    assert_eq!(rt; may_be_delayed(alloc, Part::Numbered(0), 2, source)?, false);
+    assert_eq!(rt;
+        may_be_delayed(alloc, Part::Numbered(0), 1, Source::Own(2))?,
+        false
+    );
+    assert_eq!(rt;
+        may_be_delayed(alloc, named(alloc, b"d")?, 1, source)?,
+        false
+    );
     Ok(())
 }
 
 #[test]
-fn what_a_case_may_not_hold(rt: HostRuntime) -> Result<(), Fail> {
+fn a_case_may_not_hold_an_actuator(rt: HostRuntime) -> Result<(), Fail> {
     let alloc = rt.alloc();
-    let too_long = switched(alloc, delay(alloc, Part::Numbered(0), 2, Source::Own(1))?)?;
-    assert_eq!(rt; is_tree(alloc, &too_long), Ok(false));
-    let from_nothing = switched(alloc, delay(alloc, Part::Numbered(0), 1, Source::Own(2))?)?;
-    assert_eq!(rt; is_tree(alloc, &from_nothing), Ok(false));
-    let unnumbered = switched(alloc, delay(alloc, named(alloc, b"d")?, 1, Source::Own(1))?)?;
-    assert_eq!(rt; is_tree(alloc, &unnumbered), Ok(false));
-    let act = switched(alloc, actuator(alloc, b"b", Source::Own(1))?)?;
-    assert_eq!(rt; is_tree(alloc, &act), Ok(false));
+    let act = actuator(alloc, Part::Numbered(0), Source::Own(1))?;
+    assert_eq!(rt; may_be_a_case(alloc, act)?, false);
     Ok(())
 }
 
 #[test]
-fn what_a_level_may_not_hold(rt: HostRuntime) -> Result<(), Fail> {
+fn a_level_may_hold_a_cycle_through_a_delay_alone(rt: HostRuntime) -> Result<(), Fail> {
     let alloc = rt.alloc();
-    let lost = actuator(alloc, b"a", Source::Of(5, 0))?;
-    assert_eq!(rt;
-        is_tree(alloc, &main_of(alloc, vec![in alloc; lost]?)?),
-        Ok(false)
-    );
-    let round = seven(alloc, named(alloc, b"f")?, Source::Of(0, 0))?;
-    assert_eq!(rt;
-        is_tree(alloc, &main_of(alloc, vec![in alloc; round]?)?),
-        Ok(false)
-    );
-    let twins = vec![in alloc; sensor(alloc, b"s", 0)?, sensor(alloc, b"s", 1)?]?;
-    assert_eq!(rt; is_tree(alloc, &main_of(alloc, twins)?), Ok(false));
-    let around = delay(alloc, named(alloc, b"d")?, 1, Source::Of(0, 0))?;
-    assert_eq!(rt;
-        is_tree(alloc, &main_of(alloc, vec![in alloc; around]?)?),
-        Ok(true)
-    );
+    let back = Source::Of(0, 0);
+    let held = delay(alloc, named(alloc, b"d")?, 1, back)?;
+    assert_eq!(rt; may_be_alone(alloc, held)?, true);
+    let round = seven(alloc, named(alloc, b"f")?, back)?;
+    assert_eq!(rt; may_be_alone(alloc, round)?, false);
+    let lost = actuator(alloc, named(alloc, b"a")?, Source::Of(5, 0))?;
+    assert_eq!(rt; may_be_alone(alloc, lost)?, false);
+    Ok(())
+}
+
+#[test]
+fn references_have_distinct_names(rt: HostRuntime) -> Result<(), Fail> {
+    let alloc = rt.alloc();
+    assert_eq!(rt; may_be_two(alloc, b"s", b"t")?, true);
+    assert_eq!(rt; may_be_two(alloc, b"s", b"s")?, false);
     Ok(())
 }
