@@ -5,7 +5,9 @@ pub mod Openings
 pub mod ReadVectors
 pub mod RowVectors
 pub mod Desks
+pub mod DelayNumbers
 pub mod Operate
 pub mod Ready
 pub mod Runs
 mod RowFive
+mod RowNine

@@ -12,6 +12,9 @@ use Rattle.flat_graph.specs.Graph.{Graph}
 use Rattle.semaphore_core.specs.Job.{JobData}
 use Rattle.semaphore_core.specs.Core.{Core, opening, step, is_enabled}
 use Rattle.semaphore_core.specs.Told.{told}
+use Rattle.semaphore_core.specs.Held.{answer}
+use Rattle.semaphore_core.specs.declared.answer.StepAnswer.{StepAnswer}
+use Rattle.semaphore_core.specs.declared.answer.StepAnswer.TheVariants.{Finished}
 use Rattle.semaphore_core.specs.declared.program.Instr.{Instr}
 use Rattle.semaphore_core.specs.declared.program.Instr.TheVariants.{Suc0, Suc1, Pre0, Pre1, Call, Send, Recv}
 use Rattle.semaphore_core.specs.declared.program.SeqCode.{SeqCode}
@@ -138,6 +141,15 @@ at_end = refl
 taken_rows : ended.rows ≡ ((pos 6 ∷ []) ∷ (pos 6 ∷ []) ∷ []) ∷ ((pos 0 ∷ []) ∷ (pos 0 ∷ []) ∷ []) ∷ ((pos 1 ∷ []) ∷ (pos 1 ∷ []) ∷ []) ∷ []
 unfolding ended
 taken_rows = refl
+
+-- what the named sequences answer, in order
+abbrev answers : (j : JobData) → List ℕ → Core → List StepAnswer
+answers j [] z = []
+answers j (s ∷ list) z = answer j z s ∷ answers j list (step j z s)
+
+all_finished : answers (job single) (0 ∷ 1 ∷ 2 ∷ 3 ∷ []) ended ≡ Finished ∷ Finished ∷ Finished ∷ Finished ∷ []
+unfolding ended
+all_finished = refl
 
 -- the state in the middle and at the end is what the counts tell
 middle : Core

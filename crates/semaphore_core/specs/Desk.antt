@@ -1,9 +1,10 @@
 -- The desk of an operation: what it reads and what it gives.
-use Rattle.std.specs.Prelude.{◌≡◌, ℕ, ◌++◌, List, map, take, drop, length, Option, ℤ}
+use Rattle.std.specs.Prelude.{◌≡◌, ℕ, ◌++◌, List, map, take, drop, length, Option, None, Some, Bool, false, slice_get, ℤ}
 use Rattle.level_meaning.specs.Level.{Values}
 use Rattle.flat_graph.specs.declared.vertex.Vertex.{Vertex}
 use Rattle.flat_graph.specs.Graph.{Graph}
 use Rattle.flat_graph.specs.Fire.{read_lens, out_lens}
+use Rattle.flat_graph.specs.Meaning.{is_get}
 use Rattle.semaphore_core.specs.Operation.{vectors_from, delay_of}
 
 pub record DeskData : Type 0 where
@@ -39,3 +40,11 @@ pub record IsDesk (g : Graph) (v : ℕ) (x : Vertex) (d : DeskLens) : Type 0 whe
   pub guards : d.guards ≡ length x.guards
   pub inputs : d.inputs ≡ length x.ins
   pub delay : d.delay ≡ delay_of g v x
+
+abbrev pub is_get_by : Option Vertex → Bool
+is_get_by None = false
+is_get_by (Some x) = is_get x.kind
+
+-- operation k is the get half of a delay
+abbrev pub is_get_at : List Vertex → ℕ → Bool
+is_get_at xs k = is_get_by (slice_get xs k)

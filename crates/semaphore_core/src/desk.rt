@@ -1,14 +1,16 @@
 //! The desk of an operation, on which it is computed.
-ghost use Rattle.std.specs.Prelude.{◌≡◌, ◌+◌, ◌<◌, ◌≤◌, length, map, take, drop, sum};
+ghost use Rattle.std.specs.Prelude.{◌≡◌, ◌+◌, ◌<◌, ◌≤◌, length, map, take, drop, sum, IfOk};
 ghost use Rattle.flat_graph.specs.Fire.{fired_at, kept_at, cell_len, seen_len, out_lens, read_lens};
 ghost use Rattle.level_meaning.specs.Level.{vector_at, all_joined};
-ghost use Rattle.semaphore_core.specs.Desk.{loaded_in};
+ghost use Rattle.semaphore_core.specs.Desk.{loaded_in, lens_of_desk};
 
 use crate::reading::read_ports;
 use crate::registers::Registers;
 use body_lang::Ins;
 use flat_graph::{Flat, fire};
+use std::alloc::Global;
 use std::marker::Model;
+use syn_base::OutOfMemory;
 
 /// What an operation reads and gives, in room that was taken before.
 #[derive(Drop)]
@@ -29,6 +31,26 @@ impl Model for Desk {
 }
 
 impl Desk {
+    /// A desk for what has these lengths.
+    pub fn new(
+        alloc: Global,
+        reads: &[u32],
+        gives: &[u32],
+        guards: u32,
+        inputs: u32,
+        delay: Option<u32>,
+    ) -> Result<Desk, OutOfMemory>
+        ensures { IfOk result (λ d. lens_of_desk d ≡ record { reads = reads.now; gives = gives.now; guards = guards; inputs = inputs; delay = delay }) }
+    {
+        Ok(Desk {
+            read: Ins::new(alloc, reads)?,
+            outs: Ins::new(alloc, gives)?,
+            guards,
+            inputs,
+            delay,
+        })
+    }
+
     /// The number of the delay of which the operation is a half.
     pub fn delay(&self) -> Option<u32>
         ensures { result ≡ self.now.delay }

@@ -143,7 +143,7 @@ fn len_at(lens: &[u32], port: usize) -> u32
 }
 
 /// The lengths of some sources.
-fn push_lens(flat: &Flat, sources: &[Source], lens: &mut Vec<u32>) -> Result<(), OutOfMemory>
+pub fn push_lens(flat: &Flat, sources: &[Source], lens: &mut Vec<u32>) -> Result<(), OutOfMemory>
     ensures { OnOk result (lens.new.items ≡ lens.old.items ++ lens_of flat.now.vertices sources.now) }
 {
     for source in sources {

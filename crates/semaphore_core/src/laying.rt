@@ -1,0 +1,95 @@
+//! A desk for each operation, when a state is opened.
+ghost use Rattle.std.specs.Prelude.{◌≡◌, ◌+◌, ◌^◌, ◌<◌, ◌++◌, ◌≤◌, cond, take, map, length, slice_get, Some, IfOk, OnOk};
+ghost use Rattle.flat_graph.specs.Meaning.{delay_number};
+ghost use Rattle.semaphore_core.specs.Operation.{delay_by};
+ghost use Rattle.semaphore_core.specs.Desk.{is_get_at, IsDesk, lens_of_desk};
+
+use crate::desk::Desk;
+use crate::opening::push_lens;
+use flat_graph::{Flat, Kind, Vertex};
+use std::alloc::Global;
+use syn_base::OutOfMemory;
+
+fn is_get_at(vertices: &[Vertex], k: u32) -> bool
+    ensures { result ≡ is_get_at vertices.now k }
+{
+    match vertices.get(k as usize) {
+        Some(x) => matches!(&x.kind, Kind::Get(_)),
+        None => false,
+    }
+}
+
+fn counted(number: u32, more: bool) -> u32
+    requires { number + 1 < 2 ^ 32 }
+    ensures value { result ≡ cond more (number + 1) number }
+    ensures few { result ≤ number + 1 }
+{
+    if more { number + 1 } else { number }
+}
+
+/// How many get halves stand before operation `v`.
+fn delay_number(vertices: &[Vertex], v: u32) -> u32
+    ensures { result ≡ delay_number vertices.now v }
+{
+    let mut number = 0;
+    for k in 0..v {
+        number = counted(number, is_get_at(vertices, k));
+    }
+    number
+}
+
+/// The number of the delay of which operation `v` is a half.
+fn delay_of(vertices: &[Vertex], v: u32, x: &Vertex) -> Option<u32>
+    ensures { result ≡ delay_by vertices.now v x.now.kind x.now.twin }
+{
+    match &x.kind {
+        Kind::Get(_) => Some(delay_number(vertices, v)),
+        Kind::Set => match x.twin {
+            Some(twin) => Some(delay_number(vertices, twin)),
+            None => None,
+        },
+        _ => None,
+    }
+}
+
+fn push_all(list: &[u32], lens: &mut Vec<u32>) -> Result<(), OutOfMemory>
+    ensures { OnOk result (lens.new.items ≡ lens.old.items ++ list.now) }
+{
+    for len in list {
+        lens.push(*len)?;
+    }
+    Ok(())
+}
+
+/// A number that fits 32 bits; another is taken as want of memory.
+fn small(number: usize) -> Result<u32, OutOfMemory>
+    ensures { IfOk result (λ m. m ≡ number) }
+{
+    if number <= u32::MAX as usize {
+        Ok(number as u32)
+    } else {
+        Err(OutOfMemory)
+    }
+}
+
+/// The desk of operation `v`.
+pub fn desk_of(alloc: Global, flat: &Flat, v: u32, x: &Vertex) -> Result<Desk, OutOfMemory>
+    requires { slice_get flat.now.vertices v ≡ Some x.now }
+    ensures { IfOk result (λ d. IsDesk flat.now v x.now (lens_of_desk d)) }
+{
+    let guards = small(x.guards.as_slice().len())?;
+    let inputs = small(x.ins.as_slice().len())?;
+    let mut lens = Vec::new(alloc);
+    push_lens(flat, x.ins.as_slice(), &mut lens)?;
+    let ones = vec![in alloc; 1; x.guards.as_slice().len()]?;
+    push_all(ones.as_slice(), &mut lens)?;
+    let delay = delay_of(flat.vertices(), v, x);
+    Desk::new(
+        alloc,
+        lens.as_slice(),
+        x.outs.as_slice(),
+        guards,
+        inputs,
+        delay,
+    )
+}

@@ -1,0 +1,77 @@
+//! How many registers the micro-steps of a sequence need.
+ghost use Rattle.std.specs.Prelude.{◌≡◌, ◌+◌, ◌<◌, ◌≤◌, length, map, max, sum, take, IfOk};
+ghost use Rattle.flat_graph.specs.Fire.{out_lens};
+ghost use Rattle.semaphore_core.specs.Held.{outputs_len, top_load, top_store, top, highest};
+
+use crate::steps::{MicroStep, OnLoad, OnStore};
+use flat_graph::Flat;
+
+/// The sum of these lengths.
+fn sum_of(lens: &[u32]) -> u128
+    ensures { result ≡ sum lens.now }
+{
+    let mut total = 0;
+    for len in lens {
+        total += *len as u128;
+    }
+    total
+}
+
+/// How many elements the outputs of an operation have.
+fn outputs_len(flat: &Flat, vertex: u32) -> u128
+    ensures { result ≡ outputs_len flat.now vertex }
+{
+    let vertices = flat.vertices();
+    if (vertex as usize) < vertices.len() {
+        sum_of(vertices[vertex as usize].outs.as_slice())
+    } else {
+        0
+    }
+}
+
+/// The highest number of a register that a load uses.
+fn top_load(flat: &Flat, then: OnLoad) -> u128
+    ensures { result ≡ top_load flat.now then }
+{
+    match then {
+        OnLoad::Carry => 0,
+        OnLoad::Gather(register) => register as u128,
+        OnLoad::Compute {
+            vertex,
+            register,
+            ..
+        } => (register as u128).max(outputs_len(flat, vertex)),
+    }
+}
+
+/// The highest number of a register that a store uses.
+fn top_store(flat: &Flat, what: OnStore) -> u128
+    ensures { result ≡ top_store flat.now what }
+{
+    match what {
+        OnStore::Compute { vertex, .. } => outputs_len(flat, vertex),
+        _ => 0,
+    }
+}
+
+/// The highest number of a register that a micro-step uses.
+fn top(flat: &Flat, step: MicroStep) -> u128
+    ensures { result ≡ top flat.now step }
+{
+    match step {
+        MicroStep::Load { then, .. } => top_load(flat, then),
+        MicroStep::Store { what, .. } => top_store(flat, what),
+        _ => 0,
+    }
+}
+
+/// The highest number of a register that any of these micro-steps uses.
+pub fn highest(flat: &Flat, list: &[MicroStep]) -> u128
+    ensures { result ≡ highest flat.now list.now }
+{
+    let mut most = 0;
+    for step in list {
+        most = top(flat, *step).max(most);
+    }
+    most
+}
