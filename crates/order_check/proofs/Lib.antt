@@ -1,0 +1,5 @@
+mod Exact
+mod Guarded
+mod Tests
+mod Walked
+mod Written

@@ -1,0 +1,12 @@
+use Rattle.std.proofs.Common.{◌≡◌, ℕ, ◌+◌, ◌≤◌, ◌&&◌, drop, length, nat_eq, nat_lt}
+use Rattle.semaphore_core.specs.Instructions.{readers_from}
+use Rattle.order_check.specs.Checked.{all_at}
+use Rattle.order_check.specs.Pairs.{guards}
+use Rattle.order_check.proofs.guarding.guards_buffer.Given as goal
+
+-- the sequences that are left decide
+abbrev pub invariant-loop-sequence : goal.invariant-loop-sequence
+invariant-loop-sequence l = record {
+  left : all_at (guards l.program l.order) l.pair (readers_from l.sequence (drop l.sequence l.program.seqs) l.buffer) ≡ all_at (guards l.program l.order) l.first (readers_from 0 l.program.seqs l.buffer);
+  few : l.pair ≤ length l.program.pairs;
+}

@@ -1,0 +1,7 @@
+use Rattle.std.proofs.Common.{◌≡◌, drop}
+use Rattle.semaphore_core.specs.MicroSteps.{transfers_on}
+use Rattle.order_check.proofs.searches.transfers.Given as goal
+
+-- the sequences that are left decide
+abbrev pub invariant-loop-code : goal.invariant-loop-code
+invariant-loop-code l = transfers_on (drop l.code-index l.program.seqs) l.medium ≡ transfers_on l.program.seqs l.medium

@@ -1,0 +1,55 @@
+-- What makes a buffer right, as tests.
+use Rattle.std.specs.Prelude.{ℕ, Bool, true, false, ◌&&◌, ◌||◌, nat_eq, nat_lt, List, length, Option, Some, None, slice_get}
+use Rattle.std.specs.List.{list_all}
+use Rattle.semaphore_core.specs.declared.program.Instr.{Instr}
+use Rattle.semaphore_core.specs.declared.program.Instr.TheVariants.{Call, Send, Recv}
+use Rattle.semaphore_core.specs.declared.program.Buffer.{Buffer}
+use Rattle.semaphore_core.specs.declared.program.Program.{Program}
+use Rattle.semaphore_core.specs.Instructions.{depth_of, reads, turn, writes}
+use Rattle.semaphore_core.specs.Places.{writing}
+use Rattle.order_check.specs.Checked.{all_at, all_below, every, implies}
+
+abbrev pub names : Option ℕ → ℕ → Bool
+names None b = false
+names (Some c) b = nat_eq c b
+
+-- the instruction writes b as output `port`
+abbrev pub writes_at : ℕ → ℕ → Option Instr → Bool
+writes_at b port (Some (Call v ins outs)) = names (slice_get outs port) b
+writes_at b port (Some (Recv c q)) = nat_eq c b && nat_eq port 0
+writes_at b port _ = false
+
+-- the instruction writes b only if it stands `here`, and as that output
+abbrev pub writes_only : ℕ → ℕ → Bool → Instr → Bool
+writes_only b port here (Call v ins outs) = all_at (λ k c. implies (nat_eq c b) (here && nat_eq k port)) 0 outs
+writes_only b port here (Recv c q) = implies (nat_eq c b) (here && nat_eq 0 port)
+writes_only b port here _ = true
+
+abbrev pub touches : ℕ → Instr → Bool
+touches b x = writes b x || reads b x
+
+abbrev pub is_operator : Option Buffer → ℕ → Bool
+is_operator None o = false
+is_operator (Some x) o = nat_eq x.operator o
+
+module _ (p : Program) where
+  -- no other instruction writes b, nor this one twice
+  abbrev pub is_written_once : ℕ → ℕ → ℕ → ℕ → Bool
+  is_written_once b writer at port = every p (λ s a x. writes_only b port (nat_eq s writer && nat_eq a at) x)
+
+  -- b is touched on its own operator alone
+  abbrev pub is_near : ℕ → Bool
+  is_near b = list_all (λ q. list_all (λ x. implies (touches b x) (is_operator (slice_get p.buffers b) q.seq.operator)) q.turn) p.seqs
+
+  -- its writer reads it after this place alone
+  abbrev pub is_written_first : ℕ → ℕ → ℕ → Bool
+  is_written_first b writer at = all_at (λ a x. implies (reads b x) (nat_lt at a)) 0 (turn p writer)
+
+  abbrev pub is_buffer_at : ℕ → ℕ → ℕ → ℕ → Bool
+  is_buffer_at b writer at port = writes_at b port (slice_get (turn p writer) at) && is_written_once b writer at port && is_near b && is_written_first b writer at && nat_eq (depth_of p b) 1
+
+  abbrev pub is_buffer : ℕ → Bool
+  is_buffer b = is_buffer_at b (writing p b).writer (writing p b).at (writing p b).port
+
+  abbrev pub are_buffers : Bool
+  are_buffers = all_below is_buffer (length p.buffers)

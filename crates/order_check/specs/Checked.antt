@@ -1,0 +1,75 @@
+-- The clauses of what a serial order is, as tests.
+use Rattle.std.specs.Prelude.{ℕ, zero, suc, ◌+◌, Bool, true, false, ◌&&◌, ◌||◌, not, cond, nat_eq, nat_lt, List, [], ◌∷◌, length, Option, Some, None, slice_get}
+use Rattle.std.specs.List.{count_by, list_all, range_with_len}
+use Rattle.semaphore_core.specs.declared.program.Instr.{Instr}
+use Rattle.semaphore_core.specs.declared.program.Instr.TheVariants.{Suc0, Suc1, Pre0, Pre1, Call, Send, Recv, Sync}
+use Rattle.semaphore_core.specs.declared.program.SeqCode.{SeqCode}
+use Rattle.semaphore_core.specs.declared.program.Program.{Program}
+use Rattle.semaphore_core.specs.Instructions.{is_communication, turn}
+use Rattle.semaphore_core.specs.MicroSteps.{transfers}
+
+-- the test passes for each number below n
+abbrev pub all_below : (ℕ → Bool) → ℕ → Bool
+all_below test n = list_all test (range_with_len 0 n)
+
+-- the numbers are below n
+abbrev pub are_below : ℕ → List ℕ → Bool
+are_below n list = list_all (λ c. nat_lt c n) list
+
+-- a sequence with communications is at a medium
+abbrev pub is_at_medium : Option ℕ → List Instr → Bool
+is_at_medium None list = list_all (λ x. not (is_communication x)) list
+is_at_medium (Some m) list = true
+
+-- a medium is one of so many
+abbrev pub is_medium : ℕ → Option ℕ → Bool
+is_medium media None = true
+is_medium media (Some m) = nat_lt m media
+
+module _ (p : Program) where
+  -- the order names each sequence as often as its loop has instructions
+  abbrev pub counts_loops : List ℕ → Bool
+  counts_loops order = all_below (λ s. nat_eq (count_by (λ t. nat_eq t s) order) (length (turn p s))) (length p.seqs)
+
+  abbrev pub follows_loops : List ℕ → Bool
+  follows_loops order = are_below (length p.seqs) order && counts_loops order
+
+  -- what an instruction names is there, among so many operations
+  abbrev pub names_in : ℕ → Instr → Bool
+  names_in operations (Suc0 q) = nat_lt q (length p.pairs)
+  names_in operations (Suc1 q) = nat_lt q (length p.pairs)
+  names_in operations (Pre0 q) = nat_lt q (length p.pairs)
+  names_in operations (Pre1 q) = nat_lt q (length p.pairs)
+  names_in operations (Call v ins outs) = nat_lt v operations && are_below (length p.buffers) ins && are_below (length p.buffers) outs
+  names_in operations (Send b q) = nat_lt b (length p.buffers)
+  names_in operations (Recv b q) = nat_lt b (length p.buffers)
+  names_in operations (Sync q r) = true
+
+  abbrev pub named : ℕ → Bool
+  named operations = list_all (λ q. list_all (names_in operations) q.turn) p.seqs
+
+  abbrev pub communicators : Bool
+  communicators = list_all (λ q. is_at_medium q.seq.medium q.turn) p.seqs
+
+  abbrev pub on_media : ℕ → Bool
+  on_media media = list_all (λ q. is_medium media q.seq.medium) p.seqs
+
+  -- a communicator has one communication in each transfer of its medium
+  abbrev pub is_counted : Option ℕ → List Instr → Bool
+  is_counted None list = true
+  is_counted (Some m) list = nat_eq (count_by is_communication list) (transfers p m)
+
+  abbrev pub counts : Bool
+  counts = list_all (λ q. is_counted q.seq.medium q.turn) p.seqs
+
+-- the test passes at each element with its place, of which the first is n
+abbrev pub all_at : {X : Type 0} → (ℕ → X → Bool) → ℕ → List X → Bool
+all_at test n [] = true
+all_at test n (x ∷ xs) = test n x && all_at test (n + 1) xs
+
+-- the test passes at each instruction with its sequence and its place
+abbrev pub every : Program → (ℕ → ℕ → Instr → Bool) → Bool
+every p test = all_at (λ s q. all_at (test s) 0 q.turn) 0 p.seqs
+
+abbrev pub implies : Bool → Bool → Bool
+implies a b = cond a b true

@@ -1,0 +1,75 @@
+//! The clauses of a well-formed program about loops, names, communicators and counts, each as an exact check.
+ghost use Rattle.std.specs.Prelude.{◌≡◌, ℕ, ◌<◌, List, Some, length, map, true};
+ghost use Rattle.std.specs.List.{count_by};
+ghost use Rattle.semaphore_core.specs.Instructions.{is_communication, medium, readers, turn};
+ghost use Rattle.semaphore_core.specs.MicroSteps.{transfers};
+ghost use Rattle.semaphore_core.specs.Places.{carried, places};
+ghost use Rattle.semaphore_core.specs.WellFormed.{FollowsLoops, IsBuffer, IsPair, NamesIn, operator_of, Stands};
+ghost use Rattle.semaphore_core.specs.declared.program.Instr.{Instr};
+
+use crate::buffers::are_right;
+use crate::guarding::are_guarded;
+use crate::loops::are_followed;
+use crate::naming::{are_communicators, are_counted, are_named, are_on_media};
+use flat_graph::Flat;
+use semaphore_core::Program;
+
+/// Whether each entry of the order names a sequence, and each sequence as often as its loop has instructions.
+pub fn follows_loops(program: &Program, order: &[u32]) -> bool
+    ensures sound { result ≡ true → FollowsLoops program.now order.now }
+    ensures complete { FollowsLoops program.now order.now → result ≡ true }
+{
+    are_followed(program, order)
+}
+
+/// Whether what each instruction names is there: pairs, operations and buffers.
+pub fn names_what_is_there(program: &Program, flat: &Flat, order: &[u32]) -> bool
+    ensures sound { result ≡ true → (s a : ℕ) (x : Instr) → Stands program.now s a x → NamesIn program.now order.now (places program.now) (carried program.now) flat.now x }
+    ensures complete { ((s a : ℕ) (x : Instr) → Stands program.now s a x → NamesIn program.now order.now (places program.now) (carried program.now) flat.now x) → result ≡ true }
+{
+    are_named(program, flat.vertices().len())
+}
+
+/// Whether communications stand in communicators alone.
+pub fn communicators_communicate(program: &Program) -> bool
+    ensures sound { result ≡ true → (s a : ℕ) (x : Instr) → Stands program.now s a x → is_communication x ≡ true → (m : ℕ) × (medium program.now s ≡ Some m) }
+    ensures complete { ((s a : ℕ) (x : Instr) → Stands program.now s a x → is_communication x ≡ true → (m : ℕ) × (medium program.now s ≡ Some m)) → result ≡ true }
+{
+    are_communicators(program)
+}
+
+/// Whether the media of communicators are among so many.
+pub fn media_are_there(program: &Program, media: usize) -> bool
+    ensures sound { result ≡ true → (s m : ℕ) → medium program.now s ≡ Some m → m < media }
+    ensures complete { ((s m : ℕ) → medium program.now s ≡ Some m → m < media) → result ≡ true }
+{
+    are_on_media(program, media)
+}
+
+/// Whether each communicator has one communication in each transfer of its medium.
+pub fn counts_agree(program: &Program) -> bool
+    ensures sound { result ≡ true → (s m : ℕ) → medium program.now s ≡ Some m → count_by is_communication (turn program.now s) ≡ transfers program.now m }
+    ensures complete { ((s m : ℕ) → medium program.now s ≡ Some m → count_by is_communication (turn program.now s) ≡ transfers program.now m) → result ≡ true }
+{
+    are_counted(program)
+}
+
+/// Whether each buffer is written once, touched on its own operator alone, written before it is read
+/// where one sequence does both, and has one place.
+pub fn buffers_are_right(program: &Program, order: &[u32]) -> bool
+    ensures sound { result ≡ true → (b : ℕ) → b < length program.now.buffers → IsBuffer program.now order.now (places program.now) b }
+    ensures complete { ((b : ℕ) → b < length program.now.buffers → IsBuffer program.now order.now (places program.now) b) → result ≡ true }
+{
+    are_right(program)
+}
+
+/// Whether there is one pair of semaphores for each buffer and each sequence that reads it and does not
+/// write it, by buffer and then by sequence, on the buffer's operator; and each pair has its four places
+/// in order round the write and the reads of its reader.
+pub fn pairs_guard(program: &Program, order: &[u32]) -> bool
+    ensures numbered { result ≡ true → map (λ o. Some o) program.now.pairs ≡ map (λ r. operator_of program.now r.buffer) (readers program.now) }
+    ensures sound { result ≡ true → (q : ℕ) → q < length program.now.pairs → IsPair program.now order.now (places program.now) q }
+    ensures complete { map (λ o. Some o) program.now.pairs ≡ map (λ r. operator_of program.now r.buffer) (readers program.now) → ((q : ℕ) → q < length program.now.pairs → IsPair program.now order.now (places program.now) q) → result ≡ true }
+{
+    are_guarded(program, order)
+}
