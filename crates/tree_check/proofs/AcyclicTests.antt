@@ -1,5 +1,5 @@
 -- The flags after some rounds are those of the settled nodes.
-use Rattle.std.proofs.Common.{◌≡◌, ℕ, zero, suc, ◌<◌, Bool, true, false, List, [], ◌∷◌, map, length, slice_get, refl, sym, ap, subst, ◌∙◌, arith}
+use Rattle.std.proofs.Common.{◌≡◌, ℕ, zero, suc, ◌<◌, Bool, true, false, List, [], ◌∷◌, map, length, slice_get, refl, sym, ap, ◌∙◌, arith}
 use Rattle.std.specs.Prelude.{slice_index_or}
 use Rattle.std.specs.Bool.{Decides}
 use Rattle.std.specs.List.{list_all}
@@ -7,7 +7,7 @@ use Rattle.std.proofs.lemmas.Bool.{and_parts, and_from}
 use Rattle.std.proofs.lemmas.List.{length-map}
 use Rattle.level_meaning.specs.Level.{Node, with_node}
 use Rattle.level_meaning.specs.Order.{is_ready, settled, IsAcyclic}
-use Rattle.tree_check.specs.Acyclic.{one_more, flags_after, is_acyclic}
+use Rattle.tree_check.specs.Acyclic.{flags_after, is_acyclic}
 
 map_at : (f : Node → Bool) (cs : List Node) (q : ℕ) → slice_index_or (map f cs) q false ≡ with_node (slice_get cs q) false f
 map_at f [] q = refl

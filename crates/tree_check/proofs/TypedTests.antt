@@ -1,5 +1,5 @@
 -- The tests of lengths tell that they fit.
-use Rattle.std.proofs.Common.{◌≡◌, ℕ, zero, suc, ◌*◌, ◌≤◌, Bool, true, false, ◌&&◌, ◌==◌, List, [], ◌∷◌, map, length, refl, sym, ap, ap₂, subst, ◌∙◌, eq-eqb}
+use Rattle.std.proofs.Common.{◌≡◌, ℕ, zero, suc, ◌*◌, Bool, true, false, ◌&&◌, ◌==◌, List, [], ◌∷◌, map, length, refl, sym, ap, ap₂, subst, ◌∙◌, eq-eqb}
 use Rattle.std.specs.Prelude.{ℤ, nat_le, nat_lt, replicate, slice_index_or, sum}
 use Rattle.std.specs.Bool.{Decides}
 use Rattle.std.specs.List.{list_all}
@@ -16,7 +16,7 @@ use Rattle.level_meaning.specs.declared.frontier.Give.{Give}
 use Rattle.algo_tree.specs.Tree.{Kind, sensor, actuator, constant, delay, function, explode, implode, merge, graph, switch, repeat, Vertex, vertex, Vertices, no_vertices, and_vertex}
 use Rattle.algo_tree.specs.Typed.{IsLength, AreLengths, label_of, outs_of, source_length, AreGuardsTyped, AllPortsBelow, AllGive, IsFed, AllFed, fed_length, given_length, IsKindTyped, IsTyped, AllTyped, IsBodyTyped}
 use Rattle.algo_tree.specs.Well.{IsEmpty, IsOne, IsKindWell, IsWell, AllWell}
-use Rattle.tree_check.specs.Typed.{is_length, is_guard_typed, ports_below, is_fed, all_give, is_merge, fits, inner_lengths, are_guards_typed, is_typed, all_typed}
+use Rattle.tree_check.specs.Typed.{is_length, is_guard_typed, ports_below, is_fed, all_give, is_merge, fits, is_typed, all_typed}
 use Rattle.tree_check.proofs.Decided.{yes, at_most}
 
 long : (n : ℕ) → Decides (is_length n) (IsLength n)

@@ -13,9 +13,11 @@ use Rattle.algo_tree.specs.Typed.{label_of, outs_of, source_length, fed_length, 
 abbrev pub is_length : ℕ → Bool
 is_length n = nat_le 1 n && nat_le n 64
 
+-- its source has one element, and its case is there
 abbrev pub is_guard_typed : (Source → ℕ) → Guard → Bool
 is_guard_typed len g = (len g.source == 1) && nat_le g.case (length g.values)
 
+-- each port that the expression names is below n
 abbrev pub ports_below : ℕ → Expr → Bool
 ports_below n (literal v) = true
 ports_below n index = true
@@ -25,6 +27,7 @@ ports_below n (negation e) = ports_below n e
 ports_below n (apply op a b) = ports_below n a && ports_below n b
 ports_below n (select c a b) = ports_below n c && (ports_below n a && ports_below n b)
 
+-- a forked input has a part for each copy; an iterated one has the length of the body's output
 abbrev pub is_fed : ℕ → List ℕ → List ℕ → Feed → Bool
 is_fed n lens outs (Fork name k len) = slice_index_or lens k 0 == n * len
 is_fed n lens outs (Diffuse k) = true

@@ -1,9 +1,13 @@
 //! Vertices that are built by hand.
+ghost use Rattle.std.specs.Prelude.{◌≡◌, IfOk};
+ghost use Rattle.algo_tree.specs.View.{view};
+
 use crate::is_tree;
-use algo_tree::{Kind, Vertex};
+use algo_tree::{Kind, Tree, Vertex};
 use body_lang::Expr;
 use level_meaning::{Part, Source};
 use std::alloc::Global;
+use std::process::Abort;
 use std::test::Fail;
 use syn_base::Items;
 
@@ -105,6 +109,15 @@ fn switched(alloc: Global, first: Vertex) -> Result<Vertex, Fail> {
     main_of(alloc, vec![in alloc; sense, chosen, act]?)
 }
 
+/// The tree of a vertex that is one.
+fn tree_of(rt: &impl Abort, alloc: Global, main: Vertex) -> Result<Tree, Fail>
+    ensures { IfOk result (λ tree. tree ≡ view main) }
+{
+    let is_one = is_tree(alloc, &main)?;
+    assert!(rt; is_one);
+    Ok(Tree::new(main))
+}
+
 /// Whether a tree may hold this in a case of its switch.
 fn may_be_a_case(alloc: Global, first: Vertex) -> Result<bool, Fail> {
     let main = switched(alloc, first)?;
@@ -127,6 +140,15 @@ fn may_be_two(alloc: Global, first: &[u8], second: &[u8]) -> Result<bool, Fail> 
     let sensors = vec![in alloc; sensor(alloc, first, 0)?, sensor(alloc, second, 1)?]?;
     let main = main_of(alloc, sensors)?;
     Ok(is_tree(alloc, &main)?)
+}
+
+#[test]
+fn a_tree_is_built(rt: HostRuntime) -> Result<(), Fail> {
+    let alloc = rt.alloc();
+    let held = delay(alloc, Part::Numbered(0), 1, Source::Own(1))?;
+    let tree = tree_of(&rt, alloc, switched(alloc, held)?)?;
+    assert_eq!(rt; tree.operations(), 6);
+    Ok(())
 }
 
 #[test]

@@ -1,4 +1,4 @@
-use Rattle.std.proofs.Common.{◌≡◌, drop}
+use Rattle.std.proofs.Common.{◌≡◌}
 use Rattle.algo_tree.specs.Meaning.{nodes}
 use Rattle.algo_tree.specs.View.{vertices_view}
 use Rattle.tree_check.specs.Acyclic.{flags_after}
