@@ -1,5 +1,7 @@
 mod Exact
 mod Guarded
+mod Kept
 mod Tests
+mod Transferred
 mod Walked
 mod Written

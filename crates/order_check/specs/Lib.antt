@@ -1,3 +1,5 @@
 pub mod Buffers
+pub mod Carries
 pub mod Checked
 pub mod Pairs
+pub mod Transfers

@@ -32,7 +32,7 @@ fn first_output(outs: &[u32], buffer: usize) -> usize
 }
 
 /// The number of the output as which an instruction writes a buffer.
-fn output_at(list: &[Instr], at: usize, buffer: usize) -> usize
+pub fn output_at(list: &[Instr], at: usize, buffer: usize) -> usize
     ensures { result ≡ output_at buffer (slice_get list.now at) }
 {
     match list.get(at) {

@@ -3,14 +3,16 @@ ghost use Rattle.std.specs.Prelude.{◌≡◌, ℕ, ◌<◌, List, Some, length,
 ghost use Rattle.std.specs.List.{count_by};
 ghost use Rattle.semaphore_core.specs.Instructions.{is_communication, medium, readers, turn};
 ghost use Rattle.semaphore_core.specs.MicroSteps.{transfers};
-ghost use Rattle.semaphore_core.specs.Places.{carried, places};
-ghost use Rattle.semaphore_core.specs.WellFormed.{FollowsLoops, IsBuffer, IsPair, NamesIn, operator_of, Stands};
+ghost use Rattle.semaphore_core.specs.Places.{carried, places, transfer};
+ghost use Rattle.semaphore_core.specs.WellFormed.{FollowsLoops, IsBuffer, IsPair, IsTransfer, NamesIn, operator_of, Stands};
 ghost use Rattle.semaphore_core.specs.declared.program.Instr.{Instr};
 
 use crate::buffers::are_right;
+use crate::carrying::are_kept;
 use crate::guarding::are_guarded;
 use crate::loops::are_followed;
 use crate::naming::{are_communicators, are_counted, are_named, are_on_media};
+use crate::transferring::are_transfers;
 use flat_graph::Flat;
 use semaphore_core::Program;
 
@@ -72,4 +74,22 @@ pub fn pairs_guard(program: &Program, order: &[u32]) -> bool
     ensures complete { map (λ o. Some o) program.now.pairs ≡ map (λ r. operator_of program.now r.buffer) (readers program.now) → ((q : ℕ) → q < length program.now.pairs → IsPair program.now order.now (places program.now) q) → result ≡ true }
 {
     are_guarded(program, order)
+}
+
+/// Whether each transfer of so many media has its send, its receive and the waits of the other
+/// communicators, in this order and before the next send, and receives into a buffer as long as the one
+/// that is sent.
+pub fn transfers_are_right(program: &Program, order: &[u32], media: usize) -> bool
+    ensures sound { result ≡ true → (m t : ℕ) → m < media → t < transfers program.now m → IsTransfer program.now order.now (places program.now) m t }
+    ensures complete { ((m t : ℕ) → m < media → t < transfers program.now m → IsTransfer program.now order.now (places program.now) m t) → result ≡ true }
+{
+    are_transfers(program, order, media)
+}
+
+/// Whether each received buffer carries what the sent one does, in each transfer of so many media.
+pub fn transfers_keep_sources(program: &Program, media: usize) -> bool
+    ensures sound { result ≡ true → (m t : ℕ) → m < media → t < transfers program.now m → carried program.now (transfer program.now m t).received ≡ carried program.now (transfer program.now m t).sent }
+    ensures complete { ((m t : ℕ) → m < media → t < transfers program.now m → carried program.now (transfer program.now m t).received ≡ carried program.now (transfer program.now m t).sent) → result ≡ true }
+{
+    are_kept(program, media)
 }

@@ -3,6 +3,7 @@
 
 mod acts;
 mod buffers;
+mod carrying;
 mod clauses;
 mod guarding;
 mod instructions;
@@ -11,6 +12,7 @@ mod naming;
 mod parts;
 mod placing;
 mod searches;
+mod transferring;
 
 pub use clauses::{
     buffers_are_right, communicators_communicate, counts_agree, follows_loops, media_are_there,
