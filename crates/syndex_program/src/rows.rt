@@ -19,15 +19,26 @@ fn tree(rt: &impl Abort, alloc: Global, main: Vertex) -> Tree
     Tree::new(main)
 }
 
-/// What the actuators take where the sensor gives these values.
-fn taken(rt: &impl Abort, alloc: Global, main: Vertex, values: &[i64]) -> Result<ActRows, Fail> {
-    let tree = tree(rt, alloc, main);
-    let lens = tree.sensor_lens(alloc)?;
-    let mut rows = SensorRows::new(alloc, &lens)?;
-    assert_eq!(rt; lens.as_slice(), [1].as_slice());
+/// Rows in which the one sensor gives these values.
+fn sensed(rt: &impl Abort, mut rows: SensorRows, values: &[i64]) -> Result<SensorRows, Fail> {
     for value in values {
+        assert_eq!(rt; rows.lens(), [1].as_slice());
         rows.push(&[*value])?;
     }
+    Ok(rows)
+}
+
+/// What the actuators take where the sensor gives these values.
+fn taken(
+    rt: &impl Abort,
+    alloc: Global,
+    level: Vec<Vertex>,
+    values: &[i64],
+) -> Result<ActRows, Fail> {
+    let tree = tree(rt, alloc, main_of(alloc, level)?);
+    let lens = tree.sensor_lens(alloc)?;
+    let rows = sensed(rt, SensorRows::new(alloc, &lens)?, values)?;
+    assert_eq!(rt; rows.lens(), lens.as_slice());
     Ok(simulate(alloc, &tree, &rows)?)
 }
 
@@ -145,32 +156,42 @@ fn on_first(alloc: Global, op: Op, b: i64) -> Result<Expr, Fail> {
     apply(alloc, op, x, Expr::Lit(b))
 }
 
+fn adding(alloc: Global, ins: &[Source]) -> Result<Vertex, Fail> {
+    let sum = sum_of_both(alloc)?;
+    function(alloc, named(alloc, b"f")?, sum, ins, 1)
+}
+
 /// A sensor is added to what a delay of 7 gives, and the delay takes the sum.
-fn with_memory(alloc: Global) -> Result<Vertex, Fail> {
-    let sense = sensor(alloc)?;
-    let memory = delay(alloc, b"m", 7, Source::Of(2, 0))?;
-    let ins = [Source::Of(0, 0), Source::Of(1, 0)];
-    let add = function(alloc, named(alloc, b"f")?, sum_of_both(alloc)?, &ins, 1)?;
-    let act = actuator(alloc, Source::Of(1, 0))?;
-    main_of(alloc, vec![in alloc; sense, memory, add, act]?)
+fn with_memory(alloc: Global) -> Result<Vec<Vertex>, Fail> {
+    let mut level = Vec::new(alloc);
+    level.push(sensor(alloc)?)?;
+    level.push(delay(alloc, b"m", 7, Source::Of(2, 0))?)?;
+    level.push(adding(alloc, &[Source::Of(0, 0), Source::Of(1, 0)])?)?;
+    level.push(actuator(alloc, Source::Of(1, 0))?)?;
+    Ok(level)
 }
 
 /// Two delays between a sensor and an actuator, the second declared first.
-fn with_two_delays(alloc: Global) -> Result<Vertex, Fail> {
-    let second = delay(alloc, b"y", 2, Source::Of(1, 0))?;
-    let first = delay(alloc, b"x", 1, Source::Of(2, 0))?;
-    let sense = sensor(alloc)?;
-    let act = actuator(alloc, Source::Of(0, 0))?;
-    main_of(alloc, vec![in alloc; second, first, sense, act]?)
+fn with_two_delays(alloc: Global) -> Result<Vec<Vertex>, Fail> {
+    let mut level = Vec::new(alloc);
+    level.push(delay(alloc, b"y", 2, Source::Of(1, 0))?)?;
+    level.push(delay(alloc, b"x", 1, Source::Of(2, 0))?)?;
+    level.push(sensor(alloc)?)?;
+    level.push(actuator(alloc, Source::Of(0, 0))?)?;
+    Ok(level)
 }
 
-/// Gives what a delay of 100 gives, which takes the sum of that and the input.
+/// A delay of 100 takes the sum of what it gives and of the input.
+fn accumulated(alloc: Global) -> Result<Vec<Vertex>, Fail> {
+    let mut level = Vec::new(alloc);
+    level.push(delay(alloc, b"d", 100, Source::Of(1, 0))?)?;
+    level.push(adding(alloc, &[Source::Of(0, 0), Source::Own(0)])?)?;
+    Ok(level)
+}
+
 fn accumulator(alloc: Global) -> Result<Vertex, Fail> {
-    let memory = delay(alloc, b"d", 100, Source::Of(1, 0))?;
-    let ins = [Source::Of(0, 0), Source::Own(0)];
-    let add = function(alloc, named(alloc, b"f")?, sum_of_both(alloc)?, &ins, 1)?;
+    let inner = accumulated(alloc)?;
     let outs = Items::new(vec![in alloc; Source::Of(0, 0)]?);
-    let inner = vec![in alloc; memory, add]?;
     vertex(
         alloc,
         Part::Numbered(1),
@@ -181,38 +202,45 @@ fn accumulator(alloc: Global) -> Result<Vertex, Fail> {
     )
 }
 
-/// The value for 0, the accumulator for 3, the negation else.
-fn switch(alloc: Global) -> Result<Vertex, Fail> {
-    let same = function(
-        alloc,
-        Part::Numbered(0),
-        element(alloc, 0, 0)?,
-        &[Source::Own(1)],
-        1,
-    )?;
-    let sum = accumulator(alloc)?;
+fn same(alloc: Global) -> Result<Vertex, Fail> {
+    let value = element(alloc, 0, 0)?;
+    function(alloc, Part::Numbered(0), value, &[Source::Own(1)], 1)
+}
+
+fn negated(alloc: Global) -> Result<Vertex, Fail> {
     let negation = Expr::Neg(Box::new(alloc, element(alloc, 0, 0)?)?);
-    let negated = function(alloc, Part::Numbered(2), negation, &[Source::Own(1)], 1)?;
+    function(alloc, Part::Numbered(2), negation, &[Source::Own(1)], 1)
+}
+
+/// The value for 0, the accumulator for 3, the negation else.
+fn cases(alloc: Global) -> Result<Vec<Vertex>, Fail> {
+    let mut cases = Vec::new(alloc);
+    cases.push(same(alloc)?)?;
+    cases.push(accumulator(alloc)?)?;
+    cases.push(negated(alloc)?)?;
+    Ok(cases)
+}
+
+fn switch_kind(alloc: Global) -> Result<Kind, Fail> {
     let values = Items::new(Vec::from_slice(alloc, &[0, 3])?);
     let name = Items::new(Vec::from_slice(alloc, b"y")?);
     let names = Items::new(vec![in alloc; name]?);
-    let ins = [Source::Of(0, 0), Source::Of(0, 0)];
-    let cases = vec![in alloc; same, sum, negated]?;
-    vertex(
-        alloc,
-        named(alloc, b"w")?,
-        Kind::Switch(values, names),
-        &ins,
-        &[1],
-        cases,
-    )
+    Ok(Kind::Switch(values, names))
 }
 
-fn with_cases(alloc: Global) -> Result<Vertex, Fail> {
-    let sense = sensor(alloc)?;
-    let chosen = switch(alloc)?;
-    let act = actuator(alloc, Source::Of(1, 0))?;
-    main_of(alloc, vec![in alloc; sense, chosen, act]?)
+fn switch(alloc: Global) -> Result<Vertex, Fail> {
+    let ins = [Source::Of(0, 0), Source::Of(0, 0)];
+    let cases = cases(alloc)?;
+    let kind = switch_kind(alloc)?;
+    vertex(alloc, named(alloc, b"w")?, kind, &ins, &[1], cases)
+}
+
+fn with_cases(alloc: Global) -> Result<Vec<Vertex>, Fail> {
+    let mut level = Vec::new(alloc);
+    level.push(sensor(alloc)?)?;
+    level.push(switch(alloc)?)?;
+    level.push(actuator(alloc, Source::Of(1, 0))?)?;
+    Ok(level)
 }
 
 /// A sum above the greatest value, the least value by -1, a quotient and a remainder by 0, the
@@ -228,12 +256,17 @@ fn ends_of_the_type(alloc: Global) -> Result<Expr, Fail> {
     at_index(alloc, 0, on_first(alloc, Op::Add, i64::MAX)?, by_minus_one)
 }
 
-fn with_ends(alloc: Global) -> Result<Vertex, Fail> {
-    let sense = sensor(alloc)?;
+fn at_the_ends(alloc: Global) -> Result<Vertex, Fail> {
     let ends = ends_of_the_type(alloc)?;
-    let fun = function(alloc, named(alloc, b"f")?, ends, &[Source::Of(0, 0)], 6)?;
-    let act = actuator(alloc, Source::Of(1, 0))?;
-    main_of(alloc, vec![in alloc; sense, fun, act]?)
+    function(alloc, named(alloc, b"f")?, ends, &[Source::Of(0, 0)], 6)
+}
+
+fn with_ends(alloc: Global) -> Result<Vec<Vertex>, Fail> {
+    let mut level = Vec::new(alloc);
+    level.push(sensor(alloc)?)?;
+    level.push(at_the_ends(alloc)?)?;
+    level.push(actuator(alloc, Source::Of(1, 0))?)?;
+    Ok(level)
 }
 
 /// One element in each reaction.
