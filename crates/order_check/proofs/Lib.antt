@@ -1,3 +1,4 @@
+mod Called
 mod Exact
 mod Guarded
 mod Kept

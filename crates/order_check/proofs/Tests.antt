@@ -3,7 +3,7 @@ use Rattle.std.proofs.Common.{◌≡◌, ℕ, zero, suc, ◌+◌, ◌<◌, Bool,
 use Rattle.std.specs.Prelude.{slice_get, Option, Some, None}
 use Rattle.std.specs.List.{list_all, range_with_len}
 use Rattle.std.specs.Cmp.Derive.{both_true}
-use Rattle.std.proofs.lemmas.Bool.{and_parts}
+use Rattle.std.proofs.lemmas.Bool.{false≢true, and_parts}
 use Rattle.std.proofs.lemmas.List.FromFn.{get_or-range_with_len, length-range_with_len}
 use Rattle.std.proofs.lemmas.List.Sums.{AllPass-from_list_all, list_all-from_AllPass}
 use Rattle.semaphore_core.specs.declared.program.Instr.{Instr}
@@ -43,6 +43,14 @@ from_zero test xs h i x e = subst (λ (k : ℕ). test k x ≡ true) (zero-add i)
 
 pub to_zero : {X : Type 0} (test : ℕ → X → Bool) (xs : List X) → ((i : ℕ) (x : X) → slice_get xs i ≡ Some x → test i x ≡ true) → all_at test 0 xs ≡ true
 to_zero test xs h = of_at test 0 xs (λ i x e. subst (λ (k : ℕ). test k x ≡ true) (sym (zero-add i)) (h i x e))
+
+-- it is false where it fails at one
+pub fails_at : {X : Type 0} (test : ℕ → X → Bool) (xs : List X) (k : ℕ) (x : X) → slice_get xs k ≡ Some x → test k x ≡ false → all_at test 0 xs ≡ false
+fails_at test xs k x e f = by (all_at test 0 xs) refl
+  where
+    by : (b : Bool) → all_at test 0 xs ≡ b → b ≡ false
+    by true h = absurd (false≢true (sym f ∙ from_zero test xs h k x e))
+    by false h = refl
 
 pub below_of : (test : ℕ → Bool) (n : ℕ) → all_below test n ≡ true → (k : ℕ) → k < n → test k ≡ true
 below_of test n h k l =

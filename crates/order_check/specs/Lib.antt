@@ -1,4 +1,5 @@
 pub mod Buffers
+pub mod Calls
 pub mod Carries
 pub mod Checked
 pub mod Pairs

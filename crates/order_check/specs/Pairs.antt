@@ -4,18 +4,19 @@ use Rattle.std.specs.List.{position_or_len}
 use Rattle.semaphore_core.specs.declared.program.Instr.{Instr}
 use Rattle.semaphore_core.specs.declared.program.Program.{Program}
 use Rattle.semaphore_core.specs.Instructions.{Reader, reads, readers, turn}
-use Rattle.semaphore_core.specs.Places.{signals_empty, signals_full, takes_empty, takes_full, writer_of, written_at}
+use Rattle.semaphore_core.specs.Places.{calls, signals_empty, signals_full, takes_empty, takes_full, writer_of, written_at}
 use Rattle.semaphore_core.specs.WellFormed.{operator_of, place_in}
 use Rattle.order_check.specs.declared.acts.Act.{Act}
-use Rattle.order_check.specs.declared.acts.Act.TheVariants.{TakeEmpty, SignalFull, TakeFull, SignalEmpty}
+use Rattle.order_check.specs.declared.acts.Act.TheVariants.{TakeEmpty, SignalFull, TakeFull, SignalEmpty, Call}
 use Rattle.order_check.specs.Checked.{all_at, every, implies}
 
--- the instruction does this on the semaphores of pair q
+-- the instruction does this on the semaphores of pair q, or calls operation q
 abbrev pub is_act : Act → ℕ → Instr → Bool
 is_act TakeEmpty = takes_empty
 is_act SignalFull = signals_full
 is_act TakeFull = takes_full
 is_act SignalEmpty = signals_empty
+is_act Call = calls
 
 abbrev pub passes : (Instr → Bool) → Option Instr → Bool
 passes test None = false

@@ -4,11 +4,11 @@ ghost use Rattle.std.specs.List.{position_or_len};
 ghost use Rattle.order_check.specs.Checked.{all_at, every, implies};
 ghost use Rattle.order_check.specs.Pairs.{is_act, is_only, passes};
 
-use crate::instructions::{signals_empty, signals_full, takes_empty, takes_full};
+use crate::instructions::{calls, signals_empty, signals_full, takes_empty, takes_full};
 use crate::parts::turn_of;
 use semaphore_core::{Instr, Program};
 
-/// What is done on the semaphores of a pair.
+/// What is done on the semaphores of a pair, or the call of an operation, both by their number.
 #[derive(Clone, Copy, Drop)]
 pub enum Act {
     /// The writer waits for the empty semaphore.
@@ -19,6 +19,8 @@ pub enum Act {
     TakeFull,
     /// The reader signals the empty semaphore.
     SignalEmpty,
+    /// The operation is called.
+    Call,
 }
 
 /// Where an instruction stands: its sequence, and its place there.
@@ -36,6 +38,7 @@ fn is_act(instr: &Instr, act: Act, pair: usize) -> bool
         Act::SignalFull => signals_full(instr, pair),
         Act::TakeFull => takes_full(instr, pair),
         Act::SignalEmpty => signals_empty(instr, pair),
+        Act::Call => calls(instr, pair),
     }
 }
 

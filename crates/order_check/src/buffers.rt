@@ -42,7 +42,7 @@ pub fn output_at(list: &[Instr], at: usize, buffer: usize) -> usize
 }
 
 /// Whether a number stands at a place.
-fn is_entry(list: &[u32], place: usize, number: usize) -> bool
+pub fn is_entry(list: &[u32], place: usize, number: usize) -> bool
     ensures { result ≡ names (slice_get list.now place) number }
 {
     match list.get(place) {

@@ -1,13 +1,15 @@
 //! The clauses of a well-formed program about loops, names, communicators and counts, each as an exact check.
-ghost use Rattle.std.specs.Prelude.{◌≡◌, ℕ, ◌<◌, List, Some, length, map, true};
+ghost use Rattle.std.specs.Prelude.{◌≡◌, ℕ, ◌<◌, List, Some, length, map, slice_get, true};
 ghost use Rattle.std.specs.List.{count_by};
 ghost use Rattle.semaphore_core.specs.Instructions.{is_communication, medium, readers, turn};
 ghost use Rattle.semaphore_core.specs.MicroSteps.{transfers};
 ghost use Rattle.semaphore_core.specs.Places.{carried, places, transfer};
-ghost use Rattle.semaphore_core.specs.WellFormed.{FollowsLoops, IsBuffer, IsPair, IsTransfer, NamesIn, operator_of, Stands};
+ghost use Rattle.semaphore_core.specs.WellFormed.{FollowsLoops, IsBuffer, IsCalled, IsPair, IsTransfer, NamesIn, operator_of, Stands};
 ghost use Rattle.semaphore_core.specs.declared.program.Instr.{Instr};
+ghost use Rattle.flat_graph.specs.declared.vertex.Vertex.{Vertex};
 
 use crate::buffers::are_right;
+use crate::calling::are_called;
 use crate::carrying::are_kept;
 use crate::guarding::are_guarded;
 use crate::loops::are_followed;
@@ -92,4 +94,14 @@ pub fn transfers_keep_sources(program: &Program, media: usize) -> bool
     ensures complete { ((m t : ℕ) → m < media → t < transfers program.now m → carried program.now (transfer program.now m t).received ≡ carried program.now (transfer program.now m t).sent) → result ≡ true }
 {
     are_kept(program, media)
+}
+
+/// Whether each operation is called once, in a computation sequence, on buffers that carry its guards'
+/// sources and its inputs, into buffers that carry its outputs; and the get half of a delay before its
+/// set half in one sequence.
+pub fn operations_are_called(program: &Program, flat: &Flat, order: &[u32]) -> bool
+    ensures sound { result ≡ true → (v : ℕ) (x : Vertex) → slice_get flat.now.vertices v ≡ Some x → IsCalled program.now order.now (places program.now) (carried program.now) flat.now v x }
+    ensures complete { ((v : ℕ) (x : Vertex) → slice_get flat.now.vertices v ≡ Some x → IsCalled program.now order.now (places program.now) (carried program.now) flat.now v x) → result ≡ true }
+{
+    are_called(program, flat.vertices())
 }

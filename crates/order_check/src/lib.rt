@@ -3,6 +3,7 @@
 
 mod acts;
 mod buffers;
+mod calling;
 mod carrying;
 mod clauses;
 mod guarding;
