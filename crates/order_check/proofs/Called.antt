@@ -15,9 +15,8 @@ use Rattle.semaphore_core.specs.declared.program.Instr.TheVariants.{Suc0, Suc1, 
 use Rattle.semaphore_core.specs.declared.program.Program.{Program}
 use Rattle.semaphore_core.specs.Instructions.{len_of, medium, turn}
 use Rattle.semaphore_core.specs.Places.{caller_of, calls, carried, ins_in, outs_in, places}
-use Rattle.semaphore_core.specs.WellFormed.{CarryInOrder, CarryOutputs, HasLength, IsCalled, Stands, len_is}
+use Rattle.semaphore_core.specs.WellFormed.{CarryInOrder, CarryOutputs, HasLength, IsCalled, len_is}
 use Rattle.order_check.specs.Checked.{all_at, every, implies}
-use Rattle.order_check.specs.Buffers.{names}
 use Rattle.order_check.specs.Calls.{are_called, called_at, carries, carry_guards, carry_inputs, gives, gives_at, has_len, has_output, is_before_twin, is_called, takes}
 use Rattle.order_check.specs.Carries.{same_source}
 use Rattle.order_check.specs.Pairs.{is_only, passes}
@@ -43,7 +42,6 @@ call_is v _ h = absurd (false≢true h)
 none_is : (o : Option ℕ) → is_none o ≡ true → o ≡ None
 none_is None h = refl
 none_is (Some m) h = absurd (false≢true h)
-
 
 module _ (p : Program) (order : List ℕ) (g : Graph) where
   length_told : (x : Source) (n : ℕ) (o : Option Vertex) → slice_get g.vertices x.vertex ≡ o → has_output o x.port n ≡ true → HasLength p order (places p) (carried p) g x n
@@ -140,10 +138,12 @@ module _ (p : Program) (order : List ℕ) (g : Graph) where
   give_of v port [] (n ∷ ns) l h = absurd (omega (arith, l))
   give_of v port (b ∷ bs) [] l h = absurd (omega (arith, l))
   give_of v port (b ∷ bs) (n ∷ ns) l h =
-      let here = and_parts (same_source (carried p b) (record { vertex = v; port = port })) (has_len (slice_get p.buffers b) n) (subst (λ (k : ℕ). gives_at p v k n (Some b) ≡ true) (add-zero port) (h zero n refl)) in
-      (same_source_is (carried p b) (record { vertex = v; port = port }) here.0, len_told (slice_get p.buffers b) n here.1,
-      give_of v (port + 1) bs ns (let m : length bs ≡ length ns = omega (arith, l) in m)
-      (λ k m e. subst (λ (q : ℕ). gives_at p v q m (slice_get bs k) ≡ true) (let q : port + suc k ≡ port + 1 + k = omega arith in q) (h (suc k) m e)))
+      let here = and_parts (same_source (carried p b) (record { vertex = v; port = port })) (has_len (slice_get p.buffers b) n) (subst (λ (k : ℕ). gives_at p v k n (Some b) ≡ true) (add-zero port) (h zero n refl)) in (
+        same_source_is (carried p b) (record { vertex = v; port = port }) here.0,
+        len_told (slice_get p.buffers b) n here.1,
+        give_of v (port + 1) bs ns (let m : length bs ≡ length ns = omega (arith, l) in m)
+            (λ k m e. subst (λ (q : ℕ). gives_at p v q m (slice_get bs k) ≡ true) (let q : port + suc k ≡ port + 1 + k = omega arith in q) (h (suc k) m e)),
+      )
 
   long_give : (v port : ℕ) (bs ns : List ℕ) → CarryOutputs p order (places p) (carried p) g v port bs ns → length bs ≡ length ns
   long_give v port [] [] h = refl

@@ -1,7 +1,7 @@
 -- The tests of loops, names, communicators and counts are true exactly where these clauses hold.
-use Rattle.std.proofs.Common.{◌≡◌, ℕ, ◌<◌, Bool, true, ◌&&◌, not, nat_eq, List, length, refl, sym, ap, subst, eq-eqb, ◌∙◌, ◌⊎◌, inl, inr}
+use Rattle.std.proofs.Common.{◌≡◌, ℕ, ◌<◌, Bool, true, ◌&&◌, not, nat_eq, List, length, refl, sym, ap, subst, eq-eqb, ◌∙◌, inl, inr}
 use Rattle.std.specs.Prelude.{slice_get, Option, Some, None, nat_lt}
-use Rattle.std.specs.List.{count_by, list_all}
+use Rattle.std.specs.List.{count_by}
 use Rattle.std.specs.Cmp.Derive.{both_true}
 use Rattle.std.proofs.lemmas.Bool.{and_parts, eqb-true, ltb-true, lt-ltb}
 use Rattle.flat_graph.specs.declared.vertex.Source.{Source}

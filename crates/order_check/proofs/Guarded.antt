@@ -1,13 +1,12 @@
 -- The test of pairs is true exactly where they are numbered and guard their buffers.
-use Rattle.std.proofs.Common.{◌≡◌, ℕ, zero, suc, ◌+◌, ◌<◌, ◌≤◌, Bool, true, ◌&&◌, nat_eq, List, [], ◌∷◌, map, length, get_or, refl, sym, ap, subst, eq-eqb, arith, ◌∙◌}
+use Rattle.std.proofs.Common.{◌≡◌, ℕ, zero, suc, ◌<◌, Bool, true, ◌&&◌, nat_eq, List, [], ◌∷◌, map, length, get_or, refl, sym, ap, subst, eq-eqb, arith, ◌∙◌}
 use Rattle.std.specs.Prelude.{slice_get, Option, Some, None, nat_lt}
-use Rattle.std.specs.List.{position_or_len}
 use Rattle.std.specs.Cmp.Derive.{both_true}
 use Rattle.std.proofs.lemmas.Bool.{false≢true, and_parts, eqb-true, ltb-true, lt-ltb}
 use Rattle.std.proofs.lemmas.List.{length-map}
 use Rattle.std.proofs.lemmas.Option.{slice_get-get_or, slice_get_within}
 use Rattle.semaphore_core.specs.declared.program.Instr.{Instr}
-use Rattle.semaphore_core.specs.declared.program.Instr.TheVariants.{Suc0, Suc1, Pre0, Pre1, Call, Send, Recv, Sync}
+use Rattle.semaphore_core.specs.declared.program.Instr.TheVariants.{Suc0, Suc1, Pre0, Pre1}
 use Rattle.semaphore_core.specs.declared.program.Program.{Program}
 use Rattle.semaphore_core.specs.Instructions.{Reader, reads, readers, turn}
 use Rattle.semaphore_core.specs.Places.{places, reader, reader_or, signals_empty, signals_full, takes_empty, takes_full, writer_of, written_at}

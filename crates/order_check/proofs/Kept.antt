@@ -1,5 +1,5 @@
 -- The source that a buffer carries, found step by step, and the test that transfers keep it.
-use Rattle.std.proofs.Common.{◌≡◌, ℕ, zero, suc, ◌+◌, ◌-◌, ◌<◌, Bool, true, ◌&&◌, nat_eq, length, refl, sym, ap, subst, eq-eqb, arith, ◌∙◌}
+use Rattle.std.proofs.Common.{◌≡◌, ℕ, zero, suc, ◌-◌, ◌<◌, true, nat_eq, refl, sym, ap, eq-eqb, arith, ◌∙◌}
 use Rattle.std.specs.Prelude.{slice_get, Option, Some, None}
 use Rattle.std.specs.Cmp.Derive.{both_true}
 use Rattle.std.proofs.lemmas.Bool.{and_parts, eqb-true}
@@ -9,7 +9,7 @@ use Rattle.semaphore_core.specs.declared.program.Instr.TheVariants.{Suc0, Suc1, 
 use Rattle.semaphore_core.specs.declared.program.Program.{Program}
 use Rattle.semaphore_core.specs.Instructions.{communications, medium, turn}
 use Rattle.semaphore_core.specs.MicroSteps.{sent, transfers}
-use Rattle.semaphore_core.specs.Places.{Writing, carried, carried_within, no_source, output_at, places, sent_source, source_by, writer_of, writing, written_at}
+use Rattle.semaphore_core.specs.Places.{Writing, carried, carried_within, no_source, sent_source, source_by, writing}
 use Rattle.order_check.specs.declared.carrying.Origin.{Origin}
 use Rattle.order_check.specs.declared.carrying.Origin.TheVariants.{Made, Received, Nowhere}
 use Rattle.order_check.specs.Checked.{all_below}

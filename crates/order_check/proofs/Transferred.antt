@@ -1,5 +1,5 @@
 -- The test of transfers is true exactly where each transfer is right.
-use Rattle.std.proofs.Common.{◌≡◌, ◌≢◌, ℕ, zero, suc, ◌+◌, ◌<◌, Bool, true, false, ◌&&◌, not, cond, nat_eq, List, [], ◌∷◌, take, length, refl, sym, ap, subst, eq-eqb, arith, ◌∙◌}
+use Rattle.std.proofs.Common.{◌≡◌, ◌≢◌, ℕ, zero, suc, ◌+◌, ◌<◌, Bool, true, false, ◌&&◌, not, cond, nat_eq, List, [], ◌∷◌, take, refl, sym, ap, subst, eq-eqb, arith, ◌∙◌}
 use Rattle.std.specs.Prelude.{slice_get, Option, Some, None, nat_lt}
 use Rattle.std.specs.List.{count_by}
 use Rattle.std.specs.Cmp.Derive.{both_true}
@@ -13,7 +13,7 @@ use Rattle.semaphore_core.specs.Instructions.{is_communication, len_of, medium, 
 use Rattle.semaphore_core.specs.MicroSteps.{is_on, transfers}
 use Rattle.semaphore_core.specs.Places.{buffer_in, communication_at, places}
 use Rattle.semaphore_core.specs.WellFormed.{Communicates, IsTransfer, place_in}
-use Rattle.order_check.specs.Checked.{all_at, all_below, implies}
+use Rattle.order_check.specs.Checked.{all_at, all_below}
 use Rattle.order_check.specs.Transfers.{are_transfers, buffer_at, is_before_next, is_later, is_other, is_receive_from, is_received, is_send_to, is_sent, is_transfer, is_wait, place_of, receiver_of, sender_of, stands_at, waits, waits_at}
 use Rattle.order_check.proofs.Tests.{below_of, of_below, from_zero, to_zero, implied, implying, not_true}
 use Rattle.order_check.proofs.Written.{same_numbers}

@@ -12,7 +12,7 @@ use Rattle.semaphore_core.specs.declared.program.Program.{Program}
 use Rattle.semaphore_core.specs.Instructions.{depth_of, operator, operator_in, reads, turn, turn_of, writes}
 use Rattle.semaphore_core.specs.Places.{places, writing}
 use Rattle.semaphore_core.specs.WellFormed.{IsBuffer, ReadsAt, Stands, WritesAt, operator_is}
-use Rattle.order_check.specs.Checked.{all_at, every, implies}
+use Rattle.order_check.specs.Checked.{implies}
 use Rattle.order_check.specs.Buffers.{are_buffers, is_buffer, is_near, is_operator, is_written_first, is_written_once, names, touches, writes_at, writes_only}
 use Rattle.order_check.proofs.Tests.{all_here, all_there, below_of, of_below, every_of, of_every, from_zero, to_zero, implied, implying}
 

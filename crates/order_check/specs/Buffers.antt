@@ -1,8 +1,8 @@
 -- What makes a buffer right, as tests.
-use Rattle.std.specs.Prelude.{ℕ, Bool, true, false, ◌&&◌, ◌||◌, nat_eq, nat_lt, List, length, Option, Some, None, slice_get}
+use Rattle.std.specs.Prelude.{ℕ, Bool, true, false, ◌&&◌, ◌||◌, nat_eq, nat_lt, length, Option, Some, None, slice_get}
 use Rattle.std.specs.List.{list_all}
 use Rattle.semaphore_core.specs.declared.program.Instr.{Instr}
-use Rattle.semaphore_core.specs.declared.program.Instr.TheVariants.{Call, Send, Recv}
+use Rattle.semaphore_core.specs.declared.program.Instr.TheVariants.{Call, Recv}
 use Rattle.semaphore_core.specs.declared.program.Buffer.{Buffer}
 use Rattle.semaphore_core.specs.declared.program.Program.{Program}
 use Rattle.semaphore_core.specs.Instructions.{depth_of, reads, turn, writes}

@@ -1,5 +1,5 @@
 -- How the source that a buffer carries is found, and the test that transfers keep it.
-use Rattle.std.specs.Prelude.{ℕ, Bool, ◌&&◌, nat_eq, length, Option, Some, None, slice_get}
+use Rattle.std.specs.Prelude.{ℕ, Bool, ◌&&◌, nat_eq, Option, Some, None, slice_get}
 use Rattle.flat_graph.specs.declared.vertex.Source.{Source}
 use Rattle.semaphore_core.specs.declared.program.Instr.{Instr}
 use Rattle.semaphore_core.specs.declared.program.Instr.TheVariants.{Call, Recv, Send}

@@ -1,5 +1,5 @@
 -- What makes a pair of semaphores right, as tests.
-use Rattle.std.specs.Prelude.{ℕ, Bool, true, false, ◌&&◌, nat_eq, nat_lt, List, length, Option, Some, None, slice_get}
+use Rattle.std.specs.Prelude.{ℕ, Bool, false, ◌&&◌, nat_eq, nat_lt, List, length, Option, Some, None, slice_get}
 use Rattle.std.specs.List.{position_or_len}
 use Rattle.semaphore_core.specs.declared.program.Instr.{Instr}
 use Rattle.semaphore_core.specs.declared.program.Program.{Program}

@@ -1,5 +1,5 @@
 -- What makes a transfer right, as tests.
-use Rattle.std.specs.Prelude.{ℕ, ◌+◌, Bool, true, false, ◌&&◌, not, nat_eq, nat_lt, List, length, Option, Some, None, slice_get}
+use Rattle.std.specs.Prelude.{ℕ, ◌+◌, Bool, true, false, ◌&&◌, not, nat_eq, nat_lt, List, Option, Some, None, slice_get}
 use Rattle.semaphore_core.specs.declared.program.Instr.{Instr}
 use Rattle.semaphore_core.specs.declared.program.Instr.TheVariants.{Send, Recv, Sync}
 use Rattle.semaphore_core.specs.declared.program.SeqCode.{SeqCode}

@@ -181,16 +181,32 @@ fn outs_of(list: &[Instr], at: usize) -> &[u32]
 fn takes_at(program: &Program, vertices: &[Vertex], stand: Stand, x: &Vertex) -> bool
     ensures { result ≡ takes program.now vertices.now (ins_in (slice_get (turn program.now stand.sequence) stand.at)) x.now.guards x.now.ins }
 {
-    takes(program, vertices, ins_of(turn_of(program, stand.sequence), stand.at), x)
+    takes(
+        program,
+        vertices,
+        ins_of(turn_of(program, stand.sequence), stand.at),
+        x,
+    )
 }
 
 fn gives_from(program: &Program, operation: usize, stand: Stand, x: &Vertex) -> bool
     ensures { result ≡ gives program.now operation (outs_in (slice_get (turn program.now stand.sequence) stand.at)) x.now.outs }
 {
-    gives(program, operation, outs_of(turn_of(program, stand.sequence), stand.at), x.outs.as_slice())
+    gives(
+        program,
+        operation,
+        outs_of(turn_of(program, stand.sequence), stand.at),
+        x.outs.as_slice(),
+    )
 }
 
-fn is_called_at(program: &Program, vertices: &[Vertex], operation: usize, x: &Vertex, stand: Stand) -> bool
+fn is_called_at(
+    program: &Program,
+    vertices: &[Vertex],
+    operation: usize,
+    x: &Vertex,
+    stand: Stand,
+) -> bool
     ensures { result ≡ is_called_at program.now vertices.now operation x.now stand.sequence stand.at }
 {
     is_only(program, Act::Call, operation, stand)

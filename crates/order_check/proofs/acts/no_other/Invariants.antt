@@ -1,4 +1,4 @@
-use Rattle.std.proofs.Common.{◌≡◌, ℕ, ◌+◌, ◌≤◌, ◌&&◌, drop, length, nat_eq, nat_lt}
+use Rattle.std.proofs.Common.{◌≡◌, ℕ, ◌&&◌, drop, nat_eq}
 use Rattle.semaphore_core.specs.declared.program.Instr.{Instr}
 use Rattle.order_check.specs.Checked.{all_at, implies}
 use Rattle.semaphore_core.specs.declared.program.SeqCode.{SeqCode}

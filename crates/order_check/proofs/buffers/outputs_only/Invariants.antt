@@ -1,5 +1,4 @@
-use Rattle.std.proofs.Common.{◌≡◌, ℕ, ◌+◌, ◌&&◌, drop, nat_eq, nat_lt}
-use Rattle.semaphore_core.specs.declared.program.Instr.{Instr}
+use Rattle.std.proofs.Common.{◌≡◌, ℕ, ◌&&◌, drop, nat_eq}
 use Rattle.order_check.specs.Checked.{all_at, implies}
 use Rattle.order_check.proofs.buffers.outputs_only.Given as goal
 

@@ -1,5 +1,4 @@
-use Rattle.std.proofs.Common.{◌≡◌, ℕ, drop}
-use Rattle.std.specs.Prelude.{slice_get}
+use Rattle.std.proofs.Common.{◌≡◌, drop}
 use Rattle.order_check.specs.Checked.{all_at}
 use Rattle.order_check.specs.Calls.{is_called}
 use Rattle.order_check.proofs.calling.are_called.Given as goal

@@ -1,4 +1,4 @@
-use Rattle.std.proofs.Common.{◌≡◌, ℕ, ◌+◌, ◌-◌, ◌<◌, List, length, arith, sym, ap, ◌∙◌}
+use Rattle.std.proofs.Common.{◌≡◌, ◌+◌, ◌-◌, ◌<◌, List, length, arith, ap}
 use Rattle.flat_graph.specs.declared.vertex.Source.{Source}
 use Rattle.semaphore_core.specs.declared.program.Buffer.{Buffer}
 use Rattle.order_check.proofs.Kept.{comes_from_buffer, comes_from_call, comes_from_nowhere}

@@ -1,4 +1,4 @@
-use Rattle.std.proofs.Common.{◌≡◌, true, length, subst, sym, ◌∙◌}
+use Rattle.std.proofs.Common.{sym, ◌∙◌}
 use Rattle.order_check.proofs.Written.{buffers_of, of_buffers}
 use Rattle.order_check.proofs.clauses.buffers_are_right.Goals as goal
 

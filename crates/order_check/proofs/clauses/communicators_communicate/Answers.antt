@@ -1,4 +1,4 @@
-use Rattle.std.proofs.Common.{◌≡◌, true, length, subst, sym, ◌∙◌}
+use Rattle.std.proofs.Common.{sym, ◌∙◌}
 use Rattle.order_check.proofs.Exact.{communicators_of, of_communicators}
 use Rattle.order_check.proofs.clauses.communicators_communicate.Goals as goal
 

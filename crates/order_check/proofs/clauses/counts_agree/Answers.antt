@@ -1,4 +1,4 @@
-use Rattle.std.proofs.Common.{◌≡◌, true, length, subst, sym, ◌∙◌}
+use Rattle.std.proofs.Common.{sym, ◌∙◌}
 use Rattle.order_check.proofs.Exact.{counts_of, of_counts}
 use Rattle.order_check.proofs.clauses.counts_agree.Goals as goal
 

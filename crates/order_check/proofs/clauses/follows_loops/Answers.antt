@@ -1,4 +1,4 @@
-use Rattle.std.proofs.Common.{◌≡◌, true, length, subst, sym, ◌∙◌}
+use Rattle.std.proofs.Common.{sym, ◌∙◌}
 use Rattle.order_check.proofs.Exact.{follows_of, of_follows}
 use Rattle.order_check.proofs.clauses.follows_loops.Goals as goal
 

@@ -1,4 +1,4 @@
-use Rattle.std.proofs.Common.{◌≡◌, true, length, subst, sym, ◌∙◌}
+use Rattle.std.proofs.Common.{sym, ◌∙◌}
 use Rattle.order_check.proofs.Exact.{on_media_of, of_on_media}
 use Rattle.order_check.proofs.clauses.media_are_there.Goals as goal
 

@@ -1,4 +1,4 @@
-use Rattle.std.proofs.Common.{◌≡◌, ℕ, true, List, length, ap, sym, ◌∙◌}
+use Rattle.std.proofs.Common.{List, length, ap, sym, ◌∙◌}
 use Rattle.flat_graph.specs.declared.vertex.Vertex.{Vertex}
 use Rattle.semaphore_core.specs.Places.{carried, places}
 use Rattle.order_check.specs.Checked.{named}

@@ -1,4 +1,4 @@
-use Rattle.std.proofs.Common.{◌≡◌, true, List, sym, ap, ◌∙◌}
+use Rattle.std.proofs.Common.{List, sym, ap, ◌∙◌}
 use Rattle.flat_graph.specs.declared.vertex.Vertex.{Vertex}
 use Rattle.order_check.specs.Calls.{are_called}
 use Rattle.order_check.proofs.Called.{calls_of, of_calls}

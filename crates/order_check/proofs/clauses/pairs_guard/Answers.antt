@@ -1,4 +1,4 @@
-use Rattle.std.proofs.Common.{◌≡◌, true, sym, ◌∙◌}
+use Rattle.std.proofs.Common.{sym, ◌∙◌}
 use Rattle.order_check.proofs.Guarded.{numbered_of, pairs_of, of_pairs}
 use Rattle.order_check.proofs.clauses.pairs_guard.Goals as goal
 

@@ -1,4 +1,4 @@
-use Rattle.std.proofs.Common.{◌≡◌, true, sym, ◌∙◌}
+use Rattle.std.proofs.Common.{sym, ◌∙◌}
 use Rattle.order_check.proofs.Transferred.{transfers_of, of_transfers}
 use Rattle.order_check.proofs.clauses.transfers_are_right.Goals as goal
 

@@ -1,4 +1,4 @@
-use Rattle.std.proofs.Common.{◌≡◌, true, sym, ◌∙◌}
+use Rattle.std.proofs.Common.{sym, ◌∙◌}
 use Rattle.order_check.proofs.Kept.{kept_of, of_kept}
 use Rattle.order_check.proofs.clauses.transfers_keep_sources.Goals as goal
 

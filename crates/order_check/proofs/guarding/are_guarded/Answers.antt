@@ -1,4 +1,4 @@
-use Rattle.std.proofs.Common.{◌≡◌, ◌+◌, ◌<◌, ◌≤◌, List, length, arith, sym, ap, ◌∙◌}
+use Rattle.std.proofs.Common.{◌+◌, ◌<◌, ◌≤◌, List, length, arith, sym, ap}
 use Rattle.semaphore_core.specs.declared.program.Buffer.{Buffer}
 use Rattle.semaphore_core.specs.Instructions.{readers_from}
 use Rattle.order_check.proofs.Walked.{fits, right_more, many_more, one_fails}

@@ -1,4 +1,4 @@
-use Rattle.std.proofs.Common.{◌≡◌, ℕ, ap, ◌∙◌}
+use Rattle.std.proofs.Common.{ℕ, ap, ◌∙◌}
 use Rattle.semaphore_core.specs.Instructions.{Reader}
 use Rattle.semaphore_core.specs.Places.{writer_of}
 use Rattle.order_check.specs.Pairs.{guards_from}

@@ -1,4 +1,4 @@
-use Rattle.std.proofs.Common.{◌≡◌, ℕ, ◌+◌, ◌≤◌, ◌&&◌, drop, length, nat_eq, nat_lt}
+use Rattle.std.proofs.Common.{◌≡◌, ◌≤◌, drop, length}
 use Rattle.semaphore_core.specs.Instructions.{readers_from}
 use Rattle.order_check.specs.Checked.{all_at}
 use Rattle.order_check.specs.Pairs.{guards}

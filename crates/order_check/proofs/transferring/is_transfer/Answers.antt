@@ -1,4 +1,4 @@
-use Rattle.std.proofs.Common.{◌≡◌, ℕ, ap, ◌∙◌}
+use Rattle.std.proofs.Common.{ℕ, ap, ◌∙◌}
 use Rattle.order_check.specs.Transfers.{is_transfer_between, sender_of}
 use Rattle.order_check.proofs.transferring.is_transfer.Goals as goal
 

@@ -1,4 +1,4 @@
-use Rattle.std.proofs.Common.{◌≡◌, ℕ, ap, ◌∙◌}
+use Rattle.std.proofs.Common.{ℕ, ap, ◌∙◌}
 use Rattle.order_check.specs.Transfers.{waits_at}
 use Rattle.order_check.proofs.transferring.waits_in.Goals as goal
 
