@@ -1,4 +1,5 @@
-//! The exact check that a serial order of one reaction makes a program well formed. It takes no memory.
+//! Exact checks of what a serial order of one reaction asks of a program, clause by clause. They take
+//! no memory.
 #![tactic(auto)]
 
 mod acts;
@@ -17,6 +18,7 @@ mod transferring;
 
 pub use clauses::{
     buffers_are_right, communicators_communicate, counts_agree, follows_loops, media_are_there,
-    names_what_is_there,
+    names_what_is_there, operations_are_called, pairs_guard, transfers_are_right,
+    transfers_keep_sources,
 };
 pub use placing::place_in;
