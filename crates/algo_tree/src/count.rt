@@ -7,8 +7,9 @@ ghost use Rattle.algo_tree.specs.Counted.{operations, operations_by};
 use crate::vertex::{Kind, Vertex};
 use level_meaning::{Feed, Give};
 
-/// The number of flat operations, or the last value of the type where it is more.
-pub(crate) fn count_operations(vertex: &Vertex) -> u64
+/// The number of flat operations that flattening makes of a vertex, or the last value of the type
+/// where it is more. It takes no memory, and goes once through the vertex.
+pub fn count_operations(vertex: &Vertex) -> u64
     ensures { result ≡ min (operations (view vertex.now)) (2 ^ 64 - 1) }
 {
     let mut inside: u64 = 0;

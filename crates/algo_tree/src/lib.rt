@@ -8,6 +8,7 @@ mod tests;
 mod tree;
 mod vertex;
 
+pub use count::count_operations;
 pub use simple::{SimpleFault, read_simple};
 pub use tree::Tree;
 pub use vertex::{Kind, Vertex};

@@ -1,8 +1,6 @@
 //! The bounds of this profile, and how far a quantity is above one.
 ghost use Rattle.std.specs.Prelude.{◌≡◌};
 
-use std::fmt;
-
 /// A quantity that is bounded.
 #[derive(Clone, Copy, Debug, PartialEq, Eq)]
 pub enum LimitKind {
@@ -102,16 +100,4 @@ pub struct LimitFault {
     pub which: LimitKind,
     pub count: u128,
     pub bound: u128,
-}
-
-impl fmt::Display for LimitFault {
-    fn fmt<W: fmt::Write>(&self, f: &mut fmt::Formatter<W>) -> fmt::Result {
-        write!(
-            f,
-            "limit {}: {} above {}",
-            self.which.word(),
-            self.count,
-            self.bound
-        )
-    }
 }

@@ -2,7 +2,6 @@
 #![tactic(auto)]
 
 mod acyclic;
-mod count;
 mod ends;
 mod lens;
 #[cfg(test)]

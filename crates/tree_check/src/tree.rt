@@ -9,11 +9,10 @@ ghost use Rattle.algo_tree.specs.Valid.{IsTree};
 ghost use Rattle.tree_check.specs.Ends.{none_inside, counts_from};
 ghost use Rattle.tree_check.specs.Tree.{are_no_sources, gives_nothing, has_no_ports, is_tree};
 
-use crate::count::count_operations;
 use crate::ends::{are_actuators_numbered, are_sensors_numbered, is_none_inside};
 use crate::typed::is_typed;
 use crate::well::is_well;
-use algo_tree::{Kind, Vertex};
+use algo_tree::{Kind, Vertex, count_operations};
 use level_meaning::Source;
 use std::alloc::Global;
 use syn_base::OutOfMemory;
