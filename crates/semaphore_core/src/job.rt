@@ -5,7 +5,10 @@ use flat_graph::{Flat, Kind, Vertex};
 use std::marker::Model;
 use syn_base::{Items, SensorRows};
 
-/// A program with what it runs on, within the limits on the actuators' elements and on micro-steps.
+/// A program with what it runs on. The program is well formed for the flat graph and the architecture,
+/// the rows are those of the graph's sensors in at most 10,000 reactions, each delay has an opening
+/// vector of its length, and neither the actuators' elements nor the micro-steps in all are above their
+/// limits.
 #[derive(Drop)]
 pub struct Job<'a> {
     program: &'a Program,
@@ -21,22 +24,27 @@ impl<'a> Model for Job<'a> {
     ghost use Rattle.body_lang.specs.Code.{expr_code};
     ghost use Rattle.flat_graph.specs.Graph.{graph_code};
     ghost use Rattle.semaphore_core.specs.Job.{JobData, job_code};
+    ghost use Rattle.semaphore_core.specs.IsJob.{IsJobOn, job_of};
 
     ghost Value = { JobData };
 
     ghost coded = { job_code (Prim.hlevel codes) (graph_code (Prim.hlevel codes) (expr_code (Prim.hlevel codes))) };
 
-    ghost view = { λ s. record { program = s.program.now; graph = s.flat.now; media = length s.archi.now.media; sensors = s.rows.now.reactions; lens = s.rows.now.lens; opening = s.opening } };
+    ghost view = { λ s. job_of s.program.now s.flat.now s.archi.now s.rows.now s.opening };
+
+    ghost invariant = { λ s. IsJobOn s.archi.now (job_of s.program.now s.flat.now s.archi.now s.rows.now s.opening) };
 }
 
 impl<'a> Job<'a> {
     ghost use Rattle.std.specs.Prelude.{◌≡◌, ℕ, ◌<◌, length, slice_index_or, []};
     ghost use Rattle.flat_graph.specs.declared.vertex.Kind.TheVariants.{Sensor};
     ghost use Rattle.flat_graph.specs.Meaning.{sensed};
+    ghost use Rattle.semaphore_core.specs.IsJob.{IsJob};
 
     /// The program.
     pub fn program(&self) -> &Program
-        ensures { result.now ≡ self.now.program }
+        ensures same { result.now ≡ self.now.program }
+        ensures job { IsJob self.now }
     {
         self.program
     }
