@@ -13,6 +13,7 @@ pub mod RegisterFile
 pub mod Registers
 pub mod Job
 pub mod IsJob
+pub mod Totals
 pub mod Core
 pub mod Held
 pub mod Told

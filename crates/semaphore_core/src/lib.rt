@@ -15,6 +15,7 @@ mod registers;
 mod rooms;
 mod state;
 mod steps;
+mod totals;
 mod words;
 
 pub use answer::StepAnswer;

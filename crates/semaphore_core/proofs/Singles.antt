@@ -1,0 +1,18 @@
+-- In a well-formed program every buffer has one place.
+use Rattle.std.proofs.Common.{◌≡◌, ℕ, ◌<◌, ◌≤◌, List, length, Option, Some, None, get_or, ap, ◌⊎◌, inl, inr}
+use Rattle.std.specs.Prelude.{slice_get}
+use Rattle.std.proofs.lemmas.Option.{slice_get_cases}
+use Rattle.archi_graph.specs.declared.medium.Seq.{Seq}
+use Rattle.flat_graph.specs.Graph.{Graph}
+use Rattle.semaphore_core.specs.declared.program.Program.{Program}
+use Rattle.semaphore_core.specs.declared.program.Buffer.{Buffer}
+use Rattle.semaphore_core.specs.Instructions.{depth_in, depth_of}
+use Rattle.semaphore_core.specs.Steps.{IsSingle}
+use Rattle.semaphore_core.specs.WellFormed.{IsWellFormed}
+
+pub is_single : (p : Program) (g : Graph) (seqs : List Seq) (media : ℕ) → IsWellFormed p g seqs media → IsSingle p
+is_single p g seqs media h b = by (slice_get_cases p.buffers b).1
+  where
+    by : ((x : Buffer) × (b < length p.buffers) × (slice_get p.buffers b ≡ Some x) × (get_or p.buffers b x ≡ x)) ⊎ ((length p.buffers ≤ b) × (slice_get p.buffers b ≡ None)) → depth_of p b ≡ 1
+    by (inl y) = (h.1.buffers b y.1).one_place
+    by (inr n) = ap (λ (o : Option Buffer). depth_in o) n.1
