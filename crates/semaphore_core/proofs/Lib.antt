@@ -9,5 +9,7 @@ pub mod DelayNumbers
 pub mod Operate
 pub mod Ready
 pub mod Runs
+pub mod Counting
+pub mod Singles
 mod RowFive
 mod RowNine

@@ -12,6 +12,8 @@ pub mod Rows
 pub mod RegisterFile
 pub mod Registers
 pub mod Job
+pub mod IsJob
+pub mod Totals
 pub mod Core
 pub mod Held
 pub mod Told

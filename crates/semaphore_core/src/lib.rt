@@ -15,6 +15,7 @@ mod registers;
 mod rooms;
 mod state;
 mod steps;
+mod totals;
 mod words;
 
 pub use answer::StepAnswer;
@@ -24,3 +25,6 @@ pub use program::{Buffer, Instr, Program, SeqCode};
 pub use registers::Registers;
 pub use state::{State, run_list, try_step};
 pub use steps::{MicroStep, OnLoad, OnStore, Place};
+
+#[cfg(test)]
+mod tests;
