@@ -15,5 +15,6 @@ pub mod Job
 pub mod IsJob
 pub mod Core
 pub mod Held
+pub mod AtOpening
 pub mod Told
 pub mod Laws
