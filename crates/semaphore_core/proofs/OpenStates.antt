@@ -3,14 +3,15 @@ use Rattle.std.proofs.Common.{◌≡◌, ℕ, zero, suc, ◌+◌, ◌*◌, ◌<�
 use Rattle.std.specs.Prelude.{slice_get, slice_index_or, replicate, drop, sum}
 use Rattle.std.specs.Option.{option_map}
 use Rattle.std.proofs.lemmas.Bool.{cases_lt}
-use Rattle.std.proofs.lemmas.List.{length-map, length-replicate, get_or-replicate, get_or_past, map-map}
+use Rattle.std.proofs.lemmas.List.{length-map, length-replicate, get_or-replicate, get_or_past}
 use Rattle.std.proofs.lemmas.Option.{slice_get-map, slice_get_within, get_or_from_slice_get}
 use Rattle.flat_graph.specs.Graph.{Graph}
+use Rattle.semaphore_core.specs.declared.program.Program.{Program}
 use Rattle.semaphore_core.specs.declared.program.SeqCode.{SeqCode}
 use Rattle.semaphore_core.specs.declared.steps.MicroStep.{MicroStep}
 use Rattle.semaphore_core.specs.declared.expand.SeqSteps.{SeqSteps}
 use Rattle.semaphore_core.specs.Expanded.{expanded, AreSteps}
-use Rattle.semaphore_core.specs.Steps.{steps, steps_by}
+use Rattle.semaphore_core.specs.Steps.{IsSingle, steps, steps_by}
 use Rattle.semaphore_core.specs.RegisterFile.{RegisterFile}
 use Rattle.semaphore_core.specs.Desk.{DeskLens}
 use Rattle.semaphore_core.specs.Job.{JobData, reactions}
@@ -21,12 +22,12 @@ use Rattle.semaphore_core.specs.AtOpening.{room_of, empty_files}
 use Rattle.semaphore_core.proofs.Viewing.{held_of, values_of, rooms_of}
 use Rattle.semaphore_core.proofs.Jobs.{single, few_steps, prologue_bare}
 
-zero_at : (n i : ℕ) → slice_index_or (replicate n 0) i 0 ≡ 0
+zero_at : (n i : ℕ) → ◌≡◌ {A = ℕ} (slice_index_or (replicate n 0) i 0) 0
 zero_at n i = by (cases_lt i n)
   where
-    by : (i < n) ⊎ (n ≤ i) → slice_index_or (replicate n 0) i 0 ≡ 0
+    by : (i < n) ⊎ (n ≤ i) → ◌≡◌ {A = ℕ} (slice_index_or (replicate n 0) i 0) 0
     by (inl l) = get_or-replicate n i 0 0 l
-    by (inr l) = get_or_past (replicate n 0) i 0 (let e : length (replicate n 0) ≡ n = length-replicate n 0 in omega arith)
+    by (inr l) = get_or_past (replicate n 0) i 0 (let e : length (replicate {A = ℕ} n 0) ≡ n = length-replicate n 0 in omega arith)
 
 -- registers up to the highest number are enough for each micro-step
 highest_fits : (g : Graph) (list : List MicroStep) (l room : ℕ) → highest g list < room → Fits g room (slice_get list l)
@@ -75,3 +76,35 @@ module _ (j : JobData) (code : List SeqSteps) (are : AreSteps j.program code) wh
     bare = prologue_bare j job;
     in_turn = turn_fits;
   }
+
+-- no register is in use, and there is the room that the micro-steps need
+values_empty : (g : Graph) (code : List SeqSteps) → values_of (empty_files g code) ≡ replicate (length code) []
+values_empty g [] = refl
+values_empty g (q ∷ code) = λ i. [] ∷ values_empty g code i
+
+rooms_empty : (g : Graph) (code : List SeqSteps) → rooms_of (empty_files g code) ≡ map (room_of g) code
+rooms_empty g [] = refl
+rooms_empty g (q ∷ code) = λ i. room_of g q ∷ rooms_empty g code i
+
+module _ (j : JobData) (p : Program) (same : p ≡ j.program) (code : List SeqSteps) (are : AreSteps p code) (regs : List RegisterFile) (empty : regs ≡ empty_files j.graph code) where
+  pub steps_of_job : AreSteps j.program code
+  steps_of_job = subst (λ (q : Program). AreSteps q code) same are
+
+  code_long : length code ≡ length j.program.seqs
+  code_long = ap (λ (l : List SeqSteps). length l) steps_of_job ∙ length-map j.program.seqs (expanded j.program)
+
+  pub registers_empty : values_of regs ≡ replicate (length j.program.seqs) []
+  registers_empty = ap values_of empty ∙ values_empty j.graph code ∙ ap (λ (n : ℕ). replicate n []) code_long
+
+  -- a state with these parts is open
+  pub state_open : IsJob j → (core : Core) (lens : List ℕ) (desks : List DeskLens) → core ≡ opening j → AreReady j (record { cells = core.cells; rows = core.rows; lens = lens; desks = desks })
+      → IsOpened j (record { core = core; steps = code; rooms = rooms_of regs; lens = lens; desks = desks })
+  state_open job core lens desks e ready = subst (λ (h : Held). IsOpened j h) (λ i. record { core = sym e i; steps = code; rooms = sym rooms i; lens = lens; desks = desks })
+      (opening_open j code steps_of_job job lens desks (subst (λ (z : Core). AreReady j (record { cells = z.cells; rows = z.rows; lens = lens; desks = desks })) e ready))
+    where
+      rooms : rooms_of regs ≡ map (room_of j.graph) code
+      rooms = ap rooms_of empty ∙ rooms_empty j.graph code
+
+-- buffers of one place in the program that a job hands out
+pub single_of : (j : JobData) (p : Program) → p ≡ j.program → IsJob j → IsSingle p
+single_of j p same job = subst IsSingle (sym same) (single j job)
