@@ -24,11 +24,11 @@ pub fn zeros(alloc: Global, len: usize) -> Result<Items<i64>, OutOfMemory>
     Ok(Items::new(vec![in alloc; 0; len]?))
 }
 
-/// So many words, all 0.
-pub fn zero_words(alloc: Global, len: usize) -> Result<Vec<u64>, OutOfMemory>
-    ensures { IfOk result (λ s. s.items ≡ replicate len 0) }
+/// So many times this word.
+pub fn words_of(alloc: Global, word: u64, len: usize) -> Result<Vec<u64>, OutOfMemory>
+    ensures { IfOk result (λ s. s.items ≡ replicate len word) }
 {
-    Ok(vec![in alloc; 0; len]?)
+    Ok(vec![in alloc; word; len]?)
 }
 
 /// The length of the buffer that an instruction sends, 0 for another instruction.

@@ -8,7 +8,7 @@ use crate::answer::StepAnswer;
 use crate::expand::{SeqSteps, micro_steps_of};
 use crate::job::Job;
 use crate::laying::small;
-use crate::opening::{zero_elements, zero_words};
+use crate::opening::{words_of, zero_elements};
 use crate::operations::Operations;
 use crate::program::Program;
 use crate::registers::Registers;
@@ -88,9 +88,9 @@ impl State {
         let registers = empty_files(alloc, job.flat(), steps.as_slice())?;
         Ok(State {
             steps,
-            counts: zero_words(alloc, sequences)?,
-            semaphores: zero_words(alloc, 2 * program.pairs.as_slice().len())?,
-            turns: zero_words(alloc, job.media())?,
+            counts: words_of(alloc, 0, sequences)?,
+            semaphores: words_of(alloc, 0, 2 * program.pairs.as_slice().len())?,
+            turns: words_of(alloc, 0, job.media())?,
             elements: zero_elements(alloc, program, small(job.media())?)?,
             registers,
             operations: Operations::new(alloc, job)?,
