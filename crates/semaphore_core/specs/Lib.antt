@@ -16,5 +16,6 @@ pub mod IsJob
 pub mod Totals
 pub mod Core
 pub mod Held
+pub mod AtOpening
 pub mod Told
 pub mod Laws

@@ -108,4 +108,19 @@ impl<'a> Job<'a> {
             _ => &[],
         }
     }
+
+    /// The opening values of the delays, by their number.
+    pub fn opening(&self) -> &[Items<i64>]
+        ensures same { result.now ≡ self.now.opening }
+        ensures job { IsJob self.now }
+    {
+        self.opening.as_slice()
+    }
+
+    /// The number of media.
+    pub fn media(&self) -> usize
+        ensures { result ≡ self.now.media }
+    {
+        self.archi.media().len()
+    }
 }

@@ -12,15 +12,23 @@ ghost use Rattle.semaphore_core.specs.Core.{buffer_zeros, wire_zeros};
 
 use crate::expand::buffer_len;
 use crate::program::{Instr, Program, SeqCode};
+use crate::rooms::{addressable, sum_of};
 use flat_graph::{Flat, Kind, Source, Vertex};
 use std::alloc::Global;
-use syn_base::{Items, OutOfMemory};
+use syn_base::{ActRows, Items, OutOfMemory};
 
 /// So many zeros.
 pub fn zeros(alloc: Global, len: usize) -> Result<Items<i64>, OutOfMemory>
     ensures { IfOk result (λ s. s ≡ zeros len) }
 {
     Ok(Items::new(vec![in alloc; 0; len]?))
+}
+
+/// So many times this word.
+pub fn words_of(alloc: Global, word: u64, len: usize) -> Result<Vec<u64>, OutOfMemory>
+    ensures { IfOk result (λ s. s.items ≡ replicate len word) }
+{
+    Ok(vec![in alloc; word; len]?)
 }
 
 /// The length of the buffer that an instruction sends, 0 for another instruction.
@@ -94,12 +102,12 @@ pub fn zero_elements(
 }
 
 /// A copy of these lists.
-pub fn copy_of(alloc: Global, lists: &[Items<i64>]) -> Result<Vec<Items<i64>>, OutOfMemory>
-    ensures { IfOk result (λ s. s.items ≡ lists.now) }
+pub fn copy_of(alloc: Global, lists: &[Items<i64>]) -> Result<Vec<Vec<i64>>, OutOfMemory>
+    ensures { IfOk result (λ s. map (λ c. c.items) s.items ≡ lists.now) }
 {
     let mut all = Vec::new(alloc);
     for list in lists {
-        all.push(Items::new(Vec::from_slice(alloc, list.as_slice())?))?;
+        all.push(Vec::from_slice(alloc, list.as_slice())?)?;
     }
     Ok(all)
 }
@@ -171,4 +179,17 @@ pub fn actuator_lens(alloc: Global, flat: &Flat) -> Result<Items<u32>, OutOfMemo
         push_actuator(flat, x, &mut lens)?;
     }
     Ok(Items::new(lens))
+}
+
+/// Rows of zeros: vectors of these lengths in each of so many reactions. A row that memory cannot
+/// hold is answered as want of it.
+pub fn zero_rows(alloc: Global, lens: &[u32], reactions: usize) -> Result<ActRows, OutOfMemory>
+    ensures { IfOk result (λ s. s ≡ record { lens = lens.now; reactions = replicate reactions (map zeros lens.now) }) }
+{
+    let row = zeros(alloc, addressable(sum_of(lens))?)?;
+    let mut rows = ActRows::new(alloc, lens)?;
+    for _ in 0..reactions {
+        rows.push(row.as_slice())?;
+    }
+    Ok(rows)
 }
