@@ -27,4 +27,10 @@ pub use order::is_order;
 pub use placing::place_in;
 
 #[cfg(test)]
+mod ahead;
+#[cfg(test)]
+mod limits;
+#[cfg(test)]
+mod runs;
+#[cfg(test)]
 mod tests;

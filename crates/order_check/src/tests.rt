@@ -11,9 +11,9 @@ use std::test::Fail;
 use syn_base::{Items, Name, Op};
 
 /// The sensor, its function, the transfer, the other function with its actuator, and the first actuator.
-const ORDER: [u32; 15] = [0, 0, 0, 0, 1, 1, 1, 3, 3, 3, 2, 2, 2, 2, 0];
+pub(crate) const ORDER: [u32; 15] = [0, 0, 0, 0, 1, 1, 1, 3, 3, 3, 2, 2, 2, 2, 0];
 
-fn vertex(
+pub(crate) fn vertex(
     alloc: Global,
     name: &[u8],
     kind: Kind,
@@ -31,11 +31,11 @@ fn vertex(
     })
 }
 
-fn of(vertex: u32) -> Source {
+pub(crate) fn of(vertex: u32) -> Source {
     Source { vertex, port: 0 }
 }
 
-fn vertices(alloc: Global) -> Result<Vec<Vertex>, Fail> {
+pub(crate) fn vertices(alloc: Global) -> Result<Vec<Vertex>, Fail> {
     let mut all = Vec::new(alloc);
     all.push(vertex(alloc, b"s", Kind::Sensor(0), &[], &[1])?)?;
     all.push(vertex(alloc, b"f", Kind::Function(0), &[of(0)], &[1])?)?;
@@ -46,19 +46,19 @@ fn vertices(alloc: Global) -> Result<Vec<Vertex>, Fail> {
 }
 
 /// The first element of the first input, and 1 more.
-fn one_more(alloc: Global) -> Result<Items<Expr>, Fail> {
+pub(crate) fn one_more(alloc: Global) -> Result<Items<Expr>, Fail> {
     let index = Box::new(alloc, Expr::Lit(0))?;
     let element = Box::new(alloc, Expr::Elem(0, index))?;
     let one = Box::new(alloc, Expr::Lit(1))?;
     Ok(Items::new(vec![in alloc; Expr::Apply(Op::Add, element, one)]?))
 }
 
-fn flat(rt: &impl Abort, vertices: Vec<Vertex>, bodies: Vec<Items<Expr>>) -> Flat {
+pub(crate) fn flat(rt: &impl Abort, vertices: Vec<Vertex>, bodies: Vec<Items<Expr>>) -> Flat {
     assert!(rt; is_flat(&vertices, &bodies));
     Flat::new(vertices, bodies)
 }
 
-fn bus(alloc: Global) -> Result<Medium, Fail> {
+pub(crate) fn bus(alloc: Global) -> Result<Medium, Fail> {
     Ok(Medium {
         name: Name::new(alloc, b"bus")?,
         multi: false,
@@ -68,12 +68,12 @@ fn bus(alloc: Global) -> Result<Medium, Fail> {
     })
 }
 
-fn archi(rt: &impl Abort, operators: Vec<Name>, media: Vec<Medium>) -> Archi {
+pub(crate) fn archi(rt: &impl Abort, operators: Vec<Name>, media: Vec<Medium>) -> Archi {
     assert!(rt; is_archi(&operators, &media));
     Archi::new(operators, media)
 }
 
-fn call(alloc: Global, vertex: u32, ins: &[u32], outs: &[u32]) -> Result<Instr, Fail> {
+pub(crate) fn call(alloc: Global, vertex: u32, ins: &[u32], outs: &[u32]) -> Result<Instr, Fail> {
     Ok(Instr::Call {
         vertex,
         ins: Items::new(Vec::from_slice(alloc, ins)?),
@@ -81,7 +81,12 @@ fn call(alloc: Global, vertex: u32, ins: &[u32], outs: &[u32]) -> Result<Instr, 
     })
 }
 
-fn code(operator: u32, medium: Option<u32>, prologue: Vec<Instr>, turn: Vec<Instr>) -> SeqCode {
+pub(crate) fn code(
+    operator: u32,
+    medium: Option<u32>,
+    prologue: Vec<Instr>,
+    turn: Vec<Instr>,
+) -> SeqCode {
     SeqCode {
         seq: Seq { operator, medium },
         prologue: Items::new(prologue),
@@ -99,7 +104,7 @@ fn first_computation(alloc: Global) -> Result<SeqCode, Fail> {
     Ok(code(0, None, Vec::new(alloc), turn))
 }
 
-fn sender(alloc: Global) -> Result<SeqCode, Fail> {
+pub(crate) fn sender(alloc: Global) -> Result<SeqCode, Fail> {
     let mut turn = Vec::new(alloc);
     turn.push(Instr::Suc1(0))?;
     turn.push(Instr::Send { buffer: 0, to: 1 })?;
@@ -133,7 +138,7 @@ fn receiver(alloc: Global) -> Result<SeqCode, Fail> {
     Ok(code(1, Some(0), Vec::new(alloc), turn))
 }
 
-fn on(operator: u32) -> Buffer {
+pub(crate) fn on(operator: u32) -> Buffer {
     Buffer {
         operator,
         len: 1,
@@ -141,7 +146,7 @@ fn on(operator: u32) -> Buffer {
     }
 }
 
-fn program(alloc: Global, sender: SeqCode) -> Result<Program, Fail> {
+pub(crate) fn program(alloc: Global, sender: SeqCode) -> Result<Program, Fail> {
     let mut seqs = Vec::new(alloc);
     seqs.push(first_computation(alloc)?)?;
     seqs.push(sender)?;
