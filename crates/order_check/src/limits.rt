@@ -1,6 +1,6 @@
 //! The two limits of a job, over programs for one operator.
 ghost use Rattle.std.specs.Prelude.{◌≡◌, ◌<◌, IfOk};
-ghost use Rattle.semaphore_core.specs.IsJob.{sensor_lens};
+ghost use Rattle.flat_graph.specs.Laws.{sensor_lens};
 
 use crate::runs::job;
 use crate::tests::{archi, call, code, flat, of, vertex};

@@ -1,7 +1,7 @@
 //! Worked runs of the program for two operators with a bus.
 ghost use Rattle.std.specs.Prelude.{◌≡◌, IfOk};
 ghost use Rattle.flat_graph.specs.Meaning.{initial_cells};
-ghost use Rattle.semaphore_core.specs.IsJob.{sensor_lens};
+ghost use Rattle.flat_graph.specs.Laws.{sensor_lens};
 ghost use Rattle.semaphore_core.specs.Held.{IsOpened};
 
 use crate::is_order;

@@ -5,7 +5,7 @@ ghost use Rattle.level_meaning.specs.Level.{zeros};
 ghost use Rattle.flat_graph.specs.Graph.{len_of as source_len, lens_of};
 ghost use Rattle.flat_graph.specs.Meaning.{initial_cell, initial_cells};
 ghost use Rattle.semaphore_core.specs.Job.{actuator_len, actuator_lens};
-ghost use Rattle.semaphore_core.specs.IsJob.{sensor_len, sensor_lens};
+ghost use Rattle.flat_graph.specs.Laws.{sensor_len, sensor_lens};
 ghost use Rattle.semaphore_core.specs.Instructions.{len_of, depth_of};
 ghost use Rattle.semaphore_core.specs.MicroSteps.{sent_len, longest_sent, longest_in, longest_on, wire_len};
 ghost use Rattle.semaphore_core.specs.Steps.{IsSingle};
@@ -184,10 +184,10 @@ pub fn actuator_lens(alloc: Global, flat: &Flat) -> Result<Items<u32>, OutOfMemo
 
 /// The length of the vector that an operation gives, where it is a sensor.
 fn push_sensor(x: &Vertex, lens: &mut Vec<u32>) -> Result<(), OutOfMemory>
-    ensures { OnOk result (lens.new.items ≡ lens.old.items ++ sensor_len x.now x.now.kind) }
+    ensures { OnOk result (lens.new.items ≡ lens.old.items ++ sensor_len x.now.kind x.now.outs) }
 {
     match &x.kind {
-        Kind::Sensor(_) => Ok(lens.extend_from_slice(x.outs.as_slice())?),
+        Kind::Sensor(_) => Ok(lens.push(len_at(x.outs.as_slice(), 0))?),
         _ => Ok(()),
     }
 }

@@ -1,5 +1,5 @@
 use Rattle.std.proofs.Common.{◌≡◌, ◌++◌, drop}
-use Rattle.semaphore_core.specs.IsJob.{sensor_lens}
+use Rattle.flat_graph.specs.Laws.{sensor_lens}
 use Rattle.semaphore_core.proofs.opening.sensor_lens.Given as goal
 
 abbrev pub invariant-loop-x : goal.invariant-loop-x
