@@ -18,7 +18,7 @@ use Rattle.semaphore_core.specs.WellFormed.{operator_of}
 use Rattle.order_check.specs.Checked.{all_at, passed}
 use Rattle.order_check.specs.Opened.{are_opened, opens, rise, rises, signals_for, signals_right}
 use Rattle.order_check.proofs.Passing.{all_passed, passed_all}
-use Rattle.order_check.proofs.Tests.{all_here, all_there, from_zero, to_zero}
+use Rattle.order_check.proofs.ListTests.{all_here, all_there, from_zero, to_zero}
 use Rattle.order_check.proofs.Written.{same_numbers}
 
 -- how often a list signals the empty semaphore of pair q
