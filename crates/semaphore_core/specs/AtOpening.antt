@@ -16,8 +16,8 @@ pub record AreDesks (g : Graph) (n : ℕ) (desks : List DeskLens) : Type 0 where
 abbrev pub room_of : Graph → SeqSteps → ℕ
 room_of g q = max (highest g q.prologue) (highest g q.turn) + 1
 
-abbrev pub empty_file : Graph → SeqSteps → RegisterFile
-empty_file g q = record { values = []; room = room_of g q }
+abbrev pub empty_registers : Graph → SeqSteps → RegisterFile
+empty_registers g q = record { values = []; room = room_of g q }
 
-abbrev pub empty_files : Graph → List SeqSteps → List RegisterFile
-empty_files g list = map (empty_file g) list
+abbrev pub all_registers : Graph → List SeqSteps → List RegisterFile
+all_registers g list = map (empty_registers g) list
