@@ -1,0 +1,4 @@
+pub mod Blocks
+pub mod From
+pub mod Setting
+pub mod Places
