@@ -15,6 +15,13 @@ use Rattle.semaphore_core.specs.MicroSteps.{takes, element_of, wire_of, access, 
 use Rattle.semaphore_core.specs.WellFormed.{WritesAt, ReadsAt}
 use Rattle.phase_laws.proofs.Blocks.{get-append_past, get-append_within, blocks_length, blocks_at, InBlock, in_block, sum_const}
 
+-- x takes semaphore z of pair q, or signals it
+abbrev pub Takes : Instr → ℕ → ℕ → Type 0
+Takes x z q = ((x ≡ Suc0 q) × (z ≡ 2 * q)) ⊎ ((x ≡ Suc1 q) × (z ≡ 2 * q + 1))
+
+abbrev pub Signals : Instr → ℕ → ℕ → Type 0
+Signals x z q = ((x ≡ Pre0 q) × (z ≡ 2 * q)) ⊎ ((x ≡ Pre1 q) × (z ≡ 2 * q + 1))
+
 module _ (p : Program) where
   -- the place of the store of element j of output k
   abbrev pub store_place : Instr → ℕ → ℕ → ℕ
@@ -78,15 +85,11 @@ module _ (p : Program) where
     half_len (Recv b o) = len_of p b
     half_len _ = 0
 
-    -- x takes semaphore z of pair q
-    abbrev pub Takes : Instr → ℕ → ℕ → Type 0
-    Takes x z q = ((x ≡ Suc0 q) × (z ≡ 2 * q)) ⊎ ((x ≡ Suc1 q) × (z ≡ 2 * q + 1))
-
     abbrev pub From : Instr → ℕ → Micro → Type 0
     From x r (taken z) = (q : ℕ) × (r ≡ 0) × (pair_depth p q ≡ 1) × Takes x z q
     From x r (see z) = (q : ℕ) × (r ≡ 0) × (pair_depth p q ≡ 1 → ⊥) × Takes x z q
     From x r (sub z) = (q : ℕ) × (r ≡ 1) × (pair_depth p q ≡ 1 → ⊥) × Takes x z q
-    From x r (signal z) = (q : ℕ) × (r ≡ 0) × (((x ≡ Pre0 q) × (z ≡ 2 * q)) ⊎ ((x ≡ Pre1 q) × (z ≡ 2 * q + 1)))
+    From x r (signal z) = (q : ℕ) × (r ≡ 0) × Signals x z q
     From x r (await n i true) = (n ≡ m) × (r ≡ 0) × IsHalf x i
     From x r (await n i false) = (n ≡ m) × (r ≡ 0) × ((b : ℕ) × (o : ℕ) × (x ≡ Sync b o) × (i ≡ 2 * t + 2))
     From x r (advance n i) = (n ≡ m) × (r ≡ 2 * half_len x + 1) × IsHalf x i

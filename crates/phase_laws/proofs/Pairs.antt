@@ -16,7 +16,7 @@ use Rattle.semaphore_core.specs.WellFormed.{Stands, IsOnly, writer_of}
 use Rattle.semaphore_core.specs.WellFormed as WF
 use Rattle.phase_laws.specs.Discipline.{signaller, empty_owner, full_owner}
 use Rattle.phase_laws.proofs.Setting.{Parts, Conditions, system_of}
-use Rattle.phase_laws.proofs.From.{Takes}
+use Rattle.phase_laws.proofs.From.{Takes, Signals}
 use Rattle.phase_laws.proofs.Places.{micros_at, hit_one, stands_sequence, at_first, at_turn, origin, FromAt, owned, owned_late, earlier, front_at, front_from, front_length}
 
 pub even : (q : ℕ) → (2 * q % 2 ≡ 0) × (2 * q / 2 ≡ q)
@@ -60,7 +60,7 @@ module _ (p : Program) where
   pub asks_at : (q s a z : ℕ) (x : Instr) → Stands p s a x → micros_at p s a x ≡ takes (pair_depth p q) z → (slice_get (code p s).turn (begins p s a) ≡ Some (taken z)) ⊎ (slice_get (code p s).turn (begins p s a) ≡ Some (see z))
   asks_at q s a z x st e = ⊎_elim (λ h. inl (at_first p s a x (taken z) st (ap (λ (l : List Micro). slice_get l 0) e ∙ h))) (λ h. inr (at_first p s a x (see z) st (ap (λ (l : List Micro). slice_get l 0) e ∙ h))) (asks_first q z)
 
-  take_from : (x t a r : ℕ) (y : Instr) (d : Micro) → is_take x d ≡ true → FromAt p t a y r d → (q : ℕ) × (r ≡ take_place q) × (((y ≡ Suc0 q) × (x ≡ 2 * q)) ⊎ ((y ≡ Suc1 q) × (x ≡ 2 * q + 1)))
+  take_from : (x t a r : ℕ) (y : Instr) (d : Micro) → is_take x d ≡ true → FromAt p t a y r d → (q : ℕ) × (r ≡ take_place q) × Takes y x q
   take_from x t a r y (taken z) e f = (f.0, f.1 ∙ sym (ap (λ (b : Bool). cond b 0 1) (eq-eqb (pair_depth p f.0) 1 f.2)), ⊎_elim (λ u. inl (u.0, sym (eqb-true z x e) ∙ u.1)) (λ u. inr (u.0, sym (eqb-true z x e) ∙ u.1)) f.3)
   take_from x t a r y (sub z) e f = (f.0, f.1 ∙ sym (ap (λ (b : Bool). cond b 0 1) (ne_eqb (pair_depth p f.0) 1 f.2)), ⊎_elim (λ u. inl (u.0, sym (eqb-true z x e) ∙ u.1)) (λ u. inr (u.0, sym (eqb-true z x e) ∙ u.1)) f.3)
   take_from x t a r y (see z) e f = absurd cc
@@ -70,7 +70,7 @@ module _ (p : Program) where
   take_from x t a r y (load z i) e f = absurd cc
   take_from x t a r y (store z i) e f = absurd cc
 
-  signal_from : (x t a r : ℕ) (y : Instr) (d : Micro) → is_signal x d ≡ true → FromAt p t a y r d → (q : ℕ) × (r ≡ 0) × (((y ≡ Pre0 q) × (x ≡ 2 * q)) ⊎ ((y ≡ Pre1 q) × (x ≡ 2 * q + 1)))
+  signal_from : (x t a r : ℕ) (y : Instr) (d : Micro) → is_signal x d ≡ true → FromAt p t a y r d → (q : ℕ) × (r ≡ 0) × Signals y x q
   signal_from x t a r y (signal z) e f = (f.0, f.1, ⊎_elim (λ u. inl (u.0, sym (eqb-true z x e) ∙ u.1)) (λ u. inr (u.0, sym (eqb-true z x e) ∙ u.1)) f.2)
   signal_from x t a r y (taken z) e f = absurd cc
   signal_from x t a r y (see z) e f = absurd cc
@@ -95,28 +95,28 @@ module _ (p : Program) where
   takes_empty : (q : ℕ) → ComesFrom (is_take (2 * q)) (Suc0 q) (take_place q)
   takes_empty q t b r y d e f = by (take_from (2 * q) t b r y d e f)
     where
-      by : (n : ℕ) × (r ≡ take_place n) × (((y ≡ Suc0 n) × (2 * q ≡ 2 * n)) ⊎ ((y ≡ Suc1 n) × (2 * q ≡ 2 * n + 1))) → (r ≡ take_place q) × (y ≡ Suc0 q)
+      by : (n : ℕ) × (r ≡ take_place n) × Takes y (2 * q) n → (r ≡ take_place q) × (y ≡ Suc0 q)
       by (n, z, inl u) = let v = u.1 in let w : n ≡ q = omega arith in (z ∙ ap take_place w, u.0 ∙ ap (λ (k : ℕ). Suc0 k) w)
       by (n, z, inr u) = let v = u.1 in absurd (omega arith)
 
   takes_full : (q : ℕ) → ComesFrom (is_take (2 * q + 1)) (Suc1 q) (take_place q)
   takes_full q t b r y d e f = by (take_from (2 * q + 1) t b r y d e f)
     where
-      by : (n : ℕ) × (r ≡ take_place n) × (((y ≡ Suc0 n) × (2 * q + 1 ≡ 2 * n)) ⊎ ((y ≡ Suc1 n) × (2 * q + 1 ≡ 2 * n + 1))) → (r ≡ take_place q) × (y ≡ Suc1 q)
+      by : (n : ℕ) × (r ≡ take_place n) × Takes y (2 * q + 1) n → (r ≡ take_place q) × (y ≡ Suc1 q)
       by (n, z, inl u) = let v = u.1 in absurd (omega arith)
       by (n, z, inr u) = let v = u.1 in let w : n ≡ q = omega arith in (z ∙ ap take_place w, u.0 ∙ ap (λ (k : ℕ). Suc1 k) w)
 
   signals_empty : (q : ℕ) → ComesFrom (is_signal (2 * q)) (Pre0 q) 0
   signals_empty q t b r y d e f = by (signal_from (2 * q) t b r y d e f)
     where
-      by : (n : ℕ) × (r ≡ 0) × (((y ≡ Pre0 n) × (2 * q ≡ 2 * n)) ⊎ ((y ≡ Pre1 n) × (2 * q ≡ 2 * n + 1))) → (r ≡ 0) × (y ≡ Pre0 q)
+      by : (n : ℕ) × (r ≡ 0) × Signals y (2 * q) n → (r ≡ 0) × (y ≡ Pre0 q)
       by (n, z, inl u) = (z, u.0 ∙ ap (λ (k : ℕ). Pre0 k) (let v = u.1 in omega arith))
       by (n, z, inr u) = let v = u.1 in absurd (omega arith)
 
   signals_full : (q : ℕ) → ComesFrom (is_signal (2 * q + 1)) (Pre1 q) 0
   signals_full q t b r y d e f = by (signal_from (2 * q + 1) t b r y d e f)
     where
-      by : (n : ℕ) × (r ≡ 0) × (((y ≡ Pre0 n) × (2 * q + 1 ≡ 2 * n)) ⊎ ((y ≡ Pre1 n) × (2 * q + 1 ≡ 2 * n + 1))) → (r ≡ 0) × (y ≡ Pre1 q)
+      by : (n : ℕ) × (r ≡ 0) × Signals y (2 * q + 1) n → (r ≡ 0) × (y ≡ Pre1 q)
       by (n, z, inl u) = let v = u.1 in absurd (omega arith)
       by (n, z, inr u) = (z, u.0 ∙ ap (λ (k : ℕ). Pre1 k) (let v = u.1 in omega arith))
 
