@@ -1,5 +1,5 @@
 -- Transfers of a well-formed program: the halves of each medium, and the wires' elements.
-use Rattle.std.proofs.Common.{◌≡◌, ℕ, suc, ◌+◌, ◌*◌, ◌/◌, ◌%◌, ◌<◌, ◌≤◌, ◌⊎◌, true, eqb, List, length, Some, refl, sym, ap, subst, inl, inr, ⊎_elim, arith, ◌∙◌}
+use Rattle.std.proofs.Common.{◌≡◌, ℕ, suc, ◌+◌, ◌*◌, ◌/◌, ◌%◌, ◌<◌, ◌≤◌, ◌⊎◌, true, eqb, length, Some, refl, sym, ap, subst, inl, inr, ⊎_elim, arith, ◌∙◌}
 use Rattle.std.specs.Prelude.{slice_get}
 use Rattle.std.proofs.lemmas.Option.{same_Some}
 use Rattle.std.proofs.lemmas.Bool.{eqb-true, eq-eqb, cases_eq, cases_order, lt-ltb, le-ltb, cases_lt, and_parts, and_from}

@@ -1,7 +1,6 @@
 -- Pairs of semaphores of a well-formed program: each semaphore has one taker and one signaller.
 use Rattle.std.proofs.Common.{◌≡◌, ℕ, ◌+◌, ◌*◌, ◌/◌, ◌%◌, ◌<◌, ◌≤◌, ◌⊎◌, Bool, true, false, cond, eqb, List, [], ◌∷◌, length, Some, refl, sym, ap, subst, inl, inr, ⊎_elim, arith, ◌∙◌}
 use Rattle.std.specs.Prelude.{slice_get}
-use Rattle.std.proofs.lemmas.Option.{slice_get_within}
 use Rattle.std.proofs.lemmas.Bool.{eqb-true, eq-eqb, ne_eqb}
 use Rattle.interleavings.specs.System.{System, Micro, take as taken, see, sub, signal, await, advance, load, store, is_take, is_signal}
 use Rattle.interleavings.specs.Owners.{Owner, IsOwned}
@@ -184,11 +183,10 @@ module _ (p : Program) (w : Places) (c : Conditions p w) {P : Type 0} (reactions
         (at_first p (w.pair q).reader (w.pair q).signal_empty (Pre0 q) (signal (2 * q)) one.signal_empty.stands refl) (refl_test (2 * q))
         (stands_sequence p _ _ _ one.signal_empty.stands)
         (λ t l d e k. let z = only_at p (is_signal (2 * q)) _ _ (Pre0 q) 0 one.signal_empty (signals_empty p q) t l d e k in (z.0, let y = z.1 in omega arith))
-        (λ t i d e k. let f = front_signal (2 * q) t i d e k in let z = f.5 in let y : f.0 ≡ q = omega arith in
-        (
-        sym f.2 ∙ ap (λ (n : ℕ). (w.pair n).reader) y,
-        let u = f.3 in let v = ap (λ (n : ℕ). (w.pair n).front) y in omega arith,
-        let u = f.4 in let v = ap (λ (n : ℕ). (w.pair n).front) y in let x = ap (λ (n : ℕ). pair_depth p n) y in omega arith,
+        (λ t i d e k. let f = front_signal (2 * q) t i d e k in let z = f.5 in let y : f.0 ≡ q = omega arith in (
+          sym f.2 ∙ ap (λ (n : ℕ). (w.pair n).reader) y,
+          let u = f.3 in let v = ap (λ (n : ℕ). (w.pair n).front) y in omega arith,
+          let u = f.4 in let v = ap (λ (n : ℕ). (w.pair n).front) y in let x = ap (λ (n : ℕ). pair_depth p n) y in omega arith,
         ))
         (let a = c.guarded.fits q inside in let b = front_length p (w.pair q).reader (signals (w.pair q).reader) in omega arith)
         (λ l a b. hit_one (is_signal (2 * q)) _ (signal (2 * q)) (opening_at l a b) (refl_test (2 * q)))

@@ -1,7 +1,5 @@
 -- Well-formed programs are synchronized and ordered.
 use Rattle.std.specs.Prelude.{ℕ, List}
-use Rattle.interleavings.specs.Order.{IsOrdered}
-use Rattle.interleavings.specs.Synchronized.{IsSynchronized}
 use Rattle.archi_graph.specs.declared.medium.Seq.{Seq}
 use Rattle.semaphore_core.specs.Job.{JobData, reactions, system}
 use Rattle.semaphore_core.specs.Places.{places, carried}
