@@ -19,8 +19,8 @@ use Rattle.semaphore_core.specs.Instructions.{reads, writes, turn, turn_of, prol
 use Rattle.semaphore_core.specs.Places.{places, pair, reader, reader_or, writing, opening_signals, signals_of, opening_of}
 use Rattle.semaphore_core.specs.WellFormed.{Stands, WritesAt, ReadsAt, IsBuffer, IsOrderBy, operator_of}
 use Rattle.phase_laws.proofs.Blocks.{blocks_at, blocks_length, InBlock, in_block, sum_rises}
-use Rattle.phase_laws.proofs.Setting.{AreGuarded, Conditions}
 use Rattle.phase_laws.proofs.Places.{slice_get_some, stands_sequence}
+use Rattle.phase_laws.proofs.Setting.{AreGuarded, Conditions}
 
 -- some element of a list passes the test, or none does
 or_right : (a b : Bool) → b ≡ true → (a || b) ≡ true
