@@ -1,3 +1,9 @@
 pub mod Blocks
 pub mod Counting
 pub mod AgreeSteps
+pub mod AgreeLists
+pub mod AgreeDelays
+pub mod AgreePlaces
+pub mod AgreeOwn
+pub mod AgreeRuns
+pub mod AgreeTells

@@ -77,14 +77,14 @@ pub record IsMatched (p : Program) (media s : ℕ) : Type 0 where
   pub prologues : AreMatched p media s (steps p s).prologue (code p s).prologue
   pub turns : AreMatched p media s (steps p s).turn (code p s).turn
 
+-- what actuator a has taken in reaction k
+abbrev pub row_at : List Values → ℕ → ℕ → Vector
+row_at rows k a = vector_at (slice_index_or rows k []) a
+
 module _ (j : JobData) where
   -- the sequence that calls operation v
   abbrev pub caller : ℕ → ℕ
   caller v = (calling j.program v).sequence
-
-  -- what actuator a has taken in reaction k
-  abbrev pub row_at : List Values → ℕ → ℕ → Vector
-  row_at rows k a = vector_at (slice_index_or rows k []) a
 
   -- Words and registers are the same; a cell and a row are those of the sequence that calls the operation. The lists have the lengths of the opening.
   pub record Agrees (z : Core) (w : State Own) : Type 0 where
