@@ -1,5 +1,5 @@
 -- Operations that are halves of one delay are called in one sequence, and each actuator is one operation.
-use Rattle.std.proofs.Common.{◌≡◌, ℕ, zero, suc, ◌+◌, ◌<◌, ◌≤◌, ◌⊎◌, Bool, true, false, ◌&&◌, ◌==◌, List, [], ◌∷◌, map, length, Option, Some, None, refl, sym, ap, subst, inl, inr, arith, ◌∙◌, ℤ, add-one}
+use Rattle.std.proofs.Common.{◌≡◌, ℕ, zero, suc, ◌+◌, ◌<◌, ◌≤◌, ◌⊎◌, Bool, true, false, ◌==◌, List, [], ◌∷◌, Option, Some, None, refl, sym, ap, subst, inl, inr, arith, ◌∙◌, ℤ}
 use Rattle.std.specs.Prelude.{slice_get, nat_lt, if◌then◌else◌}
 use Rattle.std.proofs.lemmas.Bool.{and_parts, eqb-true, false≢true, cases_lt}
 use Rattle.std.proofs.lemmas.Option.{same_Some}
@@ -38,7 +38,7 @@ one_get xs v u x y z w e f k q n = by (cases_lt v u) (cases_lt u v)
     by (inr l) (inr r) = omega arith
 
 -- an actuator's number is that of no other operation
-later_row : (xs : List Vertex) (n v a : ℕ) (x : Vertex) → actuators_from n (kinds_of xs) ≡ true → slice_get xs v ≡ Some x → x.kind ≡ Actuator a → n ≤ a
+pub later_row : (xs : List Vertex) (n v a : ℕ) (x : Vertex) → actuators_from n (kinds_of xs) ≡ true → slice_get xs v ≡ Some x → x.kind ≡ Actuator a → n ≤ a
 later_row [] n v a x h e k = absurd (cc)
 later_row (y ∷ ys) n zero a x h e k = let same : y.kind ≡ Actuator a = ap (λ (q : Vertex). q.kind) (same_Some y x e) ∙ k in
     let first : actuators_from n (Actuator a ∷ kinds_of ys) ≡ true = subst (λ (q : Kind). actuators_from n (q ∷ kinds_of ys) ≡ true) same h in

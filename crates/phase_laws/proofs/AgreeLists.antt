@@ -1,12 +1,9 @@
 -- Entries of lists, and of lists of lists, after one was written.
-use Rattle.std.proofs.Common.{◌≡◌, ℕ, zero, suc, ◌+◌, ◌<◌, ◌≤◌, ◌⊎◌, List, [], ◌∷◌, length, map, refl, sym, ap, subst, inl, inr, arith, ◌∙◌, ℤ}
+use Rattle.std.proofs.Common.{◌≡◌, ℕ, zero, suc, ◌<◌, ◌≤◌, ◌⊎◌, List, [], ◌∷◌, length, map, refl, sym, ap, inl, inr, arith, ◌∙◌}
 use Rattle.std.specs.Prelude.{slice_index_or, slice_set}
 use Rattle.std.proofs.lemmas.Bool.{cases_eq, cases_lt, eq-eqb, ne_eqb}
-use Rattle.std.proofs.lemmas.List.{length-set, get_or-set_same, get_or-set_other, get_or_past, set_past, map-set, set-get_or, length-map}
+use Rattle.std.proofs.lemmas.List.{length-set, get_or-set_same, get_or-set_other, set_past, map-set, set-get_or, length-map}
 use Rattle.interleavings.specs.System.{put}
-use Rattle.level_meaning.specs.Level.{Values, Vector, element_at, vector_at}
-use Rattle.flat_graph.proofs.KindLens.{length-vector_at}
-use Rattle.phase_laws.specs.Agrees.{row_at}
 
 module _ {A : Type 0} (f : ℕ → A) (i : ℕ) (a : A) where
   pub put_here : (j : ℕ) → j ≡ i → put f i a j ≡ a
@@ -40,7 +37,7 @@ abbrev pub get_in : {A : Type 0} → List (List A) → ℕ → ℕ → A → A
 get_in xs h k d = slice_index_or (slice_index_or xs h []) k d
 
 module _ {A : Type 0} where
-  length_at : (xs : List (List A)) (k : ℕ) → length (slice_index_or xs k []) ≡ slice_index_or (map length xs) k 0
+  pub length_at : (xs : List (List A)) (k : ℕ) → length (slice_index_or xs k []) ≡ slice_index_or (map length xs) k 0
   length_at [] k = refl
   length_at (x ∷ xs) zero = refl
   length_at (x ∷ xs) (suc k) = length_at xs k

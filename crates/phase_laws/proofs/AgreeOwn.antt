@@ -1,9 +1,7 @@
 -- What loads and stores of a sequence do is the same on shared cells and rows and on its own.
-use Rattle.std.proofs.Common.{◌≡◌, ℕ, zero, suc, ◌+◌, ◌<◌, ◌≤◌, ◌⊎◌, Bool, true, false, cond, List, [], ◌∷◌, ◌++◌, length, map, Option, Some, None, refl, sym, ap, subst, inl, inr, arith, ◌∙◌, ℤ}
-use Rattle.std.specs.Prelude.{slice_get, slice_index_or, slice_set}
-use Rattle.std.proofs.lemmas.Bool.{cases_eq}
+use Rattle.std.proofs.Common.{◌≡◌, ℕ, Bool, cond, List, [], ◌∷◌, length, map, Option, Some, None, refl, sym, ap, subst, ◌∙◌, ℤ}
+use Rattle.std.specs.Prelude.{slice_get, slice_index_or}
 use Rattle.std.proofs.lemmas.List.{length-set, get_or-set_other}
-use Rattle.std.proofs.lemmas.Option.{same_Some}
 use Rattle.level_meaning.specs.Level.{Values, Vector, element_at, vector_at, all_joined}
 use Rattle.flat_graph.specs.declared.vertex.Kind.{Kind}
 use Rattle.flat_graph.specs.declared.vertex.Kind.TheVariants.{Sensor, Actuator, Function, Constant, Get, Set, Explode, Implode, Merge}
@@ -14,7 +12,7 @@ use Rattle.semaphore_core.specs.declared.steps.OnLoad.{OnLoad}
 use Rattle.semaphore_core.specs.declared.steps.OnLoad.TheVariants.{Gather, Carry as CarryIn, Compute as ComputeIn}
 use Rattle.semaphore_core.specs.declared.steps.OnStore.{OnStore}
 use Rattle.semaphore_core.specs.declared.steps.OnStore.TheVariants.{Give, Carry as CarryOut, Compute as ComputeOut}
-use Rattle.semaphore_core.specs.Operation.{vectors_from, lens_in, conditions_in, inputs_in, delay_of, cell_at, with_cell, rows_by, outputs_of}
+use Rattle.semaphore_core.specs.Operation.{vectors_from, lens_in, conditions_in, inputs_in, delay_of, cell_at, with_cell, rows_by}
 use Rattle.semaphore_core.specs.Registers.{Own, with_registers, kept, gathered, compute_by, compute, absorb_by, emit_by, after_by}
 use Rattle.semaphore_core.specs.Job.{JobData, zero_rows}
 use Rattle.phase_laws.specs.Agrees.{IsFormed, caller, row_at, LoadsHere, StoresHere}
@@ -70,9 +68,12 @@ module _ (j : JobData) (f : IsFormed j) (cells : Values) (rows : List Values) (s
       where
         by : (d : Option ℕ) → delay_of j.graph v x ≡ d → CellsAre (with_cell c.cells d z) (with_cell o.cells d w)
         by None q = (i.cells_there, i.own_cells_there, i.cells_same, i.cells_kept)
-        by (Some d) q = (length-set c.cells d z ∙ i.cells_there, length-set o.cells d w ∙ i.own_cells_there,
-            (λ u n y uy un k. set_same c.cells o.cells d n z w [] (i.cells_there ∙ sym i.own_cells_there) e (i.cells_same u n y uy un k)),
-            (λ u n y uy un k. get_or-set_other c.cells d n z [] (λ r. k (other u n y uy un r)) ∙ i.cells_kept u n y uy un k))
+        by (Some d) q = (
+          length-set c.cells d z ∙ i.cells_there,
+          length-set o.cells d w ∙ i.own_cells_there,
+          (λ u n y uy un k. set_same c.cells o.cells d n z w [] (i.cells_there ∙ sym i.own_cells_there) e (i.cells_same u n y uy un k)),
+          (λ u n y uy un k. get_or-set_other c.cells d n z [] (λ r. k (other u n y uy un r)) ∙ i.cells_kept u n y uy un k),
+        )
           where
             other : (u n : ℕ) (y : Vertex) → slice_get j.graph.vertices u ≡ Some y → delay_of j.graph u y ≡ Some n → n ≡ d → caller j u ≡ s
             other u n y uy un r = same_delay j.program j.graph f.seqs j.media f.formed.0 f.formed.1 f.valid u v n y x uy is un (q ∙ ap (λ (k : ℕ). Some k) (sym r)) ∙ here
@@ -89,9 +90,12 @@ module _ (j : JobData) (f : IsFormed j) (cells : Values) (rows : List Values) (s
         same = (i.rows_there, i.own_rows_there, i.rows_same, i.rows_kept)
 
         by : (q : Kind) → x.kind ≡ q → RowsAre (rows_by q k z c.rows) (rows_by q k z o.rows)
-        by (Actuator a) q = (set_in_lens c.rows k a z ∙ i.rows_there, set_in_lens o.rows k a z ∙ i.own_rows_there,
-            (λ u b n y uy ub h. set_in_same c.rows o.rows k a n b z z [] (i.rows_there ∙ sym i.own_rows_there) refl (i.rows_same u b n y uy ub h)),
-            (λ u b n y uy ub h. get_in_there c.rows k a n b z [] (λ r. h (other u b y uy ub r.1)) ∙ i.rows_kept u b n y uy ub h))
+        by (Actuator a) q = (
+          set_in_lens c.rows k a z ∙ i.rows_there,
+          set_in_lens o.rows k a z ∙ i.own_rows_there,
+          (λ u b n y uy ub h. set_in_same c.rows o.rows k a n b z z [] (i.rows_there ∙ sym i.own_rows_there) refl (i.rows_same u b n y uy ub h)),
+          (λ u b n y uy ub h. get_in_there c.rows k a n b z [] (λ r. h (other u b y uy ub r.1)) ∙ i.rows_kept u b n y uy ub h),
+        )
           where
             other : (u b : ℕ) (y : Vertex) → slice_get j.graph.vertices u ≡ Some y → y.kind ≡ Actuator b → b ≡ a → caller j u ≡ s
             other u b y uy ub r = ap (caller j) (same_actuator j.graph f.valid u v b y x uy is ub (q ∙ ap (λ (n : ℕ). Actuator n) (sym r))) ∙ here

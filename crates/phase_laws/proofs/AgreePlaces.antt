@@ -1,11 +1,11 @@
 -- Where an element lies in the core, and which one of the theory it is.
-use Rattle.std.proofs.Common.{◌≡◌, ℕ, zero, suc, ◌+◌, ◌*◌, ◌/◌, ◌%◌, ◌<◌, ◌≤◌, ◌⊎◌, List, [], ◌∷◌, ◌++◌, length, map, Option, Some, None, refl, sym, ap, subst, inl, inr, arith, ◌∙◌, ℤ, pos, suc-mul, mul-le-mul_right, length-append}
-use Rattle.std.specs.Prelude.{◌-◌, slice_get, slice_index_or}
-use Rattle.std.proofs.lemmas.Bool.{cases_eq, cases_lt, lt-ltb, le-ltb}
-use Rattle.std.proofs.lemmas.List.{length-map, length-replicate, get_or_append_left, get_or-append-add, get_or_at, get_or_push}
+use Rattle.std.proofs.Common.{◌≡◌, ℕ, zero, suc, ◌+◌, ◌*◌, ◌/◌, ◌%◌, ◌<◌, ◌⊎◌, List, [], ◌∷◌, ◌++◌, length, map, Option, Some, None, refl, sym, ap, inl, inr, arith, ◌∙◌, ℤ, pos, suc-mul, mul-le-mul_right, length-append}
+use Rattle.std.specs.Prelude.{slice_get, slice_index_or}
+use Rattle.std.proofs.lemmas.Bool.{cases_eq, lt-ltb, le-ltb}
+use Rattle.std.proofs.lemmas.List.{length-map, length-replicate, get_or_append_left, get_or-append-add, get_or_push}
 use Rattle.std.proofs.lemmas.Nat.{div-mul-add, mod-mul-add, mod_below}
 use Rattle.std.specs.Option.{option_map}
-use Rattle.std.proofs.lemmas.Option.{get_or_from_slice_get, slice_get-map, slice_get-get_or}
+use Rattle.std.proofs.lemmas.Option.{get_or_from_slice_get, slice_get-map}
 use Rattle.interleavings.specs.System.{put}
 use Rattle.interleavings.specs.Owners.{sum_below}
 use Rattle.level_meaning.specs.Level.{zeros}
@@ -102,8 +102,11 @@ module _ (p : Program) (media : ℕ) where
   wire_list m h = ap (λ (n : ℕ). slice_index_or opening_elements (n + m) []) (sym buffers_many) ∙ get_or-append-add (buffer_zeros p) (wire_zeros p media) m [] ∙ singles_at (λ i. zeros (wire_len p i)) media m [] h
 
   room : (x : Place) (q : ℕ) → IsIn x q → (home_of p x < length opening_elements) × (slot_at x q < length (slice_index_or opening_elements (home_of p x) []))
-  room (Buffer b n) q h = ((let z = lists_many in let y = h.0 in omega arith), (let e = ap (λ (l : List ℤ). length l) (buffer_list b h.0) ∙ length-replicate (depth_of p b * len_of p b) (pos 0) in
-      let c = suc-mul q (len_of p b) in let l = mul-le-mul_right (len_of p b) h.2 in let k = h.1 in omega arith))
+  room (Buffer b n) q h = (
+    (let z = lists_many in let y = h.0 in omega arith),
+    (let e = ap (λ (l : List ℤ). length l) (buffer_list b h.0) ∙ length-replicate (depth_of p b * len_of p b) (pos 0) in
+        let c = suc-mul q (len_of p b) in let l = mul-le-mul_right (len_of p b) h.2 in let k = h.1 in omega arith),
+  )
   room (Wire m n) q h = ((let z = lists_many in let y = h.0 in omega arith), (let e = ap (λ (l : List ℤ). length l) (wire_list m h.0) ∙ length-replicate (wire_len p m) (pos 0) in let k = h.1 in omega arith))
 
   -- the elements of the core and those of the theory

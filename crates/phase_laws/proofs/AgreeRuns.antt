@@ -1,14 +1,13 @@
 -- A step of the core and a step of the theory lead from states that agree to states that agree, and so do runs.
-use Rattle.std.proofs.Common.{◌≡◌, ℕ, zero, suc, ◌+◌, ◌-◌, ◌*◌, ◌/◌, ◌%◌, ◌<◌, ◌≤◌, ◌⊎◌, Bool, true, false, cond, List, [], ◌∷◌, ◌++◌, length, map, Option, Some, None, refl, sym, ap, subst, inl, inr, arith, ◌∙◌, ℤ, pos}
+use Rattle.std.proofs.Common.{◌≡◌, ℕ, ◌+◌, ◌-◌, ◌*◌, ◌/◌, ◌%◌, ◌<◌, ◌≤◌, ◌⊎◌, Bool, true, false, cond, List, [], ◌∷◌, length, map, Option, Some, None, refl, sym, ap, subst, inl, inr, arith, ◌∙◌, ℤ, pos}
 use Rattle.std.specs.Prelude.{slice_get, slice_index_or, slice_set, replicate, nat_eq, nat_lt, nat_le}
 use Rattle.std.proofs.lemmas.Bool.{cases_eq, cases_lt, eq-eqb, ne_eqb, ltb-true}
 use Rattle.std.proofs.lemmas.List.{length-set, length-replicate, get_or-replicate, get_or_past}
-use Rattle.std.proofs.lemmas.Option.{cond_some}
 use Rattle.consistent_cuts.specs.Sites.{step_at, reaction_at, place_at}
 use Rattle.consistent_cuts.specs.Precedence.{one_more}
 use Rattle.interleavings.specs.System as theory
 use Rattle.interleavings.specs.System.{Micro, State, put, place_number, take as taken, see, sub, signal, await, advance, load, store}
-use Rattle.level_meaning.specs.Level.{Values, Vector, element_at, vector_at, zeros}
+use Rattle.level_meaning.specs.Level.{Vector, element_at, vector_at}
 use Rattle.flat_graph.specs.declared.vertex.Vertex.{Vertex}
 use Rattle.flat_graph.specs.declared.vertex.Kind.TheVariants.{Actuator}
 use Rattle.semaphore_core.specs.declared.steps.Place.{Place}
@@ -22,13 +21,13 @@ use Rattle.semaphore_core.specs.MicroSteps.{code, transfers, wire_len}
 use Rattle.semaphore_core.specs.Operation.{delay_of}
 use Rattle.semaphore_core.specs.Registers.{Own, absorb_by, emit_by, after_by, absorb_at, emit_at, after_at}
 use Rattle.semaphore_core.specs.Steps.{steps}
-use Rattle.semaphore_core.specs.Job.{JobData, reactions, zero_rows, system, depth_at, period_at}
-use Rattle.semaphore_core.specs.Core.{Core, home_of, slot_of, turn_reached, opening, count, counted, reaction, full, next, own, enabled_by, is_enabled, element_of, with_element, with_own, done_by, step, run_from, run}
+use Rattle.semaphore_core.specs.Job.{JobData, reactions, zero_rows, system}
+use Rattle.semaphore_core.specs.Core.{Core, home_of, slot_of, turn_reached, opening, count, counted, reaction, full, next, own, enabled_by, is_enabled, element_of, with_own, done_by, step, run_from, run}
 use Rattle.semaphore_core.proofs.Singles.{is_single}
 use Rattle.phase_laws.specs.Agrees.{IsFormed, IsMatched, LiesAt, LoadsHere, StoresHere, caller, row_at, Agrees, StepsTogether}
 use Rattle.phase_laws.proofs.AgreeSteps.{AtSame, matched_at, steps_matched}
 use Rattle.phase_laws.proofs.AgreeLists.{put_here, put_there, set_put, set_in, set_in_lens}
-use Rattle.phase_laws.proofs.AgreePlaces.{word_of, slot_at, IsIn, AllSame, stored_same, Placed, placed, opening_elements, buffer_list, wire_list}
+use Rattle.phase_laws.proofs.AgreePlaces.{word_of, slot_at, AllSame, stored_same, Placed, placed, opening_elements, buffer_list, wire_list}
 use Rattle.phase_laws.proofs.AgreeOwn.{IsOwn, absorb_same, emit_same, after_same}
 
 replicate_at : {A : Type 0} (n i : ℕ) (a : A) → slice_index_or (replicate n a) i a ≡ a

@@ -1,11 +1,10 @@
 -- The micro-steps of the core and those of the theory are the same, one by one.
-use Rattle.std.proofs.Common.{◌≡◌, ℕ, zero, suc, ◌+◌, ◌*◌, ◌<◌, ◌≤◌, ◌⊎◌, Bool, true, false, cond, max, List, [], ◌∷◌, ◌++◌, length, map, take, Option, Some, None, refl, sym, ap, subst, inl, inr, arith, ◌∙◌}
+use Rattle.std.proofs.Common.{◌≡◌, ℕ, zero, suc, ◌+◌, ◌*◌, ◌<◌, ◌≤◌, ◌⊎◌, Bool, true, false, cond, List, [], ◌∷◌, ◌++◌, length, take, Option, Some, None, refl, sym, ap, subst, inl, inr, arith, ◌∙◌}
 use Rattle.std.specs.Prelude.{◌-◌, slice_get, nat_eq, nat_lt}
 use Rattle.std.specs.List.{count_by}
 use Rattle.std.proofs.lemmas.Bool.{cases_eq, cases_lt, eq-eqb}
 use Rattle.std.proofs.lemmas.List.{length-map}
-use Rattle.std.proofs.lemmas.Option.{same_Some, slice_get_past, slice_get_within}
-use Rattle.flat_graph.specs.declared.vertex.Vertex.{Vertex}
+use Rattle.std.proofs.lemmas.Option.{same_Some, slice_get_past}
 use Rattle.flat_graph.specs.Graph.{Graph}
 use Rattle.archi_graph.specs.declared.medium.Seq.{Seq}
 use Rattle.interleavings.specs.System.{Micro, take as taken, see, sub}
@@ -14,20 +13,19 @@ use Rattle.semaphore_core.specs.declared.program.Instr.{Instr}
 use Rattle.semaphore_core.specs.declared.program.Instr.TheVariants.{Suc0, Suc1, Pre0, Pre1, Call, Send, Recv, Sync}
 use Rattle.semaphore_core.specs.declared.program.SeqCode.{SeqCode}
 use Rattle.semaphore_core.specs.declared.program.Program.{Program}
-use Rattle.semaphore_core.specs.declared.steps.Place.TheVariants.{Buffer, Wire}
 use Rattle.semaphore_core.specs.declared.steps.MicroStep.{MicroStep}
-use Rattle.semaphore_core.specs.declared.steps.MicroStep.TheVariants.{Take, See, Lower, Load, Store}
+use Rattle.semaphore_core.specs.declared.steps.MicroStep.TheVariants.{Take, See, Lower}
 use Rattle.semaphore_core.specs.declared.steps.OnLoad.TheVariants.{Gather, Compute as ComputeIn}
 use Rattle.semaphore_core.specs.declared.steps.OnStore.TheVariants.{Give, Compute as ComputeOut}
 use Rattle.semaphore_core.specs.Blocks.{blocks, repeated}
-use Rattle.semaphore_core.specs.Instructions.{is_communication, turn, turn_of, prologue, prologue_of, medium, medium_in, operator, number_or, len_of, pair_depth, communications, readers, Reader}
+use Rattle.semaphore_core.specs.Instructions.{is_communication, turn, turn_of, prologue, prologue_of, medium, medium_in, number_or, len_of, pair_depth, communications, readers, Reader}
 use Rattle.semaphore_core.specs.MicroSteps.{is_on, takes, transfers, element_of, wire_of, wire_len, longest_sent, longest_in, longest_on, sent_len, load_at, store_at, loads_of, stores_of, loads_at, stores_at, send_at, receive_at, micros_of, micros_in, block_in, code}
-use Rattle.semaphore_core.specs.Steps.{take_steps, on_load, on_store, load_step, store_step, send_step, receive_step, load_steps, store_steps, input_steps, output_steps, len_at, elements_in, call_steps, steps_of, steps_in, steps_at, steps_in_list, steps_by, steps}
+use Rattle.semaphore_core.specs.Steps.{take_steps, on_load, on_store, load_step, store_step, send_step, receive_step, load_steps, store_steps, input_steps, output_steps, len_at, elements_in, steps_of, steps_in, steps_at, steps_in_list, steps_by, steps}
 use Rattle.semaphore_core.specs.Places.{calling, signals_of, opening_of, opening_signals, places, Transfer}
 use Rattle.semaphore_core.specs.WellFormed.{Stands, IsTransfer, IsOrder, operator_of}
 use Rattle.semaphore_core.specs.Job.{JobData}
 use Rattle.phase_laws.specs.Agrees.{IsFormed, LoadsHere, StoresHere, Matches, AreMatched, IsMatched}
-use Rattle.phase_laws.proofs.Blocks.{InBlock, in_block}
+use Rattle.phase_laws.proofs.Blocks.{in_block}
 use Rattle.phase_laws.proofs.Counting.{count_more, count_less}
 
 some_there : {A : Type 0} (xs : List A) (i : ℕ) → i < length xs → (x : A) × (slice_get xs i ≡ Some x)
@@ -122,12 +120,18 @@ module _ (p : Program) (media s : ℕ) where
       matched_append (blocks (input_steps p v loads micros ins) (length ins)) (blocks (output_steps p v loads micros outs) (length outs)) (blocks (loads_at p ins) (length ins)) (blocks (stores_at p outs) (length outs))
       (matched_blocks (input_steps p v loads micros ins) (loads_at p ins) (length ins) (λ k l. loads_matched v loads micros h.0 (sum_below (len_at p ins) k) (slice_get ins k) (λ b e. h.1 k b (inl e))))
       (matched_blocks (output_steps p v loads micros outs) (stores_at p outs) (length outs) (λ k l. stores_matched v loads micros h.0 (loads + sum_below (len_at p outs) k) (slice_get outs k) (λ b e. h.1 k b (inr e))))
-  instr_matched m n t (Send b q) h = ((h.1, ap (λ (k : ℕ). 2 * k) h.2, refl), matched_append (blocks (send_step m b) (len_of p b)) _ (blocks (send_at p m t b) (len_of p b)) _
-      (matched_blocks (send_step m b) (send_at p m t b) (len_of p b) (λ i l. ((tt, element_of p b i, 0, (h.0, l, refl, refl), refl), ((tt, wire_of p m i, _, (h.1, (let w = h.3 in omega arith), refl), refl), tt))))
-      ((h.1, 2 * t, refl), tt))
-  instr_matched m n t (Recv b q) h = ((h.1, ap (λ (k : ℕ). 2 * k) h.2, refl), matched_append (blocks (receive_step m b) (len_of p b)) _ (blocks (receive_at p m t b) (len_of p b)) _
-      (matched_blocks (receive_step m b) (receive_at p m t b) (len_of p b) (λ i l. ((tt, wire_of p m i, _, (h.1, (let w = h.3 in omega arith), refl), refl), ((tt, element_of p b i, 0, (h.0, l, refl, refl), refl), tt))))
-      ((h.1, 2 * t + 1, refl), tt))
+  instr_matched m n t (Send b q) h = (
+    (h.1, ap (λ (k : ℕ). 2 * k) h.2, refl),
+    matched_append (blocks (send_step m b) (len_of p b)) _ (blocks (send_at p m t b) (len_of p b)) _
+        (matched_blocks (send_step m b) (send_at p m t b) (len_of p b) (λ i l. ((tt, element_of p b i, 0, (h.0, l, refl, refl), refl), ((tt, wire_of p m i, _, (h.1, (let w = h.3 in omega arith), refl), refl), tt))))
+        ((h.1, 2 * t, refl), tt),
+  )
+  instr_matched m n t (Recv b q) h = (
+    (h.1, ap (λ (k : ℕ). 2 * k) h.2, refl),
+    matched_append (blocks (receive_step m b) (len_of p b)) _ (blocks (receive_at p m t b) (len_of p b)) _
+        (matched_blocks (receive_step m b) (receive_at p m t b) (len_of p b) (λ i l. ((tt, wire_of p m i, _, (h.1, (let w = h.3 in omega arith), refl), refl), ((tt, element_of p b i, 0, (h.0, l, refl, refl), refl), tt))))
+        ((h.1, 2 * t + 1, refl), tt),
+  )
   instr_matched m n t (Sync q r) h = ((h.0, ap (λ (k : ℕ). 2 * k) h.1, refl), tt)
 
   list_matched : (m : ℕ) (xs : List Instr) → ((a : ℕ) (x : Instr) → slice_get xs a ≡ Some x → Names m (count_by is_communication xs) x) → AreMatched p media s (steps_in_list p m xs) (blocks (block_in p m xs) (length xs))

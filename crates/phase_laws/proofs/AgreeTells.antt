@@ -1,10 +1,9 @@
 -- A state of the core is told by the state of the theory with which it agrees.
-use Rattle.std.proofs.Common.{◌≡◌, ℕ, zero, suc, ◌+◌, ◌-◌, ◌*◌, ◌/◌, ◌%◌, ◌<◌, ◌≤◌, ◌⊎◌, Bool, true, false, ◌&&◌, ◌==◌, List, [], ◌∷◌, ◌++◌, length, map, Option, Some, None, refl, sym, ap, subst, inl, inr, arith, ◌∙◌, ℤ, pos, length-append, div-add-mod', add-one, ext_get_or}
-use Rattle.std.specs.Prelude.{slice_get, slice_index_or, replicate, if◌then◌else◌}
+use Rattle.std.proofs.Common.{◌≡◌, ℕ, zero, suc, ◌+◌, ◌-◌, ◌*◌, ◌/◌, ◌%◌, ◌<◌, ◌≤◌, ◌⊎◌, true, ◌==◌, List, [], ◌∷◌, ◌++◌, length, map, Some, refl, sym, ap, subst, inl, inr, arith, ◌∙◌, ℤ, pos, length-append, div-add-mod', add-one, ext_get_or}
+use Rattle.std.specs.Prelude.{slice_get, slice_index_or, if◌then◌else◌}
 use Rattle.std.proofs.lemmas.Bool.{cases_eq, cases_lt, and_parts, eqb-true}
 use Rattle.std.proofs.lemmas.List.{length-map, length-replicate, get_or-replicate}
 use Rattle.std.proofs.lemmas.Nat.{div_below, mod_below}
-use Rattle.std.proofs.lemmas.Option.{same_Some}
 use Rattle.interleavings.specs.System.{State}
 use Rattle.level_meaning.specs.Level.{Values, Vector, element_at, vector_at, zeros}
 use Rattle.flat_graph.specs.declared.vertex.Kind.{Kind}

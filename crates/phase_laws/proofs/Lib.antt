@@ -7,3 +7,5 @@ pub mod AgreePlaces
 pub mod AgreeOwn
 pub mod AgreeRuns
 pub mod AgreeTells
+pub mod AgreeTold
+pub mod AgreeLaws

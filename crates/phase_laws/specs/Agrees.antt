@@ -7,6 +7,7 @@ use Rattle.flat_graph.specs.Valid.{is_flat}
 use Rattle.flat_graph.specs.Meaning.{initial_cells}
 use Rattle.archi_graph.specs.declared.medium.Seq.{Seq}
 use Rattle.interleavings.specs.System as theory
+use Rattle.interleavings.specs.Laws as laws_of_theory
 use Rattle.interleavings.specs.System.{Micro, State, take as taken, see, sub, signal, await, advance, load, store}
 use Rattle.semaphore_core.specs.declared.program.Program.{Program}
 use Rattle.semaphore_core.specs.declared.steps.Place.{Place}
@@ -25,6 +26,9 @@ use Rattle.semaphore_core.specs.Registers.{Own}
 use Rattle.semaphore_core.specs.Steps.{steps}
 use Rattle.semaphore_core.specs.Job.{JobData, zero_rows, system}
 use Rattle.semaphore_core.specs.WellFormed.{IsWellFormed}
+use Rattle.semaphore_core.specs.IsJob.{IsJob}
+use Rattle.semaphore_core.specs.Told.{told, stored_value, own_after}
+use Rattle.semaphore_core.specs.Laws.{HasLaws}
 use Rattle.semaphore_core.specs.Core.{Core, opening, count, run, step, is_enabled}
 
 -- A job whose program is well formed, whose graph is valid, and whose delays open with a vector of the right length each.
@@ -124,3 +128,16 @@ RunsAgree = (j : JobData) → IsFormed j → (list : List ℕ) → Agrees j (run
 -- the state of the theory tells that of the core
 abbrev pub AgreementTells : Type 0
 AgreementTells = (j : JobData) → IsFormed j → (z y : Core) (w : State Own) → Agrees j z w → Agrees j y w → z ≡ y
+
+-- what counts tell of the core and what they tell of the theory
+abbrev pub ToldAgrees : Type 0
+ToldAgrees = (j : JobData) → IsFormed j → (counts : List ℕ) → length counts ≡ length j.program.seqs
+    → Agrees j (told j counts) (theory.told (system j) (stored_value j) (own_after j) (λ s. slice_index_or counts s 0))
+
+-- the theory's laws at the system of a job give the laws of every run of the job
+abbrev pub LawsFollow : Type 0
+LawsFollow = (j : JobData) → IsFormed j → laws_of_theory.HasLaws (system j) (stored_value j) (own_after j) → HasLaws j
+
+-- a job on a valid graph is formed so
+abbrev pub JobsAreFormed : Type 0
+JobsAreFormed = (j : JobData) → IsJob j → is_flat j.graph ≡ true → IsFormed j
