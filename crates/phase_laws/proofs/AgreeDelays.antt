@@ -29,6 +29,7 @@ more_gets (y ∷ ys) (suc v) (suc u) x z e k l = by (is_get y.kind) (more_gets y
     by true r = omega arith
     by false r = r
 
+-- so that a number is that of one get half
 one_get : (xs : List Vertex) (v u : ℕ) (x y : Vertex) (z w : List ℤ) → slice_get xs v ≡ Some x → slice_get xs u ≡ Some y → x.kind ≡ Get z → y.kind ≡ Get w → delay_number xs v ≡ delay_number xs u → v ≡ u
 one_get xs v u x y z w e f k q n = by (cases_lt v u) (cases_lt u v)
   where
@@ -100,6 +101,7 @@ pub record GetHalf (p : Program) (g : Graph) (v d : ℕ) : Type 0 where
   pub together : (calling p at).sequence ≡ (calling p v).sequence
 
 module _ (p : Program) (g : Graph) (seqs : List Seq) (media : ℕ) (order : List ℕ) (h : IsOrder p g seqs media order) (valid : is_flat g ≡ true) where
+  -- the get half that a set half names
   of_get : (v u d : ℕ) (y : Vertex) → slice_get g.vertices u ≡ Some y → (q : Kind) → y.kind ≡ q → is_get_half_by v y q ≡ true → delay_number g.vertices u ≡ d → GetHalf p g v d
   of_get v u d y e (Get z) k t n = record { at = u; half = y; values = z; stands = e; kind = k; number = n; together = ((h.called u y e).twins z v k (twin y.twin t)).0 }
     where

@@ -4,6 +4,8 @@ use Rattle.interleavings.specs.System as theory
 use Rattle.interleavings.specs.System.{State}
 use Rattle.interleavings.specs.Fresh.{IsFresh}
 use Rattle.interleavings.specs.Laws as laws_of_theory
+use Rattle.interleavings.specs.Laws.{Discipline, IsDisciplined}
+use Rattle.interleavings.proofs.Synchronized.{have_laws}
 use Rattle.semaphore_core.specs.declared.steps.MicroStep.{MicroStep}
 use Rattle.semaphore_core.specs.declared.steps.MicroStep.TheVariants.{Take, See, Lower, Signal, Await, Advance, Load, Store}
 use Rattle.semaphore_core.specs.Registers.{Own}
@@ -68,5 +70,5 @@ module _ (j : JobData) where
     laws : HasLaws j
     laws = record { told = tells; fresh = fresh; progress = progress; goes_on = goes_on }
 
-pub laws_follow : (j : JobData) → IsFormed j → laws_of_theory.HasLaws (system j) (stored_value j) (own_after j) → HasLaws j
-laws_follow j f l = laws j f l
+pub laws_follow : (j : JobData) → IsFormed j → (d : Discipline) → IsDisciplined (system j) d (stored_value j) (own_after j) → HasLaws j
+laws_follow j f d h = laws j f (have_laws (system j) d (stored_value j) (own_after j) h)

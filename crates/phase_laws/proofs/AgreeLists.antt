@@ -5,6 +5,7 @@ use Rattle.std.proofs.lemmas.Bool.{cases_eq, cases_lt, eq-eqb, ne_eqb}
 use Rattle.std.proofs.lemmas.List.{length-set, get_or-set_same, get_or-set_other, set_past, map-set, set-get_or, length-map}
 use Rattle.interleavings.specs.System.{put}
 
+-- what a function gives after one of its values was put
 module _ {A : Type 0} (f : ℕ → A) (i : ℕ) (a : A) where
   pub put_here : (j : ℕ) → j ≡ i → put f i a j ≡ a
   put_here j e = rw (eq-eqb j i e) refl
@@ -37,20 +38,24 @@ abbrev pub get_in : {A : Type 0} → List (List A) → ℕ → ℕ → A → A
 get_in xs h k d = slice_index_or (slice_index_or xs h []) k d
 
 module _ {A : Type 0} where
+  -- the length of an entry is the entry of the lengths
   pub length_at : (xs : List (List A)) (k : ℕ) → length (slice_index_or xs k []) ≡ slice_index_or (map length xs) k 0
   length_at [] k = refl
   length_at (x ∷ xs) zero = refl
   length_at (x ∷ xs) (suc k) = length_at xs k
 
+  -- lengths stay
   pub set_in_lens : (xs : List (List A)) (h k : ℕ) (v : A) → map length (set_in xs h k v) ≡ map length xs
   set_in_lens xs h k v = map-set (λ (x : List A). length x) xs h (slice_set (slice_index_or xs h []) k v) ∙ ap (slice_set (map length xs) h) (length-set (slice_index_or xs h []) k v ∙ length_at xs h) ∙ set-get_or (map length xs) h 0
 
+  -- lists of lists whose lengths are the same, in all and one by one
   pub same_length : (xs ys : List (List A)) → map length xs ≡ map length ys → length xs ≡ length ys
   same_length xs ys e = sym (length-map xs (λ (x : List A). length x)) ∙ ap (λ (l : List ℕ). length l) e ∙ length-map ys (λ (x : List A). length x)
 
   pub same_lengths : (xs ys : List (List A)) (h : ℕ) → map length xs ≡ map length ys → length (slice_index_or xs h []) ≡ length (slice_index_or ys h [])
   same_lengths xs ys h e = length_at xs h ∙ ap (λ (l : List ℕ). slice_index_or l h 0) e ∙ sym (length_at ys h)
 
+  -- the entry that was written, and every other one
   pub get_in_here : (xs : List (List A)) (h k : ℕ) (v d : A) → h < length xs → k < length (slice_index_or xs h []) → get_in (set_in xs h k v) h k d ≡ v
   get_in_here xs h k v d l m = ap (λ (x : List A). slice_index_or x k d) (get_or-set_same xs h (slice_set (slice_index_or xs h []) k v) [] l) ∙ get_or-set_same (slice_index_or xs h []) k v d m
 

@@ -32,6 +32,7 @@ module _ (j : JobData) (f : IsFormed j) (cells : Values) (rows : List Values) (s
     pub rows_same : (v a k : ℕ) (x : Vertex) → slice_get j.graph.vertices v ≡ Some x → x.kind ≡ Actuator a → caller j v ≡ s → row_at c.rows k a ≡ row_at o.rows k a
     pub rows_kept : (v a k : ℕ) (x : Vertex) → slice_get j.graph.vertices v ≡ Some x → x.kind ≡ Actuator a → (caller j v ≡ s → ⊥) → row_at c.rows k a ≡ row_at rows k a
 
+  -- other registers, the same on both sides
   with_same : (c o : Own) (r q : List ℤ) → IsOwn c o → r ≡ q → IsOwn (with_registers c r) (with_registers o q)
   with_same c o r q i e = record {
     registers = e;
@@ -108,6 +109,7 @@ module _ (j : JobData) (f : IsFormed j) (cells : Values) (rows : List Values) (s
         by Implode q = same
         by (Merge w) q = same
 
+    -- the computation itself
     vertex_same : (k : ℕ) (r : List ℤ) (c o : Own) → IsOwn c o → IsOwn (compute_by j.graph j.sensors v k r c (Some x)) (compute_by j.graph j.sensors v k r o (Some x))
     vertex_same k r c o i = record {
       registers = ap (λ (z : Vector). all_joined (fired j.graph.bodies x z (sensed x.kind (slice_index_or j.sensors k [])) (conditions_in x V) (inputs_in x V))) cell;

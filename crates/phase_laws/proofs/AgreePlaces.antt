@@ -58,6 +58,7 @@ module _ (p : Program) (media : ℕ) where
   IsIn (Buffer b n) q = (b < length p.buffers) × (n < len_of p b) × (q < depth_of p b)
   IsIn (Wire m n) q = (m < media) × (n < wire_len p m) × (q ≡ 0)
 
+  -- buffers' elements come before those of wires
   element_low : (b n : ℕ) → b < length p.buffers → n < len_of p b → element_of p b n < buffer_elements p
   element_low b n h k = sum_inside (len_of p) (length p.buffers) b n h k
 
@@ -71,6 +72,7 @@ module _ (p : Program) (media : ℕ) where
   same_slot (Wire m i) (Buffer b n) q r h k e f = absurd (omega arith)
   same_slot (Wire m i) (Wire n l) q r h k e f = let s : m ≡ n = omega arith in ((λ t. wire_of p (s t) (f t)), h.2 ∙ sym k.2)
 
+  -- and one place of one element is one slot
   same_word : (x y : Place) (q r : ℕ) → IsIn x q → IsIn y r → word_of x ≡ word_of y → q ≡ r → (home_of p x ≡ home_of p y) × (slot_at x q ≡ slot_at y r)
   same_word (Buffer b n) (Buffer c m) q r h k e f = let d = sum_same_block (len_of p) b c n m h.1 k.1 e in (d.0, (λ t. f t * len_of p (d.0 t) + d.1 t))
   same_word (Buffer b n) (Wire m i) q r h k e f = let z = element_low b n h.0 h.1 in absurd (omega arith)
@@ -101,6 +103,7 @@ module _ (p : Program) (media : ℕ) where
   pub wire_list : (m : ℕ) → m < media → slice_index_or opening_elements (length p.buffers + m) [] ≡ zeros (wire_len p m)
   wire_list m h = ap (λ (n : ℕ). slice_index_or opening_elements (n + m) []) (sym buffers_many) ∙ get_or-append-add (buffer_zeros p) (wire_zeros p media) m [] ∙ singles_at (λ i. zeros (wire_len p i)) media m [] h
 
+  -- an element's slot is there
   room : (x : Place) (q : ℕ) → IsIn x q → (home_of p x < length opening_elements) × (slot_at x q < length (slice_index_or opening_elements (home_of p x) []))
   room (Buffer b n) q h = (
     (let z = lists_many in let y = h.0 in omega arith),

@@ -30,6 +30,7 @@ use Rattle.phase_laws.proofs.AgreeLists.{put_here, put_there, set_put, set_in, s
 use Rattle.phase_laws.proofs.AgreePlaces.{word_of, slot_at, AllSame, stored_same, Placed, placed, opening_elements, buffer_list, wire_list}
 use Rattle.phase_laws.proofs.AgreeOwn.{IsOwn, absorb_same, emit_same, after_same}
 
+-- each entry of a list of one thing, and what is read past its end
 replicate_at : {A : Type 0} (n i : ℕ) (a : A) → slice_index_or (replicate n a) i a ≡ a
 replicate_at {A = A} n i a = by (cases_lt i n)
   where
@@ -42,6 +43,7 @@ same_reached j true t a = refl
 same_reached j false t a = refl
 
 module _ (j : JobData) (f : IsFormed j) where
+  -- buffers have one place, and both codes the same reactions and ends
   single : (b : ℕ) → depth_of j.program b ≡ 1
   single = is_single j.program j.graph f.seqs j.media f.formed
 
@@ -55,6 +57,7 @@ module _ (j : JobData) (f : IsFormed j) where
     abbrev Same : Option MicroStep → Option Micro → Type 0
     Same o u = AtSame j.program j.media s o u
 
+    -- next micro-steps match
     cond_same : (b c : Bool) (x y : Option MicroStep) (u v : Option Micro) → b ≡ c → Same x u → Same y v → Same (cond b x y) (cond c u v)
     cond_same b c x y u v e h k = subst (λ (d : Bool). Same (cond b x y) (cond d u v)) e (by b)
       where
@@ -86,11 +89,13 @@ module _ (j : JobData) (f : IsFormed j) where
     given : Agrees j z V
     given = subst (λ (v : State Own). Agrees j z v) (sym to_given) a
 
+    -- its elements
     all_same : AllSame j.program j.media z.elements w.elements
     all_same (Buffer b n) q h = a.buffers b n q h.0 h.1 h.2
     all_same (Wire m n) q h = a.wires m n h.0 h.1 ∙ ap (w.elements (word_of j.program j.media (Wire m n))) (sym h.2)
 
     module _ (s : ℕ) (there : s < length j.program.seqs) where
+      -- the counts with one more
       counts_more : (t : ℕ) → slice_index_or (counted z s) t 0 ≡ one_more (count z) s t
       counts_more t = by (cases_eq t s)
         where
@@ -162,6 +167,7 @@ module _ (j : JobData) (f : IsFormed j) where
         away : (t : ℕ) → (t ≡ s → ⊥) → put w.own s o t ≡ w.own t
         away t q = put_there w.own s o t q
 
+        -- registers, cells and rows afterwards, and their lengths
         registers_are : (t : ℕ) → t < length j.program.seqs → slice_index_or (slice_set z.registers s c.registers) t [] ≡ (O t).registers
         registers_are t l = set_put z.registers (λ u. (w.own u).registers) s t c.registers o.registers [] (let q = a.registers_there in omega arith) i.registers (a.registers t l) ∙ by (cases_eq t s)
           where
@@ -272,6 +278,7 @@ module _ (j : JobData) (f : IsFormed j) where
         enabled : enabled_by j z s (Some m) ≡ theory.enabled_by (system j) V s (Some c)
         steps : Agrees j (done_by j z s (Some m)) (theory.done_by (system j) V s (Some c))
 
+      -- each kind of micro-step
       one : (m : MicroStep) (c : Micro) → Same s (Some m) (Some c) → step_at (steps j.program s) (count z s) ≡ Some m → Together m c
       one (Take x) c h is = subst (λ (q : Micro). Together (Take x) q) (sym h.1) (record { enabled = ap (λ (n : ℕ). nat_eq n 1) (a.semaphores x h.0); steps = semaphore_step x 0 0 h.0 refl })
       one (See x) c h is = subst (λ (q : Micro). Together (See x) q) (sym h.1) (record { enabled = ap (λ (n : ℕ). nat_le 1 n) (a.semaphores x h.0); steps = waits })
@@ -298,6 +305,7 @@ module _ (j : JobData) (f : IsFormed j) where
     together s (Some m) None e h = absurd h
     together s (Some m) (Some c) e h = let n = next_is s m e in let r = one s n.0 m c h n.1 in (r.enabled, r.steps)
 
+    -- a step that is not enabled changes neither
     either : (b c : Bool) (x y : Core) (u v : State Own) → b ≡ c → Agrees j x u → Agrees j y v → Agrees j (cond b x y) (cond c u v)
     either b c x y u v e h k = subst (λ (d : Bool). Agrees j (cond b x y) (cond d u v)) e (by b)
       where
@@ -330,6 +338,7 @@ module _ (j : JobData) (f : IsFormed j) where
     own_rows_there = λ s. refl;
   }
 
+  -- entry by entry of the list
   runs_from_agree : (z : Core) (w : State Own) (list : List ℕ) → Agrees j z w → Agrees j (run_from j z list) (theory.run_from (system j) w list)
   runs_from_agree z w [] a = a
   runs_from_agree z w (s ∷ ss) a = runs_from_agree (step j z s) (theory.step (system j) w s) ss (steps_agree z w a s).steps

@@ -28,17 +28,20 @@ use Rattle.phase_laws.specs.Agrees.{IsFormed, LoadsHere, StoresHere, Matches, Ar
 use Rattle.phase_laws.proofs.Blocks.{in_block}
 use Rattle.phase_laws.proofs.Counting.{count_more, count_less}
 
+-- what stands within a list
 some_there : {A : Type 0} (xs : List A) (i : ℕ) → i < length xs → (x : A) × (slice_get xs i ≡ Some x)
 some_there [] i h = absurd (omega arith)
 some_there (x ∷ xs) zero h = (x, refl)
 some_there (x ∷ xs) (suc i) h = some_there xs i (omega arith)
 
+-- what stands in a list of one thing
 repeated_is : {A : Type 0} (x y : A) (n i : ℕ) → slice_get (repeated x n) i ≡ Some y → y ≡ x
 repeated_is x y zero i e = absurd (cc)
 repeated_is x y (suc n) zero e = sym (same_Some x y e)
 repeated_is x y (suc n) (suc i) e = repeated_is x y n i e
 
 module _ (p : Program) (media s : ℕ) where
+  -- lists that match, one behind the other, and block by block
   matched_append : (xs ys : List MicroStep) (cs ds : List Micro) → AreMatched p media s xs cs → AreMatched p media s ys ds → AreMatched p media s (xs ++ ys) (cs ++ ds)
   matched_append [] ys [] ds h k = k
   matched_append [] ys (c ∷ cs) ds h k = absurd h
@@ -49,6 +52,7 @@ module _ (p : Program) (media s : ℕ) where
   matched_blocks f g zero h = tt
   matched_blocks f g (suc n) h = matched_append (blocks f n) (f n) (blocks g n) (g n) (matched_blocks f g n (λ a l. h a (omega arith))) (h n (omega arith))
 
+  -- are as long
   matched_length : (xs : List MicroStep) (cs : List Micro) → AreMatched p media s xs cs → length xs ≡ length cs
   matched_length [] [] h = refl
   matched_length [] (c ∷ cs) h = absurd h
@@ -80,6 +84,7 @@ module _ (p : Program) (media s : ℕ) where
   Names m n (Recv b q) = (b < length p.buffers) × (m < media) × (n ≡ transfers p m) × (len_of p b ≤ wire_len p m)
   Names m n (Sync q r) = (m < media) × (n ≡ transfers p m)
 
+  -- each instruction's micro-steps match: a take
   take_matched : (depth x : ℕ) → x < 2 * length p.pairs → AreMatched p media s (take_steps depth x) (takes depth x)
   take_matched depth x h = by (nat_eq depth 1)
     where
@@ -88,6 +93,7 @@ module _ (p : Program) (media s : ℕ) where
       by false = ((h, refl), ((h, refl), tt))
 
   module _ (v loads micros : ℕ) (here : (calling p v).sequence ≡ s) where
+    -- a call's loads and stores, of which one computes
     load_here : (r : ℕ) → LoadsHere p media s (on_load v loads micros r)
     load_here r = by (nat_eq (r + 1) loads)
       where
@@ -110,6 +116,7 @@ module _ (p : Program) (media s : ℕ) where
     stores_matched r None h = tt
     stores_matched r (Some b) h = matched_blocks (store_step v loads micros b r) (store_at p b) (len_of p b) (λ n l. ((store_here (r + n), element_of p b n, 0, (h b refl, l, refl, refl), refl), tt))
 
+  -- every instruction
   instr_matched : (m n t : ℕ) (x : Instr) → Names m n x → AreMatched p media s (steps_of p m n t x) (micros_of p m t x)
   instr_matched m n t (Suc0 q) h = take_matched (pair_depth p q) (2 * q) (omega arith)
   instr_matched m n t (Suc1 q) h = take_matched (pair_depth p q) (2 * q + 1) (omega arith)
@@ -134,6 +141,7 @@ module _ (p : Program) (media s : ℕ) where
   )
   instr_matched m n t (Sync q r) h = ((h.0, ap (λ (k : ℕ). 2 * k) h.1, refl), tt)
 
+  -- and every list of them
   list_matched : (m : ℕ) (xs : List Instr) → ((a : ℕ) (x : Instr) → slice_get xs a ≡ Some x → Names m (count_by is_communication xs) x) → AreMatched p media s (steps_in_list p m xs) (blocks (block_in p m xs) (length xs))
   list_matched m xs h = matched_blocks (steps_at p m xs) (block_in p m xs) (length xs) (λ a l. by a (slice_get xs a) refl)
     where
@@ -145,6 +153,7 @@ module _ (p : Program) (media s : ℕ) where
   abbrev AllName : Option SeqCode → List Instr → Type 0
   AllName o xs = (a : ℕ) (x : Instr) → slice_get xs a ≡ Some x → Names (number_or 0 (medium_in o)) (count_by is_communication xs) x
 
+  -- the prologue and the loop of a sequence
   prologue_matched : (o : Option SeqCode) → AllName o (prologue_of o) → AreMatched p media s (steps_by p o).prologue (blocks (block_in p (number_or 0 (medium_in o)) (prologue_of o)) (length (prologue_of o)))
   prologue_matched None h = tt
   prologue_matched (Some q) h = list_matched (number_or 0 q.seq.medium) q.prologue h
@@ -187,6 +196,7 @@ buffer_or (Recv b o) = b
 buffer_or _ = 0
 
 module _ (p : Program) (order : List ℕ) (g : Graph) (seqs : List Seq) (media : ℕ) (h : IsOrder p g seqs media order) where
+  -- what a transfer receives is as long as what it sends
   received_fits : (m s a b q : ℕ) → medium p s ≡ Some m → Stands p s a (Recv b q) → len_of p b ≤ wire_len p m
   received_fits m s a b q on e = by (cases_eq s T.sender) (cases_eq s T.receiver)
     where
@@ -220,6 +230,7 @@ module _ (p : Program) (order : List ℕ) (g : Graph) (seqs : List Seq) (media :
     on_medium a x e c = let r = h.communicators s a x e c in let n : number_or 0 (medium p s) ≡ r.0 = ap (number_or 0) r.1 in
         (r.1 ∙ ap (λ (k : ℕ). Some k) (sym n), (let l = h.on_media s r.0 r.1 in omega arith))
 
+    -- what the instructions of a loop name
     turn_names : (a : ℕ) (x : Instr) → Stands p s a x → Names p media s (number_or 0 (medium p s)) (count_by is_communication (turn p s)) x
     turn_names a (Suc0 q) e = h.named s a (Suc0 q) e
     turn_names a (Suc1 q) e = h.named s a (Suc1 q) e

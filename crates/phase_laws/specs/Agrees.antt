@@ -7,7 +7,7 @@ use Rattle.flat_graph.specs.Valid.{is_flat}
 use Rattle.flat_graph.specs.Meaning.{initial_cells}
 use Rattle.archi_graph.specs.declared.medium.Seq.{Seq}
 use Rattle.interleavings.specs.System as theory
-use Rattle.interleavings.specs.Laws as laws_of_theory
+use Rattle.interleavings.specs.Laws.{Discipline, IsDisciplined}
 use Rattle.interleavings.specs.System.{Micro, State, take as taken, see, sub, signal, await, advance, load, store}
 use Rattle.semaphore_core.specs.declared.program.Program.{Program}
 use Rattle.semaphore_core.specs.declared.steps.Place.{Place}
@@ -134,9 +134,9 @@ abbrev pub ToldAgrees : Type 0
 ToldAgrees = (j : JobData) → IsFormed j → (counts : List ℕ) → length counts ≡ length j.program.seqs
     → Agrees j (told j counts) (theory.told (system j) (stored_value j) (own_after j) (λ s. slice_index_or counts s 0))
 
--- the theory's laws at the system of a job give the laws of every run of the job
+-- Where the system of a job is synchronized, and has the values that are told, the laws of every run of the job hold.
 abbrev pub LawsFollow : Type 0
-LawsFollow = (j : JobData) → IsFormed j → laws_of_theory.HasLaws (system j) (stored_value j) (own_after j) → HasLaws j
+LawsFollow = (j : JobData) → IsFormed j → (d : Discipline) → IsDisciplined (system j) d (stored_value j) (own_after j) → HasLaws j
 
 -- a job on a valid graph is formed so
 abbrev pub JobsAreFormed : Type 0

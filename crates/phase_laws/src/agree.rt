@@ -33,7 +33,8 @@ pub fn told_agrees()
     ensures { ToldAgrees }
 {}
 
-/// Where the theory's laws hold of the system of a job, the laws of every run of the job hold.
+/// Where the system of a job is synchronized, and has the values that are told, the laws of every run of
+/// the job hold.
 pub fn laws_follow()
     ensures { LawsFollow }
 {}
