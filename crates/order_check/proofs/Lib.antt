@@ -2,7 +2,11 @@ mod Called
 mod Exact
 mod Guarded
 mod Kept
-mod Tests
+mod ListTests
+mod Listed
+mod Ordered
+mod Passing
+mod Prologues
 mod Transferred
 mod Walked
 mod Written

@@ -1,5 +1,17 @@
 pub mod Blocks
+pub mod From
+pub mod Setting
+pub mod Places
 pub mod Counting
+pub mod Pairs
+pub mod Readers
+pub mod Buffers
+pub mod Media
+pub mod Sent
+pub mod Wires
+pub mod Synchronized
+pub mod Order
+pub mod Programs
 pub mod AgreeSteps
 pub mod AgreeLists
 pub mod AgreeDelays

@@ -1,22 +1,20 @@
 -- The cell of a delay, the row of an actuator and the vector of a sensor stand at the number of the operation, and have its length.
-use Rattle.std.proofs.Common.{◌≡◌, ℕ, zero, suc, ◌+◌, ◌<◌, Bool, true, false, ◌&&◌, ◌==◌, List, [], ◌∷◌, ◌++◌, map, length, Option, Some, None, refl, sym, ap, subst, arith, ◌∙◌, ℤ, zero-add, add-one}
+use Rattle.std.proofs.Common.{◌≡◌, ℕ, zero, suc, ◌+◌, ◌<◌, true, false, ◌==◌, List, [], ◌∷◌, ◌++◌, map, length, Option, Some, None, refl, sym, ap, subst, arith, ◌∙◌, ℤ, zero-add, add-one}
 use Rattle.std.specs.Prelude.{slice_get, slice_index_or, nat_lt, if◌then◌else◌}
 use Rattle.std.proofs.lemmas.Bool.{and_parts, eqb-true, false≢true}
-use Rattle.std.proofs.lemmas.List.{length-map}
-use Rattle.level_meaning.specs.Level.{Values, Vector, vector_at}
 use Rattle.flat_graph.specs.declared.vertex.Kind.{Kind}
 use Rattle.flat_graph.specs.declared.vertex.Kind.TheVariants.{Sensor, Actuator, Function, Constant, Get, Set, Explode, Implode, Merge}
 use Rattle.flat_graph.specs.declared.vertex.Vertex.{Vertex}
 use Rattle.flat_graph.specs.Graph.{Graph, with_vertex, lens_of}
 use Rattle.flat_graph.specs.Order.{is_acyclic}
-use Rattle.flat_graph.specs.Valid.{is_flat, is_vertex, fits, names, is_only, has_twin, has_set_half, has_get_half, is_set_half_of, is_set_half_by, is_get_half_of, is_get_half_by, sensors_from, actuators_from, kinds_of}
+use Rattle.flat_graph.specs.Valid.{is_flat, fits, names, is_only, has_twin, has_set_half, has_get_half, is_set_half_of, is_set_half_by, is_get_half_of, is_get_half_by, sensors_from, actuators_from, kinds_of}
 use Rattle.flat_graph.specs.Meaning.{is_get, delay_number, initial_cell, initial_cells}
-use Rattle.flat_graph.specs.Fire.{cell_len, kind_cell_len}
+use Rattle.flat_graph.specs.Fire.{kind_cell_len}
 use Rattle.flat_graph.proofs.Facts.{vertex_valid, fits_of, twin_of, sensors_numbered}
-use Rattle.flat_graph.proofs.KindLens.{length-vector_at, one_is, only_is}
+use Rattle.flat_graph.proofs.KindLens.{one_is, only_is}
 use Rattle.semaphore_core.specs.Operation.{delay_by, delay_of}
 use Rattle.semaphore_core.specs.Job.{actuator_len, actuator_lens}
-use Rattle.semaphore_core.specs.IsJob.{sensor_len, sensor_lens}
+use Rattle.flat_graph.specs.Laws.{sensor_len, sensor_lens}
 
 -- entry i of a list that is numbered from n on is there, and has this value
 pub record Stands (n i : ℕ) (lens : List ℕ) (len : ℕ) : Type 0 where
@@ -40,9 +38,6 @@ all_fit g h v x e = fits_of g v x (vertex_valid g h v x e)
 
 actuator_one : (g : Graph) (x : Vertex) (a : ℕ) → x.kind ≡ Actuator a → fits g.bodies x.kind (lens_of g.vertices x.ins) x.outs ≡ true → lens_of g.vertices x.ins ≡ slice_index_or (lens_of g.vertices x.ins) 0 0 ∷ []
 actuator_one g x a k h = one_is (lens_of g.vertices x.ins) (and_parts (length (lens_of g.vertices x.ins) == 1) (length x.outs == 0) (subst (λ (q : Kind). fits g.bodies q (lens_of g.vertices x.ins) x.outs ≡ true) k h)).0
-
-sensor_one : (g : Graph) (x : Vertex) (i : ℕ) → x.kind ≡ Sensor i → fits g.bodies x.kind (lens_of g.vertices x.ins) x.outs ≡ true → x.outs ≡ slice_index_or x.outs 0 0 ∷ []
-sensor_one g x i k h = one_is x.outs (and_parts (length (lens_of g.vertices x.ins) == 0) (length x.outs == 1) (subst (λ (q : Kind). fits g.bodies q (lens_of g.vertices x.ins) x.outs ≡ true) k h)).1
 
 actuator_place : (g : Graph) (n v a : ℕ) (xs : List Vertex) (x : Vertex) → AllFit g xs → actuators_from n (kinds_of xs) ≡ true → slice_get xs v ≡ Some x → x.kind ≡ Actuator a
     → Stands n a (actuator_lens g xs) (slice_index_or (lens_of g.vertices x.ins) 0 0)
@@ -87,15 +82,13 @@ sensor_place g n zero i (y ∷ ys) x f h e k =
     let first : sensors_from n (Sensor i ∷ kinds_of ys) ≡ true = subst (λ (z : Kind). sensors_from n (z ∷ kinds_of ys) ≡ true) kind h in
     let here = eqb-true i n (and_parts (i == n) (sensors_from (n + 1) (kinds_of ys)) first).0 in
     let len : sensor_lens (y ∷ ys) ≡ slice_index_or x.outs 0 0 ∷ sensor_lens ys =
-    (λ j. sensor_len y (kind j) ++ sensor_lens ys) ∙ ap (λ (l : List ℕ). l ++ sensor_lens ys) (ap (λ (z : Vertex). z.outs) same ∙ sensor_one g x i k (f 0 x e)) in
+    (λ j. sensor_len (kind j) y.outs ++ sensor_lens ys) ∙ ap (λ (z : Vertex). slice_index_or z.outs 0 0 ∷ sensor_lens ys) same in
     record { place = 0; is = (let q : i ≡ n + 0 = omega arith in q); there = (let q = ap (λ (l : List ℕ). length l) len in omega arith); same = ap (λ (l : List ℕ). slice_index_or l 0 0) len }
 sensor_place g n (suc v) i (y ∷ ys) x f h e k = by y.kind refl h (λ m h'. sensor_place g m v i ys x (λ u z. f (suc u) z) h' e k)
   where
     by : (kind : Kind) → y.kind ≡ kind → sensors_from n (kind ∷ kinds_of ys) ≡ true → ((m : ℕ) → sensors_from m (kinds_of ys) ≡ true → Stands m i (sensor_lens ys) (slice_index_or x.outs 0 0))
-        → Stands n i (sensor_len y kind ++ sensor_lens ys) (slice_index_or x.outs 0 0)
-    by (Sensor a) q h' later =
-        subst (λ (l : List ℕ). Stands n i (l ++ sensor_lens ys) (slice_index_or x.outs 0 0)) (sym (sensor_one g y a q (f 0 y refl)))
-        (behind n i (slice_index_or y.outs 0 0) (sensor_lens ys) (slice_index_or x.outs 0 0) (later (n + 1) (and_parts (a == n) (sensors_from (n + 1) (kinds_of ys)) h').1))
+        → Stands n i (sensor_len kind y.outs ++ sensor_lens ys) (slice_index_or x.outs 0 0)
+    by (Sensor a) q h' later = behind n i (slice_index_or y.outs 0 0) (sensor_lens ys) (slice_index_or x.outs 0 0) (later (n + 1) (and_parts (a == n) (sensors_from (n + 1) (kinds_of ys)) h').1)
     by (Actuator a) q h' later = later n h'
     by (Function b) q h' later = later n h'
     by (Constant z) q h' later = later n h'

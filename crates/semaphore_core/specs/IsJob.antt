@@ -1,5 +1,5 @@
 -- When parts make a job, and the limit that refuses them.
-use Rattle.std.specs.Prelude.{◌≡◌, ℕ, ◌-◌, ◌^◌, ◌≤◌, cond, nat_lt, min, List, [], ◌∷◌, ◌++◌, map, length, Option, Some, None}
+use Rattle.std.specs.Prelude.{◌≡◌, ℕ, ◌-◌, ◌^◌, ◌≤◌, cond, nat_lt, min, map, length, Option, Some, None}
 use Rattle.syn_base.specs.declared.limits.LimitKind.{LimitKind}
 use Rattle.syn_base.specs.declared.limits.LimitKind.TheVariants.{Output, Total}
 use Rattle.syn_base.specs.declared.limits.LimitFault.{LimitFault}
@@ -7,9 +7,7 @@ use Rattle.syn_base.specs.Limits.{bound_of}
 use Rattle.syn_base.specs.Rows.{Reactions}
 use Rattle.level_meaning.specs.Level.{Values}
 use Rattle.flat_graph.specs.Graph.{Graph}
-use Rattle.flat_graph.specs.declared.vertex.Vertex.{Vertex}
-use Rattle.flat_graph.specs.declared.vertex.Kind.{Kind}
-use Rattle.flat_graph.specs.declared.vertex.Kind.TheVariants.{Sensor}
+use Rattle.flat_graph.specs.Laws.{sensor_lens}
 use Rattle.flat_graph.specs.Meaning.{initial_cells}
 use Rattle.archi_graph.specs.Archi.{Architecture}
 use Rattle.archi_graph.specs.Sequences.{sequences}
@@ -20,15 +18,6 @@ use Rattle.semaphore_core.specs.Job.{JobData, reactions, output_elements, total_
 -- the job of these parts
 abbrev pub job_of : Program → Graph → Architecture → Reactions → Values → JobData
 job_of p g a rows opening = record { program = p; graph = g; media = length a.media; sensors = rows.reactions; lens = rows.lens; opening = opening }
-
--- the lengths of the vectors that the sensors give, in order
-abbrev pub sensor_len : Vertex → Kind → List ℕ
-sensor_len x (Sensor i) = x.outs
-sensor_len x _ = []
-
-abbrev pub sensor_lens : List Vertex → List ℕ
-sensor_lens [] = []
-sensor_lens (x ∷ xs) = sensor_len x x.kind ++ sensor_lens xs
 
 -- A program that is well formed for the flat graph and the architecture, rows of the graph's sensors in at most 10,000 reactions, and a vector for each delay, of its length.
 pub record FitTogether (a : Architecture) (j : JobData) : Type 0 where

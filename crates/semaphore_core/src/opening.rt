@@ -5,6 +5,7 @@ ghost use Rattle.level_meaning.specs.Level.{zeros};
 ghost use Rattle.flat_graph.specs.Graph.{len_of as source_len, lens_of};
 ghost use Rattle.flat_graph.specs.Meaning.{initial_cell, initial_cells};
 ghost use Rattle.semaphore_core.specs.Job.{actuator_len, actuator_lens};
+ghost use Rattle.flat_graph.specs.Laws.{sensor_len, sensor_lens};
 ghost use Rattle.semaphore_core.specs.Instructions.{len_of, depth_of};
 ghost use Rattle.semaphore_core.specs.MicroSteps.{sent_len, longest_sent, longest_in, longest_on, wire_len};
 ghost use Rattle.semaphore_core.specs.Steps.{IsSingle};
@@ -135,7 +136,7 @@ pub fn opening_of(alloc: Global, flat: &Flat) -> Result<Items<Items<i64>>, OutOf
 }
 
 /// The length of a source, 0 where there is none.
-fn source_len(vertices: &[Vertex], source: Source) -> u32
+pub fn source_len(vertices: &[Vertex], source: Source) -> u32
     ensures { result ≡ source_len vertices.now source }
 {
     match vertices.get(source.vertex as usize) {
@@ -177,6 +178,27 @@ pub fn actuator_lens(alloc: Global, flat: &Flat) -> Result<Items<u32>, OutOfMemo
     let mut lens = Vec::new(alloc);
     for x in flat.vertices() {
         push_actuator(flat, x, &mut lens)?;
+    }
+    Ok(Items::new(lens))
+}
+
+/// The length of the vector that an operation gives, where it is a sensor.
+fn push_sensor(x: &Vertex, lens: &mut Vec<u32>) -> Result<(), OutOfMemory>
+    ensures { OnOk result (lens.new.items ≡ lens.old.items ++ sensor_len x.now.kind x.now.outs) }
+{
+    match &x.kind {
+        Kind::Sensor(_) => Ok(lens.push(len_at(x.outs.as_slice(), 0))?),
+        _ => Ok(()),
+    }
+}
+
+/// The lengths of the vectors that the sensors give, in order: those of the rows that a job asks for.
+pub fn sensor_lens(alloc: Global, flat: &Flat) -> Result<Items<u32>, OutOfMemory>
+    ensures { IfOk result (λ s. s ≡ sensor_lens flat.now.vertices) }
+{
+    let mut lens = Vec::new(alloc);
+    for x in flat.vertices() {
+        push_sensor(x, &mut lens)?;
     }
     Ok(Items::new(lens))
 }

@@ -1,6 +1,6 @@
 //! The two numbers that bound a job: elements that its actuators take, and micro-steps in all. Nothing
 //! is laid out to count them.
-ghost use Rattle.std.specs.Prelude.{◌≡◌, ◌-◌, ◌*◌, ◌^◌, ◌<◌, ◌≤◌, length, min, None, slice_index_or};
+ghost use Rattle.std.specs.Prelude.{◌≡◌, ◌-◌, ◌*◌, ◌^◌, ◌<◌, ◌≤◌, length, min, None};
 ghost use Rattle.std.specs.List.{sum_by};
 ghost use Rattle.flat_graph.specs.Graph.{len_of as source_len};
 ghost use Rattle.semaphore_core.specs.Job.{output_elements, total_steps};
@@ -10,25 +10,10 @@ ghost use Rattle.semaphore_core.specs.IsJob.{above};
 ghost use Rattle.semaphore_core.specs.Totals.{taken_by, micros_of, micros_in};
 
 use crate::expand::{buffer_len, elements_in};
+use crate::opening::source_len;
 use crate::program::{Instr, Program};
 use flat_graph::{Flat, Kind, Source, Vertex};
 use syn_base::{LimitFault, LimitKind};
-
-/// The length of a source, 0 where there is none.
-fn source_len(vertices: &[Vertex], source: Source) -> u32
-    ensures { result ≡ source_len vertices.now source }
-{
-    match vertices.get(source.vertex as usize) {
-        Some(vertex) => len_at(vertex.outs.as_slice(), source.port as usize),
-        None => 0,
-    }
-}
-
-fn len_at(lens: &[u32], port: usize) -> u32
-    ensures { result ≡ slice_index_or lens.now port 0 }
-{
-    if port < lens.len() { lens[port] } else { 0 }
-}
 
 /// The number of elements of some sources.
 fn source_elements(flat: &Flat, sources: &[Source]) -> u128
