@@ -20,16 +20,12 @@ use Rattle.semaphore_core.specs.Job.{buffer_at, depth_at, period_at}
 use Rattle.semaphore_core.specs.Core.{home_of, slot_of, buffer_zeros, wire_zeros}
 use Rattle.phase_laws.specs.Agrees.{LiesAt}
 use Rattle.phase_laws.proofs.Blocks.{sum_inside, sum_same_block, block_at_is}
+use Rattle.phase_laws.proofs.Places.{slice_get_some}
 use Rattle.phase_laws.proofs.AgreeLists.{put_here, put_there, set_in, get_in, get_in_here, get_in_there, same_length, same_lengths}
 
 -- a number of two digits tells both
 two_digits : (w a b n m : ℕ) → n < w → m < w → a * w + n ≡ b * w + m → (a ≡ b) × (n ≡ m)
 two_digits w a b n m h k e = (sym (div-mul-add a w n h) ∙ ap (λ (i : ℕ). i / w) e ∙ div-mul-add b w m k, sym (mod-mul-add a w n h) ∙ ap (λ (i : ℕ). i % w) e ∙ mod-mul-add b w m k)
-
-there : {A : Type 0} (xs : List A) (i : ℕ) → i < length xs → (x : A) × (slice_get xs i ≡ Some x)
-there [] i h = absurd (omega arith)
-there (x ∷ xs) zero h = (x, refl)
-there (x ∷ xs) (suc i) h = there xs i (omega arith)
 
 -- a list of blocks of one entry each
 singles_length : {A : Type 0} (f : ℕ → A) (n : ℕ) → length (blocks (λ m. f m ∷ []) n) ≡ n
@@ -97,7 +93,7 @@ module _ (p : Program) (media : ℕ) where
   buffer_list b h = get_or_append_left (buffer_zeros p) (wire_zeros p media) [] b (let z = buffers_many in omega arith) ∙ by (slice_get p.buffers b) refl
     where
       by : (o : Option declared.Buffer) → slice_get p.buffers b ≡ o → slice_index_or (buffer_zeros p) b [] ≡ zeros (depth_in o * len_in o)
-      by None e = let z = there p.buffers b h in absurd (cc)
+      by None e = let z = slice_get_some p.buffers b h in absurd (cc)
       by (Some x) e = get_or_from_slice_get (buffer_zeros p) b (zeros (x.depth * x.len)) [] (slice_get-map (λ (y : declared.Buffer). zeros (y.depth * y.len)) p.buffers b ∙ ap (option_map (λ (y : declared.Buffer). zeros (y.depth * y.len))) e)
 
   pub wire_list : (m : ℕ) → m < media → slice_index_or opening_elements (length p.buffers + m) [] ≡ zeros (wire_len p m)

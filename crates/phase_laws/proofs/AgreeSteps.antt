@@ -26,13 +26,8 @@ use Rattle.semaphore_core.specs.WellFormed.{Stands, IsTransfer, IsOrder, operato
 use Rattle.semaphore_core.specs.Job.{JobData}
 use Rattle.phase_laws.specs.Agrees.{IsFormed, LoadsHere, StoresHere, Matches, AreMatched, IsMatched}
 use Rattle.phase_laws.proofs.Blocks.{in_block}
+use Rattle.phase_laws.proofs.Places.{slice_get_some}
 use Rattle.phase_laws.proofs.Counting.{count_more, count_less}
-
--- what stands within a list
-some_there : {A : Type 0} (xs : List A) (i : ℕ) → i < length xs → (x : A) × (slice_get xs i ≡ Some x)
-some_there [] i h = absurd (omega arith)
-some_there (x ∷ xs) zero h = (x, refl)
-some_there (x ∷ xs) (suc i) h = some_there xs i (omega arith)
 
 -- what stands in a list of one thing
 repeated_is : {A : Type 0} (x y : A) (n i : ℕ) → slice_get (repeated x n) i ≡ Some y → y ≡ x
@@ -236,7 +231,7 @@ module _ (p : Program) (order : List ℕ) (g : Graph) (seqs : List Seq) (media :
     turn_names a (Suc1 q) e = h.named s a (Suc1 q) e
     turn_names a (Pre0 q) e = h.named s a (Pre0 q) e
     turn_names a (Pre1 q) e = h.named s a (Pre1 q) e
-    turn_names a (Call v ins outs) e = let n = h.named s a (Call v ins outs) e in let x = some_there g.vertices v n.0 in
+    turn_names a (Call v ins outs) e = let n = h.named s a (Call v ins outs) e in let x = slice_get_some g.vertices v n.0 in
         (sym ((h.called v x.0 x.1).only s a ins outs e).0, n.1)
     turn_names a (Send b q) e = let m = on_medium a (Send b q) e refl in
         (h.named s a (Send b q) e, m.1, h.counts s (number_or 0 (medium p s)) m.0, sent_fits p (number_or 0 (medium p s)) s a b q m.0 e)
