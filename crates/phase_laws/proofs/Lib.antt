@@ -12,3 +12,12 @@ pub mod Wires
 pub mod Synchronized
 pub mod Order
 pub mod Programs
+pub mod AgreeSteps
+pub mod AgreeLists
+pub mod AgreeDelays
+pub mod AgreePlaces
+pub mod AgreeOwn
+pub mod AgreeRuns
+pub mod AgreeTells
+pub mod AgreeTold
+pub mod AgreeLaws
