@@ -2,6 +2,10 @@ mod Called
 mod Exact
 mod Guarded
 mod Kept
+mod Listed
+mod Ordered
+mod Passing
+mod Prologues
 mod Tests
 mod Transferred
 mod Walked

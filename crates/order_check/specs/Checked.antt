@@ -66,6 +66,11 @@ abbrev pub all_at : {X : Type 0} → (ℕ → X → Bool) → ℕ → List X →
 all_at test n [] = true
 all_at test n (x ∷ xs) = test n x && all_at test (n + 1) xs
 
+-- the place behind the list, of which the first element has place n, if the test passes at each element with its place
+abbrev pub passed : {X : Type 0} → (ℕ → X → Bool) → ℕ → List X → Option ℕ
+passed test n [] = Some n
+passed test n (x ∷ xs) = cond (test n x) (passed test (n + 1) xs) None
+
 -- the test passes at each instruction with its sequence and its place
 abbrev pub every : Program → (ℕ → ℕ → Instr → Bool) → Bool
 every p test = all_at (λ s q. all_at (test s) 0 q.turn) 0 p.seqs

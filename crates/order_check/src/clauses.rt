@@ -1,9 +1,10 @@
-//! The clauses of a well-formed program about loops, names, communicators and counts, each as an exact check.
+//! The clauses of a well-formed program, each as an exact check.
 ghost use Rattle.std.specs.Prelude.{◌≡◌, ℕ, ◌<◌, List, Some, length, map, slice_get, true};
 ghost use Rattle.std.specs.List.{count_by};
-ghost use Rattle.semaphore_core.specs.Instructions.{is_communication, medium, readers, turn};
+ghost use Rattle.archi_graph.specs.Sequences.{sequences};
+ghost use Rattle.semaphore_core.specs.Instructions.{is_communication, medium, prologue, readers, turn};
 ghost use Rattle.semaphore_core.specs.MicroSteps.{transfers};
-ghost use Rattle.semaphore_core.specs.Places.{carried, places, transfer};
+ghost use Rattle.semaphore_core.specs.Places.{carried, opening_of, places, transfer};
 ghost use Rattle.semaphore_core.specs.WellFormed.{FollowsLoops, IsBuffer, IsCalled, IsPair, IsTransfer, NamesIn, operator_of, Stands};
 ghost use Rattle.semaphore_core.specs.declared.program.Instr.{Instr};
 ghost use Rattle.flat_graph.specs.declared.vertex.Vertex.{Vertex};
@@ -14,9 +15,24 @@ use crate::carrying::are_kept;
 use crate::guarding::are_guarded;
 use crate::loops::are_followed;
 use crate::naming::{are_communicators, are_counted, are_named, are_on_media};
+use crate::opening::are_opened;
+use crate::sequencing::are_sequences;
 use crate::transferring::are_transfers;
+use archi_graph::Archi;
 use flat_graph::Flat;
 use semaphore_core::Program;
+
+/// Whether the sequences of the program are those of the architecture, in order.
+pub fn sequences_are_there(program: &Program, archi: &Archi) -> bool
+    ensures sound { result ≡ true → map (λ q. q.seq) program.now.seqs ≡ sequences archi.now }
+    ensures complete { map (λ q. q.seq) program.now.seqs ≡ sequences archi.now → result ≡ true }
+{
+    are_sequences(
+        program.seqs.as_slice(),
+        archi.operators().len(),
+        archi.media(),
+    )
+}
 
 /// Whether each entry of the order names a sequence, and each sequence as often as its loop has instructions.
 pub fn follows_loops(program: &Program, order: &[u32]) -> bool
@@ -76,6 +92,15 @@ pub fn pairs_guard(program: &Program, order: &[u32]) -> bool
     ensures complete { map (λ o. Some o) program.now.pairs ≡ map (λ r. operator_of program.now r.buffer) (readers program.now) → ((q : ℕ) → q < length program.now.pairs → IsPair program.now order.now (places program.now) q) → result ≡ true }
 {
     are_guarded(program, order)
+}
+
+/// Whether each prologue has, for each pair of which its sequence is the reader, by number, a signal of the
+/// empty semaphore for each place of the buffer, and nothing else, where the pairs are numbered right.
+pub fn prologues_open(program: &Program) -> bool
+    ensures sound { result ≡ true → (s : ℕ) → s < length program.now.seqs → prologue program.now s ≡ opening_of program.now s }
+    ensures complete { map (λ o. Some o) program.now.pairs ≡ map (λ r. operator_of program.now r.buffer) (readers program.now) → ((s : ℕ) → s < length program.now.seqs → prologue program.now s ≡ opening_of program.now s) → result ≡ true }
+{
+    are_opened(program)
 }
 
 /// Whether each transfer of so many media has its send, its receive and the waits of the other

@@ -15,9 +15,9 @@ use semaphore_core::{Instr, Program, SeqCode};
 
 /// A buffer with a sequence that reads it and does not write it.
 #[derive(Clone, Copy, Drop)]
-struct Reading {
-    buffer: usize,
-    sequence: usize,
+pub struct Reading {
+    pub buffer: usize,
+    pub sequence: usize,
 }
 
 /// The places of the two instructions of a pair in a sequence.
@@ -175,7 +175,8 @@ fn is_read(list: &[Instr], buffer: usize) -> bool
     list.iter().any(|instr| reads(instr, buffer))
 }
 
-fn waits_for(code: &SeqCode, buffer: usize) -> bool
+/// Whether a sequence reads a buffer that another one writes.
+pub fn waits_for(code: &SeqCode, buffer: usize) -> bool
     ensures { result ≡ waits_for buffer code.now }
 {
     is_read(code.turn.as_slice(), buffer) && !is_written(code.turn.as_slice(), buffer)

@@ -3,7 +3,7 @@
 //! takes is trusted.
 #![tactic(auto)]
 
-ghost use Rattle.std.specs.Prelude.{◌≡◌, ◌≤◌, length, IfSome};
+ghost use Rattle.std.specs.Prelude.{◌≡◌, ◌≤◌, length, replicate, IfSome};
 
 use outside::{Failed, File, Shelf, Sink};
 use std::fs;
@@ -19,8 +19,10 @@ pub struct FileShelf<'r> {
 }
 
 impl<'r> FileShelf<'r> {
-    /// A shelf over the files that the runtime reaches.
-    pub fn new(rt: &'r HostRuntime) -> FileShelf<'r> {
+    /// A shelf over the files that the runtime reaches, without a fault so far.
+    pub fn new(rt: &'r HostRuntime) -> FileShelf<'r>
+        ensures { result.faults ≡ replicate 5 0 }
+    {
         FileShelf {
             rt,
             open: None,
@@ -67,8 +69,10 @@ pub struct StdSink<'r> {
 }
 
 impl<'r> StdSink<'r> {
-    /// The runtime's standard output.
-    pub fn new(rt: &'r HostRuntime) -> StdSink<'r> {
+    /// The runtime's standard output, without a fault so far.
+    pub fn new(rt: &'r HostRuntime) -> StdSink<'r>
+        ensures { result.faults ≡ 0 }
+    {
         StdSink { rt, faults: 0 }
     }
 }
@@ -97,8 +101,10 @@ pub struct ErrSink<'r> {
 }
 
 impl<'r> ErrSink<'r> {
-    /// The runtime's standard error.
-    pub fn new(rt: &'r HostRuntime) -> ErrSink<'r> {
+    /// The runtime's standard error, without a fault so far.
+    pub fn new(rt: &'r HostRuntime) -> ErrSink<'r>
+        ensures { result.faults ≡ 0 }
+    {
         ErrSink { rt, faults: 0 }
     }
 }

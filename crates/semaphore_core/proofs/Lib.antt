@@ -2,6 +2,12 @@ pub mod Expanding
 pub mod Viewing
 pub mod Opened
 pub mod Openings
+pub mod Numbered
+pub mod Prologues
+pub mod Jobs
+pub mod MoreDesks
+pub mod ZeroRows
+pub mod OpenStates
 pub mod ReadVectors
 pub mod RowVectors
 pub mod Desks
@@ -9,5 +15,7 @@ pub mod DelayNumbers
 pub mod Operate
 pub mod Ready
 pub mod Runs
+pub mod Counting
+pub mod Singles
 mod RowFive
 mod RowNine

@@ -12,7 +12,10 @@ pub mod Rows
 pub mod RegisterFile
 pub mod Registers
 pub mod Job
+pub mod IsJob
+pub mod Totals
 pub mod Core
 pub mod Held
+pub mod AtOpening
 pub mod Told
 pub mod Laws

@@ -74,7 +74,7 @@ pub fn buffer_len(program: &Program, buffer: u32) -> u32
 }
 
 /// The number of elements of these buffers.
-fn elements_in(program: &Program, list: &[u32]) -> u128
+pub fn elements_in(program: &Program, list: &[u32]) -> u128
     ensures value { result ≡ elements_in program.now list.now }
     ensures bound { result ≤ length list.now * 2 ^ 32 }
 {

@@ -1,11 +1,15 @@
 //! A job: a well-formed program with the sensors' rows and the delays' opening values.
 use crate::program::Program;
+use crate::totals::limit_fault;
 use archi_graph::Archi;
 use flat_graph::{Flat, Kind, Vertex};
 use std::marker::Model;
-use syn_base::{Items, SensorRows};
+use syn_base::{Items, LimitFault, SensorRows};
 
-/// A program with what it runs on, within the limits on the actuators' elements and on micro-steps.
+/// A program with what it runs on. The program is well formed for the flat graph and the architecture,
+/// the rows are those of the graph's sensors in at most 10,000 reactions, each delay has an opening
+/// vector of its length, and neither the actuators' elements nor the micro-steps in all are above their
+/// limits.
 #[derive(Drop)]
 pub struct Job<'a> {
     program: &'a Program,
@@ -21,22 +25,59 @@ impl<'a> Model for Job<'a> {
     ghost use Rattle.body_lang.specs.Code.{expr_code};
     ghost use Rattle.flat_graph.specs.Graph.{graph_code};
     ghost use Rattle.semaphore_core.specs.Job.{JobData, job_code};
+    ghost use Rattle.semaphore_core.specs.IsJob.{IsJobOn, job_of};
 
     ghost Value = { JobData };
 
     ghost coded = { job_code (Prim.hlevel codes) (graph_code (Prim.hlevel codes) (expr_code (Prim.hlevel codes))) };
 
-    ghost view = { λ s. record { program = s.program.now; graph = s.flat.now; media = length s.archi.now.media; sensors = s.rows.now.reactions; lens = s.rows.now.lens; opening = s.opening } };
+    ghost view = { λ s. job_of s.program.now s.flat.now s.archi.now s.rows.now s.opening };
+
+    ghost invariant = { λ s. IsJobOn s.archi.now (job_of s.program.now s.flat.now s.archi.now s.rows.now s.opening) };
 }
 
 impl<'a> Job<'a> {
-    ghost use Rattle.std.specs.Prelude.{◌≡◌, ℕ, ◌<◌, length, slice_index_or, []};
+    ghost use Rattle.std.specs.Prelude.{◌≡◌, ℕ, ◌<◌, length, slice_index_or, [], IfOk, IfErr, None, Some};
     ghost use Rattle.flat_graph.specs.declared.vertex.Kind.TheVariants.{Sensor};
     ghost use Rattle.flat_graph.specs.Meaning.{sensed};
+    ghost use Rattle.semaphore_core.specs.IsJob.{FitTogether, IsJob, job_of, limit_of};
+
+    /// A job of a program on what it runs on. It takes no memory, and after a refusal `opening` is
+    /// dropped.
+    ///
+    /// It asks that the program is well formed for the flat graph and the architecture, that the rows
+    /// are those of the graph's sensors in at most 10,000 reactions, and that each delay has an opening
+    /// vector of its length. `Output` comes where reactions times the actuators' elements are above
+    /// 2,000,000, whatever the micro-steps are. `Total` comes else, where the micro-steps of all
+    /// prologues and of all reactions are above 20,000,000. Both tell the exact number; of micro-steps
+    /// at most the last value of its type.
+    pub fn new(
+        program: &'a Program,
+        flat: &'a Flat,
+        archi: &'a Archi,
+        rows: &'a SensorRows,
+        opening: Items<Items<i64>>,
+    ) -> Result<Job<'a>, LimitFault>
+        requires { FitTogether archi.now (job_of program.now flat.now archi.now rows.now opening) }
+        ensures job { IfOk result (λ job. (job ≡ job_of program.now flat.now archi.now rows.now opening) × (limit_of job ≡ None)) }
+        ensures limit { IfErr result (λ fault. limit_of (job_of program.now flat.now archi.now rows.now opening) ≡ Some fault) }
+    {
+        match limit_fault(program, flat, rows.count()) {
+            Some(fault) => Err(fault),
+            None => Ok(Job {
+                program,
+                flat,
+                archi,
+                rows,
+                opening,
+            }),
+        }
+    }
 
     /// The program.
     pub fn program(&self) -> &Program
-        ensures { result.now ≡ self.now.program }
+        ensures same { result.now ≡ self.now.program }
+        ensures job { IsJob self.now }
     {
         self.program
     }
@@ -66,5 +107,20 @@ impl<'a> Job<'a> {
             Kind::Sensor(i) => self.rows.vector(reaction, *i as usize),
             _ => &[],
         }
+    }
+
+    /// The opening values of the delays, by their number.
+    pub fn opening(&self) -> &[Items<i64>]
+        ensures same { result.now ≡ self.now.opening }
+        ensures job { IsJob self.now }
+    {
+        self.opening.as_slice()
+    }
+
+    /// The number of media.
+    pub fn media(&self) -> usize
+        ensures { result ≡ self.now.media }
+    {
+        self.archi.media().len()
     }
 }

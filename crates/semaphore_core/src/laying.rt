@@ -1,8 +1,10 @@
 //! A desk for each operation, when a state is opened.
-ghost use Rattle.std.specs.Prelude.{◌≡◌, ◌+◌, ◌^◌, ◌<◌, ◌++◌, ◌≤◌, cond, take, map, length, slice_get, Some, IfOk, OnOk};
+ghost use Rattle.std.specs.Prelude.{◌≡◌, ◌+◌, ◌^◌, ◌<◌, ◌++◌, ◌≤◌, cond, take, map, length, slice_get, Some, IfOk, OnOk, IsTrue};
 ghost use Rattle.flat_graph.specs.Meaning.{delay_number};
 ghost use Rattle.semaphore_core.specs.Operation.{delay_by};
+ghost use Rattle.flat_graph.specs.Valid.{is_flat};
 ghost use Rattle.semaphore_core.specs.Desk.{is_get_at, IsDesk, lens_of_desk};
+ghost use Rattle.semaphore_core.specs.AtOpening.{AreDesks};
 
 use crate::desk::Desk;
 use crate::opening::push_lens;
@@ -62,7 +64,7 @@ fn push_all(list: &[u32], lens: &mut Vec<u32>) -> Result<(), OutOfMemory>
 }
 
 /// A number that fits 32 bits; another is taken as want of memory.
-fn small(number: usize) -> Result<u32, OutOfMemory>
+pub fn small(number: usize) -> Result<u32, OutOfMemory>
     ensures { IfOk result (λ m. m ≡ number) }
 {
     if number <= u32::MAX as usize {
@@ -92,4 +94,18 @@ pub fn desk_of(alloc: Global, flat: &Flat, v: u32, x: &Vertex) -> Result<Desk, O
         inputs,
         delay,
     )
+}
+
+/// The desks of all operations.
+pub fn desks_of(alloc: Global, flat: &Flat) -> Result<Vec<Desk>, OutOfMemory>
+    ensures desks { IfOk result (λ s. AreDesks flat.now (length flat.now.vertices) (map lens_of_desk s.items)) }
+    ensures valid { IsTrue (is_flat flat.now) }
+{
+    let vertices = flat.vertices();
+    let count = small(vertices.len())?;
+    let mut desks = Vec::new(alloc);
+    for v in 0..count {
+        desks.push(desk_of(alloc, flat, v, &vertices[v as usize])?)?;
+    }
+    Ok(desks)
 }

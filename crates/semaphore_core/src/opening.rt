@@ -5,6 +5,7 @@ ghost use Rattle.level_meaning.specs.Level.{zeros};
 ghost use Rattle.flat_graph.specs.Graph.{len_of as source_len, lens_of};
 ghost use Rattle.flat_graph.specs.Meaning.{initial_cell, initial_cells};
 ghost use Rattle.semaphore_core.specs.Job.{actuator_len, actuator_lens};
+ghost use Rattle.flat_graph.specs.Laws.{sensor_len, sensor_lens};
 ghost use Rattle.semaphore_core.specs.Instructions.{len_of, depth_of};
 ghost use Rattle.semaphore_core.specs.MicroSteps.{sent_len, longest_sent, longest_in, longest_on, wire_len};
 ghost use Rattle.semaphore_core.specs.Steps.{IsSingle};
@@ -12,15 +13,23 @@ ghost use Rattle.semaphore_core.specs.Core.{buffer_zeros, wire_zeros};
 
 use crate::expand::buffer_len;
 use crate::program::{Instr, Program, SeqCode};
+use crate::rooms::{addressable, sum_of};
 use flat_graph::{Flat, Kind, Source, Vertex};
 use std::alloc::Global;
-use syn_base::{Items, OutOfMemory};
+use syn_base::{ActRows, Items, OutOfMemory};
 
 /// So many zeros.
 pub fn zeros(alloc: Global, len: usize) -> Result<Items<i64>, OutOfMemory>
     ensures { IfOk result (λ s. s ≡ zeros len) }
 {
     Ok(Items::new(vec![in alloc; 0; len]?))
+}
+
+/// So many times this word.
+pub fn words_of(alloc: Global, word: u64, len: usize) -> Result<Vec<u64>, OutOfMemory>
+    ensures { IfOk result (λ s. s.items ≡ replicate len word) }
+{
+    Ok(vec![in alloc; word; len]?)
 }
 
 /// The length of the buffer that an instruction sends, 0 for another instruction.
@@ -94,12 +103,12 @@ pub fn zero_elements(
 }
 
 /// A copy of these lists.
-pub fn copy_of(alloc: Global, lists: &[Items<i64>]) -> Result<Vec<Items<i64>>, OutOfMemory>
-    ensures { IfOk result (λ s. s.items ≡ lists.now) }
+pub fn copy_of(alloc: Global, lists: &[Items<i64>]) -> Result<Vec<Vec<i64>>, OutOfMemory>
+    ensures { IfOk result (λ s. map (λ c. c.items) s.items ≡ lists.now) }
 {
     let mut all = Vec::new(alloc);
     for list in lists {
-        all.push(Items::new(Vec::from_slice(alloc, list.as_slice())?))?;
+        all.push(Vec::from_slice(alloc, list.as_slice())?)?;
     }
     Ok(all)
 }
@@ -127,7 +136,7 @@ pub fn opening_of(alloc: Global, flat: &Flat) -> Result<Items<Items<i64>>, OutOf
 }
 
 /// The length of a source, 0 where there is none.
-fn source_len(vertices: &[Vertex], source: Source) -> u32
+pub fn source_len(vertices: &[Vertex], source: Source) -> u32
     ensures { result ≡ source_len vertices.now source }
 {
     match vertices.get(source.vertex as usize) {
@@ -171,4 +180,38 @@ pub fn actuator_lens(alloc: Global, flat: &Flat) -> Result<Items<u32>, OutOfMemo
         push_actuator(flat, x, &mut lens)?;
     }
     Ok(Items::new(lens))
+}
+
+/// The length of the vector that an operation gives, where it is a sensor.
+fn push_sensor(x: &Vertex, lens: &mut Vec<u32>) -> Result<(), OutOfMemory>
+    ensures { OnOk result (lens.new.items ≡ lens.old.items ++ sensor_len x.now.kind x.now.outs) }
+{
+    match &x.kind {
+        Kind::Sensor(_) => Ok(lens.push(len_at(x.outs.as_slice(), 0))?),
+        _ => Ok(()),
+    }
+}
+
+/// The lengths of the vectors that the sensors give, in order: those of the rows that a job asks for.
+pub fn sensor_lens(alloc: Global, flat: &Flat) -> Result<Items<u32>, OutOfMemory>
+    ensures { IfOk result (λ s. s ≡ sensor_lens flat.now.vertices) }
+{
+    let mut lens = Vec::new(alloc);
+    for x in flat.vertices() {
+        push_sensor(x, &mut lens)?;
+    }
+    Ok(Items::new(lens))
+}
+
+/// Rows of zeros: vectors of these lengths in each of so many reactions. A row that memory cannot
+/// hold is answered as want of it.
+pub fn zero_rows(alloc: Global, lens: &[u32], reactions: usize) -> Result<ActRows, OutOfMemory>
+    ensures { IfOk result (λ s. s ≡ record { lens = lens.now; reactions = replicate reactions (map zeros lens.now) }) }
+{
+    let row = zeros(alloc, addressable(sum_of(lens))?)?;
+    let mut rows = ActRows::new(alloc, lens)?;
+    for _ in 0..reactions {
+        rows.push(row.as_slice())?;
+    }
+    Ok(rows)
 }

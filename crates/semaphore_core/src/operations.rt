@@ -1,5 +1,5 @@
 //! What operations keep and take: the delays' cells and the actuators' rows.
-ghost use Rattle.std.specs.Prelude.{◌≡◌, ℕ, true, ◌+◌, ◌<◌, ◌≤◌, ◌++◌, length, map, take, drop, slice_get, slice_index_or, slice_set, Some, None, [], IfSome};
+ghost use Rattle.std.specs.Prelude.{◌≡◌, ℕ, true, ◌+◌, ◌<◌, ◌≤◌, ◌++◌, length, map, take, drop, slice_get, slice_index_or, slice_set, Some, None, [], IfSome, IfOk};
 ghost use Rattle.level_meaning.specs.Level.{vector_at};
 ghost use Rattle.flat_graph.specs.declared.vertex.Kind.TheVariants.{Actuator, Sensor};
 ghost use Rattle.flat_graph.specs.Graph.{lens_of};
@@ -7,17 +7,21 @@ ghost use Rattle.flat_graph.specs.Valid.{is_flat};
 ghost use Rattle.flat_graph.specs.Fire.{fired_at, kept_at, cell_len, seen_len, out_lens, read_lens};
 ghost use Rattle.semaphore_core.specs.Operation.{cell_at, with_cell, rows_by, HasCell, delay_of};
 ghost use Rattle.semaphore_core.specs.Desk.{IsDesk, lens_of_desk};
+ghost use Rattle.semaphore_core.specs.Job.{zero_rows};
 ghost use Rattle.semaphore_core.specs.Registers.{compute_by};
 ghost use Rattle.semaphore_core.specs.Rows.{with_vector, TakesRow};
 ghost use Rattle.semaphore_core.specs.Held.{AreReady, outputs_len, computed, top_load, top_store, absorbed, emitted, left, with_values, with_kept};
 
 use crate::desk::Desk;
 use crate::job::Job;
+use crate::laying::desks_of;
+use crate::opening::{actuator_lens, copy_of, zero_rows};
 use crate::registers::Registers;
 use crate::steps::{OnLoad, OnStore};
 use flat_graph::{Flat, Kind, Vertex};
+use std::alloc::Global;
 use std::marker::Model;
-use syn_base::ActRows;
+use syn_base::{ActRows, OutOfMemory};
 
 /// Computes an operation on its desk, with the cell of its delay, if it is a half of one.
 fn fire_on(desk: &mut Desk, flat: &Flat, vertex: u32, cells: &mut Vec<Vec<i64>>, seen: &[i64])
@@ -112,6 +116,20 @@ impl Model for Operations {
 }
 
 impl Operations {
+    /// The operations of a job before any is made: the opening cells, rows of zeros, and a desk for each.
+    pub fn new(alloc: Global, job: &Job) -> Result<Operations, OutOfMemory>
+        ensures cells { IfOk result (λ k. k.cells ≡ job.now.opening) }
+        ensures rows { IfOk result (λ k. k.rows ≡ zero_rows job.now) }
+        ensures ready { IfOk result (λ k. AreReady job.now k) }
+    {
+        let lens = actuator_lens(alloc, job.flat())?;
+        Ok(Operations {
+            cells: copy_of(alloc, job.opening())?,
+            rows: zero_rows(alloc, lens.as_slice(), job.reactions())?,
+            desks: desks_of(alloc, job.flat())?,
+        })
+    }
+
     /// The rows of the actuators.
     pub fn rows(&self) -> &ActRows
         ensures { result.now ≡ record { lens = self.now.lens; reactions = self.now.rows } }

@@ -2,12 +2,17 @@
 ghost use Rattle.std.specs.Prelude.{◌≡◌, ◌+◌, ◌<◌, ◌≤◌, length, map, max, sum, take, IfOk};
 ghost use Rattle.flat_graph.specs.Fire.{out_lens};
 ghost use Rattle.semaphore_core.specs.Held.{outputs_len, top_load, top_store, top, highest};
+ghost use Rattle.semaphore_core.specs.AtOpening.{empty_file, empty_files};
 
+use crate::expand::SeqSteps;
+use crate::registers::Registers;
 use crate::steps::{MicroStep, OnLoad, OnStore};
 use flat_graph::Flat;
+use std::alloc::Global;
+use syn_base::OutOfMemory;
 
 /// The sum of these lengths.
-fn sum_of(lens: &[u32]) -> u128
+pub fn sum_of(lens: &[u32]) -> u128
     ensures { result ≡ sum lens.now }
 {
     let mut total = 0;
@@ -74,4 +79,43 @@ pub fn highest(flat: &Flat, list: &[MicroStep]) -> u128
         most = top(flat, *step).max(most);
     }
     most
+}
+
+/// A number that `usize` holds; another is answered as want of memory.
+pub fn addressable(number: u128) -> Result<usize, OutOfMemory>
+    ensures { IfOk result (λ n. n ≡ number) }
+{
+    if number <= usize::MAX as u128 {
+        Ok(number as usize)
+    } else {
+        Err(OutOfMemory)
+    }
+}
+
+/// Room for the registers of a sequence, of which none is in use.
+fn empty_file(alloc: Global, flat: &Flat, steps: &SeqSteps) -> Result<Registers, OutOfMemory>
+    ensures { IfOk result (λ r. r ≡ empty_file flat.now steps.now) }
+{
+    let prologue = highest(flat, steps.prologue.as_slice());
+    let turn = highest(flat, steps.turn.as_slice());
+    let most = addressable(prologue.max(turn))?;
+    if most == usize::MAX {
+        return Err(OutOfMemory);
+    }
+    Registers::new(alloc, most + 1)
+}
+
+/// Room for the registers of each sequence, of which none is in use.
+pub fn empty_files(
+    alloc: Global,
+    flat: &Flat,
+    steps: &[SeqSteps],
+) -> Result<Vec<Registers>, OutOfMemory>
+    ensures { IfOk result (λ s. s.items ≡ empty_files flat.now steps.now) }
+{
+    let mut all = Vec::new(alloc);
+    for one in steps {
+        all.push(empty_file(alloc, flat, one)?)?;
+    }
+    Ok(all)
 }

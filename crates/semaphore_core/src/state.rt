@@ -1,19 +1,23 @@
 //! The state of a run, and one micro-step of it.
-ghost use Rattle.std.specs.Prelude.{◌≡◌, ℕ, ◌+◌, ◌*◌, ◌^◌, ◌<◌, ◌≤◌, length, slice_index_or, slice_set, slice_get, Some, IsTrue, cond, pos, map};
-ghost use Rattle.semaphore_core.specs.Core.{count, counted, done_in, next, reaction, step, run_from, enabled_in, load_by, store_by, with_element, home_of, slot_of};
+ghost use Rattle.std.specs.Prelude.{◌≡◌, ℕ, ◌+◌, ◌*◌, ◌^◌, ◌<◌, ◌≤◌, length, slice_index_or, slice_set, slice_get, Some, IsTrue, IfOk, cond, pos, map};
+ghost use Rattle.semaphore_core.specs.Core.{count, counted, done_in, next, reaction, step, run_from, enabled_in, load_by, store_by, with_element, home_of, slot_of, opening};
 ghost use Rattle.semaphore_core.specs.Held.{AreReady, IsOpened, FitsWord, NeedsReaction, answer, kept_of, top, top_load, top_store};
 ghost use Rattle.semaphore_core.specs.Steps.{IsSingle};
 
 use crate::answer::StepAnswer;
-use crate::expand::SeqSteps;
+use crate::expand::{SeqSteps, micro_steps_of};
 use crate::job::Job;
+use crate::laying::small;
+use crate::opening::{words_of, zero_elements};
 use crate::operations::Operations;
 use crate::program::Program;
 use crate::registers::Registers;
+use crate::rooms::empty_files;
 use crate::steps::{MicroStep, OnLoad, OnStore, Place};
 use crate::words;
+use std::alloc::Global;
 use std::marker::Model;
-use syn_base::{ActRows, Items};
+use syn_base::{ActRows, Items, OutOfMemory};
 
 /// The state of a run of a job.
 #[derive(Drop)]
@@ -72,6 +76,27 @@ fn slot(program: &Program, place: Place) -> usize
 }
 
 impl State {
+    /// The state before any step: all semaphores, turns, elements and counts are 0, and the cells are
+    /// the job's opening values.
+    pub fn new(alloc: Global, job: &Job) -> Result<State, OutOfMemory>
+        ensures core { IfOk result (λ s. s.core ≡ opening job.now) }
+        ensures opened { IfOk result (λ s. IsOpened job.now s) }
+    {
+        let program = job.program();
+        let sequences = program.seqs.as_slice().len();
+        let steps = micro_steps_of(alloc, program)?;
+        let registers = empty_files(alloc, job.flat(), steps.as_slice())?;
+        Ok(State {
+            steps,
+            counts: words_of(alloc, 0, sequences)?,
+            semaphores: words_of(alloc, 0, 2 * program.pairs.as_slice().len())?,
+            turns: words_of(alloc, 0, job.media())?,
+            elements: zero_elements(alloc, program, small(job.media())?)?,
+            registers,
+            operations: Operations::new(alloc, job)?,
+        })
+    }
+
     /// Whether a micro-step of this reaction is enabled.
     fn is_enabled(&self, step: MicroStep, reaction: u64) -> bool
         ensures { result ≡ enabled_in self.now.core reaction step }

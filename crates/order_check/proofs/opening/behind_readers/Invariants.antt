@@ -1,0 +1,10 @@
+use Rattle.std.proofs.Common.{◌≡◌, drop}
+use Rattle.semaphore_core.specs.Instructions.{readers_from}
+use Rattle.order_check.specs.Checked.{passed}
+use Rattle.order_check.specs.Opened.{opens}
+use Rattle.order_check.proofs.opening.behind_readers.Given as goal
+
+-- the sequences that are left decide
+abbrev pub invariant-loop-sequence : goal.invariant-loop-sequence
+invariant-loop-sequence l =
+    passed (opens l.program) l.pair (readers_from l.sequence (drop l.sequence l.program.seqs) l.buffer) ≡ passed (opens l.program) l.first (readers_from 0 l.program.seqs l.buffer)

@@ -1,0 +1,103 @@
+-- What every job has: buffers of one place, prologues of signals, few micro-steps, and lengths that fit.
+use Rattle.std.proofs.Common.{◌≡◌, ℕ, zero, suc, ◌+◌, ◌-◌, ◌^◌, ◌<◌, ◌≤◌, ◌⊎◌, inl, inr, Bool, true, false, cond, List, [], ◌∷◌, map, length, max, min, Option, Some, None, refl, sym, ap, subst, arith, ◌∙◌}
+use Rattle.std.specs.Prelude.{slice_get, slice_index_or, replicate}
+use Rattle.std.proofs.lemmas.Bool.{cases_lt, lt-ltb, le-ltb}
+use Rattle.std.proofs.lemmas.List.{length-map, length-replicate}
+use Rattle.std.proofs.lemmas.Option.{slice_get_past, slice_get_within, none-some}
+use Rattle.syn_base.specs.declared.limits.LimitKind.{LimitKind}
+use Rattle.syn_base.specs.declared.limits.LimitKind.TheVariants.{Output, Total}
+use Rattle.syn_base.specs.declared.limits.LimitFault.{LimitFault}
+use Rattle.syn_base.specs.Limits.{bound_of}
+use Rattle.level_meaning.specs.Level.{Values, Vector, vector_at, zeros}
+use Rattle.flat_graph.specs.Graph.{Graph, lens_of}
+use Rattle.flat_graph.specs.declared.vertex.Vertex.{Vertex}
+use Rattle.flat_graph.specs.declared.vertex.Kind.{Kind}
+use Rattle.flat_graph.specs.declared.vertex.Kind.TheVariants.{Sensor, Actuator}
+use Rattle.flat_graph.specs.Valid.{is_flat}
+use Rattle.flat_graph.specs.Fire.{cell_len, seen_len, kind_cell_len, kind_seen_len}
+use Rattle.flat_graph.specs.Meaning.{initial_cells}
+use Rattle.flat_graph.proofs.KindLens.{length-vector_at}
+use Rattle.archi_graph.specs.Archi.{Architecture}
+use Rattle.archi_graph.specs.Sequences.{sequences}
+use Rattle.semaphore_core.specs.declared.program.Buffer.{Buffer}
+use Rattle.semaphore_core.specs.declared.program.SeqCode.{SeqCode}
+use Rattle.semaphore_core.specs.declared.program.Instr.{Instr}
+use Rattle.semaphore_core.specs.declared.program.Program.{Program}
+use Rattle.semaphore_core.specs.declared.steps.MicroStep.{MicroStep}
+use Rattle.semaphore_core.specs.Instructions.{depth_of, depth_in, number_or, prologue_of}
+use Rattle.semaphore_core.specs.Places.{opening_of}
+use Rattle.semaphore_core.specs.Steps.{IsSingle, steps, steps_by, steps_in_list}
+use Rattle.semaphore_core.specs.WellFormed.{IsWellFormed}
+use Rattle.semaphore_core.specs.Operation.{delay_of}
+use Rattle.semaphore_core.specs.AtOpening.{AreDesks}
+use Rattle.semaphore_core.specs.Job.{JobData, reactions, zero_rows, output_elements, total_steps, actuator_lens}
+use Rattle.semaphore_core.specs.IsJob.{IsJob, above, limit_of}
+use Rattle.semaphore_core.specs.Held.{Kept, AreReady, NeedsReaction}
+use Rattle.semaphore_core.proofs.Numbered.{actuator_at, sensor_at, HasLen, delay_cell, no_delay}
+use Rattle.semaphore_core.proofs.Prologues.{opening_bare}
+
+above_none : (which : LimitKind) (count : ℕ) (next : Option LimitFault) → above which count next ≡ None → (count ≤ bound_of which) × (next ≡ None)
+above_none which count next e = by (cases_lt (bound_of which) count)
+  where
+    fault : LimitFault
+    fault = record { which = which; count = count; bound = bound_of which }
+
+    by : (bound_of which < count) ⊎ (count ≤ bound_of which) → (count ≤ bound_of which) × (next ≡ None)
+    by (inl l) = let z : Some fault ≡ None = rw (lt-ltb (bound_of which) count l) at e in absurd (none-some fault (sym z))
+    by (inr l) = (l, rw (le-ltb (bound_of which) count l) at e)
+
+module _ (j : JobData) (job : IsJob j) where
+  -- every buffer has one place
+  pub single : IsSingle j.program
+  single b = by (cases_lt b (length j.program.buffers))
+    where
+      by : (b < length j.program.buffers) ⊎ (length j.program.buffers ≤ b) → depth_of j.program b ≡ 1
+      by (inl l) = (job.1.0.formed.1.buffers b l).one_place
+      by (inr l) = ap depth_in (slice_get_past j.program.buffers b l)
+
+  -- the micro-steps in all are few
+  pub few_steps : total_steps j.program (reactions j) ≤ 20000000
+  few_steps =
+      let a = above_none Output (output_elements j.graph (reactions j)) (above Total (min (total_steps j.program (reactions j)) (2 ^ 128 - 1)) None) job.1.1 in
+      let b = (above_none Total (min (total_steps j.program (reactions j)) (2 ^ 128 - 1)) None a.1).0 in omega arith
+
+  -- a prologue neither loads nor stores
+  pub prologue_bare : (s l : ℕ) (m : MicroStep) → slice_get (steps j.program s).prologue l ≡ Some m → NeedsReaction m 0 0
+  prologue_bare s l m e = by (slice_get j.program.seqs s) refl e
+    where
+      by : (o : Option SeqCode) → slice_get j.program.seqs s ≡ o → slice_get (steps_by j.program o).prologue l ≡ Some m → NeedsReaction m 0 0
+      by None is e = absurd (cc)
+      by (Some q) is e =
+          let same : q.prologue ≡ opening_of j.program s = sym (ap prologue_of is) ∙ job.1.0.formed.1.prologues s (slice_get_within j.program.seqs s q is) in
+          opening_bare j.program s (number_or 0 q.seq.medium) l m (subst (λ (xs : List Instr). slice_get (steps_in_list j.program (number_or 0 q.seq.medium) xs) l ≡ Some m) same e)
+
+  -- the opening cells, rows of zeros, and a desk for each operation
+  pub opening_ready : (k : Kept) → is_flat j.graph ≡ true → k.cells ≡ j.opening → k.rows ≡ zero_rows j → k.lens ≡ actuator_lens j.graph j.graph.vertices → AreDesks j.graph (length j.graph.vertices) k.desks → AreReady j k
+  opening_ready k valid cells rows lens desks = record {
+    valid = valid;
+    desks_there = desks.there;
+    desk = desks.each;
+    cells_fit = cells_fit;
+    no_cell = λ v x is e. vertex_cell v x is ∙ no_delay j.graph valid v x is e;
+    rows_there = ap (λ (l : List Values). length l) rows ∙ length-replicate (reactions j) (map zeros (actuator_lens j.graph j.graph.vertices));
+    row_fits = λ v x a is e. subst (λ (l : List ℕ). (a < length l) × (slice_index_or l a 0 ≡ slice_index_or (lens_of j.graph.vertices x.ins) 0 0)) (sym lens) (actuator_at j.graph valid v a x is e);
+    sensor_fits = sensor_fits;
+  }
+    where
+      vertex_cell : (v : ℕ) (x : Vertex) → slice_get j.graph.vertices v ≡ Some x → cell_len j.graph v ≡ kind_cell_len x.kind (lens_of j.graph.vertices x.ins)
+      vertex_cell v x is = rw is refl
+
+      cells_fit : (v : ℕ) (x : Vertex) (c : ℕ) → slice_get j.graph.vertices v ≡ Some x → delay_of j.graph v x ≡ Some c → (c < length k.cells) × (length (vector_at k.cells c) ≡ cell_len j.graph v)
+      cells_fit v x c is e =
+          let lens : map length k.cells ≡ map length (initial_cells j.graph.vertices) = ap (λ (l : Values). map length l) cells ∙ job.1.0.opened in
+          let r = delay_cell j.graph valid v c x is e in
+          let many : length (map length k.cells) ≡ length k.cells = length-map k.cells length in (
+            (let t = r.0 in let n = ap (λ (l : List ℕ). length l) lens in omega arith),
+            length-vector_at k.cells c ∙ ap (λ (l : List ℕ). slice_index_or l c 0) lens ∙ r.1 ∙ sym (vertex_cell v x is),
+          )
+
+      sensor_fits : (v : ℕ) (x : Vertex) (i : ℕ) → slice_get j.graph.vertices v ≡ Some x → x.kind ≡ Sensor i → (i < length j.lens) × (slice_index_or j.lens i 0 ≡ seen_len j.graph v)
+      sensor_fits v x i is e =
+          let seen : seen_len j.graph v ≡ slice_index_or x.outs 0 0 = rw is (ap (λ (q : Kind). kind_seen_len q x.outs) e) in
+          subst (λ (l : List ℕ). (i < length l) × (slice_index_or l i 0 ≡ seen_len j.graph v)) (sym job.1.0.sensed)
+          (let r = sensor_at j.graph valid v i x is e in (r.0, r.1 ∙ sym seen))

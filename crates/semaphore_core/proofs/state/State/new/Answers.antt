@@ -1,0 +1,49 @@
+-- The parts are those of the opening, and the state is open.
+use Rattle.std.proofs.Common.{◌≡◌, ℕ, ◌*◌, ◌++◌, ◌∙◌, List, [], length, replicate, ap}
+use Rattle.flat_graph.specs.Graph.{Graph}
+use Rattle.semaphore_core.specs.declared.program.Program.{Program}
+use Rattle.semaphore_core.specs.declared.program.SeqCode.{SeqCode}
+use Rattle.semaphore_core.specs.declared.expand.SeqSteps.{SeqSteps}
+use Rattle.semaphore_core.specs.Core.{Core, opening, buffer_zeros, wire_zeros}
+use Rattle.semaphore_core.specs.AtOpening.{empty_files}
+use Rattle.semaphore_core.proofs.Viewing.{core_of, values_of}
+use Rattle.semaphore_core.proofs.OpenStates.{single_of, registers_empty, state_open}
+use Rattle.semaphore_core.proofs.state.State.new.Goals as goal
+
+pub micro_steps_of-requires : goal.micro_steps_of-requires
+micro_steps_of-requires c = single_of c.args.job.now c.program-program.result.now c.program-program.ensures.same c.program-program.ensures.job
+
+pub zero_elements-requires : goal.zero_elements-requires
+zero_elements-requires c = single_of c.args.job.now c.program-program.result.now c.program-program.ensures.same c.program-program.ensures.job
+
+files_are : (c : goal.In_ok-new) → c.in_ok-registers.registers.items ≡ empty_files c.args.job.now.graph c.in_ok-steps.steps.items
+files_are c = c.in_ok-registers.ensures ∙ (λ i. empty_files (c.flat.ensures i) (c.as_slice.ensures.value i))
+
+core_is : (c : goal.In_ok-new) → core_of c.in_ok-words_of.field-0.items c.in_ok-words_of-2.field-0.items c.in_ok-words_of-3.field-0.items c.in_ok-zero_elements.field-0.items c.in_ok-registers.registers.items c.in_ok-new.field-0 ≡ opening c.args.job.now
+core_is c = λ i. record { counts = counts i; semaphores = semaphores i; turns = turns i; elements = elements i; registers = registers i; cells = c.in_ok-new.ensures.cells i; rows = c.in_ok-new.ensures.rows i }
+  where
+    same : c.program-program.result.now ≡ c.args.job.now.program
+    same = c.program-program.ensures.same
+
+    counts : c.in_ok-words_of.field-0.items ≡ replicate (length c.args.job.now.program.seqs) 0
+    counts = c.in_ok-words_of.ensures ∙ ap (λ (l : List SeqCode). replicate (length l) 0) (c.as_slice-sequences.ensures ∙ ap (λ (p : Program). p.seqs) same)
+
+    semaphores : c.in_ok-words_of-2.field-0.items ≡ replicate (2 * length c.args.job.now.program.pairs) 0
+    semaphores = c.in_ok-words_of-2.ensures ∙ ap (λ (l : List ℕ). replicate (2 * length l) 0) (c.as_slice-2.ensures ∙ ap (λ (p : Program). p.pairs) same)
+
+    turns : c.in_ok-words_of-3.field-0.items ≡ replicate c.args.job.now.media 0
+    turns = c.in_ok-words_of-3.ensures ∙ ap (λ (n : ℕ). replicate n 0) c.media.ensures
+
+    elements : c.in_ok-zero_elements.field-0.items ≡ buffer_zeros c.args.job.now.program ++ wire_zeros c.args.job.now.program c.args.job.now.media
+    elements = c.in_ok-zero_elements.ensures ∙ (λ i. buffer_zeros (same i) ++ wire_zeros (same i) ((c.in_ok-small.ensures ∙ c.media-2.ensures) i))
+
+    registers : values_of c.in_ok-registers.registers.items ≡ replicate (length c.args.job.now.program.seqs) []
+    registers = registers_empty c.args.job.now c.program-program.result.now same c.in_ok-steps.steps.items c.in_ok-steps.ensures c.in_ok-registers.registers.items (files_are c)
+
+pub returns-clause-core : goal.returns-clause-core
+returns-clause-core c = core_is c
+
+pub returns-clause-opened : goal.returns-clause-opened
+returns-clause-opened c = state_open c.args.job.now c.program-program.result.now c.program-program.ensures.same c.in_ok-steps.steps.items c.in_ok-steps.ensures c.in_ok-registers.registers.items (files_are c) c.program-program.ensures.job
+    (core_of c.in_ok-words_of.field-0.items c.in_ok-words_of-2.field-0.items c.in_ok-words_of-3.field-0.items c.in_ok-zero_elements.field-0.items c.in_ok-registers.registers.items c.in_ok-new.field-0)
+    c.in_ok-new.field-0.lens c.in_ok-new.field-0.desks (core_is c) c.in_ok-new.ensures.ready

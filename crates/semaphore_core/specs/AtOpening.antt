@@ -1,0 +1,23 @@
+-- What a state has when it is opened: a desk for each operation, and room for the registers of each sequence.
+use Rattle.std.specs.Prelude.{◌≡◌, ℕ, ◌+◌, max, List, [], map, length, Some, slice_get}
+use Rattle.flat_graph.specs.declared.vertex.Vertex.{Vertex}
+use Rattle.flat_graph.specs.Graph.{Graph}
+use Rattle.semaphore_core.specs.declared.expand.SeqSteps.{SeqSteps}
+use Rattle.semaphore_core.specs.Desk.{DeskLens, IsDesk}
+use Rattle.semaphore_core.specs.RegisterFile.{RegisterFile}
+use Rattle.semaphore_core.specs.Held.{highest}
+
+-- these are the desks of the first n operations
+pub record AreDesks (g : Graph) (n : ℕ) (desks : List DeskLens) : Type 0 where
+  pub there : length desks ≡ n
+  pub each : (v : ℕ) (x : Vertex) (d : DeskLens) → slice_get g.vertices v ≡ Some x → slice_get desks v ≡ Some d → IsDesk g v x d
+
+-- no register is in use, and there is one more than the highest number that the sequence uses
+abbrev pub room_of : Graph → SeqSteps → ℕ
+room_of g q = max (highest g q.prologue) (highest g q.turn) + 1
+
+abbrev pub empty_file : Graph → SeqSteps → RegisterFile
+empty_file g q = record { values = []; room = room_of g q }
+
+abbrev pub empty_files : Graph → List SeqSteps → List RegisterFile
+empty_files g list = map (empty_file g) list

@@ -1,0 +1,43 @@
+-- When parts make a job, and the limit that refuses them.
+use Rattle.std.specs.Prelude.{◌≡◌, ℕ, ◌-◌, ◌^◌, ◌≤◌, cond, nat_lt, min, map, length, Option, Some, None}
+use Rattle.syn_base.specs.declared.limits.LimitKind.{LimitKind}
+use Rattle.syn_base.specs.declared.limits.LimitKind.TheVariants.{Output, Total}
+use Rattle.syn_base.specs.declared.limits.LimitFault.{LimitFault}
+use Rattle.syn_base.specs.Limits.{bound_of}
+use Rattle.syn_base.specs.Rows.{Reactions}
+use Rattle.level_meaning.specs.Level.{Values}
+use Rattle.flat_graph.specs.Graph.{Graph}
+use Rattle.flat_graph.specs.Laws.{sensor_lens}
+use Rattle.flat_graph.specs.Meaning.{initial_cells}
+use Rattle.archi_graph.specs.Archi.{Architecture}
+use Rattle.archi_graph.specs.Sequences.{sequences}
+use Rattle.semaphore_core.specs.declared.program.Program.{Program}
+use Rattle.semaphore_core.specs.WellFormed.{IsWellFormed}
+use Rattle.semaphore_core.specs.Job.{JobData, reactions, output_elements, total_steps}
+
+-- the job of these parts
+abbrev pub job_of : Program → Graph → Architecture → Reactions → Values → JobData
+job_of p g a rows opening = record { program = p; graph = g; media = length a.media; sensors = rows.reactions; lens = rows.lens; opening = opening }
+
+-- A program that is well formed for the flat graph and the architecture, rows of the graph's sensors in at most 10,000 reactions, and a vector for each delay, of its length.
+pub record FitTogether (a : Architecture) (j : JobData) : Type 0 where
+  pub media : j.media ≡ length a.media
+  pub formed : IsWellFormed j.program j.graph (sequences a) j.media
+  pub sensed : j.lens ≡ sensor_lens j.graph.vertices
+  pub few : reactions j ≤ 10000
+  pub opened : map length j.opening ≡ map length (initial_cells j.graph.vertices)
+
+-- this quantity above its bound, or else what comes then
+abbrev pub above : LimitKind → ℕ → Option LimitFault → Option LimitFault
+above which count next = cond (nat_lt (bound_of which) count) (Some (record { which = which; count = count; bound = bound_of which })) next
+
+-- The limit that refuses a job: the elements that the actuators take, then the micro-steps in all. A number that the count's type does not hold is its last value.
+abbrev pub limit_of : JobData → Option LimitFault
+limit_of j = above Output (output_elements j.graph (reactions j)) (above Total (min (total_steps j.program (reactions j)) (2 ^ 128 - 1)) None)
+
+-- what every job keeps
+abbrev pub IsJobOn : Architecture → JobData → Type 0
+IsJobOn a j = FitTogether a j × (limit_of j ≡ None)
+
+abbrev pub IsJob : JobData → Type 0
+IsJob j = (a : Architecture) × IsJobOn a j

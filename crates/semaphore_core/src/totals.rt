@@ -1,0 +1,148 @@
+//! The two numbers that bound a job: elements that its actuators take, and micro-steps in all. Nothing
+//! is laid out to count them.
+ghost use Rattle.std.specs.Prelude.{◌≡◌, ◌-◌, ◌*◌, ◌^◌, ◌<◌, ◌≤◌, length, min, None};
+ghost use Rattle.std.specs.List.{sum_by};
+ghost use Rattle.flat_graph.specs.Graph.{len_of as source_len};
+ghost use Rattle.semaphore_core.specs.Job.{output_elements, total_steps};
+ghost use Rattle.semaphore_core.specs.Steps.{IsSingle};
+ghost use Rattle.syn_base.specs.declared.limits.LimitKind.TheVariants.{Output, Total};
+ghost use Rattle.semaphore_core.specs.IsJob.{above};
+ghost use Rattle.semaphore_core.specs.Totals.{taken_by, micros_of, micros_in};
+
+use crate::expand::{buffer_len, elements_in};
+use crate::opening::source_len;
+use crate::program::{Instr, Program};
+use flat_graph::{Flat, Kind, Source, Vertex};
+use syn_base::{LimitFault, LimitKind};
+
+/// The number of elements of some sources.
+fn source_elements(flat: &Flat, sources: &[Source]) -> u128
+    ensures value { result ≡ sum_by (source_len flat.now.vertices) sources.now }
+    ensures bound { result ≤ length sources.now * 2 ^ 32 }
+{
+    let mut total = 0u128;
+    for source in sources {
+        total += source_len(flat.vertices(), *source) as u128;
+    }
+    total
+}
+
+/// The number of elements that an operation takes, where it is an actuator.
+fn taken_by(flat: &Flat, x: &Vertex) -> u128
+    ensures value { result ≡ taken_by flat.now x.now }
+    ensures bound { result < 2 ^ 96 }
+{
+    match &x.kind {
+        Kind::Actuator(_) => source_elements(flat, x.ins.as_slice()),
+        _ => 0,
+    }
+}
+
+/// The number of elements that the actuators take in one reaction.
+fn taken_elements(flat: &Flat) -> u128
+    ensures value { result ≡ sum_by (taken_by flat.now) flat.now.vertices }
+    ensures bound { result ≤ 2 ^ 107 }
+{
+    let vertices = flat.vertices();
+    let mut total = 0u128;
+    for x in vertices {
+        total += taken_by(flat, x);
+    }
+    total
+}
+
+/// The number of elements that the actuators take in so many reactions.
+fn output_elements(flat: &Flat, reactions: usize) -> u128
+    requires { reactions ≤ 10000 }
+    ensures { result ≡ output_elements flat.now reactions }
+{
+    reactions as u128 * taken_elements(flat)
+}
+
+/// The number of micro-steps of an instruction.
+fn micros_of(program: &Program, instr: &Instr) -> u128
+    ensures { result ≡ micros_of program.now instr.now }
+{
+    match instr {
+        Instr::Call { ins, outs, .. } => {
+            elements_in(program, ins.as_slice()) + elements_in(program, outs.as_slice())
+        }
+        Instr::Send { buffer, .. } | Instr::Recv { buffer, .. } => {
+            2 + 2 * buffer_len(program, *buffer) as u128
+        }
+        _ => 1,
+    }
+}
+
+/// The number of micro-steps of these instructions, or the last value of the type where it is more.
+fn micros_in(program: &Program, list: &[Instr]) -> u128
+    ensures { result ≡ min (micros_in program.now list.now) (2 ^ 128 - 1) }
+{
+    let mut total: u128 = 0;
+    for instr in list {
+        total = total.saturating_add(micros_of(program, instr));
+    }
+    total
+}
+
+/// The number of micro-steps of all prologues, or the last value of the type where it is more.
+fn prologue_micros(program: &Program) -> u128
+    ensures { result ≡ min (sum_by (λ q. micros_in program.now q.prologue) program.now.seqs) (2 ^ 128 - 1) }
+{
+    let mut total: u128 = 0;
+    for code in program.seqs.as_slice() {
+        total = total.saturating_add(micros_in(program, code.prologue.as_slice()));
+    }
+    total
+}
+
+/// The number of micro-steps of all loops in one reaction, or the last value of the type where it is
+/// more.
+fn turn_micros(program: &Program) -> u128
+    ensures { result ≡ min (sum_by (λ q. micros_in program.now q.turn) program.now.seqs) (2 ^ 128 - 1) }
+{
+    let mut total: u128 = 0;
+    for code in program.seqs.as_slice() {
+        total = total.saturating_add(micros_in(program, code.turn.as_slice()));
+    }
+    total
+}
+
+/// The number of micro-steps of so many reactions of all sequences, or the last value of the type
+/// where it is more.
+fn total_steps(program: &Program, reactions: usize) -> u128
+    requires { IsSingle program.now }
+    ensures { result ≡ min (total_steps program.now reactions) (2 ^ 128 - 1) }
+{
+    let turns = turn_micros(program).saturating_mul(reactions as u128);
+    prologue_micros(program).saturating_add(turns)
+}
+
+/// The fault of a quantity, where it is above its bound.
+fn above(which: LimitKind, count: u128) -> Option<LimitFault>
+    ensures { result ≡ above which count None }
+{
+    let bound = which.bound();
+    if bound < count {
+        Some(LimitFault {
+            which,
+            count,
+            bound,
+        })
+    } else {
+        None
+    }
+}
+
+/// The limit that refuses so many reactions of a program: that of the elements that the actuators
+/// take, and else that of the micro-steps.
+pub fn limit_fault(program: &Program, flat: &Flat, reactions: usize) -> Option<LimitFault>
+    requires single { IsSingle program.now }
+    requires few { reactions ≤ 10000 }
+    ensures { result ≡ above Output (output_elements flat.now reactions) (above Total (min (total_steps program.now reactions) (2 ^ 128 - 1)) None) }
+{
+    match above(LimitKind::Output, output_elements(flat, reactions)) {
+        Some(fault) => Some(fault),
+        None => above(LimitKind::Total, total_steps(program, reactions)),
+    }
+}
