@@ -12,3 +12,5 @@ pub mod Wires
 pub mod Synchronized
 pub mod Order
 pub mod Programs
+pub mod Standing
+pub mod StepsAt

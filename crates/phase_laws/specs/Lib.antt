@@ -1,1 +1,2 @@
 pub mod Discipline
+pub mod Values
