@@ -14,3 +14,7 @@ pub mod Order
 pub mod Programs
 pub mod Standing
 pub mod StepsAt
+pub mod Lengths
+pub mod Joined
+pub mod Halves
+pub mod Computing
