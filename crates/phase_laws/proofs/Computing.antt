@@ -57,7 +57,7 @@ module _ (j : JobData) (h : IsSupplied j) (k v : ℕ) (x : Vertex) (low : k < re
 
     read_is : vectors_from loaded 0 (lens_in j.graph x) ≡ map (λ s. source_value j s k) (map (λ d. d.source) x.guards ++ x.ins)
     read_is = ap (λ (l : List ℤ). vectors_from l 0 (lens_in j.graph x)) all
-        ∙ vectors_back (map (λ b. buffer_value j b k) ins) (lens_in j.graph x) (sym (called_lens j h k v x ins low is carry) ∙ sym (carried_sized j h k ins (map (λ d. d.source) x.guards ++ x.ins) low carry))
+        ∙ vectors_back (map (λ b. buffer_value j b k) ins) (lens_in j.graph x) (sym (called_lens j h v x ins is carry) ∙ sym (carried_sized j h k ins (map (λ d. d.source) x.guards ++ x.ins) low carry))
         ∙ carried_values j h k ins (map (λ d. d.source) x.guards ++ x.ins) carry
 
     pub conditions_are : conditions_in x (vectors_from loaded 0 (lens_in j.graph x)) ≡ conditions look x

@@ -72,7 +72,7 @@ element_there (x ∷ xs) zero h = refl
 element_there (x ∷ xs) (suc j) h = element_there xs j (omega arith)
 
 module _ (p : Program) where
-  len_at_is : (list : List ℕ) (i : ℕ) → len_at p list i ≡ slice_index_or (map (len_of p) list) i 0
+  pub len_at_is : (list : List ℕ) (i : ℕ) → len_at p list i ≡ slice_index_or (map (len_of p) list) i 0
   len_at_is [] i = refl
   len_at_is (b ∷ bs) zero = refl
   len_at_is (b ∷ bs) (suc i) = len_at_is bs i

@@ -53,15 +53,20 @@ module _ (j : JobData) (h : IsSupplied j) where
   Long x n = HasLength j.program h.order (places j.program) (carried j.program) j.graph x n
 
   -- a source that has a length has its values of that length
-  source_long : (k : ℕ) (x : Source) (n : ℕ) → k < reactions j → Long x n → (length (source_value j x k) ≡ n) × (source_len j.graph.vertices x ≡ n)
+  source_long : (k : ℕ) (x : Source) (n : ℕ) → k < reactions j → Long x n → length (source_value j x k) ≡ n
   source_long k x n l e = by (slice_get j.graph.vertices x.vertex) refl
     where
-      by : (o : Option Vertex) → slice_get j.graph.vertices x.vertex ≡ o → (length (source_value j x k) ≡ n) × (source_len j.graph.vertices x ≡ n)
+      by : (o : Option Vertex) → slice_get j.graph.vertices x.vertex ≡ o → length (source_value j x k) ≡ n
       by None q = absurd (rw q at e)
-      by (Some v) q = let f : slice_get v.outs x.port ≡ Some n = (rw q at e) in let g = get_or_from_slice_get v.outs x.port n 0 f in (
-        length-vector_at (flat_outputs j.graph j.sensors j.opening x.vertex k) x.port ∙ ap (λ (ns : List ℕ). slice_index_or ns x.port 0) (output_lens k x.vertex v l q) ∙ g,
-        ap (λ (o : Option Vertex). with_vertex o 0 (λ y. slice_index_or y.outs x.port 0)) q ∙ g,
-      )
+      by (Some v) q = length-vector_at (flat_outputs j.graph j.sensors j.opening x.vertex k) x.port
+          ∙ ap (λ (ns : List ℕ). slice_index_or ns x.port 0) (output_lens k x.vertex v l q) ∙ get_or_from_slice_get v.outs x.port n 0 (rw q at e)
+
+  source_len_is : (x : Source) (n : ℕ) → Long x n → source_len j.graph.vertices x ≡ n
+  source_len_is x n e = by (slice_get j.graph.vertices x.vertex) refl
+    where
+      by : (o : Option Vertex) → slice_get j.graph.vertices x.vertex ≡ o → source_len j.graph.vertices x ≡ n
+      by None q = absurd (rw q at e)
+      by (Some v) q = ap (λ (o : Option Vertex). with_vertex o 0 (λ y. slice_index_or y.outs x.port 0)) q ∙ get_or_from_slice_get v.outs x.port n 0 (rw q at e)
 
   abbrev pub Carry : List ℕ → List Source → Type 0
   Carry ins xs = CarryInOrder j.program h.order (places j.program) (carried j.program) j.graph ins xs
@@ -77,13 +82,13 @@ module _ (j : JobData) (h : IsSupplied j) where
   carried_sized k [] [] l c = refl
   carried_sized k [] (x ∷ xs) l c = absurd c
   carried_sized k (b ∷ bs) [] l c = absurd c
-  carried_sized k (b ∷ bs) (x ∷ xs) l c = λ i. (ap (λ (s : Source). length (source_value j s k)) c.1 ∙ (source_long k x (len_of j.program b) l c.2).0) i ∷ carried_sized k bs xs l c.3 i
+  carried_sized k (b ∷ bs) (x ∷ xs) l c = λ i. (ap (λ (s : Source). length (source_value j s k)) c.1 ∙ source_long k x (len_of j.program b) l c.2) i ∷ carried_sized k bs xs l c.3 i
 
-  carried_lens : (k : ℕ) (ins : List ℕ) (xs : List Source) → k < reactions j → Carry ins xs → map (len_of j.program) ins ≡ lens_of j.graph.vertices xs
-  carried_lens k [] [] l c = refl
-  carried_lens k [] (x ∷ xs) l c = absurd c
-  carried_lens k (b ∷ bs) [] l c = absurd c
-  carried_lens k (b ∷ bs) (x ∷ xs) l c = λ i. sym (source_long k x (len_of j.program b) l c.2).1 i ∷ carried_lens k bs xs l c.3 i
+  carried_lens : (ins : List ℕ) (xs : List Source) → Carry ins xs → map (len_of j.program) ins ≡ lens_of j.graph.vertices xs
+  carried_lens [] [] c = refl
+  carried_lens [] (x ∷ xs) c = absurd c
+  carried_lens (b ∷ bs) [] c = absurd c
+  carried_lens (b ∷ bs) (x ∷ xs) c = λ i. sym (source_len_is x (len_of j.program b) c.2) i ∷ carried_lens bs xs c.3 i
 
   -- a guard's source has one element
   guard_lens : (ds : List Guard) (xs : List Source) → list_all (is_guard j.graph.vertices) ds ≡ true → lens_of j.graph.vertices (map (λ d. d.source) ds ++ xs) ≡ replicate (length ds) 1 ++ lens_of j.graph.vertices xs
@@ -92,8 +97,8 @@ module _ (j : JobData) (h : IsSupplied j) where
       let z = eqb-true (source_len j.graph.vertices d.source) 1 (and_parts (source_len j.graph.vertices d.source == 1) _ q.0).0 in
       λ i. z i ∷ guard_lens ds xs q.1 i
 
-  pub called_lens : (k v : ℕ) (x : Vertex) (ins : List ℕ) → k < reactions j → slice_get j.graph.vertices v ≡ Some x → Carry ins (map (λ d. d.source) x.guards ++ x.ins) → map (len_of j.program) ins ≡ lens_in j.graph x
-  called_lens k v x ins l e c = carried_lens k ins (map (λ d. d.source) x.guards ++ x.ins) l c ∙ guard_lens x.guards x.ins guards
+  pub called_lens : (v : ℕ) (x : Vertex) (ins : List ℕ) → slice_get j.graph.vertices v ≡ Some x → Carry ins (map (λ d. d.source) x.guards ++ x.ins) → map (len_of j.program) ins ≡ lens_in j.graph x
+  called_lens v x ins e c = carried_lens ins (map (λ d. d.source) x.guards ++ x.ins) c ∙ guard_lens x.guards x.ins guards
     where
       guards : list_all (is_guard j.graph.vertices) x.guards ≡ true
       guards = let a = and_parts _ (has_twin j.graph.vertices v x.kind x.twin) (vertex_valid j.graph h.valid v x e) in let b = and_parts _ (fits j.graph.bodies x.kind (lens_of j.graph.vertices x.ins) x.outs) a.0 in

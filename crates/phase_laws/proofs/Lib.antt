@@ -18,3 +18,6 @@ pub mod Lengths
 pub mod Joined
 pub mod Halves
 pub mod Computing
+pub mod OwnCells
+pub mod OwnRows
+pub mod Stateful
