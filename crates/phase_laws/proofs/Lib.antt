@@ -21,3 +21,4 @@ pub mod Computing
 pub mod OwnCells
 pub mod OwnRows
 pub mod Stateful
+pub mod OwnSteps
