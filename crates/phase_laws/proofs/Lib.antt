@@ -22,3 +22,4 @@ pub mod OwnCells
 pub mod OwnRows
 pub mod Stateful
 pub mod OwnSteps
+pub mod CallRegisters
