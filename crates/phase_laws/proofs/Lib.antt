@@ -23,3 +23,4 @@ pub mod OwnRows
 pub mod Stateful
 pub mod OwnSteps
 pub mod CallRegisters
+pub mod OwnCalls
