@@ -24,3 +24,4 @@ pub mod Stateful
 pub mod OwnSteps
 pub mod CallRegisters
 pub mod OwnCalls
+pub mod StoredValues
