@@ -25,3 +25,5 @@ pub mod OwnSteps
 pub mod CallRegisters
 pub mod OwnCalls
 pub mod StoredValues
+pub mod OwnCopies
+pub mod OwnValues

@@ -120,6 +120,11 @@ module _ (j : JobData) (h : IsSupplied j) (s n : ℕ) (m : Micro) (o : Here j.pr
         ≡ cond (nat_lt (o.at + 1) (elements_in j.program ins + elements_in j.program outs)) (all_joined (flat_outputs j.graph j.sensors j.opening v (reaction_at (code j.program s) n))) []
     then_computed l = then_call ∙ ap (λ (r : List ℤ). cond (nat_lt (o.at + 1) M) r []) (computed j h K v vertex.0 low vertex.1 ins outs carry give (o.at + 1) (omega arith) l)
 
+    -- what a load finds
+    pub finds_load : (i b c : ℕ) → slice_get ins i ≡ Some b → c < len_of j.program b → o.at ≡ sum_below (len_at j.program ins) i + c
+        → slice_get (all_joined (map (λ b. buffer_value j b (reaction_at (code j.program s) n)) ins)) o.at ≡ Some (element_at (buffer_value j b (reaction_at (code j.program s) n)) c)
+    finds_load i b c e l at = ap (slice_get (all_joined (map (λ b. buffer_value j b K) ins))) at ∙ loaded_at j h K v vertex.0 low vertex.1 ins outs carry give i b c e l
+
     pub call_load : (z : ℤ) → slice_get (all_joined (map (λ b. buffer_value j b (reaction_at (code j.program s) n)) ins)) o.at ≡ Some z
         → own_after j s (n + 1) ≡ absorb_by j.graph j.sensors (on_load v (elements_in j.program ins) (elements_in j.program ins + elements_in j.program outs) o.at) (reaction_at (code j.program s) n) (own_after j s n) z
     call_load z e = by (cases_eq (o.at + 1) N)
