@@ -1,6 +1,6 @@
 -- What the computation of an operation makes of the values of its sources.
-use Rattle.std.proofs.Common.{◌≡◌, ℕ, suc, ◌<◌, ◌⊎◌, Bool, List, [], ◌∷◌, ◌++◌, length, map, take, drop, Option, Some, refl, sym, ap, inl, inr, ◌∙◌, ℤ}
-use Rattle.std.specs.Prelude.{slice_get, slice_index_or, slice_set, if◌then◌else◌}
+use Rattle.std.proofs.Common.{◌≡◌, ℕ, suc, ◌<◌, ◌⊎◌, List, [], ◌∷◌, ◌++◌, length, map, take, drop, Option, Some, refl, sym, ap, inl, inr, ◌∙◌, ℤ}
+use Rattle.std.specs.Prelude.{slice_get, slice_index_or, if◌then◌else◌}
 use Rattle.std.proofs.lemmas.List.{set-get_or}
 use Rattle.body_lang.specs.Expr.{Expr}
 use Rattle.level_meaning.specs.Level.{Vector, Values, vector_at, zeros, all_joined}
@@ -11,7 +11,7 @@ use Rattle.flat_graph.specs.declared.vertex.Kind.TheVariants.{Sensor, Actuator, 
 use Rattle.flat_graph.specs.declared.vertex.Vertex.{Vertex}
 use Rattle.flat_graph.specs.Graph.{Graph, with_vertex}
 use Rattle.flat_graph.specs.Fire.{fired, kept, stored, guards_hold, kind_outputs}
-use Rattle.flat_graph.specs.Meaning.{sensed, delay_number, cell_of, value_in, conditions, inputs, reads, next_cells, cells_after, flat_outputs}
+use Rattle.flat_graph.specs.Meaning.{sensed, delay_number, cell_of, value_in, conditions, inputs, reads, cells_after, flat_outputs}
 use Rattle.flat_graph.proofs.Settled.{fixed_point}
 use Rattle.flat_graph.proofs.Fired.{is_kept, first_reads, last_reads}
 use Rattle.semaphore_core.specs.Operation.{conditions_in, inputs_in, vectors_from, lens_in, delay_of, delay_by, cell_at, with_cell, rows_by, outputs_of, cells_left, rows_left}

@@ -1,19 +1,19 @@
 -- In each reaction every output and every cell has its length, and what buffers carry has theirs.
-use Rattle.std.proofs.Common.{◌≡◌, ℕ, zero, suc, ◌+◌, ◌<◌, ◌≤◌, Bool, true, false, ◌&&◌, List, [], ◌∷◌, ◌++◌, length, map, take, drop, Option, Some, None, refl, sym, ap, subst, arith, ◌∙◌, ℤ}
+use Rattle.std.proofs.Common.{◌≡◌, ℕ, zero, suc, ◌+◌, ◌<◌, ◌≤◌, true, List, [], ◌∷◌, ◌++◌, length, map, Option, Some, None, refl, sym, ap, arith, ◌∙◌}
 use Rattle.std.specs.Prelude.{slice_get, slice_index_or, ◌==◌, replicate}
 use Rattle.std.specs.List.{list_all}
 use Rattle.std.proofs.lemmas.Option.{same_Some, get_or_from_slice_get}
 use Rattle.std.proofs.lemmas.Bool.{and_parts, eqb-true}
-use Rattle.level_meaning.specs.Level.{Vector, Values, vector_at}
+use Rattle.level_meaning.specs.Level.{vector_at}
 use Rattle.flat_graph.specs.declared.vertex.Source.{Source}
 use Rattle.flat_graph.specs.declared.vertex.Guard.{Guard}
 use Rattle.flat_graph.specs.declared.vertex.Kind.{Kind}
 use Rattle.flat_graph.specs.declared.vertex.Kind.TheVariants.{Sensor, Actuator, Function, Constant, Get, Set, Explode, Implode, Merge}
 use Rattle.flat_graph.specs.declared.vertex.Vertex.{Vertex}
-use Rattle.flat_graph.specs.Graph.{Graph, with_vertex, len_of as source_len, lens_of}
-use Rattle.flat_graph.specs.Valid.{is_flat, is_vertex, is_guard, has_twin, fits}
+use Rattle.flat_graph.specs.Graph.{with_vertex, len_of as source_len, lens_of}
+use Rattle.flat_graph.specs.Valid.{is_guard, has_twin, fits}
 use Rattle.flat_graph.specs.Meaning.{initial_cell, initial_cells, cells_after, flat_outputs}
-use Rattle.flat_graph.specs.Laws.{delay_lens, delay_len, sensor_lens}
+use Rattle.flat_graph.specs.Laws.{delay_lens, delay_len}
 use Rattle.flat_graph.proofs.Facts.{vertex_valid}
 use Rattle.flat_graph.proofs.Sizes.{keeps_lengths}
 use Rattle.flat_graph.proofs.KindLens.{length-vector_at}

@@ -1,31 +1,26 @@
 -- A load and a store of a call: what they find in the registers, and what they leave.
-use Rattle.std.proofs.Common.{◌≡◌, ℕ, suc, ◌+◌, ◌-◌, ◌<◌, ◌≤◌, ◌⊎◌, Bool, true, false, cond, List, [], ◌∷◌, ◌++◌, length, map, Option, Some, None, refl, sym, ap, subst, inl, inr, ⊎_elim, arith, ◌∙◌, ℤ}
-use Rattle.std.specs.Prelude.{slice_get, slice_index_or, nat_eq, nat_lt}
+use Rattle.std.proofs.Common.{◌≡◌, ℕ, ◌+◌, ◌-◌, ◌<◌, ◌≤◌, ◌⊎◌, cond, List, [], ◌∷◌, ◌++◌, length, map, Option, Some, refl, sym, ap, subst, inl, inr, ⊎_elim, arith, ◌∙◌, ℤ}
+use Rattle.std.specs.Prelude.{slice_get, nat_lt}
 use Rattle.std.proofs.lemmas.Option.{same_Some, slice_get_within}
 use Rattle.std.proofs.lemmas.Bool.{cases_eq, lt-ltb, le-ltb, eq-eqb, ne_eqb}
-use Rattle.std.proofs.lemmas.List.{take_all}
-use Rattle.consistent_cuts.specs.Sites.{place_at, reaction_at}
+use Rattle.consistent_cuts.specs.Sites.{reaction_at}
 use Rattle.interleavings.specs.System.{Micro}
 use Rattle.interleavings.specs.Owners.{sum_below}
-use Rattle.level_meaning.specs.Level.{Vector, Values, vector_at, element_at, all_joined}
-use Rattle.flat_graph.specs.declared.vertex.Kind.{Kind}
-use Rattle.flat_graph.specs.declared.vertex.Kind.TheVariants.{Actuator, Get, Set}
+use Rattle.level_meaning.specs.Level.{vector_at, element_at, all_joined}
+use Rattle.flat_graph.specs.declared.vertex.Kind.TheVariants.{Get}
 use Rattle.flat_graph.specs.declared.vertex.Vertex.{Vertex}
 use Rattle.flat_graph.specs.Meaning.{is_get, delay_number, cell_of, cells_after, flat_outputs}
 use Rattle.semaphore_core.specs.declared.program.Instr.{Instr}
 use Rattle.semaphore_core.specs.declared.program.Instr.TheVariants.{Call}
-use Rattle.semaphore_core.specs.declared.steps.OnLoad.{OnLoad}
-use Rattle.semaphore_core.specs.declared.steps.OnLoad.TheVariants.{Gather, Compute as ComputeIn}
 use Rattle.semaphore_core.specs.declared.steps.OnStore.{OnStore}
-use Rattle.semaphore_core.specs.declared.steps.OnStore.TheVariants.{Give as GiveOut, Compute as ComputeOut}
 use Rattle.semaphore_core.specs.Instructions.{turn, len_of}
 use Rattle.semaphore_core.specs.MicroSteps.{code, size, begins}
-use Rattle.semaphore_core.specs.Operation.{vectors_from, lens_in, cells_left, rows_left, inputs_in}
+use Rattle.semaphore_core.specs.Operation.{vectors_from, lens_in, inputs_in}
 use Rattle.semaphore_core.specs.Places.{calling, places, carried, ins_in, outs_in}
 use Rattle.semaphore_core.specs.Steps.{len_at, elements_in, on_load, on_store}
 use Rattle.semaphore_core.specs.Registers.{Own, with_registers, kept, gathered, compute, compute_by, absorb_by, emit_by, after_by}
 use Rattle.semaphore_core.specs.Job.{JobData, reactions}
-use Rattle.semaphore_core.specs.Told.{index_at, registers_in, buffer_value, last_load, own_after, cells_by, done_by}
+use Rattle.semaphore_core.specs.Told.{index_at, registers_in, buffer_value, own_after}
 use Rattle.semaphore_core.specs.WellFormed.{Stands, IsCalled}
 use Rattle.phase_laws.specs.Values.{IsSupplied}
 use Rattle.phase_laws.proofs.Places.{slice_get_some, earlier}
@@ -34,7 +29,7 @@ use Rattle.phase_laws.proofs.Halves.{set_half}
 use Rattle.phase_laws.proofs.Lengths.{Carry, Give}
 use Rattle.phase_laws.proofs.Computing.{cells_other, rows_other}
 use Rattle.phase_laws.proofs.CallRegisters.{zero_registers, loads_are, loaded_at, stored_at, more_loaded, computed, gathers, full_load, compute_is}
-use Rattle.phase_laws.proofs.Stateful.{Changes, Stateful, fed, call_size}
+use Rattle.phase_laws.proofs.Stateful.{Changes, fed, call_size}
 use Rattle.phase_laws.proofs.OwnSteps.{cell_found, kept_all, computed_cells, computed_rows}
 
 pub same_own : (c d : Own) → c.registers ≡ d.registers → c.cells ≡ d.cells → c.rows ≡ d.rows → c ≡ d

@@ -1,9 +1,9 @@
 -- The delays' cells as counts of computations tell them: where one more set half was computed, its delay's cell is the next one.
-use Rattle.std.proofs.Common.{◌≡◌, ℕ, zero, suc, ◌+◌, ◌<◌, ◌≤◌, Bool, true, false, cond, List, [], ◌∷◌, ◌++◌, length, map, drop, Option, Some, None, refl, sym, ap, subst, arith, ◌∙◌, ℤ, add-one, add-zero}
-use Rattle.std.specs.Prelude.{slice_get, slice_index_or, slice_set, if◌then◌else◌}
+use Rattle.std.proofs.Common.{◌≡◌, ℕ, zero, suc, ◌+◌, Bool, true, false, cond, List, [], ◌∷◌, ◌++◌, length, drop, Option, Some, None, refl, sym, ap, arith, ◌∙◌, add-one, add-zero}
+use Rattle.std.specs.Prelude.{slice_get, slice_set, if◌then◌else◌}
 use Rattle.std.proofs.lemmas.Option.{same_Some}
-use Rattle.std.proofs.lemmas.List.{drop_more, drop_all, length-map}
-use Rattle.level_meaning.specs.Level.{Vector, Values, vector_at}
+use Rattle.std.proofs.lemmas.List.{drop_more, drop_all}
+use Rattle.level_meaning.specs.Level.{Vector, vector_at}
 use Rattle.flat_graph.specs.declared.vertex.Kind.{Kind}
 use Rattle.flat_graph.specs.declared.vertex.Kind.TheVariants.{Sensor, Actuator, Function, Constant, Get, Set, Explode, Implode, Merge}
 use Rattle.flat_graph.specs.declared.vertex.Vertex.{Vertex}

@@ -1,10 +1,9 @@
 -- The actuators' rows as counts of computations tell them: where one more actuator was computed, it has taken its input of the reaction.
-use Rattle.std.proofs.Common.{◌≡◌, ℕ, zero, suc, ◌+◌, ◌<◌, ◌≤◌, ◌⊎◌, Bool, true, false, cond, ◌&&◌, ◌==◌, List, [], ◌∷◌, ◌++◌, length, map, Option, Some, None, refl, sym, ap, subst, inl, inr, arith, ◌∙◌, zero-add, add-zero}
-use Rattle.std.specs.Prelude.{slice_get, slice_index_or, slice_set, nat_lt, replicate}
-use Rattle.std.specs.List.{range_with_len}
+use Rattle.std.proofs.Common.{◌≡◌, ℕ, zero, suc, ◌+◌, ◌<◌, ◌⊎◌, Bool, true, cond, ◌==◌, List, [], ◌∷◌, ◌++◌, length, map, Some, refl, sym, ap, subst, inl, inr, arith, ◌∙◌, zero-add, add-zero}
+use Rattle.std.specs.Prelude.{slice_get, slice_index_or, slice_set, nat_lt}
 use Rattle.std.proofs.lemmas.Option.{same_Some}
 use Rattle.std.proofs.lemmas.Bool.{and_parts, eqb-true, cases_eq, le-ltb}
-use Rattle.std.proofs.lemmas.List.{same_lists, length-set, get_or-set_same, get_or-set_other, get_or_default, map-append, length-replicate, get_or-replicate}
+use Rattle.std.proofs.lemmas.List.{same_lists, length-set, get_or-set_same, get_or-set_other, map-append, length-replicate, get_or-replicate}
 use Rattle.std.proofs.lemmas.List.FromFn.{length-map-range_with_len, get_or-map-range_with_len}
 use Rattle.level_meaning.specs.Level.{Vector, Values, vector_at, zeros}
 use Rattle.flat_graph.specs.declared.vertex.Source.{Source}
@@ -130,9 +129,12 @@ module _ (j : JobData) (done done' : ℕ → ℕ) (k : ℕ) where
           → row_of j done v y k y.kind ≡ row_of j done' v y k y.kind
           → (q : ℕ) × (a ≡ m + q) × (slice_set (row_of j done v y k kind ++ rows_from j done ys (suc v) k) q (flat_act j.graph j.sensors j.opening a k) ≡ row_of j done' v y k kind ++ rows_from j done' ys (suc v) k)
       by (Actuator i) s g r same = let n = first_number m i (kinds_of ys) g in let z = r (m + 1) n.1 in let len = slice_index_or (lens_of j.graph.vertices y.ins) 0 0 in
-          let one = λ (d : ℕ → ℕ). sym (ap (row_of j d v y k) s) ∙ one_entry d v i y s (f 0 y refl) in
-          (suc z.0, (let w = z.1 in omega arith), ap (λ (l : Values). slice_set (l ++ rows_from j done ys (suc v) k) (suc z.0) Z) (one done)
-              ∙ (λ t. (sym (one done) ∙ sym (ap (row_of j done v y k) s) ∙ same ∙ ap (row_of j done' v y k) s ∙ one done') t ++ z.2 t) ∙ ap (λ (l : Values). l ++ rows_from j done' ys (suc v) k) (sym (one done')))
+          let one = λ (d : ℕ → ℕ). sym (ap (row_of j d v y k) s) ∙ one_entry d v i y s (f 0 y refl) in (
+            suc z.0,
+            (let w = z.1 in omega arith),
+            ap (λ (l : Values). slice_set (l ++ rows_from j done ys (suc v) k) (suc z.0) Z) (one done)
+                ∙ (λ t. (sym (one done) ∙ sym (ap (row_of j done v y k) s) ∙ same ∙ ap (row_of j done' v y k) s ∙ one done') t ++ z.2 t) ∙ ap (λ (l : Values). l ++ rows_from j done' ys (suc v) k) (sym (one done')),
+          )
       by (Sensor i) s g r same = r m g
       by (Function b) s g r same = r m g
       by (Constant d) s g r same = r m g
@@ -146,7 +148,7 @@ module _ (j : JobData) (done done' : ℕ → ℕ) (k : ℕ) where
       → ((w b : ℕ) (y : Vertex) → slice_get j.graph.vertices w ≡ Some y → y.kind ≡ Actuator b → (w ≡ u → ⊥) → SameAt w) → nat_lt k (done' u) ≡ true
       → slice_set (rows_from j done j.graph.vertices 0 k) a (flat_act j.graph j.sensors j.opening a k) ≡ rows_from j done' j.graph.vertices 0 k
   row_set valid u a x e c o t = let r = rows_set 0 0 u a j.graph.vertices x (λ w y q. fits_of j.graph w y (vertex_valid j.graph valid w y q)) (numbered j.graph valid) e c
-          (λ w n b y q s d i. subst (λ (z : ℕ). SameAt z) (sym (s ∙ zero-add w)) (o w b y q d i)) (ap (λ (w : ℕ). nat_lt k (done' w)) (zero-add u) ∙ t) in
+      (λ w n b y q s d i. subst (λ (z : ℕ). SameAt z) (sym (s ∙ zero-add w)) (o w b y q d i)) (ap (λ (w : ℕ). nat_lt k (done' w)) (zero-add u) ∙ t) in
       ap (λ (n : ℕ). slice_set (rows_from j done j.graph.vertices 0 k) n (flat_act j.graph j.sensors j.opening a k)) (r.1 ∙ zero-add r.0) ∙ r.2
 
 module _ (j : JobData) (done done' : ℕ → ℕ) where

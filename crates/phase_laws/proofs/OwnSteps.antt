@@ -1,7 +1,7 @@
 -- What one micro-step makes of the cells and rows that are told: only the last load of a set half or of an actuator changes them.
-use Rattle.std.proofs.Common.{◌≡◌, ℕ, suc, ◌+◌, ◌-◌, ◌<◌, ◌≤◌, ◌⊎◌, Bool, true, false, cond, List, [], ◌∷◌, ◌++◌, length, map, Option, Some, None, refl, sym, ap, subst, inl, inr, ⊎_elim, arith, ◌∙◌, ℤ, zero-add, add-one}
-use Rattle.std.specs.Prelude.{slice_get, slice_index_or, slice_set, nat_eq, nat_lt}
-use Rattle.std.proofs.lemmas.Option.{same_Some, slice_get_within}
+use Rattle.std.proofs.Common.{◌≡◌, ℕ, ◌+◌, ◌-◌, ◌<◌, ◌≤◌, ◌⊎◌, true, List, [], ◌++◌, length, map, Option, Some, refl, sym, ap, subst, inl, inr, ⊎_elim, arith, ◌∙◌, ℤ, zero-add, add-one}
+use Rattle.std.specs.Prelude.{slice_get, slice_index_or, slice_set, nat_lt}
+use Rattle.std.proofs.lemmas.Option.{same_Some}
 use Rattle.std.proofs.lemmas.Bool.{cases_eq, cases_lt, lt-ltb, le-ltb, eq-eqb, ne_eqb}
 use Rattle.consistent_cuts.specs.Sites.{place_at, reaction_at}
 use Rattle.interleavings.specs.System.{Micro}
@@ -10,7 +10,7 @@ use Rattle.flat_graph.specs.declared.vertex.Kind.{Kind}
 use Rattle.flat_graph.specs.declared.vertex.Kind.TheVariants.{Actuator, Get, Set}
 use Rattle.flat_graph.specs.declared.vertex.Vertex.{Vertex}
 use Rattle.flat_graph.specs.Fire.{kept}
-use Rattle.flat_graph.specs.Meaning.{is_get, delay_number, inputs, cell_of, cells_after, flat_act}
+use Rattle.flat_graph.specs.Meaning.{is_get, delay_number, cell_of, cells_after, flat_act}
 use Rattle.semaphore_core.specs.declared.program.Instr.{Instr}
 use Rattle.semaphore_core.specs.declared.program.Instr.TheVariants.{Call}
 use Rattle.semaphore_core.specs.Instructions.{turn}
@@ -18,19 +18,18 @@ use Rattle.semaphore_core.specs.MicroSteps.{code, size, begins}
 use Rattle.semaphore_core.specs.Operation.{vectors_from, lens_in, delay_by, delay_of, cell_at, with_cell, rows_by as rows_with, cells_left, rows_left, conditions_in, inputs_in}
 use Rattle.semaphore_core.specs.Places.{calling}
 use Rattle.semaphore_core.specs.Steps.{elements_in}
-use Rattle.semaphore_core.specs.Registers.{Own}
 use Rattle.semaphore_core.specs.Job.{JobData, reactions}
-use Rattle.semaphore_core.specs.Told.{made, last_load, done_by, own_after, cell_by, cells_from, rows_from, cells_by, rows_by, buffer_value}
+use Rattle.semaphore_core.specs.Told.{made, last_load, done_by, own_after, cell_by, rows_from, cells_by, rows_by, buffer_value}
 use Rattle.semaphore_core.specs.WellFormed.{Stands}
 use Rattle.phase_laws.specs.Values.{IsSupplied}
 use Rattle.phase_laws.proofs.Blocks.{sum_same_block}
 use Rattle.phase_laws.proofs.Standing.{Here, made_here, made_else}
-use Rattle.phase_laws.proofs.Halves.{SetHalf, GetHalf, set_half, get_half}
+use Rattle.phase_laws.proofs.Halves.{GetHalf, set_half, get_half}
 use Rattle.phase_laws.proofs.Lengths.{Carry}
-use Rattle.phase_laws.proofs.Computing.{look, outputs_are, rows_are, kept_is, cells_other, rows_other, set_or, actuator_or}
+use Rattle.phase_laws.proofs.Computing.{rows_are, kept_is, cells_other, rows_other, set_or, actuator_or}
 use Rattle.phase_laws.proofs.OwnCells.{HasTwin, cells_same, cells_set, cells_at}
 use Rattle.phase_laws.proofs.OwnRows.{SameAt, act_is, rows_same, row_set, rows_by_set, row_of_rows, rows_by_same}
-use Rattle.phase_laws.proofs.Stateful.{Changes, Stateful, fed, last_inner, last_low}
+use Rattle.phase_laws.proofs.Stateful.{Stateful, fed, last_inner, last_low}
 
 number_of_call : Instr → ℕ
 number_of_call (Call v ins outs) = v
@@ -54,8 +53,10 @@ module _ (j : JobData) (h : IsSupplied j) (s n : ℕ) (m : Micro) (o : Here j.pr
 
   -- there its call stands
   pend : (t : ℕ) → Stateful j h t → Passed t → (o.instr ≡ Call t (calling j.program t).ins (calling j.program t).outs) × (o.at + 1 ≡ elements_in j.program (calling j.program t).ins)
-  pend t q e = (same_Some o.instr _ (sym o.stands ∙ ap (slice_get (turn j.program s)) (sym b.0) ∙ ap (λ (v : ℕ). slice_get (turn j.program v) (calling j.program t).at) (sym e.0) ∙ (h.formed.called t q.0 q.1).stands),
-      let y = b.1 in let z = fed j h t q in omega arith)
+  pend t q e = (
+    same_Some o.instr _ (sym o.stands ∙ ap (slice_get (turn j.program s)) (sym b.0) ∙ ap (λ (v : ℕ). slice_get (turn j.program v) (calling j.program t).at) (sym e.0) ∙ (h.formed.called t q.0 q.1).stands),
+    let y = b.1 in let z = fed j h t q in omega arith,
+  )
     where
       b : ((calling j.program t).at ≡ o.index) × (elements_in j.program (calling j.program t).ins - 1 ≡ o.at)
       b = sum_same_block (size j.program s) (calling j.program t).at o.index (elements_in j.program (calling j.program t).ins - 1) o.at (let z = last_inner j h t q in let y = ap (λ (v : ℕ). size j.program v (calling j.program t).at) e.0 in omega arith) o.inner
@@ -171,7 +172,7 @@ module _ (j : JobData) (h : IsSupplied j) (s n : ℕ) (m : Micro) (o : Here j.pr
         ∙ (λ i. rows_with (k i) K (sym (act_is j h.valid K v a x is k) i) (own_after j s n).rows)
         ∙ rows_by_set j (done_by j s n) (done_by j s (n + 1)) K low others (slice_set (slice_index_or (own_after j s n).rows K []) a (flat_act j.graph j.sensors j.opening a K))
         (ap (λ (r : Values). slice_set r a (flat_act j.graph j.sensors j.opening a K)) (row_of_rows j (done_by j s n) (done_by j s (n + 1)) K low)
-            ∙ row_set j (done_by j s n) (done_by j s (n + 1)) K h.valid v a x is k (λ w b y e c d. same_test w K (done_kept w (y, e, inr (b, c)) (λ q. d (only_this w (y, e, inr (b, c)) q)))) taken_now)
+        ∙ row_set j (done_by j s n) (done_by j s (n + 1)) K h.valid v a x is k (λ w b y e c d. same_test w K (done_kept w (y, e, inr (b, c)) (λ q. d (only_this w (y, e, inr (b, c)) q)))) taken_now)
       where
         taken_now : nat_lt (reaction_at (code j.program s) n) (done_by j s (n + 1) v) ≡ true
         taken_now = lt-ltb K (done_by j s (n + 1) v) (let z = (done_passed v passed).1 in omega arith)

@@ -1,5 +1,5 @@
 -- Each sequence by itself computes the flat values.
-use Rattle.std.proofs.Common.{◌≡◌, ℕ, suc, ◌+◌, ◌-◌, ◌*◌, ◌<◌, ◌≤◌, ◌⊎◌, Bool, true, false, cond, List, [], ◌∷◌, length, map, drop, Option, Some, None, refl, sym, ap, subst, inl, inr, ⊎_elim, arith, ◌∙◌, ℤ, zero-add}
+use Rattle.std.proofs.Common.{◌≡◌, ℕ, ◌+◌, ◌*◌, ◌<◌, ◌≤◌, ◌⊎◌, Bool, true, false, cond, List, length, Option, Some, refl, sym, ap, subst, inl, inr, ⊎_elim, arith, ◌∙◌, ℤ, zero-add}
 use Rattle.std.specs.Prelude.{slice_get, nat_eq, nat_lt}
 use Rattle.std.specs.List.{count_by}
 use Rattle.std.proofs.lemmas.Bool.{cases_lt, lt-ltb, le-ltb}
@@ -7,28 +7,26 @@ use Rattle.std.proofs.lemmas.List.{length-map}
 use Rattle.std.proofs.Math.Nat.{mul-le-mul_right}
 use Rattle.consistent_cuts.specs.Sites.{step_at, place_at, reaction_at}
 use Rattle.consistent_cuts.proofs.Numbers.{number_split}
-use Rattle.interleavings.specs.System.{System, Micro, take as taken, see, sub, signal, await, advance, load, store, round_number, full}
+use Rattle.interleavings.specs.System.{Micro, take as taken, see, sub, signal, await, advance, load, store, round_number, full}
 use Rattle.interleavings.specs.Owners.{sum_below}
-use Rattle.interleavings.specs.Sound.{IsRightAt, AreValues}
-use Rattle.level_meaning.specs.Level.{Vector, Values, element_at, all_joined}
+use Rattle.interleavings.specs.Sound.{IsRightAt}
+use Rattle.level_meaning.specs.Level.{Vector, element_at}
 use Rattle.flat_graph.specs.declared.vertex.Source.{Source}
 use Rattle.flat_graph.specs.Meaning.{initial_cells}
 use Rattle.semaphore_core.specs.declared.program.Instr.{Instr}
 use Rattle.semaphore_core.specs.declared.program.Instr.TheVariants.{Suc0, Suc1, Pre0, Pre1, Call, Send, Recv, Sync}
 use Rattle.semaphore_core.specs.declared.steps.Place.TheVariants.{Buffer, Wire}
-use Rattle.semaphore_core.specs.declared.steps.OnLoad.{OnLoad}
 use Rattle.semaphore_core.specs.declared.steps.OnLoad.TheVariants.{Carry as CarryIn}
-use Rattle.semaphore_core.specs.declared.steps.OnStore.{OnStore}
 use Rattle.semaphore_core.specs.declared.steps.OnStore.TheVariants.{Carry as CarryOut}
 use Rattle.semaphore_core.specs.declared.steps.MicroStep.{MicroStep}
 use Rattle.semaphore_core.specs.declared.steps.MicroStep.TheVariants.{Load, Store}
 use Rattle.semaphore_core.specs.Instructions.{is_communication, turn, medium, number_or, len_of, communications}
-use Rattle.semaphore_core.specs.MicroSteps.{code, size, begins, element_of, wire_of, transfers, transfer_len, len_sent, loads_at, stores_at}
+use Rattle.semaphore_core.specs.MicroSteps.{code, transfers, transfer_len, len_sent, loads_at, stores_at}
 use Rattle.semaphore_core.specs.Places.{places, transfer, calling}
 use Rattle.semaphore_core.specs.Steps.{steps, steps_of, call_steps, on_load, on_store, len_at, elements_in}
 use Rattle.semaphore_core.specs.Registers.{Own, absorb_at, emit_at, after_at}
-use Rattle.semaphore_core.specs.Job.{JobData, reactions, zero_rows, system}
-use Rattle.semaphore_core.specs.Told.{index_at, source_value, buffer_value, stored_value, registers_in, made, last_load, done_by, cells_by, rows_by, own_after}
+use Rattle.semaphore_core.specs.Job.{JobData, reactions, system}
+use Rattle.semaphore_core.specs.Told.{index_at, source_value, buffer_value, stored_value, registers_in, made, last_load, done_by, own_after}
 use Rattle.semaphore_core.specs.WellFormed.{Stands, ReadsAt, WritesAt}
 use Rattle.phase_laws.specs.Values.{IsSupplied, SequencesComputeTheirValues}
 use Rattle.phase_laws.proofs.Setting.{Conditions}
@@ -40,7 +38,7 @@ use Rattle.phase_laws.proofs.Wires.{Sending, sending_is, Receiving, receiving_is
 use Rattle.phase_laws.proofs.Programs.{parts_of, conditions_of}
 use Rattle.phase_laws.proofs.Standing.{early_place, offset_first, Here, here}
 use Rattle.phase_laws.proofs.StepsAt.{sum_equal, loads_length, stores_length, loads_count, input_step, output_step, send_load, send_store, receive_load, receive_store, step_is}
-use Rattle.phase_laws.proofs.CallRegisters.{zero_registers, loaded_at}
+use Rattle.phase_laws.proofs.CallRegisters.{zero_registers}
 use Rattle.phase_laws.proofs.OwnCells.{cells_none}
 use Rattle.phase_laws.proofs.OwnRows.{rows_none}
 use Rattle.phase_laws.proofs.OwnCalls.{same_own, call_load, call_store, finds_load}
@@ -86,7 +84,7 @@ module _ (j : JobData) (h : IsSupplied j) where
 
         by : (x : Instr) → o.instr ≡ x → ReadsAt x f.port f.buffer → o.at ≡ load_place j.program x f.port f.number → own_after j s (n + 1) ≡ (system j).absorb s n (own_after j s n) (stored_value j y (round_number (system j) s n y i))
         by (Call v ins outs) e r at = let place : o.at ≡ sum_below (len_at j.program ins) f.port + f.number
-                = at ∙ ap (λ (k : ℕ). k + f.number) (sum_equal (λ a. length (loads_at j.program ins a)) (len_at j.program ins) f.port (λ a. loads_length j.program (slice_get ins a))) in
+            = at ∙ ap (λ (k : ℕ). k + f.number) (sum_equal (λ a. length (loads_at j.program ins a)) (len_at j.program ins) f.port (λ a. loads_length j.program (slice_get ins a))) in
             call_load j h s n m o low v ins outs e (At y i) (finds_load j h s n m o low v ins outs e f.port f.buffer f.number r f.inside place ∙ ap (λ (z : ℤ). Some z) (sym value))
             ∙ sym (absorbs (Load (Buffer f.buffer f.number) (on_load v (elements_in j.program ins) (elements_in j.program ins + elements_in j.program outs) o.at)) (A s n) (At y i)
             (at_instr (Call v ins outs) e ∙ ap (slice_get (call_steps j.program v ins outs)) place ∙ input_step j.program v ins outs f.port f.buffer f.number r f.inside
@@ -137,12 +135,12 @@ module _ (j : JobData) (h : IsSupplied j) where
             here' : step_at (steps j.program s) n ≡ Some (Store (Buffer f.buffer f.number) (on_store v (elements_in j.program ins) (elements_in j.program ins + elements_in j.program outs) o.at))
             here' = at_instr (Call v ins outs) e ∙ ap (slice_get (call_steps j.program v ins outs)) place ∙ output_step j.program v ins outs f.port f.buffer f.number r f.inside
                 ∙ ap (λ (k : ℕ). Some (Store (Buffer f.buffer f.number) (on_store v (elements_in j.program ins) (elements_in j.program ins + elements_in j.program outs) k))) (sym place)
-
         by (Recv b q) e r at = let l : f.number < len_of j.program b = (let z = ap (len_of j.program) r.0 in let k = f.inside in omega arith) in
             let a : o.at ≡ 2 * f.number + 2 = omega arith in let z = copy_store j h s n m o b q f.number (inr e) a in
-            let w = at_instr (Recv b q) e ∙ receive_store j.program (number_or 0 (medium j.program s)) (count_by is_communication (turn j.program s)) (communications j.program s o.index) b q f.number l o.at a in
-            (emits (Store (Buffer b f.number) CarryOut) (A s n) w ∙ z.0 ∙ ap (λ (c : ℕ). element_at (buffer_value j c (reaction_at (code j.program s) n)) f.number) r.0 ∙ sym value,
-            z.1 ∙ sym (leaves (Store (Buffer b f.number) CarryOut) (A s n) w))
+            let w = at_instr (Recv b q) e ∙ receive_store j.program (number_or 0 (medium j.program s)) (count_by is_communication (turn j.program s)) (communications j.program s o.index) b q f.number l o.at a in (
+              emits (Store (Buffer b f.number) CarryOut) (A s n) w ∙ z.0 ∙ ap (λ (c : ℕ). element_at (buffer_value j c (reaction_at (code j.program s) n)) f.number) r.0 ∙ sym value,
+              z.1 ∙ sym (leaves (Store (Buffer b f.number) CarryOut) (A s n) w),
+            )
         by (Send b q) e r at = absurd r
         by (Suc0 q) e r at = absurd r
         by (Suc1 q) e r at = absurd r
@@ -151,9 +149,10 @@ module _ (j : JobData) (h : IsSupplied j) where
         by (Sync a q) e r at = absurd r
 
     store_wire : (y i : ℕ) → StoresWire j.program (MediumAt j.program s) (communications j.program s o.index) o.instr o.at y i → Stores y i
-    store_wire y i f = let z = copy_store j h s n m o f.buffer f.to f.number (inl f.sends) f.at in
-        (emits (Store (Wire (MediumAt j.program s) f.number) CarryOut) (A s n) there ∙ z.0 ∙ ap (λ (c : ℕ). element_at (buffer_value j c (reaction_at (code j.program s) n)) f.number) k.buffer ∙ sym value,
-        z.1 ∙ sym (leaves (Store (Wire (MediumAt j.program s) f.number) CarryOut) (A s n) there))
+    store_wire y i f = let z = copy_store j h s n m o f.buffer f.to f.number (inl f.sends) f.at in (
+      emits (Store (Wire (MediumAt j.program s) f.number) CarryOut) (A s n) there ∙ z.0 ∙ ap (λ (c : ℕ). element_at (buffer_value j c (reaction_at (code j.program s) n)) f.number) k.buffer ∙ sym value,
+      z.1 ∙ sym (leaves (Store (Wire (MediumAt j.program s) f.number) CarryOut) (A s n) there),
+    )
       where
         there : step_at (steps j.program s) n ≡ Some (Store (Wire (MediumAt j.program s) f.number) CarryOut)
         there = at_instr (Send f.buffer f.to) f.sends ∙ send_store j.program (number_or 0 (medium j.program s)) (count_by is_communication (turn j.program s)) (communications j.program s o.index) f.buffer f.to f.number f.inside o.at f.at

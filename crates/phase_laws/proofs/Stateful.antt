@@ -1,24 +1,22 @@
 -- Set halves and actuators read something, so that their computation stands with their last load.
-use Rattle.std.proofs.Common.{◌≡◌, ℕ, suc, ◌+◌, ◌-◌, ◌<◌, ◌≤◌, ◌⊎◌, Bool, true, false, ◌&&◌, ◌==◌, List, [], ◌∷◌, ◌++◌, length, map, Option, Some, None, refl, sym, ap, inl, inr, arith, ◌∙◌, length-append}
+use Rattle.std.proofs.Common.{◌≡◌, ℕ, ◌+◌, ◌-◌, ◌<◌, ◌⊎◌, true, ◌==◌, List, [], ◌∷◌, ◌++◌, length, map, Some, sym, ap, inl, inr, arith, ◌∙◌, length-append}
 use Rattle.std.specs.Prelude.{slice_get, slice_index_or, nat_le, replicate}
 use Rattle.std.specs.List.{list_all}
 use Rattle.std.proofs.lemmas.Option.{slice_get_within}
 use Rattle.std.proofs.lemmas.Bool.{and_parts, leb-true}
 use Rattle.std.proofs.lemmas.List.{length-map, length-replicate, get_or_at}
 use Rattle.interleavings.specs.System.{Micro}
-use Rattle.interleavings.specs.Owners.{sum_below}
 use Rattle.flat_graph.specs.declared.vertex.Kind.{Kind}
 use Rattle.flat_graph.specs.declared.vertex.Kind.TheVariants.{Actuator, Set}
 use Rattle.flat_graph.specs.declared.vertex.Vertex.{Vertex}
 use Rattle.flat_graph.specs.Graph.{Graph, lens_of}
-use Rattle.flat_graph.specs.Valid.{is_flat, is_vertex, fits, has_twin}
+use Rattle.flat_graph.specs.Valid.{is_flat, fits, has_twin}
 use Rattle.flat_graph.proofs.Facts.{vertex_valid, fits_of}
 use Rattle.flat_graph.proofs.KindLens.{one_is}
 use Rattle.semaphore_core.specs.declared.program.Instr.TheVariants.{Call}
 use Rattle.semaphore_core.specs.Blocks.{blocks}
 use Rattle.semaphore_core.specs.Instructions.{turn, len_of}
 use Rattle.semaphore_core.specs.MicroSteps.{code, size, block, loads_at, stores_at}
-use Rattle.semaphore_core.specs.Operation.{lens_in}
 use Rattle.semaphore_core.specs.Places.{calling}
 use Rattle.semaphore_core.specs.Steps.{len_at, elements_in}
 use Rattle.semaphore_core.specs.Job.{JobData}
@@ -64,11 +62,11 @@ module _ (j : JobData) (h : IsSupplied j) where
   pub fed : (t : ℕ) → Stateful t → 0 < elements_in j.program (calling j.program t).ins
   fed t s = let n = reads_one t s.0 s.1 s.2 in let G = length s.0.guards in
       let lens : map (len_of j.program) (calling j.program t).ins ≡ replicate (length s.0.guards) 1 ++ n.0 ∷ []
-          = called_lens j h t s.0 (calling j.program t).ins s.1 (h.formed.called t s.0 s.1).takes ∙ ap (λ (l : List ℕ). replicate (length s.0.guards) 1 ++ l) n.2 in
+      = called_lens j h t s.0 (calling j.program t).ins s.1 (h.formed.called t s.0 s.1).takes ∙ ap (λ (l : List ℕ). replicate (length s.0.guards) 1 ++ l) n.2 in
       let at : len_at j.program (calling j.program t).ins (length s.0.guards) ≡ n.0
-          = len_at_is j.program (calling j.program t).ins (length s.0.guards) ∙ ap (λ (l : List ℕ). slice_index_or l (length s.0.guards) 0) lens ∙ get_or_at (replicate (length s.0.guards) 1) n.0 [] 0 (length s.0.guards) (length-replicate (length s.0.guards) 1) in
+      = len_at_is j.program (calling j.program t).ins (length s.0.guards) ∙ ap (λ (l : List ℕ). slice_index_or l (length s.0.guards) 0) lens ∙ get_or_at (replicate (length s.0.guards) 1) n.0 [] 0 (length s.0.guards) (length-replicate (length s.0.guards) 1) in
       let many : length (calling j.program t).ins ≡ length s.0.guards + 1
-          = sym (length-map (calling j.program t).ins (len_of j.program)) ∙ ap (λ (l : List ℕ). length l) lens ∙ length-append (replicate (length s.0.guards) 1) (n.0 ∷ []) ∙ ap (λ (m : ℕ). m + 1) (length-replicate (length s.0.guards) 1) in
+      = sym (length-map (calling j.program t).ins (len_of j.program)) ∙ ap (λ (l : List ℕ). length l) lens ∙ length-append (replicate (length s.0.guards) 1) (n.0 ∷ []) ∙ ap (λ (m : ℕ). m + 1) (length-replicate (length s.0.guards) 1) in
       let z = member_below (len_at j.program (calling j.program t).ins) (length (calling j.program t).ins) (length s.0.guards) (omega arith) in let p = n.1 in omega arith
 
   -- a call has a micro-step for each element
@@ -81,5 +79,5 @@ module _ (j : JobData) (h : IsSupplied j) where
 
   pub last_low : (t : ℕ) → Stateful t → last_load j t < length (code j.program (calling j.program t).sequence).turn
   last_low t q = let z = sum_inside (size j.program (calling j.program t).sequence) (length (turn j.program (calling j.program t).sequence)) (calling j.program t).at (elements_in j.program (calling j.program t).ins - 1)
-          (slice_get_within (turn j.program (calling j.program t).sequence) (calling j.program t).at (Call t (calling j.program t).ins (calling j.program t).outs) (h.formed.called t q.0 q.1).stands) (last_inner t q) in
+      (slice_get_within (turn j.program (calling j.program t).sequence) (calling j.program t).at (Call t (calling j.program t).ins (calling j.program t).outs) (h.formed.called t q.0 q.1).stands) (last_inner t q) in
       let y = blocks_length (block j.program (calling j.program t).sequence) (length (turn j.program (calling j.program t).sequence)) in omega arith

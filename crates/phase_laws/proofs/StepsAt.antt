@@ -1,6 +1,6 @@
 -- The micro-step of the core at which a sequence stands, by its instruction: how loads and stores go on with the registers.
-use Rattle.std.proofs.Common.{◌≡◌, ℕ, zero, suc, ◌+◌, ◌-◌, ◌*◌, ◌%◌, ◌<◌, ◌≤◌, Bool, true, false, cond, List, [], ◌∷◌, ◌++◌, length, take, Option, Some, None, refl, sym, ap, arith, ◌∙◌, length-append}
-use Rattle.std.specs.Prelude.{slice_get, nat_eq, nat_lt}
+use Rattle.std.proofs.Common.{◌≡◌, ℕ, zero, suc, ◌+◌, ◌-◌, ◌*◌, ◌%◌, ◌<◌, Bool, true, false, cond, List, [], ◌∷◌, ◌++◌, length, take, Option, Some, None, refl, sym, ap, arith, ◌∙◌, length-append}
+use Rattle.std.specs.Prelude.{slice_get, nat_eq}
 use Rattle.std.specs.List.{count_by}
 use Rattle.std.proofs.lemmas.Option.{slice_get_within}
 use Rattle.std.proofs.lemmas.Bool.{le-ltb}
@@ -13,17 +13,14 @@ use Rattle.semaphore_core.specs.declared.program.Instr.TheVariants.{Suc0, Suc1, 
 use Rattle.semaphore_core.specs.declared.program.Program.{Program}
 use Rattle.semaphore_core.specs.declared.program.SeqCode.{SeqCode}
 use Rattle.semaphore_core.specs.declared.steps.Place.TheVariants.{Buffer, Wire}
-use Rattle.semaphore_core.specs.declared.steps.OnLoad.{OnLoad}
 use Rattle.semaphore_core.specs.declared.steps.OnLoad.TheVariants.{Carry as CarryIn}
-use Rattle.semaphore_core.specs.declared.steps.OnStore.{OnStore}
 use Rattle.semaphore_core.specs.declared.steps.OnStore.TheVariants.{Carry as CarryOut}
 use Rattle.semaphore_core.specs.declared.steps.MicroStep.{MicroStep}
 use Rattle.semaphore_core.specs.declared.steps.MicroStep.TheVariants.{Take, See, Lower, Await, Advance, Load, Store}
 use Rattle.semaphore_core.specs.Blocks.{blocks}
 use Rattle.semaphore_core.specs.Instructions.{is_communication, turn, turn_of, prologue, prologue_of, medium, medium_in, number_or, len_of, pair_depth, communications}
-use Rattle.semaphore_core.specs.MicroSteps.{code, size, begins, block, block_in, front_block, takes, micros_of, micros_in, loads_of, stores_of, loads_at, stores_at, load_at, store_at, send_at, receive_at}
+use Rattle.semaphore_core.specs.MicroSteps.{code, size, begins, block_in, takes, micros_of, micros_in, loads_of, stores_of, loads_at, stores_at, load_at, store_at, send_at, receive_at}
 use Rattle.semaphore_core.specs.Steps.{steps, steps_by, steps_of, steps_in, steps_at, steps_in_list, call_steps, take_steps, on_load, on_store, load_step, store_step, load_steps, store_steps, input_steps, output_steps, send_step, receive_step, len_by, len_at, elements_in}
-use Rattle.semaphore_core.specs.WellFormed.{Stands}
 use Rattle.phase_laws.proofs.Blocks.{blocks_length, blocks_at, get-append_past, get-append_within, sum_const, sum_inside}
 use Rattle.phase_laws.proofs.Standing.{Here}
 

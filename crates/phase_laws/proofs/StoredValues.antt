@@ -1,5 +1,5 @@
 -- The values that elements have in their rounds.
-use Rattle.std.proofs.Common.{◌≡◌, ℕ, suc, ◌+◌, ◌-◌, ◌*◌, ◌/◌, ◌%◌, ◌<◌, ◌≤◌, Bool, true, false, cond, length, Option, Some, refl, sym, ap, arith, ◌∙◌, ℤ}
+use Rattle.std.proofs.Common.{◌≡◌, ℕ, ◌+◌, ◌-◌, ◌*◌, ◌/◌, ◌<◌, Bool, false, cond, length, Option, refl, ap, arith, ◌∙◌}
 use Rattle.std.specs.Prelude.{nat_lt}
 use Rattle.std.proofs.lemmas.Bool.{lt-ltb, le-ltb}
 use Rattle.std.proofs.lemmas.Nat.{mod-mul-add, div-mul-add}
@@ -8,7 +8,6 @@ use Rattle.consistent_cuts.specs.Sites.{reaction_at}
 use Rattle.interleavings.specs.System.{round_number}
 use Rattle.interleavings.specs.Owners.{sum_below}
 use Rattle.level_meaning.specs.Level.{element_at}
-use Rattle.semaphore_core.specs.declared.program.Program.{Program}
 use Rattle.semaphore_core.specs.Blocks.{block_at}
 use Rattle.semaphore_core.specs.Instructions.{len_of}
 use Rattle.semaphore_core.specs.MicroSteps.{code, element_of, wire_of, buffer_elements, wire_len, transfers, transfer_len, len_sent, uses, access, sent}
@@ -16,7 +15,7 @@ use Rattle.semaphore_core.specs.Places.{places, transfer}
 use Rattle.semaphore_core.specs.Job.{JobData, reactions, buffer_at, wire_at, number_at, period_at, system}
 use Rattle.semaphore_core.specs.Told.{buffer_value, sent_value, wire_value, stored_value}
 use Rattle.phase_laws.specs.Values.{IsSupplied}
-use Rattle.phase_laws.proofs.Setting.{Conditions, Parts}
+use Rattle.phase_laws.proofs.Setting.{Conditions}
 use Rattle.phase_laws.proofs.Blocks.{block_at_is}
 use Rattle.phase_laws.proofs.Buffers.{len_inside, element_low}
 use Rattle.phase_laws.proofs.Sent.{found}
@@ -58,7 +57,7 @@ module _ (j : JobData) (h : IsSupplied j) where
 
     stored_wire : (r : ℕ) → stored_value j (wire_of j.program m i) r ≡ wire_value j m i (access j.program m i (transfers j.program m)) r
     stored_wire r = ap (λ (d : Bool). cond d (element_at (buffer_value j (buffer_at j.program j.media (wire_of j.program m i)) r) (number_at j.program j.media (wire_of j.program m i)))
-            (wire_value j (wire_at j.program j.media (wire_of j.program m i)) (number_at j.program j.media (wire_of j.program m i)) (period_at j.program j.media (wire_of j.program m i)) r)) high
+        (wire_value j (wire_at j.program j.media (wire_of j.program m i)) (number_at j.program j.media (wire_of j.program m i)) (period_at j.program j.media (wire_of j.program m i)) r)) high
         ∙ (λ q. wire_value j (wire_at_is j.program (places j.program) C (reactions j) (parts_of j) m i a long q) (number_at_is j.program (places j.program) C (reactions j) (parts_of j) m i a long q) (period q) r)
 
     -- element i of the wire of m in transfer t of a reaction
