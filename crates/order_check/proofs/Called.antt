@@ -21,7 +21,7 @@ use Rattle.order_check.specs.Calls.{are_called, called_at, carries, carry_guards
 use Rattle.order_check.specs.Carries.{same_source}
 use Rattle.order_check.specs.Pairs.{is_only, passes}
 use Rattle.order_check.proofs.Kept.{is_same_source, same_source_is}
-use Rattle.order_check.proofs.Tests.{every_of, of_every, from_zero, to_zero, implied, implying}
+use Rattle.order_check.proofs.ListTests.{every_of, of_every, from_zero, to_zero, implied, implying}
 use Rattle.order_check.proofs.Written.{entry_is, is_entry, same_numbers}
 
 call_there : (v : ℕ) (o : Option Instr) → passes (calls v) o ≡ true → o ≡ Some (Call v (ins_in o) (outs_in o))

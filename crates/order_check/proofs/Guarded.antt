@@ -13,7 +13,7 @@ use Rattle.semaphore_core.specs.Places.{places, reader, reader_or, signals_empty
 use Rattle.semaphore_core.specs.WellFormed.{IsOnly, IsPair, ReadsAt, Stands, operator_of}
 use Rattle.order_check.specs.Checked.{all_at, every, implies}
 use Rattle.order_check.specs.Pairs.{are_pairs, first_place, guards, has_operator, is_full_first, is_only, is_read_between, is_written_between, passes, reads_between}
-use Rattle.order_check.proofs.Tests.{every_of, of_every, from_zero, to_zero, implied, implying}
+use Rattle.order_check.proofs.ListTests.{every_of, of_every, from_zero, to_zero, implied, implying}
 use Rattle.order_check.proofs.Written.{reads_test, same_numbers, test_reads}
 
 empty_taken : (q : ℕ) (y : Instr) → takes_empty q y ≡ true → y ≡ Suc0 q

@@ -15,7 +15,7 @@ use Rattle.order_check.specs.declared.carrying.Origin.TheVariants.{Made, Receive
 use Rattle.order_check.specs.Checked.{all_below}
 use Rattle.order_check.specs.Carries.{are_kept, is_kept, origin, origin_of, received, same_source, sent_on, source_from}
 use Rattle.order_check.specs.Transfers.{buffer_at, receiver_of, sender_of}
-use Rattle.order_check.proofs.Tests.{below_of, of_below}
+use Rattle.order_check.proofs.ListTests.{below_of, of_below}
 
 pub same_source_is : (x y : Source) → same_source x y ≡ true → x ≡ y
 same_source_is x y h =

@@ -2,11 +2,11 @@ mod Called
 mod Exact
 mod Guarded
 mod Kept
+mod ListTests
 mod Listed
 mod Ordered
 mod Passing
 mod Prologues
-mod Tests
 mod Transferred
 mod Walked
 mod Written

@@ -15,6 +15,7 @@ use Rattle.order_check.specs.Checked.{passed}
 use Rattle.order_check.specs.Sequenced.{are_sequences, ends_at, is_of, is_sequence, same_medium}
 use Rattle.order_check.proofs.Written.{same_numbers}
 
+-- the parts of a sequence decide it
 medium_is : (m n : Option ℕ) → same_medium m n ≡ true → m ≡ n
 medium_is None None h = refl
 medium_is None (Some n) h = absurd (false≢true h)
@@ -36,6 +37,7 @@ code_is (Some q) x h =
 is_code : (o : Option SeqCode) (q : SeqCode) → o ≡ Some q → is_of o q.seq ≡ true
 is_code o q e = subst (λ (o : Option SeqCode). is_of o q.seq ≡ true) (sym e) (both_true (same_numbers q.seq.operator) (same_media q.seq.medium))
 
+-- what is left of a list begins with the element of that place, if there is one
 drop_there : {X : Type 0} (xs : List X) (n : ℕ) (x : X) → slice_get xs n ≡ Some x → drop n xs ≡ x ∷ drop (suc n) xs
 drop_there [] n x e = absurd (cc)
 drop_there (y ∷ ys) zero x e =
@@ -56,6 +58,7 @@ module _ (codes : List SeqCode) where
   abbrev passes_by : ℕ → Seq → List Seq → Bool → Bool
   passes_by n x xs b = ends_at (length codes) (cond b (passed (is_sequence codes) (n + 1) xs) None)
 
+  -- where the walk ends behind the last code, what is left of the codes has these sequences
   left_is : (n : ℕ) (xs : List Seq) → ends_at (length codes) (passed (is_sequence codes) n xs) ≡ true → listed (drop n codes) ≡ xs
   left_is n [] h =
       let e = eqb-true (length codes) n h in
@@ -70,6 +73,7 @@ module _ (codes : List SeqCode) where
           let r : listed (drop (suc n) codes) ≡ xs = subst (λ (k : ℕ). listed (drop k codes) ≡ xs) (let s : n + 1 ≡ suc n = omega arith in s) (rest h) in
           ap listed (drop_there codes n c.0 c.1) ∙ (λ i. c.2 i ∷ r i)
 
+  -- where what is left of the codes has these sequences, the walk ends behind the last code
   is_left : (n : ℕ) (xs : List Seq) → n ≤ length codes → listed (drop n codes) ≡ xs → ends_at (length codes) (passed (is_sequence codes) n xs) ≡ true
   is_left n [] l h =
       let none : length (drop n codes) ≡ 0 = sym (length-map (drop n codes) (λ (q : SeqCode). q.seq)) ∙ ap (λ (xs : List Seq). length xs) h in

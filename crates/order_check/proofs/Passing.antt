@@ -1,5 +1,5 @@
 -- A walk over blocks, one behind the other, that counts what passes.
-use Rattle.std.proofs.Common.{◌≡◌, ℕ, zero, suc, ◌+◌, ◌-◌, ◌<◌, ◌≤◌, Bool, true, false, cond, List, [], ◌∷◌, ◌++◌, length, refl, sym, ap, subst, arith, add-zero, ◌∙◌, inl, inr}
+use Rattle.std.proofs.Common.{◌≡◌, ℕ, zero, suc, ◌+◌, ◌-◌, ◌<◌, Bool, true, false, cond, List, [], ◌∷◌, ◌++◌, length, refl, sym, ap, subst, arith, add-zero, ◌∙◌, inl, inr}
 use Rattle.std.specs.Prelude.{Option, Some, None}
 use Rattle.std.specs.List.{flat_map, range_with_len}
 use Rattle.std.specs.Cmp.Derive.{both_true}
@@ -14,6 +14,7 @@ module _ {X : Type 0} (test : ℕ → X → Bool) where
   after None ys = None
   after (Some k) ys = passed test k ys
 
+  -- a walk over two lists is a walk over the first, and then over the second
   pub passed_append : (n : ℕ) (xs ys : List X) → passed test n (xs ++ ys) ≡ after (passed test n xs) ys
   passed_append n [] ys = refl
   passed_append n (x ∷ xs) ys = by (test n x) (passed_append (n + 1) xs ys)
@@ -22,11 +23,12 @@ module _ {X : Type 0} (test : ℕ → X → Bool) where
       by true rest = rest
       by false rest = refl
 
-  -- blocks in a list of which the first n make them
   module _ (f : ℕ → List X) where
+    -- behind the blocks before it, the walk over a block decides
     pub block_passed : (b k : ℕ) (o : Option ℕ) → passed test 0 (blocks f b) ≡ Some k → passed test k (f b) ≡ o → passed test 0 (blocks f (suc b)) ≡ o
     block_passed b k o h e = passed_append 0 (blocks f b) (f b) ∙ (ap (λ (z : Option ℕ). after z (f b)) h ∙ e)
 
+    -- where it stops in one block, it stops in all together
     pub block_stops : (n b k : ℕ) → b < n → passed test 0 (blocks f b) ≡ Some k → passed test k (f b) ≡ None → passed test 0 (blocks f n) ≡ None
     block_stops zero b k l h e = absurd (omega arith)
     block_stops (suc n) b k l h e = elim (cases_lt b n) [
@@ -45,9 +47,6 @@ module _ {X : Type 0} (test : ℕ → X → Bool) where
         ∙ (passed_append k (f o) (flat_map f (range_with_len (o + 1) (n - (o + 1))))
         ∙ ap (λ (z : Option ℕ). after z (flat_map f (range_with_len (o + 1) (n - (o + 1))))) e))
 
-    pub range_ends : (o n k : ℕ) → n ≤ o → passed test k (flat_map f (range_with_len o (n - o))) ≡ Some k
-    range_ends o n k l = let e : n - o ≡ 0 = omega arith in ap (λ (m : ℕ). passed test k (flat_map f (range_with_len o m))) e
-
   -- what passed did so at each element, and so many
   pub passed_all : (n k : ℕ) (xs : List X) → passed test n xs ≡ Some k → (all_at test n xs ≡ true) × (k ≡ n + length xs)
   passed_all n k [] h = let same : n ≡ k = cc in (refl, omega (arith, same))
@@ -58,6 +57,7 @@ module _ {X : Type 0} (test : ℕ → X → Bool) where
       by true e h rest = let r = rest h in (both_true e r.0, omega (arith, r.1))
       by false e h rest = absurd (cc)
 
+  -- where the test passes at each element, the walk ends behind the last
   pub all_passed : (n : ℕ) (xs : List X) → all_at test n xs ≡ true → passed test n xs ≡ Some (n + length xs)
   all_passed n [] h = ap (λ (k : ℕ). Some k) (sym (add-zero n))
   all_passed n (x ∷ xs) h =

@@ -18,13 +18,14 @@ use Rattle.semaphore_core.specs.WellFormed.{operator_of}
 use Rattle.order_check.specs.Checked.{all_at, passed}
 use Rattle.order_check.specs.Opened.{are_opened, opens, rise, rises, signals_for, signals_right}
 use Rattle.order_check.proofs.Passing.{all_passed, passed_all}
-use Rattle.order_check.proofs.Tests.{all_here, all_there, from_zero, to_zero}
+use Rattle.order_check.proofs.ListTests.{all_here, all_there, from_zero, to_zero}
 use Rattle.order_check.proofs.Written.{same_numbers}
 
 -- how often a list signals the empty semaphore of pair q
 abbrev count : ℕ → List Instr → ℕ
 count q xs = count_by (signals_empty q) xs
 
+-- the count of one more instruction, of two lists, and of the signals of one pair
 count_cons : (q : ℕ) (x : Instr) (xs : List Instr) → count q (x ∷ xs) ≡ cond (signals_empty q x) 1 0 + count q xs
 count_cons q x xs = sum_by-cons (λ (x : Instr). cond (signals_empty q x) 1 0) x xs
 
@@ -64,6 +65,7 @@ rise_lower n l m [] e h = refl
 rise_lower n l m (Pre0 q ∷ xs) e h = let r = rise_parts n m q xs h in rise_whole n l q xs (omega (arith, e, r.0)) r.1 r.2
 rise_lower n l m (_ ∷ xs) e h = absurd (false≢true h)
 
+-- signals of pairs below n have none of a pair from n on
 none_above : (n l : ℕ) (xs : List Instr) → rises n l xs ≡ true → (q : ℕ) → n ≤ q → count q xs ≡ 0
 none_above n l [] h q e = refl
 none_above n l (Pre0 r ∷ xs) h q e =
@@ -92,6 +94,7 @@ split n l (Pre0 q ∷ xs) h =
     ]
 split n l (_ ∷ xs) h = absurd (false≢true h)
 
+-- signals of pairs below m, and then of pairs from m on, ascend
 rise_both : (n l m : ℕ) (xs ys : List Instr) → rises m l xs ≡ true → l ≤ m → m ≤ n → rises n m ys ≡ true → rises n l (xs ++ ys) ≡ true
 rise_both n l m [] ys h e f g = rise_lower n l m ys e g
 rise_both n l m (Pre0 q ∷ xs) ys h e f g =
@@ -108,6 +111,7 @@ module _ (often : ℕ → ℕ) where
   abbrev signals : ℕ → List Instr
   signals n = blocks (λ q. repeated (Pre0 q) (often q)) n
 
+  -- signals that ascend and are as many of each pair are these
   risen : (n : ℕ) (xs : List Instr) → rises n 0 xs ≡ true → ((q : ℕ) → q < n → count q xs ≡ often q) → xs ≡ signals n
   risen zero [] h c = refl
   risen zero (Pre0 q ∷ xs) h c = absurd (omega (arith, (rise_parts 0 0 q xs h).1))
@@ -119,6 +123,7 @@ module _ (often : ℕ → ℕ) where
       let rest = risen n s.0 s.3 (λ q l. omega (arith, both q, count_other q n s.1 (λ same. omega (arith, same, l)), c q (omega (arith, l)))) in
       s.2 ∙ (ap (λ (ys : List Instr). ys ++ repeated (Pre0 n) s.1) rest ∙ ap (λ (k : ℕ). signals n ++ repeated (Pre0 n) k) many)
 
+  -- these ascend, and are as many of each pair
   signals_rise : (n : ℕ) → rises n 0 (signals n) ≡ true
   signals_rise zero = refl
   signals_rise (suc n) = rise_both (suc n) 0 n (signals n) (repeated (Pre0 n) (often n)) (signals_rise n) (omega arith) (omega arith) (rise_same n (often n))
@@ -137,12 +142,14 @@ module _ (often : ℕ → ℕ) where
             omega (arith, none, last))
       ]
 
+-- a place within a list has an element
 there : {X : Type 0} (xs : List X) (i : ℕ) → i < length xs → (x : X) × (slice_get xs i ≡ Some x)
 there [] i l = absurd (omega arith)
 there (x ∷ xs) zero l = (x, refl)
 there (x ∷ xs) (suc i) l = there xs i (omega (arith, l))
 
 module _ (p : Program) where
+  -- the reader of a pair decides how often its semaphore is signalled
   signals_at : (s q : ℕ) (x : Reader) → slice_get (readers p) q ≡ Some x → opening_signals p s q ≡ signals_for p x s
   signals_at s q x e = ap (λ (y : Reader). signals_for p y s) (let same : reader p q ≡ x = ap reader_or e in same)
 

@@ -15,7 +15,7 @@ use Rattle.semaphore_core.specs.Places.{buffer_in, communication_at, places}
 use Rattle.semaphore_core.specs.WellFormed.{Communicates, IsTransfer, place_in}
 use Rattle.order_check.specs.Checked.{all_at, all_below}
 use Rattle.order_check.specs.Transfers.{are_transfers, buffer_at, is_before_next, is_later, is_other, is_receive_from, is_received, is_send_to, is_sent, is_transfer, is_wait, place_of, receiver_of, sender_of, stands_at, waits, waits_at}
-use Rattle.order_check.proofs.Tests.{below_of, of_below, from_zero, to_zero, implied, implying, not_true}
+use Rattle.order_check.proofs.ListTests.{below_of, of_below, from_zero, to_zero, implied, implying, not_true}
 use Rattle.order_check.proofs.Written.{same_numbers}
 
 counted : (y : Instr) (zs : List Instr) → count_by is_communication (y ∷ zs) ≡ cond (is_communication y) 1 0 + count_by is_communication zs

@@ -14,7 +14,7 @@ use Rattle.semaphore_core.specs.Places.{places, writing}
 use Rattle.semaphore_core.specs.WellFormed.{IsBuffer, ReadsAt, Stands, WritesAt, operator_is}
 use Rattle.order_check.specs.Checked.{implies}
 use Rattle.order_check.specs.Buffers.{are_buffers, is_buffer, is_near, is_operator, is_written_first, is_written_once, names, touches, writes_at, writes_only}
-use Rattle.order_check.proofs.Tests.{all_here, all_there, below_of, of_below, every_of, of_every, from_zero, to_zero, implied, implying}
+use Rattle.order_check.proofs.ListTests.{all_here, all_there, below_of, of_below, every_of, of_every, from_zero, to_zero, implied, implying}
 
 pub or_left : (a b : Bool) → a ≡ true → (a || b) ≡ true
 or_left true b h = refl

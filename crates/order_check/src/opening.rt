@@ -85,10 +85,7 @@ fn count_opened(program: &Program) -> Option<usize>
 {
     let mut pair = 0;
     for buffer in 0..program.buffers.as_slice().len() {
-        match behind_readers(program, pair, buffer) {
-            Some(behind) => pair = behind,
-            None => return None,
-        }
+        pair = behind_readers(program, pair, buffer)?;
     }
     Some(pair)
 }

@@ -1,5 +1,5 @@
 -- Buffers of a well-formed program: one writer of each element, and each load in its own sequence or between a pair's take and signal.
-use Rattle.std.proofs.Common.{◌≡◌, ℕ, ◌+◌, ◌*◌, ◌<◌, ◌⊎◌, true, List, length, Option, Some, None, refl, sym, ap, subst, inl, inr, arith, ◌∙◌}
+use Rattle.std.proofs.Common.{◌≡◌, ℕ, ◌+◌, ◌*◌, ◌<◌, ◌⊎◌, true, length, Option, Some, None, refl, sym, ap, subst, inl, inr, arith, ◌∙◌}
 use Rattle.std.specs.Prelude.{slice_get}
 use Rattle.std.proofs.lemmas.Option.{same_Some, slice_get_within}
 use Rattle.std.proofs.lemmas.Bool.{eqb-true, eq-eqb, cases_eq, lt-ltb}
@@ -10,19 +10,17 @@ use Rattle.interleavings.specs.Synchronized as V
 use Rattle.semaphore_core.specs.declared.program.Instr.{Instr}
 use Rattle.semaphore_core.specs.declared.program.Buffer.{Buffer}
 use Rattle.semaphore_core.specs.declared.program.Program.{Program}
-use Rattle.semaphore_core.specs.Instructions.{turn, len_of, len_in, depth_of}
+use Rattle.semaphore_core.specs.Instructions.{turn, len_of, len_in, depth_of, medium, number_or, communications}
 use Rattle.semaphore_core.specs.MicroSteps.{code, begins, size, element_of, buffer_elements}
 use Rattle.semaphore_core.specs.Places.{Places}
-use Rattle.semaphore_core.specs.WellFormed.{Stands, WritesAt, ReadsAt, writer_of}
+use Rattle.semaphore_core.specs.WellFormed.{Stands, WritesAt, ReadsAt}
 use Rattle.semaphore_core.specs.WellFormed as WF
-use Rattle.phase_laws.proofs.Setting.{Parts, Conditions, system_of}
 use Rattle.phase_laws.specs.Discipline.{signaller, half}
-use Rattle.interleavings.specs.Pairs.{IsPair}
 use Rattle.phase_laws.proofs.Blocks.{sum_same_block, sum_inside, block_at_is}
-use Rattle.phase_laws.proofs.From.{LoadsBuffer, StoresBuffer, StoresWire, store_place, store_stands}
 use Rattle.phase_laws.proofs.Places.{stands_sequence, at_turn, Origin, origin, FromAt, owned_late, earlier}
-use Rattle.phase_laws.proofs.Pairs.{same_place, front_is, take_place, empty_within, full_within, pair_is}
-use Rattle.semaphore_core.specs.Instructions.{medium, number_or, communications}
+use Rattle.phase_laws.proofs.Setting.{Parts, Conditions, system_of}
+use Rattle.phase_laws.proofs.From.{LoadsBuffer, StoresBuffer, StoresWire, store_place, store_stands}
+use Rattle.phase_laws.proofs.Pairs.{same_place, front_is, take_place, writer, asks_empty, takes_empty_at, fills, asks_full, takes_full_at, empties, Guards, empty_within, full_within, pair_is}
 
 module _ (p : Program) where
   pub len_inside : (b j : ℕ) → j < len_of p b → b < length p.buffers
@@ -130,21 +128,21 @@ module _ (p : Program) (w : Places) (c : Conditions p w) {P : Type 0} (reactions
   pair_load q inside j a k r l x low st rd at fits = record {
     empty = 2 * q;
     filled = 2 * q + 1;
-    writer = writer_of p c.order w q;
-    wa = begins p (writer_of p c.order w q) (w.pair q).take_empty;
-    wt = begins p (writer_of p c.order w q) (w.pair q).take_empty + take_place p q;
-    ws = begins p (writer_of p c.order w q) (w.pair q).signal_full;
-    ra = begins p (w.pair q).reader (w.pair q).take_full;
-    rt = begins p (w.pair q).reader (w.pair q).take_full + take_place p q;
-    rs = begins p (w.pair q).reader (w.pair q).signal_empty;
+    writer = writer w q;
+    wa = asks_empty p w q;
+    wt = takes_empty_at p w q;
+    ws = fills p w q;
+    ra = asks_full p w q;
+    rt = takes_full_at p w q;
+    rs = empties p w q;
     sign = (w.pair q).front;
     pair = guards;
     st = stored_at (w.pair q).buffer here j;
     buffer = buffer_is (w.pair q).buffer here j low;
     first = refl;
-    store_after = earlier p (writer_of p c.order w q) (w.pair q).take_empty (w.writing (w.pair q).buffer).at (take_place p q) (store_place p (c.holds.buffers (w.pair q).buffer here).instr (w.writing (w.pair q).buffer).port j) of.before_write
+    store_after = earlier p (writer w q) (w.pair q).take_empty (w.writing (w.pair q).buffer).at (take_place p q) (store_place p (c.holds.buffers (w.pair q).buffer here).instr (w.writing (w.pair q).buffer).port j) of.before_write
         (empty_within p w c reactions own q inside);
-    store_before = let z = earlier p (writer_of p c.order w q) (w.writing (w.pair q).buffer).at (w.pair q).signal_full (store_place p (c.holds.buffers (w.pair q).buffer here).instr (w.writing (w.pair q).buffer).port j) 0 of.after_write (store_here (w.pair q).buffer here j low).1 in omega arith;
+    store_before = let z = earlier p (writer w q) (w.writing (w.pair q).buffer).at (w.pair q).signal_full (store_place p (c.holds.buffers (w.pair q).buffer here).instr (w.writing (w.pair q).buffer).port j) 0 of.after_write (store_here (w.pair q).buffer here j low).1 in omega arith;
     load_after = let z = earlier p (w.pair q).reader (w.pair q).take_full a (take_place p q) r (of.reads a k x st rd).0 (full_within p w c reactions own q inside) in omega arith;
     load_before = let z = earlier p (w.pair q).reader a (w.pair q).signal_empty r 0 (of.reads a k x st rd).1 fits in omega arith;
   }
@@ -155,12 +153,8 @@ module _ (p : Program) (w : Places) (c : Conditions p w) {P : Type 0} (reactions
       here : (w.pair q).buffer < length p.buffers
       here = c.guarded.buffer q inside
 
-      guards : IsPair W S (2 * q) (2 * q + 1) (W.depth (element_of p (w.pair q).buffer j)) (writer_of p c.order w q) (w.pair q).reader
-          (begins p (writer_of p c.order w q) (w.pair q).take_empty) (begins p (writer_of p c.order w q) (w.pair q).take_empty + take_place p q) (begins p (writer_of p c.order w q) (w.pair q).signal_full)
-          (begins p (w.pair q).reader (w.pair q).take_full) (begins p (w.pair q).reader (w.pair q).take_full + take_place p q) (begins p (w.pair q).reader (w.pair q).signal_empty) (w.pair q).front
-      guards = subst (λ (d : ℕ). IsPair W S (2 * q) (2 * q + 1) d (writer_of p c.order w q) (w.pair q).reader
-          (begins p (writer_of p c.order w q) (w.pair q).take_empty) (begins p (writer_of p c.order w q) (w.pair q).take_empty + take_place p q) (begins p (writer_of p c.order w q) (w.pair q).signal_full)
-          (begins p (w.pair q).reader (w.pair q).take_full) (begins p (w.pair q).reader (w.pair q).take_full + take_place p q) (begins p (w.pair q).reader (w.pair q).signal_empty) (w.pair q).front)
+      guards : Guards p w c reactions own (W.depth (element_of p (w.pair q).buffer j)) q
+      guards = subst (λ (d : ℕ). Guards p w c reactions own d q)
           (c.guarded.depth q inside ∙ sym (depth_is (w.pair q).buffer here j low)) (pair_is p w c reactions own q inside)
 
   -- every load of a buffer's element

@@ -1,5 +1,5 @@
 -- Transfers of a well-formed program: the halves of each medium, and the wires' elements.
-use Rattle.std.proofs.Common.{◌≡◌, ℕ, suc, ◌+◌, ◌*◌, ◌/◌, ◌%◌, ◌<◌, ◌≤◌, ◌⊎◌, true, eqb, List, length, Some, refl, sym, ap, subst, inl, inr, ⊎_elim, arith, ◌∙◌}
+use Rattle.std.proofs.Common.{◌≡◌, ℕ, suc, ◌+◌, ◌*◌, ◌/◌, ◌%◌, ◌<◌, ◌≤◌, ◌⊎◌, true, eqb, length, Some, refl, sym, ap, subst, inl, inr, ⊎_elim, arith, ◌∙◌}
 use Rattle.std.specs.Prelude.{slice_get}
 use Rattle.std.proofs.lemmas.Option.{same_Some}
 use Rattle.std.proofs.lemmas.Bool.{eqb-true, eq-eqb, cases_eq, cases_order, lt-ltb, le-ltb, cases_lt, and_parts, and_from}
@@ -14,13 +14,13 @@ use Rattle.semaphore_core.specs.Instructions.{is_communication, turn, medium, nu
 use Rattle.semaphore_core.specs.MicroSteps.{micros_of, code, size, transfers}
 use Rattle.semaphore_core.specs.Places.{Places}
 use Rattle.semaphore_core.specs.WellFormed.{Stands, Communicates, IsTransfer, Before}
-use Rattle.phase_laws.proofs.Setting.{Parts, Conditions, system_of}
 use Rattle.phase_laws.specs.Discipline.{signaller, half, half_by}
-use Rattle.phase_laws.proofs.From.{IsHalf, sending, receiving, half_len, send_advances, receive_advances}
 use Rattle.phase_laws.proofs.Places.{micros_at, stands_sequence, at_turn, at_first, Origin, origin, FromAt, owned_late}
+use Rattle.phase_laws.proofs.Setting.{Parts, Conditions, system_of}
+use Rattle.phase_laws.proofs.Counting.{count_more, count_less, covered}
+use Rattle.phase_laws.proofs.From.{IsHalf, sending, receiving, half_len, send_advances, receive_advances}
 use Rattle.phase_laws.proofs.Pairs.{even, odd, same_place, front_is}
 use Rattle.phase_laws.proofs.Buffers.{MediumAt}
-use Rattle.phase_laws.proofs.Counting.{count_more, count_less, covered}
 
 module _ (p : Program) where
   advance_from : (m i t a r : ℕ) (x : Instr) (d : Micro) → advances_half m i d ≡ true → FromAt p t a x r d

@@ -4,37 +4,30 @@ use Rattle.std.specs.Prelude.{slice_get}
 use Rattle.std.specs.List.{count_by}
 use Rattle.std.proofs.lemmas.Option.{slice_get_within}
 use Rattle.std.proofs.lemmas.Bool.{ne_eqb, eq-eqb, cases_eq, cases_order, cases_lt}
+use Rattle.std.proofs.Math.Nat.{mul-le-mul_right}
+use native.Mathlib.Nat.{suc-mul}
 use Rattle.interleavings.specs.System.{System, Micro, take as taken, see, signal, await}
 use Rattle.interleavings.specs.Owners.{Owner}
 use Rattle.interleavings.specs.Media.{Half}
+use Rattle.interleavings.specs.Pairs.{IsSemaphore}
+use Rattle.interleavings.specs.Order.{IsOrdered}
 use Rattle.semaphore_core.specs.declared.program.Instr.{Instr}
 use Rattle.semaphore_core.specs.declared.program.Instr.TheVariants.{Suc0, Suc1, Pre1, Sync}
 use Rattle.semaphore_core.specs.declared.program.Program.{Program}
 use Rattle.semaphore_core.specs.Blocks.{block_at}
-use Rattle.semaphore_core.specs.Instructions.{is_communication, turn, communications, len_of}
-use Rattle.semaphore_core.specs.MicroSteps.{code, begins, size, transfers}
-use Rattle.semaphore_core.specs.WellFormed as WF
+use Rattle.semaphore_core.specs.Instructions.{is_communication, turn, communications, len_of, pair_depth}
+use Rattle.semaphore_core.specs.MicroSteps.{code, begins, size, transfers, block}
 use Rattle.semaphore_core.specs.Places.{Places}
-use Rattle.semaphore_core.specs.WellFormed.{Stands, Communicates, IsTransfer, Before}
+use Rattle.semaphore_core.specs.WellFormed.{Stands, Before, place_in, place}
+use Rattle.semaphore_core.specs.WellFormed as WF
+use Rattle.phase_laws.specs.Discipline.{signaller, half, spot, stride, steps, front}
+use Rattle.phase_laws.proofs.Blocks.{sum_same_block, sum_inside, block_at_is, inside, member_below, blocks_length}
+use Rattle.phase_laws.proofs.Places.{stands_sequence, at_turn, Origin, origin, earlier, front_sequence, slice_get_some}
 use Rattle.phase_laws.proofs.Setting.{Parts, Conditions, system_of}
-use Rattle.phase_laws.specs.Discipline.{signaller, half}
-use Rattle.phase_laws.proofs.Blocks.{sum_same_block, sum_inside, block_at_is, inside}
-use Rattle.phase_laws.proofs.From.{IsHalf, sending, receiving}
-use Rattle.phase_laws.proofs.From.{Takes}
-use Rattle.semaphore_core.specs.Instructions.{pair_depth}
-use Rattle.phase_laws.proofs.Places.{stands_sequence, at_turn, Origin, origin, earlier}
-use Rattle.phase_laws.proofs.Buffers.{MediumAt}
-use Rattle.std.proofs.Math.Nat.{mul-le-mul_right}
-use native.Mathlib.Nat.{suc-mul}
-use Rattle.interleavings.specs.Pairs.{IsSemaphore}
-use Rattle.interleavings.specs.Order.{IsOrdered}
-use Rattle.semaphore_core.specs.WellFormed.{place_in, place, writer_of}
-use Rattle.semaphore_core.specs.MicroSteps.{block}
-use Rattle.phase_laws.specs.Discipline.{spot, stride, steps, front}
-use Rattle.phase_laws.proofs.Blocks.{member_below, blocks_length}
-use Rattle.phase_laws.proofs.Places.{front_sequence, slice_get_some}
 use Rattle.phase_laws.proofs.Counting.{count_cons, one_if}
-use Rattle.phase_laws.proofs.Pairs.{signaller_empty, signaller_full}
+use Rattle.phase_laws.proofs.From.{IsHalf, sending, receiving, Takes}
+use Rattle.phase_laws.proofs.Pairs.{writer, fills, signaller_empty, signaller_full}
+use Rattle.phase_laws.proofs.Buffers.{MediumAt}
 use Rattle.phase_laws.proofs.Media.{sender_half, receiver_half, half_even, half_odd, Part, part, Who, sends_it, receives_it, waits_for_it, who, send_advance, receive_advance}
 use Rattle.phase_laws.proofs.Wires.{Sending, sending_is, Receiving, receiving_is}
 
@@ -80,12 +73,6 @@ module _ (p : Program) (w : Places) (c : Conditions p w) {P : Type 0} (reactions
 
   abbrev pub H : ℕ → ℕ → Half
   H = half p w
-
-  abbrev Spot : ℕ → ℕ → ℕ
-  Spot = spot p c.order
-
-  abbrev Stride : ℕ
-  Stride = stride p c.order
 
   -- where a micro-step of the loop stands
   record Located (s l : ℕ) : Type 0 where
@@ -161,15 +148,15 @@ module _ (p : Program) (w : Places) (c : Conditions p w) {P : Type 0} (reactions
           u : (s ≡ (w.pair q).reader) × (r.index ≡ (w.pair q).take_full)
           u = one.take_full.only s r.index st
 
-          at : (slice_get (code p (writer_of p c.order w q)).turn (begins p (writer_of p c.order w q) (w.pair q).signal_full + 0) ≡ Some (signal (2 * q + 1))) × (0 < size p (writer_of p c.order w q) (w.pair q).signal_full)
-          at = at_turn p (writer_of p c.order w q) (w.pair q).signal_full 0 (Pre1 q) (signal (2 * q + 1)) one.signal_full.stands refl
+          at : (slice_get (code p (writer w q)).turn (fills p w q + 0) ≡ Some (signal (2 * q + 1))) × (0 < size p (writer w q) (w.pair q).signal_full)
+          at = at_turn p (writer w q) (w.pair q).signal_full 0 (Pre1 q) (signal (2 * q + 1)) one.signal_full.stands refl
 
           l_below : l < length (code p s).turn
           l_below = let f = blocks_length (block p s) (length (turn p s)) in let z = sum_inside (size p s) (length (turn p s)) r.index r.at (slice_get_within (turn p s) r.index r.instr r.stands) r.inner in let v = r.is in omega arith
 
-          here : spot p c.order (writer_of p c.order w q) (begins p (writer_of p c.order w q) (w.pair q).signal_full) < spot p c.order s l
-          here = let b = slice_get_within (code p (writer_of p c.order w q)).turn _ _ at.0 in
-              before_known (writer_of p c.order w q) (w.pair q).signal_full 0 s r.index r.at (begins p (writer_of p c.order w q) (w.pair q).signal_full) l (omega arith) l_below (omega arith) at.1 r.is r.inner
+          here : spot p c.order (writer w q) (fills p w q) < spot p c.order s l
+          here = let b = slice_get_within (code p (writer w q)).turn _ _ at.0 in
+              before_known (writer w q) (w.pair q).signal_full 0 s r.index r.at (fills p w q) l (omega arith) l_below (omega arith) at.1 r.is r.inner
               (let f = one.full_first in let j = ap (λ (k : ℕ). place p c.order k r.index) u.0 in let k = ap (place p c.order (w.pair q).reader) u.1 in omega arith)
 
       -- the empty one is signalled before the loop

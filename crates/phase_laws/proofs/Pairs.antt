@@ -1,7 +1,6 @@
 -- Pairs of semaphores of a well-formed program: each semaphore has one taker and one signaller.
 use Rattle.std.proofs.Common.{◌≡◌, ℕ, ◌+◌, ◌*◌, ◌/◌, ◌%◌, ◌<◌, ◌≤◌, ◌⊎◌, Bool, true, false, cond, eqb, List, [], ◌∷◌, length, Some, refl, sym, ap, subst, inl, inr, ⊎_elim, arith, ◌∙◌}
 use Rattle.std.specs.Prelude.{slice_get}
-use Rattle.std.proofs.lemmas.Option.{slice_get_within}
 use Rattle.std.proofs.lemmas.Bool.{eqb-true, eq-eqb, ne_eqb}
 use Rattle.interleavings.specs.System.{System, Micro, take as taken, see, sub, signal, await, advance, load, store, is_take, is_signal}
 use Rattle.interleavings.specs.Owners.{Owner, IsOwned}
@@ -12,12 +11,12 @@ use Rattle.semaphore_core.specs.declared.program.Program.{Program}
 use Rattle.semaphore_core.specs.Instructions.{prologue, pair_depth}
 use Rattle.semaphore_core.specs.MicroSteps.{code, begins, size, takes}
 use Rattle.semaphore_core.specs.Places.{Places}
-use Rattle.semaphore_core.specs.WellFormed.{Stands, IsOnly, writer_of}
+use Rattle.semaphore_core.specs.WellFormed.{Stands, IsOnly}
 use Rattle.semaphore_core.specs.WellFormed as WF
 use Rattle.phase_laws.specs.Discipline.{signaller, empty_owner, full_owner}
+use Rattle.phase_laws.proofs.Places.{micros_at, hit_one, stands_sequence, at_first, at_turn, origin, FromAt, owned, owned_late, earlier, front_at, front_from, front_length}
 use Rattle.phase_laws.proofs.Setting.{Parts, Conditions, system_of}
 use Rattle.phase_laws.proofs.From.{Takes, Signals}
-use Rattle.phase_laws.proofs.Places.{micros_at, hit_one, stands_sequence, at_first, at_turn, origin, FromAt, owned, owned_late, earlier, front_at, front_from, front_length}
 
 pub even : (q : ℕ) → (2 * q % 2 ≡ 0) × (2 * q / 2 ≡ q)
 even q = (omega arith, omega arith)
@@ -120,6 +119,29 @@ module _ (p : Program) where
       by (n, z, inl u) = let v = u.1 in absurd (omega arith)
       by (n, z, inr u) = (z, u.0 ∙ ap (λ (k : ℕ). Pre1 k) (let v = u.1 in omega arith))
 
+abbrev pub writer : Places → ℕ → ℕ
+writer w q = (w.writing (w.pair q).buffer).writer
+
+-- The places of pair q's micro-steps: in the writer's loop it asks for the empty semaphore, takes it and signals the full one; in the reader's loop it is the other way round.
+module _ (p : Program) (w : Places) where
+  abbrev pub asks_empty : ℕ → ℕ
+  asks_empty q = begins p (writer w q) (w.pair q).take_empty
+
+  abbrev pub takes_empty_at : ℕ → ℕ
+  takes_empty_at q = asks_empty q + take_place p q
+
+  abbrev pub fills : ℕ → ℕ
+  fills q = begins p (writer w q) (w.pair q).signal_full
+
+  abbrev pub asks_full : ℕ → ℕ
+  asks_full q = begins p (w.pair q).reader (w.pair q).take_full
+
+  abbrev pub takes_full_at : ℕ → ℕ
+  takes_full_at q = asks_full q + take_place p q
+
+  abbrev pub empties : ℕ → ℕ
+  empties q = begins p (w.pair q).reader (w.pair q).signal_empty
+
 module _ (p : Program) (w : Places) (c : Conditions p w) {P : Type 0} (reactions : ℕ) (own : Parts P) where
   abbrev pub W : System P
   W = system_of p c.media reactions own
@@ -153,25 +175,29 @@ module _ (p : Program) (w : Places) (c : Conditions p w) {P : Type 0} (reactions
   front_signal x t i d e k = let f = front_is t i d e in let z : is_signal x (signal (2 * f.0)) ≡ true = ap (is_signal x) f.5 ∙ k in
       (f.0, f.1, f.2, f.3, f.4, eqb-true (2 * f.0) x z)
 
+  -- pair q guards a buffer of d places
+  abbrev pub Guards : ℕ → ℕ → Type 0
+  Guards d q = IsPair W S (2 * q) (2 * q + 1) d (writer w q) (w.pair q).reader (asks_empty p w q) (takes_empty_at p w q) (fills p w q) (asks_full p w q) (takes_full_at p w q) (empties p w q) (w.pair q).front
+
   module _ (q : ℕ) (inside : q < length p.pairs) where
     abbrev one : WF.IsPair p c.order w q
     one = c.holds.pairs q inside
 
-    empty_taken : IsOwned W (is_take (2 * q)) (late (writer_of p c.order w q) (begins p (writer_of p c.order w q) (w.pair q).take_empty + take_place p q))
-    empty_taken = owned_late p c.media reactions own (is_take (2 * q)) (writer_of p c.order w q) (begins p (writer_of p c.order w q) (w.pair q).take_empty + take_place p q) (take_micro p q (2 * q))
-        (at_turn p (writer_of p c.order w q) (w.pair q).take_empty (take_place p q) (Suc0 q) (take_micro p q (2 * q)) one.take_empty.stands (take_stands p q (2 * q))).0 (take_passes p q (2 * q))
+    empty_taken : IsOwned W (is_take (2 * q)) (late (writer w q) (takes_empty_at p w q))
+    empty_taken = owned_late p c.media reactions own (is_take (2 * q)) (writer w q) (takes_empty_at p w q) (take_micro p q (2 * q))
+        (at_turn p (writer w q) (w.pair q).take_empty (take_place p q) (Suc0 q) (take_micro p q (2 * q)) one.take_empty.stands (take_stands p q (2 * q))).0 (take_passes p q (2 * q))
         (stands_sequence p _ _ _ one.take_empty.stands)
         (only_at p (is_take (2 * q)) _ _ (Suc0 q) (take_place p q) one.take_empty (takes_empty p q)) (front_no_take (2 * q))
 
-    full_taken : IsOwned W (is_take (2 * q + 1)) (late (w.pair q).reader (begins p (w.pair q).reader (w.pair q).take_full + take_place p q))
-    full_taken = owned_late p c.media reactions own (is_take (2 * q + 1)) (w.pair q).reader (begins p (w.pair q).reader (w.pair q).take_full + take_place p q) (take_micro p q (2 * q + 1))
+    full_taken : IsOwned W (is_take (2 * q + 1)) (late (w.pair q).reader (takes_full_at p w q))
+    full_taken = owned_late p c.media reactions own (is_take (2 * q + 1)) (w.pair q).reader (takes_full_at p w q) (take_micro p q (2 * q + 1))
         (at_turn p (w.pair q).reader (w.pair q).take_full (take_place p q) (Suc1 q) (take_micro p q (2 * q + 1)) one.take_full.stands (take_stands p q (2 * q + 1))).0 (take_passes p q (2 * q + 1))
         (stands_sequence p _ _ _ one.take_full.stands)
         (only_at p (is_take (2 * q + 1)) _ _ (Suc1 q) (take_place p q) one.take_full (takes_full p q)) (front_no_take (2 * q + 1))
 
     full_signalled : IsOwned W (is_signal (2 * q + 1)) (full_owner p w q)
-    full_signalled = owned_late p c.media reactions own (is_signal (2 * q + 1)) (writer_of p c.order w q) (begins p (writer_of p c.order w q) (w.pair q).signal_full) (signal (2 * q + 1))
-        (at_first p (writer_of p c.order w q) (w.pair q).signal_full (Pre1 q) (signal (2 * q + 1)) one.signal_full.stands refl) (refl_test (2 * q + 1))
+    full_signalled = owned_late p c.media reactions own (is_signal (2 * q + 1)) (writer w q) (fills p w q) (signal (2 * q + 1))
+        (at_first p (writer w q) (w.pair q).signal_full (Pre1 q) (signal (2 * q + 1)) one.signal_full.stands refl) (refl_test (2 * q + 1))
         (stands_sequence p _ _ _ one.signal_full.stands)
         (λ t l d e k. let z = only_at p (is_signal (2 * q + 1)) _ _ (Pre1 q) 0 one.signal_full (signals_full p q) t l d e k in (z.0, let y = z.1 in omega arith))
         (λ t i d e k. let f = front_signal (2 * q + 1) t i d e k in let z = f.5 in omega arith)
@@ -184,24 +210,23 @@ module _ (p : Program) (w : Places) (c : Conditions p w) {P : Type 0} (reactions
         (at_first p (w.pair q).reader (w.pair q).signal_empty (Pre0 q) (signal (2 * q)) one.signal_empty.stands refl) (refl_test (2 * q))
         (stands_sequence p _ _ _ one.signal_empty.stands)
         (λ t l d e k. let z = only_at p (is_signal (2 * q)) _ _ (Pre0 q) 0 one.signal_empty (signals_empty p q) t l d e k in (z.0, let y = z.1 in omega arith))
-        (λ t i d e k. let f = front_signal (2 * q) t i d e k in let z = f.5 in let y : f.0 ≡ q = omega arith in
-        (
-        sym f.2 ∙ ap (λ (n : ℕ). (w.pair n).reader) y,
-        let u = f.3 in let v = ap (λ (n : ℕ). (w.pair n).front) y in omega arith,
-        let u = f.4 in let v = ap (λ (n : ℕ). (w.pair n).front) y in let x = ap (λ (n : ℕ). pair_depth p n) y in omega arith,
+        (λ t i d e k. let f = front_signal (2 * q) t i d e k in let z = f.5 in let y : f.0 ≡ q = omega arith in (
+          sym f.2 ∙ ap (λ (n : ℕ). (w.pair n).reader) y,
+          let u = f.3 in let v = ap (λ (n : ℕ). (w.pair n).front) y in omega arith,
+          let u = f.4 in let v = ap (λ (n : ℕ). (w.pair n).front) y in let x = ap (λ (n : ℕ). pair_depth p n) y in omega arith,
         ))
         (let a = c.guarded.fits q inside in let b = front_length p (w.pair q).reader (signals (w.pair q).reader) in omega arith)
         (λ l a b. hit_one (is_signal (2 * q)) _ (signal (2 * q)) (opening_at l a b) (refl_test (2 * q)))
 
-    pub empty_is : IsSemaphore W S (2 * q) (writer_of p c.order w q) (begins p (writer_of p c.order w q) (w.pair q).take_empty) (begins p (writer_of p c.order w q) (w.pair q).take_empty + take_place p q)
+    pub empty_is : IsSemaphore W S (2 * q) (writer w q) (asks_empty p w q) (takes_empty_at p w q)
     empty_is = record {
       taken = empty_taken;
       signalled = subst (λ (o : Owner). IsOwned W (is_signal (2 * q)) o) (sym (signaller_empty q)) empty_signalled;
       before = omega arith;
-      asked = asks_at p q (writer_of p c.order w q) (w.pair q).take_empty (2 * q) (Suc0 q) one.take_empty.stands refl;
+      asked = asks_at p q (writer w q) (w.pair q).take_empty (2 * q) (Suc0 q) one.take_empty.stands refl;
     }
 
-    pub full_is : IsSemaphore W S (2 * q + 1) (w.pair q).reader (begins p (w.pair q).reader (w.pair q).take_full) (begins p (w.pair q).reader (w.pair q).take_full + take_place p q)
+    pub full_is : IsSemaphore W S (2 * q + 1) (w.pair q).reader (asks_full p w q) (takes_full_at p w q)
     full_is = record {
       taken = full_taken;
       signalled = subst (λ (o : Owner). IsOwned W (is_signal (2 * q + 1)) o) (sym (signaller_full q)) full_signalled;
@@ -210,8 +235,8 @@ module _ (p : Program) (w : Places) (c : Conditions p w) {P : Type 0} (reactions
     }
 
     -- the take's place lies within its instruction
-    pub empty_within : take_place p q < size p (writer_of p c.order w q) (w.pair q).take_empty
-    empty_within = (at_turn p (writer_of p c.order w q) (w.pair q).take_empty (take_place p q) (Suc0 q) (take_micro p q (2 * q)) one.take_empty.stands (take_stands p q (2 * q))).1
+    pub empty_within : take_place p q < size p (writer w q) (w.pair q).take_empty
+    empty_within = (at_turn p (writer w q) (w.pair q).take_empty (take_place p q) (Suc0 q) (take_micro p q (2 * q)) one.take_empty.stands (take_stands p q (2 * q))).1
 
     pub full_within : take_place p q < size p (w.pair q).reader (w.pair q).take_full
     full_within = (at_turn p (w.pair q).reader (w.pair q).take_full (take_place p q) (Suc1 q) (take_micro p q (2 * q + 1)) one.take_full.stands (take_stands p q (2 * q + 1))).1
@@ -219,14 +244,12 @@ module _ (p : Program) (w : Places) (c : Conditions p w) {P : Type 0} (reactions
     in_reader : (w.pair q).take_full < (w.pair q).signal_empty
     in_reader = let r = c.guarded.some_read q inside in let u = one.reads r.0 r.1 r.2 r.3 r.4 in let a = u.0 in let b = u.1 in omega arith
 
-    pub pair_is : IsPair W S (2 * q) (2 * q + 1) (pair_depth p q) (writer_of p c.order w q) (w.pair q).reader
-        (begins p (writer_of p c.order w q) (w.pair q).take_empty) (begins p (writer_of p c.order w q) (w.pair q).take_empty + take_place p q) (begins p (writer_of p c.order w q) (w.pair q).signal_full)
-        (begins p (w.pair q).reader (w.pair q).take_full) (begins p (w.pair q).reader (w.pair q).take_full + take_place p q) (begins p (w.pair q).reader (w.pair q).signal_empty) (w.pair q).front
+    pub pair_is : Guards (pair_depth p q) q
     pair_is = record {
       empty_is = empty_is;
       full_is = full_is;
       empty_by = signaller_empty q;
       full_by = signaller_full q;
-      in_writer = let a = one.before_write in let b = one.after_write in let z = earlier p (writer_of p c.order w q) (w.pair q).take_empty (w.pair q).signal_full (take_place p q) 0 (omega arith) empty_within in omega arith;
+      in_writer = let a = one.before_write in let b = one.after_write in let z = earlier p (writer w q) (w.pair q).take_empty (w.pair q).signal_full (take_place p q) 0 (omega arith) empty_within in omega arith;
       in_reader = let z = earlier p (w.pair q).reader (w.pair q).take_full (w.pair q).signal_empty (take_place p q) 0 in_reader full_within in omega arith;
     }

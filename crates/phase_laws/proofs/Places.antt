@@ -1,10 +1,9 @@
 -- A place in a sequence's micro-steps is a place in its instructions; what is owned at one place.
-use Rattle.std.proofs.Common.{◌≡◌, ℕ, zero, suc, ◌+◌, ◌*◌, ◌<◌, ◌≤◌, ◌⊎◌, Bool, true, false, List, [], ◌∷◌, length, map, Option, Some, None, refl, sym, ap, inl, inr, arith, ◌∙◌}
-use Rattle.std.specs.Prelude.{slice_get}
+use Rattle.std.proofs.Common.{◌≡◌, ℕ, zero, suc, ◌+◌, ◌*◌, ◌<◌, ◌≤◌, ◌⊎◌, Bool, true, false, List, [], ◌∷◌, length, Option, Some, None, refl, sym, ap, inl, inr, arith, ◌∙◌}
+use Rattle.std.specs.Prelude.{slice_get, take}
+use Rattle.std.specs.List.{count_by}
 use Rattle.std.proofs.lemmas.Option.{same_Some, slice_get_within}
 use Rattle.std.proofs.lemmas.Bool.{cases_lt, cases_Bool, lt-ltb, le-ltb}
-use Rattle.std.specs.Prelude.{take}
-use Rattle.std.specs.List.{count_by}
 use Rattle.consistent_cuts.specs.Sites.{step_at, place_at, hit}
 use Rattle.interleavings.specs.System.{System, Micro, signal}
 use Rattle.interleavings.specs.Owners.{Owner, IsOwned, sum_below}
@@ -16,8 +15,8 @@ use Rattle.semaphore_core.specs.declared.program.SeqCode.{SeqCode}
 use Rattle.semaphore_core.specs.Instructions.{is_communication, turn, turn_of, prologue, prologue_of, medium, number_or, communications}
 use Rattle.semaphore_core.specs.MicroSteps.{micros_of, micros_in, block, front_block, code, size, begins}
 use Rattle.semaphore_core.specs.WellFormed.{Stands}
-use Rattle.phase_laws.proofs.Setting.{Parts, system_of}
 use Rattle.phase_laws.proofs.Blocks.{sum_inside, blocks_at, blocks_length, InBlock, in_block}
+use Rattle.phase_laws.proofs.Setting.{Parts, system_of}
 use Rattle.phase_laws.proofs.From.{From, from}
 
 pub hit_zero : (test : Micro → Bool) (o : Option Micro) → ((c : Micro) → o ≡ Some c → test c ≡ true → ⊥) → hit test o ≡ 0

@@ -1,17 +1,15 @@
 -- Well-formed programs are synchronized and ordered.
 use Rattle.std.specs.Prelude.{ℕ, List}
-use Rattle.interleavings.specs.Order.{IsOrdered}
-use Rattle.interleavings.specs.Synchronized.{IsSynchronized}
 use Rattle.archi_graph.specs.declared.medium.Seq.{Seq}
-use Rattle.semaphore_core.specs.Job.{JobData, reactions, system}
+use Rattle.semaphore_core.specs.Registers.{Own}
 use Rattle.semaphore_core.specs.Places.{places, carried}
 use Rattle.semaphore_core.specs.WellFormed.{IsOrder}
-use Rattle.semaphore_core.specs.Registers.{Own}
+use Rattle.semaphore_core.specs.Job.{JobData, reactions, system}
 use Rattle.phase_laws.specs.Discipline.{ProgramsAreDisciplined}
-use Rattle.phase_laws.proofs.Setting.{Parts, Conditions}
 use Rattle.phase_laws.proofs.Readers.{conditions}
 use Rattle.phase_laws.proofs.Synchronized.{is_synchronized}
 use Rattle.phase_laws.proofs.Order.{is_ordered}
+use Rattle.phase_laws.proofs.Setting.{Parts, Conditions}
 
 -- what the sequences of a job have of their own
 abbrev pub parts_of : JobData → Parts Own

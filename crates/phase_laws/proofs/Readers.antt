@@ -1,5 +1,5 @@
 -- The pairs that are computed from a well-formed program guard its buffers.
-use Rattle.std.proofs.Common.{◌≡◌, ℕ, zero, suc, ◌+◌, ◌-◌, ◌<◌, ◌≤◌, ◌⊎◌, Bool, true, false, ◌&&◌, ◌||◌, not, cond, nat_eq, List, [], ◌∷◌, ◌++◌, map, length, Option, Some, None, refl, sym, ap, subst, inl, inr, arith, ◌∙◌, eq-eqb, ne_eqb}
+use Rattle.std.proofs.Common.{◌≡◌, ℕ, zero, suc, ◌+◌, ◌-◌, ◌<◌, ◌≤◌, ◌⊎◌, Bool, true, false, ◌||◌, not, cond, nat_eq, List, [], ◌∷◌, length, Option, Some, None, refl, sym, ap, subst, inl, inr, arith, ◌∙◌, eq-eqb, ne_eqb}
 use Rattle.std.specs.Prelude.{slice_get}
 use Rattle.std.specs.List.{list_any}
 use Rattle.std.specs.Cmp.Derive.{both_true}
@@ -14,13 +14,13 @@ use Rattle.semaphore_core.specs.declared.program.Instr.{Instr}
 use Rattle.semaphore_core.specs.declared.program.Instr.TheVariants.{Pre0, Call, Send, Recv}
 use Rattle.semaphore_core.specs.declared.program.SeqCode.{SeqCode}
 use Rattle.semaphore_core.specs.declared.program.Program.{Program}
-use Rattle.semaphore_core.specs.Blocks.{blocks, repeated}
+use Rattle.semaphore_core.specs.Blocks.{repeated}
 use Rattle.semaphore_core.specs.Instructions.{reads, writes, turn, turn_of, prologue, prologue_of, Reader, waits_for, readers_from, readers, depth_of, depth_at, pair_depth}
 use Rattle.semaphore_core.specs.Places.{places, pair, reader, reader_or, writing, opening_signals, signals_of, opening_of}
 use Rattle.semaphore_core.specs.WellFormed.{Stands, WritesAt, ReadsAt, IsBuffer, IsOrderBy, operator_of}
-use Rattle.phase_laws.proofs.Blocks.{blocks_at, blocks_length, InBlock, in_block, sum_inside, sum_rises}
-use Rattle.phase_laws.proofs.Setting.{AreGuarded, Conditions}
+use Rattle.phase_laws.proofs.Blocks.{blocks_at, blocks_length, InBlock, in_block, sum_rises}
 use Rattle.phase_laws.proofs.Places.{slice_get_some, stands_sequence}
+use Rattle.phase_laws.proofs.Setting.{AreGuarded, Conditions}
 
 -- some element of a list passes the test, or none does
 or_right : (a b : Bool) → b ≡ true → (a || b) ≡ true
@@ -272,7 +272,7 @@ module _ (p : Program) (order : List ℕ) (carried : ℕ → Source) (g : Graph)
         same,
         let z = front_is in let i = b.is in omega arith,
         let z = front_is in let i = b.is in let n = b.inner in let m = signals_length s b.block in let d = own_signals b.block in let y = same_depth b.block low in
-        let u = ap (λ (t : ℕ). opening_signals p t b.block) same in omega arith,
+            let u = ap (λ (t : ℕ). opening_signals p t b.block) same in omega arith,
         from_repeated (Pre0 b.block) (opening_signals p s b.block) b.at x b.stands,
       )
         where

@@ -11,7 +11,7 @@ use Rattle.semaphore_core.specs.declared.program.Program.{Program}
 use Rattle.semaphore_core.specs.Instructions.{is_communication, medium_in, turn_of, operator, turn}
 use Rattle.semaphore_core.specs.MicroSteps.{sent_in, sent_by, sent, is_on, first_of, transfers}
 use Rattle.semaphore_core.specs.Places.{Places}
-use Rattle.phase_laws.proofs.Setting.{Parts, Conditions, system_of}
+use Rattle.phase_laws.proofs.Setting.{Parts, Conditions}
 use Rattle.phase_laws.proofs.Counting.{count_cons}
 use Rattle.phase_laws.proofs.Media.{Who, sends_it, receives_it, waits_for_it, who}
 

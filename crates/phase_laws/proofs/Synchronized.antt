@@ -1,26 +1,26 @@
 -- A well-formed program is synchronized.
-use Rattle.std.proofs.Common.{◌≡◌, ℕ, ◌+◌, ◌*◌, ◌<◌, ◌≤◌, ◌⊎◌, List, length, Some, refl, sym, subst, inl, inr, ⊎_elim, arith, ◌∙◌}
+use Rattle.std.proofs.Common.{◌≡◌, ℕ, ◌+◌, ◌*◌, ◌<◌, ◌≤◌, ◌⊎◌, length, Some, refl, sym, subst, inl, inr, ⊎_elim, arith, ◌∙◌}
 use Rattle.std.specs.Prelude.{slice_get}
 use Rattle.std.proofs.lemmas.Bool.{cases_lt, lt-ltb, le-ltb}
 use Rattle.consistent_cuts.specs.Sites.{step_at, place_at}
 use Rattle.interleavings.specs.System.{System, Micro, take as taken, see, signal, load, store}
 use Rattle.interleavings.specs.Owners.{Owner}
 use Rattle.interleavings.specs.Media.{Half}
-use Rattle.interleavings.specs.Pairs.{IsSemaphore, IsPair}
+use Rattle.interleavings.specs.Pairs.{IsSemaphore}
 use Rattle.interleavings.specs.Order.{IsJoined}
 use Rattle.interleavings.specs.Synchronized as V
 use Rattle.semaphore_core.specs.declared.program.Instr.{Instr}
 use Rattle.semaphore_core.specs.declared.program.Instr.TheVariants.{Suc0, Suc1, Pre0, Pre1}
 use Rattle.semaphore_core.specs.declared.program.Program.{Program}
+use Rattle.semaphore_core.specs.Instructions.{pair_depth}
 use Rattle.semaphore_core.specs.MicroSteps.{code, begins}
 use Rattle.semaphore_core.specs.Places.{Places}
-use Rattle.semaphore_core.specs.WellFormed.{Stands, writer_of}
-use Rattle.phase_laws.proofs.Setting.{Parts, Conditions, system_of}
+use Rattle.semaphore_core.specs.WellFormed.{Stands}
 use Rattle.phase_laws.specs.Discipline.{signaller, half}
-use Rattle.phase_laws.proofs.From.{Takes, Signals}
-use Rattle.semaphore_core.specs.Instructions.{pair_depth}
 use Rattle.phase_laws.proofs.Places.{Origin, origin}
-use Rattle.phase_laws.proofs.Pairs.{same_place, front_is, take_place, empty_is, full_is, pair_is}
+use Rattle.phase_laws.proofs.Setting.{Parts, Conditions, system_of}
+use Rattle.phase_laws.proofs.From.{Takes, Signals}
+use Rattle.phase_laws.proofs.Pairs.{same_place, front_is, writer, asks_empty, takes_empty_at, fills, asks_full, takes_full_at, empties, Guards, empty_is, full_is, pair_is}
 use Rattle.phase_laws.proofs.Buffers.{buffer_load, buffer_store}
 use Rattle.phase_laws.proofs.Wires.{own_wait, sync_wait, to_wire, from_wire}
 
@@ -43,20 +43,20 @@ module _ (p : Program) (w : Places) (c : Conditions p w) {P : Type 0} (reactions
       let first = same_place p s _ a _ 0 0 l at o.0 o.1 refl in (
         k,
         (
-          begins p (writer_of p c.order w q) (w.pair q).take_empty + take_place p q,
-          subst (λ (z : ℕ). IsSemaphore W S z s l (begins p (writer_of p c.order w q) (w.pair q).take_empty + take_place p q)) (sym u.1)
-              (subst (λ (z : ℕ). IsSemaphore W S (2 * q) z l (begins p (writer_of p c.order w q) (w.pair q).take_empty + take_place p q)) (sym o.0)
-              (subst (λ (z : ℕ). IsSemaphore W S (2 * q) (writer_of p c.order w q) z (begins p (writer_of p c.order w q) (w.pair q).take_empty + take_place p q)) (let e : begins p (writer_of p c.order w q) (w.pair q).take_empty ≡ l = omega arith in e) (empty_is p w c reactions own q k))),
+          takes_empty_at p w q,
+          subst (λ (z : ℕ). IsSemaphore W S z s l (takes_empty_at p w q)) (sym u.1)
+              (subst (λ (z : ℕ). IsSemaphore W S (2 * q) z l (takes_empty_at p w q)) (sym o.0)
+              (subst (λ (z : ℕ). IsSemaphore W S (2 * q) (writer w q) z (takes_empty_at p w q)) (let e : asks_empty p w q ≡ l = omega arith in e) (empty_is p w c reactions own q k))),
         ),
       )
   asked s l x a q y st at (inr u) = let here = subst (λ (z : Instr). Stands p s a z) u.0 st in let k = c.holds.named s a (Suc1 q) here in let o = (c.holds.pairs q k).take_full.only s a here in
       let first = same_place p s _ a _ 0 0 l at o.0 o.1 refl in (
         k,
         (
-          begins p (w.pair q).reader (w.pair q).take_full + take_place p q,
-          subst (λ (z : ℕ). IsSemaphore W S z s l (begins p (w.pair q).reader (w.pair q).take_full + take_place p q)) (sym u.1)
-              (subst (λ (z : ℕ). IsSemaphore W S (2 * q + 1) z l (begins p (w.pair q).reader (w.pair q).take_full + take_place p q)) (sym o.0)
-              (subst (λ (z : ℕ). IsSemaphore W S (2 * q + 1) (w.pair q).reader z (begins p (w.pair q).reader (w.pair q).take_full + take_place p q)) (let e : begins p (w.pair q).reader (w.pair q).take_full ≡ l = omega arith in e) (full_is p w c reactions own q k))),
+          takes_full_at p w q,
+          subst (λ (z : ℕ). IsSemaphore W S z s l (takes_full_at p w q)) (sym u.1)
+              (subst (λ (z : ℕ). IsSemaphore W S (2 * q + 1) z l (takes_full_at p w q)) (sym o.0)
+              (subst (λ (z : ℕ). IsSemaphore W S (2 * q + 1) (w.pair q).reader z (takes_full_at p w q)) (let e : asks_full p w q ≡ l = omega arith in e) (full_is p w c reactions own q k))),
         ),
       )
 
@@ -76,18 +76,16 @@ module _ (p : Program) (w : Places) (c : Conditions p w) {P : Type 0} (reactions
       by q i d k = record {
         empty = 2 * q;
         filled = 2 * q + 1;
-        writer = writer_of p c.order w q;
+        writer = writer w q;
         reader = (w.pair q).reader;
-        wa = begins p (writer_of p c.order w q) (w.pair q).take_empty;
-        wt = begins p (writer_of p c.order w q) (w.pair q).take_empty + take_place p q;
-        ws = begins p (writer_of p c.order w q) (w.pair q).signal_full;
-        ra = begins p (w.pair q).reader (w.pair q).take_full;
-        rt = begins p (w.pair q).reader (w.pair q).take_full + take_place p q;
-        rs = begins p (w.pair q).reader (w.pair q).signal_empty;
+        wa = asks_empty p w q;
+        wt = takes_empty_at p w q;
+        ws = fills p w q;
+        ra = asks_full p w q;
+        rt = takes_full_at p w q;
+        rs = empties p w q;
         first = (w.pair q).front;
-        pair = subst (λ (n : ℕ). IsPair W S (2 * q) (2 * q + 1) n (writer_of p c.order w q) (w.pair q).reader
-            (begins p (writer_of p c.order w q) (w.pair q).take_empty) (begins p (writer_of p c.order w q) (w.pair q).take_empty + take_place p q) (begins p (writer_of p c.order w q) (w.pair q).signal_full)
-            (begins p (w.pair q).reader (w.pair q).take_full) (begins p (w.pair q).reader (w.pair q).take_full + take_place p q) (begins p (w.pair q).reader (w.pair q).signal_empty) (w.pair q).front)
+        pair = subst (λ (n : ℕ). Guards p w c reactions own n q)
             d (pair_is p w c reactions own q i);
         is_one = k;
       }

@@ -1,7 +1,9 @@
 -- Waits of a well-formed program, and the elements of its wires.
 use Rattle.std.proofs.Common.{◌≡◌, ℕ, zero, suc, ◌+◌, ◌-◌, ◌*◌, ◌<◌, ◌≤◌, ◌⊎◌, Bool, true, false, cond, nat_lt, eqb, List, [], ◌∷◌, length, Some, refl, sym, ap, subst, inl, inr, ⊎_elim, arith, ◌∙◌}
 use Rattle.std.specs.Prelude.{slice_get}
-use Rattle.std.proofs.lemmas.Bool.{eqb-true, eq-eqb, cases_eq, lt-ltb, le-ltb, cases_lt, and_parts, and_from}
+use Rattle.std.proofs.lemmas.Bool.{eqb-true, eq-eqb, lt-ltb, le-ltb, cases_lt, and_parts, and_from}
+use Rattle.std.proofs.lemmas.Option.{same_Some}
+use Rattle.std.proofs.Math.Nat.{le-max_left, le-max_right}
 use Rattle.consistent_cuts.specs.Sites.{step_at, place_at}
 use Rattle.interleavings.specs.System.{System, Micro, take as taken, see, sub, signal, await, advance, load, store, stores}
 use Rattle.interleavings.specs.Owners.{Owner, IsOwned, sum_below}
@@ -11,25 +13,23 @@ use Rattle.interleavings.specs.Synchronized as V
 use Rattle.semaphore_core.specs.declared.program.Instr.{Instr}
 use Rattle.semaphore_core.specs.declared.program.Instr.TheVariants.{Send, Recv, Sync}
 use Rattle.semaphore_core.specs.declared.program.Program.{Program}
+use Rattle.semaphore_core.specs.declared.program.SeqCode.{SeqCode}
 use Rattle.semaphore_core.specs.Blocks.{block_at}
 use Rattle.semaphore_core.specs.Instructions.{is_communication, communications, len_of, operator, depth_of, medium_in, turn_of, turn}
 use Rattle.semaphore_core.specs.MicroSteps.{code, begins, transfers, wire_of, buffer_elements, uses, access, longest_sent, longest_in, longest_on, sent_len, is_on, wire_len, transfer_len, len_sent}
 use Rattle.semaphore_core.specs.Places.{Places}
 use Rattle.semaphore_core.specs.WellFormed.{Stands, Communicates}
-use Rattle.phase_laws.proofs.Setting.{Parts, Conditions, system_of}
 use Rattle.semaphore_core.specs.Job.{buffer_at, wire_at, number_at}
-use Rattle.semaphore_core.specs.declared.program.SeqCode.{SeqCode}
-use Rattle.std.proofs.lemmas.Option.{same_Some}
-use Rattle.std.proofs.Math.Nat.{le-max_left, le-max_right}
 use Rattle.phase_laws.specs.Discipline.{signaller, half}
 use Rattle.phase_laws.proofs.Blocks.{sum_same_block, sum_inside, sum_rises, block_at_is, inside}
-use Rattle.phase_laws.proofs.From.{IsHalf, sending, receiving, LoadsWire, StoresBuffer, StoresWire, wire_store_stands}
 use Rattle.phase_laws.proofs.Places.{stands_sequence, at_turn, Origin, origin, FromAt, owned_late}
+use Rattle.phase_laws.proofs.Setting.{Parts, Conditions, system_of}
+use Rattle.phase_laws.proofs.Counting.{covered}
+use Rattle.phase_laws.proofs.From.{IsHalf, sending, receiving, LoadsWire, StoresBuffer, StoresWire, wire_store_stands}
 use Rattle.phase_laws.proofs.Pairs.{same_place, front_is}
 use Rattle.phase_laws.proofs.Buffers.{MediumAt, element_low, front_no_store}
-use Rattle.phase_laws.proofs.Counting.{covered}
-use Rattle.phase_laws.proofs.Sent.{found}
 use Rattle.phase_laws.proofs.Media.{receiver_half, half_even, half_odd, Part, part, Who, sends_it, receives_it, waits_for_it, who, in_send, medium_is}
+use Rattle.phase_laws.proofs.Sent.{found}
 
 module _ (p : Program) where
   stores_access_from : (y i t a r : ℕ) (x : Instr) (d : Micro) → stores_access y i d ≡ true → FromAt p t a x r d

@@ -1,6 +1,6 @@
 -- What every job has: buffers of one place, prologues of signals, few micro-steps, and lengths that fit.
-use Rattle.std.proofs.Common.{◌≡◌, ℕ, zero, suc, ◌+◌, ◌-◌, ◌^◌, ◌<◌, ◌≤◌, ◌⊎◌, inl, inr, Bool, true, false, cond, List, [], ◌∷◌, map, length, max, min, Option, Some, None, refl, sym, ap, subst, arith, ◌∙◌}
-use Rattle.std.specs.Prelude.{slice_get, slice_index_or, replicate}
+use Rattle.std.proofs.Common.{◌≡◌, ℕ, ◌-◌, ◌^◌, ◌<◌, ◌≤◌, ◌⊎◌, inl, inr, true, List, map, length, min, Option, Some, None, refl, sym, ap, subst, arith, ◌∙◌}
+use Rattle.std.specs.Prelude.{slice_get, slice_index_or}
 use Rattle.std.proofs.lemmas.Bool.{cases_lt, lt-ltb, le-ltb}
 use Rattle.std.proofs.lemmas.List.{length-map, length-replicate}
 use Rattle.std.proofs.lemmas.Option.{slice_get_past, slice_get_within, none-some}
@@ -8,32 +8,27 @@ use Rattle.syn_base.specs.declared.limits.LimitKind.{LimitKind}
 use Rattle.syn_base.specs.declared.limits.LimitKind.TheVariants.{Output, Total}
 use Rattle.syn_base.specs.declared.limits.LimitFault.{LimitFault}
 use Rattle.syn_base.specs.Limits.{bound_of}
-use Rattle.level_meaning.specs.Level.{Values, Vector, vector_at, zeros}
-use Rattle.flat_graph.specs.Graph.{Graph, lens_of}
+use Rattle.level_meaning.specs.Level.{Values, vector_at, zeros}
+use Rattle.flat_graph.specs.Graph.{lens_of}
 use Rattle.flat_graph.specs.declared.vertex.Vertex.{Vertex}
 use Rattle.flat_graph.specs.declared.vertex.Kind.{Kind}
-use Rattle.flat_graph.specs.declared.vertex.Kind.TheVariants.{Sensor, Actuator}
+use Rattle.flat_graph.specs.declared.vertex.Kind.TheVariants.{Sensor}
 use Rattle.flat_graph.specs.Valid.{is_flat}
 use Rattle.flat_graph.specs.Fire.{cell_len, seen_len, kind_cell_len, kind_seen_len}
 use Rattle.flat_graph.specs.Meaning.{initial_cells}
 use Rattle.flat_graph.proofs.KindLens.{length-vector_at}
-use Rattle.archi_graph.specs.Archi.{Architecture}
-use Rattle.archi_graph.specs.Sequences.{sequences}
-use Rattle.semaphore_core.specs.declared.program.Buffer.{Buffer}
 use Rattle.semaphore_core.specs.declared.program.SeqCode.{SeqCode}
 use Rattle.semaphore_core.specs.declared.program.Instr.{Instr}
-use Rattle.semaphore_core.specs.declared.program.Program.{Program}
 use Rattle.semaphore_core.specs.declared.steps.MicroStep.{MicroStep}
 use Rattle.semaphore_core.specs.Instructions.{depth_of, depth_in, number_or, prologue_of}
 use Rattle.semaphore_core.specs.Places.{opening_of}
 use Rattle.semaphore_core.specs.Steps.{IsSingle, steps, steps_by, steps_in_list}
-use Rattle.semaphore_core.specs.WellFormed.{IsWellFormed}
 use Rattle.semaphore_core.specs.Operation.{delay_of}
 use Rattle.semaphore_core.specs.AtOpening.{AreDesks}
 use Rattle.semaphore_core.specs.Job.{JobData, reactions, zero_rows, output_elements, total_steps, actuator_lens}
-use Rattle.semaphore_core.specs.IsJob.{IsJob, above, limit_of}
+use Rattle.semaphore_core.specs.IsJob.{IsJob, above}
 use Rattle.semaphore_core.specs.Held.{Kept, AreReady, NeedsReaction}
-use Rattle.semaphore_core.proofs.Numbered.{actuator_at, sensor_at, HasLen, delay_cell, no_delay}
+use Rattle.semaphore_core.proofs.Numbered.{actuator_at, sensor_at, delay_cell, no_delay}
 use Rattle.semaphore_core.proofs.Prologues.{opening_bare}
 
 above_none : (which : LimitKind) (count : ℕ) (next : Option LimitFault) → above which count next ≡ None → (count ≤ bound_of which) × (next ≡ None)

@@ -1,19 +1,17 @@
 -- The cell of a delay, the row of an actuator and the vector of a sensor stand at the number of the operation, and have its length.
-use Rattle.std.proofs.Common.{◌≡◌, ℕ, zero, suc, ◌+◌, ◌<◌, Bool, true, false, ◌&&◌, ◌==◌, List, [], ◌∷◌, ◌++◌, map, length, Option, Some, None, refl, sym, ap, subst, arith, ◌∙◌, ℤ, zero-add, add-one}
+use Rattle.std.proofs.Common.{◌≡◌, ℕ, zero, suc, ◌+◌, ◌<◌, true, false, ◌==◌, List, [], ◌∷◌, ◌++◌, map, length, Option, Some, None, refl, sym, ap, subst, arith, ◌∙◌, ℤ, zero-add, add-one}
 use Rattle.std.specs.Prelude.{slice_get, slice_index_or, nat_lt, if◌then◌else◌}
 use Rattle.std.proofs.lemmas.Bool.{and_parts, eqb-true, false≢true}
-use Rattle.std.proofs.lemmas.List.{length-map}
-use Rattle.level_meaning.specs.Level.{Values, Vector, vector_at}
 use Rattle.flat_graph.specs.declared.vertex.Kind.{Kind}
 use Rattle.flat_graph.specs.declared.vertex.Kind.TheVariants.{Sensor, Actuator, Function, Constant, Get, Set, Explode, Implode, Merge}
 use Rattle.flat_graph.specs.declared.vertex.Vertex.{Vertex}
 use Rattle.flat_graph.specs.Graph.{Graph, with_vertex, lens_of}
 use Rattle.flat_graph.specs.Order.{is_acyclic}
-use Rattle.flat_graph.specs.Valid.{is_flat, is_vertex, fits, names, is_only, has_twin, has_set_half, has_get_half, is_set_half_of, is_set_half_by, is_get_half_of, is_get_half_by, sensors_from, actuators_from, kinds_of}
+use Rattle.flat_graph.specs.Valid.{is_flat, fits, names, is_only, has_twin, has_set_half, has_get_half, is_set_half_of, is_set_half_by, is_get_half_of, is_get_half_by, sensors_from, actuators_from, kinds_of}
 use Rattle.flat_graph.specs.Meaning.{is_get, delay_number, initial_cell, initial_cells}
-use Rattle.flat_graph.specs.Fire.{cell_len, kind_cell_len}
+use Rattle.flat_graph.specs.Fire.{kind_cell_len}
 use Rattle.flat_graph.proofs.Facts.{vertex_valid, fits_of, twin_of, sensors_numbered}
-use Rattle.flat_graph.proofs.KindLens.{length-vector_at, one_is, only_is}
+use Rattle.flat_graph.proofs.KindLens.{one_is, only_is}
 use Rattle.semaphore_core.specs.Operation.{delay_by, delay_of}
 use Rattle.semaphore_core.specs.Job.{actuator_len, actuator_lens}
 use Rattle.flat_graph.specs.Laws.{sensor_len, sensor_lens}

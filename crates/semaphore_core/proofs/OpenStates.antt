@@ -1,10 +1,10 @@
 -- The state before any step is open for its job.
-use Rattle.std.proofs.Common.{◌≡◌, ℕ, zero, suc, ◌+◌, ◌*◌, ◌<◌, ◌≤◌, ◌⊎◌, inl, inr, ◌++◌, List, [], ◌∷◌, map, take, length, max, Option, Some, None, refl, sym, ap, subst, arith, ◌∙◌, ℤ, length-append, get_or}
-use Rattle.std.specs.Prelude.{slice_get, slice_index_or, replicate, drop, sum}
+use Rattle.std.proofs.Common.{◌≡◌, ℕ, zero, suc, ◌*◌, ◌<◌, ◌≤◌, ◌⊎◌, inl, inr, List, [], ◌∷◌, map, length, Option, Some, None, refl, sym, ap, subst, arith, ◌∙◌}
+use Rattle.std.specs.Prelude.{slice_get, slice_index_or, replicate}
 use Rattle.std.specs.Option.{option_map}
 use Rattle.std.proofs.lemmas.Bool.{cases_lt}
 use Rattle.std.proofs.lemmas.List.{length-map, length-replicate, get_or-replicate, get_or_past}
-use Rattle.std.proofs.lemmas.Option.{slice_get-map, slice_get_within, get_or_from_slice_get}
+use Rattle.std.proofs.lemmas.Option.{slice_get-map, get_or_from_slice_get}
 use Rattle.flat_graph.specs.Graph.{Graph}
 use Rattle.semaphore_core.specs.declared.program.Program.{Program}
 use Rattle.semaphore_core.specs.declared.program.SeqCode.{SeqCode}
@@ -14,12 +14,12 @@ use Rattle.semaphore_core.specs.Expanded.{expanded, AreSteps}
 use Rattle.semaphore_core.specs.Steps.{IsSingle, steps, steps_by}
 use Rattle.semaphore_core.specs.RegisterFile.{RegisterFile}
 use Rattle.semaphore_core.specs.Desk.{DeskLens}
-use Rattle.semaphore_core.specs.Job.{JobData, reactions}
+use Rattle.semaphore_core.specs.Job.{JobData}
 use Rattle.semaphore_core.specs.IsJob.{IsJob}
-use Rattle.semaphore_core.specs.Core.{Core, opening, count, full}
-use Rattle.semaphore_core.specs.Held.{Held, Kept, IsOpened, AreReady, Fits, top, highest, made, kept_of}
-use Rattle.semaphore_core.specs.AtOpening.{room_of, empty_files}
-use Rattle.semaphore_core.proofs.Viewing.{held_of, values_of, rooms_of}
+use Rattle.semaphore_core.specs.Core.{Core, opening}
+use Rattle.semaphore_core.specs.Held.{Held, IsOpened, AreReady, Fits, highest}
+use Rattle.semaphore_core.specs.AtOpening.{room_of, all_registers}
+use Rattle.semaphore_core.proofs.Viewing.{values_of, rooms_of}
 use Rattle.semaphore_core.proofs.Jobs.{single, few_steps, prologue_bare}
 
 zero_at : (n i : ℕ) → ◌≡◌ {A = ℕ} (slice_index_or (replicate n 0) i 0) 0
@@ -78,15 +78,15 @@ module _ (j : JobData) (code : List SeqSteps) (are : AreSteps j.program code) wh
   }
 
 -- no register is in use, and there is the room that the micro-steps need
-values_empty : (g : Graph) (code : List SeqSteps) → values_of (empty_files g code) ≡ replicate (length code) []
+values_empty : (g : Graph) (code : List SeqSteps) → values_of (all_registers g code) ≡ replicate (length code) []
 values_empty g [] = refl
 values_empty g (q ∷ code) = λ i. [] ∷ values_empty g code i
 
-rooms_empty : (g : Graph) (code : List SeqSteps) → rooms_of (empty_files g code) ≡ map (room_of g) code
+rooms_empty : (g : Graph) (code : List SeqSteps) → rooms_of (all_registers g code) ≡ map (room_of g) code
 rooms_empty g [] = refl
 rooms_empty g (q ∷ code) = λ i. room_of g q ∷ rooms_empty g code i
 
-module _ (j : JobData) (p : Program) (same : p ≡ j.program) (code : List SeqSteps) (are : AreSteps p code) (regs : List RegisterFile) (empty : regs ≡ empty_files j.graph code) where
+module _ (j : JobData) (p : Program) (same : p ≡ j.program) (code : List SeqSteps) (are : AreSteps p code) (regs : List RegisterFile) (empty : regs ≡ all_registers j.graph code) where
   pub steps_of_job : AreSteps j.program code
   steps_of_job = subst (λ (q : Program). AreSteps q code) same are
 

@@ -1,5 +1,5 @@
 -- A prologue that signals alone has signals alone as its micro-steps.
-use Rattle.std.proofs.Common.{◌≡◌, ℕ, zero, suc, List, [], ◌∷◌, ◌++◌, length, Option, Some, None, refl, sym, ap, subst, ◌∙◌}
+use Rattle.std.proofs.Common.{◌≡◌, ℕ, zero, suc, List, [], ◌∷◌, ◌++◌, length, Option, Some, None, refl, subst}
 use Rattle.std.specs.Prelude.{slice_get, take as take_list}
 use Rattle.std.specs.List.{count_by}
 use Rattle.semaphore_core.specs.declared.program.Instr.{Instr}

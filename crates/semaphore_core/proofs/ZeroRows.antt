@@ -1,5 +1,5 @@
 -- Rows of zeros.
-use Rattle.std.proofs.Common.{◌≡◌, ℕ, ◌+◌, ◌-◌, ◌≤◌, List, [], ◌∷◌, ◌++◌, map, length, take, drop, refl, sym, ap, arith, ◌∙◌, ℤ}
+use Rattle.std.proofs.Common.{◌≡◌, ℕ, ◌+◌, ◌-◌, ◌≤◌, List, [], ◌∷◌, ◌++◌, map, length, refl, sym, ap, arith, ◌∙◌, ℤ}
 use Rattle.std.specs.Prelude.{replicate, sum, pos}
 use Rattle.std.proofs.lemmas.List.{take-replicate, drop-replicate, replicate_more, length-replicate}
 use Rattle.syn_base.specs.Rows.{cut}

@@ -12,12 +12,13 @@ pub record AreDesks (g : Graph) (n : ℕ) (desks : List DeskLens) : Type 0 where
   pub there : length desks ≡ n
   pub each : (v : ℕ) (x : Vertex) (d : DeskLens) → slice_get g.vertices v ≡ Some x → slice_get desks v ≡ Some d → IsDesk g v x d
 
--- no register is in use, and there is one more than the highest number that the sequence uses
+-- numbers begin at 0, so that there is one register more than the highest number that the sequence uses
 abbrev pub room_of : Graph → SeqSteps → ℕ
 room_of g q = max (highest g q.prologue) (highest g q.turn) + 1
 
-abbrev pub empty_file : Graph → SeqSteps → RegisterFile
-empty_file g q = record { values = []; room = room_of g q }
+-- no register is in use
+abbrev pub empty_registers : Graph → SeqSteps → RegisterFile
+empty_registers g q = record { values = []; room = room_of g q }
 
-abbrev pub empty_files : Graph → List SeqSteps → List RegisterFile
-empty_files g list = map (empty_file g) list
+abbrev pub all_registers : Graph → List SeqSteps → List RegisterFile
+all_registers g list = map (empty_registers g) list

@@ -2,7 +2,7 @@
 ghost use Rattle.std.specs.Prelude.{◌≡◌, ◌+◌, ◌<◌, ◌≤◌, length, map, max, sum, take, IfOk};
 ghost use Rattle.flat_graph.specs.Fire.{out_lens};
 ghost use Rattle.semaphore_core.specs.Held.{outputs_len, top_load, top_store, top, highest};
-ghost use Rattle.semaphore_core.specs.AtOpening.{empty_file, empty_files};
+ghost use Rattle.semaphore_core.specs.AtOpening.{empty_registers, all_registers};
 
 use crate::expand::SeqSteps;
 use crate::registers::Registers;
@@ -93,8 +93,8 @@ pub fn addressable(number: u128) -> Result<usize, OutOfMemory>
 }
 
 /// Room for the registers of a sequence, of which none is in use.
-fn empty_file(alloc: Global, flat: &Flat, steps: &SeqSteps) -> Result<Registers, OutOfMemory>
-    ensures { IfOk result (λ r. r ≡ empty_file flat.now steps.now) }
+fn empty_registers(alloc: Global, flat: &Flat, steps: &SeqSteps) -> Result<Registers, OutOfMemory>
+    ensures { IfOk result (λ r. r ≡ empty_registers flat.now steps.now) }
 {
     let prologue = highest(flat, steps.prologue.as_slice());
     let turn = highest(flat, steps.turn.as_slice());
@@ -106,16 +106,16 @@ fn empty_file(alloc: Global, flat: &Flat, steps: &SeqSteps) -> Result<Registers,
 }
 
 /// Room for the registers of each sequence, of which none is in use.
-pub fn empty_files(
+pub fn all_registers(
     alloc: Global,
     flat: &Flat,
     steps: &[SeqSteps],
 ) -> Result<Vec<Registers>, OutOfMemory>
-    ensures { IfOk result (λ s. s.items ≡ empty_files flat.now steps.now) }
+    ensures { IfOk result (λ s. s.items ≡ all_registers flat.now steps.now) }
 {
     let mut all = Vec::new(alloc);
     for one in steps {
-        all.push(empty_file(alloc, flat, one)?)?;
+        all.push(empty_registers(alloc, flat, one)?)?;
     }
     Ok(all)
 }

@@ -12,7 +12,7 @@ use crate::opening::{words_of, zero_elements};
 use crate::operations::Operations;
 use crate::program::Program;
 use crate::registers::Registers;
-use crate::rooms::empty_files;
+use crate::rooms::all_registers;
 use crate::steps::{MicroStep, OnLoad, OnStore, Place};
 use crate::words;
 use std::alloc::Global;
@@ -85,7 +85,7 @@ impl State {
         let program = job.program();
         let sequences = program.seqs.as_slice().len();
         let steps = micro_steps_of(alloc, program)?;
-        let registers = empty_files(alloc, job.flat(), steps.as_slice())?;
+        let registers = all_registers(alloc, job.flat(), steps.as_slice())?;
         Ok(State {
             steps,
             counts: words_of(alloc, 0, sequences)?,

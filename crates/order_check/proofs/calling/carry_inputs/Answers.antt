@@ -3,7 +3,7 @@ use Rattle.std.specs.Prelude.{slice_get}
 use Rattle.std.proofs.lemmas.Option.{slice_get-get_or}
 use Rattle.flat_graph.specs.declared.vertex.Source.{Source}
 use Rattle.order_check.specs.Calls.{carries}
-use Rattle.order_check.proofs.Tests.{fails_at}
+use Rattle.order_check.proofs.ListTests.{fails_at}
 use Rattle.order_check.proofs.calling.carry_inputs.Goals as goal
 
 pub returns-then-not-carries : goal.returns-then-not-carries

@@ -1,6 +1,5 @@
 -- One more operation.
-use Rattle.std.proofs.Common.{◌≡◌, ◌<◌, ◌++◌, ◌∷◌, [], ◌∙◌, map, List, ap, length, arith, Some}
-use Rattle.std.specs.Prelude.{slice_get}
+use Rattle.std.proofs.Common.{◌<◌, ◌∷◌, [], ◌∙◌, map, List, ap, length, arith}
 use Rattle.std.proofs.lemmas.List.{map-append}
 use Rattle.flat_graph.specs.declared.vertex.Vertex.{Vertex}
 use Rattle.flat_graph.proofs.ReadLens.{vertex_there}

@@ -1,8 +1,8 @@
 -- The parts are those of the opening.
-use Rattle.std.proofs.Common.{◌≡◌, ◌∙◌, ap, sym, subst, map, length, replicate, List, ℕ}
+use Rattle.std.proofs.Common.{◌≡◌, ◌∙◌, ap, subst, map, length, replicate}
 use Rattle.std.specs.Prelude.{IsTrue}
 use Rattle.syn_base.specs.Rows.{Reactions}
-use Rattle.level_meaning.specs.Level.{Values, zeros}
+use Rattle.level_meaning.specs.Level.{zeros}
 use Rattle.flat_graph.specs.Graph.{Graph}
 use Rattle.flat_graph.specs.Valid.{is_flat}
 use Rattle.semaphore_core.specs.Desk.{lens_of_desk}

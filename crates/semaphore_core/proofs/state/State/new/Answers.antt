@@ -1,11 +1,9 @@
 -- The parts are those of the opening, and the state is open.
 use Rattle.std.proofs.Common.{◌≡◌, ℕ, ◌*◌, ◌++◌, ◌∙◌, List, [], length, replicate, ap}
-use Rattle.flat_graph.specs.Graph.{Graph}
 use Rattle.semaphore_core.specs.declared.program.Program.{Program}
 use Rattle.semaphore_core.specs.declared.program.SeqCode.{SeqCode}
-use Rattle.semaphore_core.specs.declared.expand.SeqSteps.{SeqSteps}
-use Rattle.semaphore_core.specs.Core.{Core, opening, buffer_zeros, wire_zeros}
-use Rattle.semaphore_core.specs.AtOpening.{empty_files}
+use Rattle.semaphore_core.specs.Core.{opening, buffer_zeros, wire_zeros}
+use Rattle.semaphore_core.specs.AtOpening.{all_registers}
 use Rattle.semaphore_core.proofs.Viewing.{core_of, values_of}
 use Rattle.semaphore_core.proofs.OpenStates.{single_of, registers_empty, state_open}
 use Rattle.semaphore_core.proofs.state.State.new.Goals as goal
@@ -16,8 +14,8 @@ micro_steps_of-requires c = single_of c.args.job.now c.program-program.result.no
 pub zero_elements-requires : goal.zero_elements-requires
 zero_elements-requires c = single_of c.args.job.now c.program-program.result.now c.program-program.ensures.same c.program-program.ensures.job
 
-files_are : (c : goal.In_ok-new) → c.in_ok-registers.registers.items ≡ empty_files c.args.job.now.graph c.in_ok-steps.steps.items
-files_are c = c.in_ok-registers.ensures ∙ (λ i. empty_files (c.flat.ensures i) (c.as_slice.ensures.value i))
+files_are : (c : goal.In_ok-new) → c.in_ok-registers.registers.items ≡ all_registers c.args.job.now.graph c.in_ok-steps.steps.items
+files_are c = c.in_ok-registers.ensures ∙ (λ i. all_registers (c.flat.ensures i) (c.as_slice.ensures.value i))
 
 core_is : (c : goal.In_ok-new) → core_of c.in_ok-words_of.field-0.items c.in_ok-words_of-2.field-0.items c.in_ok-words_of-3.field-0.items c.in_ok-zero_elements.field-0.items c.in_ok-registers.registers.items c.in_ok-new.field-0 ≡ opening c.args.job.now
 core_is c = λ i. record { counts = counts i; semaphores = semaphores i; turns = turns i; elements = elements i; registers = registers i; cells = c.in_ok-new.ensures.cells i; rows = c.in_ok-new.ensures.rows i }
