@@ -52,9 +52,6 @@ module _ (j : JobData) (h : IsSupplied j) (k v : ℕ) (x : Vertex) (low : k < re
 
   -- what was loaded are the values of the sources
   module _ (ins : List ℕ) (carry : Carry j h ins (map (λ d. d.source) x.guards ++ x.ins)) (loaded : List ℤ) (all : loaded ≡ all_joined (map (λ b. buffer_value j b k) ins)) where
-    abbrev pub Read : Values
-    Read = vectors_from loaded 0 (lens_in j.graph x)
-
     read_is : vectors_from loaded 0 (lens_in j.graph x) ≡ map (λ s. source_value j s k) (map (λ d. d.source) x.guards ++ x.ins)
     read_is = ap (λ (l : List ℤ). vectors_from l 0 (lens_in j.graph x)) all
         ∙ vectors_back (map (λ b. buffer_value j b k) ins) (lens_in j.graph x) (sym (called_lens j h v x ins is carry) ∙ sym (carried_sized j h k ins (map (λ d. d.source) x.guards ++ x.ins) low carry))

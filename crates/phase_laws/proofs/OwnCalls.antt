@@ -12,7 +12,6 @@ use Rattle.flat_graph.specs.declared.vertex.Vertex.{Vertex}
 use Rattle.flat_graph.specs.Meaning.{is_get, delay_number, cell_of, cells_after, flat_outputs}
 use Rattle.semaphore_core.specs.declared.program.Instr.{Instr}
 use Rattle.semaphore_core.specs.declared.program.Instr.TheVariants.{Call}
-use Rattle.semaphore_core.specs.declared.steps.OnStore.{OnStore}
 use Rattle.semaphore_core.specs.Instructions.{turn, len_of}
 use Rattle.semaphore_core.specs.MicroSteps.{code, size, begins}
 use Rattle.semaphore_core.specs.Operation.{vectors_from, lens_in, inputs_in}
@@ -127,9 +126,6 @@ module _ (j : JobData) (h : IsSupplied j) (s n : ℕ) (m : Micro) (o : Here j.pr
         inside : o.at < elements_in j.program ins
         inside = let a = slice_get_within (all_joined (map (λ b. buffer_value j b (reaction_at (code j.program s) n)) ins)) o.at z e in let b = loads_are j h K v vertex.0 low vertex.1 ins outs carry give in omega arith
 
-        loaded : List ℤ
-        loaded = gathered (own_after j s n).registers o.at z
-
         last : o.at + 1 ≡ elements_in j.program ins → own_after j s (n + 1)
             ≡ kept (nat_lt (o.at + 1) (elements_in j.program ins + elements_in j.program outs)) (compute j.graph j.sensors v (reaction_at (code j.program s) n) (gathered (own_after j s n).registers o.at z) (own_after j s n))
         last q = let full = full_load j h K v vertex.0 low vertex.1 ins outs carry give o.at A.registers z q e now_call in
@@ -151,9 +147,6 @@ module _ (j : JobData) (h : IsSupplied j) (s n : ℕ) (m : Micro) (o : Here j.pr
         by (inr q) = rw (ne_eqb (o.at + 1) (elements_in j.program ins) q) (before q)
 
     module _ (i b c : ℕ) (e : slice_get outs i ≡ Some b) (l : c < len_of j.program b) (at : o.at ≡ elements_in j.program ins + sum_below (len_at j.program outs) i + c) where
-      abbrev What : OnStore
-      What = on_store v N M o.at
-
       value : (registers : List ℤ) → registers ≡ all_joined (flat_outputs j.graph j.sensors j.opening v (reaction_at (code j.program s) n)) → (r : ℕ) → r ≡ o.at - elements_in j.program ins
           → element_at registers r ≡ element_at (buffer_value j b (reaction_at (code j.program s) n)) c
       value registers q r w = (λ t. element_at (q t) ((w ∙ rest) t)) ∙ stored_at j h K v vertex.0 low vertex.1 ins outs carry give i b c e l

@@ -121,9 +121,6 @@ module _ (j : JobData) (done done' : ℕ → ℕ) (k : ℕ) where
       Z : Vector
       Z = flat_act j.graph j.sensors j.opening a k
 
-      Later : ℕ → Type 0
-      Later n = (q : ℕ) × (a ≡ n + q) × (slice_set (rows_from j done ys (suc v) k) q (flat_act j.graph j.sensors j.opening a k) ≡ rows_from j done' ys (suc v) k)
-
       by : (kind : Kind) → y.kind ≡ kind → actuators_from m (kind ∷ kinds_of ys) ≡ true → ((n : ℕ) → actuators_from n (kinds_of ys) ≡ true
           → (q : ℕ) × (a ≡ n + q) × (slice_set (rows_from j done ys (suc v) k) q (flat_act j.graph j.sensors j.opening a k) ≡ rows_from j done' ys (suc v) k))
           → row_of j done v y k y.kind ≡ row_of j done' v y k y.kind

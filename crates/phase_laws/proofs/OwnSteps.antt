@@ -31,14 +31,10 @@ use Rattle.phase_laws.proofs.OwnCells.{HasTwin, cells_same, cells_set, cells_at}
 use Rattle.phase_laws.proofs.OwnRows.{SameAt, act_is, rows_same, row_set, rows_by_set, row_of_rows, rows_by_same}
 use Rattle.phase_laws.proofs.Stateful.{Stateful, fed, last_inner, last_low}
 
-number_of_call : Instr → ℕ
-number_of_call (Call v ins outs) = v
-number_of_call _ = 0
-
-none_get : (k : Kind) → is_get k ≡ true → (z : List ℤ) × (k ≡ Get z)
-none_get (Get z) e = (z, refl)
-none_get (Actuator a) e = absurd cc
-none_get k e = absurd cc
+get_is : (k : Kind) → is_get k ≡ true → (z : List ℤ) × (k ≡ Get z)
+get_is (Get z) e = (z, refl)
+get_is (Actuator a) e = absurd cc
+get_is k e = absurd cc
 
 module _ (j : JobData) (h : IsSupplied j) (s n : ℕ) (m : Micro) (o : Here j.program s n m) where
   abbrev pub Now : ℕ → ℕ
@@ -83,7 +79,7 @@ module _ (j : JobData) (h : IsSupplied j) (s n : ℕ) (m : Micro) (o : Here j.pr
       ∙ ap (λ (c : ℕ). vector_at (cells_after j.graph j.sensors j.opening c) (delay_number j.graph.vertices v)) (done_at n t q ∙ rw (le-ltb (last_load j t) (place_at (code j.program s) n) (omega arith)) (omega arith))
 
   twin_stateful : (u t : ℕ) (x : Vertex) → HasTwin j.graph.vertices u x t → (y : Vertex) × (slice_get j.graph.vertices t ≡ Some y) × (y.kind ≡ Set) × (y.twin ≡ Some u)
-  twin_stateful u t x e = let g = none_get x.kind e.1 in let q = set_half j.graph h.valid u x e.0 g.0 g.1 in
+  twin_stateful u t x e = let g = get_is x.kind e.1 in let q = set_half j.graph h.valid u x e.0 g.0 g.1 in
       let z : q.at ≡ t = same_Some q.at t (sym q.twin_is ∙ e.2) in (q.half, ap (slice_get j.graph.vertices) (sym z) ∙ q.stands, q.kind, q.back)
 
   stateful_set : (u t : ℕ) (x : Vertex) → HasTwin j.graph.vertices u x t → Stateful j h t

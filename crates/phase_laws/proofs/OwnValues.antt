@@ -124,16 +124,16 @@ module _ (j : JobData) (h : IsSupplied j) where
 
         by : (x : Instr) → o.instr ≡ x → WritesAt x f.port f.buffer → o.at ≡ store_place j.program x f.port f.number
             → ((system j).emit s n (own_after j s n) ≡ stored_value j y (round_number (system j) s n y i)) × (own_after j s (n + 1) ≡ (system j).after s n (own_after j s n))
-        by (Call v ins outs) e r at = let z = call_store j h s n m o low v ins outs e f.port f.buffer f.number r f.inside place in (emits x' (A s n) here' ∙ z.0 ∙ sym value, z.1 ∙ sym (leaves x' (A s n) here'))
+        by (Call v ins outs) e r at = let z = call_store j h s n m o low v ins outs e f.port f.buffer f.number r f.inside place in (emits micro (A s n) stands_there ∙ z.0 ∙ sym value, z.1 ∙ sym (leaves micro (A s n) stands_there))
           where
             place : o.at ≡ elements_in j.program ins + sum_below (len_at j.program outs) f.port + f.number
             place = let a = loads_count j.program ins in let b = sum_equal (λ a. length (stores_at j.program outs a)) (len_at j.program outs) f.port (λ a. stores_length j.program (slice_get outs a)) in omega arith
 
-            x' : MicroStep
-            x' = Store (Buffer f.buffer f.number) (on_store v (elements_in j.program ins) (elements_in j.program ins + elements_in j.program outs) o.at)
+            micro : MicroStep
+            micro = Store (Buffer f.buffer f.number) (on_store v (elements_in j.program ins) (elements_in j.program ins + elements_in j.program outs) o.at)
 
-            here' : step_at (steps j.program s) n ≡ Some (Store (Buffer f.buffer f.number) (on_store v (elements_in j.program ins) (elements_in j.program ins + elements_in j.program outs) o.at))
-            here' = at_instr (Call v ins outs) e ∙ ap (slice_get (call_steps j.program v ins outs)) place ∙ output_step j.program v ins outs f.port f.buffer f.number r f.inside
+            stands_there : step_at (steps j.program s) n ≡ Some (Store (Buffer f.buffer f.number) (on_store v (elements_in j.program ins) (elements_in j.program ins + elements_in j.program outs) o.at))
+            stands_there = at_instr (Call v ins outs) e ∙ ap (slice_get (call_steps j.program v ins outs)) place ∙ output_step j.program v ins outs f.port f.buffer f.number r f.inside
                 ∙ ap (λ (k : ℕ). Some (Store (Buffer f.buffer f.number) (on_store v (elements_in j.program ins) (elements_in j.program ins + elements_in j.program outs) k))) (sym place)
         by (Recv b q) e r at = let l : f.number < len_of j.program b = (let z = ap (len_of j.program) r.0 in let k = f.inside in omega arith) in
             let a : o.at ≡ 2 * f.number + 2 = omega arith in let z = copy_store j h s n m o b q f.number (inr e) a in

@@ -60,7 +60,7 @@ module _ (j : JobData) (h : IsSupplied j) where
       by (inr k) = (and_parts (length (lens_of j.graph.vertices y.ins) == 1) (length y.outs == 0) (ap (λ (q : Kind). fits j.graph.bodies q (lens_of j.graph.vertices y.ins) y.outs) (sym k.1) ∙ fit)).0
 
   pub fed : (t : ℕ) → Stateful t → 0 < elements_in j.program (calling j.program t).ins
-  fed t s = let n = reads_one t s.0 s.1 s.2 in let G = length s.0.guards in
+  fed t s = let n = reads_one t s.0 s.1 s.2 in
       let lens : map (len_of j.program) (calling j.program t).ins ≡ replicate (length s.0.guards) 1 ++ n.0 ∷ []
       = called_lens j h t s.0 (calling j.program t).ins s.1 (h.formed.called t s.0 s.1).takes ∙ ap (λ (l : List ℕ). replicate (length s.0.guards) 1 ++ l) n.2 in
       let at : len_at j.program (calling j.program t).ins (length s.0.guards) ≡ n.0
