@@ -1,5 +1,5 @@
 //! The two limits of a job, over programs for one operator.
-ghost use Rattle.std.specs.Prelude.{◌≡◌, ◌<◌, IfOk};
+ghost use Rattle.std.specs.Prelude.{◌≡◌, IfOk, sum};
 ghost use Rattle.flat_graph.specs.Laws.{sensor_lens};
 
 use crate::runs::job;
@@ -36,17 +36,24 @@ fn program(alloc: Global, buffers: Vec<Buffer>, turn: Vec<Instr>) -> Result<Prog
     })
 }
 
+/// Rows with so many reactions of zeros.
+fn with_zeros(mut rows: SensorRows, reactions: u32) -> Result<SensorRows, Fail>
+    requires { sum rows.lens ≡ 64 }
+    ensures { IfOk result (λ all. all.lens ≡ rows.lens) }
+{
+    for _ in 0..reactions {
+        rows.push(&[0; 64])?;
+    }
+    Ok(rows)
+}
+
 /// 10,000 reactions of a sensor of 64 elements.
 fn zeros(rt: &impl Abort, alloc: Global, flat: &Flat) -> Result<SensorRows, Fail>
     ensures { IfOk result (λ rows. rows.lens ≡ sensor_lens flat.now.vertices) }
 {
     let lens = sensor_lens(alloc, flat)?;
     assert_eq!(rt; lens.as_slice(), [64].as_slice());
-    let mut rows = SensorRows::new(alloc, lens.as_slice())?;
-    for _ in 0..10_000 {
-        rows.push(&[0; 64])?;
-    }
-    Ok(rows)
+    with_zeros(SensorRows::new(alloc, lens.as_slice())?, 10_000)
 }
 
 /// The limit that refuses 10,000 reactions of a program that runs on one operator.

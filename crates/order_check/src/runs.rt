@@ -1,5 +1,5 @@
 //! Worked runs of the program for two operators with a bus.
-ghost use Rattle.std.specs.Prelude.{◌≡◌, IfOk};
+ghost use Rattle.std.specs.Prelude.{◌≡◌, ◌<◌, IfOk, length, sum};
 ghost use Rattle.flat_graph.specs.Meaning.{initial_cells};
 ghost use Rattle.flat_graph.specs.Laws.{sensor_lens};
 ghost use Rattle.semaphore_core.specs.Held.{IsOpened};
@@ -42,6 +42,17 @@ pub(crate) fn job<'a>(
     Job::new(program, flat, archi, rows, opening)
 }
 
+/// Rows with these reactions of one element each.
+fn with_values(mut rows: SensorRows, values: &[i64]) -> Result<SensorRows, Fail>
+    requires { sum rows.lens ≡ 1 }
+    ensures { IfOk result (λ all. all.lens ≡ rows.lens) }
+{
+    for value in values {
+        rows.push(&[*value])?;
+    }
+    Ok(rows)
+}
+
 /// Rows in which the one sensor gives these values.
 pub(crate) fn sensed(
     rt: &impl Abort,
@@ -53,25 +64,37 @@ pub(crate) fn sensed(
 {
     let lens = sensor_lens(alloc, flat)?;
     assert_eq!(rt; lens.as_slice(), [1].as_slice());
-    let mut rows = SensorRows::new(alloc, lens.as_slice())?;
-    for value in values {
-        rows.push(&[*value])?;
-    }
-    Ok(rows)
+    with_values(SensorRows::new(alloc, lens.as_slice())?, values)
 }
 
-/// Makes the next micro-step of the greatest sequence that has one enabled.
-fn step_greatest(job: &Job, state: &mut State) -> bool
+/// Whether the next micro-step of a sequence is enabled; then it is made.
+fn makes(job: &Job, state: &mut State, seq: u32) -> bool
+    requires opened { IsOpened job.now state.old }
+    requires there { seq < length job.now.program.seqs }
+    ensures { IsOpened job.now state.new }
+{
+    try_step(job, state, seq) == StepAnswer::Stepped
+}
+
+/// Makes the next micro-step of the greatest of the four sequences that has one enabled.
+fn step_greatest(rt: &impl Abort, job: &Job, state: &mut State) -> bool
     requires { IsOpened job.now state.old }
     ensures { IsOpened job.now state.new }
 {
-    let sequences = job.program().seqs.as_slice().len() as u32;
-    for seq in (0..sequences).rev() {
-        if let StepAnswer::Stepped = try_step(job, state, seq) {
-            return true;
-        }
-    }
-    false
+    assert_eq!(rt; job.program().seqs.as_slice().len(), 4);
+    makes(job, state, 3) || makes(job, state, 2) || makes(job, state, 1) || makes(job, state, 0)
+}
+
+/// Each of the four sequences has made all its micro-steps.
+fn expect_finished(rt: &impl Abort, job: &Job, state: &mut State)
+    requires { IsOpened job.now state.old }
+    ensures { IsOpened job.now state.new }
+{
+    assert_eq!(rt; job.program().seqs.as_slice().len(), 4);
+    assert_eq!(rt; try_step(job, state, 0), StepAnswer::Finished);
+    assert_eq!(rt; try_step(job, state, 1), StepAnswer::Finished);
+    assert_eq!(rt; try_step(job, state, 2), StepAnswer::Finished);
+    assert_eq!(rt; try_step(job, state, 3), StepAnswer::Finished);
 }
 
 /// Each actuator took these values, one in each reaction.
@@ -95,14 +118,20 @@ fn expect_counts(rt: &impl Abort, job: &Job, state: &State)
     assert_eq!(rt; state.count(3), 18);
 }
 
+/// Makes so many micro-steps, each of the greatest enabled sequence.
+fn make(rt: &impl Abort, job: &Job, state: &mut State, times: u32)
+    requires { IsOpened job.now state.old }
+    ensures { IsOpened job.now state.new }
+{
+    for _ in 0..times {
+        assert!(rt; step_greatest(rt, job, state));
+    }
+}
+
 fn the_greatest_first(rt: &impl Abort, alloc: Global, job: &Job) -> Result<(), Fail> {
     let mut state = State::new(alloc, job)?;
-    for _ in 0..71 {
-        assert!(rt; step_greatest(job, &mut state));
-    }
-    for seq in 0..job.program().seqs.as_slice().len() as u32 {
-        assert_eq!(rt; try_step(job, &mut state, seq), StepAnswer::Finished);
-    }
+    make(rt, job, &mut state, 71);
+    expect_finished(rt, job, &mut state);
     expect_counts(rt, job, &state);
     expect(rt, state.rows(), &[6, 0, 1]);
     Ok(())

@@ -27,3 +27,13 @@ pub mod OwnCalls
 pub mod StoredValues
 pub mod OwnCopies
 pub mod OwnValues
+pub mod AgreeSteps
+pub mod AgreeLists
+pub mod AgreeDelays
+pub mod AgreePlaces
+pub mod AgreeOwn
+pub mod AgreeRuns
+pub mod AgreeTells
+pub mod AgreeTold
+pub mod AgreeLaws
+pub mod Together
