@@ -12,6 +12,21 @@ pub mod Wires
 pub mod Synchronized
 pub mod Order
 pub mod Programs
+pub mod Standing
+pub mod StepsAt
+pub mod Lengths
+pub mod Joined
+pub mod Halves
+pub mod Computing
+pub mod OwnCells
+pub mod OwnRows
+pub mod Stateful
+pub mod OwnSteps
+pub mod CallRegisters
+pub mod OwnCalls
+pub mod StoredValues
+pub mod OwnCopies
+pub mod OwnValues
 pub mod AgreeSteps
 pub mod AgreeLists
 pub mod AgreeDelays
@@ -21,3 +36,4 @@ pub mod AgreeRuns
 pub mod AgreeTells
 pub mod AgreeTold
 pub mod AgreeLaws
+pub mod Together

@@ -113,7 +113,7 @@ module _ (p : Program) (w : Places) (c : Conditions p w) {P : Type 0} (reactions
   len_is m t a b = ap (len_sent p) (found p w c reactions own m t a b)
 
   -- a transfer is no longer than the wire
-  wire_holds : (m t : ℕ) → m < c.media → t < transfers p m → transfer_len p m t ≤ wire_len p m
+  pub wire_holds : (m t : ℕ) → m < c.media → t < transfers p m → transfer_len p m t ≤ wire_len p m
   wire_holds m t a b = let one = (c.holds.transferred m t a b).sends in let e = len_is m t a b in
       let z = within_wire p p.seqs (w.transfer m t).sender m (len_of p (w.transfer m t).sent) one.on (sent_within p (turn p (w.transfer m t).sender) (w.transfer m t).send_at (w.transfer m t).sent _ one.stands) in omega arith
 
@@ -213,10 +213,10 @@ module _ (p : Program) (w : Places) (c : Conditions p w) {P : Type 0} (reactions
     high : nat_lt (wire_of p m j) (buffer_elements p) ≡ false
     high = le-ltb (wire_of p m j) (buffer_elements p) (omega arith)
 
-    wire_at_is : wire_at p c.media (wire_of p m j) ≡ m
+    pub wire_at_is : wire_at p c.media (wire_of p m j) ≡ m
     wire_at_is = let less : wire_of p m j - buffer_elements p ≡ sum_below (wire_len p) m + j = omega arith in ap (block_at (wire_len p) c.media) less ∙ block_at_is (wire_len p) c.media m j there long
 
-    number_at_is : number_at p c.media (wire_of p m j) ≡ j
+    pub number_at_is : number_at p c.media (wire_of p m j) ≡ j
     number_at_is = let e = ap (sum_below (wire_len p)) wire_at_is in
         ap (λ (b : Bool). cond b (wire_of p m j - sum_below (len_of p) (buffer_at p c.media (wire_of p m j))) (wire_of p m j - buffer_elements p - sum_below (wire_len p) (wire_at p c.media (wire_of p m j)))) high ∙ (omega arith)
 

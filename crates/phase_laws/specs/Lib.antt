@@ -1,2 +1,3 @@
 pub mod Discipline
+pub mod Values
 pub mod Agrees

@@ -8,8 +8,15 @@
 pub mod agree;
 
 ghost use Rattle.phase_laws.specs.Discipline.{ProgramsAreDisciplined};
+ghost use Rattle.phase_laws.specs.Values.{SequencesComputeTheirValues};
 
 /// Every well-formed program is synchronized, and its serial order puts each need before what waits for it.
 pub fn programs_are_disciplined()
     ensures { ProgramsAreDisciplined }
+{}
+
+/// If each load finds the value of its own round, each sequence of a job stores the flat values, and
+/// has of its own what is told: registers, the delays' cells and the actuators' rows.
+pub fn sequences_compute_their_values()
+    ensures { SequencesComputeTheirValues }
 {}

@@ -1,0 +1,19 @@
+-- The parts put together: every job that is supplied has the laws of its runs.
+use Rattle.std.specs.Prelude.{◌≡◌, ℕ, ◌<◌, [], map, length, slice_index_or}
+use Rattle.flat_graph.specs.Laws.{sensor_lens}
+use Rattle.semaphore_core.specs.Job.{JobData, reactions}
+use Rattle.semaphore_core.specs.Laws.{HasLaws}
+use Rattle.phase_laws.specs.Agrees.{IsFormed}
+use Rattle.phase_laws.specs.Values.{IsSupplied}
+use Rattle.phase_laws.specs.Discipline.{discipline}
+use Rattle.phase_laws.proofs.Programs.{are_disciplined}
+use Rattle.phase_laws.proofs.OwnValues.{compute_their_values}
+use Rattle.phase_laws.proofs.AgreeLaws.{laws_follow}
+
+-- a job that is formed, and whose rows have the sensors' vectors, is supplied
+pub supplied : (j : JobData) → IsFormed j → ((k : ℕ) → k < reactions j → map length (slice_index_or j.sensors k []) ≡ sensor_lens j.graph.vertices) → IsSupplied j
+supplied j f s = record { seqs = f.seqs; order = f.formed.0; formed = f.formed.1; valid = f.valid; opened = f.opened; sensed = s }
+
+pub have_laws : (j : JobData) → IsSupplied j → HasLaws j
+have_laws j h = let d = are_disciplined j h.seqs h.order h.formed in
+    laws_follow j (record { seqs = h.seqs; formed = (h.order, h.formed); valid = h.valid; opened = h.opened }) (discipline j.program h.order) (record { synchronized = d.0; ordered = d.1; values = compute_their_values j h })
