@@ -1,3 +1,4 @@
 pub mod Discipline
 pub mod Values
 pub mod Agrees
+pub mod Central

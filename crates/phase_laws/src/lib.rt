@@ -7,6 +7,7 @@
 
 pub mod agree;
 
+ghost use Rattle.phase_laws.specs.Central.{JobsHaveLaws};
 ghost use Rattle.phase_laws.specs.Discipline.{ProgramsAreDisciplined};
 ghost use Rattle.phase_laws.specs.Values.{SequencesComputeTheirValues};
 
@@ -19,4 +20,10 @@ pub fn programs_are_disciplined()
 /// has of its own what is told: registers, the delays' cells and the actuators' rows.
 pub fn sequences_compute_their_values()
     ensures { SequencesComputeTheirValues }
+{}
+
+/// The central theorem: of every job over a well-formed program, a valid flat graph, rows of its sensors and
+/// any opening values, in every interleaving of its sequences' micro-steps.
+pub fn jobs_have_laws()
+    ensures { JobsHaveLaws }
 {}
