@@ -1,0 +1,2 @@
+//! The least route between each two operators of an architecture.
+#![tactic(auto)]
