@@ -3,6 +3,7 @@ use Rattle.std.proofs.Common.{◌≡◌, ℕ, zero, suc, ◌+◌, ◌*◌, ◌<�
 use Rattle.std.specs.Prelude.{Contains, IsTrue, slice_get, slice_index_or, nat_le}
 use Rattle.std.specs.List.{list_all, list_any, range_with_len}
 use Rattle.std.proofs.lemmas.Bool.{and_parts, eqb-true, leb-true}
+use Rattle.std.proofs.lemmas.List.FromFn.{get_or-range_with_len, length-range_with_len}
 use Rattle.std.proofs.lemmas.List.Sums.{AllPass-from_list_all}
 use Rattle.archi_graph.specs.declared.medium.Medium.{Medium}
 use Rattle.archi_graph.specs.declared.medium.Hop.{Hop}
@@ -65,19 +66,10 @@ module _ (media : List Medium) where
             (back ∷ r.1.0, (hop, r.1.1), omega (arith, r.1.2)),
           )
 
-range_at : (a n o d : ℕ) → o < n → slice_index_or (range_with_len a n) o d ≡ a + o
-range_at a zero o d l = absurd (omega arith)
-range_at a (suc n) zero d l = omega arith
-range_at a (suc n) (suc o) d l = let e = range_at (a + 1) n o d (omega arith) in omega (arith, e)
-
-range_length : (a n : ℕ) → length (range_with_len a n) ≡ n
-range_length a zero = refl
-range_length a (suc n) = let e = range_length (a + 1) n in omega (arith, e)
-
 reached : (n : ℕ) (media : List Medium) → are_joined n media ≡ true → (o : ℕ) → o < n → reached_within media n o ≡ true
 reached n media e o l =
-    let within : o < length (range_with_len 0 n) = let d = range_length 0 n in omega (arith, d) in
-    let place : slice_index_or (range_with_len 0 n) o o ≡ o = let d = range_at 0 n o o l in omega (arith, d) in
+    let within : o < length (range_with_len 0 n) = let d = length-range_with_len 0 n in omega (arith, d) in
+    let place : slice_index_or (range_with_len 0 n) o o ≡ o = let d = get_or-range_with_len 0 n o o l in omega (arith, d) in
     subst (λ (p : ℕ). reached_within media n p ≡ true) place (AllPass-from_list_all (reached_within media n) (range_with_len 0 n) e o o within)
 
 pub all_joined : (n : ℕ) (media : List Medium) → are_joined n media ≡ true → (from to : ℕ) → from < n → to < n → Within media from to (2 * n)

@@ -1,6 +1,6 @@
-pub mod Places
-pub mod Tables
 pub mod Joined
-pub mod Steps
-pub mod Picks
 pub mod Order
+pub mod Picks
+pub mod Places
+pub mod Steps
+pub mod Tables

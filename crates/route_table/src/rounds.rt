@@ -17,7 +17,8 @@ pub fn routes_of(alloc: Global, archi: &Archi) -> Result<Routes, OutOfMemory>
 {
     let operators = archi.operators().len() as u32;
     let mut routes = Routes::new(alloc, operators)?;
-    // Each operator is joined with the first one by at most as many hops as there are operators.
+    // Each operator is joined with operator 0 by at most as many hops as there are operators, and so
+    // each two are joined by at most twice as many.
     for hops in 0..2 * operators {
         add_routes(alloc, hops, archi.media(), &mut routes)?;
     }
