@@ -1,0 +1,4 @@
+pub mod Known
+pub mod Least
+pub mod Search
+pub mod Table
