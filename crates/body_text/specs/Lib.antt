@@ -1,0 +1,5 @@
+pub mod Tokens
+pub mod Grammar
+pub mod Ports
+pub mod Reads
+pub mod Canonical

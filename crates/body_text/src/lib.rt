@@ -1,0 +1,6 @@
+//! Expressions as texts: reading them with the place of the first fault, and printing the canonical text.
+#![tactic(auto)]
+
+mod fault;
+
+pub use fault::BodyFault;
