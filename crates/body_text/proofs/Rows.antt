@@ -1,12 +1,10 @@
 -- The definitions at worked texts over one port `x`.
 use Rattle.std.proofs.Common.{◌≡◌, ℕ, refl, List, [], ◌∷◌, ◌++◌, ◌+◌, pos, negsuc, length, Some, None, codes}
 use Rattle.syn_base.specs.declared.arithmetic.Op.TheVariants.{Add}
-use Rattle.body_lang.specs.Expr as numbered
 use Rattle.body_text.specs.Tokens.{tokens, placed, number, name, open_round, close_round, open_square, close_square, comma, bad}
 use Rattle.body_text.specs.Grammar.{Written, literal, index, element, sum_over, negation, apply, select, written, AreWritten}
-use Rattle.body_text.specs.Ports.{unknown, resolved}
-use Rattle.body_text.specs.Reads.{place_of, IsBody}
-use Rattle.body_text.specs.Canonical.{canonical}
+use Rattle.body_text.specs.Ports.{unknown}
+use Rattle.body_text.specs.Reads.{place_of}
 
 spaced : tokens (codes "add( x[ 0 ] , -07 )") ≡ name (codes "add") ∷ open_round ∷ name (codes "x") ∷ open_square ∷ number (pos 0) ∷ close_square ∷ comma ∷ number (negsuc 6) ∷ close_round ∷ []
 spaced = refl
@@ -34,9 +32,6 @@ unknown_in_sum = refl
 
 at_four : place_of (codes "sum(q)") 2 ≡ 4
 at_four = refl
-
-is_printed : canonical (codes "x" ∷ []) (resolved (codes "x" ∷ []) tree) ≡ codes "add(x[0],-7)"
-is_printed = refl
 
 long_name : tokens (codes "abcdefghijklmnopqrstuvwxyzabcdefg[") ≡ name (codes "abcdefghijklmnopqrstuvwxyzabcdef") ∷ name (codes "g") ∷ open_square ∷ []
 long_name = refl
