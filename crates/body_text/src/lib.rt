@@ -2,5 +2,7 @@
 #![tactic(auto)]
 
 mod fault;
+mod token;
+mod word;
 
 pub use fault::BodyFault;
