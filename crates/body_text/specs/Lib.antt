@@ -2,6 +2,8 @@ pub mod Tokens
 pub mod Cut
 pub mod Grammar
 pub mod Words
+pub mod Parse
 pub mod Ports
+pub mod Answers
 pub mod Reads
 pub mod Canonical

@@ -2,6 +2,7 @@
 #![tactic(auto)]
 
 mod fault;
+mod read;
 mod token;
 mod word;
 
