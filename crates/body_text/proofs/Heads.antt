@@ -1,5 +1,5 @@
 -- The token at a number, and the tokens behind it.
-use Rattle.std.proofs.Common.{◌≡◌, ℕ, zero, suc, ◌+◌, ◌-◌, ◌<◌, ◌≤◌, false, true, Bool, Option, Some, None, List, [], ◌∷◌, ◌++◌, length, take, drop, get_or, refl, arith, ap, map, sym, ◌∙◌, length-map}
+use Rattle.std.proofs.Common.{◌≡◌, ℕ, zero, suc, ◌+◌, ◌-◌, ◌<◌, ◌≤◌, false, true, Bool, Option, Some, None, List, [], ◌∷◌, ◌++◌, length, take, drop, get_or, refl, arith, ap, map, sym, ◌∙◌}
 use Rattle.std.proofs.lemmas.List.{drop-drop, drop_all}
 use Rattle.body_text.specs.declared.token.Placed as declared
 use Rattle.body_text.specs.declared.token.Mark.{Mark}

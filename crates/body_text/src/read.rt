@@ -42,9 +42,10 @@ pub struct Reader<'a> {
 
 impl<'a> Reader<'a> {
     /// The expression that the tokens are.
+    #[tactic(auto, using(crate::proofs::Steps::alone_err, crate::proofs::Steps::alone_more, crate::proofs::Steps::alone_all))]
     pub fn whole(&self) -> Result<Read, Stop>
         requires { length self.now.ports.now ≤ 4000000000 }
-        ensures { Answers (names_of self.now.ports.now) self.now.tokens.now 0 0 (alone (parse (suc (length self.now.tokens.now)) (tokens_of self.now.tokens.now))) result }
+        ensures { Answers (names_of self.now.ports.now) self.now.tokens.now 0 0 (alone (parse (length self.now.tokens.now + 1) (behind_of 0 self.now.tokens.now))) result }
     {
         let read = self.expression(0, self.tokens.len() + 1)?;
         if read.next < self.tokens.len() {
@@ -64,7 +65,11 @@ impl<'a> Reader<'a> {
             return Err(Stop::At(start));
         }
         match self.token(start) {
-            Some(Token::Number(v)) => Ok(literal(v, start)),
+            Some(Token::Number(v)) => Ok(Read {
+                value: Expr::Lit(v),
+                next: start + 1,
+                unknown: None,
+            }),
             Some(Token::Name(name)) => self.named(name, start, depth - 1),
             Some(Token::Mark(_)) => Err(Stop::At(start)),
             Some(Token::Bad) => Err(Stop::At(start)),
@@ -248,19 +253,6 @@ impl<'a> Reader<'a> {
         } else {
             Some(token)
         }
-    }
-}
-
-fn literal(v: i64, start: usize) -> Read
-    requires { start < 2 ^ 63 }
-    ensures value { view result.value ≡ plain.literal v }
-    ensures next { result.next ≡ start + 1 }
-    ensures unknown { result.unknown ≡ None }
-{
-    Read {
-        value: Expr::Lit(v),
-        next: start + 1,
-        unknown: None,
     }
 }
 
