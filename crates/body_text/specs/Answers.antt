@@ -1,5 +1,5 @@
 -- What the reader of tokens answers, by what is to be read.
-use Rattle.std.specs.Prelude.{◌≡◌, ℕ, ◌+◌, ◌≤◌, List, length, drop, map, Bool, true, false, Option, None, Result, Ok, Err}
+use Rattle.std.specs.Prelude.{◌≡◌, ℕ, ◌+◌, ◌≤◌, List, length, drop, map, Bool, true, false, Option, None, Some, slice_get, Result, Ok, Err}
 use Rattle.body_lang.specs.Expr.{view}
 use Rattle.body_lang.specs.Expr as numbered
 use Rattle.body_lang.specs.declared.expression.Port.{Port}
@@ -7,7 +7,11 @@ use Rattle.body_text.specs.declared.read.Read.{Read}
 use Rattle.body_text.specs.declared.read.Stop.{Stop}
 use Rattle.body_text.specs.declared.read.Stop.TheVariants.{At, OutOfMemory}
 use Rattle.body_text.specs.declared.token.Placed as declared
-use Rattle.body_text.specs.Tokens.{Bytes, Token}
+use Rattle.body_lang.specs.declared.expression.Expr as declared_expression
+use Rattle.body_text.specs.declared.fault.BodyFault.{BodyFault}
+use Rattle.body_text.specs.declared.fault.BodyFault.TheVariants.{UnknownPort}
+use Rattle.body_text.specs.Reads.{place_or}
+use Rattle.body_text.specs.Tokens.{Bytes, Token, Placed}
 use Rattle.body_text.specs.Cut.{token_view}
 use Rattle.body_text.specs.Grammar.{Written, written}
 use Rattle.body_text.specs.Ports.{resolved, first_unknown, namings}
@@ -57,3 +61,17 @@ IsIndex true start (Err s) = ⊥
 IsIndex false start (Ok r) = ⊥
 IsIndex false start (Err (At i)) = i ≡ start + 1
 IsIndex false start (Err OutOfMemory) = ⊥
+
+abbrev pub place_at : List Placed → ℕ → ℕ → ℕ
+place_at ps end i = place_or end (slice_get ps i)
+
+-- the expression, or the place of the first port that is none
+abbrev pub KnownBy : List Placed → ℕ → Option ℕ → numbered.Expr → Result declared_expression.Expr BodyFault → Type 0
+KnownBy ps end None e (Ok x) = view x ≡ e
+KnownBy ps end None e (Err f) = ⊥
+KnownBy ps end (Some i) e (Ok x) = ⊥
+KnownBy ps end (Some i) e (Err (UnknownPort place)) = place ≡ place_at ps end i
+KnownBy ps end (Some i) e (Err _) = ⊥
+
+abbrev pub IsKnown : List Placed → ℕ → Read → Result declared_expression.Expr BodyFault → Type 0
+IsKnown ps end r result = KnownBy ps end r.unknown (view r.value) result

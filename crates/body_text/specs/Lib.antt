@@ -4,6 +4,6 @@ pub mod Grammar
 pub mod Words
 pub mod Parse
 pub mod Ports
-pub mod Answers
 pub mod Reads
+pub mod Answers
 pub mod Canonical

@@ -1,9 +1,11 @@
 //! Expressions as texts: reading them with the place of the first fault, and printing the canonical text.
 #![tactic(auto)]
 
+mod body;
 mod fault;
 mod read;
 mod token;
 mod word;
 
+pub use body::read_body;
 pub use fault::BodyFault;
