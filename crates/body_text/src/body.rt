@@ -36,18 +36,15 @@ pub fn read_body(alloc: Global, text: &[u8], ports: &[Port]) -> Result<Expr, Bod
     let Ok(tokens) = tokens(alloc, text) else {
         return Err(BodyFault::OutOfMemory);
     };
+    let placed = tokens.as_slice();
     let reader = Reader {
         alloc,
-        tokens: tokens.as_slice(),
+        tokens: placed,
         ports,
     };
     match reader.whole() {
-        Ok(read) => known(read, tokens.as_slice(), text.len()),
-        Err(Stop::At(token)) => Err(BodyFault::BadExpression(place(
-            tokens.as_slice(),
-            token,
-            text.len(),
-        ))),
+        Ok(read) => known(read, placed, text.len()),
+        Err(Stop::At(at)) => Err(BodyFault::BadExpression(place(placed, at, text.len()))),
         Err(Stop::OutOfMemory) => Err(BodyFault::OutOfMemory),
     }
 }

@@ -3,9 +3,11 @@
 
 mod body;
 mod fault;
+mod laws;
 mod read;
 mod token;
 mod word;
 
 pub use body::read_body;
 pub use fault::BodyFault;
+pub use laws::{one_expression_for_tokens, one_place_fails};
