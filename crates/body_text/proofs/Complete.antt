@@ -68,7 +68,7 @@ complete_step n below (select c a b) rest proper clear short =
     word_goes n Select _ select_named
     ∙ ap (λ xs. select_of (parse n) xs) (sym (three_tail (written c) (written a) (written b) comma comma close_round rest))
     ∙ ap (λ (q : Parse). andthen q (λ c rest. andthen (ended (parse n) Comma rest) (λ a more. andthen (ended (parse n) CloseRound more) (λ b last. good (select c a b) last))))
-        (ended_complete n below Comma refl c (written a ++ comma ∷ (written b ++ close_round ∷ rest)) proper.0 (omega (arith, size)))
+    (ended_complete n below Comma refl c (written a ++ comma ∷ (written b ++ close_round ∷ rest)) proper.0 (omega (arith, size)))
     ∙ ap (λ (q : Parse). andthen q (λ a more. andthen (ended (parse n) CloseRound more) (λ b last. good (select c a b) last))) (ended_complete n below Comma refl a (written b ++ close_round ∷ rest) proper.1.0 (omega (arith, size)))
     ∙ ap (λ (q : Parse). andthen q (λ b last. good (select c a b) last)) (ended_complete n below CloseRound refl b rest proper.1.1 (omega (arith, size)))
 

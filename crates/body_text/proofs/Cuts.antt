@@ -1,10 +1,11 @@
 -- Cutting a text into tokens.
-use Rattle.std.proofs.Common.{◌≡◌, ℕ, zero, suc, ◌+◌, ◌-◌, ◌<◌, ◌≤◌, false, true, List, [], ◌∷◌, ◌++◌, length, take, drop, get_or, refl, arith, ap, ap₂, map, sym, ◌∙◌, drop-cons, length-drop, subst, append_assoc}
+use Rattle.std.proofs.Common.{◌≡◌, ℕ, zero, suc, ◌+◌, ◌-◌, ◌<◌, ◌≤◌, false, true, Bool, not, cond, min, List, [], ◌∷◌, ◌++◌, length, take, drop, get_or, refl, arith, ap, ap₂, map, sym, ◌∙◌, drop-cons, length-drop, subst, append_assoc}
 use Rattle.std.specs.Prelude.{slice_range}
 use Rattle.std.proofs.lemmas.List.{drop-drop, map_push, drop_all, take_all}
+use Rattle.std.proofs.lemmas.List.Sums.{prefix_len-le-length}
 use Rattle.text_lines.specs.Text.{is_blank}
 use Rattle.text_lines.specs.declared.Span.{Span}
-use Rattle.body_text.specs.Tokens.{Bytes, Token, Placed, len_by, token_of, mark_of, mark_or_word, tokens_from}
+use Rattle.body_text.specs.Tokens.{Bytes, Token, Placed, front, len_by, token_of, mark_of, mark_or_word, tokens_from}
 use Rattle.body_text.specs.Cut.{IsCut, token_in}
 
 skip_more : (place k : ℕ) (bs : Bytes) → tokens_from (suc place + k) 0 bs ≡ tokens_from (place + suc k) 0 bs
@@ -82,3 +83,20 @@ pub kept_more : {A : Type 0} (view : A → Placed) (text : Bytes) (at : ℕ) (s 
     → map view old ++ tokens_from at 0 (drop at text) ≡ all → map view new ++ tokens_from s.to 0 (drop s.to text) ≡ all
 kept_more view text at s old new x all cut pushed is before =
     rw (pushed, map_push, append_assoc, is, ← cut.is) before
+
+front_step : (b : Bool) (n k m : ℕ) → k ≡ min n m → cond (not (not b)) (1 + k) 0 ≡ min (suc n) (cond (not (not b)) (1 + m) 0)
+front_step true n k m h = omega (arith, h)
+front_step false n k m h = omega arith
+
+-- Of a front of a list no more passes than of the list.
+front_take : (p : ℕ → Bool) (n : ℕ) (bs : Bytes) → front p (take n bs) ≡ min n (front p bs)
+front_take p zero bs = omega arith
+front_take p (suc n) [] = omega arith
+front_take p (suc n) (b ∷ bs) = front_step (p b) n (front p (take n bs)) (front p bs) (front_take p n bs)
+
+front_within : (p : ℕ → Bool) (bs : Bytes) → front p bs ≤ length bs
+front_within p bs = prefix_len-le-length _ bs
+
+-- The length of a name at the front, looked for in as many bytes as a name has at most.
+pub name_length : (p : ℕ → Bool) (bs : Bytes) → 1 + front p (take (min (length bs) 31) bs) ≡ min 32 (suc (front p bs))
+name_length p bs = omega (arith, front_take p (min (length bs) 31) bs, front_within p bs)

@@ -55,9 +55,9 @@ module _ (n : ℕ) (below : Stopping n) (m : Mark) (square : is_mark OpenSquare 
         more = mark_view m ∷ [];
         whole = record { tree = w; proper = f.proper; is = refl };
         local = λ k cont short head.
-          let alike : first_token cont ≡ first_token more = head ∙ ap first_token (sym same) in
-          ap (λ (p : Parse). andthen p (λ w rest. behind m rest (λ more. good w more))) (complete k w cont f.proper (clear_same w more cont alike f.clear) short)
-          ∙ ap (λ (b : Bool). cond b (good w (drop 1 cont)) (stops cont)) (ap (is_first m) alike ∙ lacks);
+            let alike : first_token cont ≡ first_token more = head ∙ ap first_token (sym same) in
+            ap (λ (p : Parse). andthen p (λ w rest. behind m rest (λ more. good w more))) (complete k w cont f.proper (clear_same w more cont alike f.clear) short)
+            ∙ ap (λ (b : Bool). cond b (good w (drop 1 cont)) (stops cont)) (ap (is_first m) alike ∙ lacks);
       }
 
   ended_fails_at : (ts rest : List Token) (p : Parse) → parse n ts ≡ p → andthen p (λ w rest. behind m rest (λ more. good w more)) ≡ stops rest → length ts < n → Fails (λ k xs. ended (parse k) m xs) (EndedBy m) ts rest
@@ -89,7 +89,7 @@ module _ (n : ℕ) (below : Stopping n) (m : Mark) (square : is_mark OpenSquare 
     first_stops ts rest f =
         let w : Written = f.whole.tree in
         let all : f.pre ++ (f.more ++ some) ≡ written w ++ mark_view m ∷ some =
-            sym (append_assoc f.pre f.more some) ∙ ap (λ xs. xs ++ some) f.whole.is ∙ append_assoc (written w) (mark_view m ∷ []) some in
+        sym (append_assoc f.pre f.more some) ∙ ap (λ xs. xs ++ some) f.whole.is ∙ append_assoc (written w) (mark_view m ∷ []) some in
         record {
           pre = f.pre;
           is = f.is;
@@ -100,16 +100,16 @@ module _ (n : ℕ) (below : Stopping n) (m : Mark) (square : is_mark OpenSquare 
 
     second_stops : (ts rest more : List Token) (w : Written) → IsEnded m ts w more → Fails (q w) (D w) more rest → Fails both C ts rest
     second_stops ts rest more w e f = record {
-        pre = written w ++ mark_view m ∷ f.pre;
-        is = e.is ∙ ap (λ xs. written w ++ mark_view m ∷ xs) f.is ∙ sym (middle (written w) f.pre rest (mark_view m));
-        more = f.more;
-        whole = subst (λ (xs : List Token). C xs) (sym (middle (written w) f.pre f.more (mark_view m))) (join w (f.pre ++ f.more) e.proper f.whole);
-        local = λ k cont less head.
+      pre = written w ++ mark_view m ∷ f.pre;
+      is = e.is ∙ ap (λ xs. written w ++ mark_view m ∷ xs) f.is ∙ sym (middle (written w) f.pre rest (mark_view m));
+      more = f.more;
+      whole = subst (λ (xs : List Token). C xs) (sym (middle (written w) f.pre f.more (mark_view m))) (join w (f.pre ++ f.more) e.proper f.whole);
+      local = λ k cont less head.
           let size = length-append (written w) (mark_view m ∷ f.pre) in
           ap (λ xs. both k xs) (middle (written w) f.pre cont (mark_view m))
           ∙ ap (λ (p : Parse). andthen p (λ w rest. q w k rest)) (ended_complete k (complete k) m square w (f.pre ++ cont) e.proper (omega (arith, size)))
           ∙ f.local k cont (omega (arith, size)) head;
-      }
+    }
 
     both_fails_at : (ts rest : List Token) (p : Parse) → ended (parse n) m ts ≡ p → andthen p (λ w rest. q w n rest) ≡ stops rest → length ts < n → Fails both C ts rest
     both_fails_at ts rest (stops r) e h short = first_stops ts rest (ended_fails ts rest (e ∙ h) short)
@@ -128,12 +128,12 @@ never w ts rest A h = cc
 wrap_fails : (s t : Token) (q : ℕ → List Token → Parse) → ((k : ℕ) (xs : List Token) → parse (suc k) (s ∷ t ∷ xs) ≡ q k xs) → (ts rest : List Token)
     → Fails q (λ xs. IsExpression (s ∷ t ∷ xs)) ts rest → Fails (λ k xs. parse k xs) IsExpression (s ∷ t ∷ ts) rest
 wrap_fails s t q goes ts rest f = record {
-    pre = s ∷ t ∷ f.pre;
-    is = ap (λ xs. s ∷ t ∷ xs) f.is;
-    more = f.more;
-    whole = f.whole;
-    local = inside;
-  } where
+  pre = s ∷ t ∷ f.pre;
+  is = ap (λ xs. s ∷ t ∷ xs) f.is;
+  more = f.more;
+  whole = f.whole;
+  local = inside;
+} where
   inside : (k : ℕ) (cont : List Token) → length (s ∷ t ∷ f.pre) < k → first_token cont ≡ first_token rest → parse k ((s ∷ t ∷ f.pre) ++ cont) ≡ stops cont
   inside zero cont less head = absurd (omega arith)
   inside (suc k) cont less head = goes k (f.pre ++ cont) ∙ f.local k cont (omega arith) head
@@ -150,43 +150,43 @@ module _ (n : ℕ) (below : Stopping n) where
   element_fails p ts rest h short =
       let C : List Token → Type 0 = λ xs. IsExpression (name p ∷ open_square ∷ xs) in
       wrap_fails (name p) open_square (λ k xs. element_of (parse k) p xs) (λ k xs. refl) ts rest
-        (both_fails n below CloseSquare refl (λ e k rest. good (element p e) rest) C (λ e xs. xs ≡ [])
-          (λ e proper us more g less. never _ _ _ _ g) [] (λ e. refl)
-          (λ e xs proper d. (element p e, (proper, ap (λ us. name p ∷ open_square ∷ (written e ++ close_square ∷ us)) d)))
-          ts rest h short)
+      (both_fails n below CloseSquare refl (λ e k rest. good (element p e) rest) C (λ e xs. xs ≡ [])
+      (λ e proper us more g less. never _ _ _ _ g) [] (λ e. refl)
+      (λ e xs proper d. (element p e, (proper, ap (λ us. name p ∷ open_square ∷ (written e ++ close_square ∷ us)) d)))
+      ts rest h short)
 
   negation_fails : (ts rest : List Token) → negation_of (parse n) ts ≡ stops rest → length ts < n → Fails (λ k xs. negation_of (parse k) xs) (λ xs. IsExpression (name (word_of Neg) ∷ open_round ∷ xs)) ts rest
   negation_fails ts rest h short =
       both_fails n below CloseRound refl (λ a k rest. good (negation a) rest) (λ xs. IsExpression (name (word_of Neg) ∷ open_round ∷ xs)) (λ a xs. xs ≡ [])
-        (λ a proper us more g less. never _ _ _ _ g) [] (λ a. refl)
-        (λ a xs proper d. (negation a, (proper, ap (λ us. name (word_of Neg) ∷ open_round ∷ (written a ++ close_round ∷ us)) d)))
-        ts rest h short
+      (λ a proper us more g less. never _ _ _ _ g) [] (λ a. refl)
+      (λ a xs proper d. (negation a, (proper, ap (λ us. name (word_of Neg) ∷ open_round ∷ (written a ++ close_round ∷ us)) d)))
+      ts rest h short
 
   apply_fails : (op : Op) → op ≢ Neg → (ts rest : List Token) → apply_of (parse n) op ts ≡ stops rest → length ts < n → Fails (λ k xs. apply_of (parse k) op xs) (λ xs. IsExpression (name (word_of op) ∷ open_round ∷ xs)) ts rest
   apply_fails op two ts rest h short =
       both_fails n below Comma refl (λ a k rest. andthen (ended (parse k) CloseRound rest) (λ b last. good (apply op a b) last)) (λ xs. IsExpression (name (word_of op) ∷ open_round ∷ xs)) (λ a xs. EndedBy CloseRound xs)
-        (λ a proper us more g less. both_fails n below CloseRound refl (λ b k last. good (apply op a b) last) (EndedBy CloseRound) (λ b xs. xs ≡ [])
-          (λ b p2 vs last g2 less2. never _ _ _ _ g2) [] (λ b. refl)
-          (λ b xs p2 d. record { tree = b; proper = p2; is = ap (λ us. written b ++ close_round ∷ us) d })
-          us more g less)
-        (number (pos 0) ∷ close_round ∷ []) (λ a. record { tree = literal (pos 0); proper = tt; is = refl })
-        (λ a xs proper d. (apply op a d.tree, ((two, (proper, d.proper)), ap (λ us. name (word_of op) ∷ open_round ∷ (written a ++ comma ∷ us)) d.is)))
-        ts rest h short
+      (λ a proper us more g less. both_fails n below CloseRound refl (λ b k last. good (apply op a b) last) (EndedBy CloseRound) (λ b xs. xs ≡ [])
+      (λ b p2 vs last g2 less2. never _ _ _ _ g2) [] (λ b. refl)
+      (λ b xs p2 d. record { tree = b; proper = p2; is = ap (λ us. written b ++ close_round ∷ us) d })
+      us more g less)
+      (number (pos 0) ∷ close_round ∷ []) (λ a. record { tree = literal (pos 0); proper = tt; is = refl })
+      (λ a xs proper d. (apply op a d.tree, ((two, (proper, d.proper)), ap (λ us. name (word_of op) ∷ open_round ∷ (written a ++ comma ∷ us)) d.is)))
+      ts rest h short
 
   select_fails : (ts rest : List Token) → select_of (parse n) ts ≡ stops rest → length ts < n → Fails (λ k xs. select_of (parse k) xs) (λ xs. IsExpression (name (codes "select") ∷ open_round ∷ xs)) ts rest
   select_fails ts rest h short =
       both_fails n below Comma refl (λ c k rest. andthen (ended (parse k) Comma rest) (λ a more. andthen (ended (parse k) CloseRound more) (λ b last. good (select c a b) last))) (λ xs. IsExpression (name (codes "select") ∷ open_round ∷ xs)) (λ c xs. Two xs)
-        (λ c proper us more g less. both_fails n below Comma refl (λ a k rest. andthen (ended (parse k) CloseRound rest) (λ b last. good (select c a b) last)) Two (λ a xs. EndedBy CloseRound xs)
-          (λ a pa vs last g2 less2. both_fails n below CloseRound refl (λ b k last. good (select c a b) last) (EndedBy CloseRound) (λ b xs. xs ≡ [])
-            (λ b pb xs end g3 less3. never _ _ _ _ g3) [] (λ b. refl)
-            (λ b xs pb d. record { tree = b; proper = pb; is = ap (λ us. written b ++ close_round ∷ us) d })
-            vs last g2 less2)
-          (number (pos 0) ∷ close_round ∷ []) (λ a. record { tree = literal (pos 0); proper = tt; is = refl })
-          (λ a xs pa d. record { first = a; second = d.tree; proper = (pa, d.proper); is = ap (λ us. written a ++ comma ∷ us) d.is })
-          us more g less)
-        (number (pos 0) ∷ comma ∷ number (pos 0) ∷ close_round ∷ []) (λ c. record { first = literal (pos 0); second = literal (pos 0); proper = (tt, tt); is = refl })
-        (λ c xs proper d. (select c d.first d.second, ((proper, d.proper), ap (λ us. name (codes "select") ∷ open_round ∷ (written c ++ comma ∷ us)) d.is)))
-        ts rest h short
+      (λ c proper us more g less. both_fails n below Comma refl (λ a k rest. andthen (ended (parse k) CloseRound rest) (λ b last. good (select c a b) last)) Two (λ a xs. EndedBy CloseRound xs)
+      (λ a pa vs last g2 less2. both_fails n below CloseRound refl (λ b k last. good (select c a b) last) (EndedBy CloseRound) (λ b xs. xs ≡ [])
+      (λ b pb xs end g3 less3. never _ _ _ _ g3) [] (λ b. refl)
+      (λ b xs pb d. record { tree = b; proper = pb; is = ap (λ us. written b ++ close_round ∷ us) d })
+      vs last g2 less2)
+      (number (pos 0) ∷ close_round ∷ []) (λ a. record { tree = literal (pos 0); proper = tt; is = refl })
+      (λ a xs pa d. record { first = a; second = d.tree; proper = (pa, d.proper); is = ap (λ us. written a ++ comma ∷ us) d.is })
+      us more g less)
+      (number (pos 0) ∷ comma ∷ number (pos 0) ∷ close_round ∷ []) (λ c. record { first = literal (pos 0); second = literal (pos 0); proper = (tt, tt); is = refl })
+      (λ c xs proper d. (select c d.first d.second, ((proper, d.proper), ap (λ us. name (codes "select") ∷ open_round ∷ (written c ++ comma ∷ us)) d.is)))
+      ts rest h short
 
 -- Behind `sum(`.
 is_named : Option Token → Bool
@@ -202,21 +202,21 @@ sum_stops _ h = refl
 
 sum_at_once : (ts rest : List Token) → is_named (first_token ts) ≡ false → ts ≡ rest → Fails (λ k xs. sum_of xs) (λ xs. IsExpression (name (codes "sum") ∷ open_round ∷ xs)) ts rest
 sum_at_once ts rest h e = record {
-    pre = [];
-    is = e;
-    more = name (codes "p") ∷ close_round ∷ [];
-    whole = (sum_over (codes "p"), (tt, refl));
-    local = λ k cont less head. sum_stops cont (ap is_named (head ∙ ap first_token (sym e)) ∙ h);
-  }
+  pre = [];
+  is = e;
+  more = name (codes "p") ∷ close_round ∷ [];
+  whole = (sum_over (codes "p"), (tt, refl));
+  local = λ k cont less head. sum_stops cont (ap is_named (head ∙ ap first_token (sym e)) ∙ h);
+}
 
 sum_no_mark : (p : Bytes) (ts rest : List Token) → begins CloseRound ts ≡ false → ts ≡ rest → Fails (λ k xs. sum_of xs) (λ xs. IsExpression (name (codes "sum") ∷ open_round ∷ xs)) (name p ∷ ts) rest
 sum_no_mark p ts rest lacks e = record {
-    pre = name p ∷ [];
-    is = ap (λ xs. name p ∷ xs) e;
-    more = close_round ∷ [];
-    whole = (sum_over p, (tt, refl));
-    local = λ k cont less head. ap (λ (b : Bool). cond b (good (sum_over p) (drop 1 cont)) (stops cont)) (ap (is_first CloseRound) (head ∙ ap first_token (sym e)) ∙ lacks);
-  }
+  pre = name p ∷ [];
+  is = ap (λ xs. name p ∷ xs) e;
+  more = close_round ∷ [];
+  whole = (sum_over p, (tt, refl));
+  local = λ k cont less head. ap (λ (b : Bool). cond b (good (sum_over p) (drop 1 cont)) (stops cont)) (ap (is_first CloseRound) (head ∙ ap first_token (sym e)) ∙ lacks);
+}
 
 sum_fails : (ts rest : List Token) → sum_of ts ≡ stops rest → Fails (λ k xs. sum_of xs) (λ xs. IsExpression (name (codes "sum") ∷ open_round ∷ xs)) ts rest
 unfolding is_named
@@ -235,14 +235,15 @@ index_cond b ts rest h = cond_stops b index ts ts rest h
 index_fails : (p : Bytes) (ts rest : List Token) → begins OpenSquare ts ≡ false → ((f : Word) → form_of p ≡ Some f → begins OpenRound ts ≡ false) → index_of p ts ≡ stops rest
     → Fails (λ k xs. parse k xs) IsExpression (name p ∷ ts) rest
 index_fails p ts rest square word h = record {
-    pre = name p ∷ [];
-    is = ap (λ xs. name p ∷ xs) c.1;
-    more = open_square ∷ number (pos 0) ∷ close_square ∷ [];
-    whole = (element p (literal (pos 0)), (tt, refl));
-    local = inside;
-  } where
+  pre = name p ∷ [];
+  is = ap (λ xs. name p ∷ xs) c.1;
+  more = open_square ∷ number (pos 0) ∷ close_square ∷ [];
+  whole = (element p (literal (pos 0)), (tt, refl));
+  local = inside;
+} where
   c : (bytes_eq p (codes "j") ≡ false) × (ts ≡ rest)
   c = index_cond (bytes_eq p (codes "j")) ts rest h
+
   inside : (k : ℕ) (cont : List Token) → length (name p ∷ []) < k → first_token cont ≡ first_token rest → parse k ((name p ∷ []) ++ cont) ≡ stops cont
   inside zero cont less head = absurd (omega arith)
   inside (suc k) cont less head =
@@ -279,10 +280,10 @@ module _ (n : ℕ) (below : Stopping n) where
 
   name_fails : (p : Bytes) (ts rest : List Token) → named (parse n) p ts ≡ stops rest → length ts < n → Fails (λ k xs. parse k xs) IsExpression (name p ∷ ts) rest
   name_fails p ts rest h short = elim (named_cases (parse n) p ts (stops rest) h) [
-      at_element square goes ↦ square_fails p ts rest square goes short |
-      at_word f form round goes ↦ word_fails p f ts rest form round goes short |
-      at_index square word goes ↦ index_fails p ts rest square word goes
-    ]
+    | at_element square goes ↦ square_fails p ts rest square goes short
+    | at_word f form round goes ↦ word_fails p f ts rest form round goes short
+    | at_index square word goes ↦ index_fails p ts rest square word goes
+  ]
 
   expression_stops : (read : List Token → Parse) (ts : List Token) → starts (first_token ts) ≡ false → expression_of read ts ≡ stops ts
   unfolding starts
@@ -293,12 +294,12 @@ module _ (n : ℕ) (below : Stopping n) where
 
   at_once : (ts rest : List Token) → starts (first_token ts) ≡ false → ts ≡ rest → Fails (λ k xs. parse k xs) IsExpression ts rest
   at_once ts rest h e = record {
-      pre = [];
-      is = e;
-      more = number (pos 0) ∷ [];
-      whole = (literal (pos 0), (tt, refl));
-      local = inside;
-    } where
+    pre = [];
+    is = e;
+    more = number (pos 0) ∷ [];
+    whole = (literal (pos 0), (tt, refl));
+    local = inside;
+  } where
     inside : (k : ℕ) (cont : List Token) → length {A = Token} [] < k → first_token cont ≡ first_token rest → parse k ([] ++ cont) ≡ stops cont
     inside zero cont less head = absurd (omega arith)
     inside (suc k) cont less head = expression_stops (λ xs. parse k xs) cont (ap starts (head ∙ ap first_token (sym e)) ∙ h)

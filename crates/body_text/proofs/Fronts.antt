@@ -192,15 +192,15 @@ cond_cases false x y z h = inr (refl, h)
 opened_cases : (read : List Token → Parse) (p : Bytes) (ts : List Token) (z : Parse) (o : Option Word) → form_of p ≡ o → begins OpenSquare ts ≡ false → opened read o p ts ≡ z → Named read p ts z
 opened_cases read p ts z None e square h = at_index square (λ f w. cc (e, w)) h
 opened_cases read p ts z (Some f) e square h = elim (cond_cases (begins OpenRound ts) (arguments_of read f (drop 1 ts)) (index_of p ts) z h) [
-    inl w ↦ at_word f e w.0 w.1 |
-    inr w ↦ at_index square (λ g same. w.0) w.1
-  ]
+  | inl w ↦ at_word f e w.0 w.1
+  | inr w ↦ at_index square (λ g same. w.0) w.1
+]
 
 pub named_cases : (read : List Token → Parse) (p : Bytes) (ts : List Token) (z : Parse) → named read p ts ≡ z → Named read p ts z
 named_cases read p ts z h = elim (cond_cases (begins OpenSquare ts) (element_of read p (drop 1 ts)) (opened read (form_of p) p ts) z h) [
-    inl w ↦ at_element w.0 w.1 |
-    inr w ↦ opened_cases read p ts z (form_of p) refl w.0 w.1
-  ]
+  | inl w ↦ at_element w.0 w.1
+  | inr w ↦ opened_cases read p ts z (form_of p) refl w.0 w.1
+]
 
 -- What is read is the expression's tokens.
 module _ (read : List Token → Parse) (sound : Sound read) where
@@ -285,10 +285,10 @@ module _ (read : List Token → Parse) (sound : Sound read) where
 
   name_sound : (p : Bytes) (ts : List Token) (w : Written) (rest : List Token) → named read p ts ≡ good w rest → IsFront (name p ∷ ts) w rest
   name_sound p ts w rest h = elim (named_cases read p ts (good w rest) h) [
-      at_element square goes ↦ subst (λ (xs : List Token). IsFront (name p ∷ xs) w rest) (sym (begins_is OpenSquare ts square)) (element_sound p (drop 1 ts) w rest goes) |
-      at_word f form round goes ↦ word_sound p f ts w rest form round goes |
-      at_index square word goes ↦ index_sound p ts w rest square goes
-    ]
+    | at_element square goes ↦ subst (λ (xs : List Token). IsFront (name p ∷ xs) w rest) (sym (begins_is OpenSquare ts square)) (element_sound p (drop 1 ts) w rest goes)
+    | at_word f form round goes ↦ word_sound p f ts w rest form round goes
+    | at_index square word goes ↦ index_sound p ts w rest square goes
+  ]
 
   pub expression_sound : Sound (expression_of read)
   expression_sound (number v ∷ ts) w rest h = front_along _ (literal v) w ts rest h (record { proper = tt; is = refl; clear = tt })

@@ -36,8 +36,8 @@ alone_fails_at n ts rest (good w (t ∷ us)) e h short =
       more = [];
       whole = (w, (f.proper, append-nil (written w)));
       local = λ k cont less head.
-        let alike : first_token cont ≡ first_token (t ∷ us) = head ∙ ap first_token (sym same) in
-        ap alone (complete k w cont f.proper (clear_same w (t ∷ us) cont alike f.clear) less) ∙ alone_stops w cont t alike;
+          let alike : first_token cont ≡ first_token (t ∷ us) = head ∙ ap first_token (sym same) in
+          ap alone (complete k w cont f.proper (clear_same w (t ∷ us) cont alike f.clear) less) ∙ alone_stops w cont t alike;
     }
 alone_fails_at n ts rest (stops r) e h short =
     let f : Fails (λ k xs. parse k xs) IsExpression ts rest = parse_fails n ts rest (e ∙ h) short in
@@ -79,7 +79,7 @@ can_shorter : (ts : List Token) (i k : ℕ) → i ≤ k → k ≤ length ts → 
 can_shorter ts i k less within can =
     let front : take i (take k ts) ≡ take i ts = take-take i k ts less in
     let all : take i ts ++ (drop i (take k ts) ++ can.0) ≡ take k ts ++ can.0 =
-        sym (append_assoc (take i ts) (drop i (take k ts)) can.0) ∙ ap (λ xs. (xs ++ drop i (take k ts)) ++ can.0) (sym front) ∙ ap (λ xs. xs ++ can.0) (take-append-drop i (take k ts)) in
+    sym (append_assoc (take i ts) (drop i (take k ts)) can.0) ∙ ap (λ xs. (xs ++ drop i (take k ts)) ++ can.0) (sym front) ∙ ap (λ xs. xs ++ can.0) (take-append-drop i (take k ts)) in
     (drop i (take k ts) ++ can.0, subst (λ (xs : List Token). IsExpression xs) (sym all) can.1)
 
 not_before : (ts : List Token) (i k : ℕ) → FailsAt ts i → FailsAt ts k → i < k → ⊥
@@ -92,9 +92,9 @@ one_place ts i k f g = omega (arith, not_before ts i k f g, not_before ts k i g 
 -- An expression's tokens fail nowhere.
 pub fails_is_none : (ts : List Token) (i : ℕ) → FailsAt ts i → IsExpression ts → ⊥
 fails_is_none ts i f is = elim (at_end_or_before i (length ts) f.within) [
-    inl end ↦ f.short end is |
-    inr before ↦ f.stuck before (drop (suc i) ts, subst (λ (xs : List Token). IsExpression xs) (sym (take-append-drop (suc i) ts)) is)
-  ]
+  | inl end ↦ f.short end is
+  | inr before ↦ f.stuck before (drop (suc i) ts, subst (λ (xs : List Token). IsExpression xs) (sym (take-append-drop (suc i) ts)) is)
+]
   where
-  at_end_or_before : (i n : ℕ) → i ≤ n → (i ≡ n) ⊎ (i < n)
-  at_end_or_before i n h = grind arith
+    at_end_or_before : (i n : ℕ) → i ≤ n → (i ≡ n) ⊎ (i < n)
+    at_end_or_before i n h = grind arith

@@ -140,9 +140,9 @@ element_step names ps start k port p e r o he found missing value next unknown =
         left = ap (λ (k : ℕ). behind_of k ps) next ∙ g.read.left;
       };
     }) where
-  chosen : (b : Bool) (at : ℕ) (rest : Option ℕ) → option_or (if b then None else Some at) rest ≡ cond b rest (Some at)
-  chosen true at rest = refl
-  chosen false at rest = refl
+      chosen : (b : Bool) (at : ℕ) (rest : Option ℕ) → option_or (if b then None else Some at) rest ≡ cond b rest (Some at)
+      chosen true at rest = refl
+      chosen false at rest = refl
 
 pub select_step : (names : List Bytes) (ps : List declared.Placed) (start : ℕ) (read : List Token → Parse) (ts : List Token) (c a b r : Read)
     → Answers names ps (start + 2) 1 (ended read Comma ts) (Ok c)
@@ -176,11 +176,12 @@ select_step names ps start read ts c a b r hc ha hb value next unknown =
         left = ap (λ (k : ℕ). behind_of k ps) next ∙ h.read.left;
       };
     }) where
-  three : {c d a x b y : numbered.Expr} → c ≡ d → a ≡ x → b ≡ y → numbered.select c a b ≡ numbered.select d x y
-  three p q r = cc
-  option_or_three : (o p q : Option ℕ) → option_or (option_or o p) q ≡ option_or o (option_or p q)
-  option_or_three None p q = refl
-  option_or_three (Some n) p q = refl
+      three : {c d a x b y : numbered.Expr} → c ≡ d → a ≡ x → b ≡ y → numbered.select c a b ≡ numbered.select d x y
+      three p q r = cc
+
+      option_or_three : (o p q : Option ℕ) → option_or (option_or o p) q ≡ option_or o (option_or p q)
+      option_or_three None p q = refl
+      option_or_three (Some n) p q = refl
 
 -- What a name begins is what stands behind it.
 pub named_element : (read : List Token → Parse) (p : Bytes) (i : ℕ) (ps : List declared.Placed) → begins OpenSquare (behind_of (i + 1) ps) ≡ true
@@ -250,7 +251,7 @@ pub sum_open : (names : List Bytes) (ps : List declared.Placed) (start : ℕ) (p
     → begins CloseRound (behind_of (start + 3) ps) ≡ false → Answers names ps start 0 (sum_of (behind_of (start + 2) ps)) (Err (At (start + 3)))
 sum_open names ps start p first h =
     let here : sum_of (behind_of (start + 2) ps) ≡ stops (behind_of (start + 3) ps) =
-        sum_behind ps start p first ∙ ap (λ (b : Bool). cond b (good (sum_over p) (drop 1 (behind_of (start + 3) ps))) (stops (behind_of (start + 3) ps))) h in
+    sum_behind ps start p first ∙ ap (λ (b : Bool). cond b (good (sum_over p) (drop 1 (behind_of (start + 3) ps))) (stops (behind_of (start + 3) ps))) h in
     answers_along names ps start _ _ _ here (record { within = omega (arith, within_first (start + 2) ps (name p) first); left = refl })
 
 pub sum_step : (names : List Bytes) (ps : List declared.Placed) (start k : ℕ) (p : Bytes) (r : Read) → Some (name p) ≡ first_token (behind_of (start + 2) ps)
@@ -258,7 +259,7 @@ pub sum_step : (names : List Bytes) (ps : List declared.Placed) (start k : ℕ) 
     → view r.value ≡ numbered.sum_over k → r.next ≡ start + 4 → Answers names ps start 0 (sum_of (behind_of (start + 2) ps)) (Ok r)
 sum_step names ps start k p r first h found unknown value next =
     let here : sum_of (behind_of (start + 2) ps) ≡ good (sum_over p) (drop 1 (behind_of (start + 3) ps)) =
-        sum_behind ps start p first ∙ ap (λ (b : Bool). cond b (good (sum_over p) (drop 1 (behind_of (start + 3) ps))) (stops (behind_of (start + 3) ps))) h in
+    sum_behind ps start p first ∙ ap (λ (b : Bool). cond b (good (sum_over p) (drop 1 (behind_of (start + 3) ps))) (stops (behind_of (start + 3) ps))) h in
     good_at names ps start 0 _ r (record {
       tree = sum_over p;
       rest = drop 1 (behind_of (start + 3) ps);
@@ -271,9 +272,9 @@ sum_step names ps start k p r first h found unknown value next =
         left = ap (λ (k : ℕ). behind_of k ps) next ∙ ap (λ (k : ℕ). behind_of k ps) (omega arith) ∙ sym (one_behind (start + 3) ps);
       };
     }) where
-  chosen : (b : Bool) (at : ℕ) → (if b then None else Some at) ≡ cond b None (Some at)
-  chosen true at = refl
-  chosen false at = refl
+      chosen : (b : Bool) (at : ℕ) → (if b then None else Some at) ≡ cond b None (Some at)
+      chosen true at = refl
+      chosen false at = refl
 
 -- A fault of an expression is one of the whole text.
 pub alone_err : (names : List Bytes) (ps : List declared.Placed) (p : Parse) (s : Stop) → Answers names ps 0 0 p (Err s) → Answers names ps 0 0 (alone p) (Err s)

@@ -60,9 +60,13 @@ known_by names ps text w None e (Ok x) seen short grammar u v h = record { few =
 known_by names ps text w None e (Err f) seen short grammar u v h = absurd h
 known_by names ps text w (Some i) e (Ok x) seen short grammar u v h = absurd h
 known_by names ps text w (Some i) e (Err (UnknownPort place)) seen short grammar u v h = record {
-    few = short; tree = w; grammar = grammar; token = i; first = sym u;
-    there = ap (λ (qs : List Placed). place_or (length text) (slice_get qs i)) (sym seen) ∙ sym h;
-  }
+  few = short;
+  tree = w;
+  grammar = grammar;
+  token = i;
+  first = sym u;
+  there = ap (λ (qs : List Placed). place_or (length text) (slice_get qs i)) (sym seen) ∙ sym h;
+}
 known_by names ps text w (Some i) e (Err (Limit f)) seen short grammar u v h = absurd h
 known_by names ps text w (Some i) e (Err (BadExpression place)) seen short grammar u v h = absurd h
 known_by names ps text w (Some i) e (Err OutOfMemory) seen short grammar u v h = absurd h

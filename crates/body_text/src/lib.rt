@@ -5,6 +5,8 @@ mod body;
 mod fault;
 mod laws;
 mod read;
+#[cfg(test)]
+mod tests;
 mod token;
 mod word;
 

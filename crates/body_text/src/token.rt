@@ -86,7 +86,9 @@ fn next(text: &[u8], from: usize) -> Option<Span>
     None
 }
 
-/// The length of the token that begins with a byte, where these follow it.
+/// The length of the token that begins with a byte, where these follow it. Of a long run of letters it
+/// looks at no more than one name, so that a whole text is cut in linear time.
+#[tactic(auto, using(crate::proofs::Cuts::name_length))]
 fn token_len(first: u8, rest: &[u8]) -> usize
     ensures len { result ≡ len_by first rest.now }
     ensures within { result ≤ length rest.now + 1 }
@@ -95,7 +97,7 @@ fn token_len(first: u8, rest: &[u8]) -> usize
     if first.is_ascii_digit() || first == b'-' {
         1 + digits(rest)
     } else if is_part(first) {
-        LONGEST_NAME.min(1 + parts(rest))
+        1 + parts(&rest[..rest.len().min(LONGEST_NAME - 1)])
     } else {
         1
     }
