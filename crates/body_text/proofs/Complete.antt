@@ -1,17 +1,16 @@
 -- The tokens that an expression writes are read back, whatever follows them.
-use Rattle.std.proofs.Common.{◌≡◌, ◌≢◌, ℕ, zero, suc, ◌+◌, ◌-◌, ◌<◌, ◌≤◌, false, true, Bool, cond, Option, Some, None, List, [], ◌∷◌, ◌++◌, length, drop, refl, arith, ap, ap₂, sym, ◌∙◌, append_assoc, append-nil, codes}
+use Rattle.std.proofs.Common.{◌≡◌, ℕ, zero, suc, ◌+◌, ◌<◌, false, Bool, cond, Option, Some, None, List, [], ◌∷◌, ◌++◌, length, drop, refl, arith, ap, sym, ◌∙◌, append-nil, codes}
 use Rattle.std.proofs.lemmas.List.{length-append}
-use Rattle.syn_base.specs.declared.arithmetic.Op.{Op}
 use Rattle.syn_base.specs.declared.arithmetic.Op.TheVariants.{Neg}
 use Rattle.body_text.specs.declared.token.Mark.{Mark}
-use Rattle.body_text.specs.declared.token.Mark.TheVariants.{OpenRound, CloseRound, OpenSquare, CloseSquare, Comma}
+use Rattle.body_text.specs.declared.token.Mark.TheVariants.{CloseRound, OpenSquare, CloseSquare, Comma}
 use Rattle.body_text.specs.declared.word.Word.{Word}
 use Rattle.body_text.specs.declared.word.Word.TheVariants.{Select, Sum, Negation, Operator}
-use Rattle.body_text.specs.Tokens.{Bytes, Token, number, name, open_round, close_round, open_square, close_square, comma}
+use Rattle.body_text.specs.Tokens.{Token, name, open_round, close_round, open_square, close_square, comma}
 use Rattle.body_text.specs.Cut.{mark_view}
 use Rattle.body_text.specs.Grammar.{Written, literal, index, element, sum_over, negation, apply, select, written, word_of, IsProper, AreWritten}
 use Rattle.body_text.specs.Words.{form_of, text_of}
-use Rattle.body_text.specs.Parse.{Parse, good, stops, andthen, behind, begins, is_mark, ended, element_of, negation_of, apply_of, select_of, sum_of, index_of, arguments_of, opened, named, parse}
+use Rattle.body_text.specs.Parse.{Parse, good, stops, andthen, behind, begins, is_mark, ended, element_of, negation_of, apply_of, select_of, arguments_of, opened, parse}
 use Rattle.body_text.proofs.Fronts.{IsClear, clear_first, mark_itself, one_tail, two_tail, three_tail, operator_named, select_named, sum_named, neg_is_negation, index_is_no_word}
 
 -- so deep, expressions of fewer tokens are read

@@ -1,5 +1,5 @@
 -- Where parsing stops, the tokens in front begin an expression's, and no further token changes where it stops.
-use Rattle.std.proofs.Common.{◌≡◌, ◌≢◌, ℕ, zero, suc, ◌+◌, ◌-◌, ◌<◌, ◌≤◌, false, true, Bool, cond, Option, Some, None, pos, List, [], ◌∷◌, ◌++◌, length, take, drop, refl, arith, ap, ap₂, sym, ◌∙◌, subst, append_assoc, append-nil, codes}
+use Rattle.std.proofs.Common.{◌≡◌, ◌≢◌, ℕ, zero, suc, ◌<◌, false, true, Bool, cond, Option, Some, None, pos, List, [], ◌∷◌, ◌++◌, length, drop, refl, arith, ap, ap₂, sym, ◌∙◌, subst, append_assoc, codes}
 use Rattle.std.specs.Str.{bytes_eq}
 use Rattle.std.proofs.lemmas.List.{length-append}
 use Rattle.syn_base.specs.declared.arithmetic.Op.{Op}
@@ -8,13 +8,13 @@ use Rattle.body_text.specs.declared.token.Mark.{Mark}
 use Rattle.body_text.specs.declared.token.Mark.TheVariants.{OpenRound, CloseRound, OpenSquare, CloseSquare, Comma}
 use Rattle.body_text.specs.declared.word.Word.{Word}
 use Rattle.body_text.specs.declared.word.Word.TheVariants.{Select, Sum, Negation, Operator}
-use Rattle.body_text.specs.Tokens.{Bytes, Token, number, name, open_round, close_round, open_square, close_square, comma, bad}
+use Rattle.body_text.specs.Tokens.{Bytes, Token, number, name, open_round, close_round, open_square, close_square, comma}
 use Rattle.body_text.specs.Cut.{mark_view}
 use Rattle.body_text.specs.Grammar.{Written, literal, index, element, sum_over, negation, apply, select, written, word_of, IsProper, IsExpression}
 use Rattle.body_text.specs.Words.{form_of, text_of}
 use Rattle.body_text.specs.Parse.{Parse, good, stops, andthen, behind, begins, is_mark, is_first, first_token, ended, element_of, negation_of, apply_of, select_of, sum_of, index_of, arguments_of, opened, named, expression_of, parse}
-use Rattle.body_text.proofs.Fronts.{IsClear, IsFront, IsEnded, clear_same, begins_is, cond_stops, ended_sound, parse_sound, word_is, operator_is_none_of_one, Named, at_element, at_word, at_index, named_cases}
-use Rattle.body_text.proofs.Complete.{Completes, complete, ended_complete, word_goes}
+use Rattle.body_text.proofs.Fronts.{IsFront, IsEnded, clear_same, begins_is, cond_stops, ended_sound, parse_sound, word_is, operator_is_none_of_one, at_element, at_word, at_index, named_cases}
+use Rattle.body_text.proofs.Complete.{complete, ended_complete, word_goes}
 
 -- Reading stops at the rest: what is in front can be completed, and with any other rest that begins alike reading stops there too.
 pub record Fails (p : ℕ → List Token → Parse) (C : List Token → Type 0) (ts rest : List Token) : Type 0 where

@@ -1,7 +1,6 @@
 -- What parsing reads is written by the expression that it answers, and each expression's tokens are read back.
-use Rattle.std.proofs.Common.{◌≡◌, ◌≢◌, ℕ, zero, suc, ◌+◌, ◌-◌, ◌<◌, ◌≤◌, false, true, Bool, cond, Option, Some, None, ℤ, pos, List, [], ◌∷◌, ◌++◌, length, take, drop, refl, arith, ap, ap₂, sym, ◌∙◌, subst, append_assoc, append-nil, codes, ◌⊎◌, inl, inr}
+use Rattle.std.proofs.Common.{◌≡◌, ◌≢◌, ℕ, zero, suc, false, true, Bool, cond, Option, Some, None, List, [], ◌∷◌, ◌++◌, drop, refl, ap, ap₂, sym, ◌∙◌, subst, append_assoc, codes, ◌⊎◌, inl, inr}
 use Rattle.std.specs.Str.{bytes_eq}
-use Rattle.std.proofs.lemmas.List.{length-append}
 use Rattle.std.proofs.lemmas.Slice.Eq.{bytes_eq-Decides}
 use Rattle.syn_base.specs.declared.arithmetic.Op.{Op}
 use Rattle.syn_base.specs.declared.arithmetic.Op.TheVariants.{Add, Sub, Mul, Div, Rem, Eq, Ne, Lt, Le, Gt, Ge, Min, Max, Neg}
@@ -9,9 +8,9 @@ use Rattle.body_text.specs.declared.token.Mark.{Mark}
 use Rattle.body_text.specs.declared.token.Mark.TheVariants.{OpenRound, CloseRound, OpenSquare, CloseSquare, Comma}
 use Rattle.body_text.specs.declared.word.Word.{Word}
 use Rattle.body_text.specs.declared.word.Word.TheVariants.{Select, Sum, Negation, Operator}
-use Rattle.body_text.specs.Tokens.{Bytes, Token, number, name, open_round, close_round, open_square, close_square, comma, bad}
+use Rattle.body_text.specs.Tokens.{Bytes, Token, number, name, open_round, close_round, open_square, close_square, comma}
 use Rattle.body_text.specs.Cut.{mark_view}
-use Rattle.body_text.specs.Grammar.{Written, literal, index, element, sum_over, negation, apply, select, written, word_of, IsProper, IsExpression}
+use Rattle.body_text.specs.Grammar.{Written, literal, index, element, sum_over, negation, apply, select, written, word_of, IsProper}
 use Rattle.body_text.specs.Words.{form_of, found_in, text_of, words}
 use Rattle.body_text.specs.Parse.{Parse, good, stops, andthen, behind, begins, is_mark, is_first, first_token, ended, element_of, negation_of, apply_of, select_of, sum_of, index_of, arguments_of, opened, named, expression_of, parse}
 

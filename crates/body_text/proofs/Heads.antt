@@ -1,11 +1,7 @@
 -- The token at a number, and the tokens behind it.
-use Rattle.std.proofs.Common.{◌≡◌, ℕ, zero, suc, ◌+◌, ◌-◌, ◌<◌, ◌≤◌, false, true, Bool, Option, Some, None, List, [], ◌∷◌, ◌++◌, length, take, drop, get_or, refl, arith, ap, map, sym, ◌∙◌}
-use Rattle.std.proofs.lemmas.List.{drop-drop, drop_all}
-use Rattle.body_text.specs.declared.token.Placed as declared
-use Rattle.body_text.specs.declared.token.Mark.{Mark}
+use Rattle.std.proofs.Common.{◌≡◌, ℕ, zero, suc, ◌<◌, Some, List, [], ◌∷◌, length, drop, get_or, refl, arith, map}
 use Rattle.body_text.specs.Tokens.{Token}
-use Rattle.body_text.specs.Parse.{first_token, begins}
-use Rattle.body_text.specs.Answers.{tokens_of, behind_of}
+use Rattle.body_text.specs.Parse.{first_token}
 
 pub first_at : {A : Type 0} (view : A → Token) (ps : List A) (at : ℕ) (d : A) → at < length ps → Some (view (get_or ps at d)) ≡ first_token (drop at (map view ps))
 first_at view [] at d h = absurd (omega arith)

@@ -1,9 +1,9 @@
 -- What the whole text's tokens are: an expression, or where they fail to be one.
-use Rattle.std.proofs.Common.{◌≡◌, ℕ, zero, suc, ◌+◌, ◌-◌, ◌<◌, ◌≤◌, Option, Some, None, List, [], ◌∷◌, ◌++◌, length, take, drop, refl, arith, ap, ap₂, sym, ◌∙◌, subst, append_assoc, append-nil, ◌⊎◌, inl, inr}
-use Rattle.std.proofs.lemmas.List.{length-append, take_at, take-append-drop, take-append-le, length-take-le, length-drop, drop_all, take_all, take-take}
+use Rattle.std.proofs.Common.{◌≡◌, ℕ, suc, ◌+◌, ◌<◌, ◌≤◌, Some, List, [], ◌∷◌, ◌++◌, length, take, drop, refl, arith, ap, ap₂, sym, ◌∙◌, subst, append_assoc, append-nil, ◌⊎◌, inl, inr}
+use Rattle.std.proofs.lemmas.List.{length-append, take_at, take-append-drop, length-drop, take-take}
 use Rattle.std.proofs.Math.Seq.{take-append-add}
 use Rattle.body_text.specs.Tokens.{Token}
-use Rattle.body_text.specs.Grammar.{Written, written, IsProper, AreWritten, IsExpression, CanBegin, FailsAt}
+use Rattle.body_text.specs.Grammar.{Written, written, AreWritten, IsExpression, CanBegin, FailsAt}
 use Rattle.body_text.specs.Parse.{Parse, good, stops, first_token, parse, alone}
 use Rattle.body_text.proofs.Fronts.{IsFront, clear_same, parse_sound}
 use Rattle.body_text.proofs.Complete.{complete, complete_alone}

@@ -1,8 +1,8 @@
 -- The definitions at worked texts over one port `x`.
-use Rattle.std.proofs.Common.{◌≡◌, ℕ, refl, List, [], ◌∷◌, ◌++◌, ◌+◌, pos, negsuc, length, Some, None, codes}
+use Rattle.std.proofs.Common.{◌≡◌, refl, [], ◌∷◌, pos, negsuc, Some, codes}
 use Rattle.syn_base.specs.declared.arithmetic.Op.TheVariants.{Add}
-use Rattle.body_text.specs.Tokens.{tokens, placed, number, name, open_round, close_round, open_square, close_square, comma, bad}
-use Rattle.body_text.specs.Grammar.{Written, literal, index, element, sum_over, negation, apply, select, written, AreWritten}
+use Rattle.body_text.specs.Tokens.{tokens, number, name, open_round, close_round, open_square, close_square, comma, bad}
+use Rattle.body_text.specs.Grammar.{Written, literal, element, sum_over, apply, written}
 use Rattle.body_text.specs.Ports.{unknown}
 use Rattle.body_text.specs.Reads.{place_of}
 

@@ -1,25 +1,25 @@
 -- One step of the reader: from what its calls answer to what it answers.
-use Rattle.std.proofs.Common.{◌≡◌, ℕ, zero, suc, ◌+◌, ◌-◌, ◌<◌, ◌≤◌, false, true, Bool, cond, not, ◌||◌, Option, Some, None, Result, Ok, Err, ℤ, List, [], ◌∷◌, ◌++◌, length, take, drop, refl, arith, ap, ap₂, map, sym, ◌∙◌, subst, nat_lt, if◌then◌else◌}
-use Rattle.std.specs.Option.{option_or, option_map}
+use Rattle.std.proofs.Common.{◌≡◌, ℕ, suc, ◌+◌, ◌-◌, ◌<◌, false, true, Bool, cond, not, ◌||◌, Option, Some, None, Result, Ok, Err, ℤ, List, [], ◌∷◌, ◌++◌, length, drop, refl, arith, ap, ap₂, sym, ◌∙◌, subst, nat_lt, if◌then◌else◌}
+use Rattle.std.specs.Option.{option_or}
 use Rattle.std.specs.List.{list_any, position_or_len}
 use Rattle.std.specs.Str.{bytes_eq}
-use Rattle.std.proofs.lemmas.List.{drop-drop, drop_all, length-map, length-append, length-drop}
+use Rattle.std.proofs.lemmas.List.{drop-drop, length-map, length-append, length-drop}
 use Rattle.syn_base.specs.declared.arithmetic.Op.{Op}
 use Rattle.body_lang.specs.Expr.{view}
 use Rattle.body_lang.specs.Expr as numbered
 use Rattle.body_text.specs.declared.token.Placed as declared
 use Rattle.body_text.specs.declared.token.Mark.{Mark}
-use Rattle.body_text.specs.declared.token.Mark.TheVariants.{OpenRound, CloseRound, OpenSquare, CloseSquare, Comma}
+use Rattle.body_text.specs.declared.token.Mark.TheVariants.{OpenRound, CloseRound, OpenSquare, Comma}
 use Rattle.body_text.specs.declared.read.Read.{Read}
 use Rattle.body_text.specs.declared.read.Stop.{Stop}
 use Rattle.body_text.specs.declared.read.Stop.TheVariants.{At, OutOfMemory}
 use Rattle.body_text.specs.Tokens.{Bytes, Token, number, name}
-use Rattle.body_text.specs.Grammar.{Written, literal, index, element, sum_over, negation, apply, select, written}
-use Rattle.body_text.specs.Ports.{Naming, is_port, port_number, first_unknown, namings, resolved}
+use Rattle.body_text.specs.Grammar.{Written, literal, element, sum_over, apply, select, written}
+use Rattle.body_text.specs.Ports.{Naming, is_port, port_number, first_unknown, namings}
 use Rattle.body_text.specs.declared.word.Word.{Word}
 use Rattle.body_text.specs.Words.{form_of}
 use Rattle.body_text.specs.Parse.{Parse, good, stops, andthen, behind, begins, first_token, ended, element_of, sum_of, apply_of, select_of, named, opened, arguments_of, index_of, parse, expression_of, alone}
-use Rattle.body_text.specs.Answers.{tokens_of, behind_of, names_of, IsRead, IsStop, StopsBy, LacksMemory, Answers}
+use Rattle.body_text.specs.Answers.{tokens_of, behind_of, IsRead, Answers}
 
 -- what an answer with a value was read from
 pub record Good (names : List Bytes) (ps : List declared.Placed) (from more : ℕ) (p : Parse) (r : Read) : Type 0 where

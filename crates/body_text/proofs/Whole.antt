@@ -1,5 +1,5 @@
 -- From what the reader of tokens answers to what reading the text answers.
-use Rattle.std.proofs.Common.{◌≡◌, ℕ, zero, suc, ◌+◌, ◌<◌, ◌≤◌, Option, Some, None, Result, Ok, Err, List, [], ◌∷◌, length, drop, map, refl, arith, ap, sym, ◌∙◌, subst}
+use Rattle.std.proofs.Common.{◌≡◌, ℕ, ◌+◌, ◌≤◌, Option, Some, None, Result, Ok, Err, List, [], ◌∷◌, length, drop, map, refl, arith, ap, sym, ◌∙◌, subst}
 use Rattle.std.specs.Prelude.{slice_get}
 use Rattle.std.proofs.lemmas.List.{length-map}
 use Rattle.body_lang.specs.Expr.{view}
@@ -16,8 +16,8 @@ use Rattle.body_text.specs.Cut.{placed_view}
 use Rattle.body_text.specs.Grammar.{Written, AreWritten}
 use Rattle.body_text.specs.Ports.{unknown, resolved}
 use Rattle.body_text.specs.Parse.{Parse, good, stops, parse, alone}
-use Rattle.body_text.specs.Answers.{tokens_of, behind_of, IsRead, IsStop, Answers, KnownBy}
-use Rattle.body_text.specs.Reads.{AreFew, place_or, place_of, IsBad, IsBody, IsUnknown, Reads}
+use Rattle.body_text.specs.Answers.{tokens_of, behind_of, IsStop, Answers, KnownBy}
+use Rattle.body_text.specs.Reads.{AreFew, place_or, IsBad, Reads}
 use Rattle.body_text.proofs.Steps.{Good, good_of}
 use Rattle.body_text.proofs.Judged.{is_written, fails_at}
 

@@ -1,5 +1,5 @@
 -- What contracts see of a token, and how a text is cut.
-use Rattle.std.specs.Prelude.{◌≡◌, ℕ, ◌<◌, ◌≤◌, List, [], ◌∷◌, length, drop, Option, MatchOption, slice_range}
+use Rattle.std.specs.Prelude.{◌≡◌, ℕ, ◌<◌, ◌≤◌, [], ◌∷◌, length, drop, Option, MatchOption, slice_range}
 use Rattle.text_lines.specs.declared.Span.{Span}
 use Rattle.body_text.specs.declared.token.Mark.{Mark}
 use Rattle.body_text.specs.declared.token.Mark.TheVariants.{OpenRound, CloseRound, OpenSquare, CloseSquare, Comma}

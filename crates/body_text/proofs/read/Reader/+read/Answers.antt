@@ -1,13 +1,13 @@
 use Rattle.std.proofs.lemmas.Int.{to_z-of_z}
-use Rattle.std.proofs.Common.{rules, ap, ap₂, sym, ◌∙◌, refl, Option, Some, arith, ◌-◌, ◌+◌, List, length}
-use Rattle.std.specs.Option.{option_map, option_or}
+use Rattle.std.proofs.Common.{rules, ap, ap₂, sym, ◌∙◌, refl, Some}
+use Rattle.std.specs.Option.{option_or}
 use Rattle.std.proofs.lemmas.List.{length-map}
 use Rattle.body_lang.specs.Expr.{view}
 use Rattle.body_lang.specs.Expr as plain
 use Rattle.body_text.specs.Cut.{token_view}
-use Rattle.body_text.specs.Parse.{parse, ended}
+use Rattle.body_text.specs.Parse.{parse}
 use Rattle.body_text.specs.Answers.{names_of}
-use Rattle.body_text.proofs.Steps.{ended_step, apply_step, element_step, select_step, named_element, named_word, first_behind, literal_step, name_step, answers_along}
+use Rattle.body_text.proofs.Steps.{ended_step, apply_step, element_step, select_step, named_element, named_word, literal_step, name_step, answers_along}
 use Rattle.body_text.proofs.read.Reader.+read.Goals as goal
 
 pub ended-returns : goal.ended-returns
