@@ -2,5 +2,7 @@
 #![tactic(auto)]
 
 mod fault;
+mod print;
 
 pub use fault::BodyFault;
+pub use print::print_body;
