@@ -1,12 +1,8 @@
 -- Tokens of texts that are put together from pieces.
 use Rattle.std.proofs.Common.{◌≡◌, ℕ, zero, suc, ◌+◌, ◌-◌, ◌≤◌, ◌==◌, min, Bool, true, false, not, ◌&&◌, ◌||◌, cond, if◌then◌else◌, List, [], ◌∷◌, ◌++◌, length, take, map, Option, Some, None, Ok, ℤ, pos, negsuc, refl, ap, ap₂, sym, subst, ◌∙◌, arith, ne_eqb, nat_le, leb-true, w64, FitsSigned, ◌<◌, ◌^◌, codes}
 use Rattle.std.specs.List.{list_all, position_or_len}
-use Rattle.std.specs.Fmt.{decimal, signed_decimal}
 use Rattle.std.proofs.Math.Seq.{take-append_seam}
-use Rattle.std.proofs.lemmas.Fmt.{digits_decimal, decimal_nonempty}
-use Rattle.syn_base.specs.Name.{is_name, is_name_byte, is_letter, is_digit}
-use Rattle.syn_base.specs.Integer.{integer_of, number_after}
-use Rattle.syn_base.proofs.Decimal.{reads_back}
+use Rattle.syn_base.specs.Name.{is_name_byte, is_letter, is_digit}
 use Rattle.text_lines.specs.Text.{is_blank}
 use Rattle.body_text.specs.Tokens.{Bytes, Token, Placed, number, name, open_round, close_round, open_square, close_square, comma, front, len_by, number_or_bad, word_token, mark_of, mark_or_word, token_of, tokens_from, tokens}
 
@@ -33,7 +29,7 @@ passed_over [] rest = refl
 passed_over (x ∷ xs) rest = passed_over xs rest
 
 -- a text that begins with a token of known length
-piece : (b : ℕ) (xs rest : Bytes) → is_blank b ≡ false → len_by b (xs ++ rest) ≡ suc (length xs)
+pub piece : (b : ℕ) (xs rest : Bytes) → is_blank b ≡ false → len_by b (xs ++ rest) ≡ suc (length xs)
     → token_list 0 (b ∷ (xs ++ rest)) ≡ mark_or_word (mark_of b) (b ∷ xs) ∷ token_list 0 rest
 piece b xs rest blank long =
     let less : suc (length xs) - 1 ≡ length xs = omega arith in
@@ -42,23 +38,23 @@ piece b xs rest blank long =
     ∙ ap₂ (λ w ts. mark_or_word (mark_of b) (b ∷ w) ∷ ts) (take-append_seam xs rest) (ap (λ n. token_list n (xs ++ rest)) less ∙ passed_over xs rest)
 
 -- the text begins with no byte that passes
-abbrev StopsAt : (ℕ → Bool) → Bytes → Type 0
+abbrev pub StopsAt : (ℕ → Bool) → Bytes → Type 0
 StopsAt passes [] = Unit {0}
 StopsAt passes (b ∷ bs) = passes b ≡ false
 
-and_left : (x y : Bool) → (x && y) ≡ true → x ≡ true
+pub and_left : (x y : Bool) → (x && y) ≡ true → x ≡ true
 and_left true y h = refl
 and_left false y h = h
 
-and_right : (x y : Bool) → (x && y) ≡ true → y ≡ true
+pub and_right : (x y : Bool) → (x && y) ≡ true → y ≡ true
 and_right true y h = h
 and_right false y h = cc
 
-not_true : (x : Bool) → not x ≡ true → x ≡ false
+pub not_true : (x : Bool) → not x ≡ true → x ≡ false
 not_true true h = sym h
 not_true false h = refl
 
-front_all : (passes : ℕ → Bool) (xs rest : Bytes) → list_all passes xs ≡ true → StopsAt passes rest → front passes (xs ++ rest) ≡ length xs
+pub front_all : (passes : ℕ → Bool) (xs rest : Bytes) → list_all passes xs ≡ true → StopsAt passes rest → front passes (xs ++ rest) ≡ length xs
 front_all passes [] [] all stops = refl
 front_all passes [] (b ∷ bs) all stops = ap (λ c. cond (not (not c)) (1 + front passes bs) 0) stops
 front_all passes (x ∷ xs) rest all stops =
@@ -74,7 +70,7 @@ digit_fails true d u h = cc
 digit_fails false true u h = h
 digit_fails false false u h = refl
 
-digits_stop : (rest : Bytes) → Stops rest → StopsAt is_digit rest
+pub digits_stop : (rest : Bytes) → Stops rest → StopsAt is_digit rest
 digits_stop [] stops = tt
 digits_stop (b ∷ bs) stops = digit_fails (is_letter b) (is_digit b) (b == 95) stops
 
@@ -89,10 +85,13 @@ no_mark : (v w x y z : Bool) → v ≡ false → w ≡ false → x ≡ false →
     → (if v then Some open_round else (if w then Some close_round else (if x then Some open_square else (if y then Some close_square else (if z then Some comma else None))))) ≡ None
 no_mark v w x y z p q r s t = rw (p, q, r, s, t) refl
 
-name_byte-not_blank : (b : ℕ) → is_name_byte b ≡ true → is_blank b ≡ false
+pub name_byte-not_blank : (b : ℕ) → is_name_byte b ≡ true → is_blank b ≡ false
 name_byte-not_blank b h = no_blank (b == 9) (b == 13) (b == 32) (differs is_name_byte b 9 h refl) (differs is_name_byte b 13 h refl) (differs is_name_byte b 32 h refl)
 
-name_byte-no_mark : (b : ℕ) → is_name_byte b ≡ true → mark_of b ≡ None
+pub name_byte-no_mark : (b : ℕ) → is_name_byte b ≡ true → mark_of b ≡ None
 name_byte-no_mark b h =
     no_mark (b == 40) (b == 41) (b == 91) (b == 93) (b == 44)
     (differs is_name_byte b 40 h refl) (differs is_name_byte b 41 h refl) (differs is_name_byte b 91 h refl) (differs is_name_byte b 93 h refl) (differs is_name_byte b 44 h refl)
+
+pub name_byte-no_minus : (b : ℕ) → is_name_byte b ≡ true → (b == 45) ≡ false
+name_byte-no_minus b h = differs is_name_byte b 45 h refl
