@@ -1,13 +1,13 @@
 -- A name or a number at the front of a text is the first token.
-use Rattle.std.proofs.Common.{◌≡◌, ℕ, suc, ◌+◌, ◌≤◌, ◌<◌, ◌^◌, ◌==◌, min, Bool, true, false, not, ◌&&◌, ◌||◌, if◌then◌else◌, List, [], ◌∷◌, ◌++◌, length, Option, None, Ok, ℤ, pos, negsuc, refl, ap, ◌∙◌, arith, rules, nat_le, leb-true, w64, FitsSigned}
+use Rattle.std.proofs.Common.{◌≡◌, ℕ, suc, ◌≤◌, ◌<◌, ◌^◌, ◌==◌, min, Bool, true, false, not, ◌&&◌, ◌||◌, if◌then◌else◌, [], ◌∷◌, ◌++◌, length, Ok, ℤ, pos, negsuc, refl, ap, ◌∙◌, arith, rules, nat_le, leb-true, w64, FitsSigned}
 use Rattle.std.specs.List.{list_all}
 use Rattle.std.specs.Fmt.{decimal, signed_decimal}
 use Rattle.std.proofs.lemmas.Fmt.{digits_decimal, decimal_nonempty}
 use Rattle.std.proofs.lemmas.Str.Parse.{IsNumeralModel, numerals_by_fold}
-use Rattle.syn_base.specs.Name.{is_name, is_name_byte, is_letter, is_digit, begins_name}
+use Rattle.syn_base.specs.Name.{is_name, is_name_byte, is_letter, is_digit}
 use Rattle.syn_base.specs.Integer.{integer_of, number_after}
 use Rattle.syn_base.proofs.Decimal as integers
-use Rattle.body_text.specs.Tokens.{Bytes, Token, number, name, front, len_by, number_or_bad, word_token, mark_of, mark_or_word}
+use Rattle.body_text.specs.Tokens.{Bytes, number, name, front, len_by, number_or_bad, word_token, mark_or_word}
 use Rattle.body_text.proofs.CanonicalTokens.{token_list, piece, Stops, and_left, and_right, not_true, front_all, digits_stop, name_byte-not_blank, name_byte-no_mark, name_byte-no_minus}
 
 name_long : (digit minus part : Bool) (x y n : ℕ) → digit ≡ false → minus ≡ false → part ≡ true → y ≡ n → suc n ≤ 32

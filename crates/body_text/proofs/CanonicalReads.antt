@@ -1,12 +1,11 @@
 -- The canonical text is read back as the same expression.
-use Rattle.std.proofs.Common.{◌≡◌, ℕ, ◌≤◌, List, [], ◌++◌, length, refl, sym, ap, subst, ◌∙◌, append-nil}
+use Rattle.std.proofs.Common.{◌≡◌, ℕ, ◌≤◌, List, [], length, sym, ap, subst, ◌∙◌, append-nil}
 use Rattle.syn_base.specs.declared.limits.LimitKind.TheVariants.{Tokens}
 use Rattle.syn_base.specs.Limits.{bound_of}
 use Rattle.body_lang.specs.Expr.{Expr, PortsBelow}
 use Rattle.body_text.specs.Tokens.{Bytes, Token, tokens}
-use Rattle.body_text.specs.Grammar.{Written, written, AreWritten}
-use Rattle.body_text.specs.Ports.{resolved}
-use Rattle.body_text.specs.Reads.{IsBody, AreFew}
+use Rattle.body_text.specs.Grammar.{Written, written}
+use Rattle.body_text.specs.Reads.{IsBody}
 use Rattle.body_text.specs.Canonical.{canonical, IsRead}
 use Rattle.body_text.proofs.CanonicalSound.{AreSound, IsSoundTree, tokens_sound, tree_sound}
 use Rattle.body_text.proofs.CanonicalText.{text_of, text_tokens}

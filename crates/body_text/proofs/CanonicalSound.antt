@@ -1,11 +1,11 @@
 -- The names of a text's tokens are names, and its numbers fit 64 bits.
-use Rattle.std.proofs.Common.{◌≡◌, ℕ, zero, suc, ◌-◌, ◌≤◌, ◌<◌, ◌^◌, ◌==◌, Bool, true, false, if◌then◌else◌, List, [], ◌∷◌, ◌++◌, take, map, Option, Some, None, Result, Ok, Err, ℤ, pos, negsuc, neg_ℤ, refl, sym, subst, arith, nat_le, leb-true, w64, FitsSigned, append_assoc}
+use Rattle.std.proofs.Common.{◌≡◌, ℕ, zero, suc, ◌-◌, ◌≤◌, ◌^◌, ◌==◌, Bool, true, false, if◌then◌else◌, List, [], ◌∷◌, ◌++◌, take, Option, Some, None, Result, Ok, Err, ℤ, pos, neg_ℤ, refl, sym, subst, arith, nat_le, leb-true, w64, FitsSigned, append_assoc}
 use Rattle.syn_base.specs.Name.{is_name}
 use Rattle.syn_base.specs.declared.integer.NumFault.{NumFault}
 use Rattle.syn_base.specs.declared.integer.NumFault.TheVariants.{TooLarge}
 use Rattle.syn_base.specs.Integer.{integer_of, behind_minus, signed, unless_other, from_digits, with_sign, first_other, number_of}
 use Rattle.text_lines.specs.Text.{is_blank}
-use Rattle.body_text.specs.Tokens.{Bytes, Token, number, name, open_round, close_round, open_square, close_square, comma, len_by, number_or_bad, word_token, mark_of, mark_or_word, token_of, tokens}
+use Rattle.body_text.specs.Tokens.{Bytes, Token, number, name, open_round, close_round, open_square, close_square, comma, len_by, number_or_bad, word_token, mark_or_word, token_of, tokens}
 use Rattle.body_text.specs.Grammar.{Written, literal, index, element, sum_over, negation, apply, select, written}
 use Rattle.body_text.proofs.CanonicalTokens.{token_list, without_places}
 

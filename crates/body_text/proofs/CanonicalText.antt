@@ -1,10 +1,10 @@
 -- The text of an expression without blanks, and its tokens.
-use Rattle.std.proofs.Common.{◌≡◌, ℕ, Bool, true, false, List, [], ◌∷◌, ◌++◌, refl, sym, ap, ◌∙◌, append_assoc, append-nil, codes}
+use Rattle.std.proofs.Common.{◌≡◌, ℕ, true, false, List, [], ◌∷◌, ◌++◌, refl, sym, ap, ◌∙◌, append_assoc, append-nil, codes}
 use Rattle.std.specs.Fmt.{signed_decimal}
 use Rattle.syn_base.specs.Name.{is_name, is_name_byte}
 use Rattle.syn_base.specs.declared.arithmetic.Op.{Op}
 use Rattle.syn_base.specs.declared.arithmetic.Op.TheVariants.{Add, Sub, Mul, Div, Rem, Eq, Ne, Lt, Le, Gt, Ge, Min, Max, Neg}
-use Rattle.body_text.specs.Tokens.{Bytes, Token, number, name, open_round, close_round, open_square, close_square, comma, tokens}
+use Rattle.body_text.specs.Tokens.{Bytes, Token, name, open_round, close_round, open_square, close_square, comma, tokens}
 use Rattle.body_text.specs.Grammar.{Written, literal, index, element, sum_over, negation, apply, select, written, word_of}
 use Rattle.body_text.proofs.CanonicalTokens.{token_list, without_places, Stops}
 use Rattle.body_text.proofs.CanonicalPieces.{name_token, number_token}
@@ -32,7 +32,7 @@ joined : {text more : Bytes} {ts us : List Token} {mark : ℕ} {t : Token} → I
     → IsText (text ++ mark ∷ more) (ts ++ t ∷ us)
 joined {text} {more} {ts} {us} {mark} {t} front ends behind = record {
   reads = λ rest stops. ap (token_list 0) (append_assoc text (mark ∷ more) rest) ∙ front.reads (mark ∷ (more ++ rest)) ends
-      ∙ ap (λ vs. ts ++ vs) (behind.reads rest stops) ∙ sym (append_assoc ts (t ∷ us) (token_list 0 rest))
+      ∙ ap (λ vs. ts ++ vs) (behind.reads rest stops) ∙ sym (append_assoc ts (t ∷ us) (token_list 0 rest));
 }
 
 open_round_then : {text : Bytes} {ts : List Token} → IsText text ts → IsText (40 ∷ text) (open_round ∷ ts)

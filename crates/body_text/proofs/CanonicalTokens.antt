@@ -1,10 +1,10 @@
 -- Tokens of texts that are put together from pieces.
-use Rattle.std.proofs.Common.{◌≡◌, ℕ, zero, suc, ◌+◌, ◌-◌, ◌≤◌, ◌==◌, min, Bool, true, false, not, ◌&&◌, ◌||◌, cond, if◌then◌else◌, List, [], ◌∷◌, ◌++◌, length, take, map, Option, Some, None, Ok, ℤ, pos, negsuc, refl, ap, ap₂, sym, subst, ◌∙◌, arith, ne_eqb, nat_le, leb-true, w64, FitsSigned, ◌<◌, ◌^◌, codes}
-use Rattle.std.specs.List.{list_all, position_or_len}
+use Rattle.std.proofs.Common.{◌≡◌, ℕ, zero, suc, ◌+◌, ◌-◌, ◌==◌, Bool, true, false, not, ◌&&◌, ◌||◌, cond, if◌then◌else◌, List, [], ◌∷◌, ◌++◌, length, take, map, Some, None, refl, ap, ap₂, sym, subst, ◌∙◌, arith, ne_eqb}
+use Rattle.std.specs.List.{list_all}
 use Rattle.std.proofs.Math.Seq.{take-append_seam}
 use Rattle.syn_base.specs.Name.{is_name_byte, is_letter, is_digit}
 use Rattle.text_lines.specs.Text.{is_blank}
-use Rattle.body_text.specs.Tokens.{Bytes, Token, Placed, number, name, open_round, close_round, open_square, close_square, comma, front, len_by, number_or_bad, word_token, mark_of, mark_or_word, token_of, tokens_from, tokens}
+use Rattle.body_text.specs.Tokens.{Bytes, Token, Placed, open_round, close_round, open_square, close_square, comma, front, len_by, mark_of, mark_or_word, token_of, tokens_from}
 
 -- the tokens without their places
 abbrev pub token_list : ℕ → Bytes → List Token

@@ -1,6 +1,5 @@
 //! Printing the canonical text of an expression.
-ghost use Rattle.std.specs.Prelude.{◌≡◌, ◌++◌, OnOk, OnErr, length, map, take};
-ghost use Rattle.std.specs.Fmt.{signed_decimal};
+ghost use Rattle.std.specs.Prelude.{◌≡◌, ◌++◌, OnOk, OnErr, codes, length, map, take};
 ghost use Rattle.body_lang.specs.Expr.{view, PortsBelow};
 ghost use Rattle.body_text.specs.Grammar.{word_of};
 ghost use Rattle.body_text.specs.Reads.{IsBody};
@@ -9,9 +8,9 @@ ghost use Rattle.body_text.specs.Canonical.{canonical, IsRead};
 use body_lang::{Expr, Port};
 use syn_base::{Op, OutOfMemory, print_int};
 
-/// Appends the canonical text of an expression that some text over these ports is: no blanks, numbers
-/// in their shortest form. Read back over the same ports, the text is the same expression. After want
-/// of memory `out` is as before.
+/// Appends the canonical text of an expression that some text over these ports is: no blanks, and
+/// numbers in their shortest form. Read over the same ports, this text is the same expression. It goes
+/// as deep as the expression, which has at most 512 tokens. After want of memory `out` is as before.
 pub fn print_body(e: &Expr, ports: &[Port], out: &mut Vec<u8>) -> Result<(), OutOfMemory>
     requires { IsRead (map (λ p. p.name) ports.now) (view e.now) }
     ensures text { OnOk result (out.new.items ≡ out.old.items ++ canonical (map (λ p. p.name) ports.now) (view e.now)) }
@@ -28,14 +27,15 @@ pub fn print_body(e: &Expr, ports: &[Port], out: &mut Vec<u8>) -> Result<(), Out
     }
 }
 
-/// The same without the way back: what stands in `out` stays in front.
+/// Appends the canonical text of an expression whose port numbers are below the number of ports. After
+/// want of memory a part of it may stand behind what was there.
 fn print_expression(e: &Expr, ports: &[Port], out: &mut Vec<u8>) -> Result<(), OutOfMemory>
     requires { PortsBelow (length ports.now) (view e.now) }
     ensures text { OnOk result (out.new.items ≡ out.old.items ++ canonical (map (λ p. p.name) ports.now) (view e.now)) }
     ensures front { take (length out.old.items) out.new.items ≡ out.old.items }
 {
     match e {
-        Expr::Lit(number) => put_number(*number, out),
+        Expr::Lit(number) => print_int(*number, out),
         Expr::Index => put(b"j", out),
         Expr::Elem(port, at) => {
             put(ports[*port as usize].name.as_bytes(), out)?;
@@ -49,14 +49,12 @@ fn print_expression(e: &Expr, ports: &[Port], out: &mut Vec<u8>) -> Result<(), O
             put(b")", out)
         }
         Expr::Neg(a) => {
-            put(word(Op::Neg), out)?;
-            put(b"(", out)?;
+            open_call(Op::Neg, out)?;
             print_expression(a, ports, out)?;
             put(b")", out)
         }
         Expr::Apply(op, a, b) => {
-            put(word(*op), out)?;
-            put(b"(", out)?;
+            open_call(*op, out)?;
             print_expression(a, ports, out)?;
             put(b",", out)?;
             print_expression(b, ports, out)?;
@@ -74,6 +72,15 @@ fn print_expression(e: &Expr, ports: &[Port], out: &mut Vec<u8>) -> Result<(), O
     }
 }
 
+/// Appends an operator's word and the mark that opens its arguments.
+fn open_call(op: Op, out: &mut Vec<u8>) -> Result<(), OutOfMemory>
+    ensures text { OnOk result (out.new.items ≡ out.old.items ++ (word_of op ++ codes "(")) }
+    ensures front { take (length out.old.items) out.new.items ≡ out.old.items }
+{
+    put(word(op), out)?;
+    put(b"(", out)
+}
+
 /// Appends bytes.
 fn put(bytes: &[u8], out: &mut Vec<u8>) -> Result<(), OutOfMemory>
     ensures text { OnOk result (out.new.items ≡ out.old.items ++ bytes.now) }
@@ -81,14 +88,6 @@ fn put(bytes: &[u8], out: &mut Vec<u8>) -> Result<(), OutOfMemory>
 {
     out.extend_from_slice(bytes)?;
     Ok(())
-}
-
-/// Appends the shortest decimal of a number.
-fn put_number(number: i64, out: &mut Vec<u8>) -> Result<(), OutOfMemory>
-    ensures text { OnOk result (out.new.items ≡ out.old.items ++ signed_decimal number) }
-    ensures front { take (length out.old.items) out.new.items ≡ out.old.items }
-{
-    print_int(number, out)
 }
 
 /// The word of an operator.
