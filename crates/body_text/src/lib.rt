@@ -4,6 +4,7 @@
 mod body;
 mod fault;
 mod laws;
+mod print;
 mod read;
 #[cfg(test)]
 mod tests;
@@ -13,3 +14,4 @@ mod word;
 pub use body::read_body;
 pub use fault::BodyFault;
 pub use laws::{one_expression_for_tokens, one_place_fails};
+pub use print::print_body;
