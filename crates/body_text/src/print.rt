@@ -1,12 +1,13 @@
 //! Printing the canonical text of an expression.
 ghost use Rattle.std.specs.Prelude.{◌≡◌, ◌++◌, OnOk, OnErr, codes, length, map, take};
 ghost use Rattle.body_lang.specs.Expr.{view, PortsBelow};
-ghost use Rattle.body_text.specs.Grammar.{word_of};
+ghost use Rattle.body_text.specs.Words.{text_of};
 ghost use Rattle.body_text.specs.Reads.{IsBody};
 ghost use Rattle.body_text.specs.Canonical.{canonical, IsRead};
 
+use crate::word::{Word, text};
 use body_lang::{Expr, Port};
-use syn_base::{Op, OutOfMemory, print_int};
+use syn_base::{OutOfMemory, print_int};
 
 /// Appends the canonical text of an expression that some text over these ports is: no blanks, and
 /// numbers in their shortest form. Read over the same ports, this text is the same expression. It goes
@@ -44,24 +45,24 @@ fn print_expression(e: &Expr, ports: &[Port], out: &mut Vec<u8>) -> Result<(), O
             put(b"]", out)
         }
         Expr::SumOf(port) => {
-            put(b"sum(", out)?;
+            open_call(Word::Sum, out)?;
             put(ports[*port as usize].name.as_bytes(), out)?;
             put(b")", out)
         }
         Expr::Neg(a) => {
-            open_call(Op::Neg, out)?;
+            open_call(Word::Negation, out)?;
             print_expression(a, ports, out)?;
             put(b")", out)
         }
         Expr::Apply(op, a, b) => {
-            open_call(*op, out)?;
+            open_call(Word::Operator(*op), out)?;
             print_expression(a, ports, out)?;
             put(b",", out)?;
             print_expression(b, ports, out)?;
             put(b")", out)
         }
         Expr::Select(condition, a, b) => {
-            put(b"select(", out)?;
+            open_call(Word::Select, out)?;
             print_expression(condition, ports, out)?;
             put(b",", out)?;
             print_expression(a, ports, out)?;
@@ -72,12 +73,12 @@ fn print_expression(e: &Expr, ports: &[Port], out: &mut Vec<u8>) -> Result<(), O
     }
 }
 
-/// Appends an operator's word and the mark that opens its arguments.
-fn open_call(op: Op, out: &mut Vec<u8>) -> Result<(), OutOfMemory>
-    ensures text { OnOk result (out.new.items ≡ out.old.items ++ (word_of op ++ codes "(")) }
+/// Appends a form's word and the mark that opens its arguments.
+fn open_call(word: Word, out: &mut Vec<u8>) -> Result<(), OutOfMemory>
+    ensures text { OnOk result (out.new.items ≡ out.old.items ++ (text_of word ++ codes "(")) }
     ensures front { take (length out.old.items) out.new.items ≡ out.old.items }
 {
-    put(word(op), out)?;
+    put(text(word), out)?;
     put(b"(", out)
 }
 
@@ -88,26 +89,4 @@ fn put(bytes: &[u8], out: &mut Vec<u8>) -> Result<(), OutOfMemory>
 {
     out.extend_from_slice(bytes)?;
     Ok(())
-}
-
-/// The word of an operator.
-fn word(op: Op) -> &'static [u8]
-    ensures { result.now ≡ word_of op }
-{
-    match op {
-        Op::Add => b"add",
-        Op::Sub => b"sub",
-        Op::Mul => b"mul",
-        Op::Div => b"div",
-        Op::Rem => b"rem",
-        Op::Eq => b"eq",
-        Op::Ne => b"ne",
-        Op::Lt => b"lt",
-        Op::Le => b"le",
-        Op::Gt => b"gt",
-        Op::Ge => b"ge",
-        Op::Min => b"min",
-        Op::Max => b"max",
-        Op::Neg => b"neg",
-    }
 }

@@ -1,12 +1,12 @@
 //! The words of the forms.
-ghost use Rattle.std.specs.Prelude.{◌≡◌};
-ghost use Rattle.std.specs.Str.{bytes_eq};
+ghost use Rattle.std.specs.Prelude.{◌≡◌, map, slice_get};
 ghost use Rattle.body_text.specs.Grammar.{word_of};
-ghost use Rattle.body_text.specs.Words.{text_of, found_in, form_of};
+ghost use Rattle.body_text.specs.Words.{text_of, words, form_of};
 
+use case_table::{CaseTable, case_arms};
 use syn_base::Op;
 
-/// A form that a word before `(` begins.
+/// A form that a word before `(` begins; `neg` is no operator of two arguments.
 #[derive(Clone, Copy, Debug, Drop, PartialEq, Eq)]
 pub enum Word {
     Select,
@@ -15,51 +15,67 @@ pub enum Word {
     Operator(Op),
 }
 
-/// The words, each once; `neg` is no operator of two arguments.
-const WORDS: [Word; 16] = [
-    Word::Select,
-    Word::Sum,
-    Word::Negation,
-    Word::Operator(Op::Add),
-    Word::Operator(Op::Sub),
-    Word::Operator(Op::Mul),
-    Word::Operator(Op::Div),
-    Word::Operator(Op::Rem),
-    Word::Operator(Op::Eq),
-    Word::Operator(Op::Ne),
-    Word::Operator(Op::Lt),
-    Word::Operator(Op::Le),
-    Word::Operator(Op::Gt),
-    Word::Operator(Op::Ge),
-    Word::Operator(Op::Min),
-    Word::Operator(Op::Max),
-];
-
 /// The form of a word.
 pub fn find_word(name: &[u8]) -> Option<Word>
     ensures { result ≡ form_of name.now }
 {
-    among(&WORDS, name)
-}
-
-fn among(words: &[Word], name: &[u8]) -> Option<Word>
-    ensures { result ≡ found_in words.now name.now }
-{
-    for word in words {
-        if is(name, text(*word)) {
-            return Some(*word);
-        }
+    match word_table().find(name) {
+        Some(place) => word_at(place),
+        None => None,
     }
-    None
 }
 
-fn is(name: &[u8], word: &[u8]) -> bool
-    ensures { result ≡ bytes_eq name.now word.now }
+/// The words, each once.
+fn word_table() -> CaseTable<'static, 16>
+    ensures { result ≡ map text_of words }
 {
-    name == word
+    let mut table = CaseTable::new();
+    table.add(text(Word::Select));
+    table.add(text(Word::Sum));
+    table.add(text(Word::Negation));
+    table.add(text(Word::Operator(Op::Add)));
+    table.add(text(Word::Operator(Op::Sub)));
+    table.add(text(Word::Operator(Op::Mul)));
+    table.add(text(Word::Operator(Op::Div)));
+    table.add(text(Word::Operator(Op::Rem)));
+    table.add(text(Word::Operator(Op::Eq)));
+    table.add(text(Word::Operator(Op::Ne)));
+    table.add(text(Word::Operator(Op::Lt)));
+    table.add(text(Word::Operator(Op::Le)));
+    table.add(text(Word::Operator(Op::Gt)));
+    table.add(text(Word::Operator(Op::Ge)));
+    table.add(text(Word::Operator(Op::Min)));
+    table.add(text(Word::Operator(Op::Max)));
+    table
 }
 
-fn text(word: Word) -> &'static [u8]
+/// The word at a place of the table.
+fn word_at(place: usize) -> Option<Word>
+    ensures { result ≡ slice_get words place }
+{
+    let word = case_arms!(place;
+        Word::Select,
+        Word::Sum,
+        Word::Negation,
+        Word::Operator(Op::Add),
+        Word::Operator(Op::Sub),
+        Word::Operator(Op::Mul),
+        Word::Operator(Op::Div),
+        Word::Operator(Op::Rem),
+        Word::Operator(Op::Eq),
+        Word::Operator(Op::Ne),
+        Word::Operator(Op::Lt),
+        Word::Operator(Op::Le),
+        Word::Operator(Op::Gt),
+        Word::Operator(Op::Ge),
+        Word::Operator(Op::Min),
+        Word::Operator(Op::Max);
+        else return None);
+    Some(word)
+}
+
+/// A word's bytes, by which it is read and printed.
+pub fn text(word: Word) -> &'static [u8]
     ensures { result.now ≡ text_of word }
 {
     match word {
