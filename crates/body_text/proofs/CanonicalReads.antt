@@ -1,11 +1,12 @@
 -- The canonical text is read back as the same expression.
-use Rattle.std.proofs.Common.{◌≡◌, ℕ, ◌≤◌, List, [], length, sym, ap, subst, ◌∙◌, append-nil}
+use Rattle.std.proofs.Common.{◌≡◌, ℕ, ◌≤◌, List, [], length, sym, ap, subst, ◌∙◌, append-nil, Ok}
 use Rattle.syn_base.specs.declared.limits.LimitKind.TheVariants.{Tokens}
 use Rattle.syn_base.specs.Limits.{bound_of}
-use Rattle.body_lang.specs.Expr.{Expr, PortsBelow}
+use Rattle.body_lang.specs.declared.expression.Expr as declared
+use Rattle.body_lang.specs.Expr.{Expr, PortsBelow, view}
 use Rattle.body_text.specs.Tokens.{Bytes, Token, tokens}
 use Rattle.body_text.specs.Grammar.{Written, written}
-use Rattle.body_text.specs.Reads.{IsBody}
+use Rattle.body_text.specs.Reads.{IsBody, Reads}
 use Rattle.body_text.specs.Canonical.{canonical, IsRead}
 use Rattle.body_text.proofs.CanonicalSound.{AreSound, IsSoundTree, tokens_sound, tree_sound}
 use Rattle.body_text.proofs.CanonicalText.{text_of, text_tokens}
@@ -32,3 +33,7 @@ reads_back ports e (text, body) =
       known = body.known;
       is = body.is;
     }
+
+-- what reading answers is read from a text
+pub read_is_read : (ports : List Bytes) (text : Bytes) (e : declared.Expr) → Reads ports text (Ok e) → IsRead ports (view e)
+read_is_read ports text e body = (text, body)

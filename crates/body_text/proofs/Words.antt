@@ -38,9 +38,9 @@ pub found_at : (ws : List Word) (p : Bytes) (names : List Bytes) (place : ℕ) �
 found_at ws p names place are found = elim (first_place ws p) [
   | inl none ↦ absurd (none.1 place (ap (λ (l : List Bytes). slice_get l place) (sym are) ∙ (found place).0 refl))
   | inr at ↦
-    let same : Some place ≡ Some at.0 = (found at.0).1 (ap (λ (l : List Bytes). slice_get l at.0) are ∙ at.1.0) in
-    let here : place ≡ at.0 = cc in
-    ap (slice_get ws) here ∙ at.1.1
+      let same : Some place ≡ Some at.0 = (found at.0).1 (ap (λ (l : List Bytes). slice_get l at.0) are ∙ at.1.0) in
+      let here : place ≡ at.0 = cc in
+      ap (slice_get ws) here ∙ at.1.1
 ]
 
 -- where no place has the name, no word is it
