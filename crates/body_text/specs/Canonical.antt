@@ -1,5 +1,5 @@
 -- The canonical text of an expression: no blanks, and canonical numbers.
-use Rattle.std.specs.Prelude.{ℕ, List, [], ◌∷◌, ◌++◌, slice_index_or, codes}
+use Rattle.std.specs.Prelude.{ℕ, List, [], ◌++◌, slice_index_or, codes}
 use Rattle.std.specs.Fmt.{signed_decimal}
 use Rattle.syn_base.specs.declared.arithmetic.Op.TheVariants.{Neg}
 use Rattle.body_lang.specs.Expr.{Expr, literal, index, element, sum_over, negation, apply, select}
