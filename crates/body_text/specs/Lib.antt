@@ -1,0 +1,9 @@
+pub mod Tokens
+pub mod Cut
+pub mod Grammar
+pub mod Words
+pub mod Parse
+pub mod Ports
+pub mod Reads
+pub mod Answers
+pub mod Canonical
