@@ -1,0 +1,4 @@
+pub mod Words
+pub mod Formulas
+pub mod Blocks
+pub mod Text

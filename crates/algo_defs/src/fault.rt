@@ -1,0 +1,52 @@
+//! Why a text of an algorithm is refused.
+use syn_base::{Items, LimitFault, Name};
+
+/// The causes of a refusal, with what a message prints behind the cause: the place, the word, the end of
+/// an edge, or the names.
+#[derive(Drop)]
+pub enum AlgoCause {
+    /// The place in the line, from 0, of a byte that may not stand there.
+    NotText(usize),
+    /// The form of the line is not allowed at this place, or its number of words is wrong.
+    BadLine,
+    /// A word that is no name, or the whole end of an edge.
+    BadName(Items<u8>),
+    /// A word that is no number, or a length or count below 1.
+    BadNumber(Items<u8>),
+    /// The place in the expression, from 0, at which the grammar fails.
+    BadExpression(usize),
+    /// A name that was given before.
+    DuplicateName(Items<u8>),
+    /// A definition, port or end of an edge that is not there.
+    UnknownName(Items<u8>),
+    /// The target of an edge between unequal lengths.
+    WrongLength(Items<u8>),
+    /// The first input without an edge.
+    Unconnected(Items<u8>),
+    /// The target of a second edge.
+    TwiceConnected(Items<u8>),
+    /// A definition that reaches itself through references.
+    Recursive(Name),
+    /// The references that reach themselves.
+    Cycle(Items<Name>),
+    NoMain,
+    BadCase,
+    /// The definition that the line names, which may not stand there.
+    Misplaced(Name),
+    BadRepeat,
+}
+
+/// A refusal, at a line of the text, from 1; line 0 is the whole.
+#[derive(Drop)]
+pub struct AlgoFault {
+    pub line: u32,
+    pub cause: AlgoCause,
+}
+
+/// Why a text gives no definitions.
+#[derive(Drop)]
+pub enum AlgoError {
+    Refused(AlgoFault),
+    Limit(LimitFault),
+    OutOfMemory,
+}
