@@ -1,27 +1,18 @@
 -- The places of a table's routes.
-use Rattle.std.proofs.Common.{◌≡◌, ℕ, zero, suc, ◌+◌, ◌*◌, ◌<◌, ◌≤◌, ◌≢◌, List, [], ◌∷◌, ◌++◌, length, refl, ap, arith, ◌∙◌, ◌⊎◌, inl, inr}
-use Rattle.std.specs.Prelude.{All, slice_index_or, slice_set}
+use Rattle.std.proofs.Common.{◌≡◌, ℕ, ◌+◌, ◌*◌, ◌<◌, ◌≤◌, ◌≢◌, List, [], arith, ◌∙◌, ◌⊎◌, inl, inr}
+use Rattle.std.specs.Prelude.{slice_index_or, slice_set}
 use Rattle.std.proofs.Math.Nat.{mul-le-mul_left}
 use Rattle.std.proofs.lemmas.List.{get_or-set_other}
-use Rattle.std.proofs.lemmas.List.Elements.{All-from_get_or}
 use Rattle.archi_graph.specs.declared.medium.Hop.{Hop}
 
+-- a later row lies behind an earlier one
 rows_apart : (n o p d e : ℕ) → o < p → d < n → o * n + d < p * n + e
 rows_apart n o p d e l k = let rows : o + 1 ≤ p = omega arith in omega (arith, mul-le-mul_left n rows)
 
+-- routes between other operators lie in other places
 pub places_differ : (n o p d e : ℕ) → d < n → e < n → (o ≢ p) ⊎ (d ≢ e) → o * n + d ≢ p * n + e
 places_differ n o p d e k l (inl rows) same = rows (let a = rows_apart n o p d e in let b = rows_apart n p o e d in grind arith)
 places_differ n o p d e k l (inr columns) same = columns (let a = rows_apart n o p d e in let b = rows_apart n p o e d in grind arith)
-
-pub one_more_empty : (xs : List (List Hop)) → ((i : ℕ) → slice_index_or xs i [] ≡ []) → (i : ℕ) → slice_index_or (xs ++ [] ∷ []) i [] ≡ []
-one_more_empty [] h zero = refl
-one_more_empty [] h (suc i) = refl
-one_more_empty (x ∷ xs) h zero = h 0
-one_more_empty (x ∷ xs) h (suc i) = one_more_empty xs (λ j. h (suc j)) i
-
-pub empty_is_short : (xs : List (List Hop)) → ((i : ℕ) → slice_index_or xs i [] ≡ []) → All (λ r. length r ≤ 32) xs
-empty_is_short xs h =
-    All-from_get_or (λ (r : List Hop). length r ≤ 32) xs [] (λ i l. let e : length (slice_index_or xs i []) ≡ 0 = ap (λ r. length r) (h i) in omega (arith, e))
 
 -- a write in one place leaves the routes between all other operators
 pub put_elsewhere : (routes : List (List Hop)) (route : List Hop) (n at from to o d : ℕ) → at ≡ from * n + to → to < n → d < n → (o ≢ from) ⊎ (d ≢ to)

@@ -40,7 +40,7 @@ fn first_over(
     to: u32,
     medium: u32,
     stands: &[u32],
-    best: Option<Hop>,
+    mut best: Option<Hop>,
 ) -> Option<Hop>
     requires to { to < routes.now.operators }
     requires known { All (λ o. o < routes.now.operators) stands.now }
@@ -48,7 +48,6 @@ fn first_over(
     ensures chosen { result ≡ pick_over routes.now hops to medium best stands.now }
     ensures below { IfSome result (λ h. h.to < routes.now.operators) }
 {
-    let mut best = best;
     for o in stands {
         best = better(routes, hops, to, best, Hop { medium, to: *o });
     }
