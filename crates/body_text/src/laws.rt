@@ -1,7 +1,13 @@
 //! What the grammar settles.
-ghost use Rattle.std.specs.Prelude.{◌≡◌, ℕ, List};
-ghost use Rattle.body_text.specs.Tokens.{Token};
+ghost use Rattle.std.specs.Prelude.{◌≡◌, ℕ, List, Ok, Err};
+ghost use Rattle.body_lang.specs.declared.expression.Expr.{Expr};
+ghost use Rattle.body_lang.specs.Expr.{view};
+ghost use Rattle.body_text.specs.declared.fault.BodyFault.{BodyFault};
+ghost use Rattle.body_text.specs.Reads.{Reads};
+ghost use Rattle.body_text.specs.Tokens.{Bytes, Token};
 ghost use Rattle.body_text.specs.Grammar.{Written, AreWritten, IsExpression, FailsAt};
+
+use crate::fault::BodyFault;
 
 /// Tokens write at most one expression.
 #[tactic(auto, using(crate::proofs::Complete::one_expression))]
@@ -14,4 +20,12 @@ pub fn one_expression_for_tokens()
 pub fn one_place_fails()
     ensures place { (ts : List Token) (i k : ℕ) → FailsAt ts i → FailsAt ts k → i ≡ k }
     ensures none { (ts : List Token) (i : ℕ) → FailsAt ts i → IsExpression ts → ⊥ }
+{}
+
+/// A text has one answer over the same ports, want of memory aside: no two expressions, no expression
+/// and a fault, and no two faults.
+pub fn one_answer_for_text()
+    ensures value { (ports : List Bytes) (text : Bytes) (x y : Expr) → Reads ports text (Ok x) → Reads ports text (Ok y) → view x ≡ view y }
+    ensures no_fault { (ports : List Bytes) (text : Bytes) (x : Expr) (f : BodyFault) → Reads ports text (Ok x) → Reads ports text (Err f) → f ≡ BodyFault.OutOfMemory }
+    ensures fault { (ports : List Bytes) (text : Bytes) (f g : BodyFault) → Reads ports text (Err f) → Reads ports text (Err g) → (f ≡ BodyFault.OutOfMemory → ⊥) → (g ≡ BodyFault.OutOfMemory → ⊥) → f ≡ g }
 {}
