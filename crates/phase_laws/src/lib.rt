@@ -7,9 +7,12 @@
 
 pub mod agree;
 
-ghost use Rattle.phase_laws.specs.Central.{JobsHaveLaws};
+ghost use Rattle.semaphore_core.specs.Laws.{HasLaws};
+ghost use Rattle.phase_laws.specs.Central.{JobsAreSupplied, JobsHaveLaws};
 ghost use Rattle.phase_laws.specs.Discipline.{ProgramsAreDisciplined};
 ghost use Rattle.phase_laws.specs.Values.{SequencesComputeTheirValues};
+
+use semaphore_core::Job;
 
 /// Every well-formed program is synchronized, and its serial order puts each need before what waits for it.
 pub fn programs_are_disciplined()
@@ -27,3 +30,18 @@ pub fn sequences_compute_their_values()
 pub fn jobs_have_laws()
     ensures { JobsHaveLaws }
 {}
+
+/// Every job keeps what the central theorem asks for, where its graph is valid, as every flat graph is.
+pub fn jobs_are_supplied()
+    ensures { JobsAreSupplied }
+{}
+
+/// The central theorem of a job: in every interleaving each state is what its counts tell, no load finds
+/// an element of another round than its own, some sequence is enabled until all is done, and a step of an
+/// enabled sequence goes on. It does nothing.
+pub fn job_has_laws(job: &Job)
+    ensures { HasLaws job.now }
+{
+    let _ = job.program();
+    let _ = job.flat().vertices();
+}

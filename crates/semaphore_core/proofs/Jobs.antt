@@ -53,7 +53,7 @@ module _ (j : JobData) (job : IsJob j) where
   -- the micro-steps in all are few
   pub few_steps : total_steps j.program (reactions j) ≤ 20000000
   few_steps =
-      let a = above_none Output (output_elements j.graph (reactions j)) (above Total (min (total_steps j.program (reactions j)) (2 ^ 128 - 1)) None) job.1.1 in
+      let a = above_none Output (output_elements j.graph (reactions j)) (above Total (min (total_steps j.program (reactions j)) (2 ^ 128 - 1)) None) job.1.1.0 in
       let b = (above_none Total (min (total_steps j.program (reactions j)) (2 ^ 128 - 1)) None a.1).0 in omega arith
 
   -- a prologue neither loads nor stores

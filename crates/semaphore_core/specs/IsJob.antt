@@ -4,7 +4,7 @@ use Rattle.syn_base.specs.declared.limits.LimitKind.{LimitKind}
 use Rattle.syn_base.specs.declared.limits.LimitKind.TheVariants.{Output, Total}
 use Rattle.syn_base.specs.declared.limits.LimitFault.{LimitFault}
 use Rattle.syn_base.specs.Limits.{bound_of}
-use Rattle.syn_base.specs.Rows.{Reactions}
+use Rattle.syn_base.specs.Rows.{Reactions, AreCut}
 use Rattle.level_meaning.specs.Level.{Values}
 use Rattle.flat_graph.specs.Graph.{Graph}
 use Rattle.flat_graph.specs.Laws.{sensor_lens}
@@ -35,9 +35,9 @@ above which count next = cond (nat_lt (bound_of which) count) (Some (record { wh
 abbrev pub limit_of : JobData → Option LimitFault
 limit_of j = above Output (output_elements j.graph (reactions j)) (above Total (min (total_steps j.program (reactions j)) (2 ^ 128 - 1)) None)
 
--- what every job keeps
+-- what every job keeps; that each reaction has vectors of the sensors' lengths is kept by the rows
 abbrev pub IsJobOn : Architecture → JobData → Type 0
-IsJobOn a j = FitTogether a j × (limit_of j ≡ None)
+IsJobOn a j = FitTogether a j × ((limit_of j ≡ None) × AreCut (record { lens = j.lens; reactions = j.sensors }))
 
 abbrev pub IsJob : JobData → Type 0
 IsJob j = (a : Architecture) × IsJobOn a j

@@ -62,6 +62,7 @@ impl<'a> Job<'a> {
         ensures job { IfOk result (λ job. (job ≡ job_of program.now flat.now archi.now rows.now opening) × (limit_of job ≡ None)) }
         ensures limit { IfErr result (λ fault. limit_of (job_of program.now flat.now archi.now rows.now opening) ≡ Some fault) }
     {
+        rows.are_cut();
         match limit_fault(program, flat, rows.count()) {
             Some(fault) => Err(fault),
             None => Ok(Job {

@@ -1,9 +1,9 @@
 -- An element of a flat row that is cut into vectors.
-use Rattle.std.proofs.Common.{◌≡◌, ℕ, zero, suc, ◌+◌, ◌<◌, ◌≤◌, ℤ, List, [], ◌∷◌, ◌++◌, length, get_or, set, take, drop, refl, sym, ap, ap₂, ◌∙◌, arith, add_assoc, zero-add, suc-add}
+use Rattle.std.proofs.Common.{◌≡◌, ℕ, zero, suc, ◌+◌, ◌<◌, ◌≤◌, ℤ, List, [], ◌∷◌, ◌++◌, length, map, get_or, set, take, drop, refl, sym, ap, ap₂, ◌∙◌, arith, add_assoc, zero-add, suc-add}
 use Rattle.std.specs.List.{sum}
-use Rattle.std.proofs.lemmas.List.{map-set, drop-drop}
+use Rattle.std.proofs.lemmas.List.{map-set, drop-drop, length-take-le, length-drop, length-map}
 use Rattle.std.proofs.lemmas.List.Sums.{sum_by-cons}
-use Rattle.syn_base.specs.Rows.{cut, cut_all, with_value, with_element, AreLong}
+use Rattle.syn_base.specs.Rows.{cut, cut_all, with_value, with_element, AreLong, AreCut}
 
 -- a vector of a cut row is a stretch of it
 pub vector-at : (lens : List ℕ) (row : List ℤ) (v : ℕ) → v < length lens → get_or (cut lens row) v [] ≡ take (get_or lens v 0) (drop (sum (take v lens)) row)
@@ -69,3 +69,18 @@ long-push width [] row long is zero h = is
 long-push width [] row long is (suc k) h = absurd (omega arith)
 long-push width (x ∷ rows) row long is zero h = long zero (omega arith)
 long-push width (x ∷ rows) row long is (suc k) h = long-push width rows row (λ n q. long (suc n) (omega arith)) is k (omega arith)
+
+-- a row that is long enough is cut into vectors of these lengths
+cut-lens : (lens : List ℕ) (row : List ℤ) → length row ≡ sum lens → map length (cut lens row) ≡ lens
+cut-lens [] row long = refl
+cut-lens (len ∷ lens) row long =
+    let total : sum (len ∷ lens) ≡ len + sum lens = sum_by-cons (λ x. x) len lens in
+    let here : length (take len row) ≡ len = length-take-le len row (omega arith) in
+    let rest : length (drop len row) ≡ sum lens = (let d = length-drop len row in omega arith) in
+    ap₂ (λ a b. a ∷ b) here (cut-lens lens (drop len row) rest)
+
+-- so are all rows
+pub all-cut : (lens : List ℕ) (rows : List (List ℤ)) → AreLong (sum lens) rows → AreCut (record { lens = lens; reactions = cut_all lens rows })
+all-cut lens rows long k h =
+    let there : k < length rows = (let same = length-map rows (cut lens) in omega arith) in
+    ap (λ (r : List (List ℤ)). map length r) (reaction-at lens rows k there) ∙ cut-lens lens (get_or rows k []) (long k there)

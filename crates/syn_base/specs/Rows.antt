@@ -36,3 +36,7 @@ StartsAre lens starts = (length starts ≡ length lens) × ((v : ℕ) → v < le
 -- each flat row has this length
 abbrev pub AreLong : ℕ → List (List ℤ) → Type 0
 AreLong width rows = (k : ℕ) → k < length rows → length (slice_index_or rows k []) ≡ width
+
+-- each reaction has vectors of these lengths
+abbrev pub AreCut : Reactions → Type 0
+AreCut r = (k : ℕ) → k < length r.reactions → map length (slice_index_or r.reactions k []) ≡ r.lens

@@ -1,6 +1,6 @@
 //! The vectors of each reaction: what the sensors gave, and what the actuators take.
 ghost use Rattle.std.specs.Prelude.{◌≡◌, ◌+◌, ◌<◌, ◌++◌, ◌∷◌, [], length, slice_index, slice_index_or, sum, IfOk, OnOk, OnErr};
-ghost use Rattle.syn_base.specs.Rows.{cut, element, with_element, vector_of};
+ghost use Rattle.syn_base.specs.Rows.{cut, element, with_element, vector_of, AreCut};
 
 use crate::items::Items;
 use crate::memory::OutOfMemory;
@@ -71,6 +71,12 @@ impl Rows {
         &self.rows[k].as_slice()[start..start + len]
     }
 
+    fn are_cut(&self)
+        ensures { AreCut self.now }
+    {
+        let _ = &self.rows;
+    }
+
     fn set(&mut self, k: usize, vector: usize, j: usize, v: i64)
         requires reaction { k < length self.old.reactions }
         requires vector { vector < length self.old.lens }
@@ -128,6 +134,13 @@ impl SensorRows {
         ensures { result ≡ length self.now.reactions }
     {
         self.rows.count()
+    }
+
+    /// That each reaction has a vector of its length for each sensor.
+    pub fn are_cut(&self)
+        ensures { AreCut self.now }
+    {
+        self.rows.are_cut();
     }
 
     /// A vector of reaction k.
