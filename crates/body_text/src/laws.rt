@@ -1,7 +1,12 @@
 //! What the grammar settles.
-ghost use Rattle.std.specs.Prelude.{◌≡◌, ℕ, List};
-ghost use Rattle.body_text.specs.Tokens.{Token};
+ghost use Rattle.std.specs.Prelude.{◌≡◌, ◌≢◌, ℕ, List, Ok, Err};
+ghost use Rattle.body_lang.specs.Expr.{view};
+ghost use Rattle.body_lang.specs.declared.expression.Expr.{Expr};
+ghost use Rattle.body_text.specs.declared.fault.BodyFault.{BodyFault};
+ghost use Rattle.body_text.specs.declared.fault.BodyFault.TheVariants.{OutOfMemory};
+ghost use Rattle.body_text.specs.Tokens.{Bytes, Token};
 ghost use Rattle.body_text.specs.Grammar.{Written, AreWritten, IsExpression, FailsAt};
+ghost use Rattle.body_text.specs.Reads.{Reads};
 
 /// Tokens write at most one expression.
 #[tactic(auto, using(crate::proofs::Complete::one_expression))]
@@ -14,4 +19,12 @@ pub fn one_expression_for_tokens()
 pub fn one_place_fails()
     ensures place { (ts : List Token) (i k : ℕ) → FailsAt ts i → FailsAt ts k → i ≡ k }
     ensures none { (ts : List Token) (i : ℕ) → FailsAt ts i → IsExpression ts → ⊥ }
+{}
+
+/// A text has one answer over the same ports, want of memory aside: one expression, or one fault at
+/// one place.
+pub fn one_answer_for_text()
+    ensures expression { (ports : List Bytes) (text : Bytes) (d e : Expr) → Reads ports text (Ok d) → Reads ports text (Ok e) → view d ≡ view e }
+    ensures either { (ports : List Bytes) (text : Bytes) (e : Expr) (f : BodyFault) → Reads ports text (Ok e) → Reads ports text (Err f) → f ≡ OutOfMemory }
+    ensures fault { (ports : List Bytes) (text : Bytes) (f g : BodyFault) → f ≢ OutOfMemory → g ≢ OutOfMemory → Reads ports text (Err f) → Reads ports text (Err g) → f ≡ g }
 {}

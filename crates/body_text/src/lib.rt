@@ -13,5 +13,5 @@ mod word;
 
 pub use body::read_body;
 pub use fault::BodyFault;
-pub use laws::{one_expression_for_tokens, one_place_fails};
+pub use laws::{one_answer_for_text, one_expression_for_tokens, one_place_fails};
 pub use print::print_body;
