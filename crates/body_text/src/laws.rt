@@ -1,13 +1,12 @@
 //! What the grammar settles.
-ghost use Rattle.std.specs.Prelude.{◌≡◌, ℕ, List, Ok, Err};
-ghost use Rattle.body_lang.specs.declared.expression.Expr.{Expr};
+ghost use Rattle.std.specs.Prelude.{◌≡◌, ◌≢◌, ℕ, List, Ok, Err};
 ghost use Rattle.body_lang.specs.Expr.{view};
+ghost use Rattle.body_lang.specs.declared.expression.Expr.{Expr};
 ghost use Rattle.body_text.specs.declared.fault.BodyFault.{BodyFault};
-ghost use Rattle.body_text.specs.Reads.{Reads};
+ghost use Rattle.body_text.specs.declared.fault.BodyFault.TheVariants.{OutOfMemory};
 ghost use Rattle.body_text.specs.Tokens.{Bytes, Token};
 ghost use Rattle.body_text.specs.Grammar.{Written, AreWritten, IsExpression, FailsAt};
-
-use crate::fault::BodyFault;
+ghost use Rattle.body_text.specs.Reads.{Reads};
 
 /// Tokens write at most one expression.
 #[tactic(auto, using(crate::proofs::Complete::one_expression))]
@@ -22,10 +21,10 @@ pub fn one_place_fails()
     ensures none { (ts : List Token) (i : ℕ) → FailsAt ts i → IsExpression ts → ⊥ }
 {}
 
-/// A text has one answer over the same ports, want of memory aside: no two expressions, no expression
-/// and a fault, and no two faults.
+/// A text has one answer over the same ports, want of memory aside: one expression, or one fault at
+/// one place.
 pub fn one_answer_for_text()
-    ensures value { (ports : List Bytes) (text : Bytes) (x y : Expr) → Reads ports text (Ok x) → Reads ports text (Ok y) → view x ≡ view y }
-    ensures no_fault { (ports : List Bytes) (text : Bytes) (x : Expr) (f : BodyFault) → Reads ports text (Ok x) → Reads ports text (Err f) → f ≡ BodyFault.OutOfMemory }
-    ensures fault { (ports : List Bytes) (text : Bytes) (f g : BodyFault) → Reads ports text (Err f) → Reads ports text (Err g) → (f ≡ BodyFault.OutOfMemory → ⊥) → (g ≡ BodyFault.OutOfMemory → ⊥) → f ≡ g }
+    ensures expression { (ports : List Bytes) (text : Bytes) (d e : Expr) → Reads ports text (Ok d) → Reads ports text (Ok e) → view d ≡ view e }
+    ensures either { (ports : List Bytes) (text : Bytes) (e : Expr) (f : BodyFault) → Reads ports text (Ok e) → Reads ports text (Err f) → f ≡ OutOfMemory }
+    ensures fault { (ports : List Bytes) (text : Bytes) (f g : BodyFault) → f ≢ OutOfMemory → g ≢ OutOfMemory → Reads ports text (Err f) → Reads ports text (Err g) → f ≡ g }
 {}
