@@ -1,0 +1,206 @@
+-- What the text of an architecture says: operators, media and durations, or its first refusal. Lines are numbered from 1.
+use Rattle.std.specs.Prelude.{ℕ, ◌+◌, Bool, true, false, not, ◌&&◌, ◌||◌, ◌==◌, nat_le, nat_lt, List, [], ◌∷◌, ◌++◌, length, map, position, slice_index_or, slice_set, Option, Some, None, Result, Ok, Err, if◌then◌else◌, codes, ℤ, pos, negsuc}
+use Rattle.std.specs.List.{list_any, range_with_len}
+use Rattle.std.specs.Str.{bytes_eq}
+use Rattle.text_lines.specs.Text.{lines_of, words_of, code_of, foreign_place}
+use Rattle.syn_base.specs.Name.{is_name}
+use Rattle.syn_base.specs.Integer.{integer_of}
+use Rattle.syn_base.specs.Limits.{bound_of}
+use Rattle.syn_base.specs.declared.integer.NumFault.{NumFault}
+use Rattle.syn_base.specs.declared.limits.LimitKind.{LimitKind}
+use Rattle.syn_base.specs.declared.limits.LimitKind.TheVariants.{Operators, Media, Connections}
+use Rattle.archi_graph.specs.declared.medium.Medium.{Medium}
+use Rattle.archi_graph.specs.Archi.{Architecture, reached_within}
+use Rattle.archi_defs.specs.declared.text.DurationLine.{DurationLine}
+use Rattle.archi_defs.specs.declared.fault.ArchiError.{ArchiError}
+use Rattle.archi_defs.specs.declared.fault.ArchiError.TheVariants.{Refused, Limit}
+use Rattle.archi_defs.specs.declared.fault.ArchiCause.{ArchiCause}
+use Rattle.archi_defs.specs.declared.fault.ArchiCause.TheVariants.{NotText, BadLine, BadName, BadNumber, UnknownName, DuplicateName, BadMedium, NoOperator, Disconnected}
+
+abbrev pub Bytes : Type 0
+Bytes = List ℕ
+
+-- what a text gives
+pub record Described : Type 0 where
+  pub archi : Architecture
+  pub durations : List DurationLine
+
+-- What was read so far: the version line, the operators' names, the media with their lines, how many connections, and the durations.
+pub record Reading : Type 0 where
+  pub versioned : Bool
+  pub operators : List Bytes
+  pub media : List Medium
+  pub lines : List ℕ
+  pub connections : ℕ
+  pub durations : List DurationLine
+
+abbrev pub start : Reading
+start = record { versioned = false; operators = []; media = []; lines = []; connections = 0; durations = [] }
+
+abbrev pub word : List Bytes → ℕ → Bytes
+word ws k = slice_index_or ws k []
+
+abbrev pub refused : {A : Type 0} → ℕ → ArchiCause → Result A ArchiError
+refused line cause = Err (Refused (record { line = line; cause = cause }))
+
+abbrev pub above : {A : Type 0} → LimitKind → ℕ → Result A ArchiError
+above which count = Err (Limit (record { which = which; count = count; bound = bound_of which }))
+
+-- what there is, or the refusal where there is nothing
+abbrev pub with_some : {A B : Type 0} → Option A → Result B ArchiError → (A → Result B ArchiError) → Result B ArchiError
+with_some (Some x) missing go = go x
+with_some None missing go = missing
+
+abbrev pub and_then : {A B : Type 0} → Result A ArchiError → (A → Result B ArchiError) → Result B ArchiError
+and_then (Ok x) go = go x
+and_then (Err e) go = Err e
+
+-- the first of these words that is no name is told
+abbrev pub all_names : {A : Type 0} → ℕ → List Bytes → Result A ArchiError → Result A ArchiError
+all_names n [] go = go
+all_names n (w ∷ ws) go = if is_name w then all_names n ws go else refused n (BadName w)
+
+-- a number from 0 up to this one
+abbrev pub up_to : ℕ → Result ℤ NumFault → Option ℕ
+up_to most (Ok (pos n)) = if nat_le n most then Some n else None
+up_to most (Ok (negsuc n)) = None
+up_to most (Err e) = None
+
+abbrev pub with_number : {A : Type 0} → ℕ → ℕ → Bytes → (ℕ → Result A ArchiError) → Result A ArchiError
+with_number n most w go = with_some (up_to most (integer_of w)) (refused n (BadNumber w)) go
+
+abbrev pub place_of : Bytes → List Bytes → Option ℕ
+place_of w names = position (bytes_eq w) names
+
+abbrev pub medium_names : Reading → List Bytes
+medium_names r = map (λ m. m.name) r.media
+
+-- operators and media share one space of names
+abbrev pub is_taken : Reading → Bytes → Bool
+is_taken r w = list_any (bytes_eq w) (r.operators ++ medium_names r)
+
+-- architecture 1
+abbrev pub version_line : Reading → ℕ → List Bytes → Result Reading ArchiError
+version_line r n ws =
+    if not (length ws == 2) || not (bytes_eq (word ws 0) (codes "architecture")) || not (bytes_eq (word ws 1) (codes "1")) then refused n BadLine else
+    Ok (record r { versioned = true })
+
+-- operator NAME
+abbrev pub operator_line : Reading → ℕ → List Bytes → Result Reading ArchiError
+operator_line r n ws =
+    if not (length ws == 2) then refused n BadLine else
+    all_names n (word ws 1 ∷ [])
+    (if is_taken r (word ws 1) then refused n (DuplicateName (word ws 1)) else
+    if nat_lt 15 (length r.operators) then above Operators (length r.operators + 1) else
+    Ok (record r { operators = r.operators ++ word ws 1 ∷ [] }))
+
+-- medium NAME p2p FIXED PER and medium NAME multi FIXED PER
+abbrev pub medium_line : Reading → ℕ → List Bytes → Result Reading ArchiError
+medium_line r n ws =
+    if not (length ws == 5) || not (bytes_eq (word ws 2) (codes "p2p") || bytes_eq (word ws 2) (codes "multi")) then refused n BadLine else
+    all_names n (word ws 1 ∷ [])
+    (with_number n 1000000 (word ws 3) (λ fixed. with_number n 1000000 (word ws 4) (λ per.
+    if is_taken r (word ws 1) then refused n (DuplicateName (word ws 1)) else
+    if nat_lt 15 (length r.media) then above Media (length r.media + 1) else
+    Ok (record r {
+      media = r.media ++ record { name = word ws 1; multi = bytes_eq (word ws 2) (codes "multi"); fixed = fixed; per = per; stands = [] } ∷ [];
+      lines = r.lines ++ n ∷ [];
+    }))))
+
+-- operators stand in ascending order
+abbrev pub with_stand : ℕ → List ℕ → List ℕ
+with_stand o [] = o ∷ []
+with_stand o (p ∷ ps) = if nat_lt o p then o ∷ p ∷ ps else p ∷ with_stand o ps
+
+abbrev pub no_medium : Medium
+no_medium = record { name = []; multi = false; fixed = 0; per = 0; stands = [] }
+
+abbrev pub connected : Reading → ℕ → Bytes → ℕ → ℕ → Result Reading ArchiError
+connected r n w m o =
+    if list_any (λ p. p == o) (slice_index_or r.media m no_medium).stands then refused n (DuplicateName w) else
+    if nat_lt 63 r.connections then above Connections (r.connections + 1) else
+    Ok (record r { media = slice_set r.media m (record (slice_index_or r.media m no_medium) { stands = with_stand o (slice_index_or r.media m no_medium).stands }); connections = r.connections + 1 })
+
+-- connect MEDIUM OPERATOR
+abbrev pub connect_line : Reading → ℕ → List Bytes → Result Reading ArchiError
+connect_line r n ws =
+    if not (length ws == 3) then refused n BadLine else
+    all_names n (word ws 1 ∷ word ws 2 ∷ [])
+    (with_some (place_of (word ws 1) (medium_names r)) (refused n (UnknownName (word ws 1))) (λ m.
+    with_some (place_of (word ws 2) r.operators) (refused n (UnknownName (word ws 2))) (λ o.
+    connected r n (word ws 2) m o)))
+
+-- duration DEF OPERATOR TICKS
+abbrev pub duration_line : Reading → ℕ → List Bytes → Result Reading ArchiError
+duration_line r n ws =
+    if not (length ws == 4) then refused n BadLine else
+    all_names n (word ws 1 ∷ word ws 2 ∷ [])
+    (with_number n 1000000000 (word ws 3) (λ ticks.
+    with_some (place_of (word ws 2) r.operators) (refused n (UnknownName (word ws 2))) (λ o.
+    if list_any (λ d. bytes_eq d.def (word ws 1) && (d.operator == o)) r.durations then refused n (DuplicateName (word ws 1)) else
+    Ok (record r { durations = r.durations ++ record { def = word ws 1; operator = o; ticks = ticks } ∷ [] }))))
+
+abbrev pub begins : List Bytes → Bytes → Bool
+begins ws key = bytes_eq (word ws 0) key
+
+abbrev pub described_line : Reading → ℕ → List Bytes → Result Reading ArchiError
+described_line r n ws =
+    if begins ws (codes "operator") then operator_line r n ws else
+    if begins ws (codes "medium") then medium_line r n ws else
+    if begins ws (codes "connect") then connect_line r n ws else
+    if begins ws (codes "duration") then duration_line r n ws else
+    refused n BadLine
+
+abbrev pub line_by : Reading → ℕ → Bytes → Option ℕ → Result Reading ArchiError
+line_by r n line (Some place) = refused n (NotText place)
+line_by r n line None =
+    if length (words_of (code_of line)) == 0 then Ok r else
+    if r.versioned then described_line r n (words_of (code_of line)) else
+    version_line r n (words_of (code_of line))
+
+-- the next line; one without words says nothing
+abbrev pub next_line : Reading → ℕ → Bytes → Result Reading ArchiError
+next_line r n line = line_by r n line (foreign_place line)
+
+-- so many operators may stand at a medium
+abbrev pub has_stands : Medium → Bool
+has_stands m = if m.multi then nat_le 2 (length m.stands) else length m.stands == 2
+
+-- the first medium with a wrong number of operators, at its line
+abbrev pub media_are_right : {A : Type 0} → List Medium → List ℕ → Result A ArchiError → Result A ArchiError
+media_are_right [] lines go = go
+media_are_right (m ∷ ms) lines go = if has_stands m then media_are_right ms (behind lines) go else refused (first lines) (BadMedium m.name)
+  where
+    first : List ℕ → ℕ
+    first [] = 0
+    first (n ∷ ns) = n
+
+    behind : List ℕ → List ℕ
+    behind [] = []
+    behind (n ∷ ns) = ns
+
+-- the least operator to which no route leads from operator 0
+abbrev pub apart : Reading → Option ℕ
+apart r = position (λ o. not (reached_within r.media (length r.operators) o)) (range_with_len 0 (length r.operators))
+
+abbrev pub operator_name : Reading → ℕ → Bytes
+operator_name r o = slice_index_or r.operators o []
+
+abbrev pub all_joined : Reading → Option ℕ → Result Described ArchiError
+all_joined r None = Ok (record { archi = record { operators = r.operators; media = r.media }; durations = r.durations })
+all_joined r (Some o) = refused 0 (Disconnected (operator_name r 0) (operator_name r o))
+
+-- the whole, whose lines are numbered below n: there is an operator, the media are right, and all operators are joined
+abbrev pub whole : Reading → ℕ → Result Described ArchiError
+whole r n =
+    if not r.versioned then refused n BadLine else
+    if length r.operators == 0 then refused 0 NoOperator else
+    media_are_right r.media r.lines (all_joined r (apart r))
+
+abbrev pub rest_of : Reading → ℕ → List Bytes → Result Described ArchiError
+rest_of r n [] = whole r n
+rest_of r n (line ∷ lines) = and_then (next_line r n line) (λ after. rest_of after (n + 1) lines)
+
+-- what the bytes of a text say
+abbrev pub description_of : Bytes → Result Described ArchiError
+description_of text = rest_of start 1 (lines_of text)

@@ -1,0 +1,41 @@
+//! Why a text of an architecture is refused.
+use syn_base::{Items, LimitFault, Name};
+
+/// The causes of a refusal, with what a message prints behind the cause: the place, the word or the names.
+#[derive(Drop)]
+pub enum ArchiCause {
+    /// The place in the line, from 0, of a byte that may not stand there.
+    NotText(usize),
+    /// The form of the line is not allowed at this place, or its number of words is wrong.
+    BadLine,
+    BadName(Items<u8>),
+    /// A word that is no number, or a number outside its bounds.
+    BadNumber(Items<u8>),
+    /// An operator or medium that no line before has defined.
+    UnknownName(Items<u8>),
+    /// A name of an operator or medium, the operator of a connection, or the definition of a duration, that
+    /// was given before.
+    DuplicateName(Items<u8>),
+    /// The first medium at which too few operators stand, or at a point to point one too many.
+    BadMedium(Name),
+    NoOperator,
+    /// Operator 0, and the least operator to which no route leads from it.
+    Disconnected(Name, Name),
+    /// The definition of the least flat operation without a duration.
+    NoDuration(Name),
+}
+
+/// A refusal, at a line of the text, from 1; line 0 is the whole.
+#[derive(Drop)]
+pub struct ArchiFault {
+    pub line: u32,
+    pub cause: ArchiCause,
+}
+
+/// Why a text gives no architecture.
+#[derive(Drop)]
+pub enum ArchiError {
+    Refused(ArchiFault),
+    Limit(LimitFault),
+    OutOfMemory,
+}

@@ -1,0 +1,19 @@
+//! What an architecture text has.
+use archi_graph::Archi;
+use syn_base::{Items, Name};
+
+/// A line `duration DEF OPERATOR TICKS`. The operator goes by its number.
+#[derive(Drop)]
+pub struct DurationLine {
+    pub def: Name,
+    pub operator: u32,
+    /// 0 to 1,000,000,000.
+    pub ticks: u32,
+}
+
+/// The architecture, and the durations as given.
+#[derive(Drop)]
+pub struct ArchiText {
+    pub archi: Archi,
+    pub lines: Items<DurationLine>,
+}
