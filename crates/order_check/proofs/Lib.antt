@@ -10,3 +10,4 @@ mod Prologues
 mod Transferred
 mod Walked
 mod Written
+mod WorkedProgram

@@ -1,0 +1,70 @@
+-- A worked program is well formed: two operators with a bus, a sensor and a function on the first, a function on the second, an actuator on each.
+use Rattle.std.proofs.Common.{◌≡◌, ℕ, List, [], ◌∷◌, Option, Some, None, refl, false, pos}
+use Rattle.archi_graph.specs.declared.medium.Seq.{Seq}
+use Rattle.flat_graph.specs.declared.vertex.Source.{Source}
+use Rattle.flat_graph.specs.declared.vertex.Vertex.{Vertex}
+use Rattle.flat_graph.specs.declared.vertex.Kind.{Kind}
+use Rattle.flat_graph.specs.declared.vertex.Kind.TheVariants.{Sensor, Actuator, Function}
+use Rattle.syn_base.specs.declared.arithmetic.Op.TheVariants.{Add}
+use Rattle.body_lang.specs.Expr.{literal, element, index, apply}
+use Rattle.flat_graph.specs.Graph.{Graph}
+use Rattle.semaphore_core.specs.declared.program.Instr.{Instr}
+use Rattle.semaphore_core.specs.declared.program.Instr.TheVariants.{Suc0, Suc1, Pre0, Pre1, Call, Send, Recv}
+use Rattle.semaphore_core.specs.declared.program.Buffer.{Buffer}
+use Rattle.semaphore_core.specs.declared.program.SeqCode.{SeqCode}
+use Rattle.semaphore_core.specs.declared.program.Program.{Program}
+use Rattle.semaphore_core.specs.WellFormed.{IsOrder, IsWellFormed}
+use Rattle.order_check.specs.Order.{is_order}
+use Rattle.order_check.proofs.Ordered.{decides_order}
+
+abbrev seq : ℕ → Option ℕ → Seq
+seq o m = record { operator = o; medium = m }
+
+abbrev code : Seq → List Instr → List Instr → SeqCode
+code q p t = record { seq = q; prologue = p; turn = t }
+
+abbrev on : ℕ → Buffer
+on o = record { operator = o; len = 1; depth = 1 }
+
+-- the communicator of the first operator with this loop
+abbrev program : List Instr → Program
+program sender = record {
+  buffers = on 0 ∷ on 0 ∷ on 1 ∷ on 1 ∷ [];
+  pairs = 0 ∷ 1 ∷ [];
+  seqs = code (seq 0 None) [] (Suc0 0 ∷ Call 0 [] (0 ∷ []) ∷ Pre1 0 ∷ Call 1 (0 ∷ []) (1 ∷ []) ∷ Call 3 (1 ∷ []) [] ∷ [])
+      ∷ code (seq 0 (Some 0)) (Pre0 0 ∷ []) sender
+      ∷ code (seq 1 None) (Pre0 1 ∷ []) (Suc1 1 ∷ Call 2 (2 ∷ []) (3 ∷ []) ∷ Pre0 1 ∷ Call 4 (3 ∷ []) [] ∷ [])
+      ∷ code (seq 1 (Some 0)) [] (Suc0 1 ∷ Recv 2 0 ∷ Pre1 1 ∷ []) ∷ [];
+}
+
+abbrev source : ℕ → Source
+source v = record { vertex = v; port = 0 }
+
+abbrev vertex : Kind → List Source → List ℕ → Vertex
+vertex k ins outs = record { name = []; def = []; kind = k; guards = []; ins = ins; outs = outs; twin = None }
+
+abbrev graph : Graph
+graph = record {
+  vertices = vertex (Sensor 0) [] (1 ∷ []) ∷ vertex (Function 0) (source 0 ∷ []) (1 ∷ []) ∷ vertex (Function 0) (source 0 ∷ []) (1 ∷ [])
+      ∷ vertex (Actuator 0) (source 1 ∷ []) [] ∷ vertex (Actuator 1) (source 2 ∷ []) [] ∷ [];
+  bodies = (apply Add (element 0 index) (literal (pos 1)) ∷ []) ∷ [];
+}
+
+abbrev sequences : List Seq
+sequences = seq 0 None ∷ seq 0 (Some 0) ∷ seq 1 None ∷ seq 1 (Some 0) ∷ []
+
+abbrev order : List ℕ
+order = 0 ∷ 0 ∷ 0 ∷ 0 ∷ 1 ∷ 1 ∷ 1 ∷ 3 ∷ 3 ∷ 3 ∷ 2 ∷ 2 ∷ 2 ∷ 2 ∷ 0 ∷ []
+
+abbrev sends : List Instr
+sends = Suc1 0 ∷ Send 0 1 ∷ Pre0 0 ∷ []
+
+in_order : IsOrder (program sends) graph sequences 1 order
+in_order = (decides_order (program sends) graph sequences 1 order).0 refl
+
+well_formed : IsWellFormed (program sends) graph sequences 1
+well_formed = (order, in_order)
+
+-- but not where the empty semaphore is signalled before the read
+hasty : is_order (program (Suc1 0 ∷ Pre0 0 ∷ Send 0 1 ∷ [])) graph.vertices sequences 1 order ≡ false
+hasty = refl
