@@ -1,0 +1,65 @@
+-- Which commands worked words are.
+use Rattle.std.proofs.Common.{◌≡◌, ℕ, refl, List, [], ◌∷◌, Option, Some, None, codes}
+use Rattle.command_words.specs.Command.{Bytes, Command, check, sim, flat, chart, code, run, load, command_of}
+
+abbrev a : Bytes
+a = codes "a"
+
+abbrev h : Bytes
+h = codes "h"
+
+abbrev s : Bytes
+s = codes "s"
+
+abbrev of : List Bytes → Option Command
+of ws = command_of (codes "syndex" ∷ ws)
+
+no_words : (command_of [] ≡ None) × (of [] ≡ None)
+no_words = (refl, refl)
+
+plainest : of (codes "sim" ∷ a ∷ s ∷ []) ≡ Some (sim a s)
+plainest = refl
+
+checks : (of (codes "check" ∷ a ∷ []) ≡ Some (check a None)) × (of (codes "check" ∷ a ∷ h ∷ []) ≡ Some (check a (Some h))) × (of (codes "check" ∷ a ∷ h ∷ s ∷ []) ≡ None)
+checks = (refl, refl, refl)
+
+others : (of (codes "flat" ∷ a ∷ []) ≡ Some (flat a)) × (of (codes "chart" ∷ a ∷ h ∷ []) ≡ Some (chart a h)) × (of (codes "code" ∷ a ∷ h ∷ []) ≡ Some (code a h))
+others = (refl, refl, refl)
+
+-- no abbreviation, and no other spelling
+unknown : (of (codes "si" ∷ a ∷ s ∷ []) ≡ None) × (of (codes "Sim" ∷ a ∷ s ∷ []) ≡ None) × (of (codes "--help" ∷ []) ≡ None) × (of (codes "help" ∷ []) ≡ None) × (of (codes "--version" ∷ []) ≡ None)
+unknown = (refl, refl, refl, refl, refl)
+
+abbrev workers : List Bytes → List Bytes
+workers ws = codes "run" ∷ a ∷ h ∷ s ∷ ws
+
+runs : (of (workers []) ≡ Some (run a h s None)) × (of (codes "run" ∷ a ∷ h ∷ []) ≡ None)
+runs = (refl, refl)
+
+-- in both forms, anywhere behind the command, with leading zeros
+given : (of (workers (codes "--workers" ∷ codes "80" ∷ [])) ≡ Some (run a h s (Some 80)))
+    × (of (workers (codes "--workers=04" ∷ [])) ≡ Some (run a h s (Some 4)))
+    × (of (codes "run" ∷ codes "--workers" ∷ codes "1" ∷ a ∷ h ∷ s ∷ []) ≡ Some (run a h s (Some 1)))
+given = (refl, refl, refl)
+
+not_given : (of (workers (codes "--workers" ∷ codes "0" ∷ [])) ≡ None) × (of (workers (codes "--workers" ∷ codes "81" ∷ [])) ≡ None) × (of (workers (codes "--workers" ∷ [])) ≡ None)
+    × (of (workers (codes "--workers=" ∷ [])) ≡ None) × (of (workers (codes "--workers" ∷ codes "+1" ∷ [])) ≡ None) × (of (workers (codes "--worker=1" ∷ [])) ≡ None)
+not_given = (refl, refl, refl, refl, refl, refl)
+
+twice : (of (workers (codes "--workers=1" ∷ codes "--workers=1" ∷ [])) ≡ None) × (of (workers (codes "--workers" ∷ codes "--" ∷ codes "1" ∷ [])) ≡ None)
+twice = (refl, refl)
+
+-- for no other command
+elsewhere : (of (codes "sim" ∷ a ∷ s ∷ codes "--workers=1" ∷ []) ≡ None) × (of (codes "--workers=1" ∷ codes "run" ∷ a ∷ h ∷ s ∷ []) ≡ None)
+elsewhere = (refl, refl)
+
+-- behind `--` each word is plain, a second `--` too; before the command there is none
+ended : (of (codes "run" ∷ a ∷ codes "--" ∷ codes "--workers" ∷ codes "--" ∷ []) ≡ Some (run a (codes "--workers") (codes "--") None)) × (of (codes "--" ∷ codes "sim" ∷ a ∷ s ∷ []) ≡ None)
+ended = (refl, refl)
+
+-- `-` and the empty word are names of files; other words that begin so are none
+hyphens : (of (codes "sim" ∷ codes "-" ∷ [] ∷ []) ≡ Some (sim (codes "-") [])) × (of (codes "sim" ∷ codes "-a" ∷ s ∷ []) ≡ None)
+hyphens = (refl, refl)
+
+loads : (of (codes "load" ∷ codes "1000" ∷ []) ≡ Some (load 1000)) × (of (codes "load" ∷ codes "0001" ∷ []) ≡ Some (load 1)) × (of (codes "load" ∷ codes "0" ∷ []) ≡ None) × (of (codes "load" ∷ codes "1001" ∷ []) ≡ None)
+loads = (refl, refl, refl, refl)

@@ -1,0 +1,121 @@
+-- Which command the words of the command line are. The first word is the program's name.
+use Rattle.std.specs.Prelude.{ℕ, Bool, true, false, not, ◌&&◌, ◌==◌, nat_le, List, [], ◌∷◌, length, take, drop, Option, Some, None, if◌then◌else◌, codes}
+use Rattle.std.specs.List.{list_all}
+use Rattle.std.specs.Str.{bytes_eq}
+use Rattle.syn_base.specs.Name.{is_digit}
+use Rattle.syn_base.specs.Integer.{number_of}
+
+abbrev pub Bytes : Type 0
+Bytes = List ℕ
+
+-- files go by their names
+pub data Command : Type 0 where
+  -- the algorithm, and the architecture if there is one
+  check : Bytes → Option Bytes → Command
+  -- the algorithm and the sensor table
+  sim : Bytes → Bytes → Command
+  flat : Bytes → Command
+  -- the algorithm and the architecture
+  chart code : Bytes → Bytes → Command
+  -- the algorithm, the architecture and the sensor table, and the number of workers if it is given
+  run : Bytes → Bytes → Bytes → Option ℕ → Command
+  load : ℕ → Command
+
+-- one or more digits, which give a number from 1 up to this one
+abbrev pub number_up_to : ℕ → Bytes → Option ℕ
+number_up_to most w =
+    if nat_le 1 (length w) && list_all is_digit w && nat_le 1 (number_of w) && nat_le (number_of w) most then Some (number_of w) else None
+
+-- the plain arguments behind the command, and what is given as workers
+pub record Arguments : Type 0 where
+  pub plain : List Bytes
+  pub workers : List Bytes
+
+abbrev pub with_plain : Bytes → Option Arguments → Option Arguments
+with_plain w None = None
+with_plain w (Some a) = Some (record a { plain = w ∷ a.plain })
+
+abbrev pub with_workers : Bytes → Option Arguments → Option Arguments
+with_workers w None = None
+with_workers w (Some a) = Some (record a { workers = w ∷ a.workers })
+
+-- `-` alone and the empty word are plain
+abbrev pub is_option : Bytes → Bool
+is_option [] = false
+is_option (b ∷ []) = false
+is_option (b ∷ c ∷ w) = b == 45
+
+abbrev pub is_joined : Bytes → Bool
+is_joined w = bytes_eq (take 10 w) (codes "--workers=")
+
+-- Words behind the command, one of which may be awaited as a number of workers. `--` ends the options. Workers may be given where the command takes them; no other word may begin with `-`.
+abbrev pub arguments_of : (takes awaited : Bool) → List Bytes → Option Arguments
+arguments_of takes true [] = None
+arguments_of takes false [] = Some (record { plain = []; workers = [] })
+arguments_of takes true (w ∷ ws) = with_workers w (arguments_of takes false ws)
+arguments_of takes false (w ∷ ws) =
+    if bytes_eq w (codes "--") then Some (record { plain = ws; workers = [] }) else
+    if takes && bytes_eq w (codes "--workers") then arguments_of takes true ws else
+    if takes && is_joined w then with_workers (drop 10 w) (arguments_of takes false ws) else
+    if is_option w then None else
+    with_plain w (arguments_of takes false ws)
+
+-- by the plain arguments
+abbrev pub one : (Bytes → Option Command) → List Bytes → Option Command
+one go (a ∷ []) = go a
+one go _ = None
+
+abbrev pub two : (Bytes → Bytes → Option Command) → List Bytes → Option Command
+two go (a ∷ b ∷ []) = go a b
+two go _ = None
+
+abbrev pub one_or_two : (Bytes → Option Bytes → Option Command) → List Bytes → Option Command
+one_or_two go (a ∷ []) = go a None
+one_or_two go (a ∷ b ∷ []) = go a (Some b)
+one_or_two go _ = None
+
+abbrev pub three : (Bytes → Bytes → Bytes → Option Command) → List Bytes → Option Command
+three go (a ∷ b ∷ c ∷ []) = go a b c
+three go _ = None
+
+abbrev pub loaded : Option ℕ → Option Command
+loaded None = None
+loaded (Some n) = Some (load n)
+
+abbrev pub with_count : (Option ℕ → Option Command) → Option ℕ → Option Command
+with_count go None = None
+with_count go (Some n) = go (Some n)
+
+-- workers are given at most once
+abbrev pub counted : (Option ℕ → Option Command) → List Bytes → Option Command
+counted go [] = go None
+counted go (w ∷ []) = with_count go (number_up_to 80 w)
+counted go (w ∷ v ∷ ws) = None
+
+abbrev pub plain_by : (List Bytes → Option Command) → Option Arguments → Option Command
+plain_by go None = None
+plain_by go (Some a) = go a.plain
+
+abbrev pub run_by : Option Arguments → Option Command
+run_by None = None
+run_by (Some a) = counted (λ workers. three (λ alg archi sensors. Some (run alg archi sensors workers)) a.plain) a.workers
+
+abbrev pub plain : (List Bytes → Option Command) → List Bytes → Option Command
+plain go ws = plain_by go (arguments_of false false ws)
+
+abbrev pub command_by : Bytes → List Bytes → Option Command
+command_by name ws =
+    if bytes_eq name (codes "check") then plain (one_or_two (λ a h. Some (check a h))) ws else
+    if bytes_eq name (codes "sim") then plain (two (λ a s. Some (sim a s))) ws else
+    if bytes_eq name (codes "flat") then plain (one (λ a. Some (flat a))) ws else
+    if bytes_eq name (codes "chart") then plain (two (λ a h. Some (chart a h))) ws else
+    if bytes_eq name (codes "code") then plain (two (λ a h. Some (code a h))) ws else
+    if bytes_eq name (codes "run") then run_by (arguments_of true false ws) else
+    if bytes_eq name (codes "load") then plain (one (λ n. loaded (number_up_to 1000 n))) ws else
+    None
+
+-- the command of these words, if they are one
+abbrev pub command_of : List Bytes → Option Command
+command_of [] = None
+command_of (program ∷ []) = None
+command_of (program ∷ name ∷ ws) = command_by name ws
