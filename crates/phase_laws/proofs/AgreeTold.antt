@@ -81,7 +81,7 @@ module _ (j : JobData) where
       by (Merge z) r q = q
 
   -- each actuator has its row
-  rows_long : (c : ℕ → ℕ) (xs : List Vertex) (v k : ℕ) → length (rows_from j c xs v k) ≡ length (actuator_lens j.graph xs)
+  pub rows_long : (c : ℕ → ℕ) (xs : List Vertex) (v k : ℕ) → length (rows_from j c xs v k) ≡ length (actuator_lens j.graph xs)
   rows_long c [] v k = refl
   rows_long c (y ∷ ys) v k = by y.kind (rows_long c ys (suc v) k)
     where

@@ -37,3 +37,4 @@ pub mod AgreeTells
 pub mod AgreeTold
 pub mod AgreeLaws
 pub mod Together
+mod Finished

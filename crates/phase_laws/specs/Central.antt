@@ -1,7 +1,12 @@
 -- The central theorem: the laws of every run of a job.
-use Rattle.std.specs.Prelude.{◌≡◌, true}
+use Rattle.std.specs.Prelude.{◌≡◌, ℕ, ◌<◌, true, List, Some, slice_get}
 use Rattle.flat_graph.specs.Valid.{is_flat}
-use Rattle.semaphore_core.specs.Job.{JobData}
+use Rattle.flat_graph.specs.declared.vertex.Vertex.{Vertex}
+use Rattle.flat_graph.specs.declared.vertex.Kind.TheVariants.{Actuator}
+use Rattle.flat_graph.specs.Meaning.{flat_act}
+use Rattle.semaphore_core.specs.Job.{JobData, reactions}
+use Rattle.semaphore_core.specs.Core.{run, IsDone}
+use Rattle.phase_laws.specs.Agrees.{row_at}
 use Rattle.semaphore_core.specs.IsJob.{IsJob}
 use Rattle.semaphore_core.specs.Laws.{HasLaws}
 use Rattle.phase_laws.specs.Values.{IsSupplied}
@@ -13,3 +18,8 @@ JobsHaveLaws = (j : JobData) → IsSupplied j → HasLaws j
 -- every job on a valid graph is supplied
 abbrev pub JobsAreSupplied : Type 0
 JobsAreSupplied = (j : JobData) → IsJob j → is_flat j.graph ≡ true → IsSupplied j
+
+-- when all is done each actuator has taken, in each reaction, what it takes in the flat graph
+abbrev pub RowsAreTaken : Type 0
+RowsAreTaken = (j : JobData) → IsSupplied j → (list : List ℕ) → IsDone j (run j list) → (v a k : ℕ) (x : Vertex) → slice_get j.graph.vertices v ≡ Some x → x.kind ≡ Actuator a → k < reactions j
+    → row_at (run j list).rows k a ≡ flat_act j.graph j.sensors j.opening a k

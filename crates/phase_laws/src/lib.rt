@@ -6,12 +6,14 @@
 #![tactic(auto)]
 
 pub mod agree;
+mod fresh;
 
 ghost use Rattle.semaphore_core.specs.Laws.{HasLaws};
-ghost use Rattle.phase_laws.specs.Central.{JobsAreSupplied, JobsHaveLaws};
+ghost use Rattle.phase_laws.specs.Central.{JobsAreSupplied, JobsHaveLaws, RowsAreTaken};
 ghost use Rattle.phase_laws.specs.Discipline.{ProgramsAreDisciplined};
 ghost use Rattle.phase_laws.specs.Values.{SequencesComputeTheirValues};
 
+pub use fresh::run_fresh;
 use semaphore_core::Job;
 
 /// Every well-formed program is synchronized, and its serial order puts each need before what waits for it.
@@ -29,6 +31,11 @@ pub fn sequences_compute_their_values()
 /// any opening values, in every interleaving of its sequences' micro-steps.
 pub fn jobs_have_laws()
     ensures { JobsHaveLaws }
+{}
+
+/// When all is done each actuator has taken the flat graph's values, in every interleaving.
+pub fn rows_are_taken()
+    ensures { RowsAreTaken }
 {}
 
 /// Every job keeps what the central theorem asks for, where its graph is valid, as every flat graph is.
