@@ -1,5 +1,6 @@
 //! Why a text of an algorithm is refused.
 use syn_base::{Items, LimitFault, Name};
+use thiserror::Error;
 
 /// The causes of a refusal, with what a message prints behind the cause: the place, the word, the end of
 /// an edge, or the names.
@@ -43,10 +44,13 @@ pub struct AlgoFault {
     pub cause: AlgoCause,
 }
 
-/// Why a text gives no definitions.
-#[derive(Drop)]
+/// Why a text gives no definitions. The lines that `syndex` prints are made elsewhere, from the fields.
+#[derive(Drop, Error)]
 pub enum AlgoError {
+    #[error("refused at line {line}", line = .0.line)]
     Refused(AlgoFault),
+    #[error("{count} above {bound}", count = .0.count, bound = .0.bound)]
     Limit(LimitFault),
+    #[error("out of memory")]
     OutOfMemory,
 }

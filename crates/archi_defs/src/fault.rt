@@ -1,5 +1,6 @@
 //! Why a text of an architecture is refused.
 use syn_base::{Items, LimitFault, Name};
+use thiserror::Error;
 
 /// The causes of a refusal, with what a message prints behind the cause: the place, the word or the names.
 #[derive(Drop)]
@@ -32,10 +33,13 @@ pub struct ArchiFault {
     pub cause: ArchiCause,
 }
 
-/// Why a text gives no architecture.
-#[derive(Drop)]
+/// Why a text gives no architecture. The lines that `syndex` prints are made elsewhere, from the fields.
+#[derive(Drop, Error)]
 pub enum ArchiError {
+    #[error("refused at line {line}", line = .0.line)]
     Refused(ArchiFault),
+    #[error("{count} above {bound}", count = .0.count, bound = .0.bound)]
     Limit(LimitFault),
+    #[error("out of memory")]
     OutOfMemory,
 }

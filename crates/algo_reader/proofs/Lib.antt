@@ -1,0 +1,11 @@
+pub mod Taken
+pub mod PortLines
+pub mod Behind
+pub mod Outputs
+pub mod FrontNames
+pub mod Numbers
+pub mod Grammars
+pub mod Settled
+pub mod NameTokens
+pub mod PortTokens
+pub mod LineCounts

@@ -1,0 +1,34 @@
+-- Parts of lines, apart from the block that they stand in.
+use Rattle.std.specs.Prelude.{ℕ, ◌+◌, nat_lt, Bool, not, min, take, drop, List, Option, Some, None, Result, Ok, if◌then◌else◌}
+use Rattle.std.specs.List.{position_or_len}
+use Rattle.syn_base.specs.Name.{is_name, is_name_byte}
+use Rattle.syn_base.specs.declared.limits.LimitKind.TheVariants.{PortLength, Ports}
+use Rattle.body_lang.specs.declared.expression.Port.{Port}
+use Rattle.algo_defs.specs.declared.fault.AlgoError.{AlgoError}
+use Rattle.algo_defs.specs.declared.fault.AlgoCause.TheVariants.{BadName, BadNumber}
+use Rattle.algo_defs.specs.Words.{Bytes, word, count_of}
+use Rattle.algo_defs.specs.Blocks.{refused, above, with_some}
+
+abbrev pub some_name : Bytes → Option Bytes
+some_name w = if is_name w then Some w else None
+
+-- P LEN behind `in` or `out`: so many such lines stand before
+unfoldable pub port_of : ℕ → ℕ → List Bytes → Result Port AlgoError
+port_of n before ws =
+    if is_name (word ws 1) then
+    with_some (count_of (word ws 2)) (refused n (BadNumber (word ws 2))) (λ len.
+    if nat_lt 63 before then above Ports (before + 1) else
+    if nat_lt 64 len then above PortLength len else
+    Ok (record { name = word ws 1; len = len }))
+    else refused n (BadName (word ws 1))
+
+-- no byte of a name
+abbrev pub is_other : ℕ → Bool
+is_other b = not (is_name_byte b)
+
+-- how many bytes at the front a name has, up to 32
+abbrev pub name_length : Bytes → ℕ
+name_length bs = min 32 (position_or_len is_other bs)
+
+abbrev pub name_from : Bytes → ℕ → Bytes
+name_from text place = take (name_length (drop place text)) (drop place text)

@@ -1,0 +1,91 @@
+//! The refusals of a line.
+ghost use Rattle.std.specs.Prelude.{◌≡◌};
+ghost use Rattle.algo_reader.specs.Given.{IsStop, stop, Adds, Has};
+ghost use Rattle.syn_base.specs.Limits.{bound_of};
+ghost use Rattle.algo_defs.specs.declared.fault.AlgoCause.TheVariants.{NotText, BadLine, BadName, BadNumber, BadExpression, DuplicateName, UnknownName};
+ghost use Rattle.algo_defs.specs.declared.fault.AlgoError.TheVariants.{Limit};
+
+use algo_defs::{AlgoCause, AlgoError, AlgoFault};
+use std::alloc::Global;
+use syn_base::{Items, LimitFault, LimitKind};
+
+fn refusal(line: u32, cause: AlgoCause) -> AlgoError
+    ensures { result ≡ stop line cause }
+{
+    AlgoError::Refused(AlgoFault { line, cause })
+}
+
+pub fn bad_line(line: u32) -> AlgoError
+    ensures { result ≡ stop line BadLine }
+{
+    refusal(line, AlgoCause::BadLine)
+}
+
+pub fn not_text(line: u32, place: usize) -> AlgoError
+    ensures { result ≡ stop line (NotText place) }
+{
+    refusal(line, AlgoCause::NotText(place))
+}
+
+pub fn bad_expression(line: u32, place: usize) -> AlgoError
+    ensures { result ≡ stop line (BadExpression place) }
+{
+    refusal(line, AlgoCause::BadExpression(place))
+}
+
+pub fn bad_name(alloc: Global, line: u32, word: &[u8]) -> AlgoError
+    ensures { IsStop result (stop line (BadName word.now)) }
+{
+    match Vec::from_slice(alloc, word) {
+        Ok(word) => refusal(line, AlgoCause::BadName(Items::new(word))),
+        Err(_) => AlgoError::OutOfMemory,
+    }
+}
+
+pub fn bad_number(alloc: Global, line: u32, word: &[u8]) -> AlgoError
+    ensures { IsStop result (stop line (BadNumber word.now)) }
+{
+    match Vec::from_slice(alloc, word) {
+        Ok(word) => refusal(line, AlgoCause::BadNumber(Items::new(word))),
+        Err(_) => AlgoError::OutOfMemory,
+    }
+}
+
+pub fn duplicate(alloc: Global, line: u32, word: &[u8]) -> AlgoError
+    ensures { IsStop result (stop line (DuplicateName word.now)) }
+{
+    match Vec::from_slice(alloc, word) {
+        Ok(word) => refusal(line, AlgoCause::DuplicateName(Items::new(word))),
+        Err(_) => AlgoError::OutOfMemory,
+    }
+}
+
+pub fn unknown(alloc: Global, line: u32, word: &[u8]) -> AlgoError
+    ensures { IsStop result (stop line (UnknownName word.now)) }
+{
+    match Vec::from_slice(alloc, word) {
+        Ok(word) => refusal(line, AlgoCause::UnknownName(Items::new(word))),
+        Err(_) => AlgoError::OutOfMemory,
+    }
+}
+
+/// A quantity above its bound.
+pub fn above(which: LimitKind, count: u128) -> AlgoError
+    ensures { result ≡ Limit (record { which = which; count = count; bound = bound_of which }) }
+{
+    AlgoError::Limit(LimitFault {
+        which,
+        count,
+        bound: which.bound(),
+    })
+}
+
+/// Adds an element at the end.
+pub fn push<T: Drop>(items: &mut Vec<T>, value: T) -> Result<(), AlgoError>
+    ensures { Adds result items.old.items value items.new.items }
+{
+    match items.push(value) {
+        Ok(()) => Ok(()),
+        Err(_) => Err(AlgoError::OutOfMemory),
+    }
+}

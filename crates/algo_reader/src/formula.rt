@@ -1,0 +1,77 @@
+//! The expression of an output.
+ghost use Rattle.std.specs.Prelude.{◌≡◌, ◌≤◌, length, map, position, drop};
+ghost use Rattle.algo_defs.specs.Formulas.{formula_of};
+ghost use Rattle.algo_reader.specs.Given.{Makes};
+ghost use Rattle.algo_reader.specs.Lines.{name_length, name_from, is_other};
+
+use crate::fault::{bad_expression, unknown};
+use algo_defs::{AlgoError, Formula};
+use body_lang::Port;
+use body_text::{BodyFault, read_body};
+use std::alloc::Global;
+
+fn is_other_byte(b: u8) -> bool
+    ensures { result ≡ is_other b }
+{
+    !(b.is_ascii_alphanumeric() || b == b'_')
+}
+
+fn other_in(text: &[u8]) -> Option<usize>
+    ensures { result ≡ position is_other text.now }
+{
+    text.iter().position(|b| is_other_byte(*b))
+}
+
+/// How many bytes at the front may be a name's, up to 32.
+#[tactic(auto, using(crate::proofs::FrontNames::found_length, crate::proofs::FrontNames::missing_length))]
+fn name_length(text: &[u8]) -> usize
+    ensures length { result ≡ name_length text.now }
+    ensures within { result ≤ length text.now }
+{
+    match other_in(text) {
+        Some(n) => n.min(32),
+        None => text.len().min(32),
+    }
+}
+
+fn behind(text: &[u8], place: usize) -> &[u8]
+    requires { place ≤ length text.now }
+    ensures { result.now ≡ drop place text.now }
+{
+    &text[place..]
+}
+
+fn name_in_front(text: &[u8]) -> &[u8]
+    ensures { result.now ≡ name_from text.now 0 }
+{
+    &text[..name_length(text)]
+}
+
+/// The name that stands at a place of a text.
+fn name_at(text: &[u8], place: usize) -> &[u8]
+    ensures { result.now ≡ name_from text.now place }
+{
+    if place >= text.len() {
+        return &[];
+    }
+    name_in_front(behind(text, place))
+}
+
+/// The expression that a text is over these ports, or the line's refusal.
+pub fn read_formula(
+    alloc: Global,
+    number: u32,
+    ports: &[Port],
+    text: &[u8],
+) -> Result<Formula, AlgoError>
+    requires { length ports.now ≤ 4000000000 }
+    ensures { Makes result (formula_of number (map (λ p. p.name) ports.now) text.now) }
+{
+    match read_body(alloc, text, ports) {
+        Ok(expr) => Ok(Formula::new(expr)),
+        Err(BodyFault::Limit(fault)) => Err(AlgoError::Limit(fault)),
+        Err(BodyFault::BadExpression(place)) => Err(bad_expression(number, place)),
+        Err(BodyFault::UnknownPort(place)) => Err(unknown(alloc, number, name_at(text, place))),
+        Err(BodyFault::OutOfMemory) => Err(AlgoError::OutOfMemory),
+    }
+}

@@ -1,0 +1,128 @@
+//! The lines of a function.
+ghost use Rattle.std.specs.Prelude.{◌≡◌, ◌≤◌, map, length, drop, position};
+ghost use Rattle.algo_defs.specs.Words.{is_among};
+ghost use Rattle.algo_defs.specs.Blocks.{in_line, result_line, result_words, is_equals, is_taken, new_block};
+ghost use Rattle.algo_reader.specs.Given.{Steps};
+ghost use Rattle.algo_reader.specs.Views.{function_view};
+
+use crate::fault::{bad_line, duplicate, push};
+use crate::formula::read_formula;
+use crate::ports::{Ports, read_port};
+use crate::words::Words;
+use algo_defs::{AlgoError, Output};
+use std::alloc::Global;
+use syn_base::Name;
+
+/// The lines of a function so far.
+#[derive(Drop)]
+pub struct FunctionBlock {
+    pub name: Name,
+    pub line: u32,
+    /// 0 at the inputs, 1 at the outputs.
+    pub part: u32,
+    pub ins: Ports,
+    pub results: Vec<Output>,
+}
+
+fn has_output(outputs: &[Output], name: &[u8]) -> bool
+    ensures { result ≡ is_among name.now (map (λ o. o.port.name) outputs.now) }
+{
+    for output in outputs {
+        if name == output.port.name.as_bytes() {
+            return true;
+        }
+    }
+    false
+}
+
+fn count(outputs: &Vec<Output>) -> usize
+    ensures { result ≡ length outputs.now.items }
+{
+    outputs.len()
+}
+
+fn after(code: &[u8], at: usize) -> &[u8]
+    requires { at ≤ length code.now }
+    ensures { result.now ≡ drop at code.now }
+{
+    &code[at..]
+}
+
+fn equals_in(code: &[u8]) -> Option<usize>
+    ensures { result ≡ position is_equals code.now }
+{
+    code.iter().position(|b| *b == b'=')
+}
+
+impl FunctionBlock {
+    /// A function without lines. It takes no memory.
+    pub fn new(alloc: Global, name: Name, line: u32) -> FunctionBlock
+        ensures { function_view result ≡ new_block name line }
+    {
+        FunctionBlock {
+            name,
+            line,
+            part: 0,
+            ins: Ports::new(alloc),
+            results: Vec::new(alloc),
+        }
+    }
+
+    /// A port of the function has this name.
+    #[tactic(auto, using(crate::proofs::Taken::two_named))]
+    fn is_taken(&self, name: &Name) -> bool
+        ensures { result ≡ is_taken (function_view self.now) name.now }
+    {
+        let name = name.as_bytes();
+        self.ins.has(name) || has_output(self.results.as_slice(), name)
+    }
+
+    /// in P LEN
+    pub fn in_line(&mut self, alloc: Global, number: u32, words: &Words) -> Result<(), AlgoError>
+        ensures { Steps result (function_view self.new) (in_line 0 (function_view self.old) number words.now) }
+    {
+        if words.len() != 3 || self.part != 0 {
+            return Err(bad_line(number));
+        }
+        let port = read_port(alloc, number, self.ins.len(), words)?;
+        if self.is_taken(&port.name) {
+            return Err(duplicate(alloc, number, port.name.as_bytes()));
+        }
+        self.ins.add(port)?;
+        Ok(())
+    }
+
+    /// out P LEN, with the text of the expression
+    fn result_words(
+        &mut self,
+        alloc: Global,
+        number: u32,
+        words: &Words,
+        text: &[u8],
+    ) -> Result<(), AlgoError>
+        ensures { Steps result (function_view self.new) (result_words (function_view self.old) number words.now text.now) }
+    {
+        if words.len() != 3 || self.part > 1 {
+            return Err(bad_line(number));
+        }
+        let port = read_port(alloc, number, count(&self.results), words)?;
+        let formula = read_formula(alloc, number, self.ins.as_slice(), text)?;
+        if self.is_taken(&port.name) {
+            return Err(duplicate(alloc, number, port.name.as_bytes()));
+        }
+        self.part = 1;
+        push(&mut self.results, Output { port, formula })?;
+        Ok(())
+    }
+
+    /// The words before the first `=`, and the expression behind it.
+    pub fn result_line(&mut self, alloc: Global, number: u32, code: &[u8]) -> Result<(), AlgoError>
+        ensures { Steps result (function_view self.new) (result_line (function_view self.old) number code.now) }
+    {
+        let Some(at) = equals_in(code) else {
+            return Err(bad_line(number));
+        };
+        let words = Words::of(alloc, &code[..at])?;
+        self.result_words(alloc, number, &words, after(code, at + 1))
+    }
+}

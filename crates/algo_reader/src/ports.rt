@@ -1,0 +1,120 @@
+//! Ports of a block, and the lines that give them.
+ghost use Rattle.std.specs.Prelude.{◌≡◌, ◌<◌, ◌≤◌, length, map, [], IfOk};
+ghost use Rattle.algo_defs.specs.Words.{is_among};
+ghost use Rattle.algo_reader.specs.Given.{Makes, Adds};
+ghost use Rattle.algo_reader.specs.Lines.{port_of};
+
+use crate::fault::{above, bad_name, bad_number, push};
+use crate::word::{read_count, read_name};
+use crate::words::Words;
+use algo_defs::AlgoError;
+use body_lang::Port;
+use std::alloc::Global;
+use std::marker::Model;
+use syn_base::{Items, LimitKind};
+
+/// Up to 64 ports, seen as their list.
+#[derive(Drop)]
+pub struct Ports {
+    ports: Vec<Port>,
+}
+
+impl Model for Ports {
+    ghost use Rattle.std.specs.Prelude.{List, length, ◌≤◌};
+    ghost use Rattle.body_lang.specs.declared.expression.Port.{Port};
+
+    ghost Value = { List Port };
+
+    ghost view = { λ s. s.ports.items };
+
+    ghost invariant = { λ s. length s.ports.items ≤ 64 };
+}
+
+impl Ports {
+    /// No ports. It takes no memory.
+    pub fn new(alloc: Global) -> Ports
+        ensures { result ≡ [] }
+    {
+        Ports {
+            ports: Vec::new(alloc),
+        }
+    }
+
+    /// The ports.
+    pub fn as_slice(&self) -> &[Port]
+        ensures same { result.now ≡ self.now }
+        ensures few { length self.now ≤ 64 }
+    {
+        self.ports.as_slice()
+    }
+
+    /// How many ports there are.
+    pub fn len(&self) -> usize
+        ensures { result ≡ length self.now }
+    {
+        self.ports.len()
+    }
+
+    /// A port has this name.
+    pub fn has(&self, name: &[u8]) -> bool
+        ensures { result ≡ is_among name.now (map (λ p. p.name) self.now) }
+    {
+        has_port(self.ports.as_slice(), name)
+    }
+
+    /// Adds a port at the end.
+    pub fn add(&mut self, port: Port) -> Result<(), AlgoError>
+        requires { length self.old < 64 }
+        ensures { Adds result self.old port self.new }
+    {
+        push(&mut self.ports, port)
+    }
+
+    /// The ports, handed back.
+    pub fn into_items(self) -> Items<Port>
+        ensures { result ≡ self }
+    {
+        Items::new(self.ports)
+    }
+}
+
+fn has_port(ports: &[Port], name: &[u8]) -> bool
+    ensures { result ≡ is_among name.now (map (λ p. p.name) ports.now) }
+{
+    for port in ports {
+        if name == port.name.as_bytes() {
+            return true;
+        }
+    }
+    false
+}
+
+/// P LEN behind `in` or `out`, where so many such lines stand before.
+#[tactic(auto, unfolding(crate::specs::Lines::port_of))]
+pub fn read_port(
+    alloc: Global,
+    number: u32,
+    before: usize,
+    words: &Words,
+) -> Result<Port, AlgoError>
+    requires { length words.now ≡ 3 }
+    ensures port { Makes result (port_of number before words.now) }
+    ensures few { IfOk result (λ _. before < 64) }
+{
+    let Some(name) = read_name(alloc, words.get(1))? else {
+        return Err(bad_name(alloc, number, words.get(1)));
+    };
+    let Some(len) = read_count(words.get(2)) else {
+        return Err(bad_number(alloc, number, words.get(2)));
+    };
+    if before > 63 {
+        return Err(above(LimitKind::Ports, before as u128 + 1));
+    }
+    if len > 64 {
+        return Err(above(LimitKind::PortLength, u128::from(len)));
+    }
+    Ok(Port {
+        name,
+        len: len as u32,
+    })
+}

@@ -1,0 +1,567 @@
+//! The lines of a text, one after the other.
+ghost use Rattle.std.specs.Prelude.{◌≡◌, ◌<◌, ◌≤◌, length};
+ghost use Rattle.text_lines.specs.Text.{lines_of};
+ghost use Rattle.algo_defs.specs.Blocks.{new_block};
+ghost use Rattle.algo_defs.specs.Text.{definitions_of, start, version_line, end_line, values_line, opening_line, repeat_line, between_line, function_line, graph_line, switch_line, frontier_line, by_stage, next_line, at_end, in_function, in_graph, in_switch, in_repeat};
+ghost use Rattle.algo_reader.specs.Given.{Steps, Gives};
+ghost use Rattle.algo_reader.specs.Views.{reading, settle, function_end, graph_end, switch_end, repeat_end, any_end, stage_of, block_of, stage_for, end_body, values_body, function_view, graph_view, switch_view, repeat_view};
+
+use crate::fault::{above, bad_line, bad_name, bad_number, duplicate, not_text, push};
+use crate::function::FunctionBlock;
+use crate::graph::GraphBlock;
+use crate::names::add_name;
+use crate::repetition::RepeatBlock;
+use crate::switch::{Part, SwitchBlock};
+use crate::values::read_values;
+use crate::word::{begins, read_count, read_name};
+use crate::words::Words;
+use algo_defs::{AlgoError, Body, Def, Defs};
+use name_table::Names;
+use std::alloc::Global;
+use std::mem;
+use syn_base::{Items, LimitKind, Name};
+
+/// A kind of block that its first line only names.
+#[derive(Clone, Copy, Drop)]
+pub enum Kind {
+    Function,
+    Graph,
+    Switch,
+}
+
+/// Where the next line stands.
+#[derive(Drop)]
+pub enum Place {
+    BeforeVersion,
+    Between,
+    InFunction(FunctionBlock),
+    InGraph(GraphBlock),
+    InSwitch(SwitchBlock),
+    InRepeat(RepeatBlock),
+}
+
+/// What was read so far: the definitions, and their names with the open block's.
+#[derive(Drop)]
+pub struct Reader<'a> {
+    pub defs: Vec<Def>,
+    pub names: Names<'a>,
+    pub place: Place,
+}
+
+fn open_block(alloc: Global, kind: Kind, name: Name, line: u32) -> Place
+    ensures stage { stage_of result ≡ stage_for kind }
+    ensures block { block_of result ≡ new_block name line }
+{
+    match kind {
+        Kind::Function => Place::InFunction(FunctionBlock::new(alloc, name, line)),
+        Kind::Graph => Place::InGraph(GraphBlock::new(alloc, name, line)),
+        Kind::Switch => Place::InSwitch(SwitchBlock::new(alloc, name, line)),
+    }
+}
+
+fn end_body(sensor: bool, len: u32) -> Body
+    ensures { result ≡ end_body sensor len }
+{
+    if sensor {
+        Body::Sensor(len)
+    } else {
+        Body::Actuator(len)
+    }
+}
+
+fn values_body(constant: bool, values: Vec<i64>) -> Body
+    ensures { result ≡ values_body constant values.items }
+{
+    if constant {
+        Body::Constant(Items::new(values))
+    } else {
+        Body::Delay(Items::new(values))
+    }
+}
+
+impl<'a> Reader<'a> {
+    /// Nothing was read yet.
+    pub fn new(alloc: Global) -> Reader<'a>
+        ensures { reading result ≡ start }
+    {
+        Reader {
+            defs: Vec::new(alloc),
+            names: Names::new(alloc),
+            place: Place::BeforeVersion,
+        }
+    }
+
+    /// algorithm 1
+    fn version_line(&mut self, number: u32, words: &Words) -> Result<(), AlgoError>
+        requires { 0 < length words.now }
+        ensures { Steps result (reading self.new) (settle (version_line (reading self.old) number words.now)) }
+    {
+        if words.len() != 2 {
+            return Err(bad_line(number));
+        }
+        if !begins(words, b"algorithm") {
+            return Err(bad_line(number));
+        }
+        if words.get(1) != b"1".as_slice() {
+            return Err(bad_line(number));
+        }
+        self.place = Place::Between;
+        Ok(())
+    }
+
+    /// sensor NAME LEN and actuator NAME LEN
+    fn end_line(
+        &mut self,
+        alloc: Global,
+        sensor: bool,
+        number: u32,
+        words: &Words<'a>,
+    ) -> Result<(), AlgoError>
+        ensures { Steps result (reading self.new) (end_line (end_body sensor) (reading self.old) number words.now) }
+    {
+        if words.len() != 3 {
+            return Err(bad_line(number));
+        }
+        let Some(name) = read_name(alloc, words.get(1))? else {
+            return Err(bad_name(alloc, number, words.get(1)));
+        };
+        let Some(len) = read_count(words.get(2)) else {
+            return Err(bad_number(alloc, number, words.get(2)));
+        };
+        if len > 64 {
+            return Err(above(LimitKind::PortLength, u128::from(len)));
+        }
+        if !add_name(&mut self.names, words.get(1))? {
+            return Err(duplicate(alloc, number, words.get(1)));
+        }
+        let def = Def {
+            name,
+            line: number,
+            body: end_body(sensor, len as u32),
+        };
+        push(&mut self.defs, def)?;
+        Ok(())
+    }
+
+    /// constant NAME = V0 V1 and so on, and likewise delay
+    fn values_line(
+        &mut self,
+        alloc: Global,
+        constant: bool,
+        number: u32,
+        words: &Words<'a>,
+    ) -> Result<(), AlgoError>
+        ensures { Steps result (reading self.new) (values_line (values_body constant) (reading self.old) number words.now) }
+    {
+        if words.len() < 4 {
+            return Err(bad_line(number));
+        }
+        if words.get(2) != b"=".as_slice() {
+            return Err(bad_line(number));
+        }
+        let Some(name) = read_name(alloc, words.get(1))? else {
+            return Err(bad_name(alloc, number, words.get(1)));
+        };
+        let values = read_values(alloc, number, words, 3)?;
+        if values.len() > 64 {
+            return Err(above(LimitKind::PortLength, values.len() as u128));
+        }
+        if !add_name(&mut self.names, words.get(1))? {
+            return Err(duplicate(alloc, number, words.get(1)));
+        }
+        let def = Def {
+            name,
+            line: number,
+            body: values_body(constant, values),
+        };
+        push(&mut self.defs, def)?;
+        Ok(())
+    }
+
+    /// function NAME, graph NAME and switch NAME
+    fn opening_line(
+        &mut self,
+        alloc: Global,
+        kind: Kind,
+        number: u32,
+        words: &Words<'a>,
+    ) -> Result<(), AlgoError>
+        ensures { Steps result (reading self.new) (opening_line (stage_for kind) (reading self.old) number words.now) }
+    {
+        if words.len() != 2 {
+            return Err(bad_line(number));
+        }
+        let Some(name) = read_name(alloc, words.get(1))? else {
+            return Err(bad_name(alloc, number, words.get(1)));
+        };
+        if !add_name(&mut self.names, words.get(1))? {
+            return Err(duplicate(alloc, number, words.get(1)));
+        }
+        self.place = open_block(alloc, kind, name, number);
+        Ok(())
+    }
+
+    /// repeat NAME COUNT DEF
+    fn repeat_line(
+        &mut self,
+        alloc: Global,
+        number: u32,
+        words: &Words<'a>,
+    ) -> Result<(), AlgoError>
+        ensures { Steps result (reading self.new) (repeat_line (reading self.old) number words.now) }
+    {
+        if words.len() != 4 {
+            return Err(bad_line(number));
+        }
+        let Some(name) = read_name(alloc, words.get(1))? else {
+            return Err(bad_name(alloc, number, words.get(1)));
+        };
+        let Some(def) = read_name(alloc, words.get(3))? else {
+            return Err(bad_name(alloc, number, words.get(3)));
+        };
+        let Some(copies) = read_count(words.get(2)) else {
+            return Err(bad_number(alloc, number, words.get(2)));
+        };
+        if copies > 64 {
+            return Err(above(LimitKind::Copies, u128::from(copies)));
+        }
+        if !add_name(&mut self.names, words.get(1))? {
+            return Err(duplicate(alloc, number, words.get(1)));
+        }
+        self.place = Place::InRepeat(RepeatBlock::new(alloc, name, number, copies as u32, def));
+        Ok(())
+    }
+
+    /// A line between definitions.
+    fn between_line(
+        &mut self,
+        alloc: Global,
+        number: u32,
+        words: &Words<'a>,
+    ) -> Result<(), AlgoError>
+        requires { 0 < length words.now }
+        ensures { Steps result (reading self.new) (between_line (reading self.old) number words.now) }
+    {
+        if begins(words, b"sensor") {
+            return self.end_line(alloc, true, number, words);
+        }
+        if begins(words, b"actuator") {
+            return self.end_line(alloc, false, number, words);
+        }
+        if begins(words, b"constant") {
+            return self.values_line(alloc, true, number, words);
+        }
+        if begins(words, b"delay") {
+            return self.values_line(alloc, false, number, words);
+        }
+        if begins(words, b"function") {
+            return self.opening_line(alloc, Kind::Function, number, words);
+        }
+        if begins(words, b"graph") {
+            return self.opening_line(alloc, Kind::Graph, number, words);
+        }
+        if begins(words, b"switch") {
+            return self.opening_line(alloc, Kind::Switch, number, words);
+        }
+        if begins(words, b"repeat") {
+            return self.repeat_line(alloc, number, words);
+        }
+        Err(bad_line(number))
+    }
+
+    /// `end`
+    fn function_end(
+        &mut self,
+        number: u32,
+        words: &Words,
+        block: FunctionBlock,
+    ) -> Result<(), AlgoError>
+        ensures { Steps result (reading self.new) (settle (function_end (record (reading self.old) { stage = in_function; block = function_view block }) number words.now)) }
+    {
+        if words.len() != 1 || block.results.as_slice().is_empty() {
+            return Err(bad_line(number));
+        }
+        self.place = Place::Between;
+        let def = Def {
+            name: block.name,
+            line: block.line,
+            body: Body::Function {
+                ins: block.ins.into_items(),
+                outs: Items::new(block.results),
+            },
+        };
+        push(&mut self.defs, def)?;
+        Ok(())
+    }
+
+    /// `end`
+    fn graph_end(&mut self, number: u32, words: &Words, block: GraphBlock) -> Result<(), AlgoError>
+        ensures { Steps result (reading self.new) (settle (graph_end (record (reading self.old) { stage = in_graph; block = graph_view block }) number words.now)) }
+    {
+        if words.len() != 1 {
+            return Err(bad_line(number));
+        }
+        self.place = Place::Between;
+        let def = Def {
+            name: block.name,
+            line: block.line,
+            body: Body::Graph {
+                ins: block.ins.into_items(),
+                outs: block.outs.into_items(),
+                references: Items::new(block.references),
+                edges: Items::new(block.edges),
+            },
+        };
+        push(&mut self.defs, def)?;
+        Ok(())
+    }
+
+    /// `end`
+    fn switch_end(
+        &mut self,
+        number: u32,
+        words: &Words,
+        block: SwitchBlock,
+    ) -> Result<(), AlgoError>
+        ensures { Steps result (reading self.new) (settle (switch_end (record (reading self.old) { stage = in_switch; block = switch_view block }) number words.now)) }
+    {
+        if words.len() != 1 {
+            return Err(bad_line(number));
+        }
+        let (Some(on), Part::Whole(otherwise, otherwise_line)) = (block.on, block.part) else {
+            return Err(bad_line(number));
+        };
+        self.place = Place::Between;
+        let def = Def {
+            name: block.name,
+            line: block.line,
+            body: Body::Switch {
+                on,
+                ins: block.ins.into_items(),
+                outs: block.outs.into_items(),
+                cases: Items::new(block.cases),
+                otherwise,
+                otherwise_line,
+            },
+        };
+        push(&mut self.defs, def)?;
+        Ok(())
+    }
+
+    /// `end`
+    fn repeat_end(
+        &mut self,
+        number: u32,
+        words: &Words,
+        block: RepeatBlock,
+    ) -> Result<(), AlgoError>
+        ensures { Steps result (reading self.new) (settle (repeat_end (record (reading self.old) { stage = in_repeat; block = repeat_view block }) number words.now)) }
+    {
+        if words.len() != 1 {
+            return Err(bad_line(number));
+        }
+        self.place = Place::Between;
+        let def = Def {
+            name: block.name,
+            line: block.line,
+            body: Body::Repeat {
+                copies: block.copies,
+                def: block.def,
+                lines: Items::new(block.frontier),
+            },
+        };
+        push(&mut self.defs, def)?;
+        Ok(())
+    }
+
+    /// `end`: the open block becomes a definition.
+    fn end_block(&mut self, number: u32, words: &Words) -> Result<(), AlgoError>
+        ensures { Steps result (reading self.new) (settle (any_end (stage_of self.old.place) (reading self.old) number words.now)) }
+    {
+        match mem::replace(&mut self.place, Place::Between) {
+            Place::InFunction(block) => self.function_end(number, words, block),
+            Place::InGraph(block) => self.graph_end(number, words, block),
+            Place::InSwitch(block) => self.switch_end(number, words, block),
+            Place::InRepeat(block) => self.repeat_end(number, words, block),
+            Place::BeforeVersion | Place::Between => Err(bad_line(number)),
+        }
+    }
+
+    /// A line of a function.
+    fn function_line(
+        &mut self,
+        alloc: Global,
+        number: u32,
+        words: &Words,
+        code: &[u8],
+    ) -> Result<(), AlgoError>
+        requires some { 0 < length words.now }
+        requires open { stage_of self.old.place ≡ in_function }
+        ensures { Steps result (reading self.new) (settle (function_line (reading self.old) number words.now code.now)) }
+    {
+        let Place::InFunction(block) = &mut self.place else {
+            return Err(bad_line(number));
+        };
+        if begins(words, b"in") {
+            return block.in_line(alloc, number, words);
+        }
+        if begins(words, b"out") {
+            return block.result_line(alloc, number, code);
+        }
+        if begins(words, b"end") {
+            return self.end_block(number, words);
+        }
+        Err(bad_line(number))
+    }
+
+    /// A line of a graph.
+    fn graph_line(&mut self, alloc: Global, number: u32, words: &Words) -> Result<(), AlgoError>
+        requires some { 0 < length words.now }
+        requires open { stage_of self.old.place ≡ in_graph }
+        ensures { Steps result (reading self.new) (settle (graph_line (reading self.old) number words.now)) }
+    {
+        let Place::InGraph(block) = &mut self.place else {
+            return Err(bad_line(number));
+        };
+        if begins(words, b"in") {
+            return block.in_line(alloc, number, words);
+        }
+        if begins(words, b"out") {
+            return block.out_line(alloc, number, words);
+        }
+        if begins(words, b"ref") {
+            return block.reference_line(alloc, number, words);
+        }
+        if begins(words, b"edge") {
+            return block.edge_line(alloc, number, words);
+        }
+        if begins(words, b"end") {
+            return self.end_block(number, words);
+        }
+        Err(bad_line(number))
+    }
+
+    /// A line of a conditioned definition.
+    fn switch_line(&mut self, alloc: Global, number: u32, words: &Words) -> Result<(), AlgoError>
+        requires some { 0 < length words.now }
+        requires open { stage_of self.old.place ≡ in_switch }
+        ensures { Steps result (reading self.new) (settle (switch_line (reading self.old) number words.now)) }
+    {
+        let Place::InSwitch(block) = &mut self.place else {
+            return Err(bad_line(number));
+        };
+        if begins(words, b"on") {
+            return block.on_line(alloc, number, words);
+        }
+        if begins(words, b"in") {
+            return block.in_line(alloc, number, words);
+        }
+        if begins(words, b"out") {
+            return block.out_line(alloc, number, words);
+        }
+        if begins(words, b"case") {
+            return block.case_line(alloc, number, words);
+        }
+        if begins(words, b"otherwise") {
+            return block.otherwise_line(alloc, number, words);
+        }
+        if begins(words, b"end") {
+            return self.end_block(number, words);
+        }
+        Err(bad_line(number))
+    }
+
+    /// A line of a repetition.
+    fn frontier_line(&mut self, alloc: Global, number: u32, words: &Words) -> Result<(), AlgoError>
+        requires some { 0 < length words.now }
+        requires open { stage_of self.old.place ≡ in_repeat }
+        ensures { Steps result (reading self.new) (settle (frontier_line (reading self.old) number words.now)) }
+    {
+        let Place::InRepeat(block) = &mut self.place else {
+            return Err(bad_line(number));
+        };
+        if begins(words, b"fork") {
+            return block.fork_line(alloc, number, words);
+        }
+        if begins(words, b"diffuse") {
+            return block.diffuse_line(alloc, number, words);
+        }
+        if begins(words, b"iterate") {
+            return block.iterate_line(alloc, number, words);
+        }
+        if begins(words, b"join") {
+            return block.join_line(alloc, number, words);
+        }
+        if begins(words, b"end") {
+            return self.end_block(number, words);
+        }
+        Err(bad_line(number))
+    }
+
+    /// A line with words, by where it stands.
+    #[tactic(auto, using(crate::proofs::Settled::steps_settled))]
+    fn by_stage(
+        &mut self,
+        alloc: Global,
+        number: u32,
+        words: &Words<'a>,
+        code: &[u8],
+    ) -> Result<(), AlgoError>
+        requires { 0 < length words.now }
+        ensures { Steps result (reading self.new) (settle (by_stage (stage_of self.old.place) (reading self.old) number words.now code.now)) }
+    {
+        match &self.place {
+            Place::BeforeVersion => self.version_line(number, words),
+            Place::Between => self.between_line(alloc, number, words),
+            Place::InFunction(_) => self.function_line(alloc, number, words, code),
+            Place::InGraph(_) => self.graph_line(alloc, number, words),
+            Place::InSwitch(_) => self.switch_line(alloc, number, words),
+            Place::InRepeat(_) => self.frontier_line(alloc, number, words),
+        }
+    }
+
+    /// Reads the next line.
+    pub fn next_line(&mut self, alloc: Global, number: u32, line: &'a [u8]) -> Result<(), AlgoError>
+        ensures { Steps result (reading self.new) (settle (next_line (reading self.old) number line.now)) }
+    {
+        if let Some(place) = text_lines::foreign(line) {
+            return Err(not_text(number, place));
+        }
+        let code = text_lines::code(line);
+        let words = Words::of(alloc, code)?;
+        if words.len() == 0 {
+            return Ok(());
+        }
+        self.by_stage(alloc, number, &words, code)
+    }
+
+    /// The definitions, at the end of the text.
+    pub fn at_end(self, number: u32) -> Result<Defs, AlgoError>
+        ensures { Gives result (at_end (stage_of self.entry.place) self.entry.defs.items number) }
+    {
+        match self.place {
+            Place::Between => Ok(Defs {
+                defs: Items::new(self.defs),
+            }),
+            _ => Err(bad_line(number)),
+        }
+    }
+}
+
+/// The definitions of a text, or its first refusal in the order of its lines: Refused with the line and
+/// the cause, or Limit. OutOfMemory may come in place of any answer.
+pub fn read_algo(alloc: Global, bytes: &[u8]) -> Result<Defs, AlgoError>
+    requires { length (lines_of bytes.now) ≤ 4000000000 }
+    ensures { Gives result (definitions_of bytes.now) }
+{
+    let mut reader = Reader::new(alloc);
+    let mut from = 0;
+    let mut number = 1;
+    while from < bytes.len() {
+        let to = text_lines::line_end(bytes, from);
+        reader.next_line(alloc, number, &bytes[from..to])?;
+        number += 1;
+        from = to + 1;
+    }
+    reader.at_end(number)
+}

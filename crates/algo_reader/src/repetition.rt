@@ -1,0 +1,209 @@
+//! The lines of a repetition.
+ghost use Rattle.std.specs.Prelude.{◌≡◌, ◌∷◌, []};
+ghost use Rattle.algo_defs.specs.Words.{is_among};
+ghost use Rattle.algo_defs.specs.Blocks.{fork_line, diffuse_line, iterate_line, join_line, new_block, all_outer, outer_names, with_frontier};
+ghost use Rattle.algo_reader.specs.Given.{Steps};
+ghost use Rattle.algo_reader.specs.Views.{repeat_view};
+
+use crate::fault::{above, bad_line, bad_name, duplicate, push};
+use crate::word::read_name;
+use crate::words::Words;
+use algo_defs::{AlgoError, Frontier, FrontierLine};
+use std::alloc::Global;
+use syn_base::{LimitKind, Name};
+
+/// The lines of a repetition so far.
+#[derive(Drop)]
+pub struct RepeatBlock {
+    pub name: Name,
+    pub line: u32,
+    pub copies: u32,
+    pub def: Name,
+    pub frontier: Vec<FrontierLine>,
+}
+
+fn is_outer(frontier: &Frontier, name: &[u8]) -> bool
+    ensures { result ≡ is_among name.now (outer_names frontier.now) }
+{
+    match frontier {
+        Frontier::Fork { outer, .. }
+        | Frontier::Diffuse { outer, .. }
+        | Frontier::Join { outer, .. } => { name == outer.as_bytes() }
+        Frontier::Iterate { outer, last, .. } => name == outer.as_bytes()
+            || name == last.as_bytes(),
+    }
+}
+
+#[tactic(auto, using(crate::proofs::Taken::either))]
+fn has_outer(lines: &[FrontierLine], name: &[u8]) -> bool
+    ensures { result ≡ is_among name.now (all_outer lines.now) }
+{
+    for line in lines {
+        if is_outer(&line.frontier, name) {
+            return true;
+        }
+    }
+    false
+}
+
+impl RepeatBlock {
+    /// A repetition without lines. It takes no memory.
+    pub fn new(alloc: Global, name: Name, line: u32, copies: u32, def: Name) -> RepeatBlock
+        ensures { repeat_view result ≡ record (new_block name line) { copies = copies; def = def } }
+    {
+        RepeatBlock {
+            name,
+            line,
+            copies,
+            def,
+            frontier: Vec::new(alloc),
+        }
+    }
+
+    /// Adds a line that gives one port of the repetition.
+    fn add(
+        &mut self,
+        alloc: Global,
+        number: u32,
+        frontier: Frontier,
+        outer: &[u8],
+    ) -> Result<(), AlgoError>
+        requires { outer_names frontier ≡ outer.now ∷ [] }
+        ensures { Steps result (repeat_view self.new) (with_frontier (repeat_view self.old) number frontier) }
+    {
+        if self.frontier.len() > 63 {
+            return Err(above(LimitKind::Ports, self.frontier.len() as u128 + 1));
+        }
+        if has_outer(self.frontier.as_slice(), outer) {
+            return Err(duplicate(alloc, number, outer));
+        }
+        let line = FrontierLine {
+            frontier,
+            line: number,
+        };
+        push(&mut self.frontier, line)?;
+        Ok(())
+    }
+
+    /// Adds a line that gives an input and an output of the repetition.
+    fn add_both(
+        &mut self,
+        alloc: Global,
+        number: u32,
+        frontier: Frontier,
+        outer: &[u8],
+        last: &[u8],
+    ) -> Result<(), AlgoError>
+        requires { outer_names frontier ≡ outer.now ∷ last.now ∷ [] }
+        ensures { Steps result (repeat_view self.new) (with_frontier (repeat_view self.old) number frontier) }
+    {
+        if self.frontier.len() > 63 {
+            return Err(above(LimitKind::Ports, self.frontier.len() as u128 + 1));
+        }
+        if has_outer(self.frontier.as_slice(), outer) {
+            return Err(duplicate(alloc, number, outer));
+        }
+        if last == outer || has_outer(self.frontier.as_slice(), last) {
+            return Err(duplicate(alloc, number, last));
+        }
+        let line = FrontierLine {
+            frontier,
+            line: number,
+        };
+        push(&mut self.frontier, line)?;
+        Ok(())
+    }
+
+    /// fork P X
+    #[tactic(auto, using(crate::proofs::Behind::behind_two))]
+    pub fn fork_line(&mut self, alloc: Global, number: u32, words: &Words) -> Result<(), AlgoError>
+        ensures { Steps result (repeat_view self.new) (fork_line (repeat_view self.old) number words.now) }
+    {
+        if words.len() != 3 {
+            return Err(bad_line(number));
+        }
+        let Some(outer) = read_name(alloc, words.get(1))? else {
+            return Err(bad_name(alloc, number, words.get(1)));
+        };
+        let Some(inner) = read_name(alloc, words.get(2))? else {
+            return Err(bad_name(alloc, number, words.get(2)));
+        };
+        let frontier = Frontier::Fork { outer, inner };
+        self.add(alloc, number, frontier, words.get(1))
+    }
+
+    /// diffuse P X
+    #[tactic(auto, using(crate::proofs::Behind::behind_two))]
+    pub fn diffuse_line(
+        &mut self,
+        alloc: Global,
+        number: u32,
+        words: &Words,
+    ) -> Result<(), AlgoError>
+        ensures { Steps result (repeat_view self.new) (diffuse_line (repeat_view self.old) number words.now) }
+    {
+        if words.len() != 3 {
+            return Err(bad_line(number));
+        }
+        let Some(outer) = read_name(alloc, words.get(1))? else {
+            return Err(bad_name(alloc, number, words.get(1)));
+        };
+        let Some(inner) = read_name(alloc, words.get(2))? else {
+            return Err(bad_name(alloc, number, words.get(2)));
+        };
+        let frontier = Frontier::Diffuse { outer, inner };
+        self.add(alloc, number, frontier, words.get(1))
+    }
+
+    /// join Y Q
+    #[tactic(auto, using(crate::proofs::Behind::behind_two))]
+    pub fn join_line(&mut self, alloc: Global, number: u32, words: &Words) -> Result<(), AlgoError>
+        ensures { Steps result (repeat_view self.new) (join_line (repeat_view self.old) number words.now) }
+    {
+        if words.len() != 3 {
+            return Err(bad_line(number));
+        }
+        let Some(given) = read_name(alloc, words.get(1))? else {
+            return Err(bad_name(alloc, number, words.get(1)));
+        };
+        let Some(outer) = read_name(alloc, words.get(2))? else {
+            return Err(bad_name(alloc, number, words.get(2)));
+        };
+        let frontier = Frontier::Join { given, outer };
+        self.add(alloc, number, frontier, words.get(2))
+    }
+
+    /// iterate P X Y Q
+    #[tactic(auto, using(crate::proofs::Behind::behind_four))]
+    pub fn iterate_line(
+        &mut self,
+        alloc: Global,
+        number: u32,
+        words: &Words,
+    ) -> Result<(), AlgoError>
+        ensures { Steps result (repeat_view self.new) (iterate_line (repeat_view self.old) number words.now) }
+    {
+        if words.len() != 5 {
+            return Err(bad_line(number));
+        }
+        let Some(outer) = read_name(alloc, words.get(1))? else {
+            return Err(bad_name(alloc, number, words.get(1)));
+        };
+        let Some(inner) = read_name(alloc, words.get(2))? else {
+            return Err(bad_name(alloc, number, words.get(2)));
+        };
+        let Some(given) = read_name(alloc, words.get(3))? else {
+            return Err(bad_name(alloc, number, words.get(3)));
+        };
+        let Some(last) = read_name(alloc, words.get(4))? else {
+            return Err(bad_name(alloc, number, words.get(4)));
+        };
+        let frontier = Frontier::Iterate {
+            outer,
+            inner,
+            given,
+            last,
+        };
+        self.add_both(alloc, number, frontier, words.get(1), words.get(4))
+    }
+}

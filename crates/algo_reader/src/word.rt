@@ -1,0 +1,80 @@
+//! What the words of a line are.
+ghost use Rattle.std.specs.Prelude.{◌≡◌, ◌<◌, Some, None, IfOk, MatchOption, true, false, position, length, slice_index_or, []};
+ghost use Rattle.std.specs.Str.{bytes_eq};
+ghost use Rattle.syn_base.specs.Name.{is_name};
+ghost use Rattle.algo_reader.specs.Given.{GivesSome};
+ghost use Rattle.algo_reader.specs.Lines.{some_name};
+ghost use Rattle.algo_defs.specs.Words.{number_of, count_of, end_of, is_dot};
+
+use crate::words::Words;
+use algo_defs::{AlgoError, End};
+use std::alloc::Global;
+use syn_base::{Name, NameFault, read_int};
+
+/// The name that a word is, or none where it is no name.
+pub fn read_name(alloc: Global, w: &[u8]) -> Result<Option<Name>, AlgoError>
+    ensures name { GivesSome result (some_name w.now) }
+    ensures is { IfOk result (λ o. MatchOption o (is_name w.now ≡ false) (λ _. is_name w.now ≡ true)) }
+{
+    match Name::new(alloc, w) {
+        Ok(name) => Ok(Some(name)),
+        Err(NameFault::BadName) => Ok(None),
+        Err(NameFault::OutOfMemory) => Err(AlgoError::OutOfMemory),
+    }
+}
+
+/// The number that a word is.
+pub fn read_number(w: &[u8]) -> Option<i64>
+    ensures { result ≡ number_of w.now }
+{
+    match read_int(w) {
+        Ok(v) => Some(v),
+        Err(_) => None,
+    }
+}
+
+/// A length or a number of copies: a number that is not below 1.
+pub fn read_count(w: &[u8]) -> Option<u64>
+    ensures { result ≡ count_of w.now }
+{
+    match read_number(w) {
+        Some(v) => { if v > 0 { Some(v as u64) } else { None } }
+        None => None,
+    }
+}
+
+fn dot_in(w: &[u8]) -> Option<usize>
+    ensures { result ≡ position is_dot w.now }
+{
+    w.iter().position(|b| *b == b'.')
+}
+
+/// The end of an edge, or none where the word is no end.
+pub fn read_end(alloc: Global, w: &[u8]) -> Result<Option<End>, AlgoError>
+    ensures { GivesSome result (end_of w.now) }
+{
+    if let Some(port) = read_name(alloc, w)? {
+        return Ok(Some(End { owner: None, port }));
+    }
+    let Some(dot) = dot_in(w) else {
+        return Ok(None);
+    };
+    let Some(owner) = read_name(alloc, &w[..dot])? else {
+        return Ok(None);
+    };
+    let Some(port) = read_name(alloc, &w[dot + 1..])? else {
+        return Ok(None);
+    };
+    Ok(Some(End {
+        owner: Some(owner),
+        port,
+    }))
+}
+
+/// The line begins with this word.
+pub fn begins(words: &Words, key: &[u8]) -> bool
+    requires { 0 < length words.now }
+    ensures { result ≡ bytes_eq (slice_index_or words.now 0 []) key.now }
+{
+    words.get(0) == key
+}
