@@ -11,6 +11,7 @@ mod fresh;
 ghost use Rattle.semaphore_core.specs.Laws.{HasLaws};
 ghost use Rattle.phase_laws.specs.Central.{JobsAreSupplied, JobsHaveLaws, RowsAreTaken};
 ghost use Rattle.phase_laws.specs.Discipline.{ProgramsAreDisciplined};
+ghost use Rattle.phase_laws.specs.OneWord.{EnabledByOneWord};
 ghost use Rattle.phase_laws.specs.Values.{SequencesComputeTheirValues};
 
 pub use fresh::run_fresh;
@@ -36,6 +37,12 @@ pub fn jobs_have_laws()
 /// When all is done each actuator has taken the flat graph's values, in every interleaving.
 pub fn rows_are_taken()
     ensures { RowsAreTaken }
+{}
+
+/// Whether a sequence is enabled depends on at most the one word that its next micro-step touches: the
+/// semaphore of a take or a see, or the turn of a wait. Any other micro-step is always enabled.
+pub fn enabled_by_one_word()
+    ensures { EnabledByOneWord }
 {}
 
 /// Every job keeps what the central theorem asks for, where its graph is valid, as every flat graph is.
