@@ -1,5 +1,5 @@
 -- What the definitions of worked texts resolve to.
-use Rattle.std.proofs.Common.{◌≡◌, ℕ, refl, List, [], ◌∷◌, ◌++◌, ℤ, pos, negsuc, Some, None, Result, Ok, Err, codes}
+use Rattle.std.proofs.Common.{◌≡◌, refl, List, [], ◌∷◌, ◌++◌, pos, Result, Ok, Err, codes}
 use Rattle.level_meaning.specs.declared.source.Source.TheVariants.{Own, Of}
 use Rattle.level_meaning.specs.declared.part.Part.TheVariants.{Named, Numbered}
 use Rattle.level_meaning.specs.declared.frontier.Feed.TheVariants as feed
@@ -8,7 +8,7 @@ use Rattle.algo_tree.specs.Tree as tree
 use Rattle.algo_defs.specs.declared.fault.AlgoError.{AlgoError}
 use Rattle.algo_defs.specs.declared.fault.AlgoError.TheVariants.{Limit}
 use Rattle.algo_defs.specs.declared.fault.AlgoCause.TheVariants.{UnknownName, WrongLength, Unconnected, TwiceConnected, Recursive, Cycle, NoMain, BadCase, Misplaced, BadRepeat}
-use Rattle.syn_base.specs.declared.limits.LimitKind.TheVariants.{PortLength, Depth, Operations}
+use Rattle.syn_base.specs.declared.limits.LimitKind.TheVariants.{PortLength, Depth}
 use Rattle.algo_defs.specs.Words.{Bytes}
 use Rattle.algo_defs.specs.Blocks.{refused, and_then}
 use Rattle.algo_defs.specs.Text.{definitions_of}

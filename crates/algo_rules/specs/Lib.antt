@@ -4,3 +4,4 @@ pub mod Frontiers
 pub mod Graphs
 pub mod Resolved
 pub mod Placed
+pub mod WellRead

@@ -6,7 +6,7 @@ use Rattle.syn_base.specs.declared.limits.LimitKind.TheVariants.{Depth}
 use Rattle.syn_base.specs.Limits.{bound_of}
 use Rattle.algo_defs.specs.declared.definition.Def.{Def}
 use Rattle.algo_defs.specs.declared.definition.Body.{Body}
-use Rattle.algo_defs.specs.declared.definition.Body.TheVariants.{Sensor, Actuator, Constant, Delay, Function, Graph, Switch, Repeat}
+use Rattle.algo_defs.specs.declared.definition.Body.TheVariants.{Sensor, Actuator, Function, Graph, Switch, Repeat}
 use Rattle.algo_defs.specs.declared.fault.AlgoError.{AlgoError}
 use Rattle.algo_defs.specs.declared.fault.AlgoError.TheVariants.{Refused, Limit}
 use Rattle.algo_defs.specs.declared.fault.AlgoCause.{AlgoCause}

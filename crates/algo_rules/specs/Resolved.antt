@@ -1,6 +1,6 @@
 -- The tree of the definitions of a text, or their first refusal.
-use Rattle.std.specs.Prelude.{ℕ, zero, suc, ◌+◌, ◌*◌, Bool, true, false, ◌&&◌, ◌==◌, nat_lt, List, [], ◌∷◌, ◌++◌, length, map, Option, Some, None, Result, Ok, Err, if◌then◌else◌, slice_get, slice_index_or, codes}
-use Rattle.std.specs.List.{flat_map, sum_by, position_or_len, range_with_len}
+use Rattle.std.specs.Prelude.{ℕ, zero, suc, ◌+◌, ◌*◌, Bool, true, false, ◌==◌, nat_lt, List, [], ◌∷◌, ◌++◌, length, map, Option, Some, None, Result, Ok, Err, if◌then◌else◌, codes}
+use Rattle.std.specs.List.{flat_map, sum_by, range_with_len}
 use Rattle.std.specs.Str.{bytes_eq}
 use Rattle.syn_base.specs.declared.limits.LimitKind.TheVariants.{Operations}
 use Rattle.syn_base.specs.Limits.{bound_of}
@@ -19,7 +19,6 @@ use Rattle.algo_defs.specs.declared.definition.Def.{Def}
 use Rattle.algo_defs.specs.declared.definition.Body.{Body}
 use Rattle.algo_defs.specs.declared.definition.Body.TheVariants.{Sensor, Actuator, Constant, Delay, Function, Graph, Switch, Repeat}
 use Rattle.algo_defs.specs.declared.definition.Reference.{Reference}
-use Rattle.algo_defs.specs.declared.definition.Case.{Case}
 use Rattle.algo_defs.specs.declared.definition.Edge.{Edge}
 use Rattle.algo_defs.specs.declared.definition.End.{End}
 use Rattle.algo_defs.specs.declared.definition.Frontier.{Frontier}
@@ -31,7 +30,7 @@ use Rattle.algo_defs.specs.declared.fault.AlgoCause.TheVariants.{NoMain}
 use Rattle.algo_defs.specs.Words.{Bytes}
 use Rattle.algo_rules.specs.Links.{fault, first_of, definition, links_of, unknown, misplaced, recursive, too_deep}
 use Rattle.reference_graph.specs.Links.{depths}
-use Rattle.algo_rules.specs.Ports.{ports_of, ports_by, number_of, len_of, lens_of}
+use Rattle.algo_rules.specs.Ports.{ports_of, number_of, len_of, lens_of}
 use Rattle.algo_rules.specs.Frontiers.{repeat_fault, switch_fault}
 use Rattle.algo_rules.specs.Graphs.{graph_fault, same_end, place, ports_at}
 use Rattle.algo_rules.specs.declared.ports.Ports.{Ports}
