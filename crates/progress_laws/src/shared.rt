@@ -1,7 +1,7 @@
 //! A program for four operators that share a bus. The first sends what its sensor gives to the second, and
 //! the third to the fourth. The second adds what it receives to what a delay kept; the delay keeps the sum
 //! only where a guard holds. The fourth operator's actuator takes what it receives.
-ghost use Rattle.std.specs.Prelude.{◌≡◌, ◌<◌, length, IfOk};
+ghost use Rattle.std.specs.Prelude.{◌≡◌, IfOk};
 ghost use Rattle.flat_graph.specs.Laws.{sensor_lens};
 ghost use Rattle.semaphore_core.specs.Held.{IsOpened};
 
@@ -18,6 +18,20 @@ use std::alloc::Global;
 use std::process::Abort;
 use std::test::Fail;
 use syn_base::{Items, Name, SensorRows};
+
+/// What is wrong with the program.
+#[derive(Clone, Copy, PartialEq, Eq)]
+pub(crate) enum Wrong {
+    Nothing,
+    /// The first operator tells that its buffer is full before the sensor stores it.
+    FullBeforeStore,
+    /// The second operator tells between its two reads that the received buffer is empty.
+    EmptyBetweenReads,
+    /// The second sender does not tell before its loop that its buffer is empty.
+    NoSignalBeforeLoop,
+    /// The second receiver does not wait for the transfer between others.
+    NoSync,
+}
 
 /// The first operator and its send, the first receive, the third operator, the others wait and send, the
 /// second receive, the first two wait, and then the second and the fourth operator.
@@ -89,17 +103,24 @@ pub(crate) fn four_operators(rt: &impl Abort, alloc: Global) -> Result<Archi, Fa
     Ok(archi(rt, operators, vec![in alloc; bus]?))
 }
 
-/// On an operator a sensor, into the buffer that the pair guards.
-pub(crate) fn sensing(
+/// On an operator a sensor, into the buffer that the pair guards. It tells at the end that the buffer is
+/// full, or before the store.
+fn sensing(
     alloc: Global,
     operator: u32,
     pair: u32,
     vertex: u32,
+    before: bool,
 ) -> Result<SeqCode, Fail> {
     let mut turn = Vec::new(alloc);
     turn.push(Instr::Suc0(pair))?;
+    if before {
+        turn.push(Instr::Pre1(pair))?;
+    }
     turn.push(call(alloc, vertex, &[], &[pair])?)?;
-    turn.push(Instr::Pre1(pair))?;
+    if !before {
+        turn.push(Instr::Pre1(pair))?;
+    }
     Ok(code(operator, None, Vec::new(alloc), turn))
 }
 
@@ -112,14 +133,19 @@ fn first_sender(alloc: Global) -> Result<SeqCode, Fail> {
     Ok(code(0, Some(0), vec![in alloc; Instr::Pre0(0)]?, turn))
 }
 
-/// The delay and the sum. The guard's source and the sum each read the received buffer.
-pub(crate) fn adding(alloc: Global) -> Result<SeqCode, Fail> {
+/// The delay and the sum. The sum and the guard each read the received buffer.
+fn adding(alloc: Global, between: bool) -> Result<SeqCode, Fail> {
     let mut turn = Vec::new(alloc);
     turn.push(Instr::Suc1(1))?;
     turn.push(call(alloc, 2, &[], &[4])?)?;
     turn.push(call(alloc, 3, &[1, 4], &[5])?)?;
+    if between {
+        turn.push(Instr::Pre0(1))?;
+    }
     turn.push(call(alloc, 4, &[1, 5], &[])?)?;
-    turn.push(Instr::Pre0(1))?;
+    if !between {
+        turn.push(Instr::Pre0(1))?;
+    }
     turn.push(call(alloc, 5, &[5], &[])?)?;
     Ok(code(1, None, vec![in alloc; Instr::Pre0(1)]?, turn))
 }
@@ -133,13 +159,17 @@ fn first_receiver(alloc: Global) -> Result<SeqCode, Fail> {
     Ok(code(1, Some(0), Vec::new(alloc), turn))
 }
 
-pub(crate) fn second_sender(alloc: Global) -> Result<SeqCode, Fail> {
+fn second_sender(alloc: Global, silent: bool) -> Result<SeqCode, Fail> {
+    let mut prologue = Vec::new(alloc);
+    if !silent {
+        prologue.push(Instr::Pre0(2))?;
+    }
     let mut turn = Vec::new(alloc);
     turn.push(Instr::Sync { from: 0, to: 1 })?;
     turn.push(Instr::Suc1(2))?;
     turn.push(Instr::Send { buffer: 2, to: 3 })?;
     turn.push(Instr::Pre0(2))?;
-    Ok(code(2, Some(0), vec![in alloc; Instr::Pre0(2)]?, turn))
+    Ok(code(2, Some(0), prologue, turn))
 }
 
 fn taking(alloc: Global) -> Result<SeqCode, Fail> {
@@ -150,9 +180,11 @@ fn taking(alloc: Global) -> Result<SeqCode, Fail> {
     Ok(code(3, None, vec![in alloc; Instr::Pre0(3)]?, turn))
 }
 
-pub(crate) fn second_receiver(alloc: Global) -> Result<SeqCode, Fail> {
+fn second_receiver(alloc: Global, hasty: bool) -> Result<SeqCode, Fail> {
     let mut turn = Vec::new(alloc);
-    turn.push(Instr::Sync { from: 0, to: 1 })?;
+    if !hasty {
+        turn.push(Instr::Sync { from: 0, to: 1 })?;
+    }
     turn.push(Instr::Suc0(3))?;
     turn.push(Instr::Recv { buffer: 3, from: 2 })?;
     turn.push(Instr::Pre1(3))?;
@@ -164,27 +196,25 @@ fn buffers(alloc: Global) -> Result<Items<Buffer>, Fail> {
     Ok(Items::new(Vec::from_slice(alloc, &all)?))
 }
 
-/// The program, whose four sequences are given of which the tests have others.
-pub(crate) fn program(
-    alloc: Global,
-    sensing_first: SeqCode,
-    adding: SeqCode,
-    sending_second: SeqCode,
-    receiving_second: SeqCode,
-) -> Result<Program, Fail> {
-    let mut seqs = Vec::new(alloc);
-    seqs.push(sensing_first)?;
-    seqs.push(first_sender(alloc)?)?;
-    seqs.push(adding)?;
-    seqs.push(first_receiver(alloc)?)?;
-    seqs.push(sensing(alloc, 2, 2, 1)?)?;
-    seqs.push(sending_second)?;
-    seqs.push(taking(alloc)?)?;
-    seqs.push(receiving_second)?;
+fn sequences(alloc: Global, wrong: Wrong) -> Result<Items<SeqCode>, Fail> {
+    let mut all = Vec::new(alloc);
+    all.push(sensing(alloc, 0, 0, 0, wrong == Wrong::FullBeforeStore)?)?;
+    all.push(first_sender(alloc)?)?;
+    all.push(adding(alloc, wrong == Wrong::EmptyBetweenReads)?)?;
+    all.push(first_receiver(alloc)?)?;
+    all.push(sensing(alloc, 2, 2, 1, false)?)?;
+    all.push(second_sender(alloc, wrong == Wrong::NoSignalBeforeLoop)?)?;
+    all.push(taking(alloc)?)?;
+    all.push(second_receiver(alloc, wrong == Wrong::NoSync)?)?;
+    Ok(Items::new(all))
+}
+
+/// The program for the four operators, right or wrong.
+pub(crate) fn program(alloc: Global, wrong: Wrong) -> Result<Program, Fail> {
     Ok(Program {
         buffers: buffers(alloc)?,
         pairs: Items::new(Vec::from_slice(alloc, &[0, 1, 2, 3])?),
-        seqs: Items::new(seqs),
+        seqs: sequences(alloc, wrong)?,
     })
 }
 
@@ -260,16 +290,6 @@ fn run(
     }
 }
 
-fn right_program(alloc: Global) -> Result<Program, Fail> {
-    program(
-        alloc,
-        sensing(alloc, 0, 0, 0)?,
-        adding(alloc)?,
-        second_sender(alloc)?,
-        second_receiver(alloc)?,
-    )
-}
-
 #[test]
 fn a_guarded_delay_keeps_its_value(rt: HostRuntime) -> Result<(), Fail> {
     let alloc = rt.alloc();
@@ -277,7 +297,7 @@ fn a_guarded_delay_keeps_its_value(rt: HostRuntime) -> Result<(), Fail> {
     run(
         &rt,
         alloc,
-        &right_program(alloc)?,
+        &program(alloc, Wrong::Nothing)?,
         &flat,
         &four_operators(&rt, alloc)?,
     )
