@@ -119,7 +119,8 @@ impl<'a> Job<'a> {
         self.opening.as_slice()
     }
 
-    /// The number of sequences of the program. An architecture has at most 272.
+    /// The number of sequences of the program. It fits, since an architecture has at most 16 operators and
+    /// 16 media.
     pub fn sequences(&self) -> u32
         ensures { result ≡ length self.now.program.seqs }
     {
