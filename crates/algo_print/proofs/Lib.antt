@@ -4,3 +4,6 @@ pub mod Fits
 pub mod Spelled
 pub mod Answers
 pub mod State
+pub mod Between
+pub mod BlockLines
+pub mod Functions
