@@ -7,3 +7,6 @@ pub mod State
 pub mod Between
 pub mod BlockLines
 pub mod Functions
+pub mod Ends
+pub mod Graphs
+pub mod Repeats
