@@ -10,3 +10,4 @@ pub mod Functions
 pub mod Ends
 pub mod Graphs
 pub mod Repeats
+pub mod Switches
