@@ -150,7 +150,7 @@ module _ (k : Numbered) (names : List Bytes) (defs : List Def) (b : Block) (same
 
   -- a block that was opened has no lines yet
   opened_with : (s : Stage) (w : Bytes) (n : ℕ) (copies : ℕ) (def : Bytes) (ws : List Bytes) → are_words ws ≡ true → (length ws == 0) ≡ false
-      → lines_at s defs (record (new_block w n) { copies = copies; def = def }) ≡ version_words ∷ (definition_lines defs ++ ws ∷ []) → IsOrdered s (record (new_block w n) { copies = copies; def = def })
+      → lines_at s defs (record (new_block w n) { copies = copies; def = def }) ≡ version_words ∷ (definition_lines defs ++ ws ∷ []) → IsOrdered s defs (record (new_block w n) { copies = copies; def = def })
       → ((m : ℕ) → between_line (numbered k (open_at names defs b)) m ws ≡ Ok (numbered (fresh m) (opened_here s w (record (new_block w n) { copies = copies; def = def }))))
       → Adds k between names defs b (opened_here s w (record (new_block w n) { copies = copies; def = def }))
   opened_with s w n copies def ws plain some lines ordered again = record {
@@ -166,7 +166,7 @@ module _ (k : Numbered) (names : List Bytes) (defs : List Def) (b : Block) (same
   }
 
   opening_step : (key : Bytes) (s : Stage) (n : ℕ) (ws : List Bytes) (r : Reading) → is_word key ≡ true
-      → ((w : Bytes) → lines_at s defs (new_block w n) ≡ version_words ∷ (definition_lines defs ++ (key ∷ w ∷ []) ∷ [])) → ((w : Bytes) → IsOrdered s (new_block w n))
+      → ((w : Bytes) → lines_at s defs (new_block w n) ≡ version_words ∷ (definition_lines defs ++ (key ∷ w ∷ []) ∷ [])) → ((w : Bytes) → IsOrdered s defs (new_block w n))
       → ((m : ℕ) (w : Bytes) → between_line (numbered k (open_at names defs b)) m (key ∷ w ∷ []) ≡ opening_line s (numbered k (open_at names defs b)) m (key ∷ w ∷ []))
       → opening_line s (open_at names defs b) n ws ≡ Ok r → Adds k between names defs b r
   opening_step key s n ws r key_word lines ordered key_line h =

@@ -75,7 +75,7 @@ module _ (k : Numbered) (s : Stage) (names : List Bytes) (defs : List Def) (b : 
   pub block_adds : (c : Block) (ws : List Bytes) (next : ℕ → Numbered) → are_words ws ≡ true → (length ws == 0) ≡ false
       → open_lines s c ≡ open_lines s b ++ ws ∷ []
       → ((m : ℕ) → by_stage s (numbered k (record { stage = s; names = names; defs = defs; block = b })) m ws (joined ws) ≡ Ok (numbered (next m) (record { stage = s; names = names; defs = defs; block = c })))
-      → ((m : ℕ) → AreSame (next m) defs c) → IsOrdered s c
+      → ((m : ℕ) → AreSame (next m) defs c) → IsOrdered s defs c
       → Adds k s names defs b (record { stage = s; names = names; defs = defs; block = c })
   block_adds c ws next plain some lines again alike ordered = record {
     words = ws;

@@ -11,3 +11,4 @@ pub mod Ends
 pub mod Graphs
 pub mod Repeats
 pub mod Switches
+pub mod Back

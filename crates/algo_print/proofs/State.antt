@@ -79,14 +79,14 @@ pub record SwitchOrder (b : Block) : Type 0 where
   pub no_outs : b.part < 2 → b.outs ≡ []
   pub no_cases : b.part < 3 → b.cases ≡ []
 
--- lines of a later kind are not there yet
-abbrev pub IsOrdered : Stage → Block → Type 0
-IsOrdered before_version b = Unit {0}
-IsOrdered between b = Unit {0}
-IsOrdered in_function b = FunctionOrder b
-IsOrdered in_graph b = GraphOrder b
-IsOrdered in_switch b = SwitchOrder b
-IsOrdered in_repeat b = Unit {0}
+-- definitions stand behind the version's line, and lines of a later kind are not there yet
+abbrev pub IsOrdered : Stage → List Def → Block → Type 0
+IsOrdered before_version defs b = defs ≡ []
+IsOrdered between defs b = Unit {0}
+IsOrdered in_function defs b = FunctionOrder b
+IsOrdered in_graph defs b = GraphOrder b
+IsOrdered in_switch defs b = SwitchOrder b
+IsOrdered in_repeat defs b = Unit {0}
 
 -- A line adds one canonical line, which is read likewise whatever the numbers of lines are.
 pub record Adds (k : Numbered) (s : Stage) (names : List Bytes) (defs : List Def) (b : Block) (r : Reading) : Type 0 where
@@ -97,7 +97,7 @@ pub record Adds (k : Numbered) (s : Stage) (names : List Bytes) (defs : List Def
   pub next : ℕ → Numbered
   pub reads : (m : ℕ) → by_stage s (numbered k (record { stage = s; names = names; defs = defs; block = b })) m words (joined words) ≡ Ok (numbered (next m) r)
   pub same : (m : ℕ) → AreSame (next m) r.defs r.block
-  pub ordered : IsOrdered r.stage r.block
+  pub ordered : IsOrdered r.stage r.defs r.block
   pub printable : ArePrintable defs → ArePrintable r.defs
 
 pub definitions_joined : (ds es : List Def) → definition_lines (ds ++ es) ≡ definition_lines ds ++ definition_lines es
