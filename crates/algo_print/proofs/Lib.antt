@@ -12,3 +12,4 @@ pub mod Graphs
 pub mod Repeats
 pub mod Switches
 pub mod Back
+pub mod Bare

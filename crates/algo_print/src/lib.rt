@@ -2,8 +2,10 @@
 #![tactic(auto)]
 
 mod blocks;
+mod laws;
 mod lines;
 mod print;
 mod words;
 
+pub use laws::{canonical_text_reads_back, lines_do_not_matter};
 pub use print::print_algo;
