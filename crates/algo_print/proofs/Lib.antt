@@ -13,3 +13,4 @@ pub mod Repeats
 pub mod Switches
 pub mod Back
 pub mod Bare
+pub mod Rows
