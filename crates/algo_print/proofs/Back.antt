@@ -148,3 +148,7 @@ kept_at_start = record {
 
 pub reads_back : (text : Bytes) (defs : List Def) → definitions_of text ≡ Ok defs → Back defs (length (lines_of text))
 reads_back text defs h = subst (λ (m : ℕ). Back defs m) (omega arith) (rest_back (lines_of text) start 1 defs kept_at_start h)
+
+-- What a text says can be printed.
+pub read_is_printable : (text : Bytes) (defs : List Def) → definitions_of text ≡ Ok defs → ArePrintable defs
+read_is_printable text defs h = (reads_back text defs h).printable

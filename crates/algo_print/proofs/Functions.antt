@@ -165,8 +165,8 @@ module _ (k : Numbered) (names : List Bytes) (defs : List Def) (b : Block) (same
       let none : b.results ≡ [] = order.no_results i.at in
       let c : Block = record b { ins = b.ins ++ i.port ∷ [] } in
       let lines : function_lines c.ins b.results ≡ function_lines b.ins b.results ++ port_words (codes "in") i.port ∷ [] =
-          ap (λ (os : List Output). function_lines c.ins os) none ∙ in_front (port_words (codes "in")) b.ins i.port [] refl
-          ∙ ap (λ (os : List Output). function_lines b.ins os ++ port_words (codes "in") i.port ∷ []) (sym none) in
+      ap (λ (os : List Output). function_lines c.ins os) none ∙ in_front (port_words (codes "in")) b.ins i.port [] refl
+      ∙ ap (λ (os : List Output). function_lines b.ins os ++ port_words (codes "in") i.port ∷ []) (sym none) in
       subst (λ (x : Reading). Adds k in_function names defs b x) (ap (λ (x : Block). record here { block = x }) i.after_is ∙ into.after_is)
       (block_adds k in_function names defs b same (λ x. refl) c (port_words (codes "in") i.port) (λ m. k) (i.plain (codes "in") refl) refl
       (ap (λ (ls : Lines). (codes "function" ∷ b.name ∷ []) ∷ ls) lines)

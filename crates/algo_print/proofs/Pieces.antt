@@ -164,9 +164,11 @@ first_stands test l rest b h is = found (position_or_len test (l ++ b ∷ rest))
   where
     found : (m k n : ℕ) → m ≡ k → k < n → cond (nat_lt m n) (Some m) None ≡ Some k
     found m k n e less = grind (arith, common_steps)
+
     shorter : (l rest : Bytes) (b : ℕ) → length l < length (l ++ b ∷ rest)
     shorter [] rest b = omega arith
     shorter (c ∷ l) rest b = omega (arith, shorter l rest b)
+
     stops : (test : ℕ → Bool) (l rest : Bytes) (b : ℕ) → list_all (λ c. not (test c)) l ≡ true → test b ≡ true → position_or_len test (l ++ b ∷ rest) ≡ length l
     stops test [] rest b h is = rw is refl
     stops test (c ∷ l) rest b h is =

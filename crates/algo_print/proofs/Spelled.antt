@@ -39,6 +39,7 @@ name_range b h = (low b h, high b h)
   where
     low : (b : ℕ) → is_name_byte b ≡ true → 48 ≤ b
     low b h = grind arith
+
     high : (b : ℕ) → is_name_byte b ≡ true → b ≤ 122
     high b h = grind arith
 

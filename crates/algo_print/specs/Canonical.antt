@@ -75,13 +75,14 @@ value_words key name values = key ∷ name ∷ codes "=" ∷ map signed_decimal 
 abbrev pub end_words : List Bytes
 end_words = codes "end" ∷ []
 
--- the lines of a block behind its first, each kind of line in its order
+-- the lines of a function or a graph between its first and its last, each kind of line in its order
 abbrev pub function_lines : List Port → List Output → List (List Bytes)
 function_lines ins outs = map (port_words (codes "in")) ins ++ map (output_words ins) outs
 
 abbrev pub graph_lines : List Port → List Port → List Reference → List Edge → List (List Bytes)
 graph_lines ins outs references edges = map (port_words (codes "in")) ins ++ (map (port_words (codes "out")) outs ++ (map reference_words references ++ map edge_words edges))
 
+-- the lines of a switch between its first and the one with `otherwise`
 abbrev pub switch_lines : Bytes → List Port → List Port → List Case → List (List Bytes)
 switch_lines on ins outs cases = (codes "on" ∷ on ∷ []) ∷ (map (port_words (codes "in")) ins ++ (map (port_words (codes "out")) outs ++ map case_words cases))
 
@@ -89,6 +90,10 @@ switch_lines on ins outs cases = (codes "on" ∷ on ∷ []) ∷ (map (port_words
 abbrev pub otherwise_lines : Bytes → List (List Bytes)
 otherwise_lines def = (codes "otherwise" ∷ def ∷ []) ∷ end_words ∷ []
 
+abbrev pub whole_switch : Bytes → Bytes → List Port → List Port → List Case → Bytes → List (List Bytes)
+whole_switch name on ins outs cases otherwise = (codes "switch" ∷ name ∷ []) ∷ (switch_lines on ins outs cases ++ otherwise_lines otherwise)
+
+-- the lines of a definition of this name
 abbrev pub body_lines : Bytes → Body → List (List Bytes)
 body_lines name (Sensor len) = (codes "sensor" ∷ name ∷ count len ∷ []) ∷ []
 body_lines name (Actuator len) = (codes "actuator" ∷ name ∷ count len ∷ []) ∷ []
@@ -96,7 +101,7 @@ body_lines name (Constant values) = value_words (codes "constant") name values �
 body_lines name (Delay values) = value_words (codes "delay") name values ∷ []
 body_lines name (Function ins outs) = (codes "function" ∷ name ∷ []) ∷ (function_lines ins outs ++ end_words ∷ [])
 body_lines name (Graph ins outs references edges) = (codes "graph" ∷ name ∷ []) ∷ (graph_lines ins outs references edges ++ end_words ∷ [])
-body_lines name (Switch on ins outs cases otherwise line) = (codes "switch" ∷ name ∷ []) ∷ (switch_lines on ins outs cases ++ otherwise_lines otherwise)
+body_lines name (Switch on ins outs cases otherwise line) = whole_switch name on ins outs cases otherwise
 body_lines name (Repeat copies def lines) = (codes "repeat" ∷ name ∷ count copies ∷ def ∷ []) ∷ (map frontier_words lines ++ end_words ∷ [])
 
 abbrev pub definition_lines : List Def → List (List Bytes)

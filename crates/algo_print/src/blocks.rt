@@ -2,7 +2,7 @@
 ghost use Rattle.std.specs.Prelude.{◌≡◌, ◌++◌, ◌∷◌, [], All, OnOk, codes, map};
 ghost use Rattle.std.specs.Fmt.{signed_decimal};
 ghost use Rattle.body_text.specs.Canonical.{IsRead};
-ghost use Rattle.algo_print.specs.Canonical.{text_of, line_of, spaced, port_words, output_words, reference_words, edge_words, case_words, frontier_words, value_words, switch_lines, body_lines, count, otherwise_lines};
+ghost use Rattle.algo_print.specs.Canonical.{text_of, line_of, spaced, port_words, output_words, reference_words, edge_words, case_words, frontier_words, value_words, switch_lines, whole_switch, body_lines, count};
 ghost use Rattle.algo_defs.specs.declared.definition.Body.TheVariants.{Function, Graph, Repeat};
 
 use crate::lines::{print_case, print_edge, print_frontier, print_output};
@@ -48,11 +48,7 @@ fn print_ports(key: &[u8], ports: &[Port], text: &mut Vec<u8>) -> Result<(), Out
 }
 
 /// Appends the lines of outputs of a function with these inputs.
-fn print_outputs(
-    ins: &[Port],
-    outputs: &[Output],
-    text: &mut Vec<u8>,
-) -> Result<(), OutOfMemory>
+fn print_outputs(ins: &[Port], outputs: &[Output], text: &mut Vec<u8>) -> Result<(), OutOfMemory>
     requires { All (λ o. IsRead (map (λ p. p.name) ins.now) o.formula) outputs.now }
     ensures { OnOk result (text.new.items ≡ text.old.items ++ text_of (map (output_words ins.now) outputs.now)) }
 {
@@ -62,15 +58,22 @@ fn print_outputs(
     Ok(())
 }
 
+/// Appends the lines of references.
 fn print_references(references: &[Reference], text: &mut Vec<u8>) -> Result<(), OutOfMemory>
     ensures { OnOk result (text.new.items ≡ text.old.items ++ text_of (map reference_words references.now)) }
 {
     for reference in references {
-        print_pair(b"ref", reference.name.as_bytes(), reference.def.as_bytes(), text)?;
+        print_pair(
+            b"ref",
+            reference.name.as_bytes(),
+            reference.def.as_bytes(),
+            text,
+        )?;
     }
     Ok(())
 }
 
+/// Appends the lines of edges.
 fn print_edges(edges: &[Edge], text: &mut Vec<u8>) -> Result<(), OutOfMemory>
     ensures { OnOk result (text.new.items ≡ text.old.items ++ text_of (map edge_words edges.now)) }
 {
@@ -80,6 +83,7 @@ fn print_edges(edges: &[Edge], text: &mut Vec<u8>) -> Result<(), OutOfMemory>
     Ok(())
 }
 
+/// Appends the lines of cases.
 fn print_cases(cases: &[Case], text: &mut Vec<u8>) -> Result<(), OutOfMemory>
     ensures { OnOk result (text.new.items ≡ text.old.items ++ text_of (map case_words cases.now)) }
 {
@@ -90,10 +94,7 @@ fn print_cases(cases: &[Case], text: &mut Vec<u8>) -> Result<(), OutOfMemory>
 }
 
 /// Appends the frontier lines of a repetition.
-fn print_frontiers(
-    lines: &[FrontierLine],
-    text: &mut Vec<u8>,
-) -> Result<(), OutOfMemory>
+fn print_frontiers(lines: &[FrontierLine], text: &mut Vec<u8>) -> Result<(), OutOfMemory>
     ensures { OnOk result (text.new.items ≡ text.old.items ++ text_of (map frontier_words lines.now)) }
 {
     for line in lines {
@@ -147,7 +148,7 @@ pub(crate) fn print_switch(
     otherwise: &[u8],
     text: &mut Vec<u8>,
 ) -> Result<(), OutOfMemory>
-    ensures { OnOk result (text.new.items ≡ text.old.items ++ text_of (((codes "switch" ∷ name.now ∷ []) ∷ switch_lines on.now ins.now outs.now cases.now) ++ otherwise_lines otherwise.now)) }
+    ensures { OnOk result (text.new.items ≡ text.old.items ++ text_of (whole_switch name.now on.now ins.now outs.now cases.now otherwise.now)) }
 {
     print_named(b"switch", name, text)?;
     print_inputs_and_cases(on, ins, outs, cases, text)?;

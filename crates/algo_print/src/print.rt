@@ -23,18 +23,19 @@ pub fn print_algo(alloc: Global, defs: &Defs, out: &mut Vec<u8>) -> Result<(), O
     Ok(())
 }
 
+/// Appends the lines of definitions.
 fn print_definitions(defs: &[Def], text: &mut Vec<u8>) -> Result<(), OutOfMemory>
     requires { ArePrintable defs.now }
     ensures { OnOk result (text.new.items ≡ text.old.items ++ text_of (definition_lines defs.now)) }
 {
     for def in defs {
-        print_body_of(def.name.as_bytes(), &def.body, text)?;
+        print_definition(def.name.as_bytes(), &def.body, text)?;
     }
     Ok(())
 }
 
 /// Appends the lines of a definition of this name.
-fn print_body_of(name: &[u8], body: &Body, text: &mut Vec<u8>) -> Result<(), OutOfMemory>
+fn print_definition(name: &[u8], body: &Body, text: &mut Vec<u8>) -> Result<(), OutOfMemory>
     requires { IsPrintable body.now }
     ensures { OnOk result (text.new.items ≡ text.old.items ++ text_of (body_lines name.now body.now)) }
 {
