@@ -1,5 +1,5 @@
 -- What a line's checks have found where the line is accepted, and that they find it again.
-use Rattle.std.proofs.Common.{◌≡◌, ℕ, Bool, ◌||◌, true, false, cond, Option, Some, None, List, [], ◌∷◌, ◌++◌, Result, Ok, Err, refl, ap, ◌∙◌}
+use Rattle.std.proofs.Common.{◌≡◌, Bool, ◌||◌, true, false, cond, Option, Some, None, Result, Ok, Err, refl, ap, ◌∙◌}
 use Rattle.algo_defs.specs.declared.fault.AlgoError.{AlgoError}
 use Rattle.algo_defs.specs.Blocks.{with_some, and_then}
 

@@ -1,6 +1,5 @@
 -- The canonical text of what was read is read as it.
-use Rattle.std.proofs.Common.{◌≡◌, ℕ, ◌+◌, ◌-◌, ◌≤◌, ◌==◌, Bool, not, ◌||◌, true, false, cond, List, [], ◌∷◌, ◌++◌, length, map, Option, Some, None, Result, Ok, Err, refl, arith, ap, ap₂, sym, ◌∙◌, subst, codes, append_assoc, append-nil, length-append}
-use Rattle.std.specs.List.{list_all}
+use Rattle.std.proofs.Common.{◌≡◌, ℕ, ◌+◌, ◌-◌, ◌≤◌, ◌==◌, Bool, not, ◌||◌, true, false, cond, List, [], ◌∷◌, ◌++◌, length, map, Option, Some, None, Result, Ok, refl, arith, ap, sym, ◌∙◌, subst, codes, append_assoc, append-nil, length-append}
 use Rattle.std.specs.Str.{bytes_eq}
 use Rattle.std.proofs.lemmas.List.{map-append, length-map}
 use Rattle.std.proofs.lemmas.List.Elements.{All-nil}
@@ -10,7 +9,7 @@ use Rattle.algo_defs.specs.declared.fault.AlgoError.{AlgoError}
 use Rattle.algo_defs.specs.Words.{Bytes, word}
 use Rattle.algo_defs.specs.Blocks.{Block, and_then}
 use Rattle.algo_defs.specs.Text.{Stage, before_version, between, in_function, in_graph, in_switch, in_repeat, Reading, start, begins, version_line, by_stage, line_by, next_line, at_end, rest_of, definitions_of}
-use Rattle.algo_print.specs.Canonical.{joined, version_words, text_of, canonical_text, IsPrintable, ArePrintable}
+use Rattle.algo_print.specs.Canonical.{joined, version_words, canonical_text, IsPrintable, ArePrintable}
 use Rattle.algo_print.specs.ReadBack.{Says}
 use Rattle.algo_print.proofs.Pieces.{are_words, all_words, and_true, both, text_back}
 use Rattle.algo_print.proofs.Answers.{passed, read, never, same_ok}

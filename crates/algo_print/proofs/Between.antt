@@ -1,6 +1,5 @@
 -- Lines between definitions add canonical lines.
-use Rattle.std.proofs.Common.{◌≡◌, ℕ, ◌+◌, ◌<◌, ◌==◌, Bool, not, ◌||◌, true, false, cond, nat_lt, List, [], ◌∷◌, ◌++◌, length, map, drop, Option, Some, None, Result, Ok, Err, refl, arith, ap, ap₂, sym, ◌∙◌, ◌≤◌, suc, subst, codes, length-drop, ℤ, slice_index_or}
-use Rattle.std.specs.Prelude.{All}
+use Rattle.std.proofs.Common.{◌≡◌, ℕ, ◌==◌, Bool, not, ◌||◌, true, false, nat_lt, List, [], ◌∷◌, ◌++◌, length, map, drop, Ok, refl, arith, ap, ◌∙◌, ◌≤◌, suc, subst, codes, length-drop, ℤ}
 use Rattle.std.specs.Str.{bytes_eq}
 use Rattle.std.specs.Fmt.{signed_decimal}
 use Rattle.std.proofs.lemmas.List.{length-map}
@@ -8,12 +7,12 @@ use Rattle.std.proofs.lemmas.List.Elements.{All-append, All-cons, All-nil}
 use Rattle.syn_base.specs.Name.{is_name}
 use Rattle.algo_defs.specs.declared.definition.Def.{Def}
 use Rattle.algo_defs.specs.declared.definition.Body.{Body}
-use Rattle.algo_defs.specs.declared.definition.Body.TheVariants.{Sensor, Actuator, Constant, Delay, Function, Graph, Switch, Repeat}
+use Rattle.algo_defs.specs.declared.definition.Body.TheVariants.{Sensor, Actuator, Constant, Delay}
 use Rattle.algo_defs.specs.Words.{Bytes, word, is_among, count_of, number_of}
 use Rattle.algo_defs.specs.Blocks.{Block, new_block}
-use Rattle.algo_defs.specs.Text.{Stage, before_version, between, in_function, in_graph, in_switch, in_repeat, Reading, begins, version_line, end_line, numbers_of, values_line, opening_line, repeat_line, between_line, by_stage}
-use Rattle.algo_print.specs.Canonical.{joined, count, value_words, body_lines, definition_lines, version_words, IsPrintable, ArePrintable}
-use Rattle.algo_print.specs.ReadBack.{bare, bare_body}
+use Rattle.algo_defs.specs.Text.{Stage, between, in_function, in_graph, in_switch, in_repeat, Reading, begins, end_line, numbers_of, values_line, opening_line, repeat_line, between_line}
+use Rattle.algo_print.specs.Canonical.{count, value_words, body_lines, definition_lines, version_words, IsPrintable, ArePrintable}
+use Rattle.algo_print.specs.ReadBack.{bare}
 use Rattle.algo_print.proofs.Pieces.{is_word, are_words, and_true}
 use Rattle.algo_print.proofs.Fits.{number_fits}
 use Rattle.algo_print.proofs.Spelled.{name_word, number_word, number_back, count_back, count_word, count_positive}

@@ -1,7 +1,6 @@
 -- Lines of an open block add canonical lines: what all kinds of blocks share.
-use Rattle.std.proofs.Common.{◌≡◌, ℕ, suc, ◌+◌, ◌<◌, ◌≤◌, ◌==◌, Bool, not, ◌||◌, true, false, cond, nat_lt, List, [], ◌∷◌, ◌++◌, length, map, Option, Some, None, Result, Ok, Err, refl, arith, ap, ap₂, sym, ◌∙◌, subst, codes, append_assoc, append-nil}
+use Rattle.std.proofs.Common.{◌≡◌, ℕ, ◌≤◌, ◌==◌, Bool, not, ◌||◌, true, false, nat_lt, List, [], ◌∷◌, ◌++◌, length, map, Result, Ok, Err, refl, arith, ap, ap₂, sym, ◌∙◌, append_assoc, append-nil}
 use Rattle.std.proofs.lemmas.List.{map-append}
-use Rattle.std.proofs.lemmas.List.Elements.{All-append, All-cons, All-nil}
 use Rattle.syn_base.specs.Name.{is_name}
 use Rattle.body_lang.specs.declared.expression.Port.{Port}
 use Rattle.algo_defs.specs.declared.definition.Def.{Def}
@@ -12,15 +11,15 @@ use Rattle.algo_defs.specs.declared.definition.Case.{Case}
 use Rattle.algo_defs.specs.declared.definition.FrontierLine.{FrontierLine}
 use Rattle.algo_defs.specs.declared.fault.AlgoError.{AlgoError}
 use Rattle.algo_defs.specs.Words.{Bytes, word, is_among, count_of}
-use Rattle.algo_defs.specs.Blocks.{Block, all_outer, port_names, is_taken, port_line, in_line, with_in, out_line, with_out}
-use Rattle.algo_defs.specs.Text.{Stage, between, Reading, in_block, by_stage, block_end}
-use Rattle.algo_print.specs.Canonical.{joined, count, port_words, body_lines, definition_lines, version_words, end_words, IsPrintable, ArePrintable}
+use Rattle.algo_defs.specs.Blocks.{Block, is_taken, port_line, in_line, with_in, out_line, with_out}
+use Rattle.algo_defs.specs.Text.{Stage, between, Reading, in_block, by_stage}
+use Rattle.algo_print.specs.Canonical.{joined, count, port_words, body_lines, definition_lines, version_words, end_words, IsPrintable}
 use Rattle.algo_print.specs.ReadBack.{bare, bare_body, bare_reference, bare_edge, bare_case, bare_frontier}
 use Rattle.algo_print.proofs.Pieces.{is_word, are_words, and_true}
 use Rattle.algo_print.proofs.Spelled.{name_word, count_back, count_word, count_positive}
 use Rattle.algo_print.proofs.Answers.{passed, held, found, neither, same_ok, passes, holds, finds}
 use Rattle.algo_print.proofs.State.{Lines, open_lines, lines_at, Numbered, numbered_block, numbered, AreSame, Adds, IsOrdered, definitions_joined, more, same_outer}
-use Rattle.algo_print.proofs.Between.{definition_added, one_printable, defined_at}
+use Rattle.algo_print.proofs.Between.{one_printable}
 
 -- a list of lines with one more in front of nothing, and behind others
 pub in_front : {A : Type 0} (f : A → List Bytes) (xs : List A) (x : A) (rest : Lines) → rest ≡ [] → map f (xs ++ x ∷ []) ++ rest ≡ (map f xs ++ rest) ++ f x ∷ []

@@ -1,12 +1,12 @@
 -- Ends of edges are words, and are read back.
-use Rattle.std.proofs.Common.{◌≡◌, ℕ, ◌<◌, ◌≤◌, ◌==◌, ◌&&◌, Bool, true, false, not, cond, List, [], ◌∷◌, ◌++◌, length, take, drop, get_or, Option, Some, None, refl, sym, ap, ap₂, ◌∙◌, ◌+◌, subst, arith, length-drop}
-use Rattle.std.specs.List.{list_all, before_first, after_first, position_or_len}
+use Rattle.std.proofs.Common.{◌≡◌, ℕ, ◌<◌, ◌&&◌, Bool, true, false, cond, [], ◌∷◌, ◌++◌, length, get_or, Some, None, refl, sym, ap, ◌∙◌, ◌+◌, subst, arith, length-drop}
+use Rattle.std.specs.List.{before_first, after_first, position_or_len}
 use Rattle.std.proofs.lemmas.List.Sums.{split_at_first, passes_at_first}
 use Rattle.syn_base.specs.Name.{is_name}
 use Rattle.algo_defs.specs.declared.definition.End.{End}
 use Rattle.algo_defs.specs.Words.{Bytes, is_dot, end_of}
 use Rattle.algo_print.specs.Canonical.{end_word}
-use Rattle.algo_print.proofs.Pieces.{is_plain, is_word, both, word_more, plain_word, joins}
+use Rattle.algo_print.proofs.Pieces.{is_plain, is_word, word_more, plain_word, joins}
 use Rattle.algo_print.proofs.Spelled.{name_word}
 
 pub record EndRead (w : Bytes) (e : End) : Type 0 where

@@ -1,38 +1,35 @@
 -- Lines of functions add canonical lines.
-use Rattle.std.proofs.Common.{◌≡◌, ℕ, suc, ◌+◌, ◌<◌, ◌≤◌, ◌==◌, Bool, not, ◌||◌, true, false, cond, nat_lt, nat_le, List, [], ◌∷◌, ◌++◌, length, map, take, drop, position, Option, Some, None, Result, Ok, Err, refl, arith, ap, ap₂, sym, ◌∙◌, subst, codes, append_assoc, append-nil}
+use Rattle.std.proofs.Common.{◌≡◌, ℕ, suc, ◌+◌, ◌≤◌, ◌==◌, not, ◌||◌, true, cond, nat_lt, nat_le, List, [], ◌∷◌, ◌++◌, length, map, take, drop, position, Option, Some, None, Ok, refl, arith, ap, ap₂, sym, ◌∙◌, subst, codes, append_assoc, append-nil}
 use Rattle.std.specs.Prelude.{All}
 use Rattle.std.specs.List.{list_all}
 use Rattle.std.proofs.lemmas.List.{map-append, take_at, drop_at, length-append}
 use Rattle.std.proofs.lemmas.List.Elements.{All-append, All-cons, All-nil}
-use Rattle.syn_base.specs.Name.{is_name, is_name_byte}
+use Rattle.syn_base.specs.Name.{is_name_byte}
 use Rattle.text_lines.specs.Text.{words_of}
-use Rattle.body_lang.specs.declared.expression.Port.{Port}
 use Rattle.body_lang.specs.Expr.{Expr}
 use Rattle.body_text.specs.Tokens.{Token, tokens}
-use Rattle.body_text.specs.Grammar.{Written, AreWritten}
 use Rattle.body_text.specs.Ports.{unknown, resolved}
 use Rattle.body_text.specs.Parse.{Parse, good, stops, parse, alone}
 use Rattle.body_text.specs.Reads.{AreFew, IsBody}
 use Rattle.body_text.specs.Canonical.{canonical, IsRead}
-use Rattle.body_text.proofs.CanonicalTokens.{token_list, without_places}
+use Rattle.body_text.proofs.CanonicalTokens.{without_places}
 use Rattle.body_text.proofs.CanonicalReads.{reads_back}
 use Rattle.body_text.proofs.Complete.{complete_alone}
 use Rattle.body_text.proofs.Judged.{is_written}
 use Rattle.algo_defs.specs.declared.definition.Def.{Def}
 use Rattle.algo_defs.specs.declared.definition.Output.{Output}
 use Rattle.algo_defs.specs.declared.definition.Body.TheVariants.{Function}
-use Rattle.algo_defs.specs.declared.fault.AlgoError.{AlgoError}
-use Rattle.algo_defs.specs.Words.{Bytes, word, is_among, count_of}
+use Rattle.algo_defs.specs.Words.{Bytes, word}
 use Rattle.algo_defs.specs.Formulas.{known_by, read_by, formula_of}
-use Rattle.algo_defs.specs.Blocks.{Block, in_line, and_then, refused, is_taken, port_line, is_equals, result_words, result_at, result_line, with_result}
-use Rattle.algo_defs.specs.Text.{Stage, between, in_function, Reading, begins, in_block, by_stage, block_end, function_line}
-use Rattle.algo_print.specs.Canonical.{spaced, joined, count, port_words, output_words, function_lines, version_words, end_words}
+use Rattle.algo_defs.specs.Blocks.{Block, in_line, and_then, is_taken, is_equals, result_words, result_at, result_line, with_result}
+use Rattle.algo_defs.specs.Text.{in_function, Reading, begins, in_block, block_end, function_line}
+use Rattle.algo_print.specs.Canonical.{spaced, joined, count, port_words, output_words, function_lines}
 use Rattle.algo_print.proofs.Pieces as pieces
 use Rattle.algo_print.proofs.Pieces.{is_word, are_words, and_true, joins, words_then, first_stands}
 use Rattle.algo_print.proofs.Spelled.{name_word, name_bytes, count_word, count_bytes, name_byte_no_equals, expression_word}
-use Rattle.algo_print.proofs.Answers.{passed, held, read, either, never, neither, same_ok, passes, holds, reads}
+use Rattle.algo_print.proofs.Answers.{passed, held, read, either, never, neither, same_ok, passes, reads}
 use Rattle.algo_print.proofs.State.{Lines, FunctionOrder, Numbered, numbered_block, numbered, AreSame, Adds}
-use Rattle.algo_print.proofs.BlockLines.{in_front, behind, either_false, equal, at_most, IntoBlock, into_block, alike, block_adds, end_adds, port_read, port_again, taken_same, InRead, in_read}
+use Rattle.algo_print.proofs.BlockLines.{in_front, behind, at_most, IntoBlock, into_block, alike, block_adds, end_adds, port_read, port_again, taken_same, InRead, in_read}
 
 -- An expression that a line has is what its text is.
 few_holds : {A : Type 0} (m : ℕ) (x y : A) → m ≤ 512 → cond (nat_le m 512) x y ≡ x

@@ -1,10 +1,9 @@
 -- Lines of graphs add canonical lines.
-use Rattle.std.proofs.Common.{◌≡◌, ℕ, suc, ◌+◌, ◌<◌, ◌≤◌, ◌==◌, Bool, not, ◌||◌, true, false, cond, nat_lt, List, [], ◌∷◌, ◌++◌, length, map, Option, Some, None, Result, Ok, Err, refl, arith, ap, ap₂, sym, ◌∙◌, subst, codes}
+use Rattle.std.proofs.Common.{◌≡◌, ℕ, ◌<◌, ◌≤◌, ◌==◌, not, ◌||◌, true, false, nat_lt, List, [], ◌∷◌, ◌++◌, length, map, Some, Result, Ok, refl, arith, ap, ap₂, ◌∙◌, subst, codes}
 use Rattle.std.proofs.lemmas.List.{map-append}
 use Rattle.syn_base.specs.Name.{is_name}
 use Rattle.body_lang.specs.declared.expression.Port.{Port}
 use Rattle.algo_defs.specs.declared.definition.Def.{Def}
-use Rattle.algo_defs.specs.declared.definition.Body.{Body}
 use Rattle.algo_defs.specs.declared.definition.Body.TheVariants.{Graph}
 use Rattle.algo_defs.specs.declared.definition.End.{End}
 use Rattle.algo_defs.specs.declared.definition.Edge.{Edge}
@@ -12,14 +11,13 @@ use Rattle.algo_defs.specs.declared.definition.Reference.{Reference}
 use Rattle.algo_defs.specs.declared.fault.AlgoError.{AlgoError}
 use Rattle.algo_defs.specs.Words.{Bytes, word, is_among, end_of}
 use Rattle.algo_defs.specs.Blocks.{Block, in_line, out_line, reference_line, edge_line}
-use Rattle.algo_defs.specs.Text.{Stage, in_graph, Reading, begins, in_block, block_end, graph_line}
-use Rattle.algo_print.specs.Canonical.{port_words, reference_words, edge_words, end_word, graph_lines}
+use Rattle.algo_defs.specs.Text.{in_graph, Reading, begins, in_block, block_end, graph_line}
+use Rattle.algo_print.specs.Canonical.{port_words, reference_words, edge_words, end_word}
 use Rattle.algo_print.specs.ReadBack.{bare_reference, bare_edge}
-use Rattle.algo_print.proofs.Pieces.{is_word, are_words}
 use Rattle.algo_print.proofs.Spelled.{name_word}
 use Rattle.algo_print.proofs.Ends.{end_read, end_again}
 use Rattle.algo_print.proofs.Answers.{passed, held, found, either, never, neither, same_ok, passes, holds, finds}
-use Rattle.algo_print.proofs.State.{Lines, GraphOrder, Numbered, numbered_block, numbered, AreSame, Adds, more, same_length, same_names}
+use Rattle.algo_print.proofs.State.{Lines, GraphOrder, Numbered, numbered, AreSame, Adds, more, same_length, same_names}
 use Rattle.algo_print.proofs.BlockLines.{in_front, behind, no_lines, key_words, equal, at_most, IntoBlock, into_block, alike, block_adds, end_adds, InRead, in_read, OutRead, out_read}
 
 module _ (k : Numbered) (names : List Bytes) (defs : List Def) (b : Block) (same : AreSame k defs b) (order : GraphOrder b) where

@@ -1,11 +1,11 @@
 -- Text that is put together from words and lines is cut into them again.
-use Rattle.std.proofs.Common.{◌≡◌, ℕ, ◌+◌, ◌<◌, ◌≤◌, ◌==◌, Bool, not, ◌&&◌, true, false, cond, nat_lt, List, [], ◌∷◌, ◌++◌, length, take, map, refl, arith, ap, sym, ◌∙◌, subst, None, Some, Option, position, append_assoc, append-nil}
+use Rattle.std.proofs.Common.{◌≡◌, ℕ, ◌<◌, Bool, not, ◌&&◌, true, false, cond, nat_lt, List, [], ◌∷◌, ◌++◌, length, map, refl, arith, ap, ◌∙◌, None, Some, position, append_assoc, append-nil}
 use Rattle.std.specs.List.{list_all, position_or_len}
 use Rattle.std.proofs.lemmas.Grind.{common_steps}
 use Rattle.std.proofs.lemmas.List.{take_all}
-use Rattle.text_lines.specs.Text.{is_feed, is_blank, is_hash, is_foreign, lines_of, words_of, with_byte, with_letter, code_of, foreign_place}
+use Rattle.text_lines.specs.Text.{is_feed, is_blank, is_hash, is_foreign, lines_of, words_of, with_byte, code_of, foreign_place}
 use Rattle.algo_defs.specs.Words.{Bytes}
-use Rattle.algo_print.specs.Canonical.{spaced, joined, line_of, text_of}
+use Rattle.algo_print.specs.Canonical.{spaced, joined, text_of}
 
 -- a byte of a word: neither a blank, a comment's beginning nor a line feed, and allowed
 abbrev pub is_plain : ℕ → Bool

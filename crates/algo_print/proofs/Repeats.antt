@@ -1,5 +1,5 @@
 -- Lines of repetitions add canonical lines.
-use Rattle.std.proofs.Common.{◌≡◌, ℕ, ◌+◌, ◌==◌, if◌then◌else◌, Bool, not, ◌||◌, true, false, cond, nat_lt, List, [], ◌∷◌, ◌++◌, length, map, drop, Option, Some, None, Result, Ok, Err, refl, arith, ap, sym, ◌∙◌, subst, codes}
+use Rattle.std.proofs.Common.{◌≡◌, ℕ, ◌+◌, ◌==◌, if◌then◌else◌, Bool, not, ◌||◌, true, false, cond, nat_lt, List, [], ◌∷◌, ◌++◌, length, map, drop, Result, Ok, refl, arith, ap, sym, ◌∙◌, subst, codes}
 use Rattle.std.proofs.lemmas.List.{map-append}
 use Rattle.syn_base.specs.Name.{is_name}
 use Rattle.algo_defs.specs.declared.definition.Def.{Def}
@@ -11,14 +11,14 @@ use Rattle.algo_defs.specs.declared.fault.AlgoError.{AlgoError}
 use Rattle.algo_defs.specs.declared.fault.AlgoCause.TheVariants.{BadLine, DuplicateName}
 use Rattle.syn_base.specs.declared.limits.LimitKind.TheVariants.{Ports}
 use Rattle.algo_defs.specs.Words.{Bytes, word, is_among}
-use Rattle.algo_defs.specs.Blocks.{Block, refused, above, all_outer, all_names, with_frontier, fork_line, diffuse_line, iterate_line, join_line}
-use Rattle.algo_defs.specs.Text.{Stage, in_repeat, Reading, begins, in_block, block_end, by_stage, frontier_line}
-use Rattle.algo_print.specs.Canonical.{joined, words_of_frontier, frontier_words}
+use Rattle.algo_defs.specs.Blocks.{Block, refused, above, all_outer, all_names, with_frontier}
+use Rattle.algo_defs.specs.Text.{in_repeat, Reading, begins, in_block, block_end, frontier_line}
+use Rattle.algo_print.specs.Canonical.{words_of_frontier, frontier_words}
 use Rattle.algo_print.specs.ReadBack.{bare_frontier}
 use Rattle.algo_print.proofs.Pieces.{is_word, are_words, and_true}
 use Rattle.algo_print.proofs.Spelled.{name_word}
 use Rattle.algo_print.proofs.Answers.{passed, held, either, never, same_ok, passes, holds}
-use Rattle.algo_print.proofs.State.{Lines, Numbered, numbered_block, numbered, AreSame, Adds, more, same_length, same_outer}
+use Rattle.algo_print.proofs.State.{Numbered, numbered_block, numbered, AreSame, Adds, more, same_length, same_outer}
 use Rattle.algo_print.proofs.BlockLines.{behind, equal, key_words, IntoBlock, into_block, block_adds, end_adds}
 
 -- a line of two names, of which one is an outer one

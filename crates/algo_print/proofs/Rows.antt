@@ -1,5 +1,5 @@
 -- Canonical texts of worked texts.
-use Rattle.std.proofs.Common.{◌≡◌, ℕ, refl, List, [], ◌∷◌, ◌++◌, Result, Ok, Err, codes}
+use Rattle.std.proofs.Common.{◌≡◌, refl, List, [], ◌∷◌, ◌++◌, Result, Ok, Err, codes}
 use Rattle.std.specs.Fmt.{digits}
 use Rattle.body_text.specs.Words.{form_of}
 use Rattle.algo_defs.specs.declared.definition.Def.{Def}

@@ -1,11 +1,11 @@
 -- Names, numbers and expressions are words.
-use Rattle.std.proofs.Common.{◌≡◌, ℕ, zero, suc, ◌+◌, ◌<◌, ◌≤◌, ◌^◌, ◌==◌, Bool, true, false, not, ◌&&◌, ◌||◌, nat_le, nat_lt, leb-true, List, [], ◌∷◌, ◌++◌, length, Some, None, Option, Ok, Err, Result, ℤ, pos, negsuc, refl, sym, ap, ◌∙◌, subst, arith, rules, w64, FitsSigned, ne_eqb, codes, if◌then◌else◌, append-nil}
+use Rattle.std.proofs.Common.{◌≡◌, ℕ, suc, ◌<◌, ◌≤◌, ◌^◌, ◌==◌, Bool, true, false, not, ◌&&◌, ◌||◌, nat_le, nat_lt, List, [], ◌∷◌, ◌++◌, length, Some, None, Option, Result, ℤ, pos, negsuc, refl, sym, ap, ◌∙◌, subst, arith, rules, w64, FitsSigned, ne_eqb, codes, if◌then◌else◌, append-nil}
 use Rattle.std.specs.List.{list_all}
 use Rattle.std.specs.Fmt.{decimal, signed_decimal}
 use Rattle.std.proofs.lemmas.Fmt.{digits_decimal, decimal_nonempty}
 use Rattle.std.proofs.lemmas.Str.Parse.{IsNumeralModel, numerals_by_fold}
 use Rattle.syn_base.specs.Name.{is_name, is_name_byte, is_letter, is_digit, begins_name}
-use Rattle.syn_base.specs.Integer.{integer_of, number_after}
+use Rattle.syn_base.specs.Integer.{number_after}
 use Rattle.syn_base.proofs.Decimal as integers
 use Rattle.syn_base.specs.declared.arithmetic.Op.{Op}
 use Rattle.syn_base.specs.declared.arithmetic.Op.TheVariants.{Add, Sub, Mul, Div, Rem, Eq, Ne, Lt, Le, Gt, Ge, Min, Max, Neg}
@@ -14,7 +14,6 @@ use Rattle.body_lang.specs.Expr.{Expr}
 use Rattle.body_text.specs.Tokens.{tokens}
 use Rattle.body_text.specs.Grammar.{Written, literal, index, element, sum_over, negation, apply, select, word_of}
 use Rattle.body_text.specs.Canonical.{canonical, IsRead}
-use Rattle.body_text.specs.Reads.{IsBody}
 use Rattle.body_text.proofs.CanonicalTokens.{name_byte-not_blank}
 use Rattle.body_text.proofs.CanonicalSound.{AreSound, IsSoundTree, tokens_sound, tree_sound}
 use Rattle.body_text.proofs.CanonicalText.{text_of}
@@ -23,7 +22,7 @@ use Rattle.body_text.specs.Grammar.{written}
 use Rattle.algo_defs.specs.Words.{Bytes, number_of, number_by, count_of, count_by}
 use Rattle.algo_defs.specs.Blocks.{is_equals}
 use Rattle.algo_print.specs.Canonical.{count}
-use Rattle.algo_print.proofs.Pieces.{is_plain, is_word, both, and_true, plain_word, passes, joins, word_more}
+use Rattle.algo_print.proofs.Pieces.{is_plain, is_word, both, plain_word, passes, joins, word_more}
 use Rattle.algo_print.proofs.Fits.{number_fits}
 use Rattle.syn_base.specs.declared.integer.NumFault.{NumFault}
 

@@ -1,5 +1,5 @@
 -- Lines of switches add canonical lines.
-use Rattle.std.proofs.Common.{◌≡◌, ℕ, suc, ◌+◌, ◌<◌, ◌≤◌, ◌==◌, Bool, not, ◌||◌, true, false, cond, nat_lt, List, [], ◌∷◌, ◌++◌, length, map, Option, Some, None, Result, Ok, Err, refl, arith, ap, ap₂, sym, ◌∙◌, subst, codes, ℤ, append_assoc, append-nil}
+use Rattle.std.proofs.Common.{◌≡◌, ℕ, ◌<◌, ◌≤◌, ◌==◌, Bool, not, ◌||◌, true, false, cond, nat_lt, List, [], ◌∷◌, ◌++◌, length, map, Some, Result, Ok, refl, arith, ap, ap₂, sym, ◌∙◌, subst, codes, ℤ, append_assoc, append-nil}
 use Rattle.std.specs.Fmt.{signed_decimal}
 use Rattle.std.proofs.lemmas.List.{map-append}
 use Rattle.syn_base.specs.Name.{is_name}
@@ -10,14 +10,14 @@ use Rattle.algo_defs.specs.declared.definition.Case.{Case}
 use Rattle.algo_defs.specs.declared.fault.AlgoError.{AlgoError}
 use Rattle.algo_defs.specs.Words.{Bytes, word, number_of}
 use Rattle.algo_defs.specs.Blocks.{Block, in_line, out_line, on_line, case_line, otherwise_line}
-use Rattle.algo_defs.specs.Text.{Stage, in_switch, Reading, begins, in_block, block_end, switch_line}
+use Rattle.algo_defs.specs.Text.{in_switch, Reading, begins, in_block, block_end, switch_line}
 use Rattle.algo_print.specs.Canonical.{port_words, case_words, switch_lines, end_words}
 use Rattle.algo_print.specs.ReadBack.{bare_case}
-use Rattle.algo_print.proofs.Pieces.{is_word, are_words, and_true}
+use Rattle.algo_print.proofs.Pieces.{is_word, and_true}
 use Rattle.algo_print.proofs.Fits.{number_fits}
 use Rattle.algo_print.proofs.Spelled.{name_word, number_word, number_back}
 use Rattle.algo_print.proofs.Answers.{passed, held, found, either, never, neither, same_ok, passes, holds, finds}
-use Rattle.algo_print.proofs.State.{Lines, open_switch, SwitchOrder, Numbered, numbered_block, numbered, AreSame, Adds, more, same_length}
+use Rattle.algo_print.proofs.State.{Lines, open_switch, SwitchOrder, Numbered, numbered, AreSame, Adds, more, same_length}
 use Rattle.algo_print.proofs.BlockLines.{in_front, behind, no_lines, either_false, not_false, key_words, equal, at_most, IntoBlock, into_block, alike, block_adds, end_adds, InRead, in_read, OutRead, out_read}
 
 -- the lines of an open switch, by its part

@@ -1,5 +1,5 @@
 -- Texts that are put together from lists of lines.
-use Rattle.std.proofs.Common.{◌≡◌, ℕ, suc, ◌+◌, ◌<◌, List, [], ◌∷◌, ◌++◌, length, drop, get_or, Result, Ok, Err, refl, arith, ap, ap₂, sym, ◌∙◌, append_assoc, drop-cons, subst}
+use Rattle.std.proofs.Common.{◌≡◌, ℕ, suc, ◌+◌, ◌<◌, List, [], ◌∷◌, ◌++◌, length, drop, get_or, Result, Ok, Err, refl, arith, ap, ap₂, sym, ◌∙◌, append_assoc, drop-cons}
 use Rattle.std.specs.Prelude.{OnOk}
 use Rattle.algo_defs.specs.Words.{Bytes}
 use Rattle.algo_defs.specs.declared.definition.Def.{Def}

@@ -1,9 +1,6 @@
-use Rattle.std.proofs.Common.{[], ◌∷◌, ◌++◌, map, codes, sym, subst}
-use Rattle.body_text.specs.Canonical.{IsRead}
-use Rattle.algo_defs.specs.declared.definition.Body.{Body}
-use Rattle.algo_defs.specs.declared.definition.Output.{Output}
-use Rattle.algo_print.specs.Canonical.{line_of, port_words, output_words, reference_words, edge_words, case_words, frontier_words, function_lines, graph_lines, switch_lines, count, end_words, IsPrintable}
-use Rattle.algo_print.proofs.Texts.{lines_then, bytes_last, lines_last, next_definition}
+use Rattle.std.proofs.Common.{[], ◌∷◌, map, codes}
+use Rattle.algo_print.specs.Canonical.{line_of, port_words, reference_words, edge_words, graph_lines, end_words}
+use Rattle.algo_print.proofs.Texts.{lines_then, bytes_last, lines_last}
 use Rattle.algo_print.proofs.blocks.print_graph.Goals as goal
 
 pub returns : goal.returns
