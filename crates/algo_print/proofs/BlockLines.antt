@@ -1,0 +1,199 @@
+-- Lines of an open block add canonical lines: what all kinds of blocks share.
+use Rattle.std.proofs.Common.{◌≡◌, ℕ, ◌≤◌, ◌==◌, Bool, not, ◌||◌, true, false, nat_lt, List, [], ◌∷◌, ◌++◌, length, map, Result, Ok, Err, refl, arith, ap, ap₂, sym, ◌∙◌, append_assoc, append-nil}
+use Rattle.std.proofs.lemmas.List.{map-append}
+use Rattle.syn_base.specs.Name.{is_name}
+use Rattle.body_lang.specs.declared.expression.Port.{Port}
+use Rattle.algo_defs.specs.declared.definition.Def.{Def}
+use Rattle.algo_defs.specs.declared.definition.Body.{Body}
+use Rattle.algo_defs.specs.declared.definition.Reference.{Reference}
+use Rattle.algo_defs.specs.declared.definition.Edge.{Edge}
+use Rattle.algo_defs.specs.declared.definition.Case.{Case}
+use Rattle.algo_defs.specs.declared.definition.FrontierLine.{FrontierLine}
+use Rattle.algo_defs.specs.declared.fault.AlgoError.{AlgoError}
+use Rattle.algo_defs.specs.Words.{Bytes, word, is_among, count_of}
+use Rattle.algo_defs.specs.Blocks.{Block, is_taken, port_line, in_line, with_in, out_line, with_out}
+use Rattle.algo_defs.specs.Text.{Stage, between, Reading, in_block, by_stage}
+use Rattle.algo_print.specs.Canonical.{joined, count, port_words, body_lines, definition_lines, version_words, end_words, IsPrintable}
+use Rattle.algo_print.specs.ReadBack.{bare, bare_body, bare_reference, bare_edge, bare_case, bare_frontier}
+use Rattle.algo_print.proofs.Pieces.{is_word, are_words, and_true}
+use Rattle.algo_print.proofs.Spelled.{name_word, count_back, count_word, count_positive}
+use Rattle.algo_print.proofs.Answers.{passed, held, found, neither, same_ok, passes, holds, finds}
+use Rattle.algo_print.proofs.State.{Lines, open_lines, lines_at, Numbered, numbered_block, numbered, AreSame, Adds, IsOrdered, definitions_joined, more, same_outer}
+use Rattle.algo_print.proofs.Between.{one_printable}
+
+-- a list of lines with one more in front of nothing, and behind others
+pub in_front : {A : Type 0} (f : A → List Bytes) (xs : List A) (x : A) (rest : Lines) → rest ≡ [] → map f (xs ++ x ∷ []) ++ rest ≡ (map f xs ++ rest) ++ f x ∷ []
+in_front f xs x rest none =
+    ap (λ (r : Lines). map f (xs ++ x ∷ []) ++ r) none ∙ append-nil (map f (xs ++ x ∷ [])) ∙ map-append f xs (x ∷ [])
+    ∙ ap (λ (l : Lines). l ++ f x ∷ []) (sym (append-nil (map f xs)) ∙ ap (λ (r : Lines). map f xs ++ r) (sym none))
+
+pub behind : (front rest all : Lines) (ws : List Bytes) → all ≡ rest ++ ws ∷ [] → front ++ all ≡ (front ++ rest) ++ ws ∷ []
+behind front rest all ws is = ap (λ (l : Lines). front ++ l) is ∙ sym (append_assoc front rest (ws ∷ []))
+
+pub no_lines : (xs ys : Lines) → xs ≡ [] → ys ≡ [] → xs ++ ys ≡ []
+no_lines xs ys h g = ap₂ (λ (l m : Lines). l ++ m) h g
+
+pub either_false : (p q : Bool) → p ≡ false → q ≡ false → (p || q) ≡ false
+either_false p q h g = rw (h, g) refl
+
+pub not_false : (p : Bool) → not p ≡ false → p ≡ true
+not_false true h = refl
+not_false false h = cc
+
+pub equal : (m n : ℕ) → (m == n) ≡ true → m ≡ n
+equal m n h = grind arith
+
+pub at_most : (m n : ℕ) → nat_lt m n ≡ false → n ≤ m
+at_most m n h = grind arith
+
+pub key_words : (key w v : Bytes) → is_word key ≡ true → is_word w ≡ true → is_word v ≡ true → are_words (key ∷ w ∷ v ∷ []) ≡ true
+key_words key w v h g f = and_true (is_word key) _ h (and_true (is_word w) _ g (and_true (is_word v) true f refl))
+
+-- A block with the same lists that hold numbers of lines.
+pub alike : (k : Numbered) (defs : List Def) (b c : Block) → AreSame k defs b → b.references ≡ c.references → b.edges ≡ c.edges → b.cases ≡ c.cases → b.frontier ≡ c.frontier → AreSame k defs c
+alike k defs b c same rs es cs fs = record {
+  defs_same = same.defs_same;
+  references_same = same.references_same ∙ ap (λ (l : List Reference). map bare_reference l) rs;
+  edges_same = same.edges_same ∙ ap (λ (l : List Edge). map bare_edge l) es;
+  cases_same = same.cases_same ∙ ap (λ (l : List Case). map bare_case l) cs;
+  frontier_same = same.frontier_same ∙ ap (λ (l : List FrontierLine). map bare_frontier l) fs;
+}
+
+-- what is read into the block
+pub record IntoBlock (r : Reading) (x : Result Block AlgoError) (after : Reading) : Type 0 where
+  pub block : Block
+  pub is : x ≡ Ok block
+  pub after_is : record r { block = block } ≡ after
+
+pub into_block : (r : Reading) (x : Result Block AlgoError) (after : Reading) → in_block r x ≡ Ok after → IntoBlock r x after
+into_block r (Ok b) after h = record { block = b; is = refl; after_is = same_ok _ after h }
+into_block r (Err e) after h = cc
+
+module _ (k : Numbered) (s : Stage) (names : List Bytes) (defs : List Def) (b : Block) (same : AreSame k defs b) (open_is : (c : Block) → lines_at s defs c ≡ version_words ∷ (definition_lines defs ++ open_lines s c)) where
+  -- a line of the block, by the block that it makes
+  pub block_adds : (c : Block) (ws : List Bytes) (next : ℕ → Numbered) → are_words ws ≡ true → (length ws == 0) ≡ false
+      → open_lines s c ≡ open_lines s b ++ ws ∷ []
+      → ((m : ℕ) → by_stage s (numbered k (record { stage = s; names = names; defs = defs; block = b })) m ws (joined ws) ≡ Ok (numbered (next m) (record { stage = s; names = names; defs = defs; block = c })))
+      → ((m : ℕ) → AreSame (next m) defs c) → IsOrdered s defs c
+      → Adds k s names defs b (record { stage = s; names = names; defs = defs; block = c })
+  block_adds c ws next plain some lines again alike ordered = record {
+    words = ws;
+    plain = plain;
+    some = some;
+    lines = open_is c ∙ ap (λ (ls : Lines). version_words ∷ ls) (behind (definition_lines defs) (open_lines s b) (open_lines s c) ws lines) ∙ ap (λ (ls : Lines). ls ++ ws ∷ []) (sym (open_is b));
+    next = next;
+    reads = again;
+    same = alike;
+    ordered = ordered;
+    printable = λ p. p;
+  }
+
+  definitions_with : (body : Body) → body_lines b.name body ≡ open_lines s b ++ end_words ∷ []
+      → definition_lines (defs ++ record { name = b.name; line = b.line; body = body } ∷ []) ≡ (definition_lines defs ++ open_lines s b) ++ end_words ∷ []
+  definitions_with body lines =
+      definitions_joined defs (record { name = b.name; line = b.line; body = body } ∷ [])
+      ∙ ap (λ (ls : Lines). definition_lines defs ++ ls) (append-nil (body_lines b.name body))
+      ∙ behind (definition_lines defs) (open_lines s b) (body_lines b.name body) end_words lines
+
+  -- the line that ends the block
+  pub end_adds : (body : Body) (renumbered : Body) → body_lines b.name body ≡ open_lines s b ++ end_words ∷ [] → bare_body renumbered ≡ bare_body body → IsPrintable body
+      → ((m : ℕ) → by_stage s (numbered k (record { stage = s; names = names; defs = defs; block = b })) m end_words (joined end_words)
+      ≡ Ok (record { stage = between; names = names; defs = k.defs ++ record { name = b.name; line = k.line; body = renumbered } ∷ []; block = numbered_block k b }))
+      → Adds k s names defs b (record { stage = between; names = names; defs = defs ++ record { name = b.name; line = b.line; body = body } ∷ []; block = b })
+  end_adds body renumbered lines alike printable again = record {
+    words = end_words;
+    plain = refl;
+    some = refl;
+    lines = ap (λ (ls : Lines). version_words ∷ ls) (definitions_with body lines) ∙ ap (λ (ls : Lines). ls ++ end_words ∷ []) (sym (open_is b));
+    next = λ m. record k { defs = k.defs ++ record { name = b.name; line = k.line; body = renumbered } ∷ [] };
+    reads = again;
+    same = λ m. record {
+      defs_same = more bare k.defs defs (record { name = b.name; line = k.line; body = renumbered }) (record { name = b.name; line = b.line; body = body }) same.defs_same
+          (ap (λ (x : Body). record { name = b.name; line = 0; body = x }) alike);
+      references_same = same.references_same;
+      edges_same = same.edges_same;
+      cases_same = same.cases_same;
+      frontier_same = same.frontier_same;
+    };
+    ordered = tt;
+    printable = one_printable defs (record { name = b.name; line = b.line; body = body }) printable;
+  }
+
+-- a line of a port that is accepted
+pub record PortRead (before : ℕ) (ws : List Bytes) (go : Port → Result Block AlgoError) (after : Block) : Type 0 where
+  pub len : ℕ
+  pub named : is_name (word ws 1) ≡ true
+  pub few : nat_lt 63 before ≡ false
+  pub some : (len == 0) ≡ false
+  pub low : nat_lt 64 len ≡ false
+  pub then : go (record { name = word ws 1; len = len }) ≡ Ok after
+
+pub port_read : (n before : ℕ) (ws : List Bytes) (go : Port → Result Block AlgoError) (after : Block) → port_line n before ws go ≡ Ok after → PortRead before ws go after
+port_read n before ws go after h =
+    let named = held (is_name (word ws 1)) _ _ after h in
+    let counted = found (count_of (word ws 2)) _ _ after named.1 in
+    let few = passed (nat_lt 63 before) _ _ after counted.2 in
+    let low = passed (nat_lt 64 counted.0) _ _ after few.1 in
+    record { len = counted.0; named = named.0; few = few.0; some = count_positive (word ws 2) counted.0 counted.1; low = low.0; then = low.1 }
+
+pub port_again : (m before len : ℕ) (key w : Bytes) (go : Port → Result Block AlgoError) (after : Block) → is_name w ≡ true → nat_lt 63 before ≡ false → (len == 0) ≡ false → nat_lt 64 len ≡ false
+    → go (record { name = w; len = len }) ≡ Ok after → port_line m before (key ∷ w ∷ count len ∷ []) go ≡ Ok after
+port_again m before len key w go after named few some low then =
+    holds _ _ _ _ named (finds _ _ _ _ len (count_back len some low) (passes _ _ _ _ few (passes _ _ _ _ low then)))
+
+-- names that are taken do not depend on numbers of lines
+pub taken_same : (k : Numbered) (defs : List Def) (b : Block) (w : Bytes) → AreSame k defs b → is_taken (numbered_block k b) w ≡ is_taken b w
+taken_same k defs b w same =
+    ap (λ (ns : List Bytes). is_among w (b.on ∷ (map (λ p. p.name) b.ins ++ (map (λ o. o.port.name) b.results ++ (map (λ p. p.name) b.outs ++ ns))))) (same_outer k.frontier b.frontier same.frontier_same)
+
+-- a line of an input that is accepted, and accepted again
+pub record InRead (part : ℕ) (b after : Block) : Type 0 where
+  pub port : Port
+  pub at : (b.part == part) ≡ true
+  pub after_is : record b { ins = b.ins ++ port ∷ [] } ≡ after
+  pub plain : (key : Bytes) → is_word key ≡ true → are_words (port_words key port) ≡ true
+  pub again : (k : Numbered) (defs : List Def) (m : ℕ) (key : Bytes) → AreSame k defs b
+      → in_line part (numbered_block k b) m (port_words key port) ≡ Ok (numbered_block k (record b { ins = b.ins ++ port ∷ [] }))
+
+pub in_read : (part : ℕ) (b : Block) (n : ℕ) (ws : List Bytes) (after : Block) → in_line part b n ws ≡ Ok after → InRead part b after
+in_read part b n ws after h =
+    let w : Bytes = word ws 1 in
+    let form = passed (not (length ws == 3) || not (b.part == part)) _ _ after h in
+    let at : (b.part == part) ≡ true = not_false (b.part == part) (neither (not (length ws == 3)) (not (b.part == part)) form.0).1 in
+    let p = port_read n (length b.ins) ws (with_in b n) after form.1 in
+    let free = passed (is_taken b w) _ _ after p.then in
+    record {
+      port = record { name = w; len = p.len };
+      at = at;
+      after_is = same_ok _ after free.1;
+      plain = λ key word. key_words key w (count p.len) word (name_word w p.named) (count_word p.len p.low);
+      again = λ k defs m key same. passes _ _ _ _ (ap not at)
+          (port_again m (length b.ins) p.len key w (with_in (numbered_block k b) m) _ p.named p.few p.some p.low (passes _ _ _ _ (taken_same k defs b w same ∙ free.0) refl));
+    }
+
+pub record OutRead (least part : ℕ) (b after : Block) : Type 0 where
+  pub port : Port
+  pub low : least ≤ b.part
+  pub high : b.part ≤ part
+  pub after_is : record b { part = part; outs = b.outs ++ port ∷ [] } ≡ after
+  pub plain : (key : Bytes) → is_word key ≡ true → are_words (port_words key port) ≡ true
+  pub again : (k : Numbered) (defs : List Def) (m : ℕ) (key : Bytes) → AreSame k defs b
+      → out_line least part (numbered_block k b) m (port_words key port) ≡ Ok (numbered_block k (record b { part = part; outs = b.outs ++ port ∷ [] }))
+
+pub out_read : (least part : ℕ) (b : Block) (n : ℕ) (ws : List Bytes) (after : Block) → out_line least part b n ws ≡ Ok after → OutRead least part b after
+out_read least part b n ws after h =
+    let w : Bytes = word ws 1 in
+    let form = passed (not (length ws == 3) || nat_lt b.part least || nat_lt part b.part) _ _ after h in
+    let below = neither (not (length ws == 3) || nat_lt b.part least) (nat_lt part b.part) form.0 in
+    let above = neither (not (length ws == 3)) (nat_lt b.part least) below.0 in
+    let p = port_read n (length b.outs) ws (with_out part b n) after form.1 in
+    let free = passed (is_taken b w) _ _ after p.then in
+    record {
+      port = record { name = w; len = p.len };
+      low = at_most b.part least above.1;
+      high = at_most part b.part below.1;
+      after_is = same_ok _ after free.1;
+      plain = λ key word. key_words key w (count p.len) word (name_word w p.named) (count_word p.len p.low);
+      again = λ k defs m key same. passes _ _ _ _ (either_false (nat_lt b.part least) (nat_lt part b.part) above.1 below.1)
+          (port_again m (length b.outs) p.len key w (with_out part (numbered_block k b) m) _ p.named p.few p.some p.low (passes _ _ _ _ (taken_same k defs b w same ∙ free.0) refl));
+    }

@@ -1,0 +1,161 @@
+-- Lines of graphs add canonical lines.
+use Rattle.std.proofs.Common.{◌≡◌, ℕ, ◌<◌, ◌≤◌, ◌==◌, not, ◌||◌, true, false, nat_lt, List, [], ◌∷◌, ◌++◌, length, map, Some, Result, Ok, refl, arith, ap, ap₂, ◌∙◌, subst, codes}
+use Rattle.std.proofs.lemmas.List.{map-append}
+use Rattle.syn_base.specs.Name.{is_name}
+use Rattle.body_lang.specs.declared.expression.Port.{Port}
+use Rattle.algo_defs.specs.declared.definition.Def.{Def}
+use Rattle.algo_defs.specs.declared.definition.Body.TheVariants.{Graph}
+use Rattle.algo_defs.specs.declared.definition.End.{End}
+use Rattle.algo_defs.specs.declared.definition.Edge.{Edge}
+use Rattle.algo_defs.specs.declared.definition.Reference.{Reference}
+use Rattle.algo_defs.specs.declared.fault.AlgoError.{AlgoError}
+use Rattle.algo_defs.specs.Words.{Bytes, word, is_among, end_of}
+use Rattle.algo_defs.specs.Blocks.{Block, in_line, out_line, reference_line, edge_line}
+use Rattle.algo_defs.specs.Text.{in_graph, Reading, begins, in_block, block_end, graph_line}
+use Rattle.algo_print.specs.Canonical.{port_words, reference_words, edge_words, end_word}
+use Rattle.algo_print.specs.ReadBack.{bare_reference, bare_edge}
+use Rattle.algo_print.proofs.Spelled.{name_word}
+use Rattle.algo_print.proofs.Ends.{end_read, end_again}
+use Rattle.algo_print.proofs.Answers.{passed, held, found, either, never, neither, same_ok, passes, holds, finds}
+use Rattle.algo_print.proofs.State.{Lines, GraphOrder, Numbered, numbered, AreSame, Adds, more, same_length, same_names}
+use Rattle.algo_print.proofs.BlockLines.{in_front, behind, no_lines, key_words, equal, at_most, IntoBlock, into_block, alike, block_adds, end_adds, InRead, in_read, OutRead, out_read}
+
+module _ (k : Numbered) (names : List Bytes) (defs : List Def) (b : Block) (same : AreSame k defs b) (order : GraphOrder b) where
+  abbrev here : Reading
+  here = record { stage = in_graph; names = names; defs = defs; block = b }
+
+  abbrev there : Reading
+  there = numbered k here
+
+  -- the lines of each kind
+  abbrev inputs : Lines
+  inputs = map (port_words (codes "in")) b.ins
+
+  abbrev outputs : Lines
+  outputs = map (port_words (codes "out")) b.outs
+
+  abbrev references : Lines
+  references = map reference_words b.references
+
+  abbrev edges : Lines
+  edges = map edge_words b.edges
+
+  no_edge_lines : b.part < 3 → edges ≡ []
+  no_edge_lines low = ap (λ (l : List Edge). map edge_words l) (order.no_edges low)
+
+  no_reference_lines : b.part < 2 → references ++ edges ≡ []
+  no_reference_lines low = no_lines references edges (ap (λ (l : List Reference). map reference_words l) (order.no_references low)) (no_edge_lines (omega arith))
+
+  no_output_lines : b.part < 1 → outputs ++ (references ++ edges) ≡ []
+  no_output_lines low = no_lines outputs (references ++ edges) (ap (λ (l : List Port). map (port_words (codes "out")) l) (order.no_outs low)) (no_reference_lines (omega arith))
+
+  -- a line makes this block of the open one
+  from : (x : Result Block AlgoError) (r : Reading) (c : Block) (into : IntoBlock here x r) → c ≡ into.block → Adds k in_graph names defs b (record here { block = c }) → Adds k in_graph names defs b r
+  from x r c into is adds = subst (λ (q : Reading). Adds k in_graph names defs b q) (ap (λ (d : Block). record here { block = d }) is ∙ into.after_is) adds
+
+  input_step : (n : ℕ) (ws : List Bytes) (r : Reading) → in_block here (in_line 0 b n ws) ≡ Ok r → Adds k in_graph names defs b r
+  input_step n ws r h =
+      let into : IntoBlock here (in_line 0 b n ws) r = into_block here (in_line 0 b n ws) r h in
+      let i : InRead 0 b into.block = in_read 0 b n ws into.block into.is in
+      let c : Block = record b { ins = b.ins ++ i.port ∷ [] } in
+      let first : b.part ≡ 0 = equal b.part 0 i.at in
+      from (in_line 0 b n ws) r c into i.after_is
+      (block_adds k in_graph names defs b same (λ x. refl) c (port_words (codes "in") i.port) (λ m. k) (i.plain (codes "in") refl) refl
+      (ap (λ (ls : Lines). (codes "graph" ∷ b.name ∷ []) ∷ ls) (in_front (port_words (codes "in")) b.ins i.port _ (no_output_lines (omega arith))))
+      (λ m. ap (in_block there) (i.again k defs m (codes "in") same))
+      (λ m. alike k defs b c same refl refl refl refl)
+      (record { no_outs = order.no_outs; no_references = order.no_references; no_edges = order.no_edges }))
+
+  output_step : (n : ℕ) (ws : List Bytes) (r : Reading) → in_block here (out_line 0 1 b n ws) ≡ Ok r → Adds k in_graph names defs b r
+  output_step n ws r h =
+      let into : IntoBlock here (out_line 0 1 b n ws) r = into_block here (out_line 0 1 b n ws) r h in
+      let i : OutRead 0 1 b into.block = out_read 0 1 b n ws into.block into.is in
+      let c : Block = record b { part = 1; outs = b.outs ++ i.port ∷ [] } in
+      let high : b.part ≤ 1 = i.high in
+      from (out_line 0 1 b n ws) r c into i.after_is
+      (block_adds k in_graph names defs b same (λ x. refl) c (port_words (codes "out") i.port) (λ m. k) (i.plain (codes "out") refl) refl
+      (ap (λ (ls : Lines). (codes "graph" ∷ b.name ∷ []) ∷ ls)
+      (behind inputs _ _ (port_words (codes "out") i.port) (in_front (port_words (codes "out")) b.outs i.port _ (no_reference_lines (omega arith)))))
+      (λ m. ap (in_block there) (i.again k defs m (codes "out") same))
+      (λ m. alike k defs b c same refl refl refl refl)
+      (record { no_outs = λ low. absurd (omega (arith, low)); no_references = λ low. order.no_references (omega arith); no_edges = λ low. order.no_edges (omega arith) }))
+
+  abbrev with_reference : Reference → Block
+  with_reference x = record b { part = 2; references = b.references ++ x ∷ [] }
+
+  reference_adds : (n : ℕ) (w def : Bytes) → is_name w ≡ true → is_name def ≡ true → b.part ≤ 2 → nat_lt 2 b.part ≡ false → nat_lt 63 (length b.references) ≡ false → is_among w (map (λ x. x.name) b.references) ≡ false
+      → Adds k in_graph names defs b (record here { block = with_reference (record { name = w; def = def; line = n }) })
+  reference_adds n w def named known high order_is few free =
+      let at : ℕ → Reference = λ m. record { name = w; def = def; line = m } in
+      block_adds k in_graph names defs b same (λ x. refl) (with_reference (at n)) (reference_words (at n)) (λ m. record k { references = k.references ++ at m ∷ [] })
+      (key_words (codes "ref") w def refl (name_word w named) (name_word def known)) refl
+      (ap (λ (ls : Lines). (codes "graph" ∷ b.name ∷ []) ∷ ls)
+      (behind inputs _ _ (reference_words (at n)) (behind outputs _ _ (reference_words (at n)) (in_front reference_words b.references (at n) edges (no_edge_lines (omega arith))))))
+      (λ m. ap (in_block there) (passes _ _ _ _ order_is (holds _ _ _ _ named (holds _ _ _ _ known
+      (passes _ _ _ _ (ap (nat_lt 63) (same_length bare_reference k.references b.references same.references_same) ∙ few)
+      (passes _ _ _ _ (ap (is_among w) (same_names k.references b.references same.references_same) ∙ free) refl))))))
+      (λ m. record {
+        defs_same = same.defs_same;
+        references_same = more bare_reference k.references b.references (at m) (at n) same.references_same refl;
+        edges_same = same.edges_same;
+        cases_same = same.cases_same;
+        frontier_same = same.frontier_same;
+      })
+      (record { no_outs = λ low. absurd (omega (arith, low)); no_references = λ low. absurd (omega (arith, low)); no_edges = λ low. order.no_edges (omega arith) })
+
+  reference_step : (n : ℕ) (ws : List Bytes) (r : Reading) → in_block here (reference_line b n ws) ≡ Ok r → Adds k in_graph names defs b r
+  reference_step n ws r h =
+      let into : IntoBlock here (reference_line b n ws) r = into_block here (reference_line b n ws) r h in
+      let form = passed (not (length ws == 3) || nat_lt 2 b.part) _ _ into.block into.is in
+      let order_is = neither (not (length ws == 3)) (nat_lt 2 b.part) form.0 in
+      let named = held (is_name (word ws 1)) _ _ into.block form.1 in
+      let known = held (is_name (word ws 2)) _ _ into.block named.1 in
+      let few = passed (nat_lt 63 (length b.references)) _ _ into.block known.1 in
+      let free = passed (is_among (word ws 1) (map (λ x. x.name) b.references)) _ _ into.block few.1 in
+      from (reference_line b n ws) r _ into (same_ok _ into.block free.1)
+      (reference_adds n (word ws 1) (word ws 2) named.0 known.0 (at_most 2 b.part order_is.1) order_is.1 few.0 free.0)
+
+  abbrev with_edge : Edge → Block
+  with_edge x = record b { part = 3; edges = b.edges ++ x ∷ [] }
+
+  edge_adds : (n : ℕ) (v w : Bytes) (from_end to_end : End) → end_of v ≡ Some from_end → end_of w ≡ Some to_end
+      → Adds k in_graph names defs b (record here { block = with_edge (record { from = from_end; to = to_end; line = n }) })
+  edge_adds n v w from_end to_end first second =
+      let at : ℕ → Edge = λ m. record { from = from_end; to = to_end; line = m } in
+      block_adds k in_graph names defs b same (λ x. refl) (with_edge (at n)) (edge_words (at n)) (λ m. record k { edges = k.edges ++ at m ∷ [] })
+      (key_words (codes "edge") (end_word from_end) (end_word to_end) refl ((end_read v from_end first).plain) ((end_read w to_end second).plain)) refl
+      (ap (λ (ls : Lines). (codes "graph" ∷ b.name ∷ []) ∷ ls)
+      (behind inputs _ _ (edge_words (at n)) (behind outputs _ _ (edge_words (at n)) (behind references edges _ (edge_words (at n)) (map-append edge_words b.edges (at n ∷ []))))))
+      (λ m. ap (in_block there) (finds _ _ _ _ from_end (end_again v from_end first) (finds _ _ _ _ to_end (end_again w to_end second) refl)))
+      (λ m. record {
+        defs_same = same.defs_same;
+        references_same = same.references_same;
+        edges_same = more bare_edge k.edges b.edges (at m) (at n) same.edges_same refl;
+        cases_same = same.cases_same;
+        frontier_same = same.frontier_same;
+      })
+      (record { no_outs = λ low. absurd (omega (arith, low)); no_references = λ low. absurd (omega (arith, low)); no_edges = λ low. absurd (omega (arith, low)) })
+
+  edge_step : (n : ℕ) (ws : List Bytes) (r : Reading) → in_block here (edge_line b n ws) ≡ Ok r → Adds k in_graph names defs b r
+  edge_step n ws r h =
+      let into : IntoBlock here (edge_line b n ws) r = into_block here (edge_line b n ws) r h in
+      let form = passed (not (length ws == 3)) _ _ into.block into.is in
+      let first = found (end_of (word ws 1)) _ _ into.block form.1 in
+      let second = found (end_of (word ws 2)) _ _ into.block first.2 in
+      from (edge_line b n ws) r _ into (same_ok _ into.block second.2) (edge_adds n (word ws 1) (word ws 2) first.0 second.0 first.1 second.1)
+
+  graph_end : (n : ℕ) (ws : List Bytes) (r : Reading) → block_end true (Graph b.ins b.outs b.references b.edges) here n ws ≡ Ok r → Adds k in_graph names defs b r
+  graph_end n ws r h =
+      let form = passed (not (length ws == 1) || not true) _ _ r h in
+      subst (λ (x : Reading). Adds k in_graph names defs b x) (same_ok _ r form.1)
+      (end_adds k in_graph names defs b same (λ x. refl) (Graph b.ins b.outs b.references b.edges) (Graph b.ins b.outs k.references k.edges) refl
+      (ap₂ (λ (rs : List Reference) (es : List Edge). Graph b.ins b.outs rs es) same.references_same same.edges_same) tt
+      (λ m. refl))
+
+  pub graph_step : (n : ℕ) (ws : List Bytes) (r : Reading) → graph_line here n ws ≡ Ok r → Adds k in_graph names defs b r
+  graph_step n ws r h =
+      either (begins ws (codes "in")) _ _ r h (input_step n ws r) (λ h1.
+      either (begins ws (codes "out")) _ _ r h1 (output_step n ws r) (λ h2.
+      either (begins ws (codes "ref")) _ _ r h2 (reference_step n ws r) (λ h3.
+      either (begins ws (codes "edge")) _ _ r h3 (edge_step n ws r) (λ h4.
+      either (begins ws (codes "end")) _ _ r h4 (graph_end n ws r) (λ h5. never _ r h5)))))

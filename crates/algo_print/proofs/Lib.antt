@@ -1,0 +1,16 @@
+pub mod Texts
+pub mod Pieces
+pub mod Fits
+pub mod Spelled
+pub mod Answers
+pub mod State
+pub mod Between
+pub mod BlockLines
+pub mod Functions
+pub mod Ends
+pub mod Graphs
+pub mod Repeats
+pub mod Switches
+pub mod Back
+pub mod Bare
+pub mod Rows

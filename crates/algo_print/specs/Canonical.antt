@@ -1,0 +1,124 @@
+-- The canonical text of definitions: the one form of each line, words separated by one space, no empty lines and no comments.
+use Rattle.std.specs.Prelude.{ℕ, List, [], ◌∷◌, ◌++◌, map, All, Option, Some, None, codes, ℤ, pos}
+use Rattle.std.specs.Fmt.{signed_decimal}
+use Rattle.body_lang.specs.declared.expression.Port.{Port}
+use Rattle.body_text.specs.Canonical.{canonical, IsRead}
+use Rattle.algo_defs.specs.declared.definition.Def.{Def}
+use Rattle.algo_defs.specs.declared.definition.Body.{Body}
+use Rattle.algo_defs.specs.declared.definition.Body.TheVariants.{Sensor, Actuator, Constant, Delay, Function, Graph, Switch, Repeat}
+use Rattle.algo_defs.specs.declared.definition.Output.{Output}
+use Rattle.algo_defs.specs.declared.definition.Reference.{Reference}
+use Rattle.algo_defs.specs.declared.definition.End.{End}
+use Rattle.algo_defs.specs.declared.definition.Edge.{Edge}
+use Rattle.algo_defs.specs.declared.definition.Case.{Case}
+use Rattle.algo_defs.specs.declared.definition.Frontier.{Frontier}
+use Rattle.algo_defs.specs.declared.definition.Frontier.TheVariants.{Fork, Diffuse, Iterate, Join}
+use Rattle.algo_defs.specs.declared.definition.FrontierLine.{FrontierLine}
+use Rattle.algo_defs.specs.Words.{Bytes}
+
+-- words, each behind a space
+abbrev pub spaced : List Bytes → Bytes
+spaced [] = []
+spaced (w ∷ ws) = 32 ∷ (w ++ spaced ws)
+
+-- words separated by one space
+abbrev pub joined : List Bytes → Bytes
+joined [] = []
+joined (w ∷ ws) = w ++ spaced ws
+
+abbrev pub line_of : List Bytes → Bytes
+line_of ws = joined ws ++ 10 ∷ []
+
+-- lines of words, each ended by a line feed
+abbrev pub text_of : List (List Bytes) → Bytes
+text_of [] = []
+text_of (ws ∷ lines) = line_of ws ++ text_of lines
+
+abbrev pub count : ℕ → Bytes
+count n = signed_decimal (pos n)
+
+abbrev pub port_words : Bytes → Port → List Bytes
+port_words key p = key ∷ p.name ∷ count p.len ∷ []
+
+-- the output of a function with these inputs
+abbrev pub output_words : List Port → Output → List Bytes
+output_words ins o = codes "out" ∷ o.port.name ∷ count o.port.len ∷ codes "=" ∷ canonical (map (λ p. p.name) ins) o.formula ∷ []
+
+abbrev pub reference_words : Reference → List Bytes
+reference_words r = codes "ref" ∷ r.name ∷ r.def ∷ []
+
+abbrev pub owned : Option Bytes → Bytes → Bytes
+owned None port = port
+owned (Some owner) port = owner ++ 46 ∷ port
+
+abbrev pub end_word : End → Bytes
+end_word e = owned e.owner e.port
+
+abbrev pub edge_words : Edge → List Bytes
+edge_words e = codes "edge" ∷ end_word e.from ∷ end_word e.to ∷ []
+
+abbrev pub case_words : Case → List Bytes
+case_words c = codes "case" ∷ signed_decimal c.value ∷ c.def ∷ []
+
+abbrev pub words_of_frontier : Frontier → List Bytes
+words_of_frontier (Fork outer inner) = codes "fork" ∷ outer ∷ inner ∷ []
+words_of_frontier (Diffuse outer inner) = codes "diffuse" ∷ outer ∷ inner ∷ []
+words_of_frontier (Iterate outer inner given last) = codes "iterate" ∷ outer ∷ inner ∷ given ∷ last ∷ []
+words_of_frontier (Join given outer) = codes "join" ∷ given ∷ outer ∷ []
+
+abbrev pub frontier_words : FrontierLine → List Bytes
+frontier_words l = words_of_frontier l.frontier
+
+abbrev pub value_words : Bytes → Bytes → List ℤ → List Bytes
+value_words key name values = key ∷ name ∷ codes "=" ∷ map signed_decimal values
+
+abbrev pub end_words : List Bytes
+end_words = codes "end" ∷ []
+
+-- the lines of a function or a graph between its first and its last, each kind of line in its order
+abbrev pub function_lines : List Port → List Output → List (List Bytes)
+function_lines ins outs = map (port_words (codes "in")) ins ++ map (output_words ins) outs
+
+abbrev pub graph_lines : List Port → List Port → List Reference → List Edge → List (List Bytes)
+graph_lines ins outs references edges = map (port_words (codes "in")) ins ++ (map (port_words (codes "out")) outs ++ (map reference_words references ++ map edge_words edges))
+
+-- the lines of a switch between its first and the one with `otherwise`
+abbrev pub switch_lines : Bytes → List Port → List Port → List Case → List (List Bytes)
+switch_lines on ins outs cases = (codes "on" ∷ on ∷ []) ∷ (map (port_words (codes "in")) ins ++ (map (port_words (codes "out")) outs ++ map case_words cases))
+
+-- the last lines of a switch
+abbrev pub otherwise_lines : Bytes → List (List Bytes)
+otherwise_lines def = (codes "otherwise" ∷ def ∷ []) ∷ end_words ∷ []
+
+abbrev pub whole_switch : Bytes → Bytes → List Port → List Port → List Case → Bytes → List (List Bytes)
+whole_switch name on ins outs cases otherwise = (codes "switch" ∷ name ∷ []) ∷ (switch_lines on ins outs cases ++ otherwise_lines otherwise)
+
+-- the lines of a definition of this name
+abbrev pub body_lines : Bytes → Body → List (List Bytes)
+body_lines name (Sensor len) = (codes "sensor" ∷ name ∷ count len ∷ []) ∷ []
+body_lines name (Actuator len) = (codes "actuator" ∷ name ∷ count len ∷ []) ∷ []
+body_lines name (Constant values) = value_words (codes "constant") name values ∷ []
+body_lines name (Delay values) = value_words (codes "delay") name values ∷ []
+body_lines name (Function ins outs) = (codes "function" ∷ name ∷ []) ∷ (function_lines ins outs ++ end_words ∷ [])
+body_lines name (Graph ins outs references edges) = (codes "graph" ∷ name ∷ []) ∷ (graph_lines ins outs references edges ++ end_words ∷ [])
+body_lines name (Switch on ins outs cases otherwise line) = whole_switch name on ins outs cases otherwise
+body_lines name (Repeat copies def lines) = (codes "repeat" ∷ name ∷ count copies ∷ def ∷ []) ∷ (map frontier_words lines ++ end_words ∷ [])
+
+abbrev pub definition_lines : List Def → List (List Bytes)
+definition_lines [] = []
+definition_lines (d ∷ ds) = body_lines d.name d.body ++ definition_lines ds
+
+abbrev pub version_words : List Bytes
+version_words = codes "algorithm" ∷ codes "1" ∷ []
+
+-- the canonical text
+abbrev pub canonical_text : List Def → Bytes
+canonical_text ds = text_of (version_words ∷ definition_lines ds)
+
+-- each expression of a function is what some text over its inputs says
+abbrev pub IsPrintable : Body → Type 0
+IsPrintable (Function ins outs) = All (λ o. IsRead (map (λ p. p.name) ins) o.formula) outs
+IsPrintable _ = Unit {0}
+
+abbrev pub ArePrintable : List Def → Type 0
+ArePrintable ds = All (λ d. IsPrintable d.body) ds

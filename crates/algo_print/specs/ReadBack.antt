@@ -1,0 +1,43 @@
+-- Definitions up to the numbers of their lines, and what it is to read back.
+use Rattle.std.specs.Prelude.{◌≡◌, List, map, Ok}
+use Rattle.algo_defs.specs.declared.definition.Def.{Def}
+use Rattle.algo_defs.specs.declared.definition.Body.{Body}
+use Rattle.algo_defs.specs.declared.definition.Body.TheVariants.{Sensor, Actuator, Constant, Delay, Function, Graph, Switch, Repeat}
+use Rattle.algo_defs.specs.declared.definition.Reference.{Reference}
+use Rattle.algo_defs.specs.declared.definition.Edge.{Edge}
+use Rattle.algo_defs.specs.declared.definition.Case.{Case}
+use Rattle.algo_defs.specs.declared.definition.FrontierLine.{FrontierLine}
+use Rattle.algo_defs.specs.Words.{Bytes}
+use Rattle.algo_defs.specs.Text.{definitions_of}
+
+-- the same with its line's number forgotten
+abbrev pub bare_reference : Reference → Reference
+bare_reference r = record { name = r.name; def = r.def; line = 0 }
+
+abbrev pub bare_edge : Edge → Edge
+bare_edge e = record { from = e.from; to = e.to; line = 0 }
+
+abbrev pub bare_case : Case → Case
+bare_case c = record { value = c.value; def = c.def; line = 0 }
+
+abbrev pub bare_frontier : FrontierLine → FrontierLine
+bare_frontier l = record { frontier = l.frontier; line = 0 }
+
+abbrev pub bare_body : Body → Body
+bare_body (Sensor len) = Sensor len
+bare_body (Actuator len) = Actuator len
+bare_body (Constant values) = Constant values
+bare_body (Delay values) = Delay values
+bare_body (Function ins outs) = Function ins outs
+bare_body (Graph ins outs references edges) = Graph ins outs (map bare_reference references) (map bare_edge edges)
+bare_body (Switch on ins outs cases otherwise line) = Switch on ins outs (map bare_case cases) otherwise 0
+bare_body (Repeat copies def lines) = Repeat copies def (map bare_frontier lines)
+
+abbrev pub bare : Def → Def
+bare d = record { name = d.name; line = 0; body = bare_body d.body }
+
+-- the text says these definitions, at whatever lines
+pub record Says (text : Bytes) (defs : List Def) : Type 0 where
+  pub read : List Def
+  pub says : definitions_of text ≡ Ok read
+  pub same : map bare read ≡ map bare defs

@@ -1,0 +1,204 @@
+//! Lists of lines, and the blocks that are made of them.
+ghost use Rattle.std.specs.Prelude.{◌≡◌, ◌++◌, ◌∷◌, [], All, OnOk, codes, map};
+ghost use Rattle.std.specs.Fmt.{signed_decimal};
+ghost use Rattle.body_text.specs.Canonical.{IsRead};
+ghost use Rattle.algo_print.specs.Canonical.{text_of, line_of, spaced, port_words, output_words, reference_words, edge_words, case_words, frontier_words, value_words, switch_lines, whole_switch, body_lines, count};
+ghost use Rattle.algo_defs.specs.declared.definition.Body.TheVariants.{Function, Graph, Repeat};
+
+use crate::lines::{print_case, print_edge, print_frontier, print_output};
+use crate::words::{print_named, print_pair, print_sized, put, put_count, put_number, put_word};
+use algo_defs::{Case, Edge, FrontierLine, Output, Reference};
+use body_lang::Port;
+use syn_base::OutOfMemory;
+
+/// Appends the line of a constant or a delay.
+pub(crate) fn print_values(
+    key: &[u8],
+    name: &[u8],
+    values: &[i64],
+    text: &mut Vec<u8>,
+) -> Result<(), OutOfMemory>
+    ensures { OnOk result (text.new.items ≡ text.old.items ++ line_of (value_words key.now name.now values.now)) }
+{
+    put(key, text)?;
+    put_word(name, text)?;
+    put(b" =", text)?;
+    put_numbers(values, text)?;
+    put(b"\n", text)
+}
+
+/// Appends numbers, each behind a space.
+fn put_numbers(values: &[i64], text: &mut Vec<u8>) -> Result<(), OutOfMemory>
+    ensures { OnOk result (text.new.items ≡ text.old.items ++ spaced (map signed_decimal values.now)) }
+{
+    for value in values {
+        put_number(*value, text)?;
+    }
+    Ok(())
+}
+
+/// Appends the lines of ports, of which each begins with this word.
+fn print_ports(key: &[u8], ports: &[Port], text: &mut Vec<u8>) -> Result<(), OutOfMemory>
+    ensures { OnOk result (text.new.items ≡ text.old.items ++ text_of (map (port_words key.now) ports.now)) }
+{
+    for port in ports {
+        print_sized(key, port.name.as_bytes(), port.len, text)?;
+    }
+    Ok(())
+}
+
+/// Appends the lines of outputs of a function with these inputs.
+fn print_outputs(ins: &[Port], outputs: &[Output], text: &mut Vec<u8>) -> Result<(), OutOfMemory>
+    requires { All (λ o. IsRead (map (λ p. p.name) ins.now) o.formula) outputs.now }
+    ensures { OnOk result (text.new.items ≡ text.old.items ++ text_of (map (output_words ins.now) outputs.now)) }
+{
+    for output in outputs {
+        print_output(ins, output, text)?;
+    }
+    Ok(())
+}
+
+/// Appends the lines of references.
+fn print_references(references: &[Reference], text: &mut Vec<u8>) -> Result<(), OutOfMemory>
+    ensures { OnOk result (text.new.items ≡ text.old.items ++ text_of (map reference_words references.now)) }
+{
+    for reference in references {
+        print_pair(
+            b"ref",
+            reference.name.as_bytes(),
+            reference.def.as_bytes(),
+            text,
+        )?;
+    }
+    Ok(())
+}
+
+/// Appends the lines of edges.
+fn print_edges(edges: &[Edge], text: &mut Vec<u8>) -> Result<(), OutOfMemory>
+    ensures { OnOk result (text.new.items ≡ text.old.items ++ text_of (map edge_words edges.now)) }
+{
+    for edge in edges {
+        print_edge(edge, text)?;
+    }
+    Ok(())
+}
+
+/// Appends the lines of cases.
+fn print_cases(cases: &[Case], text: &mut Vec<u8>) -> Result<(), OutOfMemory>
+    ensures { OnOk result (text.new.items ≡ text.old.items ++ text_of (map case_words cases.now)) }
+{
+    for case in cases {
+        print_case(case, text)?;
+    }
+    Ok(())
+}
+
+/// Appends the frontier lines of a repetition.
+fn print_frontiers(lines: &[FrontierLine], text: &mut Vec<u8>) -> Result<(), OutOfMemory>
+    ensures { OnOk result (text.new.items ≡ text.old.items ++ text_of (map frontier_words lines.now)) }
+{
+    for line in lines {
+        print_frontier(&line.frontier, text)?;
+    }
+    Ok(())
+}
+
+/// Appends the lines of a function.
+pub(crate) fn print_function(
+    name: &[u8],
+    ins: &[Port],
+    outs: &[Output],
+    text: &mut Vec<u8>,
+) -> Result<(), OutOfMemory>
+    requires { All (λ o. IsRead (map (λ p. p.name) ins.now) o.formula) outs.now }
+    ensures { OnOk result (text.new.items ≡ text.old.items ++ text_of (body_lines name.now (Function ins.now outs.now))) }
+{
+    print_named(b"function", name, text)?;
+    print_ports(b"in", ins, text)?;
+    print_outputs(ins, outs, text)?;
+    put(b"end\n", text)
+}
+
+/// Appends the lines of a graph.
+pub(crate) fn print_graph(
+    name: &[u8],
+    ins: &[Port],
+    outs: &[Port],
+    references: &[Reference],
+    edges: &[Edge],
+    text: &mut Vec<u8>,
+) -> Result<(), OutOfMemory>
+    ensures { OnOk result (text.new.items ≡ text.old.items ++ text_of (body_lines name.now (Graph ins.now outs.now references.now edges.now))) }
+{
+    print_named(b"graph", name, text)?;
+    print_ports(b"in", ins, text)?;
+    print_ports(b"out", outs, text)?;
+    print_references(references, text)?;
+    print_edges(edges, text)?;
+    put(b"end\n", text)
+}
+
+/// Appends the lines of a switch.
+pub(crate) fn print_switch(
+    name: &[u8],
+    on: &[u8],
+    ins: &[Port],
+    outs: &[Port],
+    cases: &[Case],
+    otherwise: &[u8],
+    text: &mut Vec<u8>,
+) -> Result<(), OutOfMemory>
+    ensures { OnOk result (text.new.items ≡ text.old.items ++ text_of (whole_switch name.now on.now ins.now outs.now cases.now otherwise.now)) }
+{
+    print_named(b"switch", name, text)?;
+    print_inputs_and_cases(on, ins, outs, cases, text)?;
+    print_named(b"otherwise", otherwise, text)?;
+    put(b"end\n", text)
+}
+
+/// Appends the lines of a switch between its first and the one with `otherwise`.
+fn print_inputs_and_cases(
+    on: &[u8],
+    ins: &[Port],
+    outs: &[Port],
+    cases: &[Case],
+    text: &mut Vec<u8>,
+) -> Result<(), OutOfMemory>
+    ensures { OnOk result (text.new.items ≡ text.old.items ++ text_of (switch_lines on.now ins.now outs.now cases.now)) }
+{
+    print_named(b"on", on, text)?;
+    print_ports(b"in", ins, text)?;
+    print_ports(b"out", outs, text)?;
+    print_cases(cases, text)
+}
+
+/// Appends the lines of a repetition.
+pub(crate) fn print_repeat(
+    name: &[u8],
+    copies: u32,
+    def: &[u8],
+    lines: &[FrontierLine],
+    text: &mut Vec<u8>,
+) -> Result<(), OutOfMemory>
+    ensures { OnOk result (text.new.items ≡ text.old.items ++ text_of (body_lines name.now (Repeat copies def.now lines.now))) }
+{
+    print_repeated(name, copies, def, text)?;
+    print_frontiers(lines, text)?;
+    put(b"end\n", text)
+}
+
+/// Appends the first line of a repetition.
+fn print_repeated(
+    name: &[u8],
+    copies: u32,
+    def: &[u8],
+    text: &mut Vec<u8>,
+) -> Result<(), OutOfMemory>
+    ensures { OnOk result (text.new.items ≡ text.old.items ++ line_of (codes "repeat" ∷ name.now ∷ count copies ∷ def.now ∷ [])) }
+{
+    put(b"repeat", text)?;
+    put_word(name, text)?;
+    put_count(copies, text)?;
+    put_word(def, text)?;
+    put(b"\n", text)
+}

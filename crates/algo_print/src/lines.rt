@@ -1,0 +1,91 @@
+//! The lines of a block, each kind by itself.
+ghost use Rattle.std.specs.Prelude.{◌≡◌, ◌++◌, ◌∷◌, [], OnOk, codes, map};
+ghost use Rattle.body_text.specs.Canonical.{IsRead};
+ghost use Rattle.algo_print.specs.Canonical.{end_word, line_of, output_words, edge_words, case_words, frontier_words, words_of_frontier};
+
+use crate::words::{print_pair, put, put_count, put_number, put_word};
+use algo_defs::{Case, Edge, End, Frontier, Output};
+use body_lang::Port;
+use body_text::print_body;
+use syn_base::OutOfMemory;
+
+/// Appends the line of an output of a function with these inputs.
+pub(crate) fn print_output(
+    ins: &[Port],
+    output: &Output,
+    text: &mut Vec<u8>,
+) -> Result<(), OutOfMemory>
+    requires { IsRead (map (λ p. p.name) ins.now) output.now.formula }
+    ensures { OnOk result (text.new.items ≡ text.old.items ++ line_of (output_words ins.now output.now)) }
+{
+    put(b"out", text)?;
+    put_word(output.port.name.as_bytes(), text)?;
+    put_count(output.port.len, text)?;
+    put(b" = ", text)?;
+    print_body(output.formula.expr(), ins, text)?;
+    put(b"\n", text)
+}
+
+/// Appends a space and an end of an edge.
+fn put_end(end: &End, text: &mut Vec<u8>) -> Result<(), OutOfMemory>
+    ensures { OnOk result (text.new.items ≡ text.old.items ++ 32 ∷ end_word end.now) }
+{
+    match &end.owner {
+        None => put_word(end.port.as_bytes(), text),
+        Some(owner) => {
+            put_word(owner.as_bytes(), text)?;
+            put(b".", text)?;
+            put(end.port.as_bytes(), text)
+        }
+    }
+}
+
+/// Appends the line of an edge.
+pub(crate) fn print_edge(edge: &Edge, text: &mut Vec<u8>) -> Result<(), OutOfMemory>
+    ensures { OnOk result (text.new.items ≡ text.old.items ++ line_of (edge_words edge.now)) }
+{
+    put(b"edge", text)?;
+    put_end(&edge.from, text)?;
+    put_end(&edge.to, text)?;
+    put(b"\n", text)
+}
+
+/// Appends the line of a case.
+pub(crate) fn print_case(case: &Case, text: &mut Vec<u8>) -> Result<(), OutOfMemory>
+    ensures { OnOk result (text.new.items ≡ text.old.items ++ line_of (case_words case.now)) }
+{
+    put(b"case", text)?;
+    put_number(case.value, text)?;
+    put_word(case.def.as_bytes(), text)?;
+    put(b"\n", text)
+}
+
+/// Appends the frontier line of a repetition.
+pub(crate) fn print_frontier(frontier: &Frontier, text: &mut Vec<u8>) -> Result<(), OutOfMemory>
+    ensures { OnOk result (text.new.items ≡ text.old.items ++ line_of (words_of_frontier frontier.now)) }
+{
+    match frontier {
+        Frontier::Fork { outer, inner } => {
+            print_pair(b"fork", outer.as_bytes(), inner.as_bytes(), text)
+        }
+        Frontier::Diffuse { outer, inner } => {
+            print_pair(b"diffuse", outer.as_bytes(), inner.as_bytes(), text)
+        }
+        Frontier::Iterate {
+            outer,
+            inner,
+            given,
+            last,
+        } => {
+            put(b"iterate", text)?;
+            put_word(outer.as_bytes(), text)?;
+            put_word(inner.as_bytes(), text)?;
+            put_word(given.as_bytes(), text)?;
+            put_word(last.as_bytes(), text)?;
+            put(b"\n", text)
+        }
+        Frontier::Join { given, outer } => {
+            print_pair(b"join", given.as_bytes(), outer.as_bytes(), text)
+        }
+    }
+}

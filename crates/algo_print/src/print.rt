@@ -1,0 +1,83 @@
+//! The whole text.
+ghost use Rattle.std.specs.Prelude.{◌≡◌, ◌++◌, ◌∷◌, [], OnOk, OnErr, codes};
+ghost use Rattle.algo_print.specs.Canonical.{canonical_text, text_of, body_lines, definition_lines, version_words, ArePrintable, IsPrintable};
+
+use crate::blocks::{print_function, print_graph, print_repeat, print_switch, print_values};
+use crate::words::{print_sized, put};
+use algo_defs::{Body, Def, Defs};
+use std::alloc::Global;
+use syn_base::OutOfMemory;
+
+/// Appends the canonical text of definitions, whose expressions were read over the inputs of their
+/// functions: each line's words separated by one space, no empty lines or comments, numbers and
+/// expressions in their canonical form. After want of memory `out` is as before.
+pub fn print_algo(alloc: Global, defs: &Defs, out: &mut Vec<u8>) -> Result<(), OutOfMemory>
+    requires { ArePrintable defs.now.defs }
+    ensures text { OnOk result (out.new.items ≡ out.old.items ++ canonical_text defs.now.defs) }
+    ensures err { OnErr result (out.new.items ≡ out.old.items) }
+{
+    let mut text = Vec::new(alloc);
+    put(b"algorithm 1\n", &mut text)?;
+    print_definitions(defs.defs.as_slice(), &mut text)?;
+    out.extend_from_slice(text.as_slice())?;
+    Ok(())
+}
+
+/// Appends the lines of definitions.
+fn print_definitions(defs: &[Def], text: &mut Vec<u8>) -> Result<(), OutOfMemory>
+    requires { ArePrintable defs.now }
+    ensures { OnOk result (text.new.items ≡ text.old.items ++ text_of (definition_lines defs.now)) }
+{
+    for def in defs {
+        print_definition(def.name.as_bytes(), &def.body, text)?;
+    }
+    Ok(())
+}
+
+/// Appends the lines of a definition of this name.
+fn print_definition(name: &[u8], body: &Body, text: &mut Vec<u8>) -> Result<(), OutOfMemory>
+    requires { IsPrintable body.now }
+    ensures { OnOk result (text.new.items ≡ text.old.items ++ text_of (body_lines name.now body.now)) }
+{
+    match body {
+        Body::Sensor(len) => print_sized(b"sensor", name, *len, text),
+        Body::Actuator(len) => print_sized(b"actuator", name, *len, text),
+        Body::Constant(values) => print_values(b"constant", name, values.as_slice(), text),
+        Body::Delay(values) => print_values(b"delay", name, values.as_slice(), text),
+        Body::Function { ins, outs } => {
+            print_function(name, ins.as_slice(), outs.as_slice(), text)
+        }
+        Body::Graph {
+            ins,
+            outs,
+            references,
+            edges,
+        } => print_graph(
+            name,
+            ins.as_slice(),
+            outs.as_slice(),
+            references.as_slice(),
+            edges.as_slice(),
+            text,
+        ),
+        Body::Switch {
+            on,
+            ins,
+            outs,
+            cases,
+            otherwise,
+            ..
+        } => print_switch(
+            name,
+            on.as_bytes(),
+            ins.as_slice(),
+            outs.as_slice(),
+            cases.as_slice(),
+            otherwise.as_bytes(),
+            text,
+        ),
+        Body::Repeat { copies, def, lines } => {
+            print_repeat(name, *copies, def.as_bytes(), lines.as_slice(), text)
+        }
+    }
+}
