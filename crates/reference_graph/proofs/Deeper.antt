@@ -54,9 +54,9 @@ rows_bound m (x ∷ xs) all (suc b) = rows_bound m xs (All-tail (λ d. d ≤ m) 
 pub rounds_bound : (g : Links) (n b : ℕ) → get_or (depths_within g n) b 0 ≤ n
 rounds_bound g n = rows_bound n (depths_within g n)
     (λ k d l.
-        let len = length-map-range_with_len (depth_within g n) 0 (length g) in
-        let same : get_or (depths_within g n) k d ≡ depth_within g n k = get_or-map-range_with_len (depth_within g n) 0 (length g) k k d (omega (arith, len, l)) (omega arith) in
-        omega (arith, same, within_bound g n k))
+    let len = length-map-range_with_len (depth_within g n) 0 (length g) in
+    let same : get_or (depths_within g n) k d ≡ depth_within g n k = get_or-map-range_with_len (depth_within g n) 0 (length g) k k d (omega (arith, len, l)) (omega arith) in
+    omega (arith, same, within_bound g n k))
 
 pub rounds_length : (g : Links) (n : ℕ) → length (depths_within g n) ≡ length g
 rounds_length g n = length-map-range_with_len (depth_within g n) 0 (length g)

@@ -41,8 +41,8 @@ kept : (ds : List ℕ) (a d : ℕ) (refs : List ℕ) → get_or ds a 0 ≡ 0 →
     → greatest (map (slice_index (set ds a d)) refs) ≡ greatest (map (slice_index ds) refs)
 kept ds a d refs is_open all = same_greatest (slice_index (set ds a d)) (slice_index ds) refs
     (λ b c.
-        let other : b ≢ a = λ e. absurd (omega (arith, all b c, is_open, ap (λ (k : ℕ). get_or ds k 0) e)) in
-        get_or-set_other ds a b d 0 other)
+    let other : b ≢ a = λ e. absurd (omega (arith, all b c, is_open, ap (λ (k : ℕ). get_or ds k 0) e)) in
+    get_or-set_other ds a b d 0 other)
 
 record Step (g : Links) (ds : List ℕ) (n a d : ℕ) : Type 0 where
   inside : a < length ds

@@ -9,7 +9,8 @@ mod search;
 mod settling;
 mod walk;
 
-pub use depths::{depths_of, Depths};
+pub use depths::{Depths, depths_of};
+pub use links::are_inside;
 pub use search::reaching;
 
 #[cfg(test)]

@@ -10,11 +10,7 @@ use std::alloc::Global;
 use syn_base::{Items, OutOfMemory};
 
 /// The depths by these, references followed once more.
-fn one_deeper(
-    alloc: Global,
-    links: &[Items<u32>],
-    depths: &[u32],
-) -> Result<Vec<u32>, OutOfMemory>
+fn one_deeper(alloc: Global, links: &[Items<u32>], depths: &[u32]) -> Result<Vec<u32>, OutOfMemory>
     requires links { AreInside links.now }
     requires same { length depths.now ≡ length links.now }
     requires few { (b : ℕ) → slice_index depths.now b < 4000000000 }

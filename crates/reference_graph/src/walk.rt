@@ -74,7 +74,12 @@ impl Walk {
         })
     }
 
-    fn walk_from(&mut self, links: &[Items<u32>], root: u32, steps: usize) -> Result<(), OutOfMemory> {
+    fn walk_from(
+        &mut self,
+        links: &[Items<u32>],
+        root: u32,
+        steps: usize,
+    ) -> Result<(), OutOfMemory> {
         if self.mark(root).entered == 0 {
             self.enter(root)?;
         }
