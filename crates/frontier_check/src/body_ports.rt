@@ -1,8 +1,9 @@
 //! The ports of a definition.
-ghost use Rattle.std.specs.Prelude.{◌≡◌, ◌++◌, ◌∷◌, ◌≤◌, [], IfOk, OnOk, map};
+ghost use Rattle.std.specs.Prelude.{◌≡◌, ◌++◌, ◌∷◌, ◌≤◌, [], IfOk, IsTrue, OnOk, map};
 ghost use Rattle.std.specs.List.{flat_map};
 ghost use Rattle.algo_rules.specs.Ports.{port, ports_by, outer_ins, outer_outs};
-ghost use Rattle.frontier_check.specs.Bounds.{AreShort, HasShortPorts, IsBounded};
+ghost use Rattle.frontier_check.specs.Bounds.{HasShortPorts, IsBounded};
+ghost use Rattle.syn_base.specs.Name.{is_name};
 
 use crate::lookup::len_of;
 use algo_defs::{Body, Frontier, FrontierLine, Output};
@@ -51,7 +52,9 @@ pub fn ports_of_body(alloc: Global, body: &Body, inner: &Ports) -> Result<Ports,
     })
 }
 
+/// A port alone. Only memory can be short, since this is a name.
 fn one_port(alloc: Global, name: &[u8], len: u32) -> Result<Vec<Port>, OutOfMemory>
+    requires { IsTrue (is_name name.now) }
     ensures { IfOk result (λ v. v.items ≡ port name.now len ∷ []) }
 {
     let mut ports = Vec::new(alloc);
@@ -79,6 +82,7 @@ fn copy_ports(alloc: Global, ports: &[Port]) -> Result<Vec<Port>, OutOfMemory>
     Ok(copies)
 }
 
+/// Adds a copy of each port.
 fn add_ports(alloc: Global, ports: &[Port], copies: &mut Vec<Port>) -> Result<(), OutOfMemory>
     ensures { OnOk result (copies.new.items ≡ copies.old.items ++ ports.now) }
 {
@@ -88,6 +92,7 @@ fn add_ports(alloc: Global, ports: &[Port], copies: &mut Vec<Port>) -> Result<()
     Ok(())
 }
 
+/// The ports of a function's outputs.
 fn output_ports(alloc: Global, outs: &[Output]) -> Result<Vec<Port>, OutOfMemory>
     ensures { IfOk result (λ v. v.items ≡ map (λ o. o.port) outs.now) }
 {
@@ -160,10 +165,14 @@ fn add_in(
     ensures { OnOk result (ports.new.items ≡ ports.old.items ++ outer_ins copies inner.now frontier.now) }
 {
     let (name, len) = match frontier {
-        Frontier::Fork { outer, inner: input } => {
-            (outer, copies * len_of(inner.ins.as_slice(), input))
+        Frontier::Fork {
+            outer,
+            inner: input,
+        } => { (outer, copies * len_of(inner.ins.as_slice(), input)) }
+        Frontier::Diffuse {
+            outer,
+            inner: input,
         }
-        Frontier::Diffuse { outer, inner: input }
         | Frontier::Iterate {
             outer,
             inner: input,

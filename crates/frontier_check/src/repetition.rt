@@ -72,9 +72,7 @@ fn outer_len(
             let len = open_len(inner.ins.as_slice(), before, input)?;
             Some(copies * len)
         }
-        Frontier::Diffuse { inner: input, .. } => {
-            open_len(inner.ins.as_slice(), before, input)
-        }
+        Frontier::Diffuse { inner: input, .. } => { open_len(inner.ins.as_slice(), before, input) }
         Frontier::Iterate {
             inner: input,
             given,
@@ -98,7 +96,11 @@ fn open_len(ins: &[Port], before: &[FrontierLine], name: &Name) -> Option<u32>
     ensures short { IfSome result (λ len. len ≤ 64) }
 {
     let len = port_len(ins, name)?;
-    if is_used(before, name) { None } else { Some(len) }
+    if is_used(before, name) {
+        None
+    } else {
+        Some(len)
+    }
 }
 
 /// A line uses this inner input.

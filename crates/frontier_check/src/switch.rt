@@ -47,7 +47,7 @@ fn ports_at(table: &[Ports], place: u32) -> &Ports
 }
 
 /// A case behind others, of a definition with these ports.
-fn check_case(
+pub fn check_case(
     ins: &[Port],
     outs: &[Port],
     before: &[Case],

@@ -8,4 +8,4 @@ use Rattle.frontier_check.proofs.repetition.check_repeat.Given as goal
 abbrev pub invariant-loop-at : goal.invariant-loop-at
 invariant-loop-at l =
     first_of (frontier_faults l.copies l.inner (all_used (take l.at l.lines)) (drop l.at l.lines) ++ unfed l.copies l.inner l.line l.lines ∷ [])
-        ≡ repeat_fault l.copies l.inner l.line l.lines
+    ≡ repeat_fault l.copies l.inner l.line l.lines

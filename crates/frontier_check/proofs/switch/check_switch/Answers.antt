@@ -32,7 +32,7 @@ returns-in_err-check_case c =
     let ports = ports_here ds c.args.table.now c.args.otherwise.now c.args.cases.now c.args.places.now at case c.ports_at-ports.result.now c.requires.placed below c.index-cases-at.is c.ports_at-ports.ensures in
     let last = cond (fits c.args.ins.now c.args.outs.now (ports_of ds c.args.otherwise.now)) None (fault c.args.otherwise_line BadCase) in
     let told = refused_here (ports_of ds) c.args.ins.now c.args.outs.now c.args.cases.now at (last ∷ []) case c.ports_at-ports.result.now below c.index-cases-at.is ports c.in_err-check_case.field-0.0
-        (switch_fault (ports_of ds) c.args.ins.now c.args.outs.now c.args.cases.now c.args.otherwise.now c.args.otherwise_line) c.loop-at.invariant c.in_err-check_case.ensures in
+    (switch_fault (ports_of ds) c.args.ins.now c.args.outs.now c.args.cases.now c.args.otherwise.now c.args.otherwise_line) c.loop-at.invariant c.in_err-check_case.ensures in
     search (rules, told)
 
 pub loop-at-preserved : goal.loop-at-preserved
@@ -44,7 +44,7 @@ loop-at-preserved c =
     let ports = ports_here ds c.args.table.now c.args.otherwise.now c.args.cases.now c.args.places.now at case c.ports_at-ports.result.now c.requires.placed below c.index-cases-at.is c.ports_at-ports.ensures in
     let last = cond (fits c.args.ins.now c.args.outs.now (ports_of ds c.args.otherwise.now)) None (fault c.args.otherwise_line BadCase) in
     rw add-one (passed_here (ports_of ds) c.args.ins.now c.args.outs.now c.args.cases.now at (last ∷ []) case c.ports_at-ports.result.now below c.index-cases-at.is ports
-        (switch_fault (ports_of ds) c.args.ins.now c.args.outs.now c.args.cases.now c.args.otherwise.now c.args.otherwise_line) c.loop-at.invariant c.in_ok-check_case.ensures)
+    (switch_fault (ports_of ds) c.args.ins.now c.args.outs.now c.args.cases.now c.args.otherwise.now c.args.otherwise_line) c.loop-at.invariant c.in_ok-check_case.ensures)
 
 pub returns-then-not-fits : goal.returns-then-not-fits
 returns-then-not-fits c =
@@ -55,8 +55,8 @@ returns-then-not-fits c =
     let fails = c.if-not-fits.ensures ∙ ap (λ (p : Ports). fits c.args.ins.now c.args.outs.now p) ports in
     let last = fits c.args.ins.now c.args.outs.now (ports_of ds c.args.otherwise.now) in
     answered c.refusal.result (switch_fault (ports_of ds) c.args.ins.now c.args.outs.now c.args.cases.now c.args.otherwise.now c.args.otherwise_line)
-        (sym c.loop-at.invariant ∙ only_rest (ports_of ds) c.args.ins.now c.args.outs.now c.args.cases.now c.loop-at.at (cond last None none ∷ []) c.loop-at-test.false
-        ∙ fails_last last c.refusal.result none fails c.refusal.ensures)
+    (sym c.loop-at.invariant ∙ only_rest (ports_of ds) c.args.ins.now c.args.outs.now c.args.cases.now c.loop-at.at (cond last None none ∷ []) c.loop-at-test.false
+    ∙ fails_last last c.refusal.result none fails c.refusal.ensures)
 
 pub returns : goal.returns
 returns c =
@@ -67,4 +67,4 @@ returns c =
     let holds = c.if-not-fits.ensures ∙ ap (λ (p : Ports). fits c.args.ins.now c.args.outs.now p) ports in
     let last = fits c.args.ins.now c.args.outs.now (ports_of ds c.args.otherwise.now) in
     sym c.loop-at.invariant ∙ only_rest (ports_of ds) c.args.ins.now c.args.outs.now c.args.cases.now c.loop-at.at (cond last None none ∷ []) c.loop-at-test.false
-        ∙ fits_last last none holds
+    ∙ fits_last last none holds

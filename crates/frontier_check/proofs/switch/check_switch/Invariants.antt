@@ -9,5 +9,5 @@ use Rattle.frontier_check.proofs.switch.check_switch.Given as goal
 abbrev pub invariant-loop-at : goal.invariant-loop-at
 invariant-loop-at l =
     first_of (case_faults (ports_of l.defs) l.ins l.outs (map (λ c. c.value) (take l.at l.cases)) (drop l.at l.cases)
-        ++ cond (fits l.ins l.outs (ports_of l.defs l.otherwise)) None (fault l.otherwise_line BadCase) ∷ [])
-        ≡ switch_fault (ports_of l.defs) l.ins l.outs l.cases l.otherwise l.otherwise_line
+    ++ cond (fits l.ins l.outs (ports_of l.defs l.otherwise)) None (fault l.otherwise_line BadCase) ∷ [])
+    ≡ switch_fault (ports_of l.defs) l.ins l.outs l.cases l.otherwise l.otherwise_line
