@@ -1,3 +1,9 @@
+pub mod Apart
+pub mod Connected
+pub mod Endings
+pub mod Following
 pub mod Named
 pub mod Placed
+pub mod Places
+pub mod Sound
 pub mod Tables

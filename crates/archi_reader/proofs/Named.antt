@@ -1,5 +1,5 @@
 -- Operators and media by name.
-use Rattle.std.proofs.Common.{◌≡◌, ℕ, suc, ◌+◌, Bool, not, cond, ◌||◌, List, [], ◌∷◌, ◌++◌, length, map, Option, Some, None, position, nat_lt, refl, sym, ap, ◌∙◌}
+use Rattle.std.proofs.Common.{◌≡◌, ℕ, suc, ◌+◌, Bool, not, cond, ◌||◌, List, [], ◌∷◌, ◌++◌, length, map, Some, None, position, nat_lt, refl, ap, ◌∙◌}
 use Rattle.std.specs.List.{list_any, prefix_len, position_or_len}
 use Rattle.std.specs.Str.{bytes_eq}
 use Rattle.std.proofs.lemmas.List.Folds.{list_any-append}

@@ -1,5 +1,5 @@
 -- One operator more at a medium.
-use Rattle.std.proofs.Common.{◌≡◌, ℕ, suc, ◌+◌, Bool, not, true, false, cond, List, [], ◌∷◌, ◌++◌, nat_lt, refl, ap, arith}
+use Rattle.std.proofs.Common.{◌≡◌, ℕ, suc, ◌+◌, Bool, not, true, false, cond, List, [], ◌∷◌, nat_lt, refl, ap, arith}
 use Rattle.std.specs.List.{insert, position_or_len}
 use Rattle.archi_defs.specs.Text.{with_stand}
 

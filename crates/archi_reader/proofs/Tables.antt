@@ -1,10 +1,10 @@
 -- Which definitions have a duration on an operator.
-use Rattle.std.proofs.Common.{◌≡◌, ℕ, zero, suc, ◌+◌, ◌<◌, Bool, not, true, false, cond, ◌||◌, ◌&&◌, ◌==◌, List, [], ◌∷◌, ◌++◌, length, Option, Some, None, position, nat_lt, nat_eq, refl, sym, ap, ap₂, subst, ◌∙◌, arith}
-use Rattle.std.specs.Prelude.{slice_index_or, slice_set, is_some, if◌then◌else◌}
-use Rattle.std.specs.List.{list_any, position_or_len}
+use Rattle.std.proofs.Common.{◌≡◌, ℕ, ◌<◌, Bool, not, true, false, ◌||◌, ◌&&◌, ◌==◌, List, [], ◌∷◌, ◌++◌, length, nat_eq, refl, sym, ap, ap₂, subst, ◌∙◌, arith}
+use Rattle.std.specs.Prelude.{slice_index_or, slice_set, if◌then◌else◌}
+use Rattle.std.specs.List.{list_any}
 use Rattle.std.specs.Str.{bytes_eq}
 use Rattle.std.proofs.lemmas.Bool.{eqb-true, eq-eqb}
-use Rattle.std.proofs.lemmas.Grind.{common_steps, get_or-set_at}
+use Rattle.std.proofs.lemmas.Grind.{get_or-set_at}
 use Rattle.std.proofs.lemmas.List.{get_or-set_other, get_or_default, length-set}
 use Rattle.std.proofs.lemmas.List.Folds.{list_any-append}
 use Rattle.std.proofs.lemmas.Slice.Eq.{bytes_eq-Decides}
@@ -23,28 +23,6 @@ bytes_eq_sym v w = by (bytes_eq v w) (bytes_eq w v) refl refl
 
 pub bytes_eq_self : (w : Bytes) → bytes_eq w w ≡ true
 bytes_eq_self w = (bytes_eq-Decides w w).1 refl
-
-some_there : (b : Bool) (n : ℕ) → is_some (cond b (Some n) None) ≡ b
-some_there true n = refl
-some_there false n = refl
-
-below_more : (m n : ℕ) → nat_lt (1 + m) (suc n) ≡ nat_lt m n
-below_more m n = grind (arith, common_steps)
-
-at_front : (n : ℕ) → nat_lt 0 (suc n) ≡ true
-at_front n = grind (arith, common_steps)
-
-below_one_more : (b : Bool) (m n : ℕ) → nat_lt (cond (not b) (1 + m) 0) (suc n) ≡ (b || nat_lt m n)
-below_one_more true m n = at_front n
-below_one_more false m n = below_more m n
-
-found_below : {X : Type 0} (p : X → Bool) (xs : List X) → nat_lt (position_or_len p xs) (length xs) ≡ list_any p xs
-found_below p [] = refl
-found_below p (x ∷ xs) = below_one_more (p x) (position_or_len p xs) (length xs) ∙ ap (λ (b : Bool). p x || b) (found_below p xs)
-
--- there is a place exactly where some element passes
-pub some_place : {X : Type 0} (p : X → Bool) (xs : List X) → is_some (position p xs) ≡ list_any p xs
-some_place p xs = some_there (nat_lt (position_or_len p xs) (length xs)) (position_or_len p xs) ∙ found_below p xs
 
 or_false : (b : Bool) → (b || false) ≡ b
 or_false true = refl

@@ -1,10 +1,10 @@
 -- What contracts see of the reader, and what it keeps.
-use Rattle.std.specs.Prelude.{◌≡◌, ℕ, ◌≤◌, true, false, ◌&&◌, nat_lt, nat_le, Bool, List, length, Option, Some, None, if◌then◌else◌}
+use Rattle.std.specs.Prelude.{◌≡◌, ℕ, ◌≤◌, true, ◌&&◌, nat_lt, nat_le, Bool, length, Option, Some, None, if◌then◌else◌}
 use Rattle.std.specs.List.{list_all}
 use Rattle.syn_base.specs.Name.{is_name}
 use Rattle.archi_graph.specs.declared.medium.Medium.{Medium}
 use Rattle.archi_graph.specs.Archi.{ascends_from, are_distinct, names_of, stands_in_all}
-use Rattle.archi_defs.specs.Text.{Bytes, Reading}
+use Rattle.archi_defs.specs.Text.{Bytes, Described, Reading}
 use Rattle.archi_reader.specs.declared.reader.Reader.{Reader}
 
 abbrev pub some_name : Bytes → Option Bytes
@@ -12,6 +12,10 @@ some_name w = if is_name w then Some w else None
 
 abbrev pub reading : Reader → Reading
 reading r = record { versioned = r.versioned; operators = r.operators.items; media = r.media.items; lines = r.lines.items; connections = r.connections; durations = r.durations }
+
+-- what a text gives that is not refused
+abbrev pub described : Reading → Described
+described r = record { archi = record { operators = r.operators; media = r.media }; durations = r.durations }
 
 -- a medium whose operators may still be too few, where there are so many operators
 abbrev pub is_begun : ℕ → Medium → Bool

@@ -3,8 +3,12 @@
 
 mod durations;
 mod fault;
+mod joined;
 mod names;
 mod reader;
 mod stands;
+mod whole;
 mod word;
 mod words;
+
+pub use reader::read_archi;

@@ -11,7 +11,7 @@ use crate::names::{is_taken, medium_at, operator_at};
 use crate::stands::{has_stand, with_stand};
 use crate::word::{begins, read_name, read_up_to};
 use crate::words::Words;
-use archi_defs::ArchiError;
+use archi_defs::{ArchiError, ArchiText};
 use archi_graph::Medium;
 use std::alloc::Global;
 use syn_base::{Items, LimitKind, Name};
@@ -250,4 +250,23 @@ impl<'a> Reader<'a> {
         }
         self.version_line(number, &words)
     }
+}
+
+/// The architecture and the durations of a text, or its first refusal: in the order of its lines
+/// Refused with the line and the cause, or Limit; then Refused for the whole. OutOfMemory may come in
+/// place of any answer.
+pub fn read_archi(alloc: Global, bytes: &[u8]) -> Result<ArchiText, ArchiError>
+    requires { length (lines_of bytes.now) ≤ 4000000000 }
+    ensures { Gives result (description_of bytes.now) }
+{
+    let mut reader = Reader::new(alloc)?;
+    let mut from = 0;
+    let mut number = 1;
+    while from < bytes.len() {
+        let to = text_lines::line_end(bytes, from);
+        reader.next_line(alloc, number, &bytes[from..to])?;
+        number += 1;
+        from = to + 1;
+    }
+    reader.whole(alloc, number)
 }
