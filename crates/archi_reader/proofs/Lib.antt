@@ -2,8 +2,10 @@ pub mod Apart
 pub mod Connected
 pub mod Endings
 pub mod Following
+pub mod LineCounts
 pub mod Named
 pub mod Placed
 pub mod Places
 pub mod Sound
 pub mod Tables
+pub mod Texts

@@ -5,10 +5,14 @@ mod durations;
 mod fault;
 mod joined;
 mod names;
+mod print;
 mod reader;
 mod stands;
+#[cfg(test)]
+mod tests;
 mod whole;
 mod word;
 mod words;
 
+pub use print::print_archi;
 pub use reader::read_archi;
