@@ -1,5 +1,8 @@
+pub mod After
 pub mod Apart
+pub mod Back
 pub mod Connected
+pub mod Connecting
 pub mod Endings
 pub mod Following
 pub mod LineCounts
@@ -7,5 +10,7 @@ pub mod Named
 pub mod Placed
 pub mod Places
 pub mod Sound
+pub mod Spelled
+pub mod Splits
 pub mod Tables
 pub mod Texts

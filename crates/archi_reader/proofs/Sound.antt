@@ -52,7 +52,7 @@ within most (Ok (negsuc m)) n h = cc
 within most (Err e) n h = cc
 
 -- how often a name occurs among these and one more
-count_with : (p : Bytes → Bool) (xs ys : List Bytes) (w : Bytes) → count_by p (xs ++ w ∷ ys) ≡ cond (p w) 1 0 + count_by p (xs ++ ys)
+pub count_with : (p : Bytes → Bool) (xs ys : List Bytes) (w : Bytes) → count_by p (xs ++ w ∷ ys) ≡ cond (p w) 1 0 + count_by p (xs ++ ys)
 count_with p xs ys w =
     let one : Bytes → ℕ = λ x. cond (p x) 1 0 in
     let a = sum_by-append one xs (w ∷ ys) in
