@@ -65,7 +65,7 @@ bare m = record m { stands = [] }
 abbrev pub has_ticks : Medium → Bool
 has_ticks m = nat_le m.fixed 1000000 && nat_le m.per 1000000
 
-medium_plain : (name kind : Bytes) (fixed per : ℕ) → is_word name ≡ true → is_word kind ≡ true → is_word (number fixed) ≡ true → is_word (number per) ≡ true
+pub medium_plain : (name kind : Bytes) (fixed per : ℕ) → is_word name ≡ true → is_word kind ≡ true → is_word (number fixed) ≡ true → is_word (number per) ≡ true
     → are_words (codes "medium" ∷ name ∷ kind ∷ number fixed ∷ number per ∷ []) ≡ true
 medium_plain name kind fixed per a b c d =
     and_from (is_word name) _ a (and_from (is_word kind) _ b (and_from (is_word (number fixed)) _ c (and_from (is_word (number per)) true d refl)))

@@ -50,7 +50,7 @@ all_set test [] k x here h = refl
 all_set test (y ∷ xs) zero x here h = let both = and_parts (test y) (list_all test xs) h in and_from (test x) (list_all test xs) here both.1
 all_set test (y ∷ xs) (suc k) x here h = let both = and_parts (test y) (list_all test xs) h in and_from (test y) (list_all test (slice_set xs k x)) both.0 (all_set test xs k x here both.1)
 
-names_kept : (media : List Medium) (k : ℕ) (m : Medium) → m.name ≡ (slice_index_or media k no_medium).name → map (λ x. x.name) (slice_set media k m) ≡ map (λ x. x.name) media
+pub names_kept : (media : List Medium) (k : ℕ) (m : Medium) → m.name ≡ (slice_index_or media k no_medium).name → map (λ x. x.name) (slice_set media k m) ≡ map (λ x. x.name) media
 names_kept [] k m h = refl
 names_kept (x ∷ media) zero m h = ap (λ (n : Bytes). n ∷ map (λ (y : Medium). y.name) media) h
 names_kept (x ∷ media) (suc k) m h = ap (λ (ns : List Bytes). x.name ∷ ns) (names_kept media k m h)

@@ -78,7 +78,7 @@ set_seam (x ∷ done) rest m new = ap (λ l. x ∷ l) (set_seam done rest m new)
 abbrev pub at_connections : List Bytes → List Medium → List ℕ → ℕ → Reading
 at_connections operators media lines connections = record start { versioned = true; operators = operators; media = media; lines = lines; connections = connections }
 
-connect_steps : (a b : Bool) (f g : Option ℕ) (m o : ℕ) (c d e h x : Result Reading ArchiError) (go : ℕ → ℕ → Result Reading ArchiError)
+pub connect_steps : (a b : Bool) (f g : Option ℕ) (m o : ℕ) (c d e h x : Result Reading ArchiError) (go : ℕ → ℕ → Result Reading ArchiError)
     → a ≡ true → b ≡ true → f ≡ Some m → g ≡ Some o → go m o ≡ x
     → (if a then (if b then with_some f e (λ i. with_some g h (λ k. go i k)) else d) else c) ≡ x
 connect_steps a b f g m o c d e h x go p q r s is = rw (p, q, r, s) is
@@ -105,7 +105,7 @@ one_connection operators done rest m lines c n o w last new few =
     ∙ ap (λ (l : List Medium). Ok (at_connections operators l lines (c + 1))) (set_seam done rest m (record m { stands = with_stand o m.stands }))
     ∙ ap (λ (l : List ℕ). Ok (at_connections operators (done ++ record m { stands = l } ∷ rest) lines (c + 1))) last
 
-abbrev media_names : List Medium → List Bytes
+abbrev pub media_names : List Medium → List Bytes
 media_names media = map (λ m. m.name) media
 
 medium_found : (done rest : List Medium) (m : Medium) → list_any (bytes_eq m.name) (media_names done) ≡ false → place_of m.name (media_names (done ++ m ∷ rest)) ≡ Some (length done)

@@ -21,7 +21,7 @@ sound_duration r n ws h =
       holds = record { operators = h.operators; media = h.media; lines = h.lines; stands = h.stands; connections = h.connections; begun = h.begun; distinct = h.distinct };
     }))))))
 
-either : {P : Reading → Type 0} (b : Bool) (x y : Result Reading ArchiError) → Keeps P x → Keeps P y → Keeps P (if b then x else y)
+pub either : {P : Reading → Type 0} (b : Bool) (x y : Result Reading ArchiError) → Keeps P x → Keeps P y → Keeps P (if b then x else y)
 either true x y h k = h
 either false x y h k = k
 

@@ -3,12 +3,15 @@ pub mod Apart
 pub mod Back
 pub mod Connected
 pub mod Connecting
+pub mod Counted
 pub mod Endings
 pub mod Following
 pub mod LineCounts
+pub mod Listed
 pub mod Named
 pub mod Placed
 pub mod Places
+pub mod ReadBack
 pub mod Sound
 pub mod Spelled
 pub mod Splits

@@ -66,7 +66,7 @@ count_none p (x ∷ xs) h =
     let both = or_parts (p x) (list_any p xs) h in
     sum_by-cons (λ y. cond (p y) 1 0) x xs ∙ ap (λ (b : Bool). cond b 1 0 + count_by p xs) both.0 ∙ omega (arith, count_none p xs both.1)
 
-all_with : (p : Bytes → Bool) (xs ys : List Bytes) (w : Bytes) → p w ≡ true → list_all p (xs ++ ys) ≡ true → list_all p (xs ++ w ∷ ys) ≡ true
+pub all_with : (p : Bytes → Bool) (xs ys : List Bytes) (w : Bytes) → p w ≡ true → list_all p (xs ++ ys) ≡ true → list_all p (xs ++ w ∷ ys) ≡ true
 all_with p [] ys w here h = and_from (p w) (list_all p ys) here h
 all_with p (x ∷ xs) ys w here h =
     let both = and_parts (p x) (list_all p (xs ++ ys)) h in

@@ -4,6 +4,7 @@
 mod durations;
 mod fault;
 mod joined;
+mod laws;
 mod names;
 mod print;
 mod reader;
@@ -14,5 +15,6 @@ mod whole;
 mod word;
 mod words;
 
+pub use laws::one_canonical_text;
 pub use print::print_archi;
 pub use reader::read_archi;
