@@ -1,5 +1,5 @@
 -- The lines of operators and media are read as they were printed.
-use Rattle.std.proofs.Common.{◌≡◌, ℕ, zero, suc, ◌+◌, ◌≤◌, ◌<◌, ◌^◌, Bool, not, true, false, ◌&&◌, ◌||◌, ◌==◌, if◌then◌else◌, List, [], ◌∷◌, ◌++◌, length, map, Option, Some, None, position, Result, Ok, Err, nat_le, nat_lt, refl, sym, ap, ap₂, subst, ◌∙◌, arith, append_assoc, append-nil, cond}
+use Rattle.std.proofs.Common.{◌≡◌, ℕ, ◌+◌, ◌≤◌, ◌<◌, Bool, true, false, ◌&&◌, ◌||◌, if◌then◌else◌, List, [], ◌∷◌, ◌++◌, length, map, Option, Some, Result, Ok, nat_le, nat_lt, refl, sym, ap, subst, ◌∙◌, arith, append_assoc, append-nil, cond}
 use Rattle.std.specs.Prelude.{codes}
 use Rattle.std.specs.List.{list_any, list_all, count_by}
 use Rattle.std.specs.Str.{bytes_eq}
@@ -12,10 +12,8 @@ use Rattle.syn_base.specs.Integer.{integer_of}
 use Rattle.archi_graph.specs.declared.medium.Medium.{Medium}
 use Rattle.archi_graph.specs.Archi.{are_distinct, occurs_once}
 use Rattle.archi_defs.specs.declared.fault.ArchiError.{ArchiError}
-use Rattle.archi_defs.specs.declared.fault.ArchiCause.TheVariants.{BadLine, BadName, BadNumber, DuplicateName}
-use Rattle.archi_defs.specs.Text.{Bytes, Reading, start, word, refused, above, all_names, with_number, with_some, up_to, described_line, is_taken, next_line}
-use Rattle.syn_base.specs.declared.limits.LimitKind.TheVariants.{Operators, Media}
-use Rattle.archi_reader.specs.Canonical.{Words, joined, number, kind_word, operator_words, medium_words}
+use Rattle.archi_defs.specs.Text.{Bytes, Reading, start, with_some, up_to, is_taken, next_line}
+use Rattle.archi_reader.specs.Canonical.{joined, number, kind_word, operator_words, medium_words}
 use Rattle.archi_reader.proofs.Sound.{count_with}
 use Rattle.archi_reader.proofs.Tables.{bytes_eq_self}
 use Rattle.archi_reader.proofs.Splits.{is_word, are_words}
@@ -39,7 +37,7 @@ fresh_at xs ys w distinct =
     let own = and_parts (occurs_once all w) (list_all (occurs_once all) ys) parts.1 in
     let once = eqb-true (count_by (bytes_eq w) all) 1 own.0 in
     let with_own : count_by (bytes_eq w) all ≡ 1 + count_by (bytes_eq w) (xs ++ ys) =
-        count_with (bytes_eq w) xs ys w ∙ ap (λ (b : Bool). cond b 1 0 + count_by (bytes_eq w) (xs ++ ys)) (bytes_eq_self w) in
+    count_with (bytes_eq w) xs ys w ∙ ap (λ (b : Bool). cond b 1 0 + count_by (bytes_eq w) (xs ++ ys)) (bytes_eq_self w) in
     let none = none_counted (bytes_eq w) (xs ++ ys) (omega (arith, once, with_own)) in
     (or_parts (list_any (bytes_eq w) xs) (list_any (bytes_eq w) ys) (sym (list_any-append (bytes_eq w) xs ys) ∙ none)).0
 
@@ -121,11 +119,12 @@ media_back (m ∷ media) done operators lines n distinct named ticks few =
     let each = and_parts (nat_le m.fixed 1000000) (nat_le m.per 1000000) low.0 in
     let new : is_taken (at_media operators done lines) m.name ≡ false = fresh_at (operators ++ media_names done) (media_names media) m.name distinct in
     let same : (operators ++ media_names done) ++ m.name ∷ media_names media ≡ (operators ++ media_names (done ++ bare m ∷ [])) ++ media_names media =
-        sym (append_assoc (operators ++ media_names done) (m.name ∷ []) (media_names media))
-        ∙ ap (λ (l : List Bytes). l ++ media_names media) (append_assoc operators (media_names done) (m.name ∷ []) ∙ ap (λ (l : List Bytes). operators ++ l) (sym (map-append (λ (x : Medium). x.name) done (bare m ∷ [])))) in
+    sym (append_assoc (operators ++ media_names done) (m.name ∷ []) (media_names media))
+    ∙ ap (λ (l : List Bytes). l ++ media_names media) (append_assoc operators (media_names done) (m.name ∷ []) ∙ ap (λ (l : List Bytes). operators ++ l) (sym (map-append (λ (x : Medium). x.name) done (bare m ∷ [])))) in
     let long = length_push done (bare m) in
-    let more = media_back media (done ++ bare m ∷ []) operators (lines ++ n ∷ []) (n + 1) (subst (λ (l : List Bytes). are_distinct l ≡ true) same distinct) names.1 low.1 (omega (arith, few, long)) in
-    (more.0,
+    let more = media_back media (done ++ bare m ∷ []) operators (lines ++ n ∷ []) (n + 1) (subst (λ (l : List Bytes). are_distinct l ≡ true) same distinct) names.1 low.1 (omega (arith, few, long)) in (
+      more.0,
       then_line (medium_words m) (map medium_words media) (at_media operators done lines) (at_media operators (done ++ bare m ∷ []) (lines ++ n ∷ [])) n
-      (medium_read m.multi (at_media operators done lines) n m.name m.fixed m.per refl names.0 each.0 each.1 new (omega (arith, few)))
-      ∙ more.1 ∙ ap (λ (l : List Medium). Ok (at_media operators l more.0)) (append_assoc done (bare m ∷ []) (map bare media)))
+          (medium_read m.multi (at_media operators done lines) n m.name m.fixed m.per refl names.0 each.0 each.1 new (omega (arith, few)))
+          ∙ more.1 ∙ ap (λ (l : List Medium). Ok (at_media operators l more.0)) (append_assoc done (bare m ∷ []) (map bare media)),
+    )

@@ -8,7 +8,7 @@ use Rattle.std.proofs.lemmas.List.Sums.{sum_by-set, AllPass-from_list_all}
 use Rattle.archi_graph.specs.declared.medium.Medium.{Medium}
 use Rattle.archi_graph.specs.Archi.{ascends_from, are_distinct, stands_in_all}
 use Rattle.archi_defs.specs.Text.{Bytes, Reading, word, place_of, medium_names, connect_line, connected, with_stand, no_medium}
-use Rattle.archi_reader.specs.Steps.{IsSound, is_begun}
+use Rattle.archi_reader.specs.Views.{IsSound, is_begun}
 use Rattle.archi_reader.proofs.Sound.{Keeps, keeps_if, keeps_names, keeps_some, when_some}
 
 with_one_more : (o : ℕ) (ps : List ℕ) → length (with_stand o ps) ≡ length ps + 1

@@ -1,10 +1,10 @@
 -- The lines of connections are read as they were printed.
-use Rattle.std.proofs.Common.{◌≡◌, ℕ, zero, suc, ◌+◌, ◌≤◌, ◌<◌, Bool, not, true, false, ◌&&◌, ◌||◌, ◌==◌, if◌then◌else◌, List, [], ◌∷◌, ◌++◌, length, map, take, drop, Option, Some, None, position, Result, Ok, Err, nat_le, nat_lt, refl, sym, ap, ap₂, subst, ◌∙◌, arith, append_assoc, append-nil, drop-cons}
+use Rattle.std.proofs.Common.{◌≡◌, ℕ, suc, ◌+◌, ◌≤◌, ◌<◌, Bool, true, false, ◌&&◌, ◌||◌, ◌==◌, if◌then◌else◌, List, [], ◌∷◌, ◌++◌, length, map, take, drop, Option, Some, position, Result, Ok, nat_le, nat_lt, refl, sym, ap, ap₂, subst, ◌∙◌, arith, append_assoc, append-nil, drop-cons}
 use Rattle.std.specs.Prelude.{codes, slice_index_or, slice_set}
 use Rattle.std.specs.List.{list_any, list_all, flat_map}
 use Rattle.std.specs.Str.{bytes_eq}
-use Rattle.std.proofs.lemmas.Bool.{and_parts, and_from, or_parts, le-ltb, lt-ltb, leb-true, ltb-true, ne_eqb}
-use Rattle.std.proofs.lemmas.List.{length-map, length-take, length_push, map-append, take-append-drop}
+use Rattle.std.proofs.lemmas.Bool.{and_parts, and_from, or_parts, le-ltb, leb-true, ltb-true, ne_eqb}
+use Rattle.std.proofs.lemmas.List.{length-map, length-take, map-append, take-append-drop}
 use Rattle.std.proofs.lemmas.List.Folds.{list_any-append}
 use Rattle.std.proofs.lemmas.List.Sums.{sum_by-cons, AllPass-from_list_all}
 use Rattle.std.proofs.lemmas.List.Concat.{flat_map-cons}
@@ -43,9 +43,9 @@ are_found operators more distinct named = record {
     at o below =
         let w = name_at operators o in
         let cut : operators ≡ take o operators ++ w ∷ drop (suc o) operators =
-            sym (take-append-drop o operators) ∙ ap (λ l. take o operators ++ l) (drop-cons operators o [] below) in
+        sym (take-append-drop o operators) ∙ ap (λ l. take o operators ++ l) (drop-cons operators o [] below) in
         let whole : operators ++ more ≡ take o operators ++ w ∷ (drop (suc o) operators ++ more) =
-            ap (λ l. l ++ more) cut ∙ append_assoc (take o operators) (w ∷ drop (suc o) operators) more in
+        ap (λ l. l ++ more) cut ∙ append_assoc (take o operators) (w ∷ drop (suc o) operators) more in
         let new = fresh_at (take o operators) (drop (suc o) operators ++ more) w (subst (λ l. are_distinct l ≡ true) whole distinct) in
         let long : length (take o operators) ≡ o = omega (arith, below, length-take o operators) in
         ap (place_of w) cut ∙ place_first (bytes_eq w) (take o operators) (drop (suc o) operators) w new (bytes_eq_self w) ∙ ap (λ k. Some k) long
@@ -62,9 +62,10 @@ stands_last k o [] os h = (refl, refl)
 stands_last k o (p ∷ front) os h =
     let both = and_parts (nat_le k p) (ascends_from (p + 1) (front ++ o ∷ os)) h in
     let above = above_least (p + 1) o front os both.1 in
-    let rest = stands_last (p + 1) o front os both.1 in
-    (ap (λ b. if b then o ∷ p ∷ front else p ∷ with_stand o front) (le-ltb o p (omega (arith, above))) ∙ ap (λ l. p ∷ l) rest.0,
-      ap₂ ◌||◌ (ne_eqb p o (λ e. omega (arith, e, above))) rest.1)
+    let rest = stands_last (p + 1) o front os both.1 in (
+      ap (λ b. if b then o ∷ p ∷ front else p ∷ with_stand o front) (le-ltb o p (omega (arith, above))) ∙ ap (λ l. p ∷ l) rest.0,
+      ap₂ ◌||◌ (ne_eqb p o (λ e. omega (arith, e, above))) rest.1,
+    )
 
 read_seam : (done rest : List Medium) (m : Medium) → slice_index_or (done ++ m ∷ rest) (length done) no_medium ≡ m
 read_seam [] rest m = refl
@@ -148,11 +149,11 @@ module _ (operators : List Bytes) (lines : List ℕ) (found : AreFound operators
       let rights = and_parts (stands_right m) (list_all stands_right media) right in
       let own = and_parts (ascends_from 0 m.stands) (list_all (λ o. nat_lt o (length operators)) m.stands) rights.0 in
       let new = or_parts (list_any (bytes_eq m.name) operators) (list_any (bytes_eq m.name) (media_names done))
-          (sym (list_any-append (bytes_eq m.name) operators (media_names done)) ∙ fresh_at (operators ++ media_names done) (media_names media) m.name distinct) in
+      (sym (list_any-append (bytes_eq m.name) operators (media_names done)) ∙ fresh_at (operators ++ media_names done) (media_names media) m.name distinct) in
       let all : stands_in_all (m ∷ media) ≡ length m.stands + stands_in_all media = sum_by-cons (λ x. length x.stands) m media in
       let same : (operators ++ media_names done) ++ m.name ∷ media_names media ≡ (operators ++ media_names (done ++ m ∷ [])) ++ media_names media =
-          sym (append_assoc (operators ++ media_names done) (m.name ∷ []) (media_names media))
-          ∙ ap (λ (l : List Bytes). l ++ media_names media) (append_assoc operators (media_names done) (m.name ∷ []) ∙ ap (λ (l : List Bytes). operators ++ l) (sym (map-append (λ (x : Medium). x.name) done (m ∷ [])))) in
+      sym (append_assoc (operators ++ media_names done) (m.name ∷ []) (media_names media))
+      ∙ ap (λ (l : List Bytes). l ++ media_names media) (append_assoc operators (media_names done) (m.name ∷ []) ∙ ap (λ (l : List Bytes). operators ++ l) (sym (map-append (λ (x : Medium). x.name) done (m ∷ [])))) in
       let count : c + length m.stands + stands_in_all media ≡ c + stands_in_all (m ∷ media) = omega (arith, all) in
       let r = at_connections operators (done ++ bare m ∷ map bare media) lines c in
       let s = at_connections operators (done ++ m ∷ map bare media) lines (c + length m.stands) in

@@ -13,7 +13,7 @@ use Rattle.archi_defs.specs.declared.fault.ArchiError.TheVariants.{Refused, Limi
 use Rattle.archi_defs.specs.declared.fault.ArchiCause.TheVariants.{BadMedium, Disconnected}
 use Rattle.archi_defs.specs.Text.{Reading, has_stands, media_are_right, no_medium, refused, apart, all_joined, operator_name, whole}
 use Rattle.archi_reader.specs.Given.{Fails, IsStop}
-use Rattle.archi_reader.specs.Steps.{IsSound, described, is_begun}
+use Rattle.archi_reader.specs.Views.{IsSound, described, is_begun}
 use Rattle.archi_reader.proofs.Places.{further, first_or, position_cons, all_pass}
 
 -- the answer by the first medium at which a wrong number of operators stands

@@ -9,7 +9,7 @@ use Rattle.archi_defs.specs.declared.fault.ArchiError.{ArchiError}
 use Rattle.archi_defs.specs.declared.fault.ArchiError.TheVariants.{Refused, Limit, OutOfMemory}
 use Rattle.archi_defs.specs.Text.{Bytes, Described, Reading, and_then, begins, word, up_to, place_of, duration_line, described_line, line_by, next_line, rest_of}
 use Rattle.archi_reader.specs.Given.{Fails}
-use Rattle.archi_reader.specs.Steps.{IsSound}
+use Rattle.archi_reader.specs.Views.{IsSound}
 use Rattle.archi_reader.proofs.Sound.{Holds, Keeps, keeps_if, keeps_names, keeps_some, sound_version, sound_operator, sound_medium}
 use Rattle.archi_reader.proofs.Connected.{sound_connect}
 

@@ -1,5 +1,5 @@
 -- The canonical text of what was read is read as the same.
-use Rattle.std.proofs.Common.{◌≡◌, ℕ, suc, ◌+◌, ◌≤◌, ◌<◌, Bool, not, true, false, ◌&&◌, ◌==◌, if◌then◌else◌, List, [], ◌∷◌, ◌++◌, length, map, Option, Some, None, position, Result, Ok, Err, nat_le, nat_lt, refl, sym, ap, ap₂, subst, ◌∙◌, arith, append-nil, length-append, cond}
+use Rattle.std.proofs.Common.{◌≡◌, ℕ, suc, ◌+◌, ◌≤◌, Bool, not, true, false, ◌&&◌, ◌==◌, if◌then◌else◌, List, [], ◌∷◌, ◌++◌, length, map, Option, Some, None, position, Result, Ok, Err, nat_le, nat_lt, refl, sym, ap, ap₂, subst, ◌∙◌, arith, append-nil, length-append, cond}
 use Rattle.std.specs.List.{list_all, flat_map}
 use Rattle.std.proofs.lemmas.Bool.{and_parts, and_from, ltb-true, leb-true}
 use Rattle.std.proofs.lemmas.List.{length-map}
@@ -9,12 +9,11 @@ use Rattle.std.proofs.lemmas.List.Concat.{flat_map-cons}
 use Rattle.text_lines.specs.Text.{lines_of}
 use Rattle.syn_base.specs.Name.{is_name}
 use Rattle.archi_graph.specs.declared.medium.Medium.{Medium}
-use Rattle.archi_graph.specs.Archi.{Architecture, are_distinct, ascends_from, names_of, stands_in_all}
+use Rattle.archi_graph.specs.Archi.{ascends_from, stands_in_all}
 use Rattle.archi_defs.specs.declared.text.DurationLine.{DurationLine}
 use Rattle.archi_defs.specs.declared.fault.ArchiError.{ArchiError}
-use Rattle.archi_defs.specs.declared.fault.ArchiCause.TheVariants.{BadLine, NoOperator}
-use Rattle.archi_defs.specs.Text.{Bytes, Described, Reading, start, refused, and_then, next_line, rest_of, description_of, whole, has_stands, media_are_right, all_joined, apart, medium_names}
-use Rattle.archi_reader.specs.Steps.{IsSound, is_begun, described}
+use Rattle.archi_defs.specs.Text.{Bytes, Described, Reading, start, and_then, next_line, rest_of, description_of, whole, has_stands, all_joined, apart, medium_names}
+use Rattle.archi_reader.specs.Views.{IsSound, is_begun, described}
 use Rattle.archi_reader.specs.Canonical.{Words, joined, text_of, number, kind_word, version_words, operator_words, medium_words, name_at, connect_words, connections_of, duration_words, canonical_lines, canonical_text}
 use Rattle.archi_reader.proofs.Endings.{told, media_told, whole_fine}
 use Rattle.archi_reader.proofs.Following.{sound_next}
@@ -22,7 +21,7 @@ use Rattle.archi_reader.proofs.Splits.{is_word, are_words, text_back}
 use Rattle.archi_reader.proofs.Spelled.{name_word, number_word}
 use Rattle.archi_reader.proofs.After.{after, rest_after, then_line, after_append}
 use Rattle.archi_reader.proofs.Back.{at_operators, at_media, operators_back, media_back, medium_plain, bare, has_ticks}
-use Rattle.archi_reader.proofs.Connecting.{AreFound, are_found, at_connections, connections_back, media_names, stands_right}
+use Rattle.archi_reader.proofs.Connecting.{AreFound, are_found, at_connections, connections_back, media_names}
 use Rattle.archi_reader.proofs.Listed.{at_durations, durations_back, is_spelled}
 use Rattle.archi_reader.proofs.Counted.{IsSpelled, weight, follows_next}
 
@@ -183,13 +182,14 @@ module _ (t : Reading) (sound : IsSound t) (spelled : IsSpelled t) where
 
   read_lines : (all : List ℕ) × (after start 1 all_lines ≡ Ok (at_durations t.operators t.media all (0 + stands_in_all t.media) t.durations))
   read_lines =
-      let m = media_lines (1 + length (version_words ∷ map operator_words t.operators)) in
-      (m.0,
+      let m = media_lines (1 + length (version_words ∷ map operator_words t.operators)) in (
+        m.0,
         chained to_connections (map (duration_words t.operators) t.durations) start (at_connections t.operators t.media m.0 (0 + stands_in_all t.media)) _ 1
-        (chained to_media (flat_map (connections_of t.operators) t.media) start (at_media t.operators (map bare t.media) m.0) _ 1
-        (chained (version_words ∷ map operator_words t.operators) (map medium_words t.media) start (at_operators t.operators) _ 1 operator_lines m.1)
-        (connections_back t.operators m.0 found t.media [] 0 _ (rw append-nil sound.distinct) names.1 (begun_stands (length t.operators) t.media sound.begun) (omega (arith, sound.stands, sound.connections))))
-        (durations_back t.operators t.media m.0 (0 + stands_in_all t.media) found t.durations [] _ spelled.new spelled.durations))
+            (chained to_media (flat_map (connections_of t.operators) t.media) start (at_media t.operators (map bare t.media) m.0) _ 1
+            (chained (version_words ∷ map operator_words t.operators) (map medium_words t.media) start (at_operators t.operators) _ 1 operator_lines m.1)
+            (connections_back t.operators m.0 found t.media [] 0 _ (rw append-nil sound.distinct) names.1 (begun_stands (length t.operators) t.media sound.begun) (omega (arith, sound.stands, sound.connections))))
+            (durations_back t.operators t.media m.0 (0 + stands_in_all t.media) found t.durations [] _ spelled.new spelled.durations),
+      )
 
   lines_plain : list_all are_words all_lines ≡ true
   lines_plain =
@@ -250,5 +250,5 @@ canonical_lines_few text d h =
     let lines = all_lines e.last e.sound e.spelled in
     let long : length (map joined lines) ≡ length lines = search length-map in
     let few : length (lines_of (text_of lines)) ≤ length (lines_of text) =
-        omega (arith, ap length (text_back lines (lines_plain e.last e.sound e.spelled)), long, canonical_count e.last w.versioned e.sound.stands, e.counted) in
+    omega (arith, ap length (text_back lines (lines_plain e.last e.sound e.spelled)), long, canonical_count e.last w.versioned e.sound.stands, e.counted) in
     subst (λ (x : Described). length (lines_of (canonical_text x)) ≤ length (lines_of text)) w.is few

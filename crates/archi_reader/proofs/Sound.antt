@@ -15,7 +15,7 @@ use Rattle.archi_graph.specs.Archi.{ascends_from, are_distinct, occurs_once}
 use Rattle.archi_defs.specs.declared.fault.ArchiError.{ArchiError}
 use Rattle.archi_defs.specs.declared.fault.ArchiCause.TheVariants.{BadName}
 use Rattle.archi_defs.specs.Text.{Bytes, refused, Reading, word, up_to, with_some, all_names, medium_names, is_taken, operator_line, medium_line, version_line}
-use Rattle.archi_reader.specs.Steps.{IsSound, is_begun}
+use Rattle.archi_reader.specs.Views.{IsSound, is_begun}
 use Rattle.archi_reader.proofs.Tables.{bytes_eq_sym, bytes_eq_self}
 
 -- what holds of a reading that is not refused
@@ -90,14 +90,14 @@ distinct_with xs ys w fresh distinct =
     own : occurs_once (xs ++ w ∷ ys) w ≡ true
     own =
         let count : count_by (bytes_eq w) (xs ++ w ∷ ys) ≡ 1 =
-            count_with (bytes_eq w) xs ys w ∙ ap₂ (λ (b : Bool) (n : ℕ). cond b 1 0 + n) (bytes_eq_self w) (count_none (bytes_eq w) (xs ++ ys) fresh) in
+        count_with (bytes_eq w) xs ys w ∙ ap₂ (λ (b : Bool) (n : ℕ). cond b 1 0 + n) (bytes_eq_self w) (count_none (bytes_eq w) (xs ++ ys) fresh) in
         eq-eqb _ 1 count
 
     other : (v : Bytes) → occurs_once (xs ++ ys) v ≡ true → bytes_eq w v ≡ false → occurs_once (xs ++ w ∷ ys) v ≡ true
     other v once apart =
         let before = eqb-true (count_by (bytes_eq v) (xs ++ ys)) 1 once in
         let count : count_by (bytes_eq v) (xs ++ w ∷ ys) ≡ 1 =
-            count_with (bytes_eq v) xs ys w ∙ ap₂ (λ (b : Bool) (n : ℕ). cond b 1 0 + n) (bytes_eq_sym v w ∙ apart) before in
+        count_with (bytes_eq v) xs ys w ∙ ap₂ (λ (b : Bool) (n : ℕ). cond b 1 0 + n) (bytes_eq_sym v w ∙ apart) before in
         eq-eqb _ 1 count
 
 -- the version line

@@ -1,11 +1,11 @@
 -- Names and numbers are words, and a line of words is read as these words.
-use Rattle.std.proofs.Common.{◌≡◌, ℕ, zero, suc, ◌+◌, ◌≤◌, ◌<◌, ◌^◌, Bool, not, true, false, ◌&&◌, ◌||◌, ◌==◌, if◌then◌else◌, List, [], ◌∷◌, ◌++◌, length, map, Option, Some, None, Result, Ok, Err, ℤ, pos, nat_le, nat_lt, refl, sym, ap, subst, ◌∙◌, arith, rules, ◌⊎◌, inl, inr, w64, FitsSigned}
+use Rattle.std.proofs.Common.{◌≡◌, ℕ, ◌≤◌, ◌<◌, ◌^◌, Bool, not, true, false, ◌&&◌, ◌||◌, ◌==◌, if◌then◌else◌, [], ◌∷◌, length, Some, None, Result, Ok, pos, nat_le, refl, ap, ◌∙◌, arith, rules, ◌⊎◌, inl, inr}
 use Rattle.std.specs.List.{list_all}
-use Rattle.std.specs.Fmt.{decimal, signed_decimal}
+use Rattle.std.specs.Fmt.{decimal}
 use Rattle.std.proofs.lemmas.Bool.{and_parts, and_from, leb-true, le-leb, eqb-true, ne_eqb}
 use Rattle.std.proofs.lemmas.Fmt.{digits_decimal, decimal_nonempty}
 use Rattle.std.proofs.lemmas.Str.Parse.{IsNumeralModel, numerals_by_fold}
-use Rattle.text_lines.specs.Text.{words_of, code_of, foreign_place, is_hash, is_foreign}
+use Rattle.text_lines.specs.Text.{words_of, is_hash, is_foreign}
 use Rattle.syn_base.specs.Name.{is_name, is_name_byte, is_digit, is_letter, begins_name}
 use Rattle.syn_base.specs.Integer.{integer_of, number_after}
 use Rattle.syn_base.proofs.Decimal as integers
@@ -23,15 +23,15 @@ in_range low high b h = let both = and_parts (nat_le low b) (nat_le b high) h in
 
 name_byte-range : (b : ℕ) → is_name_byte b ≡ true → (48 ≤ b) × (b ≤ 122)
 name_byte-range b h = elim (or_true (is_letter b || is_digit b) (b == 95) h) [
-    | inl some ↦ elim (or_true (is_letter b) (is_digit b) some) [
-      | inl letter ↦ elim (or_true (nat_le 65 b && nat_le b 90) (nat_le 97 b && nat_le b 122) letter) [
-        | inl upper ↦ let r = in_range 65 90 b upper in (omega (arith, r.0), omega (arith, r.1))
-        | inr lower ↦ let r = in_range 97 122 b lower in (omega (arith, r.0), omega (arith, r.1))
-      ]
-      | inr digit ↦ let r = in_range 48 57 b digit in (omega (arith, r.0), omega (arith, r.1))
+  | inl some ↦ elim (or_true (is_letter b) (is_digit b) some) [
+    | inl letter ↦ elim (or_true (nat_le 65 b && nat_le b 90) (nat_le 97 b && nat_le b 122) letter) [
+      | inl upper ↦ let r = in_range 65 90 b upper in (omega (arith, r.0), omega (arith, r.1))
+      | inr lower ↦ let r = in_range 97 122 b lower in (omega (arith, r.0), omega (arith, r.1))
     ]
-    | inr line ↦ let e = eqb-true b 95 line in (omega (arith, e), omega (arith, e))
+    | inr digit ↦ let r = in_range 48 57 b digit in (omega (arith, r.0), omega (arith, r.1))
   ]
+  | inr line ↦ let e = eqb-true b 95 line in (omega (arith, e), omega (arith, e))
+]
 
 plain_by : (tab return space low high hash feed : Bool) → tab ≡ false → return ≡ false → space ≡ false → low ≡ true → high ≡ true → hash ≡ false → feed ≡ false
     → (not (tab || return || space) && not (not ((tab || return || space) || (low && high))) && not hash && not feed) ≡ true

@@ -1,9 +1,9 @@
 -- Text that is joined splits into what it was joined from.
-use Rattle.std.proofs.Common.{◌≡◌, ℕ, ◌+◌, ◌<◌, ◌≤◌, Bool, not, ◌&&◌, true, false, cond, nat_lt, List, [], ◌∷◌, ◌++◌, length, take, refl, arith, ap, sym, ◌∙◌, subst, None, Some, Option, position, map}
+use Rattle.std.proofs.Common.{◌≡◌, ℕ, Bool, not, ◌&&◌, true, false, cond, nat_lt, List, [], ◌∷◌, ◌++◌, length, refl, arith, ap, ◌∙◌, None, Some, map}
 use Rattle.std.specs.List.{list_all, position_or_len}
 use Rattle.std.proofs.lemmas.Grind.{common_steps}
 use Rattle.std.proofs.lemmas.List.{take_all}
-use Rattle.text_lines.specs.Text.{is_feed, is_blank, is_hash, is_foreign, lines_of, words_of, with_byte, with_letter, code_of, foreign_place}
+use Rattle.text_lines.specs.Text.{is_feed, is_blank, is_hash, is_foreign, lines_of, words_of, with_byte, code_of, foreign_place}
 use Rattle.archi_reader.specs.Canonical.{Words, joined, text_of}
 
 -- a byte of a word: neither blank nor a comment's beginning nor a line feed, and allowed

@@ -12,4 +12,5 @@ is_given lines def o = list_any (λ d. bytes_eq d.def def && (d.operator == o)) 
 -- for each of 16 operators, the definitions that have a duration on it
 pub record AreGiven (tables : List (List Bytes)) (lines : List DurationLine) : Type 0 where
   pub sixteen : length tables ≡ 16
+  -- exactly those of its durations
   pub found : (def : Bytes) (o : ℕ) → list_any (bytes_eq def) (slice_index_or tables o []) ≡ is_given lines def o

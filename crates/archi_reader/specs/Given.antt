@@ -6,7 +6,7 @@ use Rattle.archi_defs.specs.declared.fault.ArchiError.{ArchiError}
 use Rattle.archi_defs.specs.declared.fault.ArchiError.TheVariants.{Refused, Limit, OutOfMemory}
 use Rattle.archi_defs.specs.Text.{Described, Reading}
 use Rattle.archi_reader.specs.declared.reader.Reader.{Reader}
-use Rattle.archi_reader.specs.Steps.{reading}
+use Rattle.archi_reader.specs.Views.{reading}
 
 -- an error is the defined answer, or want of memory
 abbrev pub Fails : {A : Type 0} → ArchiError → Result A ArchiError → Type 0

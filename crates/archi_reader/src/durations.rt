@@ -60,7 +60,13 @@ impl<'a> Durations<'a> {
     }
 
     /// Adds a duration at the end. After want of memory the durations are as before.
-    pub fn add(&mut self, def: Name, word: &'a [u8], operator: u32, ticks: u32) -> Result<(), ArchiError>
+    pub fn add(
+        &mut self,
+        def: Name,
+        word: &'a [u8],
+        operator: u32,
+        ticks: u32,
+    ) -> Result<(), ArchiError>
         requires same { def ≡ word.now }
         requires known { operator < 16 }
         ensures { Adds result self.old (record { def = def; operator = operator; ticks = ticks }) self.new }

@@ -9,24 +9,28 @@ use archi_defs::{ArchiCause, ArchiError, ArchiFault};
 use std::alloc::Global;
 use syn_base::{Items, LimitFault, LimitKind};
 
+/// The refusal at a line.
 pub fn refusal(line: u32, cause: ArchiCause) -> ArchiError
     ensures { result ≡ stop line cause }
 {
     ArchiError::Refused(ArchiFault { line, cause })
 }
 
+/// The form of the line is not allowed at its place.
 pub fn bad_line(line: u32) -> ArchiError
     ensures { result ≡ stop line BadLine }
 {
     refusal(line, ArchiCause::BadLine)
 }
 
+/// A byte at this place of the line may not stand there.
 pub fn not_text(line: u32, place: usize) -> ArchiError
     ensures { result ≡ stop line (NotText place) }
 {
     refusal(line, ArchiCause::NotText(place))
 }
 
+/// The word is no name.
 pub fn bad_name(alloc: Global, line: u32, word: &[u8]) -> ArchiError
     ensures { IsStop result (stop line (BadName word.now)) }
 {
@@ -36,6 +40,7 @@ pub fn bad_name(alloc: Global, line: u32, word: &[u8]) -> ArchiError
     }
 }
 
+/// The word is no number, or one outside its bounds.
 pub fn bad_number(alloc: Global, line: u32, word: &[u8]) -> ArchiError
     ensures { IsStop result (stop line (BadNumber word.now)) }
 {
@@ -45,6 +50,7 @@ pub fn bad_number(alloc: Global, line: u32, word: &[u8]) -> ArchiError
     }
 }
 
+/// No line before has defined the name.
 pub fn unknown(alloc: Global, line: u32, word: &[u8]) -> ArchiError
     ensures { IsStop result (stop line (UnknownName word.now)) }
 {
@@ -54,6 +60,7 @@ pub fn unknown(alloc: Global, line: u32, word: &[u8]) -> ArchiError
     }
 }
 
+/// The name was given before.
 pub fn duplicate(alloc: Global, line: u32, word: &[u8]) -> ArchiError
     ensures { IsStop result (stop line (DuplicateName word.now)) }
 {

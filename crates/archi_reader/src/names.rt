@@ -12,14 +12,18 @@ pub fn operator_at(operators: &[Name], name: &[u8]) -> Option<usize>
     ensures place { result ≡ place_of name.now operators.now }
     ensures within { IfSome result (λ k. k < length operators.now) }
 {
-    operators.iter().position(|operator| name == operator.as_bytes())
+    operators
+        .iter()
+        .position(|operator| name == operator.as_bytes())
 }
 
 fn medium_named(media: &[Medium], name: &[u8]) -> Option<usize>
     ensures place { result ≡ position (λ m. bytes_eq name.now m.name) media.now }
     ensures within { IfSome result (λ k. k < length media.now) }
 {
-    media.iter().position(|medium| name == medium.name.as_bytes())
+    media
+        .iter()
+        .position(|medium| name == medium.name.as_bytes())
 }
 
 /// The number of the medium of this name.

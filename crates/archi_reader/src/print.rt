@@ -11,11 +11,7 @@ use syn_base::{Name, OutOfMemory, print_int};
 /// Appends the canonical text: the version line, operators, media, connections by medium and then by
 /// operator, durations as given; words separated by one space, numbers in their shortest form. It has
 /// no comments and no lines without words. After want of memory `out` is as before.
-pub fn print_archi(
-    alloc: Global,
-    text: &ArchiText,
-    out: &mut Vec<u8>,
-) -> Result<(), OutOfMemory>
+pub fn print_archi(alloc: Global, text: &ArchiText, out: &mut Vec<u8>) -> Result<(), OutOfMemory>
     ensures ok { OnOk result (out.new.items ≡ out.old.items ++ canonical_text (record { archi = text.now.archi; durations = text.now.lines })) }
     ensures err { OnErr result (out.new.items ≡ out.old.items) }
 {
@@ -91,7 +87,11 @@ fn put_ticks(fixed: u32, per: u32, text: &mut Vec<u8>) -> Result<(), OutOfMemory
     put_number(per, text)
 }
 
-fn print_connections(operators: &[Name], media: &[Medium], text: &mut Vec<u8>) -> Result<(), OutOfMemory>
+fn print_connections(
+    operators: &[Name],
+    media: &[Medium],
+    text: &mut Vec<u8>,
+) -> Result<(), OutOfMemory>
     ensures { OnOk result (text.new.items ≡ text.old.items ++ text_of (flat_map (connections_of operators.now) media.now)) }
 {
     for medium in media {
@@ -100,13 +100,22 @@ fn print_connections(operators: &[Name], media: &[Medium], text: &mut Vec<u8>) -
     Ok(())
 }
 
-fn print_connections_of(operators: &[Name], medium: &Medium, text: &mut Vec<u8>) -> Result<(), OutOfMemory>
+fn print_connections_of(
+    operators: &[Name],
+    medium: &Medium,
+    text: &mut Vec<u8>,
+) -> Result<(), OutOfMemory>
     ensures { OnOk result (text.new.items ≡ text.old.items ++ text_of (connections_of operators.now medium.now)) }
 {
     print_stands(operators, &medium.name, medium.stands.as_slice(), text)
 }
 
-fn print_stands(operators: &[Name], medium: &Name, stands: &[u32], text: &mut Vec<u8>) -> Result<(), OutOfMemory>
+fn print_stands(
+    operators: &[Name],
+    medium: &Name,
+    stands: &[u32],
+    text: &mut Vec<u8>,
+) -> Result<(), OutOfMemory>
     ensures { OnOk result (text.new.items ≡ text.old.items ++ text_of (map (connect_words operators.now medium.now) stands.now)) }
 {
     for operator in stands {
@@ -127,7 +136,12 @@ fn name_at(operators: &[Name], operator: u32) -> &[u8]
     }
 }
 
-fn print_connection(operators: &[Name], medium: &Name, operator: u32, text: &mut Vec<u8>) -> Result<(), OutOfMemory>
+fn print_connection(
+    operators: &[Name],
+    medium: &Name,
+    operator: u32,
+    text: &mut Vec<u8>,
+) -> Result<(), OutOfMemory>
     ensures { OnOk result (text.new.items ≡ text.old.items ++ text_of (connect_words operators.now medium.now operator ∷ [])) }
 {
     put(b"connect ", text)?;
@@ -137,7 +151,11 @@ fn print_connection(operators: &[Name], medium: &Name, operator: u32, text: &mut
     put(b"\n", text)
 }
 
-fn print_durations(operators: &[Name], durations: &[DurationLine], text: &mut Vec<u8>) -> Result<(), OutOfMemory>
+fn print_durations(
+    operators: &[Name],
+    durations: &[DurationLine],
+    text: &mut Vec<u8>,
+) -> Result<(), OutOfMemory>
     ensures { OnOk result (text.new.items ≡ text.old.items ++ text_of (map (duration_words operators.now) durations.now)) }
 {
     for duration in durations {
@@ -146,7 +164,11 @@ fn print_durations(operators: &[Name], durations: &[DurationLine], text: &mut Ve
     Ok(())
 }
 
-fn print_duration(operators: &[Name], duration: &DurationLine, text: &mut Vec<u8>) -> Result<(), OutOfMemory>
+fn print_duration(
+    operators: &[Name],
+    duration: &DurationLine,
+    text: &mut Vec<u8>,
+) -> Result<(), OutOfMemory>
     ensures { OnOk result (text.new.items ≡ text.old.items ++ text_of (duration_words operators.now duration.now ∷ [])) }
 {
     put(b"duration ", text)?;

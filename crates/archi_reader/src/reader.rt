@@ -3,7 +3,7 @@ ghost use Rattle.std.specs.Prelude.{◌≡◌, ◌<◌, ◌≤◌, length, map};
 ghost use Rattle.text_lines.specs.Text.{lines_of};
 ghost use Rattle.archi_defs.specs.Text.{description_of, start, version_line, operator_line, medium_line, connect_line, duration_line, connected, described_line, next_line};
 ghost use Rattle.archi_reader.specs.Given.{Steps, Gives, MakesReader};
-ghost use Rattle.archi_reader.specs.Steps.{reading, IsSound};
+ghost use Rattle.archi_reader.specs.Views.{reading, IsSound};
 
 use crate::durations::Durations;
 use crate::fault::{above, bad_line, bad_name, bad_number, duplicate, not_text, push, unknown};
@@ -234,7 +234,12 @@ impl<'a> Reader<'a> {
     }
 
     /// Reads the next line.
-    pub fn next_line(&mut self, alloc: Global, number: u32, line: &'a [u8]) -> Result<(), ArchiError>
+    pub fn next_line(
+        &mut self,
+        alloc: Global,
+        number: u32,
+        line: &'a [u8],
+    ) -> Result<(), ArchiError>
         requires { IsSound (reading self.old) }
         ensures { Steps result (reading self.new) (next_line (reading self.old) number line.now) }
     {

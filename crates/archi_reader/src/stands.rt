@@ -13,7 +13,11 @@ use syn_base::Items;
 pub fn has_stand(medium: &Medium, operator: u32) -> bool
     ensures { result ≡ list_any (λ p. p == operator) medium.now.stands }
 {
-    medium.stands.as_slice().iter().any(|stand| *stand == operator)
+    medium
+        .stands
+        .as_slice()
+        .iter()
+        .any(|stand| *stand == operator)
 }
 
 fn first_above(operator: u32, stands: &[u32]) -> Option<usize>

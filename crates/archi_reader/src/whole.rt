@@ -4,7 +4,7 @@ ghost use Rattle.archi_graph.specs.Archi.{is_archi};
 ghost use Rattle.archi_defs.specs.declared.fault.ArchiCause.TheVariants.{BadMedium, Disconnected};
 ghost use Rattle.archi_defs.specs.Text.{whole, has_stands};
 ghost use Rattle.archi_reader.specs.Given.{Gives, IsStop, Steps, stop};
-ghost use Rattle.archi_reader.specs.Steps.{described, reading, IsSound};
+ghost use Rattle.archi_reader.specs.Views.{described, reading, IsSound};
 
 use crate::fault::{bad_line, refusal};
 use crate::joined::apart;

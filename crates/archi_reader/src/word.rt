@@ -5,7 +5,7 @@ ghost use Rattle.syn_base.specs.Name.{is_name};
 ghost use Rattle.syn_base.specs.Integer.{integer_of};
 ghost use Rattle.archi_defs.specs.Text.{up_to};
 ghost use Rattle.archi_reader.specs.Given.{GivesSome};
-ghost use Rattle.archi_reader.specs.Steps.{some_name};
+ghost use Rattle.archi_reader.specs.Views.{some_name};
 
 use crate::words::Words;
 use archi_defs::ArchiError;

@@ -1,7 +1,7 @@
 use Rattle.std.proofs.Common.{◌≡◌, ◌≤◌, ◌+◌, ◌-◌, length, drop}
 use Rattle.text_lines.specs.Text.{lines_of}
 use Rattle.archi_defs.specs.Text.{rest_of, description_of}
-use Rattle.archi_reader.specs.Steps.{IsSound, reading}
+use Rattle.archi_reader.specs.Views.{IsSound, reading}
 use Rattle.archi_reader.proofs.reader.read_archi.Given as goal
 
 abbrev pub invariant-loop-from : goal.invariant-loop-from

@@ -1,4 +1,4 @@
--- What contracts see of the reader, and what it keeps.
+-- What contracts see of a word and of the reader, and what the reader keeps.
 use Rattle.std.specs.Prelude.{◌≡◌, ℕ, ◌≤◌, true, ◌&&◌, nat_lt, nat_le, Bool, length, Option, Some, None, if◌then◌else◌}
 use Rattle.std.specs.List.{list_all}
 use Rattle.syn_base.specs.Name.{is_name}
@@ -7,9 +7,11 @@ use Rattle.archi_graph.specs.Archi.{ascends_from, are_distinct, names_of, stands
 use Rattle.archi_defs.specs.Text.{Bytes, Described, Reading}
 use Rattle.archi_reader.specs.declared.reader.Reader.{Reader}
 
+-- the name that a word is
 abbrev pub some_name : Bytes → Option Bytes
 some_name w = if is_name w then Some w else None
 
+-- what the reader has read
 abbrev pub reading : Reader → Reading
 reading r = record { versioned = r.versioned; operators = r.operators.items; media = r.media.items; lines = r.lines.items; connections = r.connections; durations = r.durations }
 
