@@ -1,3 +1,4 @@
 pub mod Errors
 pub mod Taken
 pub mod Whole
+pub mod Width
