@@ -1,6 +1,6 @@
 -- What a taken record leaves.
-use Rattle.std.proofs.Common.{Bor, ◌≡◌, ◌+◌, ◌∙◌, ◌∷◌, [], ℕ, List, Option, Some, None, IsSome, length, true, false, refl, sym, ap, subst, inl}
-use Rattle.csv.specs.Machine.{Read, next_record}
+use Rattle.std.proofs.Common.{Bor, ◌≡◌, ◌+◌, ◌∷◌, [], ℕ, List, Option, Some, None, IsSome, length, true, false, refl, sym, subst}
+use Rattle.csv.specs.Machine.{next_record}
 use Rattle.csv.specs.Reading.{AreRecords, Reached, ReadRecord, default_config, records_from, source_of}
 use Rattle.csv.specs.declared.parser.State.{State}
 use Rattle.csv.specs.declared.reader.Reader.{Reader}

@@ -1,5 +1,5 @@
 -- The header has a column for the number of the reaction and one for each element of the sensors.
-use Rattle.std.proofs.Common.{◌≡◌, ◌∙◌, ◌+◌, ◌++◌, ◌∷◌, [], ℕ, zero, suc, List, length, map, sum, refl, sym, ap, ap₂, arith, length-append}
+use Rattle.std.proofs.Common.{◌≡◌, ◌∙◌, ◌+◌, ◌∷◌, [], ℕ, zero, suc, List, length, sum, refl, sym, ap, ap₂, arith, length-append}
 use Rattle.std.proofs.lemmas.List.{length-map}
 use Rattle.std.proofs.lemmas.List.Sums.{sum_by-append}
 use Rattle.level_meaning.specs.Level.{numbers_below}
@@ -28,8 +28,8 @@ all_long : (us : Vertices) → length (columns_in us) ≡ sum (sensor_lengths_in
 all_long no_vertices = refl
 all_long (and_vertex (vertex l vs) us) =
     length-append (columns_of l.kind (name_of l.part) (first_length l.outs)) (columns_in us)
-      ∙ ap₂ (λ (m n : ℕ). m + n) (columns_long l.kind (name_of l.part) l.outs) (all_long us)
-      ∙ sym (sum_by-append (λ (x : ℕ). x) (sensor_length l.kind l.outs) (sensor_lengths_in us))
+    ∙ ap₂ (λ (m n : ℕ). m + n) (columns_long l.kind (name_of l.part) l.outs) (all_long us)
+    ∙ sym (sum_by-append (λ (x : ℕ). x) (sensor_length l.kind l.outs) (sensor_lengths_in us))
 
 pub header_long : (main : Vertex) → length (header_of main) ≡ suc (sum (sensor_lengths main))
 header_long (vertex l us) = ap suc (all_long us)

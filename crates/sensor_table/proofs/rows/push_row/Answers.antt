@@ -1,11 +1,11 @@
-use Rattle.std.proofs.Common.{◌≡◌, ◌∙◌, ◌==◌, ℕ, suc, ℤ, Bool, true, false, List, [], ◌∷◌, length, sum, Result, Ok, Err, refl, sym, ap, arith}
+use Rattle.std.proofs.Common.{◌≡◌, ◌∙◌, ◌==◌, ℕ, suc, ℤ, Bool, true, false, List, [], ◌∷◌, length, Result, Ok, Err, refl, sym, ap, arith}
 use Rattle.std.specs.Prelude.{if◌then◌else◌}
 use Rattle.std.proofs.lemmas.Bool.{eqb-true}
 use Rattle.csv.specs.Records.{fields_of}
 use Rattle.syn_base.specs.Integer.{integer_of}
-use Rattle.sensor_table.specs.SensorTable.{Record, is_number, numbers_from, refused, values_in, with_error, with_value, before}
+use Rattle.sensor_table.specs.SensorTable.{Record, is_number, numbers_from, values_in, with_error, before}
 use Rattle.sensor_table.specs.declared.fault.SensorCause.{SensorCause}
-use Rattle.sensor_table.specs.declared.fault.SensorCause.TheVariants.{BadCount, BadIndex, BadNumber}
+use Rattle.sensor_table.specs.declared.fault.SensorCause.TheVariants.{BadIndex}
 use Rattle.sensor_table.proofs.rows.push_row.Goals as goal
 
 abbrev or_else : {A E : Type 0} → A → Result A E → A

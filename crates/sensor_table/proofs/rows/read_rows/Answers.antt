@@ -3,7 +3,7 @@ use Rattle.std.proofs.lemmas.Grind.{common_steps}
 use Rattle.std.proofs.Common.{arith}
 use Rattle.csv.specs.Records.{fields_of}
 use Rattle.syn_base.specs.Rows.{Reactions}
-use Rattle.sensor_table.specs.Reading.{IsReading, left_of}
+use Rattle.sensor_table.specs.Reading.{left_of}
 use Rattle.sensor_table.specs.SensorTable.{Record, Row, before, row_of, rows_from, with_value}
 use Rattle.sensor_table.specs.declared.fault.SensorError.{SensorError}
 use Rattle.sensor_table.proofs.rows.read_rows.Goals as goal
@@ -32,5 +32,5 @@ pub loop-rows-preserved : goal.loop-rows-preserved
 loop-rows-preserved c =
     let taken = rw c.in-Some.is at c.in_ok-record.ensures in
     let r = rows_on c.args.lens.now c.loop-rows.rows c.push_row.new.rows (fields_of c.in-Some.record) (left_of c.args.records.now) (left_of c.loop-rows.records) (left_of c.next_record.new.records)
-      taken.0 c.loop-rows.invariant.lens c.in_ok-push_row.ensures c.loop-rows.invariant.total in
+    taken.0 c.loop-rows.invariant.lens c.in_ok-push_row.ensures c.loop-rows.invariant.total in
     record { reading = taken.1; lens = r.0; total = r.1 }
