@@ -1,4 +1,3 @@
-pub mod Errors
 pub mod Taken
 pub mod Whole
 pub mod Width

@@ -47,7 +47,8 @@ one_more : (cfg : Config) (s : State) (xs : List ℕ) (p : Read) (rows : List (L
 unfolding Reached
 one_more cfg s xs p rows e a = (a.0, a.1, (p, e, refl, a.2), a.3)
 
-no_more : (cfg : Config) (s : State) (xs : List ℕ) → next_record cfg s [] [] xs ≡ None → AreRecords cfg s xs []
+-- none is left where none is read
+pub no_more : (cfg : Config) (s : State) (xs : List ℕ) → next_record cfg s [] [] xs ≡ None → AreRecords cfg s xs []
 unfolding Reached
 no_more cfg s xs e = (s, xs, (refl, refl), e)
 

@@ -7,8 +7,9 @@ ghost use Rattle.level_meaning.specs.Level.{numbers_below};
 ghost use Rattle.algo_tree.specs.Ends.{first_length};
 ghost use Rattle.algo_tree.specs.View.{kind_view, vertices_view};
 ghost use Rattle.sensor_table.specs.Columns.{column, columns_in, columns_of, header_of, name_of};
+ghost use Rattle.sensor_table.specs.SensorTable.{is_header};
 
-use crate::field::field_at;
+use crate::records::field_at;
 use algo_tree::{Kind, Tree, Vertex};
 use csv::ByteRecord;
 use level_meaning::Part;
@@ -16,21 +17,21 @@ use std::alloc::Global;
 use syn_base::{Items, OutOfMemory, print_int};
 
 /// Says whether a record is the header of the sensors of this algorithm.
-pub fn is_header(alloc: Global, tree: &Tree, record: &ByteRecord) -> Result<bool, OutOfMemory>
-    ensures { IfOk result (λ same. same ≡ pointwise bytes_eq (fields_of record.now) (header_of tree.now)) }
+pub fn is_header(alloc: Global, tree: &Tree, fields: &ByteRecord) -> Result<bool, OutOfMemory>
+    ensures { IfOk result (λ same. same ≡ is_header tree.now (fields_of fields.now)) }
 {
     let header = header(alloc, tree)?;
-    Ok(has_fields(record, &header))
+    Ok(are_fields(fields, &header))
 }
 
-fn has_fields(record: &ByteRecord, fields: &[Items<u8>]) -> bool
-    ensures { result ≡ pointwise bytes_eq (fields_of record.now) fields.now }
+fn are_fields(fields: &ByteRecord, wanted: &[Items<u8>]) -> bool
+    ensures { result ≡ pointwise bytes_eq (fields_of fields.now) wanted.now }
 {
-    if record.len() != fields.len() {
+    if fields.len() != wanted.len() {
         return false;
     }
-    for (at, field) in fields.iter().enumerate() {
-        if field_at(record, at) != field.as_slice() {
+    for (at, field) in wanted.iter().enumerate() {
+        if field_at(fields, at) != field.as_slice() {
             return false;
         }
     }

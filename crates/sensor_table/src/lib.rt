@@ -2,7 +2,6 @@
 #![tactic(auto)]
 
 mod fault;
-mod field;
 mod header;
 mod records;
 mod rows;

@@ -1,6 +1,7 @@
 //! The records of a text, taken one after another.
-ghost use Rattle.std.specs.Prelude.{◌≡◌, IfOk};
+ghost use Rattle.std.specs.Prelude.{◌≡◌, [], slice_index_or, IfOk};
 ghost use Rattle.csv.specs.Reading.{default_config, error_kind, records, strip_bom};
+ghost use Rattle.csv.specs.Records.{fields_of};
 ghost use Rattle.sensor_table.specs.Reading.{IsPlain, IsReading, Takes, left_of};
 
 use csv::{ByteRecord, ByteRecordsIntoIter, Error, ErrorKind, ReaderBuilder};
@@ -31,6 +32,13 @@ pub fn next_record(
         Some(Err(error)) => Err(want(&error)),
         None => Ok(None),
     }
+}
+
+/// The field in this column, which is empty behind the last one.
+pub fn field_at(fields: &ByteRecord, column: usize) -> &[u8]
+    ensures { result.now ≡ slice_index_or (fields_of fields.now) column [] }
+{
+    fields.get(column).unwrap_or(&[])
 }
 
 /// The want of memory for which a record was not read. A slice of bytes gives no other error, though no

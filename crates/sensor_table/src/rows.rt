@@ -9,8 +9,7 @@ ghost use Rattle.sensor_table.specs.Reading.{IsReading, left_of};
 ghost use Rattle.sensor_table.specs.SensorTable.{is_number, numbers_from, reactions_of, refused, row_of, too_many, values_in, with_error};
 
 use crate::fault::{SensorCause, SensorError, refusal};
-use crate::field::field_at;
-use crate::records::next_record;
+use crate::records::{field_at, next_record};
 use csv::{ByteRecord, ByteRecordsIntoIter};
 use std::alloc::Global;
 use syn_base::{LimitFault, LimitKind, SensorRows, read_int};
@@ -40,17 +39,17 @@ pub fn read_rows(
 fn push_row(
     alloc: Global,
     columns: usize,
-    record: &ByteRecord,
+    fields: &ByteRecord,
     rows: &mut SensorRows,
 ) -> Result<(), SensorError>
     requires { columns ≡ suc (sum rows.old.lens) }
-    ensures { Pushes (row_of rows.old.lens (length rows.old.reactions) (fields_of record.now)) rows.old rows.new result }
+    ensures { Pushes (row_of rows.old.lens (length rows.old.reactions) (fields_of fields.now)) rows.old rows.new result }
 {
     let reaction = rows.count();
     if reaction >= REACTION_BOUND {
         return Err(above_bound());
     }
-    let values = read_row(alloc, columns, reaction, record)?;
+    let values = read_row(alloc, columns, reaction, fields)?;
     rows.push(&values)?;
     Ok(())
 }
@@ -71,24 +70,24 @@ fn read_row(
     alloc: Global,
     columns: usize,
     reaction: usize,
-    record: &ByteRecord,
+    fields: &ByteRecord,
 ) -> Result<Vec<i64>, SensorError>
     requires columns { 0 < columns }
     requires reaction { reaction < bound_of Reactions }
-    ensures { GivesList result (with_error (refused (suc reaction)) (values_in columns reaction (fields_of record.now))) }
+    ensures { GivesList result (with_error (refused (suc reaction)) (values_in columns reaction (fields_of fields.now))) }
 {
     let row = reaction as u64 + 1;
-    if record.len() != columns {
+    if fields.len() != columns {
         let cause = SensorCause::BadCount {
-            found: record.len() as u64,
+            found: fields.len() as u64,
             wanted: columns as u64,
         };
         return Err(refusal(row, cause));
     }
-    if !is_index(reaction, field_at(record, 0)) {
+    if !is_index(reaction, field_at(fields, 0)) {
         return Err(refusal(row, SensorCause::BadIndex));
     }
-    read_values(alloc, row, record)
+    read_values(alloc, row, fields)
 }
 
 fn is_index(reaction: usize, field: &[u8]) -> bool
@@ -101,12 +100,12 @@ fn is_index(reaction: usize, field: &[u8]) -> bool
 }
 
 /// The numbers of the fields behind the first one.
-fn read_values(alloc: Global, row: u64, record: &ByteRecord) -> Result<Vec<i64>, SensorError>
-    ensures { GivesList result (with_error (refused row) (numbers_from 1 (drop 1 (fields_of record.now)))) }
+fn read_values(alloc: Global, row: u64, fields: &ByteRecord) -> Result<Vec<i64>, SensorError>
+    ensures { GivesList result (with_error (refused row) (numbers_from 1 (drop 1 (fields_of fields.now)))) }
 {
     let mut values = Vec::new(alloc);
-    for column in 1..record.len() {
-        match read_int(field_at(record, column)) {
+    for column in 1..fields.len() {
+        match read_int(field_at(fields, column)) {
             Ok(value) => values.push(value)?,
             Err(_) => return Err(refusal(row, SensorCause::BadNumber(column))),
         }

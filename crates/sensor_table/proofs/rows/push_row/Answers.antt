@@ -15,7 +15,8 @@ or_else x (Err e) = x
 same_ok : {A E : Type 0} (x y : A) (r : Result A E) → r ≡ Ok x → r ≡ Ok y → x ≡ y
 same_ok x y r e f = ap (or_else x) (sym e ∙ f)
 
-one_more : {E : Type 0} (first : Result ℤ E) (rest : Result (List ℤ) E) (n : ℕ) (values : List ℤ) → ((more : List ℤ) → rest ≡ Ok more → length more ≡ n) → before first rest ≡ Ok values → length values ≡ suc n
+one_more : {E : Type 0} (first : Result ℤ E) (rest : Result (List ℤ) E) (n : ℕ) (values : List ℤ)
+    → ((more : List ℤ) → rest ≡ Ok more → length more ≡ n) → before first rest ≡ Ok values → length values ≡ suc n
 one_more (Err e) rest n values long h = absurd (cc)
 one_more (Ok v) (Err e) n values long h = absurd (cc)
 one_more (Ok v) (Ok vs) n values long h = sym (ap length (same_ok _ _ _ refl h)) ∙ ap suc (long vs refl)
@@ -44,5 +45,5 @@ without_error f (Err e) x h = absurd (cc)
 
 pub push-requires : goal.push-requires
 push-requires c =
-    let long = values_long c.args.columns c.count-reaction.result (fields_of c.args.record.now) c.in_ok-values.values.items (without_error _ _ _ c.in_ok-values.ensures) in
+    let long = values_long c.args.columns c.count-reaction.result (fields_of c.args.fields.now) c.in_ok-values.values.items (without_error _ _ _ c.in_ok-values.ensures) in
     rw c.deref.ensures.value (omega (arith, long, c.requires))

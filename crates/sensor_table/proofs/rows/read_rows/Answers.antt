@@ -9,7 +9,8 @@ use Rattle.sensor_table.specs.declared.fault.SensorError.{SensorError}
 use Rattle.sensor_table.proofs.rows.read_rows.Goals as goal
 
 -- a row goes from the front of what is left to the end of what is there
-one_over : (rows : List Row) (row : Row) (left : Result (List Row) SensorError) → with_value (λ more. rows ++ more) (before (Ok row) left) ≡ with_value (λ more. (rows ++ row ∷ []) ++ more) left
+one_over : (rows : List Row) (row : Row) (left : Result (List Row) SensorError)
+    → with_value (λ more. rows ++ more) (before (Ok row) left) ≡ with_value (λ more. (rows ++ row ∷ []) ++ more) left
 one_over rows row (Err e) = refl
 one_over rows row (Ok more) = ap (λ (x : List Row). Ok x) (sym (append_assoc rows (row ∷ []) more))
 

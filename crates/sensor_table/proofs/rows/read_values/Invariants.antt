@@ -5,4 +5,4 @@ use Rattle.sensor_table.proofs.rows.read_values.Given as goal
 
 -- the values so far, before those of the fields that are left
 abbrev pub invariant-loop-column : goal.invariant-loop-column
-invariant-loop-column l = numbers_from 1 (drop 1 (fields_of l.record)) ≡ with_value (λ more. l.values.items ++ more) (numbers_from l.column (drop l.column (fields_of l.record)))
+invariant-loop-column l = numbers_from 1 (drop 1 (fields_of l.fields)) ≡ with_value (λ more. l.values.items ++ more) (numbers_from l.column (drop l.column (fields_of l.fields)))
