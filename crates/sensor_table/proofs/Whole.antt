@@ -43,7 +43,8 @@ unfolding records_from
 no_records cfg zero = refl
 no_records cfg (suc n) = rw (none_left cfg) refl
 
-one_more : (cfg : Config) (s : State) (xs : List ℕ) (p : Read) (rows : List (List (List ℕ))) → next_record cfg s [] [] xs ≡ Some p → AreRecords cfg p.1 p.2 rows → AreRecords cfg s xs (p.0 ∷ rows)
+one_more : (cfg : Config) (s : State) (xs : List ℕ) (p : Read) (rows : List (List (List ℕ)))
+    → next_record cfg s [] [] xs ≡ Some p → AreRecords cfg p.1 p.2 rows → AreRecords cfg s xs (p.0 ∷ rows)
 unfolding Reached
 one_more cfg s xs p rows e a = (a.0, a.1, (p, e, refl, a.2), a.3)
 

@@ -45,7 +45,7 @@ abbrev pub numbers_from : ℕ → Record → Result (List ℤ) SensorCause
 numbers_from column [] = Ok []
 numbers_from column (field ∷ fields) = before (with_error (λ _. BadNumber column) (integer_of field)) (numbers_from (suc column) fields)
 
--- whether a field is this number
+-- whether a field that was read is this number
 abbrev pub is_number : ℕ → Result ℤ NumFault → Bool
 is_number n (Ok v) = int_eq v (pos n)
 is_number n (Err e) = false

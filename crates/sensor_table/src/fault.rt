@@ -54,6 +54,7 @@ impl<T: Drop> From<AllocFailed<T>> for SensorError {
     }
 }
 
+/// A refusal at a record of the table.
 pub(crate) fn refusal(row: u64, cause: SensorCause) -> SensorError
     ensures { result ≡ refused row cause }
 {

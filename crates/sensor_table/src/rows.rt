@@ -14,9 +14,6 @@ use csv::{ByteRecord, ByteRecordsIntoIter};
 use std::alloc::Global;
 use syn_base::{LimitFault, LimitKind, SensorRows, read_int};
 
-/// The most reactions of a table.
-const REACTION_BOUND: usize = 10_000;
-
 /// The rows of the records that are left, for sensors of these lengths and a header of so many columns.
 pub fn read_rows(
     alloc: Global,
@@ -46,7 +43,7 @@ fn push_row(
     ensures { Pushes (row_of rows.old.lens (length rows.old.reactions) (fields_of fields.now)) rows.old rows.new result }
 {
     let reaction = rows.count();
-    if reaction >= REACTION_BOUND {
+    if reaction as u128 >= LimitKind::Reactions.bound() {
         return Err(above_bound());
     }
     let values = read_row(alloc, columns, reaction, fields)?;
@@ -65,7 +62,7 @@ fn above_bound() -> SensorError
     })
 }
 
-/// The values of a reaction.
+/// The values of a reaction, behind its number.
 fn read_row(
     alloc: Global,
     columns: usize,
