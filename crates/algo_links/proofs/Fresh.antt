@@ -39,6 +39,6 @@ pub name_added : (ds : List Def) (i : ℕ) (d : Def) (w : Bytes) (names new : Li
     → new ++ names_of (drop (i + 1) ds) ≡ names_of ds
 name_added ds i d w names new r distinct h is named before told after =
     let here : names ++ w ∷ names_of (drop (i + 1) ds) ≡ names_of ds =
-        ap (λ (x : Bytes). names ++ x ∷ names_of (drop (i + 1) ds)) named ∙ ap (λ xs. names ++ names_of xs) (sym (from_here ds i d h is)) ∙ before in
+    ap (λ (x : Bytes). names ++ x ∷ names_of (drop (i + 1) ds)) named ∙ ap (λ xs. names ++ names_of xs) (sym (from_here ds i d h is)) ∙ before in
     let fresh = is_new w names (names_of (drop (i + 1) ds)) (subst AreDistinctNames (sym here) distinct) in
     ap (λ (xs : List Bytes). xs ++ names_of (drop (i + 1) ds)) (taken names new w _ r fresh told after) ∙ append_assoc names (w ∷ []) (names_of (drop (i + 1) ds)) ∙ here

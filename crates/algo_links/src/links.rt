@@ -50,11 +50,7 @@ fn places_of_def(alloc: Global, names: &Names, def: &Def) -> Result<Items<u32>, 
 }
 
 /// The places of the names that each definition names, or the first line whose name is not there.
-fn places_of_all(
-    alloc: Global,
-    names: &Names,
-    defs: &[Def],
-) -> Result<Vec<Items<u32>>, AlgoError>
+fn places_of_all(alloc: Global, names: &Names, defs: &[Def]) -> Result<Vec<Items<u32>>, AlgoError>
     requires { length names.now ≤ 4000000000 }
     ensures checks { Checks result (unknown_all names.now defs.now) }
     ensures links { IfOk result (λ links. links.items ≡ places_all names.now defs.now) }

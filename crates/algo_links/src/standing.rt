@@ -32,7 +32,8 @@ fn may_be_inner(body: &Body) -> bool
     ensures { result ≡ may_be_inner body.now }
 {
     match body {
-        Body::Function { .. } | Body::Graph { .. } | Body::Switch { .. } | Body::Repeat { .. } => true,
+        Body::Function { .. } | Body::Graph { .. } | Body::Switch { .. } | Body::Repeat { .. } =>
+            true,
         _ => false,
     }
 }
@@ -93,7 +94,13 @@ pub fn check_standing(alloc: Global, defs: &[Def], links: &[Items<u32>]) -> Resu
         let Ok(mentions) = mentions_of(alloc, def) else {
             return Err(AlgoError::OutOfMemory);
         };
-        check_lines(alloc, &def.name, mentions.as_slice(), links[i].as_slice(), defs)?;
+        check_lines(
+            alloc,
+            &def.name,
+            mentions.as_slice(),
+            links[i].as_slice(),
+            defs,
+        )?;
     }
     Ok(())
 }
