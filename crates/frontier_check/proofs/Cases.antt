@@ -1,5 +1,5 @@
 -- The faults of the cases of a switch, one case after another.
-use Rattle.std.proofs.Common.{◌≡◌, ℕ, ◌<◌, ◌≤◌, suc, Bool, true, false, cond, List, [], ◌∷◌, ◌++◌, Option, Some, None, Result, Ok, Err, length, map, get_or, take, drop, refl, ap, sym, ◌∙◌, subst, ℤ}
+use Rattle.std.proofs.Common.{◌≡◌, ℕ, ◌<◌, ◌≤◌, suc, Bool, true, false, cond, List, [], ◌∷◌, ◌++◌, Option, Some, None, Err, length, map, get_or, take, drop, ap, sym, ◌∙◌, subst, ℤ}
 use Rattle.std.proofs.lemmas.List.{map-append, at_drop_all}
 use Rattle.std.proofs.Math.Seq.{take-suc, drop-cons}
 use Rattle.body_lang.specs.declared.expression.Port.{Port}

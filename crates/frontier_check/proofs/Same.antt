@@ -1,6 +1,5 @@
 -- Lists of ports of different lengths.
-use Rattle.std.proofs.Common.{◌≡◌, ℕ, Bool, true, false, ◌&&◌, suc, List, [], ◌∷◌, length, refl, ap, ◌∙◌}
-use Rattle.std.specs.Str.{bytes_eq}
+use Rattle.std.proofs.Common.{◌≡◌, Bool, true, false, ◌&&◌, suc, List, [], ◌∷◌, length, refl, ap}
 use Rattle.body_lang.specs.declared.expression.Port.{Port}
 use Rattle.algo_rules.specs.Ports.{same_ports}
 

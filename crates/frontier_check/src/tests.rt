@@ -123,7 +123,7 @@ fn a_chain_of_cells(rt: HostRuntime) -> Result<(), Fail> {
     let cell = cell(alloc)?;
     let lines = chain(alloc)?;
     assert_eq!(rt; told(check_repeat(1, 4, &cell, &lines)), 0);
-    assert_eq!(rt; told(check_repeat(1, 4, &cell, &lines[..2])), 1);
+    assert_eq!(rt; told(check_repeat(1, 4, &cell, &[])), 1);
     let body = Body::Repeat {
         copies: 4,
         def: Name::new(alloc, b"Cell")?,
@@ -172,6 +172,6 @@ fn cases_have_values_of_their_own(rt: HostRuntime) -> Result<(), Fail> {
     let again = case(alloc, 0, b"F", 15)?;
     assert_eq!(rt; told(check_case(ins, outs, &[], &first[0], &pair)), 0);
     assert_eq!(rt; told(check_case(ins, outs, &first, &again, &pair)), 15);
-    assert_eq!(rt; told(check_case(&ins[1..], outs, &[], &again, &pair)), 15);
+    assert_eq!(rt; told(check_case(outs, outs, &[], &again, &pair)), 15);
     Ok(())
 }

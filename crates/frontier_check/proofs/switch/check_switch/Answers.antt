@@ -1,7 +1,6 @@
-use Rattle.std.proofs.Common.{rules, ap, ◌≡◌, ℕ, ◌+◌, ◌<◌, ◌∷◌, [], ◌++◌, suc, length, get_or, add-one, sym, ◌∙◌, arith, subst, cond, Some, None, Option}
-use Rattle.algo_defs.specs.declared.fault.AlgoError.{AlgoError}
+use Rattle.std.proofs.Common.{rules, ap, ◌≡◌, ◌<◌, ◌∷◌, [], length, add-one, sym, ◌∙◌, arith, cond, None}
 use Rattle.algo_defs.specs.declared.fault.AlgoCause.TheVariants.{BadCase}
-use Rattle.algo_rules.specs.Links.{fault, first_of}
+use Rattle.algo_rules.specs.Links.{fault}
 use Rattle.algo_rules.specs.Ports.{ports_of}
 use Rattle.algo_rules.specs.Frontiers.{fits, switch_fault}
 use Rattle.algo_rules.specs.declared.ports.Ports.{Ports}
