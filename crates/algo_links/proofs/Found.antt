@@ -1,7 +1,7 @@
 -- Where the definition of a name stands.
-use Rattle.std.proofs.Common.{◌≡◌, ℕ, zero, suc, ◌+◌, ◌<◌, ◌≤◌, Bool, not, true, false, cond, List, [], ◌∷◌, ◌++◌, length, get_or, map, Option, Some, None, Result, IfOk, refl, ap, sym, subst, ◌∙◌, arith, nat_lt, position, if◌then◌else◌}
+use Rattle.std.proofs.Common.{◌≡◌, ℕ, zero, suc, ◌+◌, ◌<◌, Bool, not, true, false, cond, List, [], ◌∷◌, ◌++◌, length, map, Option, Some, None, Result, IfOk, refl, ap, sym, subst, ◌∙◌, arith, nat_lt, position, if◌then◌else◌}
 use Rattle.std.specs.Prelude.{slice_get}
-use Rattle.std.specs.List.{flat_map, position_or_len, prefix_len}
+use Rattle.std.specs.List.{flat_map, position_or_len}
 use Rattle.std.specs.Str.{bytes_eq}
 use Rattle.std.specs.Global.{Vec}
 use Rattle.std.proofs.lemmas.Bool.{ltb-true}
@@ -10,9 +10,8 @@ use Rattle.std.proofs.lemmas.List.{map-append}
 use Rattle.text_lines.proofs.Places.{missing_at, found_at}
 use Rattle.algo_defs.specs.declared.definition.Def.{Def}
 use Rattle.algo_defs.specs.declared.fault.AlgoError.{AlgoError}
-use Rattle.algo_defs.specs.declared.fault.AlgoCause.TheVariants.{UnknownName}
 use Rattle.algo_defs.specs.Words.{Bytes}
-use Rattle.algo_rules.specs.Links.{fault, first_of, Mention, mentions, definition, unknown_by, unknown, links_of}
+use Rattle.algo_rules.specs.Links.{first_of, Mention, mentions, definition, unknown_by, unknown, links_of}
 use Rattle.algo_rules.specs.Placed.{Checks}
 use Rattle.algo_links.specs.Placing.{names_of, unknown_at, unknown_one, unknown_all, place_one, places_in, places_all, place_of, places_of}
 

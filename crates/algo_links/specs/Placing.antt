@@ -1,5 +1,5 @@
 -- The lines that name definitions, over the names of all definitions in order.
-use Rattle.std.specs.Prelude.{◌≡◌, ℕ, List, [], ◌∷◌, map, position, Option, Some, None}
+use Rattle.std.specs.Prelude.{◌≡◌, ℕ, List, map, position, Option, Some, None}
 use Rattle.std.specs.List.{flat_map, position_or_len}
 use Rattle.std.specs.Str.{bytes_eq}
 use Rattle.algo_defs.specs.declared.definition.Def.{Def}

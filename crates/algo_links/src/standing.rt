@@ -21,21 +21,17 @@ fn is_main(name: &Name) -> bool
 fn is_end(body: &Body) -> bool
     ensures { result ≡ is_end body.now }
 {
-    match body {
-        Body::Sensor(_) | Body::Actuator(_) => true,
-        _ => false,
-    }
+    matches!(body, Body::Sensor(_) | Body::Actuator(_))
 }
 
 /// What may be a case or the body of a repetition.
 fn may_be_inner(body: &Body) -> bool
     ensures { result ≡ may_be_inner body.now }
 {
-    match body {
-        Body::Function { .. } | Body::Graph { .. } | Body::Switch { .. } | Body::Repeat { .. } =>
-            true,
-        _ => false,
-    }
+    matches!(
+        body,
+        Body::Function { .. } | Body::Graph { .. } | Body::Switch { .. } | Body::Repeat { .. }
+    )
 }
 
 /// The definition may stand where a line of the owner names it.
