@@ -1,11 +1,11 @@
 -- Depths followed in rounds.
 use Rattle.std.proofs.Common.{◌≡◌, ℕ, zero, suc, ◌+◌, ◌<◌, ◌≤◌, List, [], ◌∷◌, length, map, get_or, arith, refl, sym, ap, subst, ◌∙◌, replicate}
-use Rattle.std.specs.Prelude.{Contains, slice_index}
+use Rattle.std.specs.Prelude.{slice_index}
 use Rattle.std.specs.List.{All, range_with_len}
 use Rattle.std.proofs.lemmas.List.Elements.{All-contains, All-head, All-tail}
 use Rattle.std.proofs.lemmas.List.FromFn.{fill_by_all, get_or-map-range_with_len, length-map-range_with_len}
 use Rattle.reference_graph.specs.Links.{Links, from, greatest, depth_within, numbers}
-use Rattle.reference_graph.specs.Answer.{AreInside, Refers}
+use Rattle.reference_graph.specs.Answer.{AreInside}
 use Rattle.reference_graph.specs.Settled.{depths_within, depth_by}
 use Rattle.reference_graph.proofs.SettledDepths.{same_greatest, greatest_below}
 

@@ -3,3 +3,4 @@ pub mod SettledDepths
 pub mod Deeper
 pub mod Queues
 pub mod Pushed
+pub mod Enough

@@ -1,19 +1,19 @@
 -- The search from a vertex.
 use Rattle.std.proofs.Common.{◌≡◌, ◌≢◌, ℕ, zero, suc, ◌+◌, ◌<◌, ◌≤◌, Bool, true, false, not, cond, List, [], ◌∷◌, ◌++◌, length, get_or, set, arith, refl, sym, ap, subst, ◌∙◌, replicate, get_or-set_other, get_or-set_same, length-append, ◌⊎◌, inl, inr}
-use Rattle.std.specs.Prelude.{Contains, slice_index}
-use Rattle.std.specs.List.{All, count_by, sum_by}
+use Rattle.std.specs.Prelude.{Contains}
+use Rattle.std.specs.List.{count_by}
 use Rattle.std.proofs.Math.Dec.{eqb}
 use Rattle.std.proofs.Math.ListN.{length-set}
 use Rattle.std.proofs.lemmas.Bool.{eqb-true, eqb-false}
-use Rattle.std.proofs.lemmas.List.Elements.{Contains-get_or, Contains-append_left, Contains-push, Contains-push_cases}
+use Rattle.std.proofs.lemmas.List.Elements.{Contains-append_left, Contains-push}
 use Rattle.std.proofs.lemmas.List.{get_or_default}
 use Rattle.std.proofs.lemmas.List.Folds.{sum_by-replicate}
 use Rattle.std.proofs.lemmas.List.Sums.{sum_by-set}
-use Rattle.reference_graph.specs.Links.{Links, from, leads_within, reaches_itself}
-use Rattle.reference_graph.specs.Answer.{AreInside, Refers}
+use Rattle.reference_graph.specs.Links.{Links, from, reaches_itself}
+use Rattle.reference_graph.specs.Answer.{Refers}
 use Rattle.reference_graph.specs.Search.{IsMarked, IsQueue, Grows}
 use Rattle.reference_graph.specs.Reached.{IsReached}
-use Rattle.reference_graph.proofs.Paths.{arrives, one_more, longer, longer_to, refers_within}
+use Rattle.reference_graph.proofs.Paths.{arrives, one_more, longer, refers_within}
 
 pub marked_inside : (marks : List Bool) (b : ℕ) → IsMarked marks b → b < length marks
 marked_inside [] b h = absurd (cc)

@@ -1,14 +1,14 @@
 -- Depths settled one by one are the depths that are defined.
-use Rattle.std.proofs.Common.{◌≡◌, ◌≢◌, ℕ, zero, suc, ◌+◌, ◌<◌, ◌≤◌, Bool, true, false, List, [], ◌∷◌, length, map, get_or, set, arith, refl, sym, ap, subst, ◌∙◌, max, get_or-set_other, get_or-set_same, replicate, None}
+use Rattle.std.proofs.Common.{◌≡◌, ◌≢◌, ℕ, zero, suc, ◌+◌, ◌<◌, ◌≤◌, Bool, true, false, List, [], ◌∷◌, length, map, get_or, set, arith, refl, sym, ap, subst, ◌∙◌, get_or-set_other, get_or-set_same, replicate, None}
 use Rattle.std.specs.Prelude.{Contains, slice_index}
-use Rattle.std.specs.List.{All, range_with_len}
+use Rattle.std.specs.List.{All}
 use Rattle.std.proofs.Math.Dec.{eqb}
 use Rattle.std.proofs.lemmas.Bool.{eqb-true, eqb-false}
 use Rattle.std.proofs.lemmas.List.Elements.{Contains-get_or, Contains-append_right}
 use Rattle.std.proofs.lemmas.List.FromFn.{fill_by_all}
-use Rattle.reference_graph.specs.Links.{Links, from, greatest, depth_within, depth, depths, numbers, reaches_itself, first_recursive}
+use Rattle.reference_graph.specs.Links.{Links, from, greatest, depth_within, depth, depths, reaches_itself, first_recursive}
 use Rattle.reference_graph.specs.Answer.{Refers}
-use Rattle.reference_graph.specs.Settled.{IsSettled, depths_within, depth_by}
+use Rattle.reference_graph.specs.Settled.{IsSettled}
 use Rattle.reference_graph.proofs.Paths.{no_return, none_is}
 
 -- ---- the greatest

@@ -3,3 +3,4 @@ pub mod Answer
 pub mod Settled
 pub mod Search
 pub mod Reached
+pub mod Laws

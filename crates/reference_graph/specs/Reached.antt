@@ -1,6 +1,6 @@
 -- How far the search from a vertex has come.
 use Rattle.std.specs.Prelude.{◌≡◌, ℕ, ◌<◌, true, Bool, List, length, slice_index}
-use Rattle.reference_graph.specs.Links.{Links, from, leads_within}
+use Rattle.reference_graph.specs.Links.{Links, leads_within}
 use Rattle.reference_graph.specs.Answer.{Refers}
 use Rattle.reference_graph.specs.Search.{IsMarked, IsQueue}
 

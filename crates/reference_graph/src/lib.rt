@@ -2,6 +2,7 @@
 #![tactic(auto)]
 
 mod depths;
+mod laws;
 mod links;
 mod ranks;
 mod rounds;
@@ -10,6 +11,7 @@ mod settling;
 mod walk;
 
 pub use depths::{Depths, depths_of};
+pub use laws::{depths_are_one_deeper, links_are_enough};
 pub use links::are_inside;
 pub use search::reaching;
 

@@ -1,4 +1,4 @@
-use Rattle.std.proofs.Common.{◌≡◌, ◌<◌, ◌∙◌, List, ℕ, length, refl, subst}
+use Rattle.std.proofs.Common.{◌<◌, ◌∙◌, List, ℕ, refl, subst}
 use Rattle.std.specs.List.{All}
 use Rattle.reference_graph.proofs.SettledDepths.{settled_depths, settled_none}
 use Rattle.reference_graph.proofs.depths.depths_of.Goals as goal

@@ -1,4 +1,4 @@
-use Rattle.std.proofs.Common.{ℕ, ◌<◌, ◌≤◌, get_or}
+use Rattle.std.proofs.Common.{ℕ, ◌<◌, get_or}
 use Rattle.reference_graph.proofs.ranks.are_below.Given as goal
 
 abbrev pub invariant-loop-b : goal.invariant-loop-b

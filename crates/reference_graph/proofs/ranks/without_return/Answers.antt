@@ -1,4 +1,4 @@
-use Rattle.std.proofs.Common.{◌≡◌, ℕ, ◌<◌, length, get_or, refl, arith}
+use Rattle.std.proofs.Common.{length, refl}
 use Rattle.std.specs.Prelude.{slice_index}
 use Rattle.reference_graph.proofs.Paths.{no_return}
 use Rattle.reference_graph.proofs.ranks.without_return.Goals as goal

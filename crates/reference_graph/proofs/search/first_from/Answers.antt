@@ -1,4 +1,4 @@
-use Rattle.std.proofs.Common.{◌≡◌, true, length, sym, ◌∙◌, arith}
+use Rattle.std.proofs.Common.{length, sym, ◌∙◌, arith}
 use Rattle.reference_graph.specs.Links.{reaches_itself}
 use Rattle.reference_graph.proofs.Paths.{first_is, none_is}
 use Rattle.reference_graph.proofs.search.first_from.Goals as goal

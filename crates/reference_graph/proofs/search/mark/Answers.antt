@@ -1,4 +1,4 @@
-use Rattle.std.proofs.Common.{◌≡◌, List, ℕ, sym, subst, refl, true}
+use Rattle.std.proofs.Common.{List, ℕ, sym, subst, true}
 use Rattle.std.specs.Prelude.{slice_set, ◌∷◌, []}
 use Rattle.reference_graph.specs.Search.{Grows}
 use Rattle.reference_graph.proofs.Queues.{grows_by}

@@ -1,5 +1,4 @@
 use Rattle.std.proofs.Common.{◌≡◌, ℕ, ◌<◌, length, get_or}
-use Rattle.std.specs.List.{Contains}
 use Rattle.reference_graph.specs.Search.{Grows, IsMarked}
 use Rattle.reference_graph.proofs.search.mark_all.Given as goal
 

@@ -1,4 +1,4 @@
-use Rattle.std.proofs.Common.{◌≡◌, ◌+◌, ◌≤◌, List, ℕ, map, ap, arith, ◌∙◌}
+use Rattle.std.proofs.Common.{◌+◌, List, ℕ, map, ap, arith, ◌∙◌}
 use Rattle.std.specs.Prelude.{slice_index}
 use Rattle.reference_graph.specs.Links.{greatest}
 use Rattle.reference_graph.proofs.SettledDepths.{greatest_below}

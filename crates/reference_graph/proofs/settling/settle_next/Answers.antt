@@ -1,4 +1,4 @@
-use Rattle.std.proofs.Common.{◌≡◌, ℕ, ◌<◌, List, length, get_or, refl, sym, subst, arith}
+use Rattle.std.proofs.Common.{ℕ, List, get_or, refl, sym, subst, arith}
 use Rattle.std.specs.Prelude.{Contains}
 use Rattle.reference_graph.proofs.SettledDepths.{settled_more}
 use Rattle.reference_graph.proofs.settling.settle_next.Goals as goal
