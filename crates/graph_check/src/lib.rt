@@ -1,0 +1,6 @@
+//! Checks of a graph: whether its edges join what they may, each input has one, and no reference depends
+//! on itself.
+#![tactic(auto)]
+
+mod fault;
+mod parts;
