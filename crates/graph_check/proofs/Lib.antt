@@ -1,1 +1,4 @@
 pub mod Named
+pub mod Found
+pub mod Marked
+pub mod Steps

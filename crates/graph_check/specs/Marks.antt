@@ -1,5 +1,5 @@
 -- Marks of the ends into which edges lead: a row of 65 for each reference, and one for the graph itself.
-use Rattle.std.specs.Prelude.{ℕ, ◌≡◌, ◌≤◌, ◌+◌, ◌*◌, Bool, false, nat_lt, List, length, Option, Some, None, if◌then◌else◌, slice_index_or, not, ◌==◌}
+use Rattle.std.specs.Prelude.{ℕ, ◌≡◌, ◌≤◌, ◌+◌, ◌*◌, Bool, true, false, nat_lt, List, length, Option, Some, None, if◌then◌else◌, slice_index_or, slice_set, not, ◌==◌}
 use Rattle.std.specs.List.{All}
 use Rattle.body_lang.specs.declared.expression.Port.{Port}
 use Rattle.algo_defs.specs.Words.{Bytes}
@@ -26,6 +26,11 @@ spot g (Some r) w = spot_in (place g.references.now r) (named g r).ins w
 abbrev pub marked : List Bool → Option ℕ → Bool
 marked marks None = false
 marked marks (Some at) = slice_index_or marks at false
+
+-- the marks with one more
+abbrev pub mark_at : List Bool → Option ℕ → List Bool
+mark_at marks None = marks
+mark_at marks (Some at) = slice_set marks at true
 
 -- exactly the ends are marked into which these edges lead
 abbrev pub AreMarked : GraphParts → List Bool → List Edge → Type 0

@@ -2,5 +2,7 @@
 //! on itself.
 #![tactic(auto)]
 
+mod edges;
 mod fault;
+mod marks;
 mod parts;

@@ -1,5 +1,5 @@
 //! A graph with the definitions that its references name, and what its ends are.
-ghost use Rattle.std.specs.Prelude.{◌≡◌, MatchOption, slice_index_or, length};
+ghost use Rattle.std.specs.Prelude.{◌≡◌, ◌≤◌, MatchOption, slice_index_or, length};
 ghost use Rattle.algo_rules.specs.Graphs.{place, port_len};
 ghost use Rattle.algo_rules.specs.Ports.{number_of, no_ports};
 ghost use Rattle.graph_check.specs.Parts.{named, givers, takers, IsPlacedGraph};
@@ -25,7 +25,8 @@ pub struct GraphParts<'a> {
 
 /// The place of the reference of a name, or how many there are.
 pub fn find_reference(references: &[Reference], name: &[u8]) -> usize
-    ensures { result ≡ place references.now name.now }
+    ensures first { result ≡ place references.now name.now }
+    ensures within { result ≤ length references.now }
 {
     for (at, reference) in references.iter().enumerate() {
         if name == reference.name.as_bytes() {
