@@ -2,3 +2,4 @@ pub mod Named
 pub mod Found
 pub mod Marked
 pub mod Steps
+pub mod LeftOpen

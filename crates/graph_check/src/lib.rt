@@ -6,3 +6,4 @@ mod edges;
 mod fault;
 mod marks;
 mod parts;
+mod unfed;
