@@ -1,2 +1,16 @@
 //! Vertices that refer to one another by number: which reach themselves, and how deep each is.
 #![tactic(auto)]
+
+mod depths;
+mod links;
+mod ranks;
+mod rounds;
+mod search;
+mod settling;
+mod walk;
+
+pub use depths::{depths_of, Depths};
+pub use search::reaching;
+
+#[cfg(test)]
+mod tests;
