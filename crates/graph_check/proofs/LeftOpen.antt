@@ -1,6 +1,6 @@
 -- Ends into which no edge leads.
 use Rattle.std.proofs.Common.{◌≡◌, ℕ, zero, suc, ◌+◌, ◌<◌, List, [], ◌∷◌, ◌++◌, length, map, drop, get_or, refl, sym, ◌∙◌, subst, ap, arith, add-one, drop-cons}
-use Rattle.std.specs.Prelude.{Option, Some, None, Result, Ok, Err, slice_index_or}
+use Rattle.std.specs.Prelude.{Option, Some, None, Result, Ok, Err, slice_get, slice_index_or}
 use Rattle.std.proofs.lemmas.List.{get_or_default}
 use Rattle.body_lang.specs.declared.expression.Port.{Port}
 use Rattle.algo_defs.specs.declared.definition.Def.{Def}
@@ -9,7 +9,7 @@ use Rattle.algo_defs.specs.declared.definition.Reference.{Reference}
 use Rattle.algo_defs.specs.declared.fault.AlgoError.{AlgoError}
 use Rattle.algo_defs.specs.declared.fault.AlgoError.TheVariants.{Refused, Limit, OutOfMemory}
 use Rattle.algo_rules.specs.declared.ports.Ports.{Ports}
-use Rattle.algo_rules.specs.Links.{first_of}
+use Rattle.algo_rules.specs.Links.{definition, first_of}
 use Rattle.algo_rules.specs.Ports.{no_ports, ports_of}
 use Rattle.algo_rules.specs.Graphs.{open_fault}
 use Rattle.algo_rules.specs.Placed.{ArePlaced, Checks}
@@ -22,6 +22,7 @@ pub record IsThere (ds : List Def) (table : List Ports) (rs : List Reference) (p
   pub place : k < length places
   pub below : slice_index_or places k 0 < length ds
   pub in_table : slice_index_or places k 0 < length table
+  pub found : (d : Reference) → definition ds (get_or rs k d).def ≡ slice_get ds (slice_index_or places k 0)
   pub ports : (d : Reference) (p : Ports) → slice_index_or table (slice_index_or places k 0) p ≡ ports_of ds (get_or rs k d).def
 
 pub are_there : (ds : List Def) (table : List Ports) (rs : List Reference) (places : List ℕ) → ArePlaced ds table (map (λ r. r.def) rs) places → (k : ℕ) → k < length rs → IsThere ds table rs places k
@@ -31,6 +32,7 @@ are_there ds table (r ∷ rs) (p ∷ ps) h zero lt = record {
   place = omega arith;
   below = h.0.below;
   in_table = h.0.in_table;
+  found = λ d. h.0.found;
   ports = λ d q. get_or_default table p q no_ports h.0.in_table ∙ h.0.ports;
 }
 are_there ds table (r ∷ rs) (p ∷ ps) h (suc k) lt =
@@ -40,6 +42,7 @@ are_there ds table (r ∷ rs) (p ∷ ps) h (suc k) lt =
       place = omega arith;
       below = i.below;
       in_table = i.in_table;
+      found = i.found;
       ports = i.ports;
     }
 

@@ -3,3 +3,6 @@ pub mod Found
 pub mod Marked
 pub mod Steps
 pub mod LeftOpen
+pub mod Depends
+pub mod Inside
+pub mod InOrder

@@ -2,8 +2,12 @@
 //! on itself.
 #![tactic(auto)]
 
+mod check;
+mod cycles;
 mod edges;
 mod fault;
 mod marks;
 mod parts;
 mod unfed;
+
+pub use check::check_graph;
