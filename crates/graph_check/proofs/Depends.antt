@@ -1,18 +1,16 @@
 -- On which references each depends.
-use Rattle.std.proofs.Common.{◌≡◌, ℕ, zero, suc, ◌+◌, ◌<◌, ◌≤◌, Bool, true, false, ◌||◌, ◌&&◌, List, [], ◌∷◌, ◌++◌, length, map, drop, get_or, refl, sym, ◌∙◌, subst, ap, arith, add-one, drop-cons, append-nil, append_assoc}
-use Rattle.std.specs.Prelude.{Option, Some, None, slice_get, slice_index_or, if◌then◌else◌}
-use Rattle.std.specs.List.{All, flat_map, list_any, range_with_len}
+use Rattle.std.proofs.Common.{◌≡◌, ℕ, suc, ◌+◌, ◌<◌, Bool, true, false, ◌||◌, ◌&&◌, List, [], ◌∷◌, ◌++◌, length, map, drop, get_or, refl, sym, ◌∙◌, subst, ap, add-one, drop-cons}
+use Rattle.std.specs.Prelude.{Option, Some, None, slice_get, if◌then◌else◌}
+use Rattle.std.specs.List.{list_any, range_with_len}
 use Rattle.std.specs.Str.{bytes_eq}
 use Rattle.std.proofs.lemmas.Option.{slice_get-get_or}
-use Rattle.std.proofs.lemmas.List.{length-map}
 use Rattle.algo_defs.specs.Words.{Bytes}
 use Rattle.algo_defs.specs.declared.definition.Def.{Def}
 use Rattle.algo_defs.specs.declared.definition.Edge.{Edge}
 use Rattle.algo_defs.specs.declared.definition.Reference.{Reference}
-use Rattle.algo_defs.specs.declared.fault.AlgoError.{AlgoError}
-use Rattle.algo_rules.specs.Links.{definition, fault}
-use Rattle.algo_rules.specs.Graphs.{dependences, is_delay, leads_to, names_of, place, same_owner, source_of, sources}
-use Rattle.reference_graph.specs.Links.{Links, numbers, reaches_itself}
+use Rattle.algo_rules.specs.Links.{definition}
+use Rattle.algo_rules.specs.Graphs.{is_delay, leads_to, names_of, place, same_owner, source_of, sources}
+use Rattle.reference_graph.specs.Links.{Links, reaches_itself}
 use Rattle.graph_check.specs.Cycles.{flagged}
 
 module _ (ds : List Def) (rs : List Reference) where

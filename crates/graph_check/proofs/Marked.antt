@@ -1,10 +1,9 @@
 -- Marks say into which ends edges lead.
-use Rattle.std.proofs.Common.{◌≡◌, ◌≢◌, ℕ, zero, suc, ◌+◌, ◌*◌, ◌<◌, ◌≤◌, Bool, true, false, cond, ◌||◌, ◌&&◌, ◌⊎◌, inl, inr, List, [], ◌∷◌, ◌++◌, length, map, replicate, refl, sym, ◌∙◌, subst, ap, arith}
-use Rattle.std.specs.Prelude.{not, nat_lt, Option, Some, None, slice_index_or, slice_set, if◌then◌else◌}
+use Rattle.std.proofs.Common.{◌≡◌, ◌≢◌, ℕ, ◌+◌, ◌*◌, ◌<◌, ◌≤◌, Bool, true, false, ◌||◌, ◌⊎◌, inl, inr, List, [], ◌∷◌, ◌++◌, length, replicate, refl, sym, ◌∙◌, subst, ap, arith}
+use Rattle.std.specs.Prelude.{nat_lt, Option, Some, None, slice_index_or, slice_set}
 use Rattle.std.specs.Cmp.Derive.{both_true}
-use Rattle.std.specs.List.{list_any, All}
 use Rattle.std.specs.Str.{bytes_eq}
-use Rattle.std.proofs.lemmas.Bool.{cases_lt, lt-ltb, ltb-true, and_parts, false≢true}
+use Rattle.std.proofs.lemmas.Bool.{cases_lt, ltb-true, and_parts, false≢true}
 use Rattle.std.proofs.lemmas.Option.{cond_some}
 use Rattle.std.proofs.lemmas.List.{get_or_past, get_or-replicate, length-replicate, get_or-set_same, get_or-set_other}
 use Rattle.std.proofs.lemmas.List.Folds.{list_any-append}
@@ -16,11 +15,11 @@ use Rattle.algo_defs.specs.declared.definition.End.{End}
 use Rattle.algo_rules.specs.declared.ports.Ports.{Ports}
 use Rattle.algo_rules.specs.Ports.{no_ports, number_of}
 use Rattle.algo_rules.specs.Graphs.{place, is_connected, same_end, same_owner}
-use Rattle.graph_check.specs.Parts.{of, named, takers, IsPlacedGraph}
-use Rattle.graph_check.specs.Marks.{AreMarked, HasRows, mark_at, marked, spot, spot_in}
+use Rattle.graph_check.specs.Parts.{of, named, IsPlacedGraph}
+use Rattle.graph_check.specs.Marks.{AreMarked, HasRows, marked, spot, spot_in}
 use Rattle.graph_check.specs.declared.parts.GraphParts.{GraphParts}
-use Rattle.graph_check.proofs.Named.{named_below, named_at, named_past}
-use Rattle.graph_check.proofs.Found.{same_bytes, one_port, one_reference, no_reference, owner_is, is_owner}
+use Rattle.graph_check.proofs.Named.{named_at, named_past}
+use Rattle.graph_check.proofs.Found.{one_port, one_reference, no_reference, owner_is}
 
 abbrev pub end : Option Bytes → Bytes → End
 end owner port = record { owner = owner; port = port }
@@ -129,6 +128,7 @@ none_marked g n owner port = by (spot g owner port)
     at : (k : ℕ) → (k < n) ⊎ (n ≤ k) → slice_index_or (replicate n false) k false ≡ false
     at k (inl lt) = get_or-replicate n k false false lt
     at k (inr le) = get_or_past (replicate n false) k false (omega (arith, length-replicate n false))
+
     by : (o : Option ℕ) → marked (replicate n false) o ≡ false
     by None = refl
     by (Some k) = at k (cases_lt k n)

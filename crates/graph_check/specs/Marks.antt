@@ -4,14 +4,12 @@ use Rattle.std.specs.List.{All}
 use Rattle.body_lang.specs.declared.expression.Port.{Port}
 use Rattle.algo_defs.specs.Words.{Bytes}
 use Rattle.algo_defs.specs.declared.definition.Edge.{Edge}
-use Rattle.algo_defs.specs.declared.definition.End.{End}
 use Rattle.algo_defs.specs.declared.fault.AlgoError.{AlgoError}
 use Rattle.algo_defs.specs.declared.fault.AlgoCause.TheVariants.{UnknownName, WrongLength, TwiceConnected}
 use Rattle.algo_rules.specs.Links.{fault}
 use Rattle.algo_rules.specs.Ports.{no_ports, number_of}
-use Rattle.algo_rules.specs.Graphs.{place, port_len, is_connected, written}
-use Rattle.algo_rules.specs.declared.ports.Ports.{Ports}
-use Rattle.graph_check.specs.Parts.{named, givers, takers}
+use Rattle.algo_rules.specs.Graphs.{place, is_connected, written}
+use Rattle.graph_check.specs.Parts.{named}
 use Rattle.graph_check.specs.declared.parts.GraphParts.{GraphParts}
 
 -- the place of a port in a row

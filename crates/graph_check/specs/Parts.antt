@@ -1,9 +1,9 @@
 -- A graph with the definitions that its references name.
-use Rattle.std.specs.Prelude.{ℕ, ◌≡◌, ◌≤◌, ◌<◌, List, length, map, Option, slice_index_or}
+use Rattle.std.specs.Prelude.{List, map, Option}
 use Rattle.body_lang.specs.declared.expression.Port.{Port}
 use Rattle.algo_defs.specs.Words.{Bytes}
 use Rattle.algo_rules.specs.declared.ports.Ports.{Ports}
-use Rattle.algo_rules.specs.Ports.{no_ports, ports_of}
+use Rattle.algo_rules.specs.Ports.{ports_of}
 use Rattle.algo_rules.specs.Graphs as graphs
 use Rattle.algo_rules.specs.Placed.{ArePlaced}
 use Rattle.graph_check.specs.declared.parts.GraphParts.{GraphParts}

@@ -1,4 +1,4 @@
-use Rattle.std.proofs.Common.{◌≡◌, ℕ, List, ◌++◌, sym, ◌∙◌, ap, append-nil}
+use Rattle.std.proofs.Common.{ℕ, List, ◌++◌, sym, ◌∙◌, ap, append-nil}
 use Rattle.graph_check.proofs.Depends.{no_source, a_source}
 use Rattle.graph_check.proofs.parts.GraphParts.add_source.Goals as goal
 

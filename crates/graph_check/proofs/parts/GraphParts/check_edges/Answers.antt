@@ -18,11 +18,11 @@ loop-edge-preserved c =
     let room : length c.loop-edge.marks ≡ (length c.args.self.now.references.now + 1) * 65 = omega arith in
     record {
       rest =
-        edge_passes c.args.self.now c.loop-edge.marks _ _ _ _ c.edge-item.is c.loop-edge-test.true
-        (c.is_marked.ensures ∙ ap (λ (o : Option ℕ). marked c.loop-edge.marks o) c.spot-spot.ensures)
-        c.loop-edge.invariant.marked c.in_ok-check_edge.ensures ∙ c.loop-edge.invariant.rest;
+          edge_passes c.args.self.now c.loop-edge.marks _ _ _ _ c.edge-item.is c.loop-edge-test.true
+          (c.is_marked.ensures ∙ ap (λ (o : Option ℕ). marked c.loop-edge.marks o) c.spot-spot.ensures)
+          c.loop-edge.invariant.marked c.in_ok-check_edge.ensures ∙ c.loop-edge.invariant.rest;
       marked =
-        subst (λ (marks : List Bool). AreMarked c.args.self.now marks (take (c.loop-edge.edge-index + 1) c.args.self.now.edges.now)) (sym c.mark.ensures)
-        (edge_marked c.args.self.now c.requires.placed c.requires.rows c.loop-edge.marks _ _ _ _ _ c.edge-item.is c.loop-edge-test.true
-        c.spot-spot.ensures room c.loop-edge.invariant.marked c.in_ok-check_edge.ensures);
+          subst (λ (marks : List Bool). AreMarked c.args.self.now marks (take (c.loop-edge.edge-index + 1) c.args.self.now.edges.now)) (sym c.mark.ensures)
+          (edge_marked c.args.self.now c.requires.placed c.requires.rows c.loop-edge.marks _ _ _ _ _ c.edge-item.is c.loop-edge-test.true
+          c.spot-spot.ensures room c.loop-edge.invariant.marked c.in_ok-check_edge.ensures);
     }

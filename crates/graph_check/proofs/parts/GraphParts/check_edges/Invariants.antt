@@ -1,4 +1,4 @@
-use Rattle.std.proofs.Common.{◌≡◌, take, drop, [], length, ◌+◌, ◌*◌}
+use Rattle.std.proofs.Common.{◌≡◌, take, drop, []}
 use Rattle.algo_rules.specs.Graphs.{edge_faults}
 use Rattle.algo_rules.specs.Links.{first_of}
 use Rattle.graph_check.specs.Marks.{AreMarked}

@@ -1,7 +1,6 @@
-use Rattle.std.proofs.Common.{◌≡◌, ◌++◌, ◌∷◌, [], drop, map}
-use Rattle.std.specs.Prelude.{None, Some}
+use Rattle.std.proofs.Common.{◌≡◌, drop}
 use Rattle.algo_rules.specs.Links.{first_of}
-use Rattle.algo_rules.specs.Graphs.{open_fault, open_faults}
+use Rattle.algo_rules.specs.Graphs.{open_faults}
 use Rattle.graph_check.specs.Parts.{of, own}
 use Rattle.graph_check.proofs.LeftOpen.{left_open}
 use Rattle.graph_check.proofs.parts.GraphParts.check_unfed.Given as goal

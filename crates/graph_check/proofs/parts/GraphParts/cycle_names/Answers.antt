@@ -1,4 +1,4 @@
-use Rattle.std.proofs.Common.{◌≡◌, ℕ, Bool, List, length, map, sym, ◌∙◌, ap, subst}
+use Rattle.std.proofs.Common.{◌≡◌, ℕ, Bool, List, length, map, ◌∙◌, ap, subst}
 use Rattle.std.specs.Prelude.{IfOk}
 use Rattle.std.specs.List.{range_with_len}
 use Rattle.std.proofs.lemmas.List.{length-map}
@@ -23,5 +23,5 @@ returns c =
     let links : Links = dependences ds rs c.args.self.now.edges.now in
     let all : length links ≡ length rs = length-map rs (λ r. sources ds rs c.args.self.now.edges.now r.name) in
     let flags : c.as_slice.result.now ≡ map (reaches_itself links) (range_with_len 0 (length rs)) =
-        c.as_slice.ensures.value ∙ c.in_ok-flags.ensures ∙ ap (λ (n : ℕ). map (reaches_itself links) (range_with_len 0 n)) all in
+    c.as_slice.ensures.value ∙ c.in_ok-flags.ensures ∙ ap (λ (n : ℕ). map (reaches_itself links) (range_with_len 0 n)) all in
     subst (λ (ns : List Bytes). IfOk c.flagged.result (λ names. names.items ≡ ns)) (ap (λ (fs : List Bool). flagged fs rs) flags ∙ names_are ds rs links 0 rs) c.flagged.ensures

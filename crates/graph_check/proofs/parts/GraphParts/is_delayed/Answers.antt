@@ -1,4 +1,4 @@
-use Rattle.std.proofs.Common.{◌≡◌, sym, ◌∙◌}
+use Rattle.std.proofs.Common.{sym, ◌∙◌}
 use Rattle.graph_check.proofs.LeftOpen.{are_there}
 use Rattle.graph_check.proofs.Depends.{delay_here, delay_later}
 use Rattle.graph_check.proofs.parts.GraphParts.is_delayed.Goals as goal

@@ -1,4 +1,3 @@
-use Rattle.std.proofs.Common.{arith}
 use Rattle.graph_check.proofs.Named.{named_below, named_at, named_past}
 use Rattle.graph_check.proofs.parts.GraphParts.named.Goals as goal
 
