@@ -1,0 +1,10 @@
+-- The names of references by flags beside them.
+use Rattle.std.specs.Prelude.{Bool, List, [], ◌∷◌, if◌then◌else◌}
+use Rattle.algo_defs.specs.Words.{Bytes}
+use Rattle.algo_defs.specs.declared.definition.Reference.{Reference}
+
+-- the names of those that are flagged, in order
+abbrev pub flagged : List Bool → List Reference → List Bytes
+flagged fs [] = []
+flagged [] (r ∷ rs) = []
+flagged (f ∷ fs) (r ∷ rs) = if f then r.name ∷ flagged fs rs else flagged fs rs

@@ -1,0 +1,4 @@
+pub mod Stops
+pub mod Parts
+pub mod Marks
+pub mod Cycles
