@@ -1,4 +1,5 @@
 //! Why a text of an algorithm is refused.
+use std::fmt;
 use syn_base::{Items, LimitFault, Name};
 use thiserror::Error;
 
@@ -53,4 +54,11 @@ pub enum AlgoError {
     Limit(LimitFault),
     #[error("out of memory")]
     OutOfMemory,
+}
+
+/// The same words as its message, which `Error` asks for.
+impl fmt::Debug for AlgoError {
+    fn fmt<W: fmt::Write>(&self, f: &mut fmt::Formatter<W>) -> fmt::Result {
+        fmt::Display::fmt(self, f)
+    }
 }

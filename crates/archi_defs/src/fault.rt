@@ -1,4 +1,5 @@
 //! Why a text of an architecture is refused.
+use std::fmt;
 use syn_base::{Items, LimitFault, Name};
 use thiserror::Error;
 
@@ -42,4 +43,11 @@ pub enum ArchiError {
     Limit(LimitFault),
     #[error("out of memory")]
     OutOfMemory,
+}
+
+/// The same words as its message, which `Error` asks for.
+impl fmt::Debug for ArchiError {
+    fn fmt<W: fmt::Write>(&self, f: &mut fmt::Formatter<W>) -> fmt::Result {
+        fmt::Display::fmt(self, f)
+    }
 }

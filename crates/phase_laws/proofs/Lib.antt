@@ -38,3 +38,4 @@ pub mod AgreeTold
 pub mod AgreeLaws
 pub mod Together
 mod Finished
+mod OneWord

@@ -4,6 +4,7 @@ use Rattle.flat_graph.specs.Valid.{is_flat}
 use Rattle.flat_graph.specs.declared.vertex.Vertex.{Vertex}
 use Rattle.flat_graph.specs.declared.vertex.Kind.TheVariants.{Actuator}
 use Rattle.flat_graph.specs.Meaning.{flat_act}
+use Rattle.level_meaning.specs.Level.{Values}
 use Rattle.semaphore_core.specs.Job.{JobData, reactions}
 use Rattle.semaphore_core.specs.Core.{run, IsDone}
 use Rattle.phase_laws.specs.Agrees.{row_at}
@@ -19,7 +20,11 @@ JobsHaveLaws = (j : JobData) → IsSupplied j → HasLaws j
 abbrev pub JobsAreSupplied : Type 0
 JobsAreSupplied = (j : JobData) → IsJob j → is_flat j.graph ≡ true → IsSupplied j
 
--- when all is done each actuator has taken, in each reaction, what it takes in the flat graph
+-- each actuator has taken, in each reaction, what it takes in the flat graph
+abbrev pub AllTaken : JobData → List Values → Type 0
+AllTaken j rows = (v a k : ℕ) (x : Vertex) → slice_get j.graph.vertices v ≡ Some x → x.kind ≡ Actuator a → k < reactions j
+    → row_at rows k a ≡ flat_act j.graph j.sensors j.opening a k
+
+-- all rows are taken when all is done
 abbrev pub RowsAreTaken : Type 0
-RowsAreTaken = (j : JobData) → IsSupplied j → (list : List ℕ) → IsDone j (run j list) → (v a k : ℕ) (x : Vertex) → slice_get j.graph.vertices v ≡ Some x → x.kind ≡ Actuator a → k < reactions j
-    → row_at (run j list).rows k a ≡ flat_act j.graph j.sensors j.opening a k
+RowsAreTaken = (j : JobData) → IsSupplied j → (list : List ℕ) → IsDone j (run j list) → AllTaken j (run j list).rows

@@ -8,9 +8,12 @@
 pub mod agree;
 mod fresh;
 
+ghost use Rattle.std.specs.Prelude.{ℕ, List};
+ghost use Rattle.semaphore_core.specs.Core.{run, IsDone};
 ghost use Rattle.semaphore_core.specs.Laws.{HasLaws};
-ghost use Rattle.phase_laws.specs.Central.{JobsAreSupplied, JobsHaveLaws, RowsAreTaken};
+ghost use Rattle.phase_laws.specs.Central.{AllTaken, JobsAreSupplied, JobsHaveLaws, RowsAreTaken};
 ghost use Rattle.phase_laws.specs.Discipline.{ProgramsAreDisciplined};
+ghost use Rattle.phase_laws.specs.OneWord.{EnabledByOneWord};
 ghost use Rattle.phase_laws.specs.Values.{SequencesComputeTheirValues};
 
 pub use fresh::run_fresh;
@@ -38,6 +41,12 @@ pub fn rows_are_taken()
     ensures { RowsAreTaken }
 {}
 
+/// Whether a sequence is enabled depends on at most the one word that its next micro-step touches: the
+/// semaphore of a take or a see, or the turn of a wait. Any other micro-step is always enabled.
+pub fn enabled_by_one_word()
+    ensures { EnabledByOneWord }
+{}
+
 /// Every job keeps what the central theorem asks for, where its graph is valid, as every flat graph is.
 pub fn jobs_are_supplied()
     ensures { JobsAreSupplied }
@@ -48,6 +57,15 @@ pub fn jobs_are_supplied()
 /// enabled sequence goes on. It does nothing.
 pub fn job_has_laws(job: &Job)
     ensures { HasLaws job.now }
+{
+    let _ = job.program();
+    let _ = job.flat().vertices();
+}
+
+/// When all is done each actuator of a job has taken the flat graph's values, in every interleaving. It
+/// does nothing.
+pub fn rows_of_job_are_taken(job: &Job)
+    ensures { (list : List ℕ) → IsDone job.now (run job.now list) → AllTaken job.now (run job.now list).rows }
 {
     let _ = job.program();
     let _ = job.flat().vertices();

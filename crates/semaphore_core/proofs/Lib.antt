@@ -16,6 +16,7 @@ pub mod Operate
 pub mod Ready
 pub mod Runs
 pub mod Counting
+pub mod FewSequences
 pub mod Singles
 mod RowFive
 mod RowNine

@@ -62,6 +62,7 @@ module _ (j : JobData) (code : List SeqSteps) (are : AreSteps j.program code) wh
   pub opening_open : IsJob j → (lens : List ℕ) (desks : List DeskLens) → AreReady j (record { cells = (opening j).cells; rows = (opening j).rows; lens = lens; desks = desks })
       → IsOpened j (record { core = opening j; steps = code; rooms = map (room_of j.graph) code; lens = lens; desks = desks })
   opening_open job lens desks ready = record {
+    reached = ([], refl);
     single = single j job;
     ready = ready;
     steps_are = are;

@@ -15,8 +15,8 @@ use Rattle.semaphore_core.specs.declared.steps.MicroStep.TheVariants.{Take, See,
 use Rattle.semaphore_core.specs.declared.expand.SeqSteps.{SeqSteps}
 use Rattle.semaphore_core.specs.Expanded.{expanded, code_of, next_in}
 use Rattle.semaphore_core.specs.Steps.{steps, steps_by}
-use Rattle.semaphore_core.specs.Job.{JobData, reactions}
-use Rattle.semaphore_core.specs.Core.{Core, count, counted, full, next, reaction, done_in, own, element_of}
+use Rattle.semaphore_core.specs.Job.{JobData, reactions, total_steps}
+use Rattle.semaphore_core.specs.Core.{Core, count, counted, full, next, reaction, done_in, own, element_of, IsReached}
 use Rattle.semaphore_core.specs.Held.{Held, IsOpened, AreReady, Fits, FitsWord, NeedsReaction, made, answer, kept_of}
 use Rattle.semaphore_core.specs.declared.answer.StepAnswer.TheVariants.{Finished}
 use Rattle.semaphore_core.proofs.Ready.{absorb_ready, after_ready}
@@ -42,11 +42,15 @@ sum_full a b n zero = omega arith
 sum_full a b n (suc m) = let e = sum_full a b n m in let d = mul-add n (sum_below b m) (b m) in omega arith
 
 module _ (j : JobData) where
+  -- the full counts add up to the micro-steps in all
+  pub full_total : sum_below (full j) (length j.program.seqs) ≡ total_steps j.program (reactions j)
+  full_total = sum_full (λ s. length (steps j.program s).prologue) (λ s. length (steps j.program s).turn) (reactions j) (length j.program.seqs)
+
   -- the counts add up to no more than the limit on micro-steps
   pub made_few : (h : Held) → IsOpened j h → made h.core ≤ 20000000
   made_few h o = let a = sum_le (count h.core) (full j) (length h.core.counts) o.within in
       let b = ap (λ (n : ℕ). sum_below (full j) n) o.counts_there in
-      let c = sum_full (λ s. length (steps j.program s).prologue) (λ s. length (steps j.program s).turn) (reactions j) (length j.program.seqs) in
+      let c = full_total in
       let t = o.total in omega arith
 
   module _ (h : Held) (o : IsOpened j h) (s : ℕ) (there : s < length j.program.seqs) where
@@ -169,8 +173,9 @@ module _ (j : JobData) where
 
         kept_by : length z.registers ≡ length h.core.registers → ((x : ℕ) → get_or z.semaphores x 0 ≤ made h.core + 1) → ((x : ℕ) → get_or z.turns x 0 ≤ made h.core + 1)
             → AreReady j (record { cells = z.cells; rows = z.rows; lens = h.lens; desks = h.desks })
-            → IsOpened j (record { core = z; steps = h.steps; rooms = h.rooms; lens = h.lens; desks = h.desks })
-        kept_by r a b ready = record {
+            → IsReached j z → IsOpened j (record { core = z; steps = h.steps; rooms = h.rooms; lens = h.lens; desks = h.desks })
+        kept_by r a b ready reached = record {
+          reached = reached;
           single = o.single;
           ready = ready;
           steps_are = o.steps_are;
@@ -203,18 +208,18 @@ module _ (j : JobData) where
           inside q (inl l) = subst (λ (u : ℕ). get_or (slice_set words u w) x 0 ≤ n) q (let e = get_or-set_same words x w 0 l in omega arith)
           inside q (inr l) = let e = get_or_past (slice_set words y w) x 0 (let g = length-set words y w in omega arith) in omega arith
 
-      pub opened_more : (k : ℕ) → IsOpened j (record { core = done_in j h.core s k m; steps = h.steps; rooms = h.rooms; lens = h.lens; desks = h.desks })
+      pub opened_more : (k : ℕ) → IsReached j (done_in j h.core s k m) → IsOpened j (record { core = done_in j h.core s k m; steps = h.steps; rooms = h.rooms; lens = h.lens; desks = h.desks })
       opened_more k = by m
         where
-          by : (m : MicroStep) → IsOpened j (record { core = done_in j h.core s k m; steps = h.steps; rooms = h.rooms; lens = h.lens; desks = h.desks })
-          by (Take x) = kept_by (done_in j h.core s k (Take x)) refl refl (set_le h.core.semaphores x 0 (made h.core + 1) semaphores_kept (omega arith)) turns_kept o.ready
-          by (See x) = kept_by (done_in j h.core s k (See x)) refl refl semaphores_kept turns_kept o.ready
-          by (Lower x) = kept_by (done_in j h.core s k (Lower x)) refl refl (set_le h.core.semaphores x (get_or h.core.semaphores x 0 - 1) (made h.core + 1) semaphores_kept (let d = o.semaphores_few x in omega arith)) turns_kept o.ready
-          by (Signal x) = kept_by (done_in j h.core s k (Signal x)) refl refl (set_le h.core.semaphores x (get_or h.core.semaphores x 0 + 1) (made h.core + 1) semaphores_kept (let d = o.semaphores_few x in omega arith)) turns_kept o.ready
-          by (Await n i l e) = kept_by (done_in j h.core s k (Await n i l e)) refl refl semaphores_kept turns_kept o.ready
-          by (Advance n) = kept_by (done_in j h.core s k (Advance n)) refl refl semaphores_kept (set_le h.core.turns n (get_or h.core.turns n 0 + 1) (made h.core + 1) turns_kept (let d = o.turns_few n in omega arith)) o.ready
-          by (Load x then) = kept_by (done_in j h.core s k (Load x then)) refl (length-set h.core.registers s _) semaphores_kept turns_kept (absorb_ready j (kept_of h) then k (own j h.core s) (element_of j h.core x k) o.ready)
-          by (Store x what) = kept_by (done_in j h.core s k (Store x what)) refl (length-set h.core.registers s _) semaphores_kept turns_kept (after_ready j (kept_of h) what k (own j h.core s) o.ready)
+          by : (m : MicroStep) → IsReached j (done_in j h.core s k m) → IsOpened j (record { core = done_in j h.core s k m; steps = h.steps; rooms = h.rooms; lens = h.lens; desks = h.desks })
+          by (Take x) r = kept_by (done_in j h.core s k (Take x)) refl refl (set_le h.core.semaphores x 0 (made h.core + 1) semaphores_kept (omega arith)) turns_kept o.ready r
+          by (See x) r = kept_by (done_in j h.core s k (See x)) refl refl semaphores_kept turns_kept o.ready r
+          by (Lower x) r = kept_by (done_in j h.core s k (Lower x)) refl refl (set_le h.core.semaphores x (get_or h.core.semaphores x 0 - 1) (made h.core + 1) semaphores_kept (let d = o.semaphores_few x in omega arith)) turns_kept o.ready r
+          by (Signal x) r = kept_by (done_in j h.core s k (Signal x)) refl refl (set_le h.core.semaphores x (get_or h.core.semaphores x 0 + 1) (made h.core + 1) semaphores_kept (let d = o.semaphores_few x in omega arith)) turns_kept o.ready r
+          by (Await n i l e) r = kept_by (done_in j h.core s k (Await n i l e)) refl refl semaphores_kept turns_kept o.ready r
+          by (Advance n) r = kept_by (done_in j h.core s k (Advance n)) refl refl semaphores_kept (set_le h.core.turns n (get_or h.core.turns n 0 + 1) (made h.core + 1) turns_kept (let d = o.turns_few n in omega arith)) o.ready r
+          by (Load x then) r = kept_by (done_in j h.core s k (Load x then)) refl (length-set h.core.registers s _) semaphores_kept turns_kept (absorb_ready j (kept_of h) then k (own j h.core s) (element_of j h.core x k) o.ready) r
+          by (Store x what) r = kept_by (done_in j h.core s k (Store x what)) refl (length-set h.core.registers s _) semaphores_kept turns_kept (after_ready j (kept_of h) what k (own j h.core s) o.ready) r
 
     -- a sequence that has no next micro-step has made all
     module _ (none : next j h.core s ≡ None) where

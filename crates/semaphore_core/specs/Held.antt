@@ -21,7 +21,7 @@ use Rattle.semaphore_core.specs.RegisterFile.{RegisterFile}
 use Rattle.semaphore_core.specs.Registers.{Own, compute, absorb_by, emit_by, after_by}
 use Rattle.semaphore_core.specs.Steps.{IsSingle, steps}
 use Rattle.semaphore_core.specs.Job.{JobData, reactions, total_steps}
-use Rattle.semaphore_core.specs.Core.{Core, count, full, is_enabled}
+use Rattle.semaphore_core.specs.Core.{Core, count, full, is_enabled, IsReached}
 use Rattle.semaphore_core.specs.declared.answer.StepAnswer.{StepAnswer}
 use Rattle.semaphore_core.specs.declared.answer.StepAnswer.TheVariants.{Stepped, NotYet, Finished}
 
@@ -124,6 +124,8 @@ NeedsReaction _ k n = Unit {0}
 module _ (j : JobData) where
   -- The state was opened for this job, and steps were made since.
   pub record IsOpened (h : Held) : Type 0 where
+    -- some list of sequence numbers leads to it from the opening state
+    pub reached : IsReached j h.core
     pub single : IsSingle j.program
     pub ready : AreReady j (kept_of h)
     pub steps_are : AreSteps j.program h.steps

@@ -1,6 +1,6 @@
 //! A job: a well-formed program with the sensors' rows and the delays' opening values.
 use crate::program::Program;
-use crate::totals::limit_fault;
+use crate::totals::{limit_fault, total_steps};
 use archi_graph::Archi;
 use flat_graph::{Flat, Kind, Vertex};
 use std::marker::Model;
@@ -40,6 +40,7 @@ impl<'a> Job<'a> {
     ghost use Rattle.std.specs.Prelude.{◌≡◌, ℕ, ◌<◌, length, slice_index_or, [], IfOk, IfErr, None, Some};
     ghost use Rattle.flat_graph.specs.declared.vertex.Kind.TheVariants.{Sensor};
     ghost use Rattle.flat_graph.specs.Meaning.{sensed};
+    ghost use Rattle.semaphore_core.specs.Job.{total_steps};
     ghost use Rattle.semaphore_core.specs.IsJob.{FitTogether, IsJob, job_of, limit_of};
 
     /// A job of a program on what it runs on. It takes no memory, and after a refusal `opening` is
@@ -116,6 +117,23 @@ impl<'a> Job<'a> {
         ensures job { IsJob self.now }
     {
         self.opening.as_slice()
+    }
+
+    /// The number of sequences of the program. It fits, since an architecture has at most 16 operators and
+    /// 16 media.
+    pub fn sequences(&self) -> u32
+        ensures { result ≡ length self.now.program.seqs }
+    {
+        let _ = self.archi.operators();
+        self.program.seqs.as_slice().len() as u32
+    }
+
+    /// The number of micro-steps in all: those of the prologues, and in each reaction those of the
+    /// loops. It is exact, since a job has at most 20,000,000, and takes no memory.
+    pub fn total_steps(&self) -> u64
+        ensures { result ≡ total_steps self.now.program (length self.now.sensors) }
+    {
+        total_steps(self.program, self.rows.count()) as u64
     }
 
     /// The number of media.

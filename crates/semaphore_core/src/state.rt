@@ -1,6 +1,6 @@
 //! The state of a run, and one micro-step of it.
 ghost use Rattle.std.specs.Prelude.{◌≡◌, ℕ, ◌+◌, ◌*◌, ◌^◌, ◌<◌, ◌≤◌, length, slice_index_or, slice_set, slice_get, Some, IsTrue, IfOk, cond, pos, map};
-ghost use Rattle.semaphore_core.specs.Core.{count, counted, done_in, next, reaction, step, run_from, enabled_in, load_by, store_by, with_element, home_of, slot_of, opening};
+ghost use Rattle.semaphore_core.specs.Core.{count, counted, done_in, next, reaction, step, run_from, enabled_in, is_enabled, load_by, store_by, with_element, home_of, slot_of, opening};
 ghost use Rattle.semaphore_core.specs.Held.{AreReady, IsOpened, FitsWord, NeedsReaction, answer, kept_of, top, top_load, top_store};
 ghost use Rattle.semaphore_core.specs.Steps.{IsSingle};
 
@@ -98,7 +98,7 @@ impl State {
     }
 
     /// Whether a micro-step of this reaction is enabled.
-    fn is_enabled(&self, step: MicroStep, reaction: u64) -> bool
+    fn allows(&self, step: MicroStep, reaction: u64) -> bool
         ensures { result ≡ enabled_in self.now.core reaction step }
     {
         match step {
@@ -251,6 +251,20 @@ impl State {
     {
         words::reaction_at(&self.steps[seq], self.counts[seq])
     }
+
+    /// Whether a step of a sequence would make its next micro-step. It is false of a sequence that has
+    /// made all. It takes no memory.
+    pub fn is_enabled(&self, job: &Job, seq: u32) -> bool
+        requires opened { IsOpened job.now self.now }
+        requires there { seq < length job.now.program.seqs }
+        ensures { result ≡ is_enabled job.now self.now.core seq }
+    {
+        let seq = seq as usize;
+        match self.next(job, seq) {
+            None => false,
+            Some(step) => self.allows(step, self.reaction(job, seq)),
+        }
+    }
 }
 
 /// Makes the next micro-step of a sequence where it is enabled. It takes no memory.
@@ -266,7 +280,7 @@ pub fn try_step(job: &Job, state: &mut State, seq: u32) -> StepAnswer
         None => StepAnswer::Finished,
         Some(step) => {
             let reaction = state.reaction(job, seq);
-            if state.is_enabled(step, reaction) {
+            if state.allows(step, reaction) {
                 state.make(job, seq, reaction, step);
                 StepAnswer::Stepped
             } else {

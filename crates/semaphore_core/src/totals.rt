@@ -110,7 +110,7 @@ fn turn_micros(program: &Program) -> u128
 
 /// The number of micro-steps of so many reactions of all sequences, or the last value of the type
 /// where it is more.
-fn total_steps(program: &Program, reactions: usize) -> u128
+pub fn total_steps(program: &Program, reactions: usize) -> u128
     requires { IsSingle program.now }
     ensures { result ≡ min (total_steps program.now reactions) (2 ^ 128 - 1) }
 {

@@ -1,0 +1,4 @@
+pub mod Fresh
+pub mod Found
+pub mod Firsts
+pub mod Leading

@@ -1,0 +1,34 @@
+//! The refusals of a line that names a definition.
+ghost use Rattle.algo_defs.specs.declared.fault.AlgoCause.TheVariants.{UnknownName, Misplaced};
+ghost use Rattle.algo_rules.specs.Links.{fault};
+ghost use Rattle.algo_links.specs.Placing.{Tells};
+
+use algo_defs::{AlgoCause, AlgoError, AlgoFault};
+use std::alloc::Global;
+use syn_base::{Items, Name};
+
+/// No definition has the name that the line names.
+pub fn unknown(alloc: Global, line: u32, name: &[u8]) -> AlgoError
+    ensures { Tells result (fault line (UnknownName name.now)) }
+{
+    match Vec::from_slice(alloc, name) {
+        Ok(word) => AlgoError::Refused(AlgoFault {
+            line,
+            cause: AlgoCause::UnknownName(Items::new(word)),
+        }),
+        Err(_) => AlgoError::OutOfMemory,
+    }
+}
+
+/// The definition that the line names may not stand there.
+pub fn misplaced(alloc: Global, line: u32, name: &Name) -> AlgoError
+    ensures { Tells result (fault line (Misplaced name.now)) }
+{
+    match name.copy(alloc) {
+        Ok(name) => AlgoError::Refused(AlgoFault {
+            line,
+            cause: AlgoCause::Misplaced(name),
+        }),
+        Err(_) => AlgoError::OutOfMemory,
+    }
+}

@@ -1,0 +1,15 @@
+//! Which definitions the definitions of a text name, and whether they may stand there, in time proportional
+//! to the text.
+#![tactic(auto)]
+
+mod fault;
+mod laws;
+mod links;
+mod mention;
+mod names;
+mod standing;
+#[cfg(test)]
+mod tests;
+
+pub use laws::links_lead_to_definitions;
+pub use links::links_of;

@@ -1,0 +1,106 @@
+//! Which definitions may stand where.
+ghost use Rattle.std.specs.Prelude.{◌≡◌, Some, codes, slice_get};
+ghost use Rattle.std.specs.Str.{bytes_eq};
+ghost use Rattle.algo_rules.specs.Links.{is_main, is_end, may_be_inner, may_stand, links_of};
+ghost use Rattle.algo_rules.specs.Placed.{Checks};
+ghost use Rattle.algo_links.specs.Placing.{places_of, misplaced_in, misplaced_all};
+
+use crate::fault::misplaced;
+use crate::mention::{Mention, mentions_of};
+use algo_defs::{AlgoError, Body, Def};
+use std::alloc::Global;
+use syn_base::{Items, Name};
+
+fn is_main(name: &Name) -> bool
+    ensures { result ≡ is_main name.now }
+{
+    name.as_bytes() == b"main".as_slice()
+}
+
+/// A sensor or an actuator.
+fn is_end(body: &Body) -> bool
+    ensures { result ≡ is_end body.now }
+{
+    match body {
+        Body::Sensor(_) | Body::Actuator(_) => true,
+        _ => false,
+    }
+}
+
+/// What may be a case or the body of a repetition.
+fn may_be_inner(body: &Body) -> bool
+    ensures { result ≡ may_be_inner body.now }
+{
+    match body {
+        Body::Function { .. } | Body::Graph { .. } | Body::Switch { .. } | Body::Repeat { .. } =>
+            true,
+        _ => false,
+    }
+}
+
+/// The definition may stand where a line of the owner names it.
+fn may_stand(owner: &Name, mention: &Mention, def: &Def) -> bool
+    ensures { result ≡ may_stand owner.now mention.now (Some def.now) }
+{
+    if is_main(mention.def()) {
+        return false;
+    }
+    if mention.is_reference() {
+        !is_end(&def.body) || is_main(owner)
+    } else {
+        may_be_inner(&def.body)
+    }
+}
+
+/// The same of the definition at a place.
+fn may_stand_at(owner: &Name, mention: &Mention, defs: &[Def], place: usize) -> bool
+    ensures { result ≡ may_stand owner.now mention.now (slice_get defs.now place) }
+{
+    if place < defs.len() {
+        may_stand(owner, mention, &defs[place])
+    } else {
+        true
+    }
+}
+
+/// The first line of the owner that names what may not stand there. The places are those of the definitions
+/// that the lines name.
+fn check_lines(
+    alloc: Global,
+    owner: &Name,
+    mentions: &[Mention],
+    places: &[u32],
+    defs: &[Def],
+) -> Result<(), AlgoError>
+    requires { places.now ≡ places_of defs.now mentions.now }
+    ensures { Checks result (misplaced_in defs.now owner.now mentions.now) }
+{
+    for k in 0..mentions.len() {
+        let mention = &mentions[k];
+        if !may_stand_at(owner, mention, defs, places[k] as usize) {
+            return Err(misplaced(alloc, mention.line(), mention.def()));
+        }
+    }
+    Ok(())
+}
+
+/// The first line of any definition that names what may not stand there.
+pub fn check_standing(alloc: Global, defs: &[Def], links: &[Items<u32>]) -> Result<(), AlgoError>
+    requires { links.now ≡ links_of defs.now }
+    ensures { Checks result (misplaced_all defs.now defs.now) }
+{
+    for i in 0..defs.len() {
+        let def = &defs[i];
+        let Ok(mentions) = mentions_of(alloc, def) else {
+            return Err(AlgoError::OutOfMemory);
+        };
+        check_lines(
+            alloc,
+            &def.name,
+            mentions.as_slice(),
+            links[i].as_slice(),
+            defs,
+        )?;
+    }
+    Ok(())
+}

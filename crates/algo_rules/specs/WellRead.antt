@@ -1,0 +1,80 @@
+-- What the definitions of every accepted text keep: names are names and given once, and lengths and numbers of lines are within their bounds.
+use Rattle.std.specs.Prelude.{◌≡◌, ℕ, ◌≤◌, List, ◌∷◌, ◌++◌, All, length, map, true, Ok}
+use Rattle.syn_base.specs.Name.{is_name}
+use Rattle.body_lang.specs.Expr.{PortsBelow}
+use Rattle.body_lang.specs.declared.expression.Port.{Port}
+use Rattle.algo_tree.specs.Typed.{IsLength}
+use Rattle.algo_tree.specs.Well.{AreDistinctNames}
+use Rattle.algo_defs.specs.declared.definition.Def.{Def}
+use Rattle.algo_defs.specs.declared.definition.Output.{Output}
+use Rattle.algo_defs.specs.declared.definition.Reference.{Reference}
+use Rattle.algo_defs.specs.declared.definition.Case.{Case}
+use Rattle.algo_defs.specs.declared.definition.FrontierLine.{FrontierLine}
+use Rattle.algo_defs.specs.declared.definition.Body.{Body}
+use Rattle.algo_defs.specs.declared.definition.Body.TheVariants.{Sensor, Actuator, Constant, Delay, Function, Graph, Switch, Repeat}
+use Rattle.algo_defs.specs.Words.{Bytes}
+use Rattle.algo_defs.specs.Blocks.{all_outer}
+use Rattle.algo_defs.specs.Text.{definitions_of}
+
+abbrev pub IsName : Bytes → Type 0
+IsName w = is_name w ≡ true
+
+abbrev pub port_names : List Port → List Bytes
+port_names ps = map (λ p. p.name) ps
+
+-- at most 64 ports of 1 to 64 elements
+pub record ArePorts (ps : List Port) : Type 0 where
+  pub few : length ps ≤ 64
+  pub named : All (λ p. IsName p.name) ps
+  pub sized : All (λ p. IsLength p.len) ps
+
+abbrev pub ports_in : List Output → List Port
+ports_in outs = map (λ o. o.port) outs
+
+pub record IsFunction (ins : List Port) (outs : List Output) : Type 0 where
+  pub inputs : ArePorts ins
+  pub outputs : ArePorts (ports_in outs)
+  pub some : 1 ≤ length outs
+  pub distinct : AreDistinctNames (port_names ins ++ port_names (ports_in outs))
+  pub formulas : All (λ o. PortsBelow (length ins) o.formula) outs
+
+pub record IsGraph (ins outs : List Port) (references : List Reference) : Type 0 where
+  pub inputs : ArePorts ins
+  pub outputs : ArePorts outs
+  pub distinct : AreDistinctNames (port_names ins ++ port_names outs)
+  pub few : length references ≤ 64
+  pub named : All (λ r. IsName r.name) references
+  pub once : AreDistinctNames (map (λ r. r.name) references)
+
+pub record IsSwitch (on : Bytes) (ins outs : List Port) (cases : List Case) : Type 0 where
+  pub named : IsName on
+  pub inputs : ArePorts ins
+  pub outputs : ArePorts outs
+  pub distinct : AreDistinctNames (on ∷ (port_names ins ++ port_names outs))
+  pub few : length cases ≤ 64
+
+pub record IsRepetition (copies : ℕ) (lines : List FrontierLine) : Type 0 where
+  pub some : 1 ≤ copies
+  pub most : copies ≤ 64
+  pub few : length lines ≤ 64
+  pub named : All IsName (all_outer lines)
+  pub distinct : AreDistinctNames (all_outer lines)
+
+abbrev pub IsWellRead : Body → Type 0
+IsWellRead (Sensor n) = IsLength n
+IsWellRead (Actuator n) = IsLength n
+IsWellRead (Constant values) = IsLength (length values)
+IsWellRead (Delay values) = IsLength (length values)
+IsWellRead (Function ins outs) = IsFunction ins outs
+IsWellRead (Graph ins outs references edges) = IsGraph ins outs references
+IsWellRead (Switch on ins outs cases otherwise last) = IsSwitch on ins outs cases
+IsWellRead (Repeat copies def lines) = IsRepetition copies lines
+
+pub record AreWellRead (ds : List Def) : Type 0 where
+  pub named : All (λ d. IsName d.name) ds
+  pub once : AreDistinctNames (map (λ d. d.name) ds)
+  pub bodies : All (λ d. IsWellRead d.body) ds
+
+-- the definitions of every text that is accepted
+abbrev pub AcceptedAreWellRead : Type 0
+AcceptedAreWellRead = (text : Bytes) (ds : List Def) → definitions_of text ≡ Ok ds → AreWellRead ds

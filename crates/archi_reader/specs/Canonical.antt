@@ -1,0 +1,60 @@
+-- The canonical text of an architecture and its durations.
+use Rattle.std.specs.Prelude.{ℕ, Bool, true, false, List, [], ◌∷◌, ◌++◌, map, slice_index_or, codes, pos}
+use Rattle.std.specs.List.{flat_map}
+use Rattle.std.specs.Fmt.{signed_decimal}
+use Rattle.archi_graph.specs.declared.medium.Medium.{Medium}
+use Rattle.archi_graph.specs.Archi.{Architecture}
+use Rattle.archi_defs.specs.declared.text.DurationLine.{DurationLine}
+use Rattle.archi_defs.specs.Text.{Bytes, Described}
+
+-- a line, as its words
+abbrev pub Words : Type 0
+Words = List Bytes
+
+-- words separated by one space
+abbrev pub joined : Words → Bytes
+joined [] = []
+joined (w ∷ []) = w
+joined (w ∷ v ∷ ws) = w ++ 32 ∷ joined (v ∷ ws)
+
+-- lines, each with its line feed
+abbrev pub text_of : List Words → Bytes
+text_of [] = []
+text_of (ws ∷ lines) = joined ws ++ 10 ∷ text_of lines
+
+abbrev pub number : ℕ → Bytes
+number n = signed_decimal (pos n)
+
+abbrev pub version_words : Words
+version_words = codes "architecture" ∷ codes "1" ∷ []
+
+abbrev pub operator_words : Bytes → Words
+operator_words name = codes "operator" ∷ name ∷ []
+
+abbrev pub kind_word : Bool → Bytes
+kind_word true = codes "multi"
+kind_word false = codes "p2p"
+
+abbrev pub medium_words : Medium → Words
+medium_words m = codes "medium" ∷ m.name ∷ kind_word m.multi ∷ number m.fixed ∷ number m.per ∷ []
+
+abbrev pub name_at : List Bytes → ℕ → Bytes
+name_at operators o = slice_index_or operators o []
+
+abbrev pub connect_words : List Bytes → Bytes → ℕ → Words
+connect_words operators medium o = codes "connect" ∷ medium ∷ name_at operators o ∷ []
+
+-- the connections of a medium, by operator
+abbrev pub connections_of : List Bytes → Medium → List Words
+connections_of operators m = map (connect_words operators m.name) m.stands
+
+abbrev pub duration_words : List Bytes → DurationLine → Words
+duration_words operators d = codes "duration" ∷ d.def ∷ name_at operators d.operator ∷ number d.ticks ∷ []
+
+-- the version, operators, media, connections by medium and then operator, and durations as given
+abbrev pub canonical_lines : Architecture → List DurationLine → List Words
+canonical_lines a durations =
+    (version_words ∷ map operator_words a.operators) ++ map medium_words a.media ++ flat_map (connections_of a.operators) a.media ++ map (duration_words a.operators) durations
+
+abbrev pub canonical_text : Described → Bytes
+canonical_text d = text_of (canonical_lines d.archi d.durations)

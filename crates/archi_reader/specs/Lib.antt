@@ -1,0 +1,4 @@
+pub mod Canonical
+pub mod Durations
+pub mod Given
+pub mod Views

@@ -1,0 +1,34 @@
+-- What contracts see of a word and of the reader, and what the reader keeps.
+use Rattle.std.specs.Prelude.{◌≡◌, ℕ, ◌≤◌, true, ◌&&◌, nat_lt, nat_le, Bool, length, Option, Some, None, if◌then◌else◌}
+use Rattle.std.specs.List.{list_all}
+use Rattle.syn_base.specs.Name.{is_name}
+use Rattle.archi_graph.specs.declared.medium.Medium.{Medium}
+use Rattle.archi_graph.specs.Archi.{ascends_from, are_distinct, names_of, stands_in_all}
+use Rattle.archi_defs.specs.Text.{Bytes, Described, Reading}
+use Rattle.archi_reader.specs.declared.reader.Reader.{Reader}
+
+-- the name that a word is
+abbrev pub some_name : Bytes → Option Bytes
+some_name w = if is_name w then Some w else None
+
+-- what the reader has read
+abbrev pub reading : Reader → Reading
+reading r = record { versioned = r.versioned; operators = r.operators.items; media = r.media.items; lines = r.lines.items; connections = r.connections; durations = r.durations }
+
+-- what a text gives that is not refused
+abbrev pub described : Reading → Described
+described r = record { archi = record { operators = r.operators; media = r.media }; durations = r.durations }
+
+-- a medium whose operators may still be too few, where there are so many operators
+abbrev pub is_begun : ℕ → Medium → Bool
+is_begun operators m = ascends_from 0 m.stands && list_all (λ o. nat_lt o operators) m.stands && nat_le m.fixed 1000000 && nat_le m.per 1000000
+
+-- what holds after each line: all that a valid architecture asks for, but enough operators and routes between them
+pub record IsSound (r : Reading) : Type 0 where
+  pub operators : length r.operators ≤ 16
+  pub media : length r.media ≤ 16
+  pub lines : length r.lines ≡ length r.media
+  pub stands : stands_in_all r.media ≡ r.connections
+  pub connections : r.connections ≤ 64
+  pub begun : list_all (is_begun (length r.operators)) r.media ≡ true
+  pub distinct : are_distinct (names_of r.operators r.media) ≡ true

@@ -1,0 +1,95 @@
+//! The durations of a text, each definition and operator once.
+ghost use Rattle.std.specs.Prelude.{◌≡◌, ◌<◌, ◌&&◌, ◌==◌, [], ◌∷◌, ◌++◌, IfOk, OnOk, OnErr, length};
+ghost use Rattle.std.specs.List.{list_any};
+ghost use Rattle.std.specs.Str.{bytes_eq};
+ghost use Rattle.archi_reader.specs.Given.{Adds, Has};
+ghost use Rattle.archi_reader.specs.Durations.{is_given, AreGiven};
+
+use crate::fault::push;
+use archi_defs::{ArchiError, DurationLine};
+use name_table::Names;
+use std::alloc::Global;
+use std::marker::Model;
+use syn_base::{Items, Name};
+
+/// The most operators.
+const MOST_OPERATORS: usize = 16;
+
+/// Durations on up to 16 operators, seen as their list. Whether one was given before is found in the
+/// time of the definition's name.
+#[derive(Drop)]
+pub struct Durations<'a> {
+    lines: Vec<DurationLine>,
+    /// For each operator, the definitions that have a duration on it.
+    given: Vec<Names<'a>>,
+}
+
+impl<'a> Model for Durations<'a> {
+    ghost use Rattle.std.specs.Prelude.{List};
+    ghost use Rattle.archi_defs.specs.declared.text.DurationLine.{DurationLine};
+    ghost use Rattle.archi_reader.specs.Durations.{AreGiven};
+
+    ghost Value = { List DurationLine };
+
+    ghost view = { λ s. s.lines.items };
+
+    ghost invariant = { λ s. AreGiven s.given.items s.lines.items };
+}
+
+impl<'a> Durations<'a> {
+    /// No durations.
+    pub fn new(alloc: Global) -> Result<Durations<'a>, ArchiError>
+        ensures { Has result [] }
+    {
+        let mut given = Vec::new(alloc);
+        for _operator in 0..MOST_OPERATORS {
+            push(&mut given, Names::new(alloc))?;
+        }
+        Ok(Durations {
+            lines: Vec::new(alloc),
+            given,
+        })
+    }
+
+    /// A duration of this definition was given on this operator.
+    pub fn has(&self, def: &[u8], operator: u32) -> bool
+        requires { operator < 16 }
+        ensures { result ≡ is_given self.now def.now operator }
+    {
+        self.given[operator as usize].find(def).is_some()
+    }
+
+    /// Adds a duration at the end. After want of memory the durations are as before.
+    pub fn add(
+        &mut self,
+        def: Name,
+        word: &'a [u8],
+        operator: u32,
+        ticks: u32,
+    ) -> Result<(), ArchiError>
+        requires same { def ≡ word.now }
+        requires known { operator < 16 }
+        ensures { Adds result self.old (record { def = def; operator = operator; ticks = ticks }) self.new }
+    {
+        let line = DurationLine {
+            def,
+            operator,
+            ticks,
+        };
+        push(&mut self.lines, line)?;
+        match self.given[operator as usize].add(word) {
+            Ok(_) => Ok(()),
+            Err(_) => {
+                self.lines.pop();
+                Err(ArchiError::OutOfMemory)
+            }
+        }
+    }
+
+    /// The durations, handed back.
+    pub fn into_items(self) -> Items<DurationLine>
+        ensures { result ≡ self.entry }
+    {
+        Items::new(self.lines)
+    }
+}

@@ -1,0 +1,92 @@
+//! The refusals of a line.
+ghost use Rattle.std.specs.Prelude.{◌≡◌};
+ghost use Rattle.archi_reader.specs.Given.{IsStop, stop, Adds};
+ghost use Rattle.syn_base.specs.Limits.{bound_of};
+ghost use Rattle.archi_defs.specs.declared.fault.ArchiCause.TheVariants.{NotText, BadLine, BadName, BadNumber, UnknownName, DuplicateName};
+ghost use Rattle.archi_defs.specs.declared.fault.ArchiError.TheVariants.{Limit};
+
+use archi_defs::{ArchiCause, ArchiError, ArchiFault};
+use std::alloc::Global;
+use syn_base::{Items, LimitFault, LimitKind};
+
+/// The refusal at a line.
+pub fn refusal(line: u32, cause: ArchiCause) -> ArchiError
+    ensures { result ≡ stop line cause }
+{
+    ArchiError::Refused(ArchiFault { line, cause })
+}
+
+/// The form of the line is not allowed at its place.
+pub fn bad_line(line: u32) -> ArchiError
+    ensures { result ≡ stop line BadLine }
+{
+    refusal(line, ArchiCause::BadLine)
+}
+
+/// A byte at this place of the line may not stand there.
+pub fn not_text(line: u32, place: usize) -> ArchiError
+    ensures { result ≡ stop line (NotText place) }
+{
+    refusal(line, ArchiCause::NotText(place))
+}
+
+/// The word is no name.
+pub fn bad_name(alloc: Global, line: u32, word: &[u8]) -> ArchiError
+    ensures { IsStop result (stop line (BadName word.now)) }
+{
+    match Vec::from_slice(alloc, word) {
+        Ok(word) => refusal(line, ArchiCause::BadName(Items::new(word))),
+        Err(_) => ArchiError::OutOfMemory,
+    }
+}
+
+/// The word is no number, or one outside its bounds.
+pub fn bad_number(alloc: Global, line: u32, word: &[u8]) -> ArchiError
+    ensures { IsStop result (stop line (BadNumber word.now)) }
+{
+    match Vec::from_slice(alloc, word) {
+        Ok(word) => refusal(line, ArchiCause::BadNumber(Items::new(word))),
+        Err(_) => ArchiError::OutOfMemory,
+    }
+}
+
+/// No line before has defined the name.
+pub fn unknown(alloc: Global, line: u32, word: &[u8]) -> ArchiError
+    ensures { IsStop result (stop line (UnknownName word.now)) }
+{
+    match Vec::from_slice(alloc, word) {
+        Ok(word) => refusal(line, ArchiCause::UnknownName(Items::new(word))),
+        Err(_) => ArchiError::OutOfMemory,
+    }
+}
+
+/// The name was given before.
+pub fn duplicate(alloc: Global, line: u32, word: &[u8]) -> ArchiError
+    ensures { IsStop result (stop line (DuplicateName word.now)) }
+{
+    match Vec::from_slice(alloc, word) {
+        Ok(word) => refusal(line, ArchiCause::DuplicateName(Items::new(word))),
+        Err(_) => ArchiError::OutOfMemory,
+    }
+}
+
+/// A quantity above its bound.
+pub fn above(which: LimitKind, count: u128) -> ArchiError
+    ensures { result ≡ Limit (record { which = which; count = count; bound = bound_of which }) }
+{
+    ArchiError::Limit(LimitFault {
+        which,
+        count,
+        bound: which.bound(),
+    })
+}
+
+/// Adds an element at the end.
+pub fn push<T: Drop>(items: &mut Vec<T>, value: T) -> Result<(), ArchiError>
+    ensures { Adds result items.old.items value items.new.items }
+{
+    match items.push(value) {
+        Ok(()) => Ok(()),
+        Err(_) => Err(ArchiError::OutOfMemory),
+    }
+}

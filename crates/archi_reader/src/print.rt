@@ -1,0 +1,195 @@
+//! Printing the canonical text.
+ghost use Rattle.std.specs.Prelude.{◌≡◌, ◌++◌, [], ◌∷◌, OnOk, OnErr, IfOk, List, map, slice_index_or};
+ghost use Rattle.std.specs.List.{flat_map};
+ghost use Rattle.archi_reader.specs.Canonical.{canonical_text, joined, text_of, number, version_words, operator_words, kind_word, medium_words, name_at, connect_words, connections_of, duration_words};
+
+use archi_defs::{ArchiText, DurationLine};
+use archi_graph::Medium;
+use std::alloc::Global;
+use syn_base::{Name, OutOfMemory, print_int};
+
+/// Appends the canonical text: the version line, operators, media, connections by medium and then by
+/// operator, durations as given; words separated by one space, numbers in their shortest form. It has
+/// no comments and no lines without words. After want of memory `out` is as before.
+pub fn print_archi(alloc: Global, text: &ArchiText, out: &mut Vec<u8>) -> Result<(), OutOfMemory>
+    ensures ok { OnOk result (out.new.items ≡ out.old.items ++ canonical_text (record { archi = text.now.archi; durations = text.now.lines })) }
+    ensures err { OnErr result (out.new.items ≡ out.old.items) }
+{
+    let written = written(alloc, text)?;
+    out.extend_from_slice(&written)?;
+    Ok(())
+}
+
+#[tactic(auto, using(crate::proofs::Texts::text_append))]
+fn written(alloc: Global, text: &ArchiText) -> Result<Vec<u8>, OutOfMemory>
+    ensures { IfOk result (λ v. v.items ≡ canonical_text (record { archi = text.now.archi; durations = text.now.lines })) }
+{
+    let operators = text.archi.operators();
+    let media = text.archi.media();
+    let mut written = Vec::new(alloc);
+    put(b"architecture 1\n", &mut written)?;
+    print_operators(operators, &mut written)?;
+    print_media(media, &mut written)?;
+    print_connections(operators, media, &mut written)?;
+    print_durations(operators, text.lines.as_slice(), &mut written)?;
+    Ok(written)
+}
+
+fn print_operators(operators: &[Name], text: &mut Vec<u8>) -> Result<(), OutOfMemory>
+    ensures { OnOk result (text.new.items ≡ text.old.items ++ text_of (map operator_words operators.now)) }
+{
+    for operator in operators {
+        print_operator(operator, text)?;
+    }
+    Ok(())
+}
+
+fn print_operator(operator: &Name, text: &mut Vec<u8>) -> Result<(), OutOfMemory>
+    ensures { OnOk result (text.new.items ≡ text.old.items ++ text_of (operator_words operator.now ∷ [])) }
+{
+    put(b"operator ", text)?;
+    put(operator.as_bytes(), text)?;
+    put(b"\n", text)
+}
+
+fn print_media(media: &[Medium], text: &mut Vec<u8>) -> Result<(), OutOfMemory>
+    ensures { OnOk result (text.new.items ≡ text.old.items ++ text_of (map medium_words media.now)) }
+{
+    for medium in media {
+        print_medium(medium, text)?;
+    }
+    Ok(())
+}
+
+fn kind_word(multi: bool) -> &'static [u8]
+    ensures { result.now ≡ kind_word multi }
+{
+    if multi { b"multi" } else { b"p2p" }
+}
+
+fn print_medium(medium: &Medium, text: &mut Vec<u8>) -> Result<(), OutOfMemory>
+    ensures { OnOk result (text.new.items ≡ text.old.items ++ text_of (medium_words medium.now ∷ [])) }
+{
+    put(b"medium ", text)?;
+    put(medium.name.as_bytes(), text)?;
+    put(b" ", text)?;
+    put(kind_word(medium.multi), text)?;
+    put(b" ", text)?;
+    put_ticks(medium.fixed, medium.per, text)?;
+    put(b"\n", text)
+}
+
+fn put_ticks(fixed: u32, per: u32, text: &mut Vec<u8>) -> Result<(), OutOfMemory>
+    ensures { OnOk result (text.new.items ≡ text.old.items ++ joined (number fixed ∷ number per ∷ [])) }
+{
+    put_number(fixed, text)?;
+    put(b" ", text)?;
+    put_number(per, text)
+}
+
+fn print_connections(
+    operators: &[Name],
+    media: &[Medium],
+    text: &mut Vec<u8>,
+) -> Result<(), OutOfMemory>
+    ensures { OnOk result (text.new.items ≡ text.old.items ++ text_of (flat_map (connections_of operators.now) media.now)) }
+{
+    for medium in media {
+        print_connections_of(operators, medium, text)?;
+    }
+    Ok(())
+}
+
+fn print_connections_of(
+    operators: &[Name],
+    medium: &Medium,
+    text: &mut Vec<u8>,
+) -> Result<(), OutOfMemory>
+    ensures { OnOk result (text.new.items ≡ text.old.items ++ text_of (connections_of operators.now medium.now)) }
+{
+    print_stands(operators, &medium.name, medium.stands.as_slice(), text)
+}
+
+fn print_stands(
+    operators: &[Name],
+    medium: &Name,
+    stands: &[u32],
+    text: &mut Vec<u8>,
+) -> Result<(), OutOfMemory>
+    ensures { OnOk result (text.new.items ≡ text.old.items ++ text_of (map (connect_words operators.now medium.now) stands.now)) }
+{
+    for operator in stands {
+        print_connection(operators, medium, *operator, text)?;
+    }
+    Ok(())
+}
+
+/// The name of an operator, nothing where there is none of this number.
+fn name_at(operators: &[Name], operator: u32) -> &[u8]
+    ensures { result.now ≡ name_at operators.now operator }
+{
+    let at = operator as usize;
+    if at < operators.len() {
+        operators[at].as_bytes()
+    } else {
+        &[]
+    }
+}
+
+fn print_connection(
+    operators: &[Name],
+    medium: &Name,
+    operator: u32,
+    text: &mut Vec<u8>,
+) -> Result<(), OutOfMemory>
+    ensures { OnOk result (text.new.items ≡ text.old.items ++ text_of (connect_words operators.now medium.now operator ∷ [])) }
+{
+    put(b"connect ", text)?;
+    put(medium.as_bytes(), text)?;
+    put(b" ", text)?;
+    put(name_at(operators, operator), text)?;
+    put(b"\n", text)
+}
+
+fn print_durations(
+    operators: &[Name],
+    durations: &[DurationLine],
+    text: &mut Vec<u8>,
+) -> Result<(), OutOfMemory>
+    ensures { OnOk result (text.new.items ≡ text.old.items ++ text_of (map (duration_words operators.now) durations.now)) }
+{
+    for duration in durations {
+        print_duration(operators, duration, text)?;
+    }
+    Ok(())
+}
+
+fn print_duration(
+    operators: &[Name],
+    duration: &DurationLine,
+    text: &mut Vec<u8>,
+) -> Result<(), OutOfMemory>
+    ensures { OnOk result (text.new.items ≡ text.old.items ++ text_of (duration_words operators.now duration.now ∷ [])) }
+{
+    put(b"duration ", text)?;
+    put(duration.def.as_bytes(), text)?;
+    put(b" ", text)?;
+    put(name_at(operators, duration.operator), text)?;
+    put(b" ", text)?;
+    put_number(duration.ticks, text)?;
+    put(b"\n", text)
+}
+
+fn put_number(value: u32, text: &mut Vec<u8>) -> Result<(), OutOfMemory>
+    ensures { OnOk result (text.new.items ≡ text.old.items ++ number value) }
+{
+    print_int(i64::from(value), text)
+}
+
+/// Appends bytes.
+fn put(bytes: &[u8], text: &mut Vec<u8>) -> Result<(), OutOfMemory>
+    ensures { OnOk result (text.new.items ≡ text.old.items ++ bytes.now) }
+{
+    text.extend_from_slice(bytes)?;
+    Ok(())
+}

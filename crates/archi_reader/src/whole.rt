@@ -1,0 +1,91 @@
+//! What holds of a text as a whole.
+ghost use Rattle.std.specs.Prelude.{◌≡◌, ◌<◌, not, true, length, position, IfSome, OnOk};
+ghost use Rattle.archi_graph.specs.Archi.{is_archi};
+ghost use Rattle.archi_defs.specs.declared.fault.ArchiCause.TheVariants.{BadMedium, Disconnected};
+ghost use Rattle.archi_defs.specs.Text.{whole, has_stands};
+ghost use Rattle.archi_reader.specs.Given.{Gives, IsStop, Steps, stop};
+ghost use Rattle.archi_reader.specs.Views.{described, reading, IsSound};
+
+use crate::fault::{bad_line, refusal};
+use crate::joined::apart;
+use crate::reader::Reader;
+use archi_defs::{ArchiCause, ArchiError, ArchiText};
+use archi_graph::{Archi, Medium};
+use std::alloc::Global;
+use syn_base::Name;
+
+/// So many operators as its kind asks for stand at the medium.
+fn has_stands(medium: &Medium) -> bool
+    ensures { result ≡ has_stands medium.now }
+{
+    let stands = medium.stands.as_slice().len();
+    if medium.multi {
+        stands >= 2
+    } else {
+        stands == 2
+    }
+}
+
+fn bad_medium(alloc: Global, line: u32, name: &Name) -> ArchiError
+    ensures { IsStop result (stop line (BadMedium name.now)) }
+{
+    match name.copy(alloc) {
+        Ok(name) => refusal(line, ArchiCause::BadMedium(name)),
+        Err(_) => ArchiError::OutOfMemory,
+    }
+}
+
+fn disconnected(alloc: Global, first: &Name, other: &Name) -> ArchiError
+    ensures { IsStop result (stop 0 (Disconnected first.now other.now)) }
+{
+    match (first.copy(alloc), other.copy(alloc)) {
+        (Ok(first), Ok(other)) => refusal(0, ArchiCause::Disconnected(first, other)),
+        _ => ArchiError::OutOfMemory,
+    }
+}
+
+fn wrong_medium(media: &[Medium]) -> Option<usize>
+    ensures place { result ≡ position (λ m. not (has_stands m)) media.now }
+    ensures within { IfSome result (λ k. k < length media.now) }
+{
+    media.iter().position(|medium| !has_stands(medium))
+}
+
+impl<'a> Reader<'a> {
+    /// There is an operator, the media are right, and all operators are joined.
+    fn check_whole(&self, alloc: Global, number: u32) -> Result<(), ArchiError>
+        requires { IsSound (reading self.now) }
+        ensures told { Steps result (described (reading self.now)) (whole (reading self.now) number) }
+        ensures valid { OnOk result (is_archi self.now.operators.items self.now.media.items ≡ true) }
+    {
+        let operators = self.operators.as_slice();
+        let media = self.media.as_slice();
+        if !self.versioned {
+            return Err(bad_line(number));
+        }
+        if operators.is_empty() {
+            return Err(refusal(0, ArchiCause::NoOperator));
+        }
+        if let Some(wrong) = wrong_medium(media) {
+            return Err(bad_medium(alloc, self.lines[wrong], &media[wrong].name));
+        }
+        if let Some(other) = apart(operators.len(), media) {
+            return Err(disconnected(alloc, &operators[0], &operators[other]));
+        }
+        Ok(())
+    }
+
+    /// The architecture and the durations, at the end of the text.
+    pub fn whole(self, alloc: Global, number: u32) -> Result<ArchiText, ArchiError>
+        requires { IsSound (reading self) }
+        ensures { Gives result (whole (reading self.entry) number) }
+    {
+        if let Err(fault) = self.check_whole(alloc, number) {
+            return Err(fault);
+        }
+        Ok(ArchiText {
+            archi: Archi::new(self.operators, self.media),
+            lines: self.durations.into_items(),
+        })
+    }
+}

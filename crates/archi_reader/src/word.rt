@@ -1,0 +1,49 @@
+//! What the words of a line are.
+ghost use Rattle.std.specs.Prelude.{◌≡◌, ◌<◌, ◌≤◌, IfOk, MatchOption, true, false, length, slice_index_or, []};
+ghost use Rattle.std.specs.Str.{bytes_eq};
+ghost use Rattle.syn_base.specs.Name.{is_name};
+ghost use Rattle.syn_base.specs.Integer.{integer_of};
+ghost use Rattle.archi_defs.specs.Text.{up_to};
+ghost use Rattle.archi_reader.specs.Given.{GivesSome};
+ghost use Rattle.archi_reader.specs.Views.{some_name};
+
+use crate::words::Words;
+use archi_defs::ArchiError;
+use std::alloc::Global;
+use syn_base::{Name, NameFault, read_int};
+
+/// The name that a word is, or none where it is no name.
+pub fn read_name(alloc: Global, w: &[u8]) -> Result<Option<Name>, ArchiError>
+    ensures name { GivesSome result (some_name w.now) }
+    ensures is { IfOk result (λ o. MatchOption o (is_name w.now ≡ false) (λ _. is_name w.now ≡ true)) }
+{
+    match Name::new(alloc, w) {
+        Ok(name) => Ok(Some(name)),
+        Err(NameFault::BadName) => Ok(None),
+        Err(NameFault::OutOfMemory) => Err(ArchiError::OutOfMemory),
+    }
+}
+
+/// The number from 0 up to a bound that a word is.
+pub fn read_up_to(most: u32, w: &[u8]) -> Option<u32>
+    ensures { result ≡ up_to most (integer_of w.now) }
+{
+    match read_int(w) {
+        Ok(number) => {
+            if 0 <= number && number <= i64::from(most) {
+                Some(number as u32)
+            } else {
+                None
+            }
+        }
+        Err(_) => None,
+    }
+}
+
+/// The line begins with this word.
+pub fn begins(words: &Words, key: &[u8]) -> bool
+    requires { 0 < length words.now }
+    ensures { result ≡ bytes_eq (slice_index_or words.now 0 []) key.now }
+{
+    words.get(0) == key
+}

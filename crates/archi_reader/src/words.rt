@@ -1,0 +1,55 @@
+//! The words of a line.
+ghost use Rattle.std.specs.Prelude.{◌≡◌, ◌<◌, List, ℕ, map, length, slice_index_or, [], All};
+ghost use Rattle.text_lines.specs.Text.{text_at, IsWithin, words_of};
+ghost use Rattle.archi_reader.specs.Given.{Has};
+
+use archi_defs::ArchiError;
+use std::alloc::Global;
+use std::marker::Model;
+use text_lines::Span;
+
+/// The words of a line, seen as their bytes.
+#[derive(Drop)]
+pub struct Words<'a> {
+    line: &'a [u8],
+    spans: Vec<Span>,
+}
+
+impl<'a> Model for Words<'a> {
+    ghost use Rattle.std.specs.Prelude.{List, ℕ, map, length as len_of, All};
+    ghost use Rattle.text_lines.specs.Text.{text_at, IsWithin};
+
+    ghost Value = { List (List ℕ) };
+
+    ghost view = { λ w. map (text_at w.line.now) w.spans.items };
+
+    ghost invariant = { λ w. All (IsWithin (len_of w.line.now)) w.spans.items };
+}
+
+impl<'a> Words<'a> {
+    /// The words of a line without comment.
+    pub fn of(alloc: Global, code: &'a [u8]) -> Result<Words<'a>, ArchiError>
+        ensures { Has result (words_of code.now) }
+    {
+        match text_lines::spans(alloc, code) {
+            Ok(spans) => Ok(Words { line: code, spans }),
+            Err(_) => Err(ArchiError::OutOfMemory),
+        }
+    }
+
+    /// How many words there are.
+    pub fn len(&self) -> usize
+        ensures { result ≡ length self.now }
+    {
+        self.spans.len()
+    }
+
+    /// A word.
+    pub fn get(&self, k: usize) -> &'a [u8]
+        requires { k < length self.now }
+        ensures { result.now ≡ slice_index_or self.now k [] }
+    {
+        let span = self.spans[k];
+        &self.line[span.from..span.to]
+    }
+}

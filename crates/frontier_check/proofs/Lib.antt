@@ -1,0 +1,4 @@
+pub mod Found
+pub mod Same
+pub mod Places
+pub mod Cases

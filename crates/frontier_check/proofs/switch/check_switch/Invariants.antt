@@ -1,0 +1,13 @@
+use Rattle.std.proofs.Common.{◌≡◌, ◌++◌, ◌∷◌, [], take, drop, map, None, cond}
+use Rattle.algo_defs.specs.declared.fault.AlgoCause.TheVariants.{BadCase}
+use Rattle.algo_rules.specs.Links.{fault, first_of}
+use Rattle.algo_rules.specs.Ports.{ports_of}
+use Rattle.algo_rules.specs.Frontiers.{fits, case_faults, switch_fault}
+use Rattle.frontier_check.proofs.switch.check_switch.Given as goal
+
+-- the cases that are left decide
+abbrev pub invariant-loop-at : goal.invariant-loop-at
+invariant-loop-at l =
+    first_of (case_faults (ports_of l.defs) l.ins l.outs (map (λ c. c.value) (take l.at l.cases)) (drop l.at l.cases)
+    ++ cond (fits l.ins l.outs (ports_of l.defs l.otherwise)) None (fault l.otherwise_line BadCase) ∷ [])
+    ≡ switch_fault (ports_of l.defs) l.ins l.outs l.cases l.otherwise l.otherwise_line

@@ -1,0 +1,2 @@
+mod Enabled
+mod Counted

@@ -1,0 +1,9 @@
+-- The least sequence that is enabled.
+use Rattle.std.specs.Prelude.{◌≡◌, ℕ, ◌<◌, true, false, length}
+use Rattle.semaphore_core.specs.Job.{JobData}
+use Rattle.semaphore_core.specs.Core.{Core, is_enabled}
+
+pub record IsFirstEnabled (j : JobData) (z : Core) (s : ℕ) : Type 0 where
+  pub there : s < length j.program.seqs
+  pub enabled : is_enabled j z s ≡ true
+  pub least : (t : ℕ) → t < s → is_enabled j z t ≡ false

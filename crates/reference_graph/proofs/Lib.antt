@@ -1,0 +1,5 @@
+pub mod Paths
+pub mod SettledDepths
+pub mod Deeper
+pub mod Queues
+pub mod Pushed

@@ -1,0 +1,5 @@
+pub mod Links
+pub mod Answer
+pub mod Settled
+pub mod Search
+pub mod Reached

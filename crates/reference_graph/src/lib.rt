@@ -1,0 +1,17 @@
+//! Vertices that refer to one another by number: which reach themselves, and how deep each is.
+#![tactic(auto)]
+
+mod depths;
+mod links;
+mod ranks;
+mod rounds;
+mod search;
+mod settling;
+mod walk;
+
+pub use depths::{Depths, depths_of};
+pub use links::are_inside;
+pub use search::reaching;
+
+#[cfg(test)]
+mod tests;

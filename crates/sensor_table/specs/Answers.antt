@@ -1,0 +1,24 @@
+-- What was returned is what is defined, unless memory ran out.
+use Rattle.std.specs.Prelude.{◌≡◌, ◌⊎◌, ◌++◌, ◌∷◌, [], List, Result, Ok, Err}
+use Rattle.std.specs.Global.{Vec}
+use Rattle.syn_base.specs.Rows.{Reactions}
+use Rattle.sensor_table.specs.SensorTable.{Row}
+use Rattle.sensor_table.specs.declared.fault.SensorError.{SensorError}
+use Rattle.sensor_table.specs.declared.fault.SensorError.TheVariants.{OutOfMemory}
+
+-- the error is the defined one, or want of memory
+abbrev pub Fails : {A : Type 0} → SensorError → Result A SensorError → Type 0
+Fails e defined = (defined ≡ Err e) ⊎ (e ≡ OutOfMemory)
+
+abbrev pub Gives : {A : Type 0} → Result A SensorError → Result A SensorError → Type 0
+Gives (Ok x) defined = defined ≡ Ok x
+Gives (Err e) defined = Fails e defined
+
+abbrev pub GivesList : {A : Type 0} → Result (Vec A) SensorError → Result (List A) SensorError → Type 0
+GivesList (Ok xs) defined = defined ≡ Ok xs.items
+GivesList (Err e) defined = Fails e defined
+
+-- a row was put behind those that were there
+abbrev pub Pushes : Result Row SensorError → Reactions → Reactions → Result (Unit {0}) SensorError → Type 0
+Pushes defined old new (Ok _) = (row : Row) × (defined ≡ Ok row) × (new ≡ record old { reactions = old.reactions ++ row ∷ [] })
+Pushes defined old new (Err e) = Fails e defined
