@@ -12,7 +12,7 @@ use Rattle.algo_defs.specs.Text.{Stage, before_version, between, in_function, in
 use Rattle.algo_print.specs.Canonical.{joined, version_words, canonical_text, IsPrintable, ArePrintable}
 use Rattle.algo_print.specs.ReadBack.{Says}
 use Rattle.algo_print.proofs.Pieces.{are_words, all_words, and_true, both, text_back}
-use Rattle.algo_print.proofs.Answers.{passed, read, never, same_ok}
+use Rattle.algo_print.proofs.Checks.{passed, read, never, same_ok}
 use Rattle.algo_print.proofs.State.{Lines, lines_at, Numbered, numbered, AreSame, Adds, IsOrdered, next_words}
 use Rattle.algo_print.proofs.Between.{between_step}
 use Rattle.algo_print.proofs.Functions.{function_step}

@@ -16,7 +16,7 @@ use Rattle.algo_print.specs.ReadBack.{bare}
 use Rattle.algo_print.proofs.Pieces.{is_word, are_words, and_true}
 use Rattle.algo_print.proofs.Fits.{number_fits}
 use Rattle.algo_print.proofs.Spelled.{name_word, number_word, number_back, count_back, count_word, count_positive}
-use Rattle.algo_print.proofs.Answers.{passed, held, found, read, either, never, neither, same_ok, passes, holds, finds, reads}
+use Rattle.algo_print.proofs.Checks.{passed, held, found, read, either, never, neither, same_ok, passes, holds, finds, reads}
 use Rattle.algo_print.proofs.State.{Lines, lines_at, Numbered, numbered, AreSame, Adds, IsOrdered, definitions_joined, more}
 
 -- one definition more, of these lines

@@ -17,7 +17,7 @@ use Rattle.algo_print.specs.Canonical.{joined, count, port_words, body_lines, de
 use Rattle.algo_print.specs.ReadBack.{bare, bare_body, bare_reference, bare_edge, bare_case, bare_frontier}
 use Rattle.algo_print.proofs.Pieces.{is_word, are_words, and_true}
 use Rattle.algo_print.proofs.Spelled.{name_word, count_back, count_word, count_positive}
-use Rattle.algo_print.proofs.Answers.{passed, held, found, neither, same_ok, passes, holds, finds}
+use Rattle.algo_print.proofs.Checks.{passed, held, found, neither, same_ok, passes, holds, finds}
 use Rattle.algo_print.proofs.State.{Lines, open_lines, lines_at, Numbered, numbered_block, numbered, AreSame, Adds, IsOrdered, definitions_joined, more, same_outer}
 use Rattle.algo_print.proofs.Between.{one_printable}
 

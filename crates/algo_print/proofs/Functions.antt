@@ -27,7 +27,7 @@ use Rattle.algo_print.specs.Canonical.{spaced, joined, count, port_words, output
 use Rattle.algo_print.proofs.Pieces as pieces
 use Rattle.algo_print.proofs.Pieces.{is_word, are_words, and_true, joins, words_then, first_stands}
 use Rattle.algo_print.proofs.Spelled.{name_word, name_bytes, count_word, count_bytes, name_byte_no_equals, expression_word}
-use Rattle.algo_print.proofs.Answers.{passed, held, read, either, never, neither, same_ok, passes, reads}
+use Rattle.algo_print.proofs.Checks.{passed, held, read, either, never, neither, same_ok, passes, reads}
 use Rattle.algo_print.proofs.State.{Lines, FunctionOrder, Numbered, numbered_block, numbered, AreSame, Adds}
 use Rattle.algo_print.proofs.BlockLines.{in_front, behind, at_most, IntoBlock, into_block, alike, block_adds, end_adds, port_read, port_again, taken_same, InRead, in_read}
 

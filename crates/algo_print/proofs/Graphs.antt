@@ -16,7 +16,7 @@ use Rattle.algo_print.specs.Canonical.{port_words, reference_words, edge_words, 
 use Rattle.algo_print.specs.ReadBack.{bare_reference, bare_edge}
 use Rattle.algo_print.proofs.Spelled.{name_word}
 use Rattle.algo_print.proofs.Ends.{end_read, end_again}
-use Rattle.algo_print.proofs.Answers.{passed, held, found, either, never, neither, same_ok, passes, holds, finds}
+use Rattle.algo_print.proofs.Checks.{passed, held, found, either, never, neither, same_ok, passes, holds, finds}
 use Rattle.algo_print.proofs.State.{Lines, GraphOrder, Numbered, numbered, AreSame, Adds, more, same_length, same_names}
 use Rattle.algo_print.proofs.BlockLines.{in_front, behind, no_lines, key_words, equal, at_most, IntoBlock, into_block, alike, block_adds, end_adds, InRead, in_read, OutRead, out_read}
 

@@ -2,7 +2,7 @@ pub mod Texts
 pub mod Pieces
 pub mod Fits
 pub mod Spelled
-pub mod Answers
+pub mod Checks
 pub mod State
 pub mod Between
 pub mod BlockLines

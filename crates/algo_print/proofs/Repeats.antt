@@ -17,7 +17,7 @@ use Rattle.algo_print.specs.Canonical.{words_of_frontier, frontier_words}
 use Rattle.algo_print.specs.ReadBack.{bare_frontier}
 use Rattle.algo_print.proofs.Pieces.{is_word, are_words, and_true}
 use Rattle.algo_print.proofs.Spelled.{name_word}
-use Rattle.algo_print.proofs.Answers.{passed, held, either, never, same_ok, passes, holds}
+use Rattle.algo_print.proofs.Checks.{passed, held, either, never, same_ok, passes, holds}
 use Rattle.algo_print.proofs.State.{Numbered, numbered_block, numbered, AreSame, Adds, more, same_length, same_outer}
 use Rattle.algo_print.proofs.BlockLines.{behind, equal, key_words, IntoBlock, into_block, block_adds, end_adds}
 

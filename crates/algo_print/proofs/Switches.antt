@@ -16,7 +16,7 @@ use Rattle.algo_print.specs.ReadBack.{bare_case}
 use Rattle.algo_print.proofs.Pieces.{is_word, and_true}
 use Rattle.algo_print.proofs.Fits.{number_fits}
 use Rattle.algo_print.proofs.Spelled.{name_word, number_word, number_back}
-use Rattle.algo_print.proofs.Answers.{passed, held, found, either, never, neither, same_ok, passes, holds, finds}
+use Rattle.algo_print.proofs.Checks.{passed, held, found, either, never, neither, same_ok, passes, holds, finds}
 use Rattle.algo_print.proofs.State.{Lines, open_switch, SwitchOrder, Numbered, numbered, AreSame, Adds, more, same_length}
 use Rattle.algo_print.proofs.BlockLines.{in_front, behind, no_lines, either_false, not_false, key_words, equal, at_most, IntoBlock, into_block, alike, block_adds, end_adds, InRead, in_read, OutRead, out_read}
 

@@ -1,7 +1,7 @@
 //! The lines of a block, each kind by itself.
-ghost use Rattle.std.specs.Prelude.{◌≡◌, ◌++◌, ◌∷◌, [], OnOk, codes, map};
+ghost use Rattle.std.specs.Prelude.{◌≡◌, ◌++◌, ◌∷◌, OnOk, map};
 ghost use Rattle.body_text.specs.Canonical.{IsRead};
-ghost use Rattle.algo_print.specs.Canonical.{end_word, line_of, output_words, edge_words, case_words, frontier_words, words_of_frontier};
+ghost use Rattle.algo_print.specs.Canonical.{end_word, line_of, output_words, edge_words, case_words, words_of_frontier};
 
 use crate::words::{print_pair, put, put_count, put_number, put_word};
 use algo_defs::{Case, Edge, End, Frontier, Output};

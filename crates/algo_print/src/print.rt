@@ -1,6 +1,6 @@
 //! The whole text.
-ghost use Rattle.std.specs.Prelude.{◌≡◌, ◌++◌, ◌∷◌, [], OnOk, OnErr, codes};
-ghost use Rattle.algo_print.specs.Canonical.{canonical_text, text_of, body_lines, definition_lines, version_words, ArePrintable, IsPrintable};
+ghost use Rattle.std.specs.Prelude.{◌≡◌, ◌++◌, OnOk, OnErr};
+ghost use Rattle.algo_print.specs.Canonical.{canonical_text, text_of, body_lines, definition_lines, ArePrintable, IsPrintable};
 
 use crate::blocks::{print_function, print_graph, print_repeat, print_switch, print_values};
 use crate::words::{print_sized, put};

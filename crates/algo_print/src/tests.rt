@@ -1,5 +1,5 @@
 //! Definitions made by hand, and their canonical texts.
-ghost use Rattle.std.specs.Prelude.{◌≤◌, [], IfOk, IsTrue, OnOk, OnErr, length, map};
+ghost use Rattle.std.specs.Prelude.{◌≤◌, IfOk, length, map};
 ghost use Rattle.body_text.specs.Canonical.{IsRead};
 ghost use Rattle.algo_print.specs.Canonical.{ArePrintable, IsPrintable};
 

@@ -1,9 +1,8 @@
 //! Appending words and lines to a text.
 ghost use Rattle.std.specs.Prelude.{◌≡◌, ◌++◌, ◌∷◌, [], OnOk};
 ghost use Rattle.std.specs.Fmt.{signed_decimal};
-ghost use Rattle.algo_print.specs.Canonical.{count, line_of, port_words};
+ghost use Rattle.algo_print.specs.Canonical.{count, line_of};
 
-use body_lang::Port;
 use syn_base::{OutOfMemory, print_int};
 
 /// Appends bytes.
