@@ -115,8 +115,8 @@ copies : read (repeated (codes "2") (codes "fork p x" ∷ codes "iterate z a y t
     (vertex (Named (codes "v")) (codes "V") [] (4 ∷ []) (tree.constant (pos 1 ∷ pos 2 ∷ pos 3 ∷ pos 4 ∷ [])) []
     ∷ vertex (Named (codes "z")) (codes "Z") [] (1 ∷ []) (tree.constant (pos 0 ∷ [])) []
     ∷ vertex (Named (codes "r")) (codes "R") (Of 0 0 ∷ Of 1 0 ∷ []) (1 ∷ 2 ∷ [])
-        (tree.repeat 2 (feed.Fork (codes "p") 0 2 ∷ feed.Iterate 1 0 ∷ []) (give.Last 0 ∷ give.Join (codes "q") 0 ∷ []))
-        (vertex (Numbered 0) (codes "F") (Own 0 ∷ Own 1 ∷ []) (1 ∷ []) (tree.function (Rattle.body_lang.specs.Expr.literal (pos 1) ∷ [])) [] ∷ []) ∷ []))
+    (tree.repeat 2 (feed.Fork (codes "p") 0 2 ∷ feed.Iterate 1 0 ∷ []) (give.Last 0 ∷ give.Join (codes "q") 0 ∷ []))
+    (vertex (Numbered 0) (codes "F") (Own 0 ∷ Own 1 ∷ []) (1 ∷ []) (tree.function (Rattle.body_lang.specs.Expr.literal (pos 1) ∷ [])) [] ∷ []) ∷ []))
 copies = refl
 
 used_twice : read (repeated (codes "2") (codes "fork p x" ∷ codes "diffuse z x" ∷ [])) ≡ refused 11 BadRepeat

@@ -175,7 +175,7 @@ module _ (ds : List Def) (make : Making) where
   references_from ins all edges sensors actuators [] = []
   references_from ins all edges sensors actuators (r ∷ rs) =
       make (Named r.name) r.def (sources_to of ins all edges (Some r.name) (of r.def).ins) sensors actuators
-          ∷ references_from ins all edges (sensors + is_sensor (definition ds r.def)) (actuators + is_actuator (definition ds r.def)) rs
+      ∷ references_from ins all edges (sensors + is_sensor (definition ds r.def)) (actuators + is_actuator (definition ds r.def)) rs
 
   -- cases take the inputs of their switch behind the conditioning one
   abbrev pub cases_from : ℕ → ℕ → List Bytes → List tree.Vertex
