@@ -1,6 +1,5 @@
 -- Lines between definitions.
-use Rattle.std.proofs.Common.{◌≡◌, ℕ, suc, ◌≤◌, ◌==◌, Bool, not, ◌||◌, true, false, cond, nat_lt, Result, Ok, List, [], ◌∷◌, ◌++◌, length, drop, refl, arith, sym, ap, ◌∙◌, subst, append-nil, bytes_eq, codes, ℤ}
-use Rattle.std.specs.Prelude.{All}
+use Rattle.std.proofs.Common.{◌≡◌, ℕ, suc, ◌≤◌, ◌==◌, not, ◌||◌, nat_lt, Ok, List, [], ◌∷◌, ◌++◌, length, drop, refl, arith, sym, ap, ◌∙◌, subst, append-nil, bytes_eq, codes, ℤ}
 use Rattle.std.proofs.lemmas.List.{length-drop}
 use Rattle.std.proofs.lemmas.List.Elements.{All-nil, All-push}
 use Rattle.syn_base.specs.Name.{is_name}

@@ -1,5 +1,5 @@
 -- What the checks of a line have found where the line is accepted.
-use Rattle.std.proofs.Common.{◌≡◌, ℕ, ◌≤◌, ◌==◌, Bool, not, ◌||◌, nat_lt, true, false, cond, Option, Some, None, Result, Ok, Err, refl, arith, sym, ap, ◌∙◌, List, [], ◌∷◌, length, drop}
+use Rattle.std.proofs.Common.{◌≡◌, ℕ, ◌≤◌, ◌==◌, Bool, not, ◌||◌, nat_lt, true, false, cond, Option, Some, None, Result, Ok, Err, refl, arith, List, [], ◌∷◌}
 use Rattle.std.specs.Prelude.{All, ℤ, pos, negsuc}
 use Rattle.std.proofs.lemmas.List.Elements.{All-cons, All-nil}
 use Rattle.syn_base.specs.Name.{is_name}
@@ -86,9 +86,6 @@ pub record PortRead (before : ℕ) (go : Port → Result Block AlgoError) (after
   pub few : before ≤ 63
   pub then : go port ≡ Ok after
 
-at_most_63 : (m : ℕ) → nat_lt 63 m ≡ false → m ≤ 63
-at_most_63 m h = at_most 63 m h
-
 pub port_read : (n before : ℕ) (ws : List Bytes) (go : Port → Result Block AlgoError) (after : Block) → port_line n before ws go ≡ Ok after → PortRead before go after
 port_read n before ws go after h =
     let named = held (is_name (word ws 1)) _ _ after h in
@@ -99,6 +96,6 @@ port_read n before ws go after h =
       port = record { name = word ws 1; len = counted.0 };
       named = named.0;
       sized = (count_positive (word ws 2) counted.0 counted.1, at_most 64 counted.0 low.0);
-      few = at_most_63 before few.0;
+      few = at_most 63 before few.0;
       then = low.1;
     }

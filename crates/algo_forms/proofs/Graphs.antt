@@ -1,8 +1,7 @@
 -- Lines of graphs.
-use Rattle.std.proofs.Common.{◌≡◌, ℕ, ◌≤◌, ◌==◌, not, ◌||◌, true, cond, nat_lt, Result, Ok, List, [], ◌∷◌, ◌++◌, length, map, refl, arith, sym, ap, ◌∙◌, subst, codes}
-use Rattle.std.specs.Prelude.{All}
+use Rattle.std.proofs.Common.{◌≡◌, ℕ, ◌≤◌, ◌==◌, not, ◌||◌, true, nat_lt, Ok, List, [], ◌∷◌, ◌++◌, length, map, refl, arith, subst, codes}
 use Rattle.std.proofs.lemmas.List.{map-append, length-append}
-use Rattle.std.proofs.lemmas.List.Elements.{All-head, All-push}
+use Rattle.std.proofs.lemmas.List.Elements.{All-push}
 use Rattle.body_lang.specs.declared.expression.Port.{Port}
 use Rattle.syn_base.specs.Name.{is_name}
 use Rattle.algo_defs.specs.declared.definition.Def.{Def}
@@ -20,26 +19,32 @@ use Rattle.algo_forms.proofs.Kept.{Kept, IsKept, Goes, reading, line_kept, end_k
 input_goes : (b after : Block) → IsGraph b.ins b.outs b.references → InAdded 0 b after → Goes in_graph b after
 input_goes b after o a =
     let p : Port = a.port in
-    subst (λ (c : Block). Goes in_graph b c) a.is (refl, record {
-      inputs = ports_with b.ins p o.inputs a.few a.named a.sized;
-      outputs = o.outputs;
-      distinct = put_between (port_names b.ins) (port_names b.outs) _ p.name (input_put b.ins p (port_names b.outs)) a.new.ins a.new.outs o.distinct;
-      few = o.few;
-      named = o.named;
-      once = o.once;
-    })
+    subst (λ (c : Block). Goes in_graph b c) a.is (
+      refl,
+      record {
+        inputs = ports_with b.ins p o.inputs a.few a.named a.sized;
+        outputs = o.outputs;
+        distinct = put_between (port_names b.ins) (port_names b.outs) _ p.name (input_put b.ins p (port_names b.outs)) a.new.ins a.new.outs o.distinct;
+        few = o.few;
+        named = o.named;
+        once = o.once;
+      },
+    )
 
 output_goes : (b after : Block) → IsGraph b.ins b.outs b.references → OutAdded 0 1 b after → Goes in_graph b after
 output_goes b after o a =
     let p : Port = a.port in
-    subst (λ (c : Block). Goes in_graph b c) a.is (refl, record {
-      inputs = o.inputs;
-      outputs = ports_with b.outs p o.outputs a.few a.named a.sized;
-      distinct = put_behind (port_names b.ins ++ port_names b.outs) _ p.name (output_put (port_names b.ins) b.outs p) (new_both p.name (port_names b.ins) (port_names b.outs) a.new.ins a.new.outs) o.distinct;
-      few = o.few;
-      named = o.named;
-      once = o.once;
-    })
+    subst (λ (c : Block). Goes in_graph b c) a.is (
+      refl,
+      record {
+        inputs = o.inputs;
+        outputs = ports_with b.outs p o.outputs a.few a.named a.sized;
+        distinct = put_behind (port_names b.ins ++ port_names b.outs) _ p.name (output_put (port_names b.ins) b.outs p) (new_both p.name (port_names b.ins) (port_names b.outs) a.new.ins a.new.outs) o.distinct;
+        few = o.few;
+        named = o.named;
+        once = o.once;
+      },
+    )
 
 reference_goes : (b after : Block) (n : ℕ) (ws : List Bytes) → IsGraph b.ins b.outs b.references → reference_line b n ws ≡ Ok after → Goes in_graph b after
 reference_goes b after n ws o h =
@@ -52,14 +57,17 @@ reference_goes b after n ws o h =
     let few = passed (nat_lt 63 (length b.references)) _ _ after def.1 in
     let last = passed (is_among w names) _ _ after few.1 in
     let size : length b.references ≤ 63 = at_most 63 (length b.references) few.0 in
-    subst (λ (c : Block). Goes in_graph b c) (same_ok _ after last.1) (refl, record {
-      inputs = o.inputs;
-      outputs = o.outputs;
-      distinct = o.distinct;
-      few = omega (arith, length-append b.references (new ∷ []));
-      named = All-push (λ (r : Reference). IsName r.name) b.references new o.named named.0;
-      once = put_behind names _ w (map-append (λ (r : Reference). r.name) b.references (new ∷ [])) (new_beside w names last.0) o.once;
-    })
+    subst (λ (c : Block). Goes in_graph b c) (same_ok _ after last.1) (
+      refl,
+      record {
+        inputs = o.inputs;
+        outputs = o.outputs;
+        distinct = o.distinct;
+        few = omega (arith, length-append b.references (new ∷ []));
+        named = All-push (λ (r : Reference). IsName r.name) b.references new o.named named.0;
+        once = put_behind names _ w (map-append (λ (r : Reference). r.name) b.references (new ∷ [])) (new_beside w names last.0) o.once;
+      },
+    )
 
 edge_goes : (b after : Block) (n : ℕ) (ws : List Bytes) → IsGraph b.ins b.outs b.references → edge_line b n ws ≡ Ok after → Goes in_graph b after
 edge_goes b after n ws o h =

@@ -1,5 +1,5 @@
 -- Names that are given once.
-use Rattle.std.proofs.Common.{◌≡◌, Bool, ◌||◌, true, false, List, [], ◌∷◌, ◌++◌, refl, sym, subst, ap, ◌∙◌, append-nil, bytes_eq}
+use Rattle.std.proofs.Common.{◌≡◌, Bool, true, false, List, [], ◌∷◌, ◌++◌, refl, sym, subst, append-nil, bytes_eq}
 use Rattle.std.proofs.lemmas.Slice.Eq.{bytes_eq-Decides}
 use Rattle.algo_tree.specs.Well.{IsNewName, AreDistinctNames}
 use Rattle.algo_defs.specs.Words.{Bytes, is_among}
@@ -10,7 +10,10 @@ flipped x y h = by (bytes_eq y x) refl
   where
     by : (t : Bool) → bytes_eq y x ≡ t → t ≡ false
     by false e = refl
-    by true e = let same : y ≡ x = (bytes_eq-Decides y x).0 e in let again : bytes_eq x y ≡ true = subst (λ (z : Bytes). bytes_eq z y ≡ true) same (subst (λ (z : Bytes). bytes_eq y z ≡ true) (sym same) e) in cc
+    by true e =
+        let same : y ≡ x = (bytes_eq-Decides y x).0 e in
+        let again : bytes_eq x y ≡ true = subst (λ (z : Bytes). bytes_eq z y ≡ true) same (subst (λ (z : Bytes). bytes_eq y z ≡ true) (sym same) e) in
+        cc
 
 -- a name that is not among others is new beside them
 pub new_beside : (w : Bytes) (xs : List Bytes) → is_among w xs ≡ false → IsNewName w xs

@@ -1,6 +1,5 @@
 -- One port more, and one formula.
-use Rattle.std.proofs.Common.{◌≡◌, ℕ, suc, ◌+◌, ◌≤◌, Bool, not, ◌||◌, ◌==◌, true, false, cond, nat_lt, nat_le, Option, Some, None, Result, Ok, Err, List, [], ◌∷◌, ◌++◌, length, map, take, drop, position, refl, arith, sym, ap, ◌∙◌, subst, append-nil, append_assoc, bytes_eq}
-use Rattle.std.specs.Prelude.{All}
+use Rattle.std.proofs.Common.{◌≡◌, ℕ, suc, ◌+◌, ◌≤◌, not, ◌||◌, ◌==◌, true, false, nat_lt, nat_le, Option, Some, None, Ok, List, [], ◌∷◌, ◌++◌, length, map, take, drop, position, refl, arith, sym, ap, ◌∙◌, subst, append-nil, append_assoc, bytes_eq}
 use Rattle.std.proofs.lemmas.List.{map-append, length-append, length-map}
 use Rattle.std.proofs.lemmas.List.Elements.{All-nil, All-push}
 use Rattle.text_lines.specs.Text.{words_of}
@@ -13,12 +12,11 @@ use Rattle.body_text.proofs.CanonicalPorts.{known, numbers_below}
 use Rattle.algo_tree.specs.Typed.{IsLength}
 use Rattle.algo_tree.specs.Well.{IsNewName, AreDistinctNames}
 use Rattle.algo_defs.specs.declared.definition.Output.{Output}
-use Rattle.algo_defs.specs.declared.fault.AlgoError.{AlgoError}
-use Rattle.algo_defs.specs.Words.{Bytes, is_among}
+use Rattle.algo_defs.specs.Words.{Bytes}
 use Rattle.algo_defs.specs.Formulas.{known_by, read_by, formula_of}
 use Rattle.algo_defs.specs.Blocks.{Block, all_outer, and_then, is_taken, in_line, with_in, out_line, with_out, is_equals, result_words, result_at, result_line, with_result}
 use Rattle.algo_rules.specs.WellRead.{IsName, port_names, ArePorts, ports_in}
-use Rattle.algo_forms.proofs.Checks.{passed, held, read, never, neither, not_false, same_ok, at_most, PortRead, port_read}
+use Rattle.algo_forms.proofs.Checks.{passed, held, read, never, neither, not_false, same_ok, at_most, port_read}
 use Rattle.algo_forms.proofs.Names.{new_beside, new_first, new_second, new_both, distinct_with}
 
 pub no_ports : ArePorts []

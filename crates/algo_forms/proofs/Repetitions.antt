@@ -1,9 +1,9 @@
 -- Lines of repetitions.
-use Rattle.std.proofs.Common.{◌≡◌, ℕ, ◌≤◌, ◌==◌, not, true, false, cond, nat_lt, Result, Ok, Err, List, [], ◌∷◌, ◌++◌, length, drop, refl, arith, sym, ap, ◌∙◌, subst, append-nil, append_assoc, bytes_eq, codes}
+use Rattle.std.proofs.Common.{◌≡◌, ℕ, ◌≤◌, ◌==◌, not, true, false, cond, nat_lt, Ok, Err, List, [], ◌∷◌, ◌++◌, length, drop, refl, arith, sym, ap, ◌∙◌, subst, append-nil, append_assoc, bytes_eq, codes}
 use Rattle.std.specs.Prelude.{All}
 use Rattle.std.proofs.lemmas.List.{length-append}
 use Rattle.std.proofs.lemmas.List.Elements.{All-append, All-cons, All-head, All-nil, All-tail}
-use Rattle.algo_tree.specs.Well.{IsNewName, AreDistinctNames}
+use Rattle.algo_tree.specs.Well.{AreDistinctNames}
 use Rattle.algo_defs.specs.declared.definition.Def.{Def}
 use Rattle.algo_defs.specs.declared.definition.Body.TheVariants.{Repeat}
 use Rattle.algo_defs.specs.declared.definition.Frontier.{Frontier}
@@ -11,7 +11,7 @@ use Rattle.algo_defs.specs.declared.definition.Frontier.TheVariants.{Fork, Diffu
 use Rattle.algo_defs.specs.declared.definition.FrontierLine.{FrontierLine}
 use Rattle.algo_defs.specs.declared.fault.AlgoError.{AlgoError}
 use Rattle.algo_defs.specs.Words.{Bytes, word, is_among}
-use Rattle.algo_defs.specs.Blocks.{Block, outer_names, all_outer, with_frontier, fork_line, diffuse_line, iterate_line, join_line}
+use Rattle.algo_defs.specs.Blocks.{Block, outer_names, all_outer, all_names, with_frontier, fork_line, diffuse_line, iterate_line, join_line}
 use Rattle.algo_defs.specs.Text.{in_repeat, Reading, begins, frontier_line}
 use Rattle.algo_rules.specs.WellRead.{IsName, IsRepetition}
 use Rattle.algo_forms.proofs.Checks.{passed, either, never, neither, not_false, same_ok, equal, at_most, names_hold}
@@ -29,13 +29,16 @@ line_goes b after n f o few named distinct is =
     let l : FrontierLine = record { frontier = f; line = n } in
     let names : all_outer (b.frontier ++ l ∷ []) ≡ all_outer b.frontier ++ outer_names f = all_outer_with b.frontier l in
     let size : length b.frontier ≤ 63 = at_most 63 (length b.frontier) few in
-    subst (λ (c : Block). Goes in_repeat b c) is (refl, record {
-      some = o.some;
-      most = o.most;
-      few = omega (arith, length-append b.frontier (l ∷ []));
-      named = subst (λ (ns : List Bytes). All IsName ns) (sym names) (All-append IsName (all_outer b.frontier) (outer_names f) o.named named);
-      distinct = subst (λ (ns : List Bytes). AreDistinctNames ns) (sym names) distinct;
-    })
+    subst (λ (c : Block). Goes in_repeat b c) is (
+      refl,
+      record {
+        some = o.some;
+        most = o.most;
+        few = omega (arith, length-append b.frontier (l ∷ []));
+        named = subst (λ (ns : List Bytes). All IsName ns) (sym names) (All-append IsName (all_outer b.frontier) (outer_names f) o.named named);
+        distinct = subst (λ (ns : List Bytes). AreDistinctNames ns) (sym names) distinct;
+      },
+    )
 
 behind_two : (ws : List Bytes) → (length ws == 3) ≡ true → drop 1 ws ≡ word ws 1 ∷ word ws 2 ∷ []
 behind_two ws h = two ws (equal (length ws) 3 h)
@@ -104,23 +107,31 @@ module _ (b after : Block) (n : ℕ) (o : IsRepetition b.copies b.frontier) wher
       let last : All IsName (q ∷ []) = All-tail IsName y (q ∷ []) (All-tail IsName x (y ∷ q ∷ []) (All-tail IsName p (x ∷ y ∷ q ∷ []) all)) in
       (All-head IsName p (x ∷ y ∷ q ∷ []) all, All-head IsName q [] last)
 
+  -- a line of two names
+  pair_line : (form : AlgoError) (f : Frontier) (ws : List Bytes) → cond (not (length ws == 3)) (Err form) (all_names n (drop 1 ws) (with_frontier b n f)) ≡ Ok after
+      → (IsName (word ws 1) × IsName (word ws 2)) × (with_frontier b n f ≡ Ok after)
+  pair_line e f ws h =
+      let form = passed (not (length ws == 3)) _ _ after h in
+      let named = names_hold n (drop 1 ws) (with_frontier b n f) after form.1 in
+      (two_words ws (not_false (length ws == 3) form.0) named.0, named.1)
+
   fork_goes : (ws : List Bytes) → fork_line b n ws ≡ Ok after → Goes in_repeat b after
   fork_goes ws h =
-      let form = passed (not (length ws == 3)) _ _ after h in
-      let named = names_hold n (drop 1 ws) (with_frontier b n (Fork (word ws 1) (word ws 2))) after form.1 in
-      one_goes _ _ (Fork (word ws 1) (word ws 2)) (word ws 1) refl (two_words ws (not_false (length ws == 3) form.0) named.0).0 named.1
+      let f : Frontier = Fork (word ws 1) (word ws 2) in
+      let line = pair_line _ f ws h in
+      one_goes _ _ f (word ws 1) refl line.0.0 line.1
 
   diffuse_goes : (ws : List Bytes) → diffuse_line b n ws ≡ Ok after → Goes in_repeat b after
   diffuse_goes ws h =
-      let form = passed (not (length ws == 3)) _ _ after h in
-      let named = names_hold n (drop 1 ws) (with_frontier b n (Diffuse (word ws 1) (word ws 2))) after form.1 in
-      one_goes _ _ (Diffuse (word ws 1) (word ws 2)) (word ws 1) refl (two_words ws (not_false (length ws == 3) form.0) named.0).0 named.1
+      let f : Frontier = Diffuse (word ws 1) (word ws 2) in
+      let line = pair_line _ f ws h in
+      one_goes _ _ f (word ws 1) refl line.0.0 line.1
 
   join_goes : (ws : List Bytes) → join_line b n ws ≡ Ok after → Goes in_repeat b after
   join_goes ws h =
-      let form = passed (not (length ws == 3)) _ _ after h in
-      let named = names_hold n (drop 1 ws) (with_frontier b n (Join (word ws 1) (word ws 2))) after form.1 in
-      one_goes _ _ (Join (word ws 1) (word ws 2)) (word ws 2) refl (two_words ws (not_false (length ws == 3) form.0) named.0).1 named.1
+      let f : Frontier = Join (word ws 1) (word ws 2) in
+      let line = pair_line _ f ws h in
+      one_goes _ _ f (word ws 2) refl line.0.1 line.1
 
   iterate_goes : (ws : List Bytes) → iterate_line b n ws ≡ Ok after → Goes in_repeat b after
   iterate_goes ws h =
