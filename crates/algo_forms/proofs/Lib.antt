@@ -1,0 +1,10 @@
+pub mod Checks
+pub mod Names
+pub mod Ports
+pub mod Kept
+pub mod Between
+pub mod Functions
+pub mod Graphs
+pub mod Switches
+pub mod Repetitions
+pub mod Lines

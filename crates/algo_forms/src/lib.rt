@@ -1,0 +1,14 @@
+//! What the definitions of every accepted text keep, before any of them is linked to another.
+//!
+//! The law is the contract of a function that does nothing.
+#![tactic(auto)]
+
+ghost use Rattle.algo_rules.specs.WellRead.{AcceptedAreWellRead};
+
+/// The definitions of every text that is accepted are well read: names are names; definitions, the ports of one
+/// definition, the references of a graph and the outer names of a repetition are each named once; vectors have 1 to
+/// 64 elements; a definition has at most 64 inputs, outputs, references, cases or frontier lines each; a function
+/// has an output, and its formulas name inputs of its own; a repetition has 1 to 64 copies.
+pub fn accepted_are_well_read()
+    ensures { AcceptedAreWellRead }
+{}
