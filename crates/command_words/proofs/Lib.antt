@@ -1,1 +1,4 @@
 pub mod Words
+pub mod Behind
+pub mod Numbers
+pub mod Names

@@ -1,5 +1,5 @@
 -- Which commands worked words are.
-use Rattle.std.proofs.Common.{◌≡◌, ℕ, refl, List, [], ◌∷◌, Option, Some, None, codes}
+use Rattle.std.proofs.Common.{◌≡◌, refl, List, [], ◌∷◌, Option, Some, None, codes}
 use Rattle.command_words.specs.Command.{Bytes, Command, check, sim, flat, chart, code, run, load, command_of}
 
 abbrev a : Bytes

@@ -1,1 +1,4 @@
 pub mod Command
+pub mod View
+pub mod Reading
+pub mod Plain

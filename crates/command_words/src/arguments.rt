@@ -1,0 +1,170 @@
+//! The words behind the command: the plain arguments, and what is given as workers.
+ghost use Rattle.std.specs.Prelude.{◌≡◌, ◌++◌, ◌∷◌, [], List, map, drop, option_map, false, true, IfOk, OnOk, length, ◌≤◌};
+ghost use Rattle.std.specs.String.{string_bytes};
+ghost use Rattle.command_words.specs.Command.{Bytes, is_option, is_joined, arguments_of};
+ghost use Rattle.command_words.specs.Reading.{rest_of, behind, read_on};
+
+use std::alloc::Global;
+use std::marker::Model;
+use syn_base::OutOfMemory;
+
+/// How the next word is read.
+#[derive(Clone, Copy, Drop)]
+pub enum Mode {
+    /// As an option or a plain argument.
+    Free,
+    /// As a number of workers: the word before was `--workers`.
+    Awaited,
+    /// As a plain argument: a word before was `--`.
+    Ended,
+}
+
+/// The plain arguments and what is given as workers, each in order.
+#[derive(Drop)]
+pub struct Arguments<'a> {
+    plain: Vec<&'a str>,
+    workers: Vec<&'a [u8]>,
+}
+
+impl<'a> Model for Arguments<'a> {
+    ghost use Rattle.std.specs.Prelude.{map};
+    ghost use Rattle.command_words.specs.Command.{Arguments as Given};
+
+    ghost Value = { Given };
+
+    ghost view = { λ s. record { plain = map (λ w. w.now) s.plain.items; workers = map (λ w. w.now) s.workers.items } };
+}
+
+impl<'a> Arguments<'a> {
+    fn new(alloc: Global) -> Self
+        ensures { result ≡ record { plain = []; workers = [] } }
+    {
+        Arguments {
+            plain: Vec::new(alloc),
+            workers: Vec::new(alloc),
+        }
+    }
+
+    /// The plain arguments in order.
+    pub fn plain(&self) -> &[&'a str]
+        ensures { map (λ w. w.now) result.now ≡ self.now.plain }
+    {
+        self.plain.as_slice()
+    }
+
+    /// What is given as workers, in order.
+    pub fn workers(&self) -> &[&'a [u8]]
+        ensures { map (λ w. w.now) result.now ≡ self.now.workers }
+    {
+        self.workers.as_slice()
+    }
+
+    fn add_plain(&mut self, word: &'a str) -> Result<(), OutOfMemory>
+        ensures { OnOk result (self.new ≡ record { plain = self.old.plain ++ word.now ∷ []; workers = self.old.workers }) }
+    {
+        self.plain.push(word)?;
+        Ok(())
+    }
+
+    fn add_workers(&mut self, text: &'a [u8]) -> Result<(), OutOfMemory>
+        ensures { OnOk result (self.new ≡ record { plain = self.old.plain; workers = self.old.workers ++ text.now ∷ [] }) }
+    {
+        self.workers.push(text)?;
+        Ok(())
+    }
+
+    #[tactic(auto, using(crate::proofs::Behind::behind_plain, crate::proofs::Behind::behind_workers))]
+    /// Reads a word: how the next one is read, or `None` where the word is refused.
+    fn take(
+        &mut self,
+        takes_workers: bool,
+        mode: Mode,
+        word: &'a str,
+    ) -> Result<Option<Mode>, OutOfMemory>
+        ensures { IfOk result (λ next. (ws : List Bytes) → behind self.old (rest_of takes_workers mode (word.now ∷ ws)) ≡ read_on takes_workers self.new next ws) }
+    {
+        match mode {
+            Mode::Free => self.take_free(takes_workers, word),
+            Mode::Awaited => {
+                self.add_workers(word.as_bytes())?;
+                Ok(Some(Mode::Free))
+            }
+            Mode::Ended => {
+                self.add_plain(word)?;
+                Ok(Some(Mode::Ended))
+            }
+        }
+    }
+
+    #[tactic(auto, using(crate::proofs::Behind::behind_plain, crate::proofs::Behind::behind_workers))]
+    fn take_free(&mut self, takes_workers: bool, word: &'a str) -> Result<Option<Mode>, OutOfMemory>
+        ensures { IfOk result (λ next. (ws : List Bytes) → behind self.old (arguments_of takes_workers false (word.now ∷ ws)) ≡ read_on takes_workers self.new next ws) }
+    {
+        if word == "--" {
+            return Ok(Some(Mode::Ended));
+        }
+        if takes_workers && word == "--workers" {
+            return Ok(Some(Mode::Awaited));
+        }
+        if takes_workers && is_joined(word.as_bytes()) {
+            self.add_workers(joined_text(word.as_bytes()))?;
+            return Ok(Some(Mode::Free));
+        }
+        if is_option(word.as_bytes()) {
+            return Ok(None);
+        }
+        self.add_plain(word)?;
+        Ok(Some(Mode::Free))
+    }
+}
+
+/// The length of `--workers=`.
+const JOINED: usize = 10;
+
+fn is_joined(word: &[u8]) -> bool
+    ensures same { result ≡ is_joined word.now }
+    ensures long { result ≡ true → 10 ≤ length word.now }
+{
+    word.len() >= JOINED && &word[..JOINED] == b"--workers=".as_slice()
+}
+
+/// What stands behind `--workers=`.
+fn joined_text(word: &[u8]) -> &[u8]
+    requires { 10 ≤ length word.now }
+    ensures { result.now ≡ drop 10 word.now }
+{
+    word.split_at(JOINED).1
+}
+
+fn is_option(word: &[u8]) -> bool
+    ensures { result ≡ is_option word.now }
+{
+    match word {
+        [first, _, ..] => *first == b'-',
+        _ => false,
+    }
+}
+
+#[tactic(auto, using(crate::proofs::Behind::behind_none, crate::proofs::Behind::behind_first))]
+/// The plain arguments and the workers in these words, or `None` where a word is refused or a
+/// number of workers is missing.
+pub fn arguments_of<'a>(
+    alloc: Global,
+    takes_workers: bool,
+    words: &'a [String],
+) -> Result<Option<Arguments<'a>>, OutOfMemory>
+    ensures { IfOk result (λ a. a ≡ arguments_of takes_workers false (map string_bytes words.now)) }
+{
+    let mut arguments = Arguments::new(alloc);
+    let mut mode = Mode::Free;
+    for word in words {
+        match arguments.take(takes_workers, mode, word.as_str())? {
+            Some(next) => mode = next,
+            None => return Ok(None),
+        }
+    }
+    match mode {
+        Mode::Awaited => Ok(None),
+        _ => Ok(Some(arguments)),
+    }
+}
