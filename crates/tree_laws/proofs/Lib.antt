@@ -1,0 +1,5 @@
+pub mod Firsts
+pub mod Standing
+pub mod Ends
+pub mod Numbered
+pub mod Refused
