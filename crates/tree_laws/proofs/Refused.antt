@@ -12,6 +12,7 @@ use Rattle.algo_rules.specs.Resolved.{bodies_fault, no_main, no_main_by, is_main
 use Rattle.tree_laws.specs.Central.{EndsStandInMain, EndsAreNumbered}
 use Rattle.tree_laws.proofs.Firsts.{none_both}
 use Rattle.tree_laws.proofs.Standing.{all_stand}
+use Rattle.tree_laws.proofs.Bodies.{all_passed}
 use Rattle.tree_laws.proofs.Numbered.{IsGraphOf, main_none, main_numbered}
 
 pub record HasNone (ds : List Def) : Type 0 where
