@@ -5,3 +5,5 @@ pub mod Numbered
 pub mod Refused
 pub mod Ranks
 pub mod Bodies
+pub mod Accepted
+pub mod Lengths
