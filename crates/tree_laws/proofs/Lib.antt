@@ -7,3 +7,4 @@ pub mod Ranks
 pub mod Bodies
 pub mod Accepted
 pub mod Lengths
+pub mod Frontiers
