@@ -160,12 +160,12 @@ module _ (copies : ℕ) (inner : Ports) where
       by (Join y q) k rest = rest k.1
 
   -- what the outputs of the body give
-  pub given : (ls : List FrontierLine) → lens_of (flat_map (λ l. outer_outs copies inner l.frontier) ls) ≡ map (given_length copies (lens_of inner.outs)) (flat_map (λ l. give_by inner inner l.frontier) ls)
-  given [] = refl
-  given (l ∷ ls) = by l.frontier (given ls)
+  pub given : (own : Ports) (ls : List FrontierLine) → lens_of (flat_map (λ l. outer_outs copies inner l.frontier) ls) ≡ map (given_length copies (lens_of inner.outs)) (flat_map (λ l. give_by inner own l.frontier) ls)
+  given own [] = refl
+  given own (l ∷ ls) = by l.frontier (given own ls)
     where
-      by : (f : Frontier) → lens_of (flat_map (λ l. outer_outs copies inner l.frontier) ls) ≡ map (given_length copies (lens_of inner.outs)) (flat_map (λ l. give_by inner inner l.frontier) ls)
-          → lens_of (outer_outs copies inner f ++ flat_map (λ l. outer_outs copies inner l.frontier) ls) ≡ map (given_length copies (lens_of inner.outs)) (give_by inner inner f ++ flat_map (λ l. give_by inner inner l.frontier) ls)
+      by : (f : Frontier) → lens_of (flat_map (λ l. outer_outs copies inner l.frontier) ls) ≡ map (given_length copies (lens_of inner.outs)) (flat_map (λ l. give_by inner own l.frontier) ls)
+          → lens_of (outer_outs copies inner f ++ flat_map (λ l. outer_outs copies inner l.frontier) ls) ≡ map (given_length copies (lens_of inner.outs)) (give_by inner own f ++ flat_map (λ l. give_by inner own l.frontier) ls)
       by (Fork p x) rest = rest
       by (Diffuse p x) rest = rest
       by (Iterate p x y q) rest = ap₂ (λ (n : ℕ) (ns : List ℕ). n ∷ ns) (sym (len_at inner.outs y)) rest

@@ -8,3 +8,6 @@ pub mod Bodies
 pub mod Accepted
 pub mod Lengths
 pub mod Frontiers
+pub mod Joined
+pub mod Sized
+pub mod Acyclic
