@@ -41,6 +41,9 @@ use Rattle.tree_laws.proofs.Standing.{both}
 use Rattle.tree_laws.proofs.Lengths.{same_bytes}
 use Rattle.tree_laws.proofs.Joined.{owner_is, Joins}
 
+some_same : {A : Type 0} (x y : A) → Some x ≡ Some y → x ≡ y
+some_same x y h = cc
+
 -- what is asked for: nothing by a delay, else all sources
 abbrev AskedIs : Option Def → List Source → List Source → Type 0
 AskedIs o ins asked = (asked ≡ []) ⊎ ((is_delay o ≡ false) × (asked ≡ ins))
@@ -79,7 +82,7 @@ module _ (ds : List Def) (n : ℕ) (own : Ports) (all : List Reference) (edges :
   node_at : (s a : ℕ) (rs : List Reference) (k : ℕ) (c : Node) → slice_get (nodes (made s a rs)) k ≡ Some c → (r : Reference) × ((slice_get rs k ≡ Some r) × IsNodeOf r c)
   node_at s a [] k c h = cc
   node_at s a (r ∷ rs) zero c h =
-      let same : node (vertex_within ds (suc n) (Named r.name) r.def (fed r) s a) ≡ c = cc in
+      let same = some_same (node (vertex_within ds (suc n) (Named r.name) r.def (fed r) s a)) c h in
       (r, (refl, subst (λ (x : Node). IsNodeOf r x) same (node_by ds (vertex_within ds n) (Named r.name) r.def (fed r) s a (definition ds r.def))))
   node_at s a (r ∷ rs) (suc k) c h = node_at (s + is_sensor (definition ds r.def)) (a + is_actuator (definition ds r.def)) rs k c h
 
@@ -312,7 +315,7 @@ module _ (ds : List Def) (n : ℕ) (own : Ports) (all : List Reference) (edges :
       by false e m zero at rest = let same : i ≡ i + zero = omega arith in subst (λ (j : ℕ). reaches_itself links j ≡ false) same e
       by false e m (suc k) at rest = let same : suc i + k ≡ i + suc k = omega arith in subst (λ (j : ℕ). reaches_itself links j ≡ false) same (rest k m at)
 
-  none_by : (line : ℕ) (names : List Bytes) → cycle_by line names ≡ None → names ≡ []
+  none_by : (line : ℕ) (names : List Bytes) → cycle_by ds all line names ≡ None → names ≡ []
   none_by line [] h = refl
   none_by line (x ∷ xs) h = cc
 
