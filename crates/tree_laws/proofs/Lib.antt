@@ -11,3 +11,6 @@ pub mod Frontiers
 pub mod Joined
 pub mod Sized
 pub mod Acyclic
+pub mod Labels
+pub mod Cases
+pub mod Typing
