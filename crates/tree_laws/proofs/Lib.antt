@@ -14,3 +14,5 @@ pub mod Acyclic
 pub mod Labels
 pub mod Cases
 pub mod Typing
+pub mod LineNames
+pub mod Wellness
