@@ -16,3 +16,5 @@ pub mod Cases
 pub mod Typing
 pub mod LineNames
 pub mod Wellness
+pub mod Counting
+pub mod Trees

@@ -20,3 +20,7 @@ EndsStandInMain = (ds : List Def) → refusal ds ≡ None → NoneInside (vertic
 -- the sensors and the actuators of the main graph are numbered in declared order
 abbrev pub EndsAreNumbered : Type 0
 EndsAreNumbered = (ds : List Def) → refusal ds ≡ None → AreEndsNumbered (vertices_in (tree_of ds))
+
+-- the tree stands for as many operations as are counted for its definitions
+abbrev pub OperationsAreCounted : Type 0
+OperationsAreCounted = (ds : List Def) → AreWellRead ds → refusal ds ≡ None → counted.operations (tree_of ds) ≡ operations ds
