@@ -9,10 +9,8 @@ use Rattle.algo_defs.specs.declared.fault.AlgoError.{AlgoError}
 use Rattle.algo_defs.specs.declared.fault.AlgoCause.TheVariants.{NoMain}
 use Rattle.algo_rules.specs.Links.{fault, first_of, definition, unknown, misplaced, recursive, too_deep}
 use Rattle.algo_rules.specs.Resolved.{bodies_fault, no_main, no_main_by, is_main_graph, too_many, refusal, tree_of}
-use Rattle.tree_laws.specs.Central.{EndsStandInMain, EndsAreNumbered}
 use Rattle.tree_laws.proofs.Firsts.{none_both}
 use Rattle.tree_laws.proofs.Standing.{all_stand}
-use Rattle.tree_laws.proofs.Bodies.{all_passed}
 use Rattle.tree_laws.proofs.Numbered.{IsGraphOf, main_none, main_numbered}
 
 pub record HasNone (ds : List Def) : Type 0 where
@@ -46,10 +44,11 @@ main_by (Some d) h = by (is_main_graph d.body) h
 pub main_is_graph : (ds : List Def) → HasNone ds → IsGraphOf (definition ds (codes "main"))
 main_is_graph ds h = main_by (definition ds (codes "main")) h.no_main
 
-pub stand_in_main : EndsStandInMain
+-- no sensor and no actuator stands inside what the main graph refers to
+pub stand_in_main : (ds : List Def) → HasNone ds → NoneInside (vertices_in (tree_of ds))
 stand_in_main ds h =
-    let none = has_none ds h in
-    main_none ds 6 (all_stand ds none.misplaced) (Named (codes "main")) (codes "main") [] 0 0 (definition ds (codes "main")) refl (main_is_graph ds none)
+    main_none ds 6 (all_stand ds h.misplaced) (Named (codes "main")) (codes "main") [] 0 0 (definition ds (codes "main")) refl (main_is_graph ds h)
 
-pub are_numbered : EndsAreNumbered
-are_numbered ds h = main_numbered ds 6 (Named (codes "main")) (codes "main") [] 0 0 (definition ds (codes "main")) (main_is_graph ds (has_none ds h))
+-- those of the main graph are numbered in order
+pub are_numbered : (ds : List Def) → HasNone ds → AreEndsNumbered (vertices_in (tree_of ds))
+are_numbered ds h = main_numbered ds 6 (Named (codes "main")) (codes "main") [] 0 0 (definition ds (codes "main")) (main_is_graph ds h)

@@ -71,7 +71,7 @@ few_by n true e h = cc
 few_by n false e h = ltb-false 2048 n e
 
 pub are_counted : OperationsAreCounted
-are_counted ds read none = counted_within ds (accepted ds read (has_none ds none)) 8 (Named main) main [] 0 0
+are_counted ds read no_refusal = counted_within ds (accepted ds read (has_none ds no_refusal)) 8 (Named main) main [] 0 0
 
 pub make_a_tree : AcceptedMakeATree
 make_a_tree ds read no_refusal =
@@ -83,7 +83,7 @@ make_a_tree ds read no_refusal =
       portless = portless_by ds (vertex_within ds 7) (definition ds main) (main_is_graph ds none);
       well = well ds acc 8 (Named main) main is.0 [] 0 0 is.1.0 (acc.most main is.0 is.1.0);
       typed = subst (λ (ns : List ℕ). IsTyped ns (tree_of ds)) lens (typed ds acc 8 (Named main) main is.0 [] 0 0 is.1.0 (acc.most main is.0 is.1.0));
-      inside = stand_in_main ds no_refusal;
-      numbered = are_numbered ds no_refusal;
+      inside = stand_in_main ds none;
+      numbered = are_numbered ds none;
       few = subst (λ (n : ℕ). n ≤ 2048) (sym (are_counted ds read no_refusal)) (few_by (operations ds) (nat_lt 2048 (operations ds)) refl none.too_many);
     }

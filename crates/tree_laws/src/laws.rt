@@ -1,14 +1,15 @@
 //! Laws of resolving, each the contract of a function that does nothing.
-ghost use Rattle.tree_laws.specs.Central.{EndsAreNumbered, EndsStandInMain};
+ghost use Rattle.tree_laws.specs.Central.{AcceptedMakeATree, OperationsAreCounted};
 
-/// Where definitions have no refusal, no sensor and no actuator stands inside what the main graph of
-/// their tree refers to.
-pub fn ends_stand_in_main()
-    ensures { EndsStandInMain }
+/// Definitions as an accepted text has them, that have no refusal, resolve to a valid tree: well formed,
+/// with lengths that fit, without sensors or actuators inside what the main graph refers to, and with
+/// those of the main graph numbered in order, of at most 2,048 flat operations.
+pub fn accepted_make_a_tree()
+    ensures { AcceptedMakeATree }
 {}
 
-/// Where definitions have no refusal, the sensors and the actuators of the main graph of their tree are
-/// numbered in declared order.
-pub fn ends_are_numbered()
-    ensures { EndsAreNumbered }
+/// The tree of such definitions stands for as many flat operations as are counted for `main` from the
+/// definitions alone.
+pub fn operations_are_counted()
+    ensures { OperationsAreCounted }
 {}

@@ -1,6 +1,6 @@
-//! Laws of resolving: what the tree of definitions without a refusal keeps.
+//! Laws of resolving: definitions of an algorithm text that are not refused make a valid tree.
 #![tactic(auto)]
 
 mod laws;
 
-pub use laws::{ends_are_numbered, ends_stand_in_main};
+pub use laws::{accepted_make_a_tree, operations_are_counted};
