@@ -1,11 +1,9 @@
 -- A graph whose checks have no fault has no cycle, and its references are told apart.
-use Rattle.std.proofs.Common.{◌≡◌, ℕ, zero, suc, ◌+◌, ◌<◌, ◌≤◌, Bool, true, false, not, cond, ◌&&◌, ◌||◌, List, [], ◌∷◌, ◌++◌, map, length, get_or, Option, Some, None, ◌⊎◌, inl, inr, refl, ap, ap₂, sym, subst, ◌∙◌, arith, if◌then◌else◌}
+use Rattle.std.proofs.Common.{◌≡◌, ℕ, zero, suc, ◌+◌, ◌<◌, Bool, true, false, not, cond, ◌&&◌, ◌||◌, List, [], ◌∷◌, ◌++◌, map, length, get_or, Option, Some, None, ◌⊎◌, inl, inr, refl, ap, sym, subst, arith, if◌then◌else◌}
 use Rattle.std.specs.Prelude.{◌==◌, slice_get}
 use Rattle.std.specs.Str.{bytes_eq}
-use Rattle.std.specs.List.{list_any, flat_map}
+use Rattle.std.specs.List.{list_any}
 use Rattle.std.proofs.lemmas.Bool.{eqb-true}
-use Rattle.std.proofs.lemmas.List.{length-map}
-use Rattle.std.proofs.lemmas.Option.{slice_get_within}
 use Rattle.std.proofs.lemmas.Slice.Eq.{bytes_eq-Decides}
 use Rattle.body_lang.specs.declared.expression.Port.{Port}
 use Rattle.level_meaning.specs.declared.source.Source.{Source}
@@ -16,10 +14,9 @@ use Rattle.level_meaning.specs.Order.{IsAcyclic}
 use Rattle.level_meaning.specs.Cycles.{IsOf, IsAmong, IsGuarding, Asks, Reaches, asks, goes, ReachesNoneItself, AllInRange}
 use Rattle.level_meaning.specs.Parts.{IsApart, HasDistinctParts}
 use Rattle.level_meaning.proofs.CyclesLemmas.{acyclic-from_reaching}
-use Rattle.algo_tree.specs.Tree.{Vertex, vertex, Vertices}
+use Rattle.algo_tree.specs.Tree.{Vertices}
 use Rattle.algo_tree.specs.View.{vertices_of}
 use Rattle.algo_tree.specs.Meaning.{node, nodes, asked_by}
-use Rattle.algo_tree.specs.Typed.{label_of}
 use Rattle.algo_tree.specs.Well.{IsNewName, AreDistinctNames}
 use Rattle.algo_defs.specs.declared.definition.Def.{Def}
 use Rattle.algo_defs.specs.declared.definition.Body.{Body}
@@ -27,18 +24,16 @@ use Rattle.algo_defs.specs.declared.definition.Body.TheVariants.{Sensor, Actuato
 use Rattle.algo_defs.specs.declared.definition.Reference.{Reference}
 use Rattle.algo_defs.specs.declared.definition.Edge.{Edge}
 use Rattle.algo_defs.specs.declared.definition.End.{End}
-use Rattle.algo_defs.specs.declared.fault.AlgoCause.TheVariants.{Cycle}
 use Rattle.algo_defs.specs.Words.{Bytes}
 use Rattle.reference_graph.specs.Links.{Links, from, leads_within, reaches_itself}
 use Rattle.reference_graph.proofs.Enough.{enough}
-use Rattle.algo_rules.specs.Links.{fault, definition}
+use Rattle.algo_rules.specs.Links.{definition}
 use Rattle.algo_rules.specs.Ports.{ports_of}
 use Rattle.algo_rules.specs.Graphs.{same_owner, same_end, port_len, ports_at, givers, is_delay, place, source_of, leads_to, sources, dependences, names_of, cycle_by, cycle_fault}
 use Rattle.algo_rules.specs.declared.ports.Ports.{Ports}
 use Rattle.algo_rules.specs.Resolved.{Making, vertex_within, vertex_by, references_from, source_from, source_to, sources_to, kind_by, is_sensor, is_actuator}
 use Rattle.tree_laws.proofs.Firsts.{Each}
 use Rattle.tree_laws.proofs.Standing.{both}
-use Rattle.tree_laws.proofs.Lengths.{same_bytes}
 use Rattle.tree_laws.proofs.Joined.{owner_is, Joins}
 
 some_same : {A : Type 0} (x y : A) → Some x ≡ Some y → x ≡ y
@@ -301,9 +296,11 @@ module _ (ds : List Def) (n : ℕ) (own : Ports) (all : List Reference) (edges :
   led : AreDistinctNames (map (λ r. r.name) all) → (k q : ℕ) → Reaches level k q → IsAsking q → (m : ℕ) × (leads_within links m k q ≡ true)
   led h k q (asks j) asking = (zero, depends h k q j asking)
   led h k q (goes {q = i} j rest) asking =
-      let further = led h i q rest asking in
-      (suc further.0, or_right (leads_within links further.0 k q) (list_any (λ c. leads_within links further.0 c q) (from links k))
-          (any_at i (λ c. leads_within links further.0 c q) (from links k) further.1 (depends h k i j (first_asks i q rest))))
+      let further = led h i q rest asking in (
+        suc further.0,
+        or_right (leads_within links further.0 k q) (list_any (λ c. leads_within links further.0 c q) (from links k))
+            (any_at i (λ c. leads_within links further.0 c q) (from links k) further.1 (depends h k i j (first_asks i q rest))),
+      )
 
   names_none : (i : ℕ) (rs : List Reference) (k : ℕ) (r : Reference) → names_of ds all links i rs ≡ [] → slice_get rs k ≡ Some r → reaches_itself links (i + k) ≡ false
   names_none i [] k r h at = cc

@@ -1,7 +1,7 @@
 -- Each definition of a text without a refusal has passed its own checks.
-use Rattle.std.proofs.Common.{◌≡◌, ℕ, zero, suc, ◌+◌, ◌<◌, ◌≤◌, Bool, true, false, not, cond, eqb, List, [], ◌∷◌, ◌++◌, map, length, get_or, Option, Some, None, inl, inr, refl, ap, sym, subst, ◌∙◌, arith, if◌then◌else◌}
+use Rattle.std.proofs.Common.{◌≡◌, ℕ, zero, suc, ◌+◌, ◌<◌, ◌≤◌, Bool, true, false, not, cond, List, [], ◌∷◌, length, get_or, Option, Some, None, inl, inr, subst, arith, if◌then◌else◌}
 use Rattle.std.specs.Prelude.{◌==◌}
-use Rattle.std.specs.List.{flat_map, range_with_len}
+use Rattle.std.specs.List.{range_with_len}
 use Rattle.std.specs.Str.{bytes_eq}
 use Rattle.std.proofs.lemmas.Bool.{cases_lt}
 use Rattle.std.proofs.lemmas.List.{length-map}
@@ -56,7 +56,7 @@ all_passed ds h k deep bodies w d e =
     let some = positive ds h k w d e in
     let most = not_deep ds deep w d e in
     let at = each_range (λ n. first_of (faults_at ds n ds (depths (links_of ds))) ≡ None) 8 1 (rank ds w)
-        (none_flat (λ n. faults_at ds n ds (depths (links_of ds))) (range_with_len 1 8) bodies) (omega arith) (omega arith) in
+    (none_flat (λ n. faults_at ds n ds (depths (links_of ds))) (range_with_len 1 8) bodies) (omega arith) (omega arith) in
     let n : length (links_of ds) ≡ length ds = length-map ds _ in
     let m : length (depths (links_of ds)) ≡ length (links_of ds) = length-map-range_with_len (depth (links_of ds)) 0 (length (links_of ds)) in
     passed_at ds (rank ds w) ds (depths (links_of ds)) w d at e (rank_at ds w d e) (omega (arith, n, m, place_below ds w d e))

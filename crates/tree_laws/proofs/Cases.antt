@@ -1,16 +1,12 @@
 -- The cases of a switch whose checks have no fault.
-use Rattle.std.proofs.Common.{◌≡◌, ℕ, zero, suc, ◌+◌, ◌<◌, ◌≤◌, Bool, true, false, not, ◌&&◌, List, [], ◌∷◌, ◌++◌, map, length, get_or, Option, Some, None, refl, ap, ap₂, sym, subst, ◌∙◌, arith, if◌then◌else◌, ℤ}
+use Rattle.std.proofs.Common.{◌≡◌, ℕ, zero, suc, ◌+◌, Bool, true, false, not, ◌&&◌, List, [], ◌∷◌, ◌++◌, map, length, get_or, None, refl, ap₂, subst, arith, if◌then◌else◌, ℤ}
 use Rattle.std.specs.Prelude.{◌==◌}
-use Rattle.std.specs.List.{range_with_len}
 use Rattle.std.specs.Str.{bytes_eq}
 use Rattle.std.proofs.lemmas.Bool.{eqb-true}
 use Rattle.body_lang.specs.declared.expression.Port.{Port}
-use Rattle.level_meaning.specs.declared.source.Source.{Source}
-use Rattle.level_meaning.specs.declared.source.Source.TheVariants.{Own}
 use Rattle.algo_tree.specs.Typed.{source_length}
 use Rattle.algo_tree.specs.Well.{AreOwn}
 use Rattle.algo_defs.specs.declared.definition.Case.{Case}
-use Rattle.algo_defs.specs.declared.fault.AlgoError.{AlgoError}
 use Rattle.algo_defs.specs.declared.fault.AlgoCause.TheVariants.{BadCase}
 use Rattle.algo_defs.specs.Words.{Bytes}
 use Rattle.algo_rules.specs.Links.{fault, first_of}
@@ -18,7 +14,7 @@ use Rattle.algo_rules.specs.Ports.{lens_of, same_ports}
 use Rattle.algo_rules.specs.Frontiers.{fits, has_value, case_fault, case_faults, switch_fault}
 use Rattle.algo_rules.specs.Resolved.{owns}
 use Rattle.algo_rules.specs.declared.ports.Ports.{Ports}
-use Rattle.tree_laws.proofs.Firsts.{Each, none_both, none_append}
+use Rattle.tree_laws.proofs.Firsts.{Each, none_both}
 use Rattle.tree_laws.proofs.Standing.{both}
 
 pub same_lens : (ps qs : List Port) → same_ports ps qs ≡ true → lens_of ps ≡ lens_of qs

@@ -1,14 +1,10 @@
 -- Sensors and actuators stand in the main graph alone.
-use Rattle.std.proofs.Common.{◌≡◌, ℕ, zero, suc, ◌+◌, Bool, true, false, List, [], ◌∷◌, ◌++◌, map, length, Option, Some, None, refl, ap, sym, subst, ◌∙◌, arith, append_assoc, append-nil, add-zero, zero-add}
+use Rattle.std.proofs.Common.{◌≡◌, ℕ, zero, suc, ◌+◌, true, false, List, [], ◌∷◌, ◌++◌, map, length, Option, Some, None, refl}
 use Rattle.body_lang.specs.declared.expression.Port.{Port}
 use Rattle.level_meaning.specs.declared.source.Source.{Source}
 use Rattle.level_meaning.specs.declared.part.Part.{Part}
-use Rattle.level_meaning.specs.declared.part.Part.TheVariants.{Named, Numbered}
-use Rattle.level_meaning.specs.Level.{numbers_below}
-use Rattle.algo_tree.specs.Tree as tree
 use Rattle.algo_tree.specs.View.{vertices_of}
-use Rattle.algo_tree.specs.Meaning.{vertices_in}
-use Rattle.algo_tree.specs.Ends.{HasNoEnds, AllNoEnds, NoneInside, IsNoEnd}
+use Rattle.algo_tree.specs.Ends.{HasNoEnds, AllNoEnds, IsNoEnd}
 use Rattle.algo_defs.specs.declared.definition.Def.{Def}
 use Rattle.algo_defs.specs.declared.definition.Body.{Body}
 use Rattle.algo_defs.specs.declared.definition.Body.TheVariants.{Sensor, Actuator, Constant, Delay, Function, Graph, Switch, Repeat}
@@ -16,12 +12,12 @@ use Rattle.algo_defs.specs.declared.definition.Reference.{Reference}
 use Rattle.algo_defs.specs.declared.definition.Case.{Case}
 use Rattle.algo_defs.specs.declared.definition.Edge.{Edge}
 use Rattle.algo_defs.specs.Words.{Bytes}
-use Rattle.algo_rules.specs.Links.{Mention, mentions, mentions_in, definition, is_main, is_end, may_stand}
+use Rattle.algo_rules.specs.Links.{Mention, mentions, mentions_in, definition, is_main, is_end}
 use Rattle.algo_rules.specs.Ports.{ports_of}
 use Rattle.algo_rules.specs.declared.ports.Ports.{Ports}
-use Rattle.algo_rules.specs.Resolved.{Making, vertex_within, vertex_by, references_from, cases_from, inner_by as inner_of, kind_by, is_sensor, is_actuator, tree_of, of}
-use Rattle.tree_laws.proofs.Firsts.{Each, each_append, each_map}
-use Rattle.tree_laws.proofs.Standing.{Stands, IsInner, inner_by, all_stand}
+use Rattle.algo_rules.specs.Resolved.{Making, vertex_within, vertex_by, references_from, cases_from, inner_by as inner_of, kind_by, is_sensor, is_actuator}
+use Rattle.tree_laws.proofs.Firsts.{Each}
+use Rattle.tree_laws.proofs.Standing.{Stands, IsInner, inner_by}
 
 abbrev pub reference_line : Reference → Mention
 reference_line r = record { line = r.line; def = r.def; is_reference = true }

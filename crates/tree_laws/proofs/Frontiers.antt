@@ -1,8 +1,8 @@
 -- The lines of a repetition whose checks have no fault: what they use is there, and the lengths fit.
-use Rattle.std.proofs.Common.{◌≡◌, ℕ, zero, suc, ◌+◌, ◌*◌, ◌<◌, ◌≤◌, Bool, true, false, not, cond, ◌&&◌, ◌||◌, List, [], ◌∷◌, ◌++◌, map, length, get_or, Option, Some, None, refl, ap, ap₂, sym, subst, ◌∙◌, arith, if◌then◌else◌, nat_lt}
+use Rattle.std.proofs.Common.{◌≡◌, ℕ, zero, ◌*◌, ◌<◌, ◌≤◌, Bool, true, false, not, ◌&&◌, ◌||◌, List, [], ◌∷◌, ◌++◌, map, get_or, Option, Some, None, refl, ap, ap₂, sym, ◌∙◌, arith, if◌then◌else◌, nat_lt}
 use Rattle.std.specs.Prelude.{◌==◌}
 use Rattle.std.specs.Str.{bytes_eq}
-use Rattle.std.specs.List.{list_any, list_all, flat_map}
+use Rattle.std.specs.List.{list_all, flat_map}
 use Rattle.std.proofs.Math.Nat.{mul-pos}
 use Rattle.std.proofs.lemmas.Bool.{ltb-false, eqb-true}
 use Rattle.std.proofs.lemmas.Slice.Eq.{bytes_eq-Decides}
@@ -11,7 +11,7 @@ use Rattle.syn_base.specs.Limits.{bound_of}
 use Rattle.body_lang.specs.declared.expression.Port.{Port}
 use Rattle.level_meaning.specs.declared.frontier.Feed.{Feed}
 use Rattle.level_meaning.specs.declared.frontier.Feed.TheVariants as feed
-use Rattle.algo_tree.specs.Typed.{IsLength, AreLengths, IsFed, AllFed, fed_length, given_length}
+use Rattle.algo_tree.specs.Typed.{AreLengths, IsFed, AllFed, fed_length, given_length}
 use Rattle.algo_tree.specs.Well.{IsNewName, AreDistinctNames}
 use Rattle.algo_defs.specs.declared.definition.Frontier.{Frontier}
 use Rattle.algo_defs.specs.declared.definition.Frontier.TheVariants.{Fork, Diffuse, Iterate, Join}
@@ -29,7 +29,7 @@ use Rattle.algo_rules.specs.WellRead.{port_names}
 use Rattle.algo_rules.specs.declared.ports.Ports.{Ports}
 use Rattle.tree_laws.proofs.Firsts.{Each, none_both, none_append, each_flat}
 use Rattle.tree_laws.proofs.Standing.{both, negated}
-use Rattle.tree_laws.proofs.Lengths.{len_at, len_is, IsFound, all_found, len_sized, join_new, new_append, distinct_append}
+use Rattle.tree_laws.proofs.Lengths.{len_at, len_is, IsFound, all_found, len_sized}
 
 small : (n : ℕ) → too_long n ≡ None → n ≤ 64
 small n h = by (nat_lt 64 n) refl h

@@ -1,8 +1,7 @@
 -- The edges of a graph whose checks have no fault: what comes to each end has its length.
-use Rattle.std.proofs.Common.{◌≡◌, ℕ, zero, suc, ◌+◌, ◌<◌, ◌≤◌, Bool, true, false, not, cond, ◌&&◌, ◌||◌, List, [], ◌∷◌, ◌++◌, map, length, get_or, Option, Some, None, refl, ap, ap₂, sym, subst, ◌∙◌, arith, if◌then◌else◌}
+use Rattle.std.proofs.Common.{◌≡◌, ℕ, suc, ◌+◌, Bool, true, false, not, cond, ◌||◌, List, [], ◌∷◌, ◌++◌, map, get_or, Option, Some, None, refl, ap, ap₂, sym, subst, ◌∙◌, arith, if◌then◌else◌}
 use Rattle.std.specs.Prelude.{◌==◌}
 use Rattle.std.specs.Str.{bytes_eq}
-use Rattle.std.specs.List.{list_any}
 use Rattle.std.proofs.lemmas.Bool.{eqb-true}
 use Rattle.std.proofs.lemmas.Slice.Eq.{bytes_eq-Decides}
 use Rattle.body_lang.specs.declared.expression.Port.{Port}
@@ -12,11 +11,10 @@ use Rattle.algo_tree.specs.Well.{IsNewName, AreDistinctNames}
 use Rattle.algo_defs.specs.declared.definition.Reference.{Reference}
 use Rattle.algo_defs.specs.declared.definition.Edge.{Edge}
 use Rattle.algo_defs.specs.declared.definition.End.{End}
-use Rattle.algo_defs.specs.declared.fault.AlgoError.{AlgoError}
-use Rattle.algo_defs.specs.declared.fault.AlgoCause.TheVariants.{UnknownName, WrongLength, TwiceConnected, Unconnected}
+use Rattle.algo_defs.specs.declared.fault.AlgoCause.TheVariants.{WrongLength, TwiceConnected, Unconnected}
 use Rattle.algo_defs.specs.Words.{Bytes}
 use Rattle.algo_rules.specs.Links.{fault, first_of}
-use Rattle.algo_rules.specs.Ports.{len_of, number_of, lens_of}
+use Rattle.algo_rules.specs.Ports.{number_of, lens_of}
 use Rattle.algo_rules.specs.Graphs.{written, written_by, same_owner, same_end, is_connected, port_len, ports_at, givers, takers, joins, edge_fault, edge_faults, open_fault, open_faults, place}
 use Rattle.algo_rules.specs.Resolved.{source_from, source_to, sources_to}
 use Rattle.algo_rules.specs.WellRead.{port_names}
@@ -135,10 +133,11 @@ module _ (of : Bytes → Ports) (own : Ports) (references : List Reference) wher
   supplied : (edges : List Edge) → Each Joins edges → (rs : List Reference) → Each (λ r. open_fault of own references edges r.line (Some r.name) (of r.def).ins ≡ None) rs
       → Each (IsPlaced of references) rs → Each (λ r. AreDistinctNames (port_names (of r.def).ins)) rs → Each (IsSupplied edges) rs
   supplied edges h [] none placed distinct = tt
-  supplied edges h (r ∷ rs) none placed distinct =
-      (sources_fit edges h (Some r.name) (of r.def).ins (none_open edges r.line (Some r.name) (of r.def).ins none.0)
-          (subst (λ (p : Ports). Each (IsFound p.ins) (of r.def).ins) (sym placed.0) (all_found (of r.def).ins distinct.0)),
-      supplied edges h rs none.1 placed.1 distinct.1)
+  supplied edges h (r ∷ rs) none placed distinct = (
+    sources_fit edges h (Some r.name) (of r.def).ins (none_open edges r.line (Some r.name) (of r.def).ins none.0)
+        (subst (λ (p : Ports). Each (IsFound p.ins) (of r.def).ins) (sym placed.0) (all_found (of r.def).ins distinct.0)),
+    supplied edges h rs none.1 placed.1 distinct.1,
+  )
 
   pub record GraphFits (edges : List Edge) : Type 0 where
     pub joined : Each Joins edges

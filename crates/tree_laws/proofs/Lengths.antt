@@ -1,7 +1,7 @@
 -- The lengths and the names of ports.
-use Rattle.std.proofs.Common.{◌≡◌, ℕ, zero, suc, ◌+◌, ◌*◌, ◌<◌, ◌≤◌, Bool, true, false, not, cond, ◌&&◌, ◌||◌, eqb, List, [], ◌∷◌, ◌++◌, map, length, get_or, Option, Some, None, refl, ap, ap₂, sym, subst, ◌∙◌, arith, if◌then◌else◌}
+use Rattle.std.proofs.Common.{◌≡◌, ℕ, suc, ◌+◌, Bool, true, false, not, cond, ◌||◌, List, [], ◌∷◌, ◌++◌, get_or, Some, refl, ◌∙◌, arith, if◌then◌else◌}
 use Rattle.std.specs.Str.{bytes_eq}
-use Rattle.std.specs.List.{All, list_any, flat_map}
+use Rattle.std.specs.List.{All}
 use Rattle.std.proofs.lemmas.Cmp.{nat_list_eq_equiv}
 use Rattle.std.proofs.lemmas.Slice.Eq.{bytes_eq-Decides}
 use Rattle.body_lang.specs.declared.expression.Port.{Port}
@@ -10,7 +10,7 @@ use Rattle.algo_tree.specs.Typed.{IsLength, AreLengths}
 use Rattle.algo_defs.specs.Words.{Bytes}
 use Rattle.algo_rules.specs.Ports.{has_port, len_of, number_of, lens_of}
 use Rattle.algo_rules.specs.Graphs.{port_len}
-use Rattle.algo_rules.specs.WellRead.{port_names, ArePorts}
+use Rattle.algo_rules.specs.WellRead.{port_names}
 use Rattle.tree_laws.proofs.Firsts.{Each}
 
 pub turned : (x y : Bytes) → bytes_eq x y ≡ false → bytes_eq y x ≡ false

@@ -18,3 +18,4 @@ pub mod LineNames
 pub mod Wellness
 pub mod Counting
 pub mod Trees
+pub mod Worked

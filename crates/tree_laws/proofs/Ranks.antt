@@ -1,30 +1,36 @@
 -- How deep a definition is: more than all that it names, and at most 8.
-use Rattle.std.proofs.Common.{◌≡◌, ℕ, zero, suc, ◌+◌, ◌<◌, ◌≤◌, Bool, true, false, not, cond, List, [], ◌∷◌, ◌++◌, map, length, get_or, Option, Some, None, inl, inr, refl, ap, sym, subst, ◌∙◌, arith, if◌then◌else◌, nat_lt, position}
-use Rattle.std.specs.Prelude.{slice_get, ◌==◌}
-use Rattle.std.specs.List.{All, flat_map, position_or_len, range_with_len}
+use Rattle.std.proofs.Common.{◌≡◌, ℕ, zero, suc, ◌+◌, ◌<◌, ◌≤◌, Bool, true, false, not, cond, List, [], ◌∷◌, map, length, get_or, Option, Some, None, refl, ap, sym, subst, ◌∙◌, arith, if◌then◌else◌, nat_lt}
+use Rattle.std.specs.Prelude.{slice_get}
+use Rattle.std.specs.List.{All, flat_map, position_or_len}
 use Rattle.std.specs.Str.{bytes_eq}
-use Rattle.std.proofs.lemmas.Bool.{cases_lt, ltb-false}
+use Rattle.std.proofs.lemmas.Bool.{ltb-false}
 use Rattle.std.proofs.lemmas.List.{length-map}
-use Rattle.std.proofs.lemmas.List.FromFn.{get_or-map-range_with_len, length-map-range_with_len, length-range_with_len}
+use Rattle.std.proofs.lemmas.List.FromFn.{get_or-map-range_with_len, length-range_with_len}
 use Rattle.std.proofs.lemmas.List.Quantifiers.{position-Some}
 use Rattle.std.proofs.lemmas.Option.{slice_get_within}
 use Rattle.syn_base.specs.declared.limits.LimitKind.TheVariants.{Depth}
 use Rattle.syn_base.specs.Limits.{bound_of}
 use Rattle.algo_defs.specs.declared.definition.Def.{Def}
-use Rattle.algo_defs.specs.declared.definition.Body.{Body}
-use Rattle.algo_defs.specs.declared.fault.AlgoError.{AlgoError}
 use Rattle.algo_defs.specs.declared.fault.AlgoError.TheVariants.{Limit}
 use Rattle.algo_defs.specs.Words.{Bytes}
-use Rattle.reference_graph.specs.Links.{Links, from, greatest, depth, depths, numbers, first_recursive, reaches_itself}
+use Rattle.reference_graph.specs.Links.{from, greatest, depth, depths, numbers, first_recursive, reaches_itself}
 use Rattle.reference_graph.specs.Answer.{AreInside}
 use Rattle.reference_graph.proofs.Enough.{one_deeper}
-use Rattle.algo_rules.specs.Links.{first_of, Mention, mentions, definition, unknown_by, unknown, links_of, recursive_by, recursive, too_deep_by, too_deep}
-use Rattle.algo_links.proofs.Found.{found}
+use Rattle.algo_rules.specs.Links.{Mention, mentions, definition, unknown_by, unknown, links_of, recursive_by, recursive, too_deep_by, too_deep}
 use Rattle.tree_laws.proofs.Firsts.{Each, none_each, each_flat, each_gives}
 use Rattle.tree_laws.proofs.Standing.{definition_by}
 
 abbrev pub place_of : List Def → Bytes → ℕ
 place_of ds w = position_or_len (λ e. bytes_eq w e.name) ds
+
+-- The definition of a name stands at its place.
+found : (ds : List Def) (w : Bytes) → definition ds w ≡ slice_get ds (place_of ds w)
+found [] w = refl
+found (d ∷ ds) w = by (bytes_eq w d.name) (found ds w)
+  where
+    by : (b : Bool) → definition ds w ≡ slice_get ds (place_of ds w) → (if b then Some d else definition ds w) ≡ slice_get (d ∷ ds) (cond (not b) (1 + place_of ds w) 0)
+    by true rest = refl
+    by false rest = let next : 1 + place_of ds w ≡ suc (place_of ds w) = omega arith in rw next rest
 
 -- how deep the definition of a name is
 abbrev pub rank : List Def → Bytes → ℕ
@@ -42,7 +48,7 @@ all_known_in : (ds : List Def) → unknown ds ≡ None → Each (λ d. Each (λ 
 all_known_in ds h =
     each_flat (λ m. IsKnown ds m.def) mentions ds
     (each_gives (λ m. unknown_by m (definition ds m.def) ≡ None) (λ m. IsKnown ds m.def) (λ m k. known_by m (definition ds m.def) k) (flat_map mentions ds)
-        (none_each (λ m. unknown_by m (definition ds m.def)) (flat_map mentions ds) h))
+    (none_each (λ m. unknown_by m (definition ds m.def)) (flat_map mentions ds) h))
 
 pub all_known : (ds : List Def) → unknown ds ≡ None → (w : Bytes) (d : Def) → definition ds w ≡ Some d → Each (λ m. IsKnown ds m.def) (mentions d)
 all_known ds h w d e = definition_by (λ d. Each (λ m. IsKnown ds m.def) (mentions d)) ds w d (all_known_in ds h) e
@@ -63,7 +69,7 @@ links_inside ds h =
     let n : length ds ≡ length (links_of ds) = sym (length-map ds (λ d. places ds (mentions d))) in
     subst (λ (n : ℕ). All (All (λ b. b < n)) (links_of ds)) n
     (all_map (λ d. Each (λ m. IsKnown ds m.def) (mentions d)) (All (λ b. b < length ds)) (λ d. places ds (mentions d))
-        (λ d k. all_map (λ m. IsKnown ds m.def) (λ b. b < length ds) (λ m. place_of ds m.def) (λ m j. place_below ds m.def j.0 j.1) (mentions d) k) ds (all_known_in ds h))
+    (λ d k. all_map (λ m. IsKnown ds m.def) (λ b. b < length ds) (λ m. place_of ds m.def) (λ m j. place_below ds m.def j.0 j.1) (mentions d) k) ds (all_known_in ds h))
 
 no_recursion : (ds : List Def) → recursive ds ≡ None → first_recursive (links_of ds) ≡ None
 no_recursion ds h = by (first_recursive (links_of ds)) refl h

@@ -1,13 +1,12 @@
 -- What each part of a refusal tells where there is none.
-use Rattle.std.proofs.Common.{◌≡◌, ℕ, Bool, true, false, List, [], ◌∷◌, Option, Some, None, refl, ap, sym, subst, ◌∙◌, if◌then◌else◌}
+use Rattle.std.proofs.Common.{◌≡◌, Bool, true, false, List, [], Option, Some, None, refl, if◌then◌else◌}
 use Rattle.std.specs.Prelude.{codes}
 use Rattle.level_meaning.specs.declared.part.Part.TheVariants.{Named}
 use Rattle.algo_tree.specs.Meaning.{vertices_in}
 use Rattle.algo_tree.specs.Ends.{NoneInside, AreEndsNumbered}
 use Rattle.algo_defs.specs.declared.definition.Def.{Def}
-use Rattle.algo_defs.specs.declared.fault.AlgoError.{AlgoError}
 use Rattle.algo_defs.specs.declared.fault.AlgoCause.TheVariants.{NoMain}
-use Rattle.algo_rules.specs.Links.{fault, first_of, definition, unknown, misplaced, recursive, too_deep}
+use Rattle.algo_rules.specs.Links.{fault, definition, unknown, misplaced, recursive, too_deep}
 use Rattle.algo_rules.specs.Resolved.{bodies_fault, no_main, no_main_by, is_main_graph, too_many, refusal, tree_of}
 use Rattle.tree_laws.proofs.Firsts.{none_both}
 use Rattle.tree_laws.proofs.Standing.{all_stand}

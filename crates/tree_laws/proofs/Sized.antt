@@ -1,5 +1,5 @@
 -- The ports of each definition have lengths within the bounds, and its inputs distinct names.
-use Rattle.std.proofs.Common.{◌≡◌, ℕ, zero, suc, ◌+◌, ◌<◌, ◌≤◌, List, [], ◌∷◌, ◌++◌, map, Option, Some, None, refl, sym, subst, ◌∙◌, arith}
+use Rattle.std.proofs.Common.{◌≡◌, ℕ, zero, suc, ◌≤◌, List, [], ◌∷◌, Some, None, sym, subst, arith}
 use Rattle.algo_tree.specs.Well.{AreDistinctNames}
 use Rattle.algo_tree.specs.Typed.{AreLengths}
 use Rattle.algo_defs.specs.declared.definition.Def.{Def}

@@ -1,5 +1,5 @@
 -- Definitions that are not refused make a tree.
-use Rattle.std.proofs.Common.{◌≡◌, ℕ, ◌≤◌, Bool, true, false, List, [], ◌∷◌, map, Option, Some, None, refl, ap, sym, subst, ◌∙◌, arith, if◌then◌else◌, nat_lt}
+use Rattle.std.proofs.Common.{◌≡◌, ℕ, ◌≤◌, Bool, true, false, List, [], ◌∷◌, Option, Some, None, refl, ap, sym, subst, ◌∙◌, if◌then◌else◌, nat_lt}
 use Rattle.std.specs.Prelude.{codes}
 use Rattle.std.proofs.lemmas.Bool.{ltb-false}
 use Rattle.syn_base.specs.declared.limits.LimitKind.TheVariants.{Operations}
@@ -7,7 +7,7 @@ use Rattle.syn_base.specs.Limits.{bound_of}
 use Rattle.body_lang.specs.declared.expression.Port.{Port}
 use Rattle.level_meaning.specs.declared.part.Part.TheVariants.{Named}
 use Rattle.algo_tree.specs.Typed.{label_of, IsTyped}
-use Rattle.algo_tree.specs.Valid.{HasNoPorts, IsTree}
+use Rattle.algo_tree.specs.Valid.{HasNoPorts}
 use Rattle.algo_defs.specs.declared.definition.Def.{Def}
 use Rattle.algo_defs.specs.declared.definition.Body.{Body}
 use Rattle.algo_defs.specs.declared.definition.Body.TheVariants.{Sensor, Actuator, Constant, Delay, Function, Graph, Switch, Repeat}
@@ -15,12 +15,11 @@ use Rattle.algo_defs.specs.declared.fault.AlgoError.TheVariants.{Limit}
 use Rattle.algo_rules.specs.Links.{definition}
 use Rattle.algo_rules.specs.Ports.{ports_of, ports_by, lens_of}
 use Rattle.algo_rules.specs.declared.ports.Ports.{Ports}
-use Rattle.algo_rules.specs.Resolved.{Making, vertex_within, vertex_by, kind_by, is_portless, is_main_graph, operations, too_many, tree_of}
+use Rattle.algo_rules.specs.Resolved.{Making, vertex_within, vertex_by, kind_by, is_portless, is_main_graph, operations, tree_of}
 use Rattle.tree_laws.specs.Central.{AcceptedMakeATree, OperationsAreCounted}
 use Rattle.tree_laws.proofs.Numbered.{IsGraphOf}
-use Rattle.tree_laws.proofs.Refused.{HasNone, has_none, main_is_graph, stand_in_main, are_numbered}
-use Rattle.tree_laws.proofs.Ranks.{rank}
-use Rattle.tree_laws.proofs.Accepted.{Accepted, accepted, own_ports}
+use Rattle.tree_laws.proofs.Refused.{has_none, main_is_graph, stand_in_main, are_numbered}
+use Rattle.tree_laws.proofs.Accepted.{accepted, own_ports}
 use Rattle.tree_laws.proofs.Typing.{typed}
 use Rattle.tree_laws.proofs.Wellness.{well}
 use Rattle.tree_laws.proofs.Counting.{counted_within}

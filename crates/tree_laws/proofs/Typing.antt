@@ -1,5 +1,5 @@
 -- The lengths of values fit in the vertex that is made of a definition.
-use Rattle.std.proofs.Common.{◌≡◌, true, false, ℕ, zero, suc, ◌+◌, ◌<◌, ◌≤◌, List, [], ◌∷◌, ◌++◌, map, length, get_or, Option, Some, None, refl, ap, ap₂, sym, subst, ◌∙◌, arith}
+use Rattle.std.proofs.Common.{◌≡◌, false, ℕ, zero, suc, ◌+◌, ◌≤◌, List, [], ◌∷◌, ◌++◌, map, length, Option, Some, None, refl, ap, sym, subst, ◌∙◌, arith}
 use Rattle.std.specs.List.{All, flat_map}
 use Rattle.std.proofs.lemmas.List.{length-map}
 use Rattle.body_lang.specs.Expr.{PortsBelow}
@@ -7,9 +7,8 @@ use Rattle.body_lang.specs.declared.expression.Port.{Port}
 use Rattle.level_meaning.specs.declared.source.Source.{Source}
 use Rattle.level_meaning.specs.declared.part.Part.{Part}
 use Rattle.level_meaning.specs.declared.part.Part.TheVariants.{Named, Numbered}
-use Rattle.algo_tree.specs.Tree as tree
 use Rattle.algo_tree.specs.View.{vertices_of}
-use Rattle.algo_tree.specs.Typed.{label_of, outs_of, source_length, AreGuardsTyped, AllPortsBelow, AllGive, AllFed, fed_length, given_length, IsTyped, AllTyped, IsBodyTyped}
+use Rattle.algo_tree.specs.Typed.{label_of, outs_of, source_length, AreGuardsTyped, AllPortsBelow, AllGive, AllFed, given_length, IsTyped, AllTyped}
 use Rattle.algo_tree.specs.Well.{AreDistinctNames}
 use Rattle.algo_defs.specs.declared.definition.Def.{Def}
 use Rattle.algo_defs.specs.declared.definition.Body.{Body}
@@ -18,15 +17,14 @@ use Rattle.algo_defs.specs.declared.definition.Output.{Output}
 use Rattle.algo_defs.specs.declared.definition.Reference.{Reference}
 use Rattle.algo_defs.specs.declared.definition.Case.{Case}
 use Rattle.algo_defs.specs.declared.definition.Edge.{Edge}
-use Rattle.algo_defs.specs.declared.definition.FrontierLine.{FrontierLine}
 use Rattle.algo_defs.specs.Words.{Bytes}
-use Rattle.algo_rules.specs.Links.{Mention, mentions, mentions_in, definition, first_of}
+use Rattle.algo_rules.specs.Links.{Mention, mentions, mentions_in, definition}
 use Rattle.algo_rules.specs.Ports.{ports_of, ports_by, lens_of, outer_ports}
 use Rattle.algo_rules.specs.declared.ports.Ports.{Ports}
 use Rattle.algo_rules.specs.Graphs.{edge_faults, open_faults, cycle_fault}
-use Rattle.algo_rules.specs.Resolved.{Making, vertex, vertex_within, vertex_by, references_from, cases_from, sources_to, owns, kind_by, inner_by, feed_of, give_by, is_sensor, is_actuator, body_fault}
+use Rattle.algo_rules.specs.Resolved.{vertex, vertex_within, vertex_by, references_from, cases_from, sources_to, owns, kind_by, inner_by, feed_of, give_by, is_sensor, is_actuator, body_fault}
 use Rattle.algo_rules.specs.WellRead.{IsWellRead, IsGraph, port_names}
-use Rattle.tree_laws.proofs.Firsts.{Each, none_both, none_append, each_append}
+use Rattle.tree_laws.proofs.Firsts.{Each, none_both, none_append}
 use Rattle.tree_laws.proofs.Lengths.{distinct_append}
 use Rattle.tree_laws.proofs.Ends.{reference_line, case_line}
 use Rattle.tree_laws.proofs.Ranks.{rank}
@@ -80,16 +78,18 @@ module _ (ds : List Def) (acc : Accepted ds) (n : ℕ) where
       × IsTyped (map (source_length own outs) (label_of (vertex_within ds n part w ins s a)).ins) (vertex_within ds n part w ins s a)
   typed_at ih own outs part w ins s a low e =
       let is = labelled ds n part w ins s a in
-      let lens : lens_of (ports_of ds w).ins ≡ map (source_length own outs) (label_of (vertex_within ds n part w ins s a)).ins = sym (ap (map (source_length own outs)) is.ins_are ∙ e) in
-      (subst (AreGuardsTyped (source_length own outs)) (sym is.unguarded) tt,
-      subst (λ (ns : List ℕ). IsTyped ns (vertex_within ds n part w ins s a)) lens (ih part w low.0.0 ins s a low.0.1 (omega (arith, low.1))))
+      let lens : lens_of (ports_of ds w).ins ≡ map (source_length own outs) (label_of (vertex_within ds n part w ins s a)).ins = sym (ap (map (source_length own outs)) is.ins_are ∙ e) in (
+        subst (AreGuardsTyped (source_length own outs)) (sym is.unguarded) tt,
+        subst (λ (ns : List ℕ). IsTyped ns (vertex_within ds n part w ins s a)) lens (ih part w low.0.0 ins s a low.0.1 (omega (arith, low.1))),
+      )
 
   references_typed : MakesTyped → (own : Ports) (all : List Reference) (edges : List Edge) (s a : ℕ) (rs : List Reference) → Each (λ m. IsLower ds (suc n) m.def) (map reference_line rs)
       → Each (IsSupplied (ports_of ds) own all edges) rs → AllTyped (lens_of own.ins) (out_lens (ports_of ds) all) (vertices_of (references_from ds (vertex_within ds n) own.ins all edges s a rs))
   references_typed ih own all edges s a [] h fed = tt
-  references_typed ih own all edges s a (r ∷ rs) h fed =
-      (typed_at ih (lens_of own.ins) (out_lens (ports_of ds) all) (Named r.name) r.def (sources_to (ports_of ds) own.ins all edges (Some r.name) (ports_of ds r.def).ins) s a h.0 fed.0,
-      references_typed ih own all edges (s + is_sensor (definition ds r.def)) (a + is_actuator (definition ds r.def)) rs h.1 fed.1)
+  references_typed ih own all edges s a (r ∷ rs) h fed = (
+    typed_at ih (lens_of own.ins) (out_lens (ports_of ds) all) (Named r.name) r.def (sources_to (ports_of ds) own.ins all edges (Some r.name) (ports_of ds r.def).ins) s a h.0 fed.0,
+    references_typed ih own all edges (s + is_sensor (definition ds r.def)) (a + is_actuator (definition ds r.def)) rs h.1 fed.1,
+  )
 
   cases_typed : MakesTyped → (ins outs : List Port) (c : ℕ) (ws : List Bytes) → Each (IsLower ds (suc n)) ws → Each (IsAlike (ports_of ds) ins outs) ws
       → AllTyped (1 ∷ lens_of ins) [] (vertices_of (cases_from ds (vertex_within ds n) (length ins) c ws))
@@ -112,17 +112,24 @@ module _ (ds : List Def) (acc : Accepted ds) (n : ℕ) where
   typed_body ih part w ins s a line (Actuator len) read none h fine = ((fine.ins, fine.outs), (refl, refl))
   typed_body ih part w ins s a line (Constant values) read none h fine = ((fine.ins, fine.outs), (refl, refl))
   typed_body ih part w ins s a line (Delay values) read none h fine = ((fine.ins, fine.outs), (refl, refl))
-  typed_body ih part w ins s a line (Function is os) read none h fine =
-      ((fine.ins, fine.outs), (as_many_formulas os,
-          subst (λ (k : ℕ). AllPortsBelow k (map (λ o. o.formula) os)) (sym (length-map is (λ p. p.len))) (formulas_below (length is) os read.formulas)))
+  typed_body ih part w ins s a line (Function is os) read none h fine = (
+    (fine.ins, fine.outs),
+    (
+      as_many_formulas os,
+      subst (λ (k : ℕ). AllPortsBelow k (map (λ o. o.formula) os)) (sym (length-map is (λ p. p.len))) (formulas_below (length is) os read.formulas),
+    ),
+  )
   typed_body ih part w ins s a line (Graph is os references edges) read none h fine =
       let own : Ports = record { ins = is; outs = os } in
       let fits = (graph_of ds acc (suc n) line is os references edges read none h).0 in
       let us = vertices_of (references_from ds (vertex_within ds n) is references edges 0 0 references) in
-      let outs_are : out_lens (ports_of ds) references ≡ outs_of us = sym (references_outs ds acc n is references edges 0 0 references h) in
-      ((fine.ins, fine.outs),
-          (subst (λ (nss : List (List ℕ)). AllTyped (lens_of is) nss us) outs_are (references_typed ih own references edges 0 0 references h fits.ins),
-              subst (λ (nss : List (List ℕ)). lens_of os ≡ map (source_length (lens_of is) nss) (sources_to (ports_of ds) is references edges None os)) outs_are (sym fits.outs)))
+      let outs_are : out_lens (ports_of ds) references ≡ outs_of us = sym (references_outs ds acc n is references edges 0 0 references h) in (
+        (fine.ins, fine.outs),
+        (
+          subst (λ (nss : List (List ℕ)). AllTyped (lens_of is) nss us) outs_are (references_typed ih own references edges 0 0 references h fits.ins),
+          subst (λ (nss : List (List ℕ)). lens_of os ≡ map (source_length (lens_of is) nss) (sources_to (ports_of ds) is references edges None os)) outs_are (sym fits.outs),
+        ),
+      )
   typed_body ih part w ins s a line (Switch on is os cases otherwise last) read none h fine =
       let low = lower_cases ds (suc n) last otherwise cases h in
       let fits = switch_fits (ports_of ds) is os cases otherwise last none in
@@ -136,11 +143,16 @@ module _ (ds : List Def) (acc : Accepted ds) (n : ℕ) where
       let u = vertex_within ds n (Numbered 0) def (owns 0 (length body.ins)) 0 0 in
       let outs_are : lens_of body.outs ≡ (label_of u).outs = sym (label_outs ds acc n (Numbered 0) def h.0.0.0 (owns 0 (length body.ins)) 0 0 h.0.0.1 (omega (arith, h.0.1))) in
       let feeds = map (λ p. feed_of body own lines p.name) body.ins in
-      let gives = flat_map (λ l. give_by body own l.frontier) lines in
-      ((all_fine.ins, all_fine.outs),
-          ((subst (λ (ns : List ℕ). AllFed copies (lens_of own.ins) ns feeds) outs_are (all_fed copies body lines fits read.distinct),
-              subst (λ (ns : List ℕ). IsTyped ns u) (sym (all_fed_lengths copies body lines fits read.distinct inner.distinct)) (ih (Numbered 0) def h.0.0.0 (owns 0 (length body.ins)) 0 0 h.0.0.1 (omega (arith, h.0.1)))),
-              subst (λ (ns : List ℕ). lens_of own.outs ≡ map (given_length copies ns) gives) outs_are (given copies body own lines)))
+      let gives = flat_map (λ l. give_by body own l.frontier) lines in (
+        (all_fine.ins, all_fine.outs),
+        (
+          (
+            subst (λ (ns : List ℕ). AllFed copies (lens_of own.ins) ns feeds) outs_are (all_fed copies body lines fits read.distinct),
+            subst (λ (ns : List ℕ). IsTyped ns u) (sym (all_fed_lengths copies body lines fits read.distinct inner.distinct)) (ih (Numbered 0) def h.0.0.0 (owns 0 (length body.ins)) 0 0 h.0.0.1 (omega (arith, h.0.1))),
+          ),
+          subst (λ (ns : List ℕ). lens_of own.outs ≡ map (given_length copies ns) gives) outs_are (given copies body own lines),
+        ),
+      )
 
 each_less : (ds : List Def) (n m : ℕ) → m ≤ n → (ms : List Mention) → Each (λ x. IsLower ds m x.def) ms → Each (λ x. IsLower ds n x.def) ms
 each_less ds n m le [] h = tt
@@ -157,7 +169,7 @@ typed_of ds acc n ih part w d ins s a (Some x) is e le =
     let own = own_ports ds acc w d e in
     subst (λ (y : Def). IsTyped (lens_of (ports_of ds w).ins) (vertex_by ds (vertex_within ds n) part w ins s a (Some y))) same
     (subst (BodyTyped ds acc n part w ins s a d.body) (sym own)
-        (typed_body ds acc n ih part w ins s a d.line d.body (acc.well_read w d e) (acc.passed w d e) (lower_lines ds acc (suc n) w d e le) (subst AreFine own (fine ds acc w d e))))
+    (typed_body ds acc n ih part w ins s a d.line d.body (acc.well_read w d e) (acc.passed w d e) (lower_lines ds acc (suc n) w d e le) (subst AreFine own (fine ds acc w d e))))
 
 pub typed : (ds : List Def) (acc : Accepted ds) (n : ℕ) → MakesTyped ds acc n
 typed ds acc zero part w d ins s a e le = absurd (omega (arith, acc.positive w d e))

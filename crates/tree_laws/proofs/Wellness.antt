@@ -1,11 +1,9 @@
 -- The vertex that is made of a definition is well formed.
-use Rattle.std.proofs.Common.{◌≡◌, true, false, ℕ, zero, suc, ◌+◌, ◌<◌, ◌≤◌, Bool, List, [], ◌∷◌, ◌++◌, map, length, Option, Some, None, refl, ap, ap₂, sym, subst, ◌∙◌, arith}
+use Rattle.std.proofs.Common.{◌≡◌, true, false, ℕ, zero, suc, ◌+◌, ◌<◌, ◌≤◌, Bool, List, [], ◌∷◌, ◌++◌, map, length, Option, Some, None, refl, ap, sym, subst, ◌∙◌, arith}
 use Rattle.std.specs.Prelude.{◌==◌}
-use Rattle.std.specs.List.{flat_map}
 use Rattle.std.proofs.lemmas.Bool.{eqb-true}
 use Rattle.body_lang.specs.declared.expression.Port.{Port}
 use Rattle.level_meaning.specs.declared.source.Source.{Source}
-use Rattle.level_meaning.specs.declared.source.Guard.{Guard}
 use Rattle.level_meaning.specs.declared.part.Part.{Part}
 use Rattle.level_meaning.specs.declared.part.Part.TheVariants.{Named, Numbered}
 use Rattle.level_meaning.specs.Level.{same_part}
@@ -15,7 +13,7 @@ use Rattle.algo_tree.specs.Tree as tree
 use Rattle.algo_tree.specs.View.{vertices_of}
 use Rattle.algo_tree.specs.Meaning.{node, nodes}
 use Rattle.algo_tree.specs.Typed.{label_of}
-use Rattle.algo_tree.specs.Well.{AreDistinctNames, AreOwn, OwnGuards, AreCases, IsNumberedPart, AreNumbered, IsKindWell, IsWell, AllWell, fork_names, join_names}
+use Rattle.algo_tree.specs.Well.{AreOwn, OwnGuards, AreCases, IsNumberedPart, AreNumbered, IsKindWell, IsWell, AllWell}
 use Rattle.algo_defs.specs.declared.definition.Def.{Def}
 use Rattle.algo_defs.specs.declared.definition.Body.{Body}
 use Rattle.algo_defs.specs.declared.definition.Body.TheVariants.{Sensor, Actuator, Constant, Delay, Function, Graph, Switch, Repeat}
@@ -23,14 +21,14 @@ use Rattle.algo_defs.specs.declared.definition.Reference.{Reference}
 use Rattle.algo_defs.specs.declared.definition.Case.{Case}
 use Rattle.algo_defs.specs.declared.definition.Edge.{Edge}
 use Rattle.algo_defs.specs.Words.{Bytes}
-use Rattle.algo_rules.specs.Links.{mentions, mentions_in, definition}
+use Rattle.algo_rules.specs.Links.{mentions_in, definition}
 use Rattle.algo_rules.specs.Ports.{ports_of}
 use Rattle.algo_rules.specs.declared.ports.Ports.{Ports}
 use Rattle.algo_rules.specs.Resolved.{vertex_within, vertex_by, references_from, cases_from, sources_to, owns, kind_by, inner_by, is_sensor, is_actuator, body_fault}
 use Rattle.algo_rules.specs.WellRead.{IsWellRead, IsGraph, port_names}
 use Rattle.tree_laws.proofs.Firsts.{Each}
 use Rattle.tree_laws.proofs.Lengths.{distinct_append}
-use Rattle.tree_laws.proofs.Ends.{reference_line, case_line}
+use Rattle.tree_laws.proofs.Ends.{reference_line}
 use Rattle.tree_laws.proofs.Ranks.{rank}
 use Rattle.tree_laws.proofs.Accepted.{IsLower, Accepted}
 use Rattle.tree_laws.proofs.Sized.{fine}
@@ -98,9 +96,10 @@ module _ (ds : List Def) (n : ℕ) where
   references_well : MakesWell → (ins : List Port) (all : List Reference) (edges : List Edge) (s a : ℕ) (rs : List Reference) → Each (λ m. IsLower ds (suc n) m.def) (map reference_line rs)
       → AllWell (vertices_of (references_from ds (vertex_within ds n) ins all edges s a rs))
   references_well ih ins all edges s a [] h = tt
-  references_well ih ins all edges s a (r ∷ rs) h =
-      (ih (Named r.name) r.def h.0.0.0 (sources_to (ports_of ds) ins all edges (Some r.name) (ports_of ds r.def).ins) s a h.0.0.1 (omega (arith, h.0.1)),
-      references_well ih ins all edges (s + is_sensor (definition ds r.def)) (a + is_actuator (definition ds r.def)) rs h.1)
+  references_well ih ins all edges s a (r ∷ rs) h = (
+    ih (Named r.name) r.def h.0.0.0 (sources_to (ports_of ds) ins all edges (Some r.name) (ports_of ds r.def).ins) s a h.0.0.1 (omega (arith, h.0.1)),
+    references_well ih ins all edges (s + is_sensor (definition ds r.def)) (a + is_actuator (definition ds r.def)) rs h.1,
+  )
 
 as_many_values : (otherwise : Bytes) (cs : List Case) → length (map (λ c. c.def) cs ++ otherwise ∷ []) ≡ suc (length (map (λ c. c.value) cs))
 as_many_values otherwise [] = refl
@@ -127,13 +126,17 @@ well_body ds acc n ih own s a line (Function is os) read none h = (tt, tt)
 well_body ds acc n ih own s a line (Graph is os references edges) read none h =
     ((refl, level_well ds acc n line is os references edges read none h), references_well ds n ih is references edges 0 0 references h)
 well_body ds acc n ih own s a line (Switch on is os cases otherwise last) read none h =
-    let ws = map (λ c. c.def) cases ++ otherwise ∷ [] in
-    (((refl, (as_many_cases ds n (length is) 0 ws ∙ as_many_values otherwise cases, (distinct_cases ds n (length is) 0 ws, are_cases ds n (length is) 0 ws))),
-            (are_numbered ds n (length is) 0 ws, (distinct_append (port_names is) (port_names os) read.distinct.1).1)),
-        cases_well ds n ih (length is) 0 ws (lower_cases ds (suc n) last otherwise cases h))
-well_body ds acc n ih own s a line (Repeat copies def lines) read none h =
-    ((refl, ((omega (arith, read.some), tt), names_distinct (ports_of ds def) own lines read.distinct (ports_of ds def).ins (fine ds acc def h.0.0.0 h.0.0.1).distinct)),
-        (ih (Numbered 0) def h.0.0.0 (owns 0 (length (ports_of ds def).ins)) 0 0 h.0.0.1 (omega (arith, h.0.1)), tt))
+    let ws = map (λ c. c.def) cases ++ otherwise ∷ [] in (
+      (
+        (refl, (as_many_cases ds n (length is) 0 ws ∙ as_many_values otherwise cases, (distinct_cases ds n (length is) 0 ws, are_cases ds n (length is) 0 ws))),
+        (are_numbered ds n (length is) 0 ws, (distinct_append (port_names is) (port_names os) read.distinct.1).1),
+      ),
+      cases_well ds n ih (length is) 0 ws (lower_cases ds (suc n) last otherwise cases h),
+    )
+well_body ds acc n ih own s a line (Repeat copies def lines) read none h = (
+  (refl, ((omega (arith, read.some), tt), names_distinct (ports_of ds def) own lines read.distinct (ports_of ds def).ins (fine ds acc def h.0.0.0 h.0.0.1).distinct)),
+  (ih (Numbered 0) def h.0.0.0 (owns 0 (length (ports_of ds def).ins)) 0 0 h.0.0.1 (omega (arith, h.0.1)), tt),
+)
 
 well_of : (ds : List Def) (acc : Accepted ds) (n : ℕ) → MakesWell ds n → (part : Part) (w : Bytes) (d : Def) (ins : List Source) (s a : ℕ) (o : Option Def) → o ≡ Some d → definition ds w ≡ Some d → rank ds w ≤ suc n
     → IsWell (vertex_by ds (vertex_within ds n) part w ins s a o)
