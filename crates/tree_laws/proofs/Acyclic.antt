@@ -1,9 +1,8 @@
 -- A graph whose checks have no fault has no cycle, and its references are told apart.
-use Rattle.std.proofs.Common.{◌≡◌, ℕ, zero, suc, ◌+◌, ◌<◌, Bool, true, false, not, cond, ◌&&◌, ◌||◌, List, [], ◌∷◌, ◌++◌, map, length, get_or, Option, Some, None, ◌⊎◌, inl, inr, refl, ap, sym, subst, arith, if◌then◌else◌}
+use Rattle.std.proofs.Common.{◌≡◌, ℕ, zero, suc, ◌+◌, ◌<◌, Bool, true, false, not, cond, ◌&&◌, List, [], ◌∷◌, map, length, Option, Some, None, ◌⊎◌, inl, inr, refl, ap, sym, subst, arith, if◌then◌else◌}
 use Rattle.std.specs.Prelude.{◌==◌, slice_get}
 use Rattle.std.specs.Str.{bytes_eq}
 use Rattle.std.specs.List.{list_any}
-use Rattle.std.proofs.lemmas.Bool.{eqb-true}
 use Rattle.std.proofs.lemmas.Slice.Eq.{bytes_eq-Decides}
 use Rattle.body_lang.specs.declared.expression.Port.{Port}
 use Rattle.level_meaning.specs.declared.source.Source.{Source}
@@ -34,6 +33,9 @@ use Rattle.algo_rules.specs.declared.ports.Ports.{Ports}
 use Rattle.algo_rules.specs.Resolved.{Making, vertex_within, vertex_by, references_from, source_from, source_to, sources_to, kind_by, is_sensor, is_actuator}
 use Rattle.tree_laws.proofs.Firsts.{Each}
 use Rattle.tree_laws.proofs.Standing.{both}
+use Rattle.tree_laws.proofs.Anywhere.{neither, not_both, nor_second, or_left, or_right, any_left, any_right, is_at, any_at}
+use Rattle.tree_laws.proofs.Bodies.{same_number}
+use Rattle.tree_laws.proofs.Ranks.{map_at}
 use Rattle.tree_laws.proofs.Joined.{owner_is, Joins}
 
 some_same : {A : Type 0} (x y : A) → Some x ≡ Some y → x ≡ y
@@ -164,18 +166,6 @@ module _ (ds : List Def) (n : ℕ) (own : Ports) (all : List Reference) (edges :
   abbrev delayed : Bytes → Reference → Bool
   delayed s r = bytes_eq s r.name && is_delay (definition ds r.def)
 
-  neither : (a b : Bool) → a ≡ false → b ≡ false → (a || b) ≡ false
-  neither true b h k = cc
-  neither false b h k = k
-
-  not_both : (a b : Bool) → a ≡ false → (a && b) ≡ false
-  not_both true b h = cc
-  not_both false b h = refl
-
-  nor_second : (a b : Bool) → b ≡ false → (a && b) ≡ false
-  nor_second true b h = h
-  nor_second false b h = refl
-
   new_undelayed : (s : Bytes) (rs : List Reference) → IsNewName s (map (λ r. r.name) rs) → list_any (delayed s) rs ≡ false
   new_undelayed s [] h = refl
   new_undelayed s (r ∷ rs) h = neither (delayed s r) (list_any (delayed s) rs) (not_both (bytes_eq s r.name) (is_delay (definition ds r.def)) h.0) (new_undelayed s rs h.1)
@@ -195,41 +185,15 @@ module _ (ds : List Def) (n : ℕ) (own : Ports) (all : List Reference) (edges :
           let next : 1 + place rs s ≡ suc (place rs s) = omega arith in
           neither (delayed s x) (list_any (delayed s) rs) (not_both (bytes_eq s x.name) (is_delay (definition ds x.def)) e) (rest (subst (λ (p : ℕ). slice_get (x ∷ rs) p ≡ Some r) next j))
 
-  any_right : (f : ℕ → Bool) (xs ys : List ℕ) → list_any f ys ≡ true → list_any f (xs ++ ys) ≡ true
-  any_right f [] ys h = h
-  any_right f (x ∷ xs) ys h = right (f x) (list_any f (xs ++ ys)) (any_right f xs ys h)
-    where
-      right : (a b : Bool) → b ≡ true → (a || b) ≡ true
-      right true b k = refl
-      right false b k = k
-
-  any_left : (f : ℕ → Bool) (xs ys : List ℕ) → list_any f xs ≡ true → list_any f (xs ++ ys) ≡ true
-  any_left f [] ys h = cc
-  any_left f (x ∷ xs) ys h = by (f x) h (λ k. any_left f xs ys k)
-    where
-      by : (b : Bool) → (b || list_any f xs) ≡ true → (list_any f xs ≡ true → list_any f (xs ++ ys) ≡ true) → (b || list_any f (xs ++ ys)) ≡ true
-      by true k rest = refl
-      by false k rest = rest k
-
-  same_number : (i q : ℕ) → i ≡ q → (i == q) ≡ true
-  same_number i q e = grind arith
-
-  abbrev is_at : ℕ → ℕ → Bool
-  is_at q c = c == q
-
   one_source : (q : ℕ) (r : Reference) → slice_get all q ≡ Some r → is_delay (definition ds r.def) ≡ false → AreDistinctNames (map (λ r. r.name) all)
       → (o : Option Bytes) (p : Bytes) → IsOf q (source_from (ports_of ds) own.ins all o p) → list_any (is_at q) (source_of ds all o) ≡ true
   one_source q r at k h None p is = absurd is
   one_source q r at k h (Some s) p is =
       by (list_any (delayed s) all) (undelayed s r all h (subst (λ (j : ℕ). slice_get all j ≡ Some r) (sym is) at) k)
     where
-      left : (a b : Bool) → a ≡ true → (a || b) ≡ true
-      left true b h = refl
-      left false b h = cc
-
       by : (b : Bool) → b ≡ false → list_any (is_at q) (if b then [] else place all s ∷ []) ≡ true
       by true e = cc
-      by false e = left (place all s == q) false (same_number (place all s) q is)
+      by false e = or_left (place all s == q) false (same_number (place all s) q is)
 
   brought : (q : ℕ) (r : Reference) → slice_get all q ≡ Some r → is_delay (definition ds r.def) ≡ false → AreDistinctNames (map (λ r. r.name) all)
       → (es : List Edge) (w p : Bytes) → IsOf q (source_to (ports_of ds) own.ins all es (record { owner = Some w; port = p })) → list_any (is_at q) (sources ds all es w) ≡ true
@@ -259,11 +223,6 @@ module _ (ds : List Def) (n : ℕ) (own : Ports) (all : List Reference) (edges :
   among_brought q r at k h w (p ∷ ps) (inl is) = brought q r at k h edges w p.name is
   among_brought q r at k h w (p ∷ ps) (inr is) = among_brought q r at k h w ps is
 
-  map_at : {A B : Type 0} (f : A → B) (xs : List A) (i : ℕ) (x : A) (y : B) → slice_get xs i ≡ Some x → get_or (map f xs) i y ≡ f x
-  map_at f [] i x y h = cc
-  map_at f (z ∷ xs) zero x y h = let same : z ≡ x = cc in ap f same
-  map_at f (z ∷ xs) (suc i) x y h = map_at f xs i x y h
-
   abbrev links : Links
   links = dependences ds all edges
 
@@ -272,26 +231,6 @@ module _ (ds : List Def) (n : ℕ) (own : Ports) (all : List Reference) (edges :
       let is = asks_for k q j in
       let at : from links k ≡ sources ds all edges is.0.name = map_at (λ r. sources ds all edges r.name) all k is.0 [] is.1.0.0 in
       subst (λ (xs : List ℕ). list_any (is_at q) xs ≡ true) (sym at) (among_brought q asking.0 asking.1.0 asking.1.1 h is.0.name (ports_of ds is.0.def).ins is.1.1)
-
-  any_at : (q : ℕ) (f : ℕ → Bool) (xs : List ℕ) → f q ≡ true → list_any (is_at q) xs ≡ true → list_any f xs ≡ true
-  any_at q f [] h k = cc
-  any_at q f (x ∷ xs) h k = by (x == q) refl k (λ j. any_at q f xs h j)
-    where
-      by : (b : Bool) → (x == q) ≡ b → (b || list_any (is_at q) xs) ≡ true → (list_any (is_at q) xs ≡ true → list_any f xs ≡ true) → (f x || list_any f xs) ≡ true
-      by true e j rest = let same : q ≡ x = sym (eqb-true x q e) in left (f x) (list_any f xs) (subst (λ (y : ℕ). f y ≡ true) same h)
-        where
-          left : (a b : Bool) → a ≡ true → (a || b) ≡ true
-          left true b h = refl
-          left false b h = cc
-      by false e j rest = right (f x) (list_any f xs) (rest j)
-        where
-          right : (a b : Bool) → b ≡ true → (a || b) ≡ true
-          right true b k = refl
-          right false b k = k
-
-  or_right : (a b : Bool) → b ≡ true → (a || b) ≡ true
-  or_right true b k = refl
-  or_right false b k = k
 
   led : AreDistinctNames (map (λ r. r.name) all) → (k q : ℕ) → Reaches level k q → IsAsking q → (m : ℕ) × (leads_within links m k q ≡ true)
   led h k q (asks j) asking = (zero, depends h k q j asking)

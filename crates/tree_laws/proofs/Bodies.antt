@@ -22,7 +22,7 @@ each_range P (suc n) a k h le lt = elim (cases_lt a k) [
   | inr more ↦ (let same : a ≡ k = omega arith in subst P same h.0)
 ]
 
-same_number : (n m : ℕ) → n ≡ m → (n == m) ≡ true
+pub same_number : (n m : ℕ) → n ≡ m → (n == m) ≡ true
 same_number n m e = grind arith
 
 rest_none : (b : Bool) (o : Option AlgoError) (os : List (Option AlgoError)) → first_of (if b then o ∷ os else os) ≡ None → first_of os ≡ None

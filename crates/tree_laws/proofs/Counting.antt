@@ -31,6 +31,7 @@ use Rattle.algo_rules.specs.Frontiers.{used_by}
 use Rattle.algo_rules.specs.Resolved.{Making, vertex_within, vertex_by, references_from, cases_from, sources_to, owns, kind_by, inner_by, feed_by, first_feed, feed_of, give_by, is_fork, count_by, count_in, count_within, is_sensor, is_actuator, body_fault}
 use Rattle.algo_rules.specs.WellRead.{port_names}
 use Rattle.tree_laws.proofs.Firsts.{Each}
+use Rattle.tree_laws.proofs.Anywhere.{or_left, any_left, any_right}
 use Rattle.tree_laws.proofs.Lengths.{turned, same_bytes}
 use Rattle.tree_laws.proofs.Ranks.{rank}
 use Rattle.tree_laws.proofs.Accepted.{IsLower, Accepted}
@@ -78,25 +79,8 @@ module _ (c : ℕ) (g h : Bytes → ℕ) (x : Bytes) (alike : (w : Bytes) → by
           let one = alike p.name (turned x p.name e) in
           omega (arith, one, rest k, sum_by-cons (λ p. g p.name) p ps, sum_by-cons (λ p. h p.name) p ps)
 
-among_left : (x : Bytes) (xs ys : List Bytes) → is_among x xs ≡ true → is_among x (xs ++ ys) ≡ true
-among_left x [] ys h = cc
-among_left x (y ∷ xs) ys h = by (bytes_eq x y) h (λ k. among_left x xs ys k)
-  where
-    by : (b : Bool) → (b || is_among x xs) ≡ true → (is_among x xs ≡ true → is_among x (xs ++ ys) ≡ true) → (b || is_among x (xs ++ ys)) ≡ true
-    by true k rest = refl
-    by false k rest = rest k
-
 among_last : (x : Bytes) (xs : List Bytes) → is_among x (xs ++ x ∷ []) ≡ true
-among_last x [] = by (bytes_eq x x) (same_bytes x)
-  where
-    by : (b : Bool) → b ≡ true → (b || false) ≡ true
-    by true e = refl
-    by false e = cc
-among_last x (y ∷ xs) = by (bytes_eq x y) (among_last x xs)
-  where
-    by : (b : Bool) → is_among x (xs ++ x ∷ []) ≡ true → (b || is_among x (xs ++ x ∷ [])) ≡ true
-    by true e = refl
-    by false e = e
+among_last x xs = any_right (bytes_eq x) xs (x ∷ []) (or_left (bytes_eq x x) false (same_bytes x))
 
 module _ (copies : ℕ) (inner own : Ports) where
   abbrev fed : List FrontierLine → Bytes → Feed
@@ -111,7 +95,7 @@ module _ (copies : ℕ) (inner own : Ports) where
   -- what a line before uses is not used again
   unused : (used : List Bytes) (ls : List FrontierLine) (x : Bytes) → AreFresh copies inner used ls → is_among x used ≡ true → forked ls x ≡ 0
   unused used [] x fresh h = refl
-  unused used (l ∷ ls) x fresh h = by l.frontier fresh.0 (unused (used ++ used_by l.frontier) ls x fresh.1 (among_left x used (used_by l.frontier) h))
+  unused used (l ∷ ls) x fresh h = by l.frontier fresh.0 (unused (used ++ used_by l.frontier) ls x fresh.1 (any_left (bytes_eq x) used (used_by l.frontier) h))
     where
       one : (b : Bool) (y : Bytes) (f : Feed) → bytes_eq x y ≡ b → is_among y used ≡ false → forked ls x ≡ 0 → forks (first_feed inner own (if b then Some f else None) (fed ls x)) ≡ 0
       one true y f e k rest =

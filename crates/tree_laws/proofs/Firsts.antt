@@ -30,10 +30,6 @@ pub each_append : {A : Type 0} (P : A → Type 0) (xs ys : List A) → Each P (x
 each_append P [] ys h = (tt, h)
 each_append P (x ∷ xs) ys h = let both = each_append P xs ys h.1 in ((h.0, both.0), both.1)
 
-pub each_map : {A B : Type 0} (P : B → Type 0) (f : A → B) (xs : List A) → Each P (map f xs) → Each (λ x. P (f x)) xs
-each_map P f [] h = tt
-each_map P f (x ∷ xs) h = (h.0, each_map P f xs h.1)
-
 pub each_gives : {A : Type 0} (P Q : A → Type 0) → ((x : A) → P x → Q x) → (xs : List A) → Each P xs → Each Q xs
 each_gives P Q f [] h = tt
 each_gives P Q f (x ∷ xs) h = (f x h.0, each_gives P Q f xs h.1)

@@ -69,10 +69,6 @@ len_sized (p ∷ ps) w h k = by (λ j. len_sized ps w h.1 j) (bytes_eq w p.name)
     by rest true j = h.0
     by rest false j = rest j
 
-pub lengths_append : (ns ms : List ℕ) → AreLengths ns → AreLengths ms → AreLengths (ns ++ ms)
-lengths_append [] ms h k = k
-lengths_append (n ∷ ns) ms h k = (h.0, lengths_append ns ms h.1 k)
-
 -- names
 pub new_append : (v : Bytes) (xs ys : List Bytes) → IsNewName v (xs ++ ys) → IsNewName v xs × IsNewName v ys
 new_append v [] ys h = (tt, h)

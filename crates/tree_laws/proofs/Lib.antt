@@ -1,4 +1,5 @@
 pub mod Firsts
+pub mod Anywhere
 pub mod Standing
 pub mod Ends
 pub mod Numbered

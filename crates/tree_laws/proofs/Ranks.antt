@@ -89,7 +89,7 @@ no_recursion ds h = by (first_recursive (links_of ds)) refl h
         let at = position-Some (reaches_itself (links_of ds)) (numbers (links_of ds)) i 0 e in
         absurd (some i (slice_get ds i) refl (omega (arith, at.0, length-range_with_len 0 (length (links_of ds)), length-map ds (λ d. places ds (mentions d)))) k)
 
-map_at : {A B : Type 0} (f : A → B) (xs : List A) (i : ℕ) (x : A) (y : B) → slice_get xs i ≡ Some x → get_or (map f xs) i y ≡ f x
+pub map_at : {A B : Type 0} (f : A → B) (xs : List A) (i : ℕ) (x : A) (y : B) → slice_get xs i ≡ Some x → get_or (map f xs) i y ≡ f x
 map_at f [] i x y h = cc
 map_at f (z ∷ xs) zero x y h = let same : z ≡ x = cc in ap f same
 map_at f (z ∷ xs) (suc i) x y h = map_at f xs i x y h
