@@ -13,7 +13,8 @@ use Rattle.reference_graph.specs.Links.{depth, depths}
 use Rattle.algo_rules.specs.Links.{first_of, definition, unknown, recursive, too_deep, links_of}
 use Rattle.algo_rules.specs.Resolved.{body_fault, faults_at, bodies_fault}
 use Rattle.tree_laws.proofs.Firsts.{Each, none_both, none_flat}
-use Rattle.tree_laws.proofs.Ranks.{place_of, rank, rank_at, place_below, positive, not_deep}
+use Rattle.tree_laws.specs.Depths.{place_of, rank}
+use Rattle.tree_laws.proofs.Ranks.{rank_at, place_below, positive, not_deep}
 
 each_range : (P : ℕ → Type 0) (n a k : ℕ) → Each P (range_with_len a n) → a ≤ k → k < a + n → P k
 each_range P zero a k h le lt = absurd (omega arith)

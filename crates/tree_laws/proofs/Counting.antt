@@ -33,7 +33,7 @@ use Rattle.algo_rules.specs.WellRead.{port_names}
 use Rattle.tree_laws.proofs.Firsts.{Each}
 use Rattle.tree_laws.proofs.Anywhere.{or_left, any_left, any_right}
 use Rattle.tree_laws.proofs.Lengths.{turned, same_bytes}
-use Rattle.tree_laws.proofs.Ranks.{rank}
+use Rattle.tree_laws.specs.Depths.{rank}
 use Rattle.tree_laws.proofs.Accepted.{IsLower, Accepted}
 use Rattle.tree_laws.proofs.Sized.{fine}
 use Rattle.tree_laws.proofs.Frontiers.{LineFits, LinesFit, IsFresh, AreFresh, repeat_fits}
@@ -216,7 +216,7 @@ one_counted : (ds : List Def) → Accepted ds → (n : ℕ) → MakesCounted (ve
     → counted.operations (vertex_by ds (vertex_within ds n) part w ins s a o) ≡ count_in (count_within ds n) o
 one_counted ds acc n ih part w ins s a None e = refl
 one_counted ds acc n ih part w ins s a (Some d) e =
-    body_counted ds (vertex_within ds n) (count_within ds n) ih acc (ports_of ds w) s a d.line d.body (acc.passed w d e) (all_distinct ds acc (rank ds w) (mentions d) (acc.lower w d e))
+    body_counted ds (vertex_within ds n) (count_within ds n) ih acc (ports_of ds w) s a d.line d.body (acc.passed w d e) (all_distinct ds acc (rank ds w) (mentions d) (acc.ranked.lower w d e))
 
 pub counted_within : (ds : List Def) → Accepted ds → (n : ℕ) → MakesCounted (vertex_within ds n) (count_within ds n)
 counted_within ds acc zero part w ins s a = refl

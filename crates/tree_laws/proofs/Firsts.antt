@@ -1,6 +1,6 @@
 -- What it tells that a list of checks has no fault.
-use Rattle.std.proofs.Common.{◌≡◌, List, [], ◌∷◌, ◌++◌, map, Option, Some, None, refl}
-use Rattle.std.specs.List.{flat_map}
+use Rattle.std.proofs.Common.{◌≡◌, List, [], ◌∷◌, ◌++◌, map, Option, Some, None, refl, zero, suc, arith}
+use Rattle.std.specs.List.{All, flat_map}
 use Rattle.algo_defs.specs.declared.fault.AlgoError.{AlgoError}
 use Rattle.algo_rules.specs.Links.{first_of}
 
@@ -37,3 +37,13 @@ each_gives P Q f (x ∷ xs) h = (f x h.0, each_gives P Q f xs h.1)
 pub each_flat : {A B : Type 0} (P : B → Type 0) (f : A → List B) (xs : List A) → Each P (flat_map f xs) → Each (λ x. Each P (f x)) xs
 each_flat P f [] h = tt
 each_flat P f (x ∷ xs) h = let both = each_append P (f x) (flat_map f xs) h in (both.0, each_flat P f xs both.1)
+
+-- the same as All, which goes by places
+pub all_of : {A : Type 0} (P : A → Type 0) (xs : List A) → Each P xs → All P xs
+all_of P [] h k d lt = absurd (omega arith)
+all_of P (x ∷ xs) h zero d lt = h.0
+all_of P (x ∷ xs) h (suc k) d lt = all_of P xs h.1 k d (omega arith)
+
+pub each_all : {A : Type 0} (P : A → Type 0) (xs : List A) → All P xs → Each P xs
+each_all P [] h = tt
+each_all P (x ∷ xs) h = (h 0 x (omega arith), each_all P xs (λ k d lt. h (suc k) d (omega arith)))

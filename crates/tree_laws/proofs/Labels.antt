@@ -17,7 +17,7 @@ use Rattle.algo_rules.specs.Ports.{ports_of, lens_of}
 use Rattle.algo_rules.specs.Resolved.{Making, vertex_within, vertex_by, references_from, sources_to, is_sensor, is_actuator}
 use Rattle.tree_laws.proofs.Firsts.{Each}
 use Rattle.tree_laws.proofs.Ends.{reference_line}
-use Rattle.tree_laws.proofs.Ranks.{rank}
+use Rattle.tree_laws.specs.Depths.{rank}
 use Rattle.tree_laws.proofs.Accepted.{IsLower, Accepted}
 use Rattle.tree_laws.proofs.Joined.{out_lens}
 
@@ -45,7 +45,7 @@ outs_by ds make part w ins s a (Some x) d e = refl
 -- its outputs have the lengths of the definition's, where the definition is followed far enough
 pub label_outs : (ds : List Def) → Accepted ds → (n : ℕ) (part : Part) (w : Bytes) (d : Def) (ins : List Source) (s a : ℕ) → definition ds w ≡ Some d → rank ds w ≤ n
     → (label_of (vertex_within ds n part w ins s a)).outs ≡ lens_of (ports_of ds w).outs
-label_outs ds acc zero part w d ins s a e le = absurd (omega (arith, acc.positive w d e))
+label_outs ds acc zero part w d ins s a e le = absurd (omega (arith, acc.ranked.positive w d e))
 label_outs ds acc (suc n) part w d ins s a e le = outs_by ds (vertex_within ds n) part w ins s a (definition ds w) d e
 
 pub references_outs : (ds : List Def) → Accepted ds → (n : ℕ) (ins : List Port) (all : List Reference) (edges : List Edge) (s a : ℕ) (rs : List Reference) → Each (λ m. IsLower ds (suc n) m.def) (map reference_line rs)

@@ -1,7 +1,7 @@
 -- How deep a definition is: more than all that it names, and at most 8.
 use Rattle.std.proofs.Common.{◌≡◌, ℕ, zero, suc, ◌+◌, ◌<◌, ◌≤◌, Bool, true, false, not, cond, List, [], ◌∷◌, map, length, get_or, Option, Some, None, refl, ap, sym, subst, ◌∙◌, arith, if◌then◌else◌, nat_lt}
 use Rattle.std.specs.Prelude.{slice_get}
-use Rattle.std.specs.List.{All, flat_map, position_or_len}
+use Rattle.std.specs.List.{All, flat_map}
 use Rattle.std.specs.Str.{bytes_eq}
 use Rattle.std.proofs.lemmas.Bool.{ltb-false}
 use Rattle.std.proofs.lemmas.List.{length-map}
@@ -17,11 +17,9 @@ use Rattle.reference_graph.specs.Links.{from, greatest, depth, depths, numbers, 
 use Rattle.reference_graph.specs.Answer.{AreInside}
 use Rattle.reference_graph.proofs.Enough.{one_deeper}
 use Rattle.algo_rules.specs.Links.{Mention, mentions, definition, unknown_by, unknown, links_of, recursive_by, recursive, too_deep_by, too_deep}
+use Rattle.tree_laws.specs.Depths.{place_of, rank}
 use Rattle.tree_laws.proofs.Firsts.{Each, none_each, each_flat, each_gives}
 use Rattle.tree_laws.proofs.Standing.{definition_by}
-
-abbrev pub place_of : List Def → Bytes → ℕ
-place_of ds w = position_or_len (λ e. bytes_eq w e.name) ds
 
 -- The definition of a name stands at its place.
 found : (ds : List Def) (w : Bytes) → definition ds w ≡ slice_get ds (place_of ds w)
@@ -31,10 +29,6 @@ found (d ∷ ds) w = by (bytes_eq w d.name) (found ds w)
     by : (b : Bool) → definition ds w ≡ slice_get ds (place_of ds w) → (if b then Some d else definition ds w) ≡ slice_get (d ∷ ds) (cond (not b) (1 + place_of ds w) 0)
     by true rest = refl
     by false rest = let next : 1 + place_of ds w ≡ suc (place_of ds w) = omega arith in rw next rest
-
--- how deep the definition of a name is
-abbrev pub rank : List Def → Bytes → ℕ
-rank ds w = depth (links_of ds) (place_of ds w)
 
 -- the definition of a name is there
 abbrev pub IsKnown : List Def → Bytes → Type 0

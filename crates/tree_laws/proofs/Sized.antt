@@ -12,7 +12,7 @@ use Rattle.algo_rules.specs.declared.ports.Ports.{Ports}
 use Rattle.algo_rules.specs.Resolved.{body_fault}
 use Rattle.algo_rules.specs.WellRead.{IsWellRead, port_names, ports_in}
 use Rattle.tree_laws.proofs.Firsts.{Each}
-use Rattle.tree_laws.proofs.Ranks.{rank}
+use Rattle.tree_laws.specs.Depths.{rank}
 use Rattle.tree_laws.proofs.Lengths.{sized, distinct_append}
 use Rattle.tree_laws.proofs.Frontiers.{repeat_fits, ins_sized, outs_sized, ins_distinct}
 use Rattle.tree_laws.proofs.Accepted.{IsLower, Accepted, own_ports}
@@ -48,10 +48,10 @@ module _ (ds : List Def) where
   each_fine n m le ih (x ∷ ms) h = (ih x.def h.0.0.0 h.0.0.1 (omega (arith, h.0.1)), each_fine n m le ih ms h.1)
 
 fine_within : (ds : List Def) → Accepted ds → (n : ℕ) (w : Bytes) (d : Def) → definition ds w ≡ Some d → rank ds w ≤ n → AreFine (ports_of ds w)
-fine_within ds a zero w d e le = absurd (omega (arith, a.positive w d e))
+fine_within ds a zero w d e le = absurd (omega (arith, a.ranked.positive w d e))
 fine_within ds a (suc n) w d e le =
-    subst AreFine (sym (own_ports ds a w d e))
-    (fine_by ds d.line d.body (a.well_read w d e) (a.passed w d e) (each_fine ds n (rank ds w) le (λ v x f k. fine_within ds a n v x f k) (mentions d) (a.lower w d e)))
+    subst AreFine (sym (own_ports ds a.ranked w d e))
+    (fine_by ds d.line d.body (a.well_read w d e) (a.passed w d e) (each_fine ds n (rank ds w) le (λ v x f k. fine_within ds a n v x f k) (mentions d) (a.ranked.lower w d e)))
 
 pub fine : (ds : List Def) → Accepted ds → (w : Bytes) (d : Def) → definition ds w ≡ Some d → AreFine (ports_of ds w)
-fine ds a w d e = fine_within ds a 8 w d e (a.most w d e)
+fine ds a w d e = fine_within ds a 8 w d e (a.ranked.most w d e)

@@ -77,11 +77,11 @@ make_a_tree ds read no_refusal =
     let none = has_none ds no_refusal in
     let acc = accepted ds read none in
     let is = main_by ds (definition ds main) refl (main_is_graph ds none) in
-    let lens : lens_of (ports_of ds main).ins ≡ [] = ap lens_of (ap (λ (p : Ports). p.ins) (own_ports ds acc main is.0 is.1.0) ∙ no_inputs (ports_of ds) is.0.body is.1.1) in
+    let lens : lens_of (ports_of ds main).ins ≡ [] = ap lens_of (ap (λ (p : Ports). p.ins) (own_ports ds acc.ranked main is.0 is.1.0) ∙ no_inputs (ports_of ds) is.0.body is.1.1) in
     record {
       portless = portless_by ds (vertex_within ds 7) (definition ds main) (main_is_graph ds none);
-      well = well ds acc 8 (Named main) main is.0 [] 0 0 is.1.0 (acc.most main is.0 is.1.0);
-      typed = subst (λ (ns : List ℕ). IsTyped ns (tree_of ds)) lens (typed ds acc 8 (Named main) main is.0 [] 0 0 is.1.0 (acc.most main is.0 is.1.0));
+      well = well ds acc 8 (Named main) main is.0 [] 0 0 is.1.0 (acc.ranked.most main is.0 is.1.0);
+      typed = subst (λ (ns : List ℕ). IsTyped ns (tree_of ds)) lens (typed ds acc 8 (Named main) main is.0 [] 0 0 is.1.0 (acc.ranked.most main is.0 is.1.0));
       inside = stand_in_main ds none;
       numbered = are_numbered ds none;
       few = subst (λ (n : ℕ). n ≤ 2048) (sym (are_counted ds read no_refusal)) (few_by (operations ds) (nat_lt 2048 (operations ds)) refl none.too_many);

@@ -27,7 +27,7 @@ use Rattle.algo_rules.specs.WellRead.{IsWellRead, IsGraph, port_names}
 use Rattle.tree_laws.proofs.Firsts.{Each, none_both, none_append}
 use Rattle.tree_laws.proofs.Lengths.{distinct_append}
 use Rattle.tree_laws.proofs.Ends.{reference_line, case_line}
-use Rattle.tree_laws.proofs.Ranks.{rank}
+use Rattle.tree_laws.specs.Depths.{rank}
 use Rattle.tree_laws.proofs.Accepted.{IsLower, Accepted, own_ports}
 use Rattle.tree_laws.proofs.Sized.{AreFine, fine}
 use Rattle.tree_laws.proofs.Joined.{GraphFits, IsSupplied, out_lens, graph_fits}
@@ -159,18 +159,18 @@ each_less ds n m le [] h = tt
 each_less ds n m le (x ∷ ms) h = ((h.0.0, omega (arith, h.0.1)), each_less ds n m le ms h.1)
 
 pub lower_lines : (ds : List Def) → Accepted ds → (n : ℕ) (w : Bytes) (d : Def) → definition ds w ≡ Some d → rank ds w ≤ n → Each (λ m. IsLower ds n m.def) (mentions d)
-lower_lines ds acc n w d e le = each_less ds n (rank ds w) le (mentions d) (acc.lower w d e)
+lower_lines ds acc n w d e le = each_less ds n (rank ds w) le (mentions d) (acc.ranked.lower w d e)
 
 typed_of : (ds : List Def) (acc : Accepted ds) (n : ℕ) → MakesTyped ds acc n → (part : Part) (w : Bytes) (d : Def) (ins : List Source) (s a : ℕ) (o : Option Def) → o ≡ Some d → definition ds w ≡ Some d → rank ds w ≤ suc n
     → IsTyped (lens_of (ports_of ds w).ins) (vertex_by ds (vertex_within ds n) part w ins s a o)
 typed_of ds acc n ih part w d ins s a None is e le = cc
 typed_of ds acc n ih part w d ins s a (Some x) is e le =
     let same : d ≡ x = cc in
-    let own = own_ports ds acc w d e in
+    let own = own_ports ds acc.ranked w d e in
     subst (λ (y : Def). IsTyped (lens_of (ports_of ds w).ins) (vertex_by ds (vertex_within ds n) part w ins s a (Some y))) same
     (subst (BodyTyped ds acc n part w ins s a d.body) (sym own)
     (typed_body ds acc n ih part w ins s a d.line d.body (acc.well_read w d e) (acc.passed w d e) (lower_lines ds acc (suc n) w d e le) (subst AreFine own (fine ds acc w d e))))
 
 pub typed : (ds : List Def) (acc : Accepted ds) (n : ℕ) → MakesTyped ds acc n
-typed ds acc zero part w d ins s a e le = absurd (omega (arith, acc.positive w d e))
+typed ds acc zero part w d ins s a e le = absurd (omega (arith, acc.ranked.positive w d e))
 typed ds acc (suc n) part w d ins s a e le = typed_of ds acc n (λ p v x i j k. typed ds acc n p v x i j k) part w d ins s a (definition ds w) e e le

@@ -29,7 +29,7 @@ use Rattle.algo_rules.specs.WellRead.{IsWellRead, IsGraph, port_names}
 use Rattle.tree_laws.proofs.Firsts.{Each}
 use Rattle.tree_laws.proofs.Lengths.{distinct_append}
 use Rattle.tree_laws.proofs.Ends.{reference_line}
-use Rattle.tree_laws.proofs.Ranks.{rank}
+use Rattle.tree_laws.specs.Depths.{rank}
 use Rattle.tree_laws.proofs.Accepted.{IsLower, Accepted}
 use Rattle.tree_laws.proofs.Sized.{fine}
 use Rattle.tree_laws.proofs.Cases.{all_own}
@@ -110,7 +110,7 @@ level_well : (ds : List Def) → Accepted ds → (n line : ℕ) (is os : List Po
     → Each (λ m. IsLower ds (suc n) m.def) (map reference_line references)
     → IsAcyclic (nodes (vertices_of (references_from ds (vertex_within ds n) is references edges 0 0 references))) × HasDistinctParts (nodes (vertices_of (references_from ds (vertex_within ds n) is references edges 0 0 references)))
 level_well ds acc zero line is os [] edges read none h = (λ r lt. absurd (omega arith), tt)
-level_well ds acc zero line is os (r ∷ rs) edges read none h = absurd (omega (arith, acc.positive r.def h.0.0.0 h.0.0.1, h.0.1))
+level_well ds acc zero line is os (r ∷ rs) edges read none h = absurd (omega (arith, acc.ranked.positive r.def h.0.0.0 h.0.0.1, h.0.1))
 level_well ds acc (suc n) line is os references edges read none h =
     let own : Ports = record { ins = is; outs = os } in
     let fits = graph_of ds acc (suc (suc n)) line is os references edges read none h in
@@ -147,5 +147,5 @@ well_of ds acc n ih part w d ins s a (Some x) is e le =
     (well_body ds acc n ih (ports_of ds w) s a d.line d.body (acc.well_read w d e) (acc.passed w d e) (lower_lines ds acc (suc n) w d e le))
 
 pub well : (ds : List Def) (acc : Accepted ds) (n : ℕ) → MakesWell ds n
-well ds acc zero part w d ins s a e le = absurd (omega (arith, acc.positive w d e))
+well ds acc zero part w d ins s a e le = absurd (omega (arith, acc.ranked.positive w d e))
 well ds acc (suc n) part w d ins s a e le = well_of ds acc n (λ p v x i j k. well ds acc n p v x i j k) part w d ins s a (definition ds w) e e le

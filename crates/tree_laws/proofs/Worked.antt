@@ -1,6 +1,5 @@
 -- A worked text without a refusal: its definitions are as an accepted text has them, so that they make a tree.
-use Rattle.std.proofs.Common.{◌≡◌, zero, suc, refl, List, [], ◌∷◌, ◌++◌, Some, arith, codes, None, Ok}
-use Rattle.std.specs.List.{All}
+use Rattle.std.proofs.Common.{◌≡◌, refl, List, [], ◌∷◌, ◌++◌, Some, arith, codes, None, Ok}
 use Rattle.algo_tree.specs.Typed.{IsLength}
 use Rattle.algo_tree.specs.Valid.{IsTree}
 use Rattle.algo_defs.specs.declared.definition.Def.{Def}
@@ -11,7 +10,7 @@ use Rattle.algo_defs.specs.Text.{definitions_of}
 use Rattle.algo_defs.specs.Words.{Bytes}
 use Rattle.algo_rules.specs.Resolved.{tree_of, refusal}
 use Rattle.algo_rules.specs.WellRead.{IsName, ArePorts, IsGraph, IsWellRead, AreWellRead}
-use Rattle.tree_laws.proofs.Firsts.{Each}
+use Rattle.tree_laws.proofs.Firsts.{all_of}
 use Rattle.tree_laws.proofs.Trees.{make_a_tree}
 
 abbrev two : List Reference
@@ -26,11 +25,6 @@ echo =
     record { name = codes "Sense"; line = 2; body = Sensor 1 }
     ∷ record { name = codes "Act"; line = 3; body = Actuator 1 }
     ∷ record { name = codes "main"; line = 4; body = Graph [] [] two (edge ∷ []) } ∷ []
-
-all_of : {A : Type 0} (P : A → Type 0) (xs : List A) → Each P xs → All P xs
-all_of P [] h k d lt = absurd (omega arith)
-all_of P (x ∷ xs) h zero d lt = h.0
-all_of P (x ∷ xs) h (suc k) d lt = all_of P xs h.1 k d (omega arith)
 
 abbrev text : List Bytes → Bytes
 text [] = []

@@ -1,1 +1,2 @@
 pub mod Central
+pub mod Depths

@@ -3,4 +3,6 @@
 
 mod laws;
 
-pub use laws::{accepted_make_a_tree, operations_are_counted};
+pub use laws::{
+    accepted_make_a_tree, named_are_less_deep, operations_are_counted, ports_follow_from_bodies,
+};
