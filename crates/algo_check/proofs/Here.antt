@@ -12,6 +12,7 @@ use Rattle.algo_links.specs.Linked.{named}
 use Rattle.reference_graph.specs.Links.{Links, depths}
 use Rattle.algo_check.specs.Leveled.{AreLeveled}
 use Rattle.algo_check.specs.Tables.{IsTable}
+use Rattle.algo_check.proofs.Inside.{links_count}
 use Rattle.algo_check.proofs.Stands.{deep, row, placed}
 use Rattle.algo_check.proofs.ByDepth.{deep_at}
 use Rattle.algo_check.proofs.Own.{depths_count}
@@ -33,6 +34,12 @@ module _ (ds : List Def) (links : Links) (levels : List ℕ) (l : AreLeveled ds 
 
     pub row_is : (r : List ℕ) → i < length links → r ≡ get_or links i r → r ≡ row ds i
     row_is r few is = is ∙ get_or_default links i r [] few ∙ ap (λ (ls : Links). get_or ls i []) l.linked
+
+    -- the same of a row that was taken from all of them
+    pub row_there : (all : Links) (r s : List ℕ) → all ≡ links → r ≡ get_or all i r → s ≡ r → s ≡ row ds i
+    row_there all r s are is same =
+        let few : i < length links = omega (arith, links_count ds, ap (λ (ls : Links). length ls) l.linked, low) in
+        same ∙ row_is r few (is ∙ ap (λ (ls : Links). get_or ls i r) are)
 
     pub stands : (n : ℕ) (table : List Ports) (d : Def) (r : List ℕ) → get_or levels i 0 ≡ n → IsTable ds n table → d ≡ get_or ds i d → i < length links → r ≡ get_or links i r → ArePlaced ds table (named d.body) r
     stands n table d r at t is few row_at =

@@ -18,7 +18,7 @@ there [] i h = absurd (omega (arith, h))
 there (x ∷ xs) zero h = (x, refl)
 there (x ∷ xs) (suc i) h = there xs i (omega (arith, h))
 
-linked_below : (ds : List Def) (ws : List Bytes) (ps : List ℕ) → AreLinked ds ws ps → (k d : ℕ) → k < length ps → get_or ps k d < length ds
+pub linked_below : (ds : List Def) (ws : List Bytes) (ps : List ℕ) → AreLinked ds ws ps → (k d : ℕ) → k < length ps → get_or ps k d < length ds
 linked_below ds ws [] h k d low = absurd (omega (arith, low))
 linked_below ds [] (p ∷ ps) h k d low = absurd h
 linked_below ds (w ∷ ws) (p ∷ ps) h zero d low = h.0.below

@@ -7,3 +7,4 @@ pub mod Filling
 pub mod ByDepth
 pub mod Own
 pub mod Here
+pub mod Counted

@@ -37,7 +37,7 @@ own (e ∷ ds) zero d h at =
 own (e ∷ ds) (suc i) d h at =
     ap (λ (b : Bool). if b then Some e else definition ds d.name) (turned e.name d.name (new_at e.name ds i d h.0 at)) ∙ own ds i d h.1 at
 
-within : {A : Type 0} (xs : List A) (i : ℕ) (x : A) → slice_get xs i ≡ Some x → i < length xs
+pub within : {A : Type 0} (xs : List A) (i : ℕ) (x : A) → slice_get xs i ≡ Some x → i < length xs
 within [] i x h = cc
 within (y ∷ ys) zero x h = omega arith
 within (y ∷ ys) (suc i) x h = omega (arith, within ys i x h)

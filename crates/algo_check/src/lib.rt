@@ -2,8 +2,10 @@
 #![tactic(auto)]
 
 mod bodies;
-
+mod check;
+mod counts;
 mod levels;
 mod main_graph;
 mod tables;
 
+pub use check::check_definitions;
