@@ -1,5 +1,5 @@
 -- The faults of the bodies of one depth, one after the other.
-use Rattle.std.proofs.Common.{◌≡◌, ℕ, zero, suc, ◌+◌, ◌-◌, ◌<◌, ◌≤◌, Bool, true, false, ◌==◌, List, [], ◌∷◌, ◌++◌, length, get_or, drop, map, Option, Some, None, Err, if◌then◌else◌, refl, ap, sym, subst, ◌∙◌, arith}
+use Rattle.std.proofs.Common.{◌≡◌, ℕ, zero, suc, ◌+◌, ◌-◌, ◌<◌, Bool, true, false, ◌==◌, List, [], ◌∷◌, ◌++◌, length, get_or, drop, Option, Some, None, if◌then◌else◌, refl, ap, sym, subst, ◌∙◌, arith}
 use Rattle.std.specs.Prelude.{slice_get}
 use Rattle.std.specs.List.{flat_map, range_with_len}
 use Rattle.std.proofs.lemmas.Bool.{eqb-false, ne_eqb}
@@ -30,7 +30,6 @@ module _ (ds : List Def) where
   module _ (n : ℕ) where
     abbrev pub left : List Def → List ℕ → Option AlgoError
     left rest ns = first_of (faults_at ds n rest ns)
-
 
     -- the definition that is next, where it has this depth or not
     module _ (rest : List Def) (ns : List ℕ) (i m : ℕ) (d : Def) (low : i < length rest) (has : i < length ns) (at : d ≡ get_or rest i d) (is : m ≡ get_or ns i m) where

@@ -1,5 +1,5 @@
 -- One round of counts more.
-use Rattle.std.proofs.Common.{◌≡◌, ℕ, zero, suc, ◌+◌, ◌*◌, ◌<◌, ◌≤◌, List, [], ◌∷◌, ◌++◌, length, get_or, map, codes, Option, Some, None, refl, ap, ap₂, sym, subst, ◌∙◌, arith}
+use Rattle.std.proofs.Common.{◌≡◌, ℕ, zero, suc, ◌+◌, ◌*◌, ◌<◌, ◌≤◌, List, [], ◌∷◌, ◌++◌, length, get_or, map, codes, Some, None, refl, ap, ap₂, sym, subst, ◌∙◌, arith}
 use Rattle.std.specs.Prelude.{slice_get, slice_index, replicate}
 use Rattle.std.specs.List.{All, position_or_len, sum_by}
 use Rattle.std.specs.Str.{bytes_eq}
@@ -14,7 +14,7 @@ use Rattle.algo_defs.specs.declared.definition.Frontier.{Frontier}
 use Rattle.algo_defs.specs.declared.definition.Frontier.TheVariants.{Fork, Diffuse, Iterate, Join}
 use Rattle.algo_defs.specs.declared.definition.FrontierLine.{FrontierLine}
 use Rattle.algo_defs.specs.Words.{Bytes}
-use Rattle.algo_rules.specs.Links.{definition, unknown, links_of}
+use Rattle.algo_rules.specs.Links.{definition, unknown}
 use Rattle.algo_rules.specs.Resolved.{count_by, count_in, count_within, is_fork, operations}
 use Rattle.algo_rules.specs.WellRead.{IsWellRead}
 use Rattle.algo_links.specs.Linked.{AreLinked, IsLinked, named}
@@ -104,7 +104,7 @@ module _ (ds : List Def) (n : ℕ) (counts : List ℕ) (a : AreCounts ds n count
   body_is (Graph ins outs references edges) ps h = sums _ ps h ∙ sum_mapped of (λ r. r.def) references
   body_is (Switch on ins outs cases otherwise last) ps h =
       let all : sum_by (slice_index counts) ps ≡ sum_by (λ c. of c.def) cases + of otherwise
-          = omega (arith, sums (map (λ c. c.def) cases ++ otherwise ∷ []) ps h, sum_by-append of (map (λ c. c.def) cases) (otherwise ∷ []), sum_mapped of (λ c. c.def) cases, sum_by-cons of otherwise []) in
+      = omega (arith, sums (map (λ c. c.def) cases ++ otherwise ∷ []) ps h, sum_by-append of (map (λ c. c.def) cases) (otherwise ∷ []), sum_mapped of (λ c. c.def) cases, sum_by-cons of otherwise []) in
       ap (λ (m : ℕ). m + length outs) all
   body_is (Repeat copies def lines) ps h =
       let all : sum_by (slice_index counts) ps ≡ of def = omega (arith, sums (def ∷ []) ps h, sum_by-cons of def []) in

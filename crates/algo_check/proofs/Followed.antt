@@ -1,5 +1,5 @@
 -- Ports that are followed further than a definition is deep are the same.
-use Rattle.std.proofs.Common.{◌≡◌, ℕ, zero, suc, ◌<◌, ◌≤◌, List, [], ◌∷◌, length, get_or, map, max, Option, Some, None, refl, ap, sym, subst, ◌∙◌, arith}
+use Rattle.std.proofs.Common.{◌≡◌, ℕ, zero, suc, ◌≤◌, List, [], ◌∷◌, map, Some, None, refl, ap, sym, ◌∙◌, arith}
 use Rattle.std.specs.Prelude.{slice_get}
 use Rattle.std.proofs.Math.Nat.{le-max_left}
 use Rattle.algo_defs.specs.declared.definition.Def.{Def}
@@ -11,7 +11,7 @@ use Rattle.algo_rules.specs.Ports.{outer_ports, ports_by, ports_in, ports_of, po
 use Rattle.algo_rules.specs.declared.ports.Ports.{Ports}
 use Rattle.algo_links.specs.Linked.{AreLinked, IsLinked, named}
 use Rattle.algo_links.proofs.Leading.{all_lead}
-use Rattle.reference_graph.specs.Links.{depth, first_recursive, greatest}
+use Rattle.reference_graph.specs.Links.{first_recursive, greatest}
 use Rattle.algo_check.proofs.Inside.{there}
 use Rattle.algo_check.proofs.Stands.{deep, row, one_more}
 

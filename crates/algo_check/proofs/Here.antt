@@ -1,15 +1,13 @@
 -- The definition at a place of leveled definitions: its depth, and what it names.
-use Rattle.std.proofs.Common.{◌≡◌, ℕ, ◌<◌, ◌≤◌, List, [], length, get_or, Option, Some, None, refl, ap, sym, subst, ◌∙◌, arith}
+use Rattle.std.proofs.Common.{◌≡◌, ℕ, ◌<◌, List, [], length, get_or, Some, ap, sym, subst, ◌∙◌, arith}
 use Rattle.std.specs.Prelude.{slice_get}
 use Rattle.std.proofs.lemmas.List.{get_or_default}
 use Rattle.std.proofs.lemmas.Option.{slice_get-get_or, get_or_from_slice_get}
 use Rattle.algo_defs.specs.declared.definition.Def.{Def}
-use Rattle.algo_defs.specs.Words.{Bytes}
-use Rattle.algo_rules.specs.Links.{links_of}
 use Rattle.algo_rules.specs.Placed.{ArePlaced}
 use Rattle.algo_rules.specs.declared.ports.Ports.{Ports}
 use Rattle.algo_links.specs.Linked.{named}
-use Rattle.reference_graph.specs.Links.{Links, depths}
+use Rattle.reference_graph.specs.Links.{Links}
 use Rattle.algo_check.specs.Leveled.{AreLeveled}
 use Rattle.algo_check.specs.Tables.{IsTable}
 use Rattle.algo_check.proofs.Inside.{links_count}

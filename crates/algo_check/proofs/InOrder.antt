@@ -1,5 +1,5 @@
 -- What is refused first, of checks in order.
-use Rattle.std.proofs.Common.{◌≡◌, List, [], ◌∷◌, ◌++◌, Option, Some, None, Err, refl, ap, sym, subst, ◌∙◌}
+use Rattle.std.proofs.Common.{◌≡◌, List, [], ◌∷◌, ◌++◌, Option, Some, None, Err, refl, ap, sym, subst}
 use Rattle.algo_defs.specs.declared.fault.AlgoError.{AlgoError}
 use Rattle.algo_defs.specs.declared.fault.AlgoError.TheVariants.{Refused, Limit, OutOfMemory}
 use Rattle.algo_links.specs.Placing.{Tells}

@@ -1,7 +1,6 @@
 -- Links of known definitions lead to definitions.
-use Rattle.std.proofs.Common.{◌≡◌, ℕ, zero, suc, ◌<◌, Bool, true, false, cond, List, [], ◌∷◌, length, get_or, map, Option, Some, None, nat_lt, position, refl, ap, sym, subst, ◌∙◌, arith}
+use Rattle.std.proofs.Common.{◌≡◌, ℕ, zero, suc, ◌<◌, Bool, true, false, cond, List, [], ◌∷◌, length, get_or, map, Some, None, nat_lt, refl, ap, sym, subst, arith}
 use Rattle.std.specs.Prelude.{slice_get}
-use Rattle.std.specs.List.{All, range_with_len}
 use Rattle.std.proofs.lemmas.List.{get_or_default}
 use Rattle.std.proofs.lemmas.Bool.{ltb-true}
 use Rattle.std.proofs.lemmas.List.FromFn.{length-range_with_len}
@@ -10,7 +9,7 @@ use Rattle.algo_defs.specs.Words.{Bytes}
 use Rattle.algo_rules.specs.Links.{unknown, links_of}
 use Rattle.algo_links.specs.Linked.{AreLinked, named}
 use Rattle.algo_links.proofs.Leading.{all_lead}
-use Rattle.reference_graph.specs.Links.{Links, first_recursive, reaches_itself}
+use Rattle.reference_graph.specs.Links.{Links, first_recursive}
 use Rattle.reference_graph.specs.Answer.{AreInside}
 
 pub there : {A : Type 0} (xs : List A) (i : ℕ) → i < length xs → (x : A) × (slice_get xs i ≡ Some x)

@@ -1,5 +1,5 @@
 -- Each definition is that of its own name, so that a table which is filled has the ports of all.
-use Rattle.std.proofs.Common.{◌≡◌, ℕ, zero, suc, ◌+◌, ◌<◌, ◌≤◌, Bool, true, false, List, [], ◌∷◌, length, get_or, map, Option, Some, None, if◌then◌else◌, refl, ap, ap₂, sym, subst, ◌∙◌, arith}
+use Rattle.std.proofs.Common.{◌≡◌, ℕ, zero, suc, ◌<◌, ◌≤◌, Bool, true, false, List, [], ◌∷◌, length, get_or, map, Option, Some, None, if◌then◌else◌, refl, ap, ap₂, subst, ◌∙◌, arith}
 use Rattle.std.specs.Prelude.{slice_get, replicate, nat_lt}
 use Rattle.std.specs.List.{All}
 use Rattle.std.specs.Str.{bytes_eq}
@@ -13,11 +13,10 @@ use Rattle.algo_tree.specs.Well.{AreDistinctNames, IsNewName}
 use Rattle.algo_rules.specs.Links.{definition, links_of, too_deep, too_deep_by}
 use Rattle.algo_rules.specs.Ports.{no_ports, ports_of}
 use Rattle.algo_rules.specs.declared.ports.Ports.{Ports}
-use Rattle.algo_links.specs.Linked.{IsLinked}
 use Rattle.algo_links.specs.Placing.{names_of}
 use Rattle.reference_graph.specs.Links.{depths}
 use Rattle.algo_check.specs.Tables.{IsSmall, IsTable}
-use Rattle.algo_check.proofs.Inside.{as_many, links_count, there}
+use Rattle.algo_check.proofs.Inside.{links_count}
 use Rattle.algo_check.proofs.Stands.{deep}
 use Rattle.algo_check.proofs.ByDepth.{deep_at}
 

@@ -1,6 +1,6 @@
 -- Ports of repetitions that have passed their check.
-use Rattle.std.proofs.Common.{◌≡◌, ℕ, zero, suc, ◌+◌, ◌*◌, ◌≤◌, Bool, true, false, ◌&&◌, ◌==◌, List, [], ◌∷◌, ◌++◌, length, Option, Some, None, if◌then◌else◌, arith, nat_lt, refl, sym, subst, Result, Ok, Err, IfOk}
-use Rattle.std.specs.List.{All, flat_map}
+use Rattle.std.proofs.Common.{◌≡◌, ℕ, zero, suc, ◌≤◌, Bool, true, false, ◌&&◌, ◌==◌, List, [], ◌∷◌, ◌++◌, length, Option, Some, None, if◌then◌else◌, arith, nat_lt, refl, sym, subst, Result, Ok, Err, IfOk}
+use Rattle.std.specs.List.{flat_map}
 use Rattle.std.proofs.lemmas.Bool.{eqb-true, ltb-false}
 use Rattle.std.proofs.lemmas.List.{length-append}
 use Rattle.std.proofs.lemmas.List.Elements.{All-append}
@@ -20,7 +20,7 @@ use Rattle.algo_rules.specs.Ports.{has_port, len_of, one_port, outer_ins, outer_
 use Rattle.algo_rules.specs.Resolved.{body_fault}
 use Rattle.algo_rules.specs.WellRead.{IsWellRead}
 use Rattle.algo_rules.specs.declared.ports.Ports.{Ports}
-use Rattle.frontier_check.specs.Bounds.{AreShort, HasShortPorts}
+use Rattle.frontier_check.specs.Bounds.{AreShort}
 use Rattle.algo_check.specs.Tables.{IsSmall}
 use Rattle.algo_check.proofs.InOrder.{both_none}
 
@@ -96,7 +96,7 @@ module _ (ds : List Def) (line : ℕ) (inner : Ports) where
   pub body_small : (b : Body) (copies : ℕ) (def : Bytes) (ls : List FrontierLine) → b ≡ Repeat copies def ls → inner ≡ ports_of ds def → IsWellRead b → body_fault ds line b ≡ None → IsSmall (ports_by (λ w. inner) b)
   body_small b copies def ls is same read none =
       let of_repeat : IsWellRead (Repeat copies def ls) → body_fault ds line (Repeat copies def ls) ≡ None → IsSmall (outer_ports copies inner ls)
-          = λ r n. subst (λ (p : Ports). IsSmall (outer_ports copies p ls)) (sym same) (repeat_small copies (ports_of ds def) line ls r.few n) in
+      = λ r n. subst (λ (p : Ports). IsSmall (outer_ports copies p ls)) (sym same) (repeat_small copies (ports_of ds def) line ls r.few n) in
       subst (λ (c : Body). IsWellRead c → body_fault ds line c ≡ None → IsSmall (ports_by (λ w. inner) c)) (sym is) of_repeat read none
 
 pub small_result : {E : Type 0} (r : Result Ports E) (x : Ports) → IfOk r (λ p. p ≡ x) → IsSmall x → IfOk r IsSmall

@@ -1,5 +1,5 @@
 -- What a definition names stands in the table, since it is less deep.
-use Rattle.std.proofs.Common.{◌≡◌, ℕ, zero, suc, ◌<◌, ◌≤◌, List, [], ◌∷◌, length, get_or, map, max, Option, Some, None, refl, ap, sym, subst, ◌∙◌, arith}
+use Rattle.std.proofs.Common.{◌≡◌, ℕ, suc, ◌<◌, ◌≤◌, List, [], ◌∷◌, length, get_or, map, Some, None, arith}
 use Rattle.std.specs.Prelude.{slice_get}
 use Rattle.std.proofs.Math.Nat.{le-max_left, le-max_right}
 use Rattle.algo_defs.specs.declared.definition.Def.{Def}
@@ -9,7 +9,7 @@ use Rattle.algo_rules.specs.Placed.{ArePlaced}
 use Rattle.algo_rules.specs.declared.ports.Ports.{Ports}
 use Rattle.algo_links.specs.Linked.{AreLinked, named}
 use Rattle.algo_links.proofs.Leading.{all_lead}
-use Rattle.reference_graph.specs.Links.{Links, depth, first_recursive, from, greatest}
+use Rattle.reference_graph.specs.Links.{depth, first_recursive, greatest}
 use Rattle.reference_graph.proofs.Enough.{one_deeper}
 use Rattle.algo_check.specs.Tables.{IsTable}
 use Rattle.algo_check.proofs.Inside.{links_inside, links_count}
@@ -27,13 +27,15 @@ module _ (ds : List Def) where
   placed_all n table t (w ∷ ws) [] h low = h
   placed_all n table t (w ∷ ws) (p ∷ ps) h low =
       let left : deep p < n = omega (arith, low, le-max_left (deep p) (greatest (map deep ps))) in
-      let right : greatest (map deep ps) < n = omega (arith, low, le-max_right (deep p) (greatest (map deep ps))) in
-      (record {
-        below = h.0.below;
-        in_table = omega (arith, t.rows, h.0.below);
-        found = h.0.found;
-        ports = t.ports p h.0.below left w h.0;
-      }, placed_all n table t ws ps h.1 right)
+      let right : greatest (map deep ps) < n = omega (arith, low, le-max_right (deep p) (greatest (map deep ps))) in (
+        record {
+          below = h.0.below;
+          in_table = omega (arith, t.rows, h.0.below);
+          found = h.0.found;
+          ports = t.ports p h.0.below left w h.0;
+        },
+        placed_all n table t ws ps h.1 right,
+      )
 
   module _ (none : unknown ds ≡ None) (ends : first_recursive (links_of ds) ≡ None) where
     pub one_more : (i : ℕ) → i < length ds → deep i ≡ suc (greatest (map deep (row i)))

@@ -74,12 +74,7 @@ pub fn check_body(
 }
 
 /// The ports of the body of a repetition, the only definition that it names.
-fn inner_ports<'a>(
-    defs: &[Def],
-    table: &'a [Ports],
-    places: &[u32],
-    name: &Name,
-) -> &'a Ports
+fn inner_ports<'a>(defs: &[Def], table: &'a [Ports], places: &[u32], name: &Name) -> &'a Ports
     requires placed { ArePlaced defs.now table.now (name.now ∷ []) places.now }
     requires small { All IsSmall table.now }
     ensures ports { result.now ≡ ports_of defs.now name.now }

@@ -46,11 +46,7 @@ fn check_leveled(alloc: Global, defs: &[Def], levels: &Levels) -> Result<Vec<Por
 }
 
 /// The checks of `main`: that it is there without ports, and not too large.
-fn check_main_and_operations(
-    alloc: Global,
-    defs: &[Def],
-    levels: &Levels,
-) -> Result<(), AlgoError>
+fn check_main_and_operations(alloc: Global, defs: &[Def], levels: &Levels) -> Result<(), AlgoError>
     requires read { All (λ d. IsWellRead d.body) defs.now }
     requires leveled { AreLeveled defs.now levels.now.links levels.now.depths }
     ensures { Checks result (first_of (no_main defs.now ∷ too_many defs.now ∷ [])) }

@@ -43,11 +43,7 @@ pub fn levels_of(alloc: Global, defs: &Defs) -> Result<Levels, AlgoError>
 }
 
 /// The depth of each definition, where none reaches itself.
-fn linked_depths(
-    alloc: Global,
-    defs: &[Def],
-    links: &[Items<u32>],
-) -> Result<Items<u32>, AlgoError>
+fn linked_depths(alloc: Global, defs: &[Def], links: &[Items<u32>]) -> Result<Items<u32>, AlgoError>
     requires few { length defs.now ≤ 4000000000 }
     requires known { unknown defs.now ≡ None }
     requires links { links.now ≡ links_of defs.now }

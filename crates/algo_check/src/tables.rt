@@ -19,7 +19,11 @@ use syn_base::OutOfMemory;
 
 /// The ports of definitions by place, where every body passes its check; else the first refusal, by
 /// depth and then by line.
-pub fn ports_of_bodies(alloc: Global, defs: &[Def], levels: &Levels) -> Result<Vec<Ports>, AlgoError>
+pub fn ports_of_bodies(
+    alloc: Global,
+    defs: &[Def],
+    levels: &Levels,
+) -> Result<Vec<Ports>, AlgoError>
     requires read { All (λ d. IsWellRead d.body) defs.now }
     requires distinct { AreDistinctNames (map (λ d. d.name) defs.now) }
     requires leveled { AreLeveled defs.now levels.now.links levels.now.depths }

@@ -1,4 +1,4 @@
-use Rattle.std.proofs.Common.{◌≡◌, ◌∷◌, [], ◌∙◌, map, sym, subst, List, Option, IfOk}
+use Rattle.std.proofs.Common.{◌≡◌, ◌∷◌, [], map, sym, subst, List, Option, IfOk}
 use Rattle.algo_defs.specs.declared.definition.Def.{Def}
 use Rattle.algo_defs.specs.declared.fault.AlgoError.{AlgoError}
 use Rattle.algo_rules.specs.Links.{first_of, unknown, misplaced, recursive, too_deep}

@@ -1,4 +1,4 @@
-use Rattle.std.proofs.Common.{◌≡◌, ◌<◌, ◌∙◌, sym, subst, ap, List, ℕ, get_or, length, arith}
+use Rattle.std.proofs.Common.{◌<◌, ◌∙◌, sym, subst, ap, List, ℕ, length, arith}
 use Rattle.std.specs.Prelude.{slice_index}
 use Rattle.std.specs.List.{All, sum_by}
 use Rattle.algo_links.specs.Linked.{named}
@@ -18,7 +18,7 @@ count_in_all-requires-clause-places c =
     let now = row_there ds c.args.levels.now.links c.args.levels.now.depths c.requires.leveled i (within ds i d c.requires.there)
     c.as_slice.result.now c.index-as_slice-place.result c.as_slice-places.result.now c.as_slice.ensures c.index-as_slice-place.is c.as_slice-places.ensures in
     let inside : All (λ p. p < length c.args.counts.now) (row ds i)
-        = λ k e low. omega (arith, c.requires.rows, linked_below ds (named d.body) (row ds i) (all_lead ds i d c.requires.leveled.known c.requires.there) k e low) in
+    = λ k e low. omega (arith, c.requires.rows, linked_below ds (named d.body) (row ds i) (all_lead ds i d c.requires.leveled.known c.requires.there) k e low) in
     subst (λ (ps : List ℕ). All (λ p. p < length c.args.counts.now) ps) (sym now) inside
 
 pub count_in_all-requires-clause-few : goal.count_in_all-requires-clause-few

@@ -1,5 +1,5 @@
-use Rattle.std.proofs.Common.{rules, ◌≡◌, ℕ, List, [], ◌∷◌, None, ap, sym, ◌∙◌}
-use Rattle.algo_rules.specs.Links.{first_of, misplaced, too_deep_by}
+use Rattle.std.proofs.Common.{rules, [], ◌∷◌}
+use Rattle.algo_rules.specs.Links.{misplaced}
 use Rattle.algo_check.proofs.InOrder.{both_none}
 use Rattle.algo_check.proofs.levels.levels_of.Goals as goal
 

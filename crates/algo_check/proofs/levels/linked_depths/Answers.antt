@@ -1,6 +1,5 @@
-use Rattle.std.proofs.Common.{◌≡◌, ℕ, List, subst, sym, ap, ◌∙◌, arith, Some, length}
-use Rattle.algo_rules.specs.Links.{links_of}
-use Rattle.reference_graph.specs.Links.{Links, first_recursive}
+use Rattle.std.proofs.Common.{subst, sym, ap, ◌∙◌, arith, length}
+use Rattle.reference_graph.specs.Links.{Links}
 use Rattle.reference_graph.specs.Answer.{AreDepths, AreInside}
 use Rattle.reference_graph.specs.declared.depths.Depths.{Depths}
 use Rattle.algo_check.proofs.Inside.{links_inside, links_count, recursive_inside}

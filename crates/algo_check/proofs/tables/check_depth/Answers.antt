@@ -1,4 +1,4 @@
-use Rattle.std.proofs.Common.{◌≡◌, ◌<◌, ◌∙◌, sym, List, ℕ, get_or, length, arith}
+use Rattle.std.proofs.Common.{◌<◌, ◌∙◌, sym, get_or, length, arith}
 use Rattle.std.proofs.lemmas.List.{get_or_default}
 use Rattle.std.proofs.lemmas.Option.{get_or_from_slice_get}
 use Rattle.std.proofs.lemmas.Result.{err_from_is_err_and}
@@ -29,10 +29,10 @@ loop-place-preserved c =
     let has : i < length levels = omega (arith, levels_count ds c.args.levels.now.links levels c.requires.leveled, c.loop-place-test.true) in
     let d = there ds i c.loop-place-test.true in
     elim c.if-depth_at-depth.branch [
-      then-depth_at-depth+in_ok-check_place w ↦
+      | then-depth_at-depth+in_ok-check_place w ↦
           passed ds c.args.depth ds levels i (get_or levels i 0) d.0 c.loop-place-test.true has (sym (get_or_from_slice_get ds i d.0 d.0 d.1)) (get_or_default levels i 0 (get_or levels i 0) has)
           _ (sym c.depth_at.ensures ∙ w.if-depth_at-depth.true) c.loop-place.invariant (w.in_ok-check_place.ensures d.0 d.1)
-    | else-depth_at-depth w ↦
+      | else-depth_at-depth w ↦
           other ds c.args.depth ds levels i (get_or levels i 0) d.0 c.loop-place-test.true has (sym (get_or_from_slice_get ds i d.0 d.0 d.1)) (get_or_default levels i 0 (get_or levels i 0) has)
           _ (λ same. w.if-depth_at-depth.false (c.depth_at.ensures ∙ same)) c.loop-place.invariant
     ]

@@ -1,4 +1,4 @@
-use Rattle.std.proofs.Common.{◌≡◌, ◌<◌, ◌∙◌, sym, subst, ap, List, ℕ, get_or, length, arith}
+use Rattle.std.proofs.Common.{◌<◌, ◌∙◌, sym, subst, ap, List, ℕ, get_or, length, arith}
 use Rattle.algo_defs.specs.declared.definition.Def.{Def}
 use Rattle.algo_rules.specs.Placed.{ArePlaced, Checks}
 use Rattle.algo_rules.specs.Resolved.{body_fault}

@@ -1,4 +1,4 @@
-use Rattle.std.proofs.Common.{◌≡◌, ◌+◌, ◌∙◌, sym, subst, List}
+use Rattle.std.proofs.Common.{◌+◌, ◌∙◌, sym, subst, List}
 use Rattle.algo_rules.specs.declared.ports.Ports.{Ports}
 use Rattle.algo_check.specs.Tables.{IsFilling}
 use Rattle.algo_check.proofs.Here.{level_is}
@@ -12,8 +12,8 @@ loop-place-preserved c =
     let i = c.loop-place.place in
     let level = level_is ds c.args.levels.now.links c.args.levels.now.depths c.requires.leveled i c.loop-place-test.true in
     elim c.if-depth_at-depth.branch [
-      then-depth_at-depth+in_ok-fill_place w ↦ subst (λ (t : List Ports). IsFilling ds c.args.depth (i + 1) t) (sym w.table-is) w.in_ok-fill_place.ensures
-    | else-depth_at-depth w ↦
+      | then-depth_at-depth+in_ok-fill_place w ↦ subst (λ (t : List Ports). IsFilling ds c.args.depth (i + 1) t) (sym w.table-is) w.in_ok-fill_place.ensures
+      | else-depth_at-depth w ↦
           subst (λ (t : List Ports). IsFilling ds c.args.depth (i + 1) t) (sym w.table-is)
           (passed_over ds c.args.depth i c.loop-place.table (λ same. w.if-depth_at-depth.false (c.depth_at.ensures ∙ level ∙ same)) c.loop-place.invariant)
     ]

@@ -1,4 +1,4 @@
-use Rattle.std.proofs.Common.{◌≡◌, ◌≤◌, ◌-◌}
+use Rattle.std.proofs.Common.{◌≡◌, ◌-◌}
 use Rattle.std.specs.List.{flat_map, range_with_len}
 use Rattle.algo_rules.specs.Links.{first_of}
 use Rattle.algo_rules.specs.Resolved.{bodies_fault, faults_at}
