@@ -1,0 +1,10 @@
+pub mod InOrder
+pub mod Inside
+pub mod Small
+pub mod Stands
+pub mod Followed
+pub mod Filling
+pub mod ByDepth
+pub mod Own
+pub mod Here
+pub mod Counted

@@ -1,0 +1,3 @@
+pub mod Leveled
+pub mod Tables
+pub mod Counts
