@@ -1,5 +1,5 @@
 -- A word more is a word behind those before.
-use Rattle.std.proofs.Common.{◌≡◌, refl, sym, ap, ap₂, List, [], ◌∷◌, ◌++◌, Option, Some, None, Bool, true, false, append_assoc, append-nil, codes, drop}
+use Rattle.std.proofs.Common.{◌≡◌, refl, sym, ap, ap₂, List, [], ◌∷◌, ◌++◌, Option, Some, None, true, false, append_assoc, append-nil, codes, drop}
 use Rattle.std.specs.Str.{bytes_eq}
 use Rattle.command_words.specs.Command.{Bytes, Arguments, with_plain, with_workers, is_joined, arguments_of}
 use Rattle.command_words.specs.Reading.{behind}
@@ -22,7 +22,6 @@ pub behind_first : (o : Option Arguments) → behind (record { plain = []; worke
 behind_first None = refl
 behind_first (Some b) = refl
 
-pub joined_on : (a : Arguments) (takes : Bool) (w : Bytes) (ws : List Bytes) → takes ≡ true → bytes_eq w (codes "--") ≡ false → bytes_eq w (codes "--workers") ≡ false → is_joined w ≡ true
-    → behind a (arguments_of takes false (w ∷ ws)) ≡ behind (record { plain = a.plain; workers = a.workers ++ drop 10 w ∷ [] }) (arguments_of takes false ws)
-joined_on a true w ws t e f j = rw (e, f, j) (behind_workers a (drop 10 w) (arguments_of true false ws))
-joined_on a false w ws t e f j = cc
+pub joined_on : (a : Arguments) (w : Bytes) (ws : List Bytes) → bytes_eq w (codes "--") ≡ false → bytes_eq w (codes "--workers") ≡ false → is_joined w ≡ true
+    → behind a (arguments_of true false (w ∷ ws)) ≡ behind (record { plain = a.plain; workers = a.workers ++ drop 10 w ∷ [] }) (arguments_of true false ws)
+joined_on a w ws e f j = rw (e, f, j) (behind_workers a (drop 10 w) (arguments_of true false ws))

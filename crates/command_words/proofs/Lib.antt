@@ -2,3 +2,11 @@ pub mod Words
 pub mod Behind
 pub mod Numbers
 pub mod Names
+pub mod Table
+pub mod Looks
+pub mod Leaf
+pub mod Stages
+pub mod Leaves
+pub mod Whole
+pub mod Exact
+pub mod Values

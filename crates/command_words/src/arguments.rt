@@ -73,18 +73,13 @@ impl<'a> Arguments<'a> {
         Ok(())
     }
 
-    #[tactic(auto, using(crate::proofs::Behind::behind_plain, crate::proofs::Behind::behind_workers))]
     /// Reads a word: how the next one is read, or `None` where the word is refused.
-    fn take(
-        &mut self,
-        takes_workers: bool,
-        mode: Mode,
-        word: &'a str,
-    ) -> Result<Option<Mode>, OutOfMemory>
-        ensures { IfOk result (λ next. (ws : List Bytes) → behind self.old (rest_of takes_workers mode (word.now ∷ ws)) ≡ read_on takes_workers self.new next ws) }
+    #[tactic(auto, using(crate::proofs::Behind::behind_plain, crate::proofs::Behind::behind_workers))]
+    fn take(&mut self, mode: Mode, word: &'a str) -> Result<Option<Mode>, OutOfMemory>
+        ensures { IfOk result (λ next. (ws : List Bytes) → behind self.old (rest_of true mode (word.now ∷ ws)) ≡ read_on true self.new next ws) }
     {
         match mode {
-            Mode::Free => self.take_free(takes_workers, word),
+            Mode::Free => self.take_free(word),
             Mode::Awaited => {
                 self.add_workers(word.as_bytes())?;
                 Ok(Some(Mode::Free))
@@ -96,17 +91,17 @@ impl<'a> Arguments<'a> {
         }
     }
 
-    #[tactic(auto, using(crate::proofs::Behind::behind_plain, crate::proofs::Behind::behind_workers))]
-    fn take_free(&mut self, takes_workers: bool, word: &'a str) -> Result<Option<Mode>, OutOfMemory>
-        ensures { IfOk result (λ next. (ws : List Bytes) → behind self.old (arguments_of takes_workers false (word.now ∷ ws)) ≡ read_on takes_workers self.new next ws) }
+    #[tactic(auto, using(crate::proofs::Behind::behind_plain, crate::proofs::Behind::joined_on))]
+    fn take_free(&mut self, word: &'a str) -> Result<Option<Mode>, OutOfMemory>
+        ensures { IfOk result (λ next. (ws : List Bytes) → behind self.old (arguments_of true false (word.now ∷ ws)) ≡ read_on true self.new next ws) }
     {
         if word == "--" {
             return Ok(Some(Mode::Ended));
         }
-        if takes_workers && word == "--workers" {
+        if word == "--workers" {
             return Ok(Some(Mode::Awaited));
         }
-        if takes_workers && is_joined(word.as_bytes()) {
+        if is_joined(word.as_bytes()) {
             self.add_workers(joined_text(word.as_bytes()))?;
             return Ok(Some(Mode::Free));
         }
@@ -145,20 +140,19 @@ fn is_option(word: &[u8]) -> bool
     }
 }
 
-#[tactic(auto, using(crate::proofs::Behind::behind_none, crate::proofs::Behind::behind_first))]
 /// The plain arguments and the workers in these words, or `None` where a word is refused or a
 /// number of workers is missing.
+#[tactic(auto, using(crate::proofs::Behind::behind_none, crate::proofs::Behind::behind_first))]
 pub fn arguments_of<'a>(
     alloc: Global,
-    takes_workers: bool,
     words: &'a [String],
 ) -> Result<Option<Arguments<'a>>, OutOfMemory>
-    ensures { IfOk result (λ a. a ≡ arguments_of takes_workers false (map string_bytes words.now)) }
+    ensures { IfOk result (λ a. a ≡ arguments_of true false (map string_bytes words.now)) }
 {
     let mut arguments = Arguments::new(alloc);
     let mut mode = Mode::Free;
     for word in words {
-        match arguments.take(takes_workers, mode, word.as_str())? {
+        match arguments.take(mode, word.as_str())? {
             Some(next) => mode = next,
             None => return Ok(None),
         }

@@ -1,20 +1,22 @@
 //! The commands of the program, and which one the words of the command line are: `specs/Command`.
 #![tactic(auto)]
 
-ghost use Rattle.std.specs.Prelude.{◌≡◌, IfOk, Some, map, option_map, false};
+ghost use Rattle.std.specs.Prelude.{◌≡◌, IfOk, Some, map, option_map, true, false};
 ghost use Rattle.std.specs.Str.{bytes_eq};
 ghost use Rattle.std.specs.String.{string_bytes};
 ghost use Rattle.command_words.specs.Command.{check, sim, flat, chart, code, run, one, two, one_or_two, three, counted, loaded, number_up_to, run_by, arguments_of, command_by, command_of, Arguments as Given};
-ghost use Rattle.command_words.specs.Plain.{plain_command};
+ghost use Rattle.command_words.specs.Plain.{plain_command, listed, other_command_of};
 ghost use Rattle.command_words.specs.View.{view_of};
 
 mod arguments;
 mod number;
+mod plain;
 #[cfg(test)]
 mod tests;
 
 use arguments::{Arguments, arguments_of};
 use number::number_up_to;
+use plain::{Plain, plain_words};
 use std::alloc::Global;
 use syn_base::OutOfMemory;
 
@@ -64,6 +66,7 @@ const MOST_WORKERS: u32 = 80;
 const MOST_LOAD: u32 = 1000;
 
 /// The command of these words, if the table has them. The first word is the program's name.
+#[tactic(auto, using(crate::proofs::Names::a_run, crate::proofs::Names::no_run))]
 pub fn command_of<'a>(
     alloc: Global,
     words: &'a [String],
@@ -71,27 +74,41 @@ pub fn command_of<'a>(
     ensures { IfOk result (λ c. option_map view_of c ≡ command_of (map string_bytes words.now)) }
 {
     match words {
-        [_, name, behind @ ..] => command_by(alloc, name.as_str(), behind),
+        [_, name, behind @ ..] => {
+            if name.as_str() == "run" {
+                run(alloc, behind)
+            } else {
+                other(alloc, words)
+            }
+        }
         _ => Ok(None),
     }
 }
 
-#[tactic(auto, using(crate::proofs::Names::refused, crate::proofs::Names::a_run, crate::proofs::Names::no_run))]
-fn command_by<'a>(
-    alloc: Global,
-    name: &str,
-    words: &'a [String],
-) -> Result<Option<Command<'a>>, OutOfMemory>
-    ensures { IfOk result (λ c. option_map view_of c ≡ command_by name.now (map string_bytes words.now)) }
+fn run<'a>(alloc: Global, words: &'a [String]) -> Result<Option<Command<'a>>, OutOfMemory>
+    ensures { IfOk result (λ c. option_map view_of c ≡ run_by (arguments_of true false (map string_bytes words.now))) }
 {
-    let takes_workers = name == "run";
-    let Some(arguments) = arguments_of(alloc, takes_workers, words)? else {
-        return Ok(None);
-    };
-    if takes_workers {
-        Ok(run(&arguments))
-    } else {
-        Ok(plain_command(name, arguments.plain()))
+    match arguments_of(alloc, words)? {
+        Some(arguments) => Ok(run_of(&arguments)),
+        None => Ok(None),
+    }
+}
+
+fn other<'a>(alloc: Global, words: &'a [String]) -> Result<Option<Command<'a>>, OutOfMemory>
+    ensures { IfOk result (λ c. option_map view_of c ≡ other_command_of (map string_bytes words.now)) }
+{
+    match plain_words(alloc, words)? {
+        Some(plain) => Ok(command_with(&plain)),
+        None => Ok(None),
+    }
+}
+
+fn command_with<'a>(plain: &Plain<'a>) -> Option<Command<'a>>
+    ensures { option_map view_of result ≡ plain_command plain.now.name.now (listed plain.now.first.now (option_map (λ w. w.now) plain.now.second)) }
+{
+    match plain.second {
+        Some(second) => plain_command(plain.name, &[plain.first, second]),
+        None => plain_command(plain.name, &[plain.first]),
     }
 }
 
@@ -183,7 +200,7 @@ fn load<'a>(plain: &[&'a str]) -> Option<Command<'a>>
     }
 }
 
-fn run<'a>(arguments: &Arguments<'a>) -> Option<Command<'a>>
+fn run_of<'a>(arguments: &Arguments<'a>) -> Option<Command<'a>>
     ensures { option_map view_of result ≡ run_by (Some arguments.now) }
 {
     match arguments.workers() {

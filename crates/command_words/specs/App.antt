@@ -1,0 +1,33 @@
+-- The words other than those of `run`, as `clap` is told of them.
+use Rattle.std.specs.Prelude.{Bool, List, [], ◌∷◌, true, false, codes, Some, None, Option}
+use Rattle.clap.specs.Walk.{Row, Rule, reading_by}
+use Rattle.clap.specs.Simple.{App, new_app, new_rule, with_rule, with_subcommand, on_top}
+use Rattle.clap.specs.declared.parser.matches.ValueSource.TheVariants.{CommandLine}
+use Rattle.command_words.specs.Command.{Bytes}
+
+-- a plain argument, which may have to be there
+abbrev pub argument : Bytes → Bool → Rule
+argument id needed = record (new_rule id) { required = needed }
+
+abbrev pub one_app : Bytes → App
+one_app name = with_rule (new_app name) (argument (codes "first") true)
+
+abbrev pub two_app : Bool → Bytes → App
+two_app needed name = with_rule (one_app name) (argument (codes "second") needed)
+
+abbrev pub bare_app : App
+bare_app = on_top (λ s. record s { disable_help_flag = true; disable_help_subcommand = true; subcommand_required = true }) (new_app (codes "syndex"))
+
+abbrev pub the_app : App
+the_app =
+    with_subcommand (with_subcommand (with_subcommand (with_subcommand (with_subcommand (with_subcommand bare_app
+    (two_app false (codes "check")).top) (two_app true (codes "sim")).top) (one_app (codes "flat")).top)
+    (two_app true (codes "chart")).top) (two_app true (codes "code")).top) (one_app (codes "load")).top
+
+-- what a parse finds
+abbrev pub row : Bytes → Bytes → Row
+row id v = record { id = id; values = v ∷ []; count = None; source = Some CommandLine; reading = reading_by (argument id true) }
+
+abbrev pub rows : Bytes → Option Bytes → List Row
+rows a None = row (codes "first") a ∷ []
+rows a (Some b) = row (codes "first") a ∷ row (codes "second") b ∷ []

@@ -1,0 +1,117 @@
+//! The words of the commands that take plain arguments alone, read with `clap`.
+ghost use Rattle.std.specs.Prelude.{◌≡◌, IfOk, IsSomeAnd, Some, map, Option, false};
+ghost use Rattle.std.specs.String.{string_bytes};
+ghost use Rattle.clap.specs.Simple.{app_of, subcommand_rows_of, with_subcommand};
+ghost use Rattle.clap.specs.Values.{kind_of};
+ghost use Rattle.clap.specs.declared.builder.command.Command.TheViews.{out-Command as fields_of};
+ghost use Rattle.command_words.specs.Command.{Bytes};
+ghost use Rattle.command_words.specs.App.{one_app, two_app, bare_app, the_app, rows};
+ghost use Rattle.command_words.specs.Answer.{wants_memory, Gives, Is};
+
+use clap::error::ErrorKind;
+use clap::{Arg, ArgMatches, Command, Error};
+use std::alloc::{AllocError, Global};
+use syn_base::OutOfMemory;
+
+/// The name of a command with its one or two plain arguments.
+#[derive(Clone, Copy, Drop)]
+pub struct Plain<'a> {
+    pub name: &'a str,
+    pub first: &'a str,
+    pub second: Option<&'a str>,
+}
+
+fn with_one<'a>(alloc: Global, name: &'a str) -> Result<Command<'a>, AllocError>
+    ensures app { IfOk result (λ c. app_of c ≡ one_app name.entry.now) }
+    ensures local { IfOk result (λ c. (fields_of c).has_globals ≡ false) }
+{
+    let first = Arg::new(alloc, "first").required(true);
+    Command::new(alloc, name).arg(first)
+}
+
+fn with_two<'a>(alloc: Global, name: &'a str, needed: bool) -> Result<Command<'a>, AllocError>
+    ensures app { IfOk result (λ c. app_of c ≡ two_app needed name.entry.now) }
+    ensures local { IfOk result (λ c. (fields_of c).has_globals ≡ false) }
+{
+    let second = Arg::new(alloc, "second").required(needed);
+    with_one(alloc, name)?.arg(second)
+}
+
+fn bare<'a>(alloc: Global) -> Command<'a>
+    ensures { app_of result ≡ bare_app }
+{
+    Command::new(alloc, "syndex")
+        .disable_help_flag(true)
+        .disable_help_subcommand(true)
+        .subcommand_required(true)
+}
+
+fn add_one<'a>(alloc: Global, app: Command<'a>, name: &'a str) -> Result<Command<'a>, AllocError>
+    ensures { IfOk result (λ c. app_of c ≡ with_subcommand (app_of app.entry) (one_app name.entry.now).top) }
+{
+    let command = with_one(alloc, name)?;
+    app.subcommand(command)
+}
+
+fn add_two<'a>(
+    alloc: Global,
+    app: Command<'a>,
+    name: &'a str,
+    needed: bool,
+) -> Result<Command<'a>, AllocError>
+    ensures { IfOk result (λ c. app_of c ≡ with_subcommand (app_of app.entry) (two_app needed name.entry.now).top) }
+{
+    let command = with_two(alloc, name, needed)?;
+    app.subcommand(command)
+}
+
+fn command<'a>(alloc: Global) -> Result<Command<'a>, AllocError>
+    ensures { IfOk result (λ c. app_of c ≡ the_app) }
+{
+    let app = add_two(alloc, bare(alloc), "check", false)?;
+    let app = add_two(alloc, app, "sim", true)?;
+    let app = add_one(alloc, app, "flat")?;
+    let app = add_two(alloc, app, "chart", true)?;
+    let app = add_two(alloc, app, "code", true)?;
+    add_one(alloc, app, "load")
+}
+
+fn plain_in<'a>(matches: &ArgMatches<'a>) -> Option<Plain<'a>>
+    ensures { (name a : Bytes) (b : Option Bytes) → subcommand_rows_of matches.now ≡ Some (name, rows a b) → IsSomeAnd result (Is name a b) }
+{
+    let (name, inner) = matches.subcommand()?;
+    let first = inner.get_str("first")?;
+    let second = inner.get_str("second");
+    Some(Plain {
+        name,
+        first,
+        second,
+    })
+}
+
+fn is_memory(error: &Error) -> bool
+    ensures { result ≡ wants_memory (kind_of error.now) }
+{
+    match error.kind() {
+        ErrorKind::OutOfMemory => true,
+        _ => false,
+    }
+}
+
+/// The name and the plain arguments in these words, of which the first is the program's name.
+/// `None` where they are no command other than `run`.
+pub fn plain_words<'a>(alloc: Global, words: &'a [String]) -> Result<Option<Plain<'a>>, OutOfMemory>
+    ensures { IfOk result (Gives (map string_bytes words.entry.now)) }
+{
+    let command = command(alloc)?;
+    match command.try_get_matches_from(words) {
+        Ok(matches) => Ok(plain_in(&matches)),
+        Err(error) => {
+            if is_memory(&error) {
+                Err(OutOfMemory)
+            } else {
+                Ok(None)
+            }
+        }
+    }
+}
