@@ -1,4 +1,4 @@
--- clap accepts exactly the words of the commands other than `run`, with their plain arguments.
+-- clap accepts exactly the words of the commands, with their arguments.
 use Rattle.std.proofs.Common.{◌≡◌, ◌∙◌, List, [], ◌∷◌, true, false, Option, Some, None, inl, inr, refl, sym, subst, ap, codes}
 use Rattle.std.specs.Prelude.{option_and_then}
 use Rattle.std.specs.Str.{bytes_eq, IsUtf8}
@@ -6,39 +6,73 @@ use Rattle.std.proofs.lemmas.Slice.Eq.{bytes_eq-Decides}
 use Rattle.clap.specs.Walk.{Row, nothing_held}
 use Rattle.clap.specs.Simple.{Shape, subcommand_of}
 use Rattle.clap.specs.Faults.{fault_of}
-use Rattle.command_words.specs.Command.{Command}
-use Rattle.command_words.specs.Plain.{plain_command, listed, other_command_of}
+use Rattle.command_words.specs.Command.{plain_by, run_by, arguments_of, command_of}
+use Rattle.command_words.specs.Plain.{plain_command, listed, made}
+use Rattle.command_words.specs.Answer.{Tells}
 use Rattle.command_words.specs.App.{the_app, one_app, two_app, rows}
+use Rattle.command_words.proofs.Behind.{behind, given, behind_first}
 use Rattle.command_words.proofs.Table.{Text, plain_from, answered}
 use Rattle.command_words.proofs.Looks.{two_ways}
 use Rattle.command_words.proofs.Leaf.{IsRefused, at}
 use Rattle.command_words.proofs.Stages.{AreTexts, Fits}
 use Rattle.command_words.proofs.Leaves.{leaf, wants_one, single_reads, wants_two, both_read, one_or_two_read}
-use Rattle.command_words.proofs.Whole.{Behaves, at_check, at_sim, at_flat, at_chart, at_code, at_load, no_word, nothing, IsOther, no_name}
+use Rattle.command_words.proofs.RunWords as walk
+use Rattle.command_words.proofs.RunWords.{Fate, run_read}
+use Rattle.command_words.proofs.Whole.{Behaves, at_check, at_sim, at_flat, at_chart, at_code, at_load, at_run, no_word, nothing, IsOther, no_name}
 
 pub data Exact (words : List Text) : Type 0 where
-  refused : IsRefused (fault_of the_app words) → other_command_of words ≡ None → Exact words
-  accepted : (name a : Text) (b : Option Text) → fault_of the_app words ≡ [] → subcommand_of the_app words ≡ Some (name, rows a b)
-      → other_command_of words ≡ plain_command name (listed a b) → Exact words
+  refused : IsRefused (fault_of the_app words) → command_of words ≡ None → Exact words
+  accepted : (name a : Text) (b c w : Option Text) (rs : List Row) → fault_of the_app words ≡ [] → subcommand_of the_app words ≡ Some (name, rs) → Tells rs a b c w
+      → command_of words ≡ made name a b c w → Exact words
 
 -- what is wanted of the plain words is what the command takes
 abbrev Told : Option (List Row) → Text → List Text → Type 0
 Told None name us = plain_command name us ≡ None
 Told (Some r) name us = (a : Text) × (b : Option Text) × (r ≡ rows a b) × (us ≡ listed a b)
 
-module _ (program name : Text) (s : Shape) (wants : List Text → Option (List Row)) (behaves : Behaves name s) (told : (us : List Text) → Told (wants us) name us) (ws : List Text) where
+tells_rows : (a : Text) (b : Option Text) → Tells (rows a b) a b None None
+tells_rows a None = record { first = refl; second = refl; third = refl; workers = refl }
+tells_rows a (Some b) = record { first = refl; second = refl; third = refl; workers = refl }
+
+-- a name whose command takes plain arguments alone
+record IsPlain (name : Text) : Type 0 where
+  says : (program : Text) (ws : List Text) → command_of (program ∷ name ∷ ws) ≡ plain_by (plain_command name) (arguments_of false false ws)
+  makes : (a : Text) (b : Option Text) → made name a b None None ≡ plain_command name (listed a b)
+
+module _ (program name : Text) (s : Shape) (wants : List Text → Option (List Row)) (behaves : Behaves name s) (plain : IsPlain name) (told : (us : List Text) → Told (wants us) name us) (ws : List Text) where
+  is_said : command_of (program ∷ name ∷ ws) ≡ option_and_then (plain_command name) (plain_from false ws)
+  is_said = plain.says program ws ∙ answered (plain_command name) ws
+
   by_rows : (us : List Text) → plain_from false ws ≡ Some us → (r : Option (List Row)) → Told r name us → Fits s (at nothing_held 1 false) ws r → Exact (program ∷ name ∷ ws)
-  by_rows us p None t f = refused (subst IsRefused (sym (behaves.faults program ws)) f) (answered (plain_command name) ws ∙ ap (option_and_then (plain_command name)) p ∙ t)
+  by_rows us p None t f = refused (subst IsRefused (sym (behaves.faults program ws)) f) (is_said ∙ ap (option_and_then (plain_command name)) p ∙ t)
   by_rows us p (Some r) t f =
-      accepted name t.0 t.1 (behaves.faults program ws ∙ f.0) (behaves.rows program ws ∙ ap (λ (rs : List Row). Some (name, rs)) (f.1 ∙ t.2))
-      (answered (plain_command name) ws ∙ ap (option_and_then (plain_command name)) p ∙ ap (plain_command name) t.3)
+      accepted name t.0 t.1 None None (rows t.0 t.1) (behaves.faults program ws ∙ f.0) (behaves.rows program ws ∙ ap (λ (rs : List Row). Some (name, rs)) (f.1 ∙ t.2)) (tells_rows t.0 t.1)
+      (is_said ∙ ap (option_and_then (plain_command name)) p ∙ ap (plain_command name) t.3 ∙ sym (plain.makes t.0 t.1))
 
   by_words : (o : Option (List Text)) → plain_from false ws ≡ o → Fits s (at nothing_held 1 false) ws (option_and_then wants o) → Exact (program ∷ name ∷ ws)
-  by_words None p f = refused (subst IsRefused (sym (behaves.faults program ws)) f) (answered (plain_command name) ws ∙ ap (option_and_then (plain_command name)) p)
+  by_words None p f = refused (subst IsRefused (sym (behaves.faults program ws)) f) (is_said ∙ ap (option_and_then (plain_command name)) p)
   by_words (Some us) p f = by_rows us p (wants us) (told us) f
 
   named : Fits s (at nothing_held 1 false) ws (option_and_then wants (plain_from false ws)) → Exact (program ∷ name ∷ ws)
   named f = by_words (plain_from false ws) refl f
+
+plain_check : IsPlain (codes "check")
+plain_check = record { says = λ program ws. refl; makes = λ a b. refl }
+
+plain_sim : IsPlain (codes "sim")
+plain_sim = record { says = λ program ws. refl; makes = λ a b. refl }
+
+plain_flat : IsPlain (codes "flat")
+plain_flat = record { says = λ program ws. refl; makes = λ a b. refl }
+
+plain_chart : IsPlain (codes "chart")
+plain_chart = record { says = λ program ws. refl; makes = λ a b. refl }
+
+plain_code : IsPlain (codes "code")
+plain_code = record { says = λ program ws. refl; makes = λ a b. refl }
+
+plain_load : IsPlain (codes "load")
+plain_load = record { says = λ program ws. refl; makes = λ a b. refl }
 
 told_check : (us : List Text) → Told (wants_two (codes "check") false us) (codes "check") us
 told_check [] = refl
@@ -76,22 +110,33 @@ told_load (a ∷ b ∷ us) = refl
 
 module _ (program : Text) (ws : List Text) (u : AreTexts ws) where
   is_check : Exact (program ∷ codes "check" ∷ ws)
-  is_check = named program (codes "check") (leaf (two_app false (codes "check"))) (wants_two (codes "check") false) at_check told_check ws (one_or_two_read (codes "check") false ws u)
+  is_check = named program (codes "check") (leaf (two_app false (codes "check"))) (wants_two (codes "check") false) at_check plain_check told_check ws (one_or_two_read (codes "check") false ws u)
 
   is_sim : Exact (program ∷ codes "sim" ∷ ws)
-  is_sim = named program (codes "sim") (leaf (two_app true (codes "sim"))) (wants_two (codes "sim") true) at_sim told_sim ws (both_read (codes "sim") false ws u)
+  is_sim = named program (codes "sim") (leaf (two_app true (codes "sim"))) (wants_two (codes "sim") true) at_sim plain_sim told_sim ws (both_read (codes "sim") false ws u)
 
   is_flat : Exact (program ∷ codes "flat" ∷ ws)
-  is_flat = named program (codes "flat") (leaf (one_app (codes "flat"))) (wants_one (codes "flat")) at_flat told_flat ws (single_reads (codes "flat") false ws u)
+  is_flat = named program (codes "flat") (leaf (one_app (codes "flat"))) (wants_one (codes "flat")) at_flat plain_flat told_flat ws (single_reads (codes "flat") false ws u)
 
   is_chart : Exact (program ∷ codes "chart" ∷ ws)
-  is_chart = named program (codes "chart") (leaf (two_app true (codes "chart"))) (wants_two (codes "chart") true) at_chart told_chart ws (both_read (codes "chart") false ws u)
+  is_chart = named program (codes "chart") (leaf (two_app true (codes "chart"))) (wants_two (codes "chart") true) at_chart plain_chart told_chart ws (both_read (codes "chart") false ws u)
 
   is_code : Exact (program ∷ codes "code" ∷ ws)
-  is_code = named program (codes "code") (leaf (two_app true (codes "code"))) (wants_two (codes "code") true) at_code told_code ws (both_read (codes "code") false ws u)
+  is_code = named program (codes "code") (leaf (two_app true (codes "code"))) (wants_two (codes "code") true) at_code plain_code told_code ws (both_read (codes "code") false ws u)
 
   is_load : Exact (program ∷ codes "load" ∷ ws)
-  is_load = named program (codes "load") (leaf (one_app (codes "load"))) (wants_one (codes "load")) at_load told_load ws (single_reads (codes "load") false ws u)
+  is_load = named program (codes "load") (leaf (one_app (codes "load"))) (wants_one (codes "load")) at_load plain_load told_load ws (single_reads (codes "load") false ws u)
+
+  is_run : Exact (program ∷ codes "run" ∷ ws)
+  is_run = by (run_read ws u)
+    where
+      whole : run_by (arguments_of true false ws) ≡ run_by (behind (given [] []) (arguments_of true false ws))
+      whole = ap run_by (sym (behind_first (arguments_of true false ws)))
+
+      by : Fate (at nothing_held 1 false) ws (behind (given [] []) (arguments_of true false ws)) → Exact (program ∷ codes "run" ∷ ws)
+      by (walk.refused r n) = refused (subst IsRefused (sym (at_run.faults program ws)) r) (whole ∙ n)
+      by (walk.accepted a b c n k t m) =
+          accepted (codes "run") a (Some b) (Some c) n _ (at_run.faults program ws ∙ k) (at_run.rows program ws) t (whole ∙ m)
 
   -- the words behind the program's name begin with another word than this name
   named_or : (name word : Text) → Exact (program ∷ name ∷ ws) → (bytes_eq name word ≡ false → Exact (program ∷ word ∷ ws)) → Exact (program ∷ word ∷ ws)
@@ -108,15 +153,12 @@ flip v w e =
       | inr f ↦ f
     ]
 
-no_command : (word : Text) → IsOther word → (us : List Text) → plain_command word us ≡ None
-no_command word n us = rw (flip (codes "check") word n.no_check, flip (codes "sim") word n.no_sim, flip (codes "flat") word n.no_flat, flip (codes "chart") word n.no_chart, flip (codes "code") word n.no_code, flip (codes "load") word n.no_load) refl
-
-never : (go : List Text → Option Command) → ((us : List Text) → go us ≡ None) → (o : Option (List Text)) → option_and_then go o ≡ None
-never go h None = refl
-never go h (Some us) = h us
+no_command : (program word : Text) (ws : List Text) → IsOther word → command_of (program ∷ word ∷ ws) ≡ None
+no_command program word ws n =
+    rw (flip (codes "check") word n.no_check, flip (codes "sim") word n.no_sim, flip (codes "flat") word n.no_flat, flip (codes "chart") word n.no_chart, flip (codes "code") word n.no_code, flip (codes "load") word n.no_load, flip (codes "run") word n.no_run) refl
 
 unnamed : (program word : Text) (ws : List Text) → IsUtf8 word → IsOther word → Exact (program ∷ word ∷ ws)
-unnamed program word ws u n = refused (no_name word n program ws u) (answered (plain_command word) ws ∙ never (plain_command word) (no_command word n) (plain_from false ws))
+unnamed program word ws u n = refused (no_name word n program ws u) (no_command program word ws n)
 
 pub exact : (words : List Text) → AreTexts words → Exact words
 exact [] u = refused nothing refl
@@ -128,4 +170,5 @@ exact (program ∷ word ∷ ws) u =
     named_or program ws u.1.1 (codes "chart") word (is_chart program ws u.1.1) (λ chart.
     named_or program ws u.1.1 (codes "code") word (is_code program ws u.1.1) (λ code.
     named_or program ws u.1.1 (codes "load") word (is_load program ws u.1.1) (λ load.
-    unnamed program word ws u.1.0 (record { no_check = check; no_sim = sim; no_flat = flat; no_chart = chart; no_code = code; no_load = load })))))))
+    named_or program ws u.1.1 (codes "run") word (is_run program ws u.1.1) (λ run.
+    unnamed program word ws u.1.0 (record { no_check = check; no_sim = sim; no_flat = flat; no_chart = chart; no_code = code; no_load = load; no_run = run }))))))))

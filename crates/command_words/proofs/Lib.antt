@@ -1,12 +1,15 @@
 pub mod Words
 pub mod Behind
 pub mod Numbers
-pub mod Names
 pub mod Table
 pub mod Looks
+pub mod Rows
+pub mod OptionWords
 pub mod Leaf
 pub mod Stages
 pub mod Leaves
+pub mod Standing
 pub mod Whole
+pub mod RunWords
 pub mod Exact
 pub mod Values

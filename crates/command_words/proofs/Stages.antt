@@ -28,15 +28,15 @@ abbrev pub Fits : Shape → Walk → List Text → Option (List Row) → Type 0
 Fits s w ws None = IsRefused (faults_of s w ws)
 Fits s w ws (Some rows) = (faults_of s w ws ≡ []) × (rows_of_walk s w ws ≡ rows)
 
-faults_on : (s : Shape) (w : Walk) (x : Text) (xs : List Text) → turn_fault s [] w x ≡ [] → faults_of s w (x ∷ xs) ≡ faults_of s (walked s.rules [] w x) xs
+pub faults_on : (s : Shape) (w : Walk) (x : Text) (xs : List Text) → turn_fault s [] w x ≡ [] → faults_of s w (x ∷ xs) ≡ faults_of s (walked s.rules [] w x) xs
 unfolding walk_fault
 faults_on s w x xs h = rw h refl
 
-fits_on : (s : Shape) (w w' : Walk) (x : Text) (xs : List Text) (o : Option (List Row)) → turn_fault s [] w x ≡ [] → walked s.rules [] w x ≡ w' → Fits s w' xs o → Fits s w (x ∷ xs) o
+pub fits_on : (s : Shape) (w w' : Walk) (x : Text) (xs : List Text) (o : Option (List Row)) → turn_fault s [] w x ≡ [] → walked s.rules [] w x ≡ w' → Fits s w' xs o → Fits s w (x ∷ xs) o
 fits_on s w w' x xs None h e f = rw (faults_on s w x xs h, e) f
 fits_on s w w' x xs (Some rows) h e f = (faults_on s w x xs h ∙ rw e f.0, subst (λ (v : Walk). rows_of_walk s v xs ≡ rows) (sym e) f.1)
 
-fits_not : (s : Shape) (w : Walk) (x : Text) (xs : List Text) → IsRefused (turn_fault s [] w x) → Fits s w (x ∷ xs) None
+pub fits_not : (s : Shape) (w : Walk) (x : Text) (xs : List Text) → IsRefused (turn_fault s [] w x) → Fits s w (x ∷ xs) None
 unfolding walk_fault
 fits_not s w x xs h = refused_first _ _ (refused_first _ _ h)
 
@@ -45,27 +45,27 @@ abbrev pub Reads : Shape → Held → ℕ → (List Text → Option (List Row)) 
 Reads s h p f = (t : Bool) (ws : List Text) → AreTexts ws → Fits s (at h p t) ws (option_and_then f (plain_from t ws))
 
 -- one word
-turn_value : (s : Shape) (h : Held) (p : ℕ) (x : Text) → turn_fault s [] (at h p true) x ≡ step_fault s p h value
+pub turn_value : (s : Shape) (h : Held) (p : ℕ) (x : Text) → turn_fault s [] (at h p true) x ≡ step_fault s p h value
 turn_value s h p x = refl
 
-turn_plain : (s : Shape) (h : Held) (p : ℕ) (x : Text) → is_escape x ≡ false → is_dashed x ≡ false → turn_fault s [] (at h p false) x ≡ step_fault s p h value
+pub turn_plain : (s : Shape) (h : Held) (p : ℕ) (x : Text) → is_escape x ≡ false → is_dashed x ≡ false → turn_fault s [] (at h p false) x ≡ step_fault s p h value
 turn_plain s h p x e d = rw (word_plain s x h e d, met_plain s.rules p x h e d) refl
 
-turn_escape : (s : Shape) (h : Held) (p : ℕ) (x : Text) → is_escape x ≡ true → turn_fault s [] (at h p false) x ≡ []
+pub turn_escape : (s : Shape) (h : Held) (p : ℕ) (x : Text) → is_escape x ≡ true → turn_fault s [] (at h p false) x ≡ []
 turn_escape s h p x e = rw (word_escape s x h e, met_escape s.rules p x h e) refl
 
 turn_dashed : (s : Shape) (h : Held) (p : ℕ) (x : Text) → NoOptions s → h.skip ≡ 0 → IsUtf8 x → is_escape x ≡ false → is_dashed x ≡ true → IsRefused (turn_fault s [] (at h p false) x)
 turn_dashed s h p x free z u e d = refused_first _ _ (subst IsRefused (sym (word_dashed s x h free z u e d)) (λ b. cc))
 
-walked_value : (s : Shape) (h : Held) (p : ℕ) (x : Text) → walked s.rules [] (at h p true) x ≡ to_positional s.rules (arg_by_index s.rules p) x (at h p true) h
+pub walked_value : (s : Shape) (h : Held) (p : ℕ) (x : Text) → walked s.rules [] (at h p true) x ≡ to_positional s.rules (arg_by_index s.rules p) x (at h p true) h
 unfolding walked
 walked_value s h p x = refl
 
-walked_plain : (s : Shape) (h : Held) (p : ℕ) (x : Text) → is_escape x ≡ false → is_dashed x ≡ false → walked s.rules [] (at h p false) x ≡ to_positional s.rules (arg_by_index s.rules p) x (at h p false) h
+pub walked_plain : (s : Shape) (h : Held) (p : ℕ) (x : Text) → is_escape x ≡ false → is_dashed x ≡ false → walked s.rules [] (at h p false) x ≡ to_positional s.rules (arg_by_index s.rules p) x (at h p false) h
 unfolding walked
 walked_plain s h p x e d = rw (met_plain s.rules p x h e d) refl
 
-walked_escape : (s : Shape) (h : Held) (p : ℕ) (x : Text) → is_escape x ≡ true → walked s.rules [] (at h p false) x ≡ at h p true
+pub walked_escape : (s : Shape) (h : Held) (p : ℕ) (x : Text) → is_escape x ≡ true → walked s.rules [] (at h p false) x ≡ at h p true
 unfolding walked
 walked_escape s h p x e = rw (met_escape s.rules p x h e) refl
 

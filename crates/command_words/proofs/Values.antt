@@ -1,5 +1,5 @@
 -- From what clap finds to the commands.
-use Rattle.std.proofs.Common.{◌≡◌, ◌∙◌, List, [], ◌∷◌, Option, Some, None, map, codes, refl, sym, subst, ap, inl, inr, true, false}
+use Rattle.std.proofs.Common.{◌≡◌, ◌∙◌, List, [], ◌∷◌, Option, Some, None, map, refl, sym, subst, ap, inl, inr, true, false}
 use Rattle.std.specs.Prelude.{IsSomeAnd, option_map, String}
 use Rattle.std.specs.Box.{box_value}
 use Rattle.std.specs.String.{string_bytes}
@@ -17,10 +17,11 @@ use Rattle.clap.specs.declared.parser.matches.ArgMatches.{ArgMatches}
 use Rattle.clap.specs.declared.parser.matches.ArgMatches.TheViews.{out-ArgMatches, out-SubCommand}
 use Rattle.clap.specs.declared.parser.matches.Found.{Found}
 use Rattle.clap.proofs.WalkLemmas.{first_value-rows}
-use Rattle.command_words.specs.Plain.{plain_command, listed, other_command_of}
-use Rattle.command_words.specs.App.{the_app, rows}
-use Rattle.command_words.specs.Answer.{wants_memory, Gives, Is}
-use Rattle.command_words.specs.declared.plain.Plain.{Plain}
+use Rattle.command_words.specs.Command.{command_of}
+use Rattle.command_words.specs.Plain.{made}
+use Rattle.command_words.specs.App.{the_app}
+use Rattle.command_words.specs.Answer.{wants_memory, Tells, Gives, Is}
+use Rattle.command_words.specs.declared.given.Given.{Given}
 use Rattle.command_words.proofs.Table.{Text}
 use Rattle.command_words.proofs.Stages.{AreTexts}
 use Rattle.command_words.proofs.Whole.{simple, simple_too}
@@ -28,14 +29,6 @@ use Rattle.command_words.proofs.Exact.{Exact, refused, accepted, exact}
 
 pub same_some : {X : Type 0} (x y : X) → Some x ≡ Some y → x ≡ y
 same_some x y e = cc
-
-pub first_row : (a : Text) (b : Option Text) → first_of (codes "first") (rows a b) ≡ Some a
-first_row a None = refl
-first_row a (Some b) = refl
-
-pub second_row : (a : Text) (b : Option Text) → first_of (codes "second") (rows a b) ≡ b
-second_row a None = refl
-second_row a (Some b) = refl
 
 pub value_is : (f : Found) (rs : List Row) (id : Text) (v : Option Text) → rows_of f ≡ rs → first_of id rs ≡ v → first_value f id ≡ v
 value_is f rs id v r e = first_value-rows f id ∙ ap (first_of id) r ∙ e
@@ -52,31 +45,31 @@ module _ {Z : Type 0} where
   texts [] = tt
   texts (w ∷ ws) = (IsUtf8-string_bytes w, texts ws)
 
-gives : (words : List Text) (name a : Text) (b : Option Text) → other_command_of words ≡ plain_command name (listed a b) → (r : Option Plain) → IsSomeAnd r (Is name a b) → Gives words r
-gives words name a b e None h = absurd h
-gives words name a b e (Some p) h = e ∙ rw (sym h.0, sym h.1, sym h.2) refl
+gives : (words : List Text) (name a : Text) (b c w : Option Text) → command_of words ≡ made name a b c w → (r : Option Given) → IsSomeAnd r (Is name a b c w) → Gives words r
+gives words name a b c w e None h = absurd h
+gives words name a b c w e (Some g) h = e ∙ rw (sym h.0, sym h.1, sym h.2, sym h.3, sym h.4) refl
 
 memory : (k : ErrorKind) → k ≡ kind.OutOfMemory → wants_memory k ≡ true
 memory k e = ap wants_memory e
 
 module _ (words : List Text) (app : App) (is : app ≡ the_app) (t : AreTexts words) where
-  found : Exact words → (m : ArgMatches) → fault_of the_app words ≡ [] → subcommand_rows_of m ≡ subcommand_of the_app words → (r : Option Plain)
-      → ((name a : Text) (b : Option Text) → subcommand_rows_of m ≡ Some (name, rows a b) → IsSomeAnd r (Is name a b)) → Gives words r
+  found : Exact words → (m : ArgMatches) → fault_of the_app words ≡ [] → subcommand_rows_of m ≡ subcommand_of the_app words → (r : Option Given)
+      → ((name a : Text) (b c w : Option Text) (rs : List Row) → subcommand_rows_of m ≡ Some (name, rs) → Tells rs a b c w → IsSomeAnd r (Is name a b c w)) → Gives words r
   found (refused f n) m e s r h = absurd (f e)
-  found (accepted name a b f s' n) m e s r h = gives words name a b n r (h name a b (s ∙ s'))
+  found (accepted name a b c w rs f s' t n) m e s r h = gives words name a b c w n r (h name a b c w rs (s ∙ s') t)
 
   -- clap's matches
-  pub ok_gives : (m : ArgMatches) → (is_simple_and_free app ≡ true → fault_of app words ≡ []) → HasMatchesOf app words m → (r : Option Plain)
-      → ((name a : Text) (b : Option Text) → subcommand_rows_of m ≡ Some (name, rows a b) → IsSomeAnd r (Is name a b)) → Gives words r
+  pub ok_gives : (m : ArgMatches) → (is_simple_and_free app ≡ true → fault_of app words ≡ []) → HasMatchesOf app words m → (r : Option Given)
+      → ((name a : Text) (b c w : Option Text) (rs : List Row) → subcommand_rows_of m ≡ Some (name, rs) → Tells rs a b c w → IsSomeAnd r (Is name a b c w)) → Gives words r
   ok_gives m h g r p =
       found (exact words t) m (subst (λ (a : App). fault_of a words ≡ []) is (h (ap is_simple_and_free is ∙ simple)))
       ((g (ap is_simple is ∙ simple_too)).1 ∙ ap (λ (a : App). subcommand_of a words) is) r p
 
-  none_by : Exact words → (e : Error) → HasKind (fault_of the_app words) e → wants_memory (kind_of e) ≡ false → other_command_of words ≡ None
+  none_by : Exact words → (e : Error) → HasKind (fault_of the_app words) e → wants_memory (kind_of e) ≡ false → command_of words ≡ None
   none_by (refused f n) e h w = n
-  none_by (accepted name a b f s n) e (inl m) w = let bad : true ≡ false = sym (memory (kind_of e) m) ∙ w in cc
-  none_by (accepted name a b f s n) e (inr among) w = absurd (subst (λ (ks : Kinds). IsAmong (kind_of e) ks) f among)
+  none_by (accepted name a b c v rs f s t n) e (inl m) w = let bad : true ≡ false = sym (memory (kind_of e) m) ∙ w in cc
+  none_by (accepted name a b c v rs f s t n) e (inr among) w = absurd (subst (λ (ks : Kinds). IsAmong (kind_of e) ks) f among)
 
   -- an error that is not of memory
-  pub err_none : (e : Error) → (is_simple_and_free app ≡ true → HasKind (fault_of app words) e) → wants_memory (kind_of e) ≡ false → other_command_of words ≡ None
+  pub err_none : (e : Error) → (is_simple_and_free app ≡ true → HasKind (fault_of app words) e) → wants_memory (kind_of e) ≡ false → command_of words ≡ None
   err_none e h w = none_by (exact words t) e (subst (λ (a : App). HasKind (fault_of a words) e) is (h (ap is_simple_and_free is ∙ simple))) w

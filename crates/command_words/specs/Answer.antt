@@ -1,20 +1,29 @@
 -- What `clap` answers.
-use Rattle.std.specs.Prelude.{◌≡◌, Bool, true, false, List, Option, Some, None, option_map}
+use Rattle.std.specs.Prelude.{◌≡◌, Bool, true, false, List, Option, Some, None, option_map, codes}
+use Rattle.clap.specs.Walk.{Row, first_of}
 use Rattle.clap.specs.declared.error.kind.ErrorKind.{ErrorKind}
 use Rattle.clap.specs.declared.error.kind.ErrorKind.TheVariants as kind
-use Rattle.command_words.specs.Command.{Bytes}
-use Rattle.command_words.specs.Plain.{plain_command, listed, other_command_of}
-use Rattle.command_words.specs.declared.plain.Plain.{Plain}
+use Rattle.command_words.specs.Command.{Bytes, command_of}
+use Rattle.command_words.specs.Plain.{made}
+use Rattle.command_words.specs.declared.given.Given.{Given}
 
 abbrev pub wants_memory : ErrorKind → Bool
 wants_memory kind.OutOfMemory = true
 wants_memory _ = false
 
--- the words' command is that of this name with these plain arguments, and where there are none there is no command
-abbrev pub Gives : List Bytes → Option Plain → Type 0
-Gives words None = other_command_of words ≡ None
-Gives words (Some p) = other_command_of words ≡ plain_command p.name.now (listed p.first.now (option_map (λ w. w.now) p.second))
+-- the rows have these plain arguments and this text as workers
+pub record Tells (rs : List Row) (a : Bytes) (b c w : Option Bytes) : Type 0 where
+  pub first : first_of (codes "first") rs ≡ Some a
+  pub second : first_of (codes "second") rs ≡ b
+  pub third : first_of (codes "third") rs ≡ c
+  pub workers : first_of (codes "workers") rs ≡ w
 
--- what was found is this name with these plain arguments
-abbrev pub Is : Bytes → Bytes → Option Bytes → Plain → Type 0
-Is name a b p = (p.name.now ≡ name) × (p.first.now ≡ a) × (option_map (λ w. w.now) p.second ≡ b)
+-- the words' command is that of what was found, and where nothing was there is no command
+abbrev pub Gives : List Bytes → Option Given → Type 0
+Gives words None = command_of words ≡ None
+Gives words (Some g) = command_of words ≡ made g.name.now g.first.now (option_map (λ w. w.now) g.second) (option_map (λ w. w.now) g.third) (option_map (λ w. w.now) g.workers)
+
+-- what was found is this name with these arguments
+abbrev pub Is : Bytes → Bytes → Option Bytes → Option Bytes → Option Bytes → Given → Type 0
+Is name a b c w g =
+    (g.name.now ≡ name) × (g.first.now ≡ a) × (option_map (λ t. t.now) g.second ≡ b) × (option_map (λ t. t.now) g.third ≡ c) × (option_map (λ t. t.now) g.workers ≡ w)

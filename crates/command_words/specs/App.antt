@@ -1,4 +1,4 @@
--- The words other than those of `run`, as `clap` is told of them.
+-- The commands as `clap` is told of them.
 use Rattle.std.specs.Prelude.{Bool, List, [], ◌∷◌, true, false, codes, Some, None, Option}
 use Rattle.clap.specs.Walk.{Row, Rule, reading_by}
 use Rattle.clap.specs.Simple.{App, new_app, new_rule, with_rule, with_subcommand, on_top}
@@ -15,14 +15,21 @@ one_app name = with_rule (new_app name) (argument (codes "first") true)
 abbrev pub two_app : Bool → Bytes → App
 two_app needed name = with_rule (one_app name) (argument (codes "second") needed)
 
+-- the option that may be given beside the plain arguments of `run`
+abbrev pub workers_rule : Rule
+workers_rule = record (new_rule (codes "workers")) { long = Some (codes "workers") }
+
+abbrev pub run_app : App
+run_app = with_rule (with_rule (two_app true (codes "run")) (argument (codes "third") true)) workers_rule
+
 abbrev pub bare_app : App
 bare_app = on_top (λ s. record s { disable_help_flag = true; disable_help_subcommand = true; subcommand_required = true }) (new_app (codes "syndex"))
 
 abbrev pub the_app : App
 the_app =
-    with_subcommand (with_subcommand (with_subcommand (with_subcommand (with_subcommand (with_subcommand bare_app
+    with_subcommand (with_subcommand (with_subcommand (with_subcommand (with_subcommand (with_subcommand (with_subcommand bare_app
     (two_app false (codes "check")).top) (two_app true (codes "sim")).top) (one_app (codes "flat")).top)
-    (two_app true (codes "chart")).top) (two_app true (codes "code")).top) (one_app (codes "load")).top
+    (two_app true (codes "chart")).top) (two_app true (codes "code")).top) (one_app (codes "load")).top) run_app.top
 
 -- what a parse finds
 abbrev pub row : Bytes → Bytes → Row

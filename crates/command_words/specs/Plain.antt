@@ -1,8 +1,9 @@
--- The commands that take plain arguments alone, by name.
-use Rattle.std.specs.Prelude.{List, [], ◌∷◌, false, Option, Some, None, if◌then◌else◌, codes}
+-- The commands by their names, their plain arguments and what is given as workers.
+use Rattle.std.specs.Prelude.{List, [], ◌∷◌, Option, Some, None, if◌then◌else◌, codes}
 use Rattle.std.specs.Str.{bytes_eq}
-use Rattle.command_words.specs.Command.{Bytes, Command, check, sim, flat, chart, code, one, two, one_or_two, loaded, number_up_to, plain_by, arguments_of}
+use Rattle.command_words.specs.Command.{Bytes, Command, check, sim, flat, chart, code, run, one, two, one_or_two, loaded, number_up_to, with_count}
 
+-- those that take plain arguments alone
 abbrev pub plain_command : Bytes → List Bytes → Option Command
 plain_command name ws =
     if bytes_eq name (codes "check") then one_or_two (λ a h. Some (check a h)) ws else
@@ -17,7 +18,15 @@ abbrev pub listed : Bytes → Option Bytes → List Bytes
 listed a None = a ∷ []
 listed a (Some b) = a ∷ b ∷ []
 
--- of words whose command is not `run`
-abbrev pub other_command_of : List Bytes → Option Command
-other_command_of (program ∷ name ∷ ws) = plain_by (plain_command name) (arguments_of false false ws)
-other_command_of _ = None
+-- a run of three files
+abbrev pub run_with : Bytes → Bytes → Bytes → Option Bytes → Option Command
+run_with a h s None = Some (run a h s None)
+run_with a h s (Some w) = with_count (λ workers. Some (run a h s workers)) (number_up_to 80 w)
+
+abbrev pub run_made : Bytes → Option Bytes → Option Bytes → Option Bytes → Option Command
+run_made a (Some h) (Some s) w = run_with a h s w
+run_made a _ _ w = None
+
+-- the command of this name, by one to three plain arguments and the workers
+abbrev pub made : Bytes → Bytes → Option Bytes → Option Bytes → Option Bytes → Option Command
+made name a b c w = if bytes_eq name (codes "run") then run_made a b c w else plain_command name (listed a b)

@@ -1,22 +1,19 @@
 //! The commands of the program, and which one the words of the command line are: `specs/Command`.
 #![tactic(auto)]
 
-ghost use Rattle.std.specs.Prelude.{◌≡◌, IfOk, Some, map, option_map, true, false};
-ghost use Rattle.std.specs.Str.{bytes_eq};
+ghost use Rattle.std.specs.Prelude.{◌≡◌, IfOk, Some, map, option_map};
 ghost use Rattle.std.specs.String.{string_bytes};
-ghost use Rattle.command_words.specs.Command.{check, sim, flat, chart, code, run, one, two, one_or_two, three, counted, loaded, number_up_to, run_by, arguments_of, command_by, command_of, Arguments as Given};
-ghost use Rattle.command_words.specs.Plain.{plain_command, listed, other_command_of};
+ghost use Rattle.command_words.specs.Command.{check, sim, flat, chart, code, one, two, one_or_two, loaded, number_up_to, command_of};
+ghost use Rattle.command_words.specs.Plain.{plain_command, listed, run_with, run_made, made};
 ghost use Rattle.command_words.specs.View.{view_of};
 
-mod arguments;
+mod given;
 mod number;
-mod plain;
 #[cfg(test)]
 mod tests;
 
-use arguments::{Arguments, arguments_of};
+use given::{Given, given_words};
 use number::number_up_to;
-use plain::{Plain, plain_words};
 use std::alloc::Global;
 use syn_base::OutOfMemory;
 
@@ -66,53 +63,33 @@ const MOST_WORKERS: u32 = 80;
 const MOST_LOAD: u32 = 1000;
 
 /// The command of these words, if the table has them. The first word is the program's name.
-#[tactic(auto, using(crate::proofs::Names::a_run, crate::proofs::Names::no_run))]
+/// `OutOfMemory` comes where an allocation fails.
 pub fn command_of<'a>(
     alloc: Global,
     words: &'a [String],
 ) -> Result<Option<Command<'a>>, OutOfMemory>
     ensures { IfOk result (λ c. option_map view_of c ≡ command_of (map string_bytes words.now)) }
 {
-    match words {
-        [_, name, behind @ ..] => {
-            if name.as_str() == "run" {
-                run(alloc, behind)
-            } else {
-                other(alloc, words)
-            }
+    match given_words(alloc, words)? {
+        Some(given) => Ok(command_with(&given)),
+        None => Ok(None),
+    }
+}
+
+fn command_with<'a>(given: &Given<'a>) -> Option<Command<'a>>
+    ensures { option_map view_of result ≡ made given.now.name.now given.now.first.now (option_map (λ w. w.now) given.now.second) (option_map (λ w. w.now) given.now.third) (option_map (λ w. w.now) given.now.workers) }
+{
+    if given.name == "run" {
+        run(given)
+    } else {
+        match given.second {
+            Some(second) => plain_command(given.name, &[given.first, second]),
+            None => plain_command(given.name, &[given.first]),
         }
-        _ => Ok(None),
     }
 }
 
-fn run<'a>(alloc: Global, words: &'a [String]) -> Result<Option<Command<'a>>, OutOfMemory>
-    ensures { IfOk result (λ c. option_map view_of c ≡ run_by (arguments_of true false (map string_bytes words.now))) }
-{
-    match arguments_of(alloc, words)? {
-        Some(arguments) => Ok(run_of(&arguments)),
-        None => Ok(None),
-    }
-}
-
-fn other<'a>(alloc: Global, words: &'a [String]) -> Result<Option<Command<'a>>, OutOfMemory>
-    ensures { IfOk result (λ c. option_map view_of c ≡ other_command_of (map string_bytes words.now)) }
-{
-    match plain_words(alloc, words)? {
-        Some(plain) => Ok(command_with(&plain)),
-        None => Ok(None),
-    }
-}
-
-fn command_with<'a>(plain: &Plain<'a>) -> Option<Command<'a>>
-    ensures { option_map view_of result ≡ plain_command plain.now.name.now (listed plain.now.first.now (option_map (λ w. w.now) plain.now.second)) }
-{
-    match plain.second {
-        Some(second) => plain_command(plain.name, &[plain.first, second]),
-        None => plain_command(plain.name, &[plain.first]),
-    }
-}
-
-/// The command of this name with these plain arguments; `run` is none of them.
+/// The command of this name with these plain arguments alone.
 fn plain_command<'a>(name: &str, plain: &[&'a str]) -> Option<Command<'a>>
     ensures { option_map view_of result ≡ plain_command name.now (map (λ w. w.now) plain.now) }
 {
@@ -200,26 +177,33 @@ fn load<'a>(plain: &[&'a str]) -> Option<Command<'a>>
     }
 }
 
-fn run_of<'a>(arguments: &Arguments<'a>) -> Option<Command<'a>>
-    ensures { option_map view_of result ≡ run_by (Some arguments.now) }
+fn run<'a>(given: &Given<'a>) -> Option<Command<'a>>
+    ensures { option_map view_of result ≡ run_made given.now.first.now (option_map (λ w. w.now) given.now.second) (option_map (λ w. w.now) given.now.third) (option_map (λ w. w.now) given.now.workers) }
 {
-    match arguments.workers() {
-        [] => run_with(arguments.plain(), None),
-        [text] => run_with(arguments.plain(), Some(number_up_to(MOST_WORKERS, text)?)),
+    match (given.second, given.third) {
+        (Some(architecture), Some(sensors)) => {
+            run_with(given.first, architecture, sensors, given.workers)
+        }
         _ => None,
     }
 }
 
-fn run_with<'a>(plain: &[&'a str], workers: Option<u32>) -> Option<Command<'a>>
-    ensures { option_map view_of result ≡ three (λ a h s. Some (run a h s workers)) (map (λ w. w.now) plain.now) }
+fn run_with<'a>(
+    algorithm: &'a str,
+    architecture: &'a str,
+    sensors: &'a str,
+    workers: Option<&str>,
+) -> Option<Command<'a>>
+    ensures { option_map view_of result ≡ run_with algorithm.now architecture.now sensors.now (option_map (λ w. w.now) workers.entry) }
 {
-    match plain {
-        [algorithm, architecture, sensors] => Some(Command::Run {
-            algorithm,
-            architecture,
-            sensors,
-            workers,
-        }),
-        _ => None,
-    }
+    let workers = match workers {
+        Some(text) => Some(number_up_to(MOST_WORKERS, text.as_bytes())?),
+        None => None,
+    };
+    Some(Command::Run {
+        algorithm,
+        architecture,
+        sensors,
+        workers,
+    })
 }

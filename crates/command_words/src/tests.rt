@@ -90,6 +90,14 @@ fn refused_workers(rt: HostRuntime) -> Result<(), Fail> {
     assert!(rt; is(alloc, &["run", "a", "h", "s", "--workers", "0"], None)?);
     assert!(rt; is(alloc, &["run", "a", "h", "s", "--workers", "81"], None)?);
     assert!(rt; is(alloc, &["run", "a", "h", "s", "--workers="], None)?);
+    assert!(rt; is(alloc, &["run", "a", "h", "s", "--workers=+5"], None)?);
+    assert!(rt;
+        is(
+            alloc,
+            &["run", "a", "h", "s", "--workers=1", "--workers=1"],
+            None
+        )?
+    );
     assert!(rt; is(alloc, &["run", "a", "h", "s", "--workers", "--", "1"], None)?);
     Ok(())
 }

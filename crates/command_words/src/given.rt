@@ -1,24 +1,27 @@
-//! The words of the commands that take plain arguments alone, read with `clap`.
-ghost use Rattle.std.specs.Prelude.{◌≡◌, IfOk, IsSomeAnd, Some, map, Option, false};
+//! The words of the command line, read with `clap`.
+ghost use Rattle.std.specs.Prelude.{◌≡◌, IfOk, IsSomeAnd, Some, List, map, Option, false};
 ghost use Rattle.std.specs.String.{string_bytes};
 ghost use Rattle.clap.specs.Simple.{app_of, subcommand_rows_of, with_subcommand};
 ghost use Rattle.clap.specs.Values.{kind_of};
+ghost use Rattle.clap.specs.Walk.{Row};
 ghost use Rattle.clap.specs.declared.builder.command.Command.TheViews.{out-Command as fields_of};
 ghost use Rattle.command_words.specs.Command.{Bytes};
-ghost use Rattle.command_words.specs.App.{one_app, two_app, bare_app, the_app, rows};
-ghost use Rattle.command_words.specs.Answer.{wants_memory, Gives, Is};
+ghost use Rattle.command_words.specs.App.{one_app, two_app, run_app, bare_app, the_app};
+ghost use Rattle.command_words.specs.Answer.{wants_memory, Tells, Gives, Is};
 
 use clap::error::ErrorKind;
 use clap::{Arg, ArgMatches, Command, Error};
 use std::alloc::{AllocError, Global};
 use syn_base::OutOfMemory;
 
-/// The name of a command with its one or two plain arguments.
+/// The name of a command with its one to three plain arguments, and what is given as workers.
 #[derive(Clone, Copy, Drop)]
-pub struct Plain<'a> {
+pub struct Given<'a> {
     pub name: &'a str,
     pub first: &'a str,
     pub second: Option<&'a str>,
+    pub third: Option<&'a str>,
+    pub workers: Option<&'a str>,
 }
 
 fn with_one<'a>(alloc: Global, name: &'a str) -> Result<Command<'a>, AllocError>
@@ -35,6 +38,15 @@ fn with_two<'a>(alloc: Global, name: &'a str, needed: bool) -> Result<Command<'a
 {
     let second = Arg::new(alloc, "second").required(needed);
     with_one(alloc, name)?.arg(second)
+}
+
+fn with_workers<'a>(alloc: Global) -> Result<Command<'a>, AllocError>
+    ensures app { IfOk result (λ c. app_of c ≡ run_app) }
+    ensures local { IfOk result (λ c. (fields_of c).has_globals ≡ false) }
+{
+    let third = Arg::new(alloc, "third").required(true);
+    let workers = Arg::new(alloc, "workers").long("workers");
+    with_two(alloc, "run", true)?.arg(third)?.arg(workers)
 }
 
 fn bare<'a>(alloc: Global) -> Command<'a>
@@ -65,6 +77,13 @@ fn add_two<'a>(
     app.subcommand(command)
 }
 
+fn add_run<'a>(alloc: Global, app: Command<'a>) -> Result<Command<'a>, AllocError>
+    ensures { IfOk result (λ c. app_of c ≡ with_subcommand (app_of app.entry) run_app.top) }
+{
+    let command = with_workers(alloc)?;
+    app.subcommand(command)
+}
+
 fn command<'a>(alloc: Global) -> Result<Command<'a>, AllocError>
     ensures { IfOk result (λ c. app_of c ≡ the_app) }
 {
@@ -73,19 +92,24 @@ fn command<'a>(alloc: Global) -> Result<Command<'a>, AllocError>
     let app = add_one(alloc, app, "flat")?;
     let app = add_two(alloc, app, "chart", true)?;
     let app = add_two(alloc, app, "code", true)?;
-    add_one(alloc, app, "load")
+    let app = add_one(alloc, app, "load")?;
+    add_run(alloc, app)
 }
 
-fn plain_in<'a>(matches: &ArgMatches<'a>) -> Option<Plain<'a>>
-    ensures { (name a : Bytes) (b : Option Bytes) → subcommand_rows_of matches.now ≡ Some (name, rows a b) → IsSomeAnd result (Is name a b) }
+fn given_in<'a>(matches: &ArgMatches<'a>) -> Option<Given<'a>>
+    ensures { (name a : Bytes) (b c w : Option Bytes) (rs : List Row) → subcommand_rows_of matches.now ≡ Some (name, rs) → Tells rs a b c w → IsSomeAnd result (Is name a b c w) }
 {
     let (name, inner) = matches.subcommand()?;
     let first = inner.get_str("first")?;
     let second = inner.get_str("second");
-    Some(Plain {
+    let third = inner.get_str("third");
+    let workers = inner.get_str("workers");
+    Some(Given {
         name,
         first,
         second,
+        third,
+        workers,
     })
 }
 
@@ -98,14 +122,14 @@ fn is_memory(error: &Error) -> bool
     }
 }
 
-/// The name and the plain arguments in these words, of which the first is the program's name.
-/// `None` where they are no command other than `run`.
-pub fn plain_words<'a>(alloc: Global, words: &'a [String]) -> Result<Option<Plain<'a>>, OutOfMemory>
+/// What is given in these words, of which the first is the program's name. `None` where they are
+/// no command; `OutOfMemory` comes where an allocation fails.
+pub fn given_words<'a>(alloc: Global, words: &'a [String]) -> Result<Option<Given<'a>>, OutOfMemory>
     ensures { IfOk result (Gives (map string_bytes words.entry.now)) }
 {
     let command = command(alloc)?;
     match command.try_get_matches_from(words) {
-        Ok(matches) => Ok(plain_in(&matches)),
+        Ok(matches) => Ok(given_in(&matches)),
         Err(error) => {
             if is_memory(&error) {
                 Err(OutOfMemory)
