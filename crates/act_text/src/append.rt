@@ -1,0 +1,22 @@
+//! Texts that grow.
+ghost use Rattle.std.specs.Prelude.{◌≡◌, ◌++◌, pos, OnOk};
+ghost use Rattle.std.specs.Fmt.{signed_decimal};
+
+use itoa::Buffer;
+use syn_base::OutOfMemory;
+
+/// Appends bytes.
+pub fn append(out: &mut Vec<u8>, bytes: &[u8]) -> Result<(), OutOfMemory>
+    ensures { OnOk result (out.new.items ≡ out.old.items ++ bytes.now) }
+{
+    out.extend_from_slice(bytes)?;
+    Ok(())
+}
+
+/// Appends the decimal of a count.
+pub fn append_count(out: &mut Vec<u8>, count: usize) -> Result<(), OutOfMemory>
+    ensures { OnOk result (out.new.items ≡ out.old.items ++ signed_decimal (pos count)) }
+{
+    let mut buffer = Buffer::new();
+    append(out, buffer.format(count).as_bytes())
+}

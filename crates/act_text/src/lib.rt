@@ -1,0 +1,8 @@
+//! The text of what the actuators take.
+#![tactic(auto)]
+
+mod append;
+mod names;
+mod text;
+
+pub use text::acts_text;

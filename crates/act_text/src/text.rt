@@ -1,0 +1,93 @@
+//! The lines of what the actuators take.
+ghost use Rattle.std.specs.Prelude.{◌≡◌, ◌+◌, ◌<◌, ◌≤◌, ◌++◌, [], length, map, slice_index_or, IfOk, OnOk};
+ghost use Rattle.algo_tree.specs.Ends.{actuator_lengths};
+ghost use Rattle.act_text.specs.Names.{actuator_names};
+ghost use Rattle.act_text.specs.Text.{values_text, actuator_line, reaction_text, output_text};
+
+use crate::append::{append, append_count};
+use crate::names::actuators_of;
+use algo_tree::Tree;
+use std::alloc::Global;
+use syn_base::{ActRows, OutOfMemory, print_int};
+
+/// The output text of an algorithm whose actuators took these rows: for each reaction in order and each
+/// actuator reference of the main graph in declared order the line `k name v0 v1` and so on.
+pub fn acts_text(alloc: Global, tree: &Tree, acts: &ActRows) -> Result<Vec<u8>, OutOfMemory>
+    requires { acts.now.lens ≡ actuator_lengths tree.now }
+    ensures { IfOk result (λ text. text.items ≡ output_text (actuator_names tree.now) acts.now.reactions) }
+{
+    let names = actuators_of(alloc, tree)?;
+    output(alloc, &names, acts)
+}
+
+/// For each reaction in order and each actuator in declared order the line `k name v0 v1` and so on.
+fn output(alloc: Global, names: &[&[u8]], rows: &ActRows) -> Result<Vec<u8>, OutOfMemory>
+    requires { length names.now ≤ length rows.now.lens }
+    ensures { IfOk result (λ text. text.items ≡ output_text (map (λ s. s.now) names.now) rows.now.reactions) }
+{
+    let mut text = Vec::new(alloc);
+    for k in 0..rows.count() {
+        append_reaction(&mut text, names, rows, k)?;
+    }
+    Ok(text)
+}
+
+/// Appends the lines of reaction k.
+fn append_reaction(
+    text: &mut Vec<u8>,
+    names: &[&[u8]],
+    rows: &ActRows,
+    k: usize,
+) -> Result<(), OutOfMemory>
+    requires names { length names.now ≤ length rows.now.lens }
+    requires reaction { k < length rows.now.reactions }
+    ensures { OnOk result (text.new.items ≡ text.old.items ++ reaction_text k 0 (map (λ s. s.now) names.now) (slice_index_or rows.now.reactions k [])) }
+{
+    for (a, name) in names.iter().enumerate() {
+        append_line(text, k, name, rows.vector(k, a))?;
+    }
+    Ok(())
+}
+
+/// Appends the line of one actuator.
+fn append_line(text: &mut Vec<u8>, k: usize, name: &[u8], values: &[i64]) -> Result<(), OutOfMemory>
+    ensures { OnOk result (text.new.items ≡ text.old.items ++ actuator_line k name.now values.now) }
+{
+    append_count(text, k)?;
+    append(text, b" ")?;
+    append(text, name)?;
+    append_values(text, values)?;
+    append(text, b"\n")
+}
+
+fn append_values(text: &mut Vec<u8>, values: &[i64]) -> Result<(), OutOfMemory>
+    ensures { OnOk result (text.new.items ≡ text.old.items ++ values_text values.now) }
+{
+    for value in values {
+        append(text, b" ")?;
+        print_int(*value, text)?;
+    }
+    Ok(())
+}
+
+#[cfg(test)]
+mod tests {
+    use super::*;
+    use std::test::Fail;
+
+    #[test]
+    fn writes_a_line_for_each_actuator(rt: HostRuntime) -> Result<(), Fail> {
+        let alloc = rt.alloc();
+        let names: [&[u8]; 2] = [b"a", b"b"];
+        let mut rows = ActRows::new(alloc, &[1, 2])?;
+        for row in [[5, -7, 0], [-1, 9, i64::MIN]] {
+            assert_eq!(rt; rows.lens(), [1, 2].as_slice());
+            rows.push(&row)?;
+        }
+        assert!(rt; names.len() <= rows.lens().len());
+        let text = output(alloc, &names, &rows)?;
+        let lines = b"0 a 5\n0 b -7 0\n1 a -1\n1 b 9 -9223372036854775808\n";
+        assert_eq!(rt; text.as_slice(), lines.as_slice());
+        Ok(())
+    }
+}

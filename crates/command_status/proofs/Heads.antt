@@ -1,0 +1,15 @@
+-- Lines that are written in parts.
+use Rattle.std.proofs.Common.{◌≡◌, ◌∙◌, ◌<◌, ◌+◌, ℕ, zero, suc, List, [], ◌∷◌, ◌++◌, Bool, length, drop, get_or, codes, refl, subst, suc-add, arith}
+use Rattle.outside.specs.Bytes.{Bytes, joined}
+use Rattle.outside.specs.Sink.{Sunk, Wrote}
+use Rattle.command_status.specs.Lines.{head, names_line}
+
+-- the same number and the same word
+pub head_wrote : (a b : Sunk) (text : Bytes) (n m : ℕ) (w v : Bytes) (ok : Bool) → n ≡ m → w ≡ v → Wrote a b (head text n w) ok → Wrote a b (head text m v) ok
+head_wrote a b text n m w v ok e f h = subst (λ (x : ℕ). Wrote a b (head text x v) ok) e (subst (λ (x : Bytes). Wrote a b (head text n x) ok) f h)
+
+-- one name, and those behind it
+pub names_at : (ns : List Bytes) (i : ℕ) (d w : Bytes) → i < length ns → w ≡ get_or ns i d → names_line (drop i ns) ≡ joined (codes " " ∷ w ∷ []) ++ names_line (drop (i + 1) ns)
+names_at [] i d w h e = absurd (omega arith)
+names_at (n ∷ ns) zero d w h e = rw e refl
+names_at (n ∷ ns) (suc i) d w h e = let k : i < length ns = omega arith in names_at ns i d w k e ∙ rw suc-add refl

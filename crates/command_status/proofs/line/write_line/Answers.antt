@@ -1,0 +1,16 @@
+use Rattle.command_status.proofs.line.write_line.Goals as goal
+
+pub returns-in-WriteFault : goal.returns-in-WriteFault
+returns-in-WriteFault g c = rw c.in-WriteFault.is c.write_whole-in-WriteFault.ensures
+
+pub returns-in-OutOfMemory : goal.returns-in-OutOfMemory
+returns-in-OutOfMemory g c = rw c.in-OutOfMemory.is c.write_whole-in-OutOfMemory.ensures
+
+pub returns-in-ReadFault : goal.returns-in-ReadFault
+returns-in-ReadFault g c = rw (c.in-ReadFault.is, ← c.word_of.ensures) c.write_pieces.ensures
+
+pub returns-in-AlgoRefused : goal.returns-in-AlgoRefused
+returns-in-AlgoRefused g c = rw c.in-AlgoRefused.is c.write_algorithm.ensures
+
+pub returns-in-SensorsRefused : goal.returns-in-SensorsRefused
+returns-in-SensorsRefused g c = rw c.in-SensorsRefused.is c.write_sensors.ensures

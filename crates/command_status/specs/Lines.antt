@@ -1,0 +1,118 @@
+-- The line on the error sink for each status.
+use Rattle.std.specs.Prelude.{ℕ, List, [], ◌∷◌, ◌++◌, codes}
+use Rattle.std.specs.Fmt.{decimal}
+use Rattle.outside.specs.Bytes.{Bytes, joined}
+use Rattle.outside.specs.Faults.{Rose}
+use Rattle.outside.specs.Sink.{Sunk, Appends, AppendsPrefix}
+use Rattle.outside.specs.declared.file.File.{File}
+use Rattle.outside.specs.declared.file.File.TheVariants as file
+use Rattle.syn_base.specs.declared.limits.LimitFault.{LimitFault}
+use Rattle.syn_base.specs.Limits.{word_of}
+use Rattle.algo_defs.specs.declared.fault.AlgoCause.{AlgoCause}
+use Rattle.algo_defs.specs.declared.fault.AlgoCause.TheVariants as a
+use Rattle.algo_defs.specs.declared.fault.AlgoFault.{AlgoFault}
+use Rattle.sensor_table.specs.declared.fault.SensorCause.{SensorCause}
+use Rattle.sensor_table.specs.declared.fault.SensorCause.TheVariants as s
+use Rattle.sensor_table.specs.declared.fault.SensorFault.{SensorFault}
+use Rattle.command_status.specs.declared.status.Status.{Status}
+use Rattle.command_status.specs.declared.status.Status.TheVariants.{Done, Usage, ReadFault, WriteFault, AlgoRefused, SensorsRefused, Limit, NotBuilt, OutOfMemory}
+
+abbrev pub file_word : File → Bytes
+file_word file.Algorithm = codes "algorithm"
+file_word file.Architecture = codes "architecture"
+file_word file.Sensors = codes "sensors"
+file_word file.Code = codes "code"
+file_word file.Durations = codes "durations"
+
+abbrev pub limit_line : LimitFault → Bytes
+limit_line fault =
+    joined (codes "limit " ∷ word_of fault.which ∷ codes ": " ∷ decimal fault.count ∷ codes " above " ∷ decimal fault.bound ∷ codes "\n" ∷ [])
+
+-- where a text is refused, and for which cause
+abbrev pub head : Bytes → ℕ → Bytes → Bytes
+head text n word = joined (text ∷ decimal n ∷ codes ": " ∷ word ∷ [])
+
+-- what stands behind a cause, to the end of the line: a number, two numbers, a word, or names
+abbrev pub number_line : ℕ → Bytes
+number_line n = joined (codes " " ∷ decimal n ∷ codes "\n" ∷ [])
+
+abbrev pub counts_line : ℕ → ℕ → Bytes
+counts_line n m = joined (codes " " ∷ decimal n ∷ codes " " ∷ decimal m ∷ codes "\n" ∷ [])
+
+abbrev pub word_line : Bytes → Bytes
+word_line w = joined (codes " " ∷ w ∷ codes "\n" ∷ [])
+
+abbrev pub names_line : List Bytes → Bytes
+names_line [] = codes "\n"
+names_line (w ∷ ws) = joined (codes " " ∷ w ∷ []) ++ names_line ws
+
+abbrev pub algorithm_word : AlgoCause → Bytes
+algorithm_word (a.NotText place) = codes "A1 NotText"
+algorithm_word a.BadLine = codes "A2 BadLine"
+algorithm_word (a.BadName w) = codes "A3 BadName"
+algorithm_word (a.BadNumber w) = codes "A4 BadNumber"
+algorithm_word (a.BadExpression place) = codes "A5 BadExpression"
+algorithm_word (a.DuplicateName w) = codes "A6 DuplicateName"
+algorithm_word (a.UnknownName w) = codes "A7 UnknownName"
+algorithm_word (a.WrongLength w) = codes "A8 WrongLength"
+algorithm_word (a.Unconnected w) = codes "A9 Unconnected"
+algorithm_word (a.TwiceConnected w) = codes "A10 TwiceConnected"
+algorithm_word (a.Recursive w) = codes "A11 Recursive"
+algorithm_word (a.Cycle ws) = codes "A12 Cycle"
+algorithm_word a.NoMain = codes "A13 NoMain"
+algorithm_word a.BadCase = codes "A14 BadCase"
+algorithm_word (a.Misplaced w) = codes "A15 Misplaced"
+algorithm_word a.BadRepeat = codes "A16 BadRepeat"
+
+abbrev pub algorithm_detail : AlgoCause → Bytes
+algorithm_detail (a.NotText place) = number_line place
+algorithm_detail a.BadLine = codes "\n"
+algorithm_detail (a.BadName w) = word_line w
+algorithm_detail (a.BadNumber w) = word_line w
+algorithm_detail (a.BadExpression place) = number_line place
+algorithm_detail (a.DuplicateName w) = word_line w
+algorithm_detail (a.UnknownName w) = word_line w
+algorithm_detail (a.WrongLength w) = word_line w
+algorithm_detail (a.Unconnected w) = word_line w
+algorithm_detail (a.TwiceConnected w) = word_line w
+algorithm_detail (a.Recursive w) = word_line w
+algorithm_detail (a.Cycle ws) = names_line ws
+algorithm_detail a.NoMain = codes "\n"
+algorithm_detail a.BadCase = codes "\n"
+algorithm_detail (a.Misplaced w) = word_line w
+algorithm_detail a.BadRepeat = codes "\n"
+
+abbrev pub algorithm_line : AlgoFault → Bytes
+algorithm_line fault = head (codes "algorithm line ") fault.line (algorithm_word fault.cause) ++ algorithm_detail fault.cause
+
+abbrev pub sensors_word : SensorCause → Bytes
+sensors_word s.BadHeader = codes "S1 BadHeader"
+sensors_word (s.BadCount found wanted) = codes "S2 BadCount"
+sensors_word s.BadIndex = codes "S3 BadIndex"
+sensors_word (s.BadNumber column) = codes "S4 BadNumber"
+
+abbrev pub sensors_detail : SensorCause → Bytes
+sensors_detail s.BadHeader = codes "\n"
+sensors_detail (s.BadCount found wanted) = counts_line found wanted
+sensors_detail s.BadIndex = codes "\n"
+sensors_detail (s.BadNumber column) = number_line column
+
+abbrev pub sensors_line : SensorFault → Bytes
+sensors_line fault = head (codes "sensors row ") fault.row (sensors_word fault.cause) ++ sensors_detail fault.cause
+
+-- the line of a status: none where it is Done
+abbrev pub line_of : Status → Bytes
+line_of Done = []
+line_of Usage = codes "usage\n"
+line_of (ReadFault f) = joined (codes "cannot read " ∷ file_word f ∷ codes "\n" ∷ [])
+line_of WriteFault = codes "cannot write\n"
+line_of (AlgoRefused fault) = algorithm_line fault
+line_of (SensorsRefused fault) = sensors_line fault
+line_of (Limit fault) = limit_line fault
+line_of NotBuilt = codes "not built\n"
+line_of OutOfMemory = codes "out of memory\n"
+
+-- what is appended to the error sink: a prefix of the line, and all of it where no call on the sink failed
+pub record Said (line : Bytes) (old new : Sunk) : Type 0 where
+  pub prefix : AppendsPrefix old new line
+  pub whole : ¬ Rose old.faults new.faults → Appends old new line

@@ -1,0 +1,67 @@
+-- How a command ends.
+use Rattle.std.specs.Prelude.{ℕ}
+use Rattle.command_plan.specs.Ending.{Ending, done, refused, unread, unwritten, no_memory}
+use Rattle.algo_defs.specs.declared.fault.AlgoError.{AlgoError}
+use Rattle.algo_defs.specs.declared.fault.AlgoError.TheVariants as algorithm
+use Rattle.algo_defs.specs.declared.fault.AlgoFault.{AlgoFault}
+use Rattle.sensor_table.specs.declared.fault.SensorError.{SensorError}
+use Rattle.sensor_table.specs.declared.fault.SensorError.TheVariants as sensors
+use Rattle.sensor_table.specs.declared.fault.SensorFault.{SensorFault}
+use Rattle.syn_base.specs.declared.limits.LimitFault.{LimitFault}
+use Rattle.command_status.specs.declared.status.Status.{Status}
+use Rattle.command_status.specs.declared.status.Status.TheVariants.{Done, Usage, ReadFault, WriteFault, AlgoRefused, SensorsRefused, Limit, NotBuilt, OutOfMemory}
+
+-- Why a command is refused. No definition says `wants_memory`: it is there because the types of errors have it.
+pub data Refusal : Type 0 where
+  usage : Refusal
+  bad_algorithm : AlgoFault → Refusal
+  bad_sensors : SensorFault → Refusal
+  above : LimitFault → Refusal
+  not_built : Refusal
+  wants_memory : Refusal
+
+-- the ending of a plan that a status stands for
+abbrev pub ending_of : Status → Ending Refusal
+ending_of Done = done
+ending_of Usage = refused usage
+ending_of (ReadFault file) = unread file
+ending_of WriteFault = unwritten
+ending_of (AlgoRefused fault) = refused (bad_algorithm fault)
+ending_of (SensorsRefused fault) = refused (bad_sensors fault)
+ending_of (Limit fault) = refused (above fault)
+ending_of NotBuilt = refused not_built
+ending_of OutOfMemory = no_memory
+
+-- the number with which the program ends
+abbrev pub number_of : Status → ℕ
+number_of Done = 0
+number_of Usage = 2
+number_of (ReadFault file) = 3
+number_of WriteFault = 4
+number_of (AlgoRefused fault) = 5
+number_of (SensorsRefused fault) = 7
+number_of (Limit fault) = 8
+number_of OutOfMemory = 9
+number_of NotBuilt = 10
+
+-- the refusal by an algorithm's text
+abbrev pub of_algorithm : AlgoError → Refusal
+of_algorithm (algorithm.Refused fault) = bad_algorithm fault
+of_algorithm (algorithm.Limit fault) = above fault
+of_algorithm algorithm.OutOfMemory = wants_memory
+
+abbrev pub status_of_algorithm : AlgoError → Status
+status_of_algorithm (algorithm.Refused fault) = AlgoRefused fault
+status_of_algorithm (algorithm.Limit fault) = Limit fault
+status_of_algorithm algorithm.OutOfMemory = OutOfMemory
+
+-- the refusal by a sensor table
+abbrev pub of_sensors : SensorError → Refusal
+of_sensors (sensors.Refused fault) = bad_sensors fault
+of_sensors (sensors.Limit fault) = above fault
+of_sensors sensors.OutOfMemory = wants_memory
+
+abbrev pub status_of_sensors : SensorError → Status
+status_of_sensors (sensors.Refused fault) = SensorsRefused fault
+status_of_sensors (sensors.Limit fault) = Limit fault
+status_of_sensors sensors.OutOfMemory = OutOfMemory

@@ -1,0 +1,10 @@
+//! How a command ends: its status, the number with which the program ends, and the line that says why.
+#![tactic(auto)]
+
+mod line;
+mod status;
+#[cfg(test)]
+mod tests;
+
+pub use line::say;
+pub use status::Status;

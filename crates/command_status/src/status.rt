@@ -1,0 +1,83 @@
+//! The status of a command that has ended.
+ghost use Rattle.std.specs.Prelude.{◌≡◌};
+ghost use Rattle.command_status.specs.Status.{number_of, status_of_algorithm, status_of_sensors};
+ghost use Rattle.command_status.specs.declared.status.Status.TheVariants.{OutOfMemory as Wants};
+
+use algo_defs::{AlgoError, AlgoFault};
+use outside::File;
+use sensor_table::{SensorError, SensorFault};
+use syn_base::{LimitFault, OutOfMemory};
+
+/// How a command ended.
+#[derive(Drop)]
+pub enum Status {
+    /// The whole defined text was written.
+    Done,
+    /// The words are no command.
+    Usage,
+    /// A call on the shelf failed for this file, under the name that the words give it.
+    ReadFault(File),
+    /// A call on the output failed. What stands there is a prefix of the defined text.
+    WriteFault,
+    /// The first refusal of the algorithm.
+    AlgoRefused(AlgoFault),
+    /// The first refusal of the sensor table.
+    SensorsRefused(SensorFault),
+    /// A quantity is above its bound.
+    Limit(LimitFault),
+    /// A command that is not built yet.
+    NotBuilt,
+    /// There was not enough memory.
+    OutOfMemory,
+}
+
+impl Status {
+    /// The number with which the program ends.
+    pub fn number(&self) -> u8
+        ensures { result ≡ number_of self.now }
+    {
+        match self {
+            Status::Done => 0,
+            Status::Usage => 2,
+            Status::ReadFault(_) => 3,
+            Status::WriteFault => 4,
+            Status::AlgoRefused(_) => 5,
+            Status::SensorsRefused(_) => 7,
+            Status::Limit(_) => 8,
+            Status::OutOfMemory => 9,
+            Status::NotBuilt => 10,
+        }
+    }
+}
+
+impl From<AlgoError> for Status {
+    ghost from_gives = { λ error status. status ≡ status_of_algorithm error };
+
+    fn from(error: AlgoError) -> Status {
+        match error {
+            AlgoError::Refused(fault) => Status::AlgoRefused(fault),
+            AlgoError::Limit(fault) => Status::Limit(fault),
+            AlgoError::OutOfMemory => Status::OutOfMemory,
+        }
+    }
+}
+
+impl From<SensorError> for Status {
+    ghost from_gives = { λ error status. status ≡ status_of_sensors error };
+
+    fn from(error: SensorError) -> Status {
+        match error {
+            SensorError::Refused(fault) => Status::SensorsRefused(fault),
+            SensorError::Limit(fault) => Status::Limit(fault),
+            SensorError::OutOfMemory => Status::OutOfMemory,
+        }
+    }
+}
+
+impl From<OutOfMemory> for Status {
+    ghost from_gives = { λ _ status. status ≡ Wants };
+
+    fn from(_want: OutOfMemory) -> Status {
+        Status::OutOfMemory
+    }
+}

@@ -1,0 +1,89 @@
+//! Lines of statuses on a sink in memory.
+ghost use Rattle.std.specs.Prelude.{◌≤◌};
+
+use super::*;
+use algo_defs::{AlgoCause, AlgoFault};
+use outside::SinkMem;
+use sensor_table::{SensorCause, SensorFault};
+use std::alloc::{AllocError, Global};
+use std::process::Abort;
+use std::test::Fail;
+use syn_base::{Items, LimitFault, LimitKind, Name};
+
+/// Whether the status ends with this number and says this line.
+fn says(alloc: Global, status: &Status, number: u8, line: &[u8]) -> Result<bool, Fail> {
+    let mut err = SinkMem::new(alloc, 100, 7, Vec::new(alloc))?;
+    say(&mut err, status);
+    Ok(status.number() == number && err.bytes() == line)
+}
+
+fn refused(line: u32, cause: AlgoCause) -> Status {
+    Status::AlgoRefused(AlgoFault { line, cause })
+}
+
+#[test]
+fn says_why_an_algorithm_is_refused(rt: HostRuntime) -> Result<(), Fail> {
+    let alloc = rt.alloc();
+    let word = Items::new(Vec::from_slice(alloc, b"a.j")?);
+    let unknown = refused(7, AlgoCause::UnknownName(word));
+    assert!(rt;
+        says(
+            alloc,
+            &unknown,
+            5,
+            b"algorithm line 7: A7 UnknownName a.j\n"
+        )?
+    );
+    let early = refused(8, AlgoCause::BadLine);
+    assert!(rt; says(alloc, &early, 5, b"algorithm line 8: A2 BadLine\n")?);
+    let place = refused(3, AlgoCause::BadExpression(12));
+    assert!(rt; says(alloc, &place, 5, b"algorithm line 3: A5 BadExpression 12\n")?);
+    Ok(())
+}
+
+#[test]
+fn says_the_references_of_a_cycle(rt: HostRuntime) -> Result<(), Fail> {
+    let alloc = rt.alloc();
+    let mut names = Vec::new(alloc);
+    names.push(Name::new(alloc, b"p")?)?;
+    names.push(Name::new(alloc, b"q2")?)?;
+    let cycle = refused(2, AlgoCause::Cycle(Items::new(names)));
+    assert!(rt; says(alloc, &cycle, 5, b"algorithm line 2: A12 Cycle p q2\n")?);
+    Ok(())
+}
+
+#[test]
+fn says_why_a_table_is_refused(rt: HostRuntime) -> Result<(), Fail> {
+    let alloc = rt.alloc();
+    let rows: [(SensorCause, &[u8]); 4] = [
+        (SensorCause::BadHeader, b"sensors row 2: S1 BadHeader\n"),
+        (
+            SensorCause::BadCount {
+                found: 2,
+                wanted: 3,
+            },
+            b"sensors row 2: S2 BadCount 2 3\n",
+        ),
+        (SensorCause::BadIndex, b"sensors row 2: S3 BadIndex\n"),
+        (
+            SensorCause::BadNumber(1),
+            b"sensors row 2: S4 BadNumber 1\n",
+        ),
+    ];
+    for (cause, line) in rows {
+        let status = Status::SensorsRefused(SensorFault { row: 2, cause });
+        assert!(rt; says(alloc, &status, 7, line)?);
+    }
+    Ok(())
+}
+
+#[test]
+fn says_what_is_above_its_bound(rt: HostRuntime) -> Result<(), Fail> {
+    let limit = Status::Limit(LimitFault {
+        which: LimitKind::PortLength,
+        count: 65,
+        bound: 64,
+    });
+    assert!(rt; says(rt.alloc(), &limit, 8, b"limit length: 65 above 64\n")?);
+    Ok(())
+}
