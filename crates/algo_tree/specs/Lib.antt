@@ -1,4 +1,3 @@
-pub mod Simple
 pub mod Tree
 pub mod View
 pub mod Meaning

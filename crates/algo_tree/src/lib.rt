@@ -2,13 +2,11 @@
 #![tactic(auto)]
 
 mod count;
-mod simple;
 #[cfg(test)]
 mod tests;
 mod tree;
 mod vertex;
 
 pub use count::count_operations;
-pub use simple::{SimpleFault, read_simple};
 pub use tree::Tree;
 pub use vertex::{Kind, Vertex};

@@ -1,42 +1,52 @@
-//! Simple texts, and what their trees tell.
-use crate::{SimpleFault, read_simple};
+//! Operations of vertices that are built by hand.
+use super::*;
+use level_meaning::{Feed, Give, Part};
+use std::alloc::Global;
 use std::test::Fail;
+use syn_base::Items;
 
-const PLAINEST: &[u8] = b"algorithm 1
-sensor Sense 1
-actuator Act 1
-graph main
-ref s Sense
-ref a Act
-edge s.o a.i
-end
-";
+fn vertex(alloc: Global, kind: Kind, inner: Vec<Vertex>) -> Vertex {
+    Vertex {
+        part: Part::Numbered(0),
+        definition: Items::new(Vec::new(alloc)),
+        ins: Items::new(Vec::new(alloc)),
+        guards: Items::new(Vec::new(alloc)),
+        outs: Items::new(Vec::new(alloc)),
+        kind,
+        inner,
+    }
+}
 
-#[test]
-fn the_plainest_text_is_read(rt: HostRuntime) -> Result<(), Fail> {
-    let tree = read_simple(rt.alloc(), PLAINEST)?;
-    assert_eq!(rt; tree.sensor_lens(rt.alloc())?.as_slice(), [1].as_slice());
-    assert_eq!(rt; tree.actuator_lens(rt.alloc())?.as_slice(), [1].as_slice());
-    assert_eq!(rt; tree.operations(), 2);
-    Ok(())
+fn delay(alloc: Global) -> Result<Vertex, Fail> {
+    let kind = Kind::Delay(Items::new(vec![in alloc; 0]?));
+    Ok(vertex(alloc, kind, Vec::new(alloc)))
+}
+
+fn name(alloc: Global) -> Result<Items<u8>, Fail> {
+    Ok(Items::new(vec![in alloc; b'x']?))
+}
+
+/// Three copies of a delay, their input in parts and their outputs together.
+fn repetition(alloc: Global) -> Result<Vertex, Fail> {
+    let feeds = Items::new(vec![in alloc; Feed::Fork(name(alloc)?, 0, 1)]?);
+    let gives = Items::new(vec![in alloc; Give::Join(name(alloc)?, 0)]?);
+    let kind = Kind::Repeat(3, feeds, gives);
+    Ok(vertex(alloc, kind, vec![in alloc; delay(alloc)?]?))
+}
+
+/// A switch with one output over a repetition.
+fn switch(alloc: Global) -> Result<Vertex, Fail> {
+    let values = Items::new(Vec::new(alloc));
+    let names = Items::new(vec![in alloc; name(alloc)?]?);
+    let kind = Kind::Switch(values, names);
+    Ok(vertex(alloc, kind, vec![in alloc; repetition(alloc)?]?))
 }
 
 #[test]
-fn other_texts_are_not_built(rt: HostRuntime) {
-    for text in [
-        b"".as_slice(),
-        b"algorithm 1".as_slice(),
-        b"algorithm 1\n".as_slice(),
-        b"algorithm 1\nsensor S 1\ndelay M = 0\ngraph main\nend\n".as_slice(),
-        b"algorithm 1\nsensor S 1\nactuator A 1\ngraph main\nref a A\nref s S\nedge s.o a.i\nend\n".as_slice(),
-        b"algorithm 1\nsensor S 1\nactuator A 2\ngraph main\nref s S\nref a A\nedge s.o a.i\nend\n".as_slice(),
-        b"algorithm 1\ngraph main\nend\n\n".as_slice(),
-        b"algorithm 1\ngraph main\nend".as_slice(),
-    ] {
-        assert_eq!(rt;
-            read_simple(rt.alloc(), text).err(),
-            Some(SimpleFault::NotBuilt)
-        );
-    }
-    assert!(rt; read_simple(rt.alloc(), b"algorithm 1\ngraph main\nend\n").is_ok());
+fn operations_are_counted_without_copies(rt: HostRuntime) -> Result<(), Fail> {
+    let alloc = rt.alloc();
+    assert_eq!(rt; count_operations(&delay(alloc)?), 2);
+    assert_eq!(rt; count_operations(&repetition(alloc)?), 8);
+    assert_eq!(rt; count_operations(&switch(alloc)?), 9);
+    Ok(())
 }
