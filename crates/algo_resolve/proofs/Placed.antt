@@ -54,6 +54,12 @@ module _ (ds : List Def) (table : List Ports) (is : table ≡ map (λ d. ports_o
             ∙ ap (ports_of ds) (sym (same_name ds w at.0 (l.found ∙ at.1)));
       }
 
+  -- a definition that was found by its name
+  pub found_placed : (w : Bytes) (p : ℕ) (d : Def) → p < length ds → definition ds w ≡ slice_get ds p → d ≡ get_or ds p d → (w ≡ d.name) × IsPlaced ds table d.name p
+  found_placed w p d low found here =
+      let same : w ≡ d.name = same_name ds w d (found ∙ found_at ds p d low here) in
+      (same, subst (λ (v : Bytes). IsPlaced ds table v p) same (one_placed w p (record { below = low; found = found })))
+
   all_placed : (ws : List Bytes) (ps : List ℕ) → AreLinked ds ws ps → ArePlaced ds table ws ps
   all_placed [] [] h = tt
   all_placed [] (p ∷ ps) h = h

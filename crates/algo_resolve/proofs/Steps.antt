@@ -1,6 +1,5 @@
 -- One vertex more.
 use Rattle.std.proofs.Common.{◌≡◌, ℕ, suc, ◌+◌, ◌-◌, ◌<◌, ◌≤◌, List, [], ◌∷◌, ◌++◌, length, get_or, drop, map, Some, refl, ap, sym, subst, ◌∙◌, arith}
-use Rattle.std.specs.Prelude.{Result, IfOk}
 use Rattle.std.proofs.Math.Numerals.{suc-eq-add-one}
 use Rattle.std.proofs.lemmas.List.FromFn.{map-range_with_len_more}
 use Rattle.body_lang.specs.declared.expression.Port.{Port}
@@ -27,9 +26,6 @@ use Rattle.algo_rules.specs.declared.ports.Ports.{Ports}
 pub pushed : {A B : Type 0} (f : A → B) (xs : List A) (x : A) (y : B) (rest : List B) → f x ≡ y → map f (xs ++ x ∷ []) ++ rest ≡ map f xs ++ (y ∷ rest)
 pushed f [] x y rest is = ap (λ z. z ∷ rest) is
 pushed f (z ∷ xs) x y rest is = ap (λ zs. f z ∷ zs) (pushed f xs x y rest is)
-
-pub retold : {A B E : Type 0} (f : A → B) (r : Result A E) (x y : B) → x ≡ y → IfOk r (λ v. f v ≡ x) → IfOk r (λ v. f v ≡ y)
-retold f r x y same h = subst (λ z. IfOk r (λ v. f v ≡ z)) same h
 
 -- one own input more
 pub owns_more : (first number : ℕ) → first ≤ number → owns first (number - first) ++ Own number ∷ [] ≡ owns first (number + 1 - first)

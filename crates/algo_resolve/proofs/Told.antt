@@ -1,19 +1,35 @@
 -- What is answered of definitions, from what their checks answered.
-use Rattle.std.proofs.Common.{◌≡◌, List, [], ◌∷◌, map, Option, Some, None, Ok, Err, refl, ap, sym, ◌∙◌}
+use Rattle.std.proofs.Common.{◌≡◌, List, [], ◌∷◌, map, Option, Some, None, Ok, Err, codes, refl, ap, sym, subst, ◌∙◌}
+use Rattle.std.specs.Prelude.{Result, IfOk}
 use Rattle.algo_defs.specs.declared.definition.Def.{Def}
 use Rattle.algo_defs.specs.declared.fault.AlgoError.{AlgoError}
 use Rattle.algo_defs.specs.declared.fault.AlgoError.TheVariants.{Refused, Limit, OutOfMemory}
+use Rattle.algo_defs.specs.Words.{Bytes}
+use Rattle.level_meaning.specs.declared.source.Source.{Source}
+use Rattle.level_meaning.specs.declared.part.Part.TheVariants.{Named}
 use Rattle.algo_tree.specs.Tree as tree
 use Rattle.algo_links.specs.Placing.{Tells}
 use Rattle.algo_rules.specs.Links.{links_of, misplaced, recursive, too_deep, unknown}
 use Rattle.algo_rules.specs.Placed.{Gives}
 use Rattle.algo_rules.specs.Ports.{ports_of}
-use Rattle.algo_rules.specs.Resolved.{bodies_fault, no_main, refusal, resolution_of, resolved_by, too_many, tree_of}
+use Rattle.algo_rules.specs.Resolved.{Making, bodies_fault, no_main, refusal, resolution_of, resolved_by, too_many, tree_of}
 use Rattle.algo_rules.specs.WellRead.{AreWellRead}
 use Rattle.algo_rules.specs.declared.ports.Ports.{Ports}
 use Rattle.algo_check.proofs.InOrder.{both_none}
 use Rattle.reference_graph.specs.Links.{Links}
 use Rattle.algo_resolve.specs.Ready.{IsReady}
+
+-- the same answer, where it is told in another way
+pub retold : {A B E : Type 0} (f : A → B) (r : Result A E) (x y : B) → x ≡ y → IfOk r (λ v. f v ≡ x) → IfOk r (λ v. f v ≡ y)
+retold f r x y same h = subst (λ z. IfOk r (λ v. f v ≡ z)) same h
+
+-- the vertex of `main`, by whatever makes vertices
+pub main_by : (make : Making) (bytes name : Bytes) (ins : List Source) → bytes ≡ codes "main" → name ≡ codes "main" → ins ≡ []
+    → make (Named bytes) name ins 0 0 ≡ make (Named (codes "main")) (codes "main") [] 0 0
+main_by make bytes name ins same named none =
+    ap (λ (w : Bytes). make (Named w) name ins 0 0) same
+    ∙ ap (λ (w : Bytes). make (Named (codes "main")) w ins 0 0) named
+    ∙ ap (λ (ss : List Source). make (Named (codes "main")) (codes "main") ss 0 0) none
 
 module _ (ds : List Def) where
   by_refusal : (e : AlgoError) (o : Option AlgoError) → Tells e o → Gives {A = tree.Vertex} (Err e) (resolved_by ds o)
