@@ -4,6 +4,7 @@ use Rattle.std.specs.Prelude.{slice_get}
 use Rattle.std.specs.Str.{bytes_eq}
 use Rattle.std.proofs.lemmas.Slice.Eq.{bytes_eq-Decides}
 use Rattle.std.proofs.lemmas.List.{get_or_default}
+use Rattle.std.proofs.lemmas.Option.{slice_get-get_or}
 use Rattle.algo_defs.specs.declared.definition.Def.{Def}
 use Rattle.algo_defs.specs.declared.definition.Reference.{Reference}
 use Rattle.algo_defs.specs.Words.{Bytes}
@@ -79,16 +80,11 @@ module _ (ds : List Def) (links : Links) (table : List Ports) (ready : IsReady d
 
 module _ (ds : List Def) (table : List Ports) where
   -- what stands at the place of a name
-  pub def_here : (w : Bytes) (p : ℕ) (d : Def) → IsPlaced ds table w p → d ≡ get_or ds p d → definition ds w ≡ Some d
-  def_here w p d h is = h.found ∙ found_at ds p d h.below is
+  pub def_at : (w : Bytes) (p : ℕ) (d : Def) → IsPlaced ds table w p → definition ds w ≡ Some (get_or ds p d)
+  def_at w p d h = h.found ∙ slice_get-get_or ds p d h.below
 
-  pub ports_here : (w : Bytes) (p : ℕ) (own : Ports) → IsPlaced ds table w p → own ≡ get_or table p own → own ≡ ports_of ds w
-  ports_here w p own h is = is ∙ get_or_default table p own no_ports h.in_table ∙ h.ports
-
-  -- the place of the only name
-  pub only_place : (w : Bytes) (ps : List ℕ) → ArePlaced ds table (w ∷ []) ps → (0 < length ps) × IsPlaced ds table w (get_or ps 0 0)
-  only_place w [] h = absurd h
-  only_place w (p ∷ ps) h = (omega arith, h.0)
+  pub ports_at : (w : Bytes) (p : ℕ) (own : Ports) → IsPlaced ds table w p → get_or table p own ≡ ports_of ds w
+  ports_at w p own h = get_or_default table p own no_ports h.in_table ∙ h.ports
 
   -- the places of references
   pub place_there : (rs : List Reference) (ps : List ℕ) → ArePlaced ds table (map (λ r. r.def) rs) ps → (k : ℕ) → k < length rs → k < length ps

@@ -56,6 +56,17 @@ module _ (ds : List Def) where
         ∙ ap (λ (k : ℕ). v ∷ references_from ds make ins all edges k (a + is_actuator (definition ds r.def)) (drop (i + 1) rs)) (sym sensors)
         ∙ ap (λ (k : ℕ). v ∷ references_from ds make ins all edges t k (drop (i + 1) rs)) (sym actuators)
 
+    -- the vertex of the next reference, behind those that are made
+    pub one_reference : (ins : List Port) (all : List Reference) (edges : List Edge) (rs : List Reference) (i : ℕ) (r : Reference) (s a t b : ℕ) (us : List Vertex) (v : Vertex) (whole : List tree.Vertex)
+        → i < length rs → r ≡ get_or rs i r → t ≡ s + is_sensor (definition ds r.def) → b ≡ a + is_actuator (definition ds r.def)
+        → view v ≡ make (Named r.name) r.def (sources_to (ports_of ds) ins all edges (Some r.name) (ports_of ds r.def).ins) s a
+        → map view us ++ references_from ds make ins all edges s a (drop i rs) ≡ whole
+        → map view (us ++ v ∷ []) ++ references_from ds make ins all edges t b (drop (i + 1) rs) ≡ whole
+    one_reference ins all edges rs i r s a t b us v whole low is sensors actuators made before =
+        pushed view us v (make (Named r.name) r.def (sources_to (ports_of ds) ins all edges (Some r.name) (ports_of ds r.def).ins) s a) (references_from ds make ins all edges t b (drop (i + 1) rs)) made
+        ∙ ap (λ (ws : List tree.Vertex). map view us ++ ws) (sym (next_reference ins all edges rs i r s a t b low is sensors actuators))
+        ∙ before
+
     pub next_case : (ins : ℕ) (otherwise : Bytes) (cs : List Case) (i : ℕ) (c : Case)
         → i < length cs → c ≡ get_or cs i c
         → cases_from ds make ins i (map (λ x. x.def) (drop i cs) ++ otherwise ∷ [])

@@ -34,5 +34,6 @@ abbrev pub invariant-build_references-loop-at : goal.invariant-build_references-
 invariant-build_references-loop-at l = record {
   so_far : map view l.inner.items ++ references_from (all l.graph) (vertex_within (all l.graph) l.fuel) l.graph.ins.now l.graph.references.now l.graph.edges.now l.sensors l.actuators (drop l.at l.graph.references.now)
       ≡ references_from (all l.graph) (vertex_within (all l.graph) l.fuel) l.graph.ins.now l.graph.references.now l.graph.edges.now 0 0 l.graph.references.now;
-  few : l.sensors + l.actuators ≤ l.at;
+  few_sensors : l.sensors ≤ l.at;
+  few_actuators : l.actuators ≤ l.at;
 }
