@@ -97,7 +97,15 @@ fn build_inner(
             ..
         } => {
             let count = ins.as_slice().len();
-            build_cases(alloc, builder, fuel, places, count, cases.as_slice(), otherwise)
+            build_cases(
+                alloc,
+                builder,
+                fuel,
+                places,
+                count,
+                cases.as_slice(),
+                otherwise,
+            )
         }
         Body::Repeat { def, .. } => build_copy(alloc, builder, fuel, places, def),
         _ => Ok(Vec::new(alloc)),
@@ -119,7 +127,17 @@ fn build_copy(
 {
     let place = places[0] as usize;
     let ins = own_inputs(alloc, 0, builder.table[place].ins.as_slice().len())?;
-    let body = build_vertex(alloc, builder, fuel, Part::Numbered(0), name, place, ins, 0, 0)?;
+    let body = build_vertex(
+        alloc,
+        builder,
+        fuel,
+        Part::Numbered(0),
+        name,
+        place,
+        ins,
+        0,
+        0,
+    )?;
     let mut inner = Vec::new(alloc);
     inner.push(body)?;
     Ok(inner)
@@ -168,7 +186,17 @@ fn build_case(
 {
     let part = Part::Numbered(small(number)?);
     let sources = own_inputs(alloc, 1, ins)?;
-    build_vertex(alloc, builder, fuel, part, name, place as usize, sources, 0, 0)
+    build_vertex(
+        alloc,
+        builder,
+        fuel,
+        part,
+        name,
+        place as usize,
+        sources,
+        0,
+        0,
+    )
 }
 
 /// The references of a graph, in order.
@@ -211,7 +239,17 @@ fn build_reference(
     let ins = reference_inputs(alloc, graph, reference, place)?;
     let builder = &graph.builder;
     let name = &reference.def;
-    build_vertex(alloc, builder, fuel, part, name, place as usize, ins, sensors, actuators)
+    build_vertex(
+        alloc,
+        builder,
+        fuel,
+        part,
+        name,
+        place as usize,
+        ins,
+        sensors,
+        actuators,
+    )
 }
 
 /// The sources of the inputs of a reference.

@@ -28,11 +28,7 @@ pub fn has_too_many_units(
 }
 
 /// The vertices of each definition, by these counts of those that it names.
-fn next_counts(
-    alloc: Global,
-    links: &[Items<u32>],
-    counts: &[u64],
-) -> Result<Vec<u64>, OutOfMemory>
+fn next_counts(alloc: Global, links: &[Items<u32>], counts: &[u64]) -> Result<Vec<u64>, OutOfMemory>
     ensures { IfOk result (λ next. next.items ≡ map (units_at counts.now) links.now) }
 {
     let mut next = Vec::new(alloc);
@@ -57,5 +53,9 @@ fn count_of(counts: &[u64], places: &[u32]) -> u64
 fn count_at(counts: &[u64], place: usize) -> u64
     ensures { result ≡ slice_index counts.now place }
 {
-    if place < counts.len() { counts[place] } else { 0 }
+    if place < counts.len() {
+        counts[place]
+    } else {
+        0
+    }
 }
