@@ -22,7 +22,8 @@ use std::alloc::Global;
 use syn_base::{Items, Name, OutOfMemory};
 
 /// The vertex of the definition of a name, which stands at this place, with all that is inside it, to a
-/// depth of `fuel`. It takes its inputs from `ins`; as a sensor or an actuator it has the number given.
+/// depth of `fuel`: a vertex of no fuel is an empty graph, so that the recursion ends. It takes its
+/// inputs from `ins`; as a sensor or an actuator it has the number given.
 #[cycle(build)]
 pub fn build_vertex(
     alloc: Global,

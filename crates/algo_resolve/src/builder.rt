@@ -6,6 +6,7 @@ use syn_base::Items;
 /// The definitions of a text that has passed its checks.
 #[derive(Clone, Copy)]
 pub struct Builder<'a> {
+    /// In the order of the text.
     pub defs: &'a [Def],
     /// For each definition the places of those that it names.
     pub links: &'a [Items<u32>],
