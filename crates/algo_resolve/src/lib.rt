@@ -9,6 +9,8 @@ mod kind;
 mod lookup;
 mod resolution;
 mod sources;
+#[cfg(test)]
+mod tests;
 mod units;
 
 pub use resolution::resolve;
