@@ -1,0 +1,38 @@
+-- What is answered of definitions, from what their checks answered.
+use Rattle.std.proofs.Common.{◌≡◌, List, [], ◌∷◌, map, Option, Some, None, Ok, Err, refl, ap, sym, ◌∙◌}
+use Rattle.algo_defs.specs.declared.definition.Def.{Def}
+use Rattle.algo_defs.specs.declared.fault.AlgoError.{AlgoError}
+use Rattle.algo_defs.specs.declared.fault.AlgoError.TheVariants.{Refused, Limit, OutOfMemory}
+use Rattle.algo_tree.specs.Tree as tree
+use Rattle.algo_links.specs.Placing.{Tells}
+use Rattle.algo_rules.specs.Links.{links_of, misplaced, recursive, too_deep, unknown}
+use Rattle.algo_rules.specs.Placed.{Gives}
+use Rattle.algo_rules.specs.Ports.{ports_of}
+use Rattle.algo_rules.specs.Resolved.{bodies_fault, no_main, refusal, resolution_of, resolved_by, too_many, tree_of}
+use Rattle.algo_rules.specs.WellRead.{AreWellRead}
+use Rattle.algo_rules.specs.declared.ports.Ports.{Ports}
+use Rattle.algo_check.proofs.InOrder.{both_none}
+use Rattle.reference_graph.specs.Links.{Links}
+use Rattle.algo_resolve.specs.Ready.{IsReady}
+
+module _ (ds : List Def) where
+  by_refusal : (e : AlgoError) (o : Option AlgoError) → Tells e o → Gives {A = tree.Vertex} (Err e) (resolved_by ds o)
+  by_refusal (Refused f) o h = ap (resolved_by ds) h
+  by_refusal (Limit f) o h = ap (resolved_by ds) h
+  by_refusal OutOfMemory o h = tt
+
+  -- a refusal
+  pub refused : (e : AlgoError) → Tells e (refusal ds) → Gives {A = tree.Vertex} (Err e) (resolution_of ds)
+  refused e h = by_refusal e (refusal ds) h
+
+  -- and the tree, where there is none
+  pub given : (t : tree.Vertex) → refusal ds ≡ None → t ≡ tree_of ds → resolution_of ds ≡ Ok t
+  given t none is = ap (resolved_by ds) none ∙ sym (ap (λ (u : tree.Vertex). Ok u) is)
+
+  pub are_ready : (links : Links) (table : List Ports) → AreWellRead ds → refusal ds ≡ None → links ≡ links_of ds → table ≡ map (λ d. ports_of ds d.name) ds → IsReady ds links table
+  are_ready links table read none linked ports = record {
+    read = read.bodies;
+    known = (both_none (unknown ds) (misplaced ds ∷ recursive ds ∷ too_deep ds ∷ bodies_fault ds ∷ no_main ds ∷ too_many ds ∷ []) none).0;
+    linked = linked;
+    ports = ports;
+  }
