@@ -24,8 +24,8 @@ use tree_laws::accepted_make_a_tree;
 ///
 /// OutOfMemory may come in place of any answer. It comes also where the tree would be made of more
 /// than 20,000 vertices, before anything is made: each vertex is one definition used once. Of these at
-/// most 16,384 have a flat operation inside, so a text beyond the bound is made of graphs, switches
-/// and repetitions that stand for no operation, and want of memory is the answer.
+/// most 16,384 have a flat operation inside, so a text beyond the bound has thousands of graphs,
+/// switches and repetitions that stand for no operation, and want of memory is the answer.
 pub fn resolve(alloc: Global, defs: &Defs) -> Result<Tree, AlgoError>
     requires read { AreWellRead defs.now.defs }
     requires few { length defs.now.defs ≤ 4000000000 }
