@@ -1,0 +1,76 @@
+-- One vertex more.
+use Rattle.std.proofs.Common.{◌≡◌, ℕ, suc, ◌+◌, ◌-◌, ◌<◌, ◌≤◌, List, [], ◌∷◌, ◌++◌, length, get_or, drop, map, Some, ap, sym, ◌∙◌, arith}
+use Rattle.std.proofs.Math.Numerals.{suc-eq-add-one}
+use Rattle.std.proofs.lemmas.List.FromFn.{map-range_with_len_more}
+use Rattle.body_lang.specs.declared.expression.Port.{Port}
+use Rattle.level_meaning.specs.declared.source.Source.{Source}
+use Rattle.level_meaning.specs.declared.source.Source.TheVariants.{Own}
+use Rattle.level_meaning.specs.declared.part.Part.{Part}
+use Rattle.level_meaning.specs.declared.part.Part.TheVariants.{Named, Numbered}
+use Rattle.algo_tree.specs.Tree as tree
+use Rattle.algo_tree.specs.View.{kind_view, view}
+use Rattle.algo_tree.specs.declared.vertex.Vertex.{Vertex}
+use Rattle.algo_tree.specs.declared.vertex.Kind.{Kind}
+use Rattle.algo_defs.specs.declared.definition.Def.{Def}
+use Rattle.algo_defs.specs.declared.definition.Case.{Case}
+use Rattle.algo_defs.specs.declared.definition.Reference.{Reference}
+use Rattle.algo_defs.specs.declared.definition.Edge.{Edge}
+use Rattle.algo_defs.specs.Words.{Bytes}
+use Rattle.algo_links.proofs.Fresh.{from_here}
+use Rattle.algo_rules.specs.Links.{definition}
+use Rattle.algo_rules.specs.Ports.{lens_of, ports_of}
+use Rattle.algo_rules.specs.Resolved.{Making, cases_from, inner_by, is_actuator, is_sensor, kind_by, owns, references_from, sources_to, vertex, vertex_by, vertex_within}
+use Rattle.algo_rules.specs.declared.ports.Ports.{Ports}
+
+-- one vertex behind those that are made
+pub pushed : {A B : Type 0} (f : A → B) (xs : List A) (x : A) (y : B) (rest : List B) → f x ≡ y → map f (xs ++ x ∷ []) ++ rest ≡ map f xs ++ (y ∷ rest)
+pushed f [] x y rest is = ap (λ z. z ∷ rest) is
+pushed f (z ∷ xs) x y rest is = ap (λ zs. f z ∷ zs) (pushed f xs x y rest is)
+
+-- one own input more
+pub owns_more : (first number : ℕ) → first ≤ number → owns first (number - first) ++ Own number ∷ [] ≡ owns first (number + 1 - first)
+owns_more first number low =
+    let more : number + 1 - first ≡ number - first + 1 = omega (arith, low) in
+    sym (ap (owns first) more ∙ map-range_with_len_more (λ n. Own n) first (number - first) number (omega (arith, low)))
+
+module _ (ds : List Def) where
+  -- a definition with fuel left
+  pub vertex_step : (n m : ℕ) (part : Part) (w : Bytes) (ins : List Source) (s a : ℕ) (d : Def) (own : Ports) (kind : Kind) (inner : List Vertex)
+      → n ≡ suc m → definition ds w ≡ Some d → own ≡ ports_of ds w
+      → kind_view kind ≡ kind_by ds (vertex_within ds m) own s a d.body → map view inner ≡ inner_by ds (vertex_within ds m) d.body
+      → vertex part w ins (lens_of own.outs) (kind_view kind) (map view inner) ≡ vertex_within ds n part w ins s a
+  vertex_step n m part w ins s a d own kind inner is at same kinds inners =
+      ap (λ k. vertex part w ins (lens_of own.outs) k (map view inner)) kinds
+      ∙ ap (λ us. vertex part w ins (lens_of own.outs) (kind_by ds (vertex_within ds m) own s a d.body) us) inners
+      ∙ ap (λ (p : Ports). vertex part w ins (lens_of p.outs) (kind_by ds (vertex_within ds m) p s a d.body) (inner_by ds (vertex_within ds m) d.body)) same
+      ∙ sym (ap (λ (k : ℕ). vertex_within ds k part w ins s a) is ∙ ap (vertex_by ds (vertex_within ds m) part w ins s a) at)
+
+  module _ (make : Making) where
+    pub next_reference : (ins : List Port) (all : List Reference) (edges : List Edge) (rs : List Reference) (i : ℕ) (r : Reference) (s a t b : ℕ)
+        → i < length rs → r ≡ get_or rs i r → t ≡ s + is_sensor (definition ds r.def) → b ≡ a + is_actuator (definition ds r.def)
+        → references_from ds make ins all edges s a (drop i rs)
+        ≡ make (Named r.name) r.def (sources_to (ports_of ds) ins all edges (Some r.name) (ports_of ds r.def).ins) s a ∷ references_from ds make ins all edges t b (drop (i + 1) rs)
+    next_reference ins all edges rs i r s a t b low is sensors actuators =
+        let v = make (Named r.name) r.def (sources_to (ports_of ds) ins all edges (Some r.name) (ports_of ds r.def).ins) s a in
+        ap (references_from ds make ins all edges s a) (from_here rs i r low is)
+        ∙ ap (λ (k : ℕ). v ∷ references_from ds make ins all edges k (a + is_actuator (definition ds r.def)) (drop (i + 1) rs)) (sym sensors)
+        ∙ ap (λ (k : ℕ). v ∷ references_from ds make ins all edges t k (drop (i + 1) rs)) (sym actuators)
+
+    -- the vertex of the next reference, behind those that are made
+    pub one_reference : (ins : List Port) (all : List Reference) (edges : List Edge) (rs : List Reference) (i : ℕ) (r : Reference) (s a t b : ℕ) (us : List Vertex) (v : Vertex) (whole : List tree.Vertex)
+        → i < length rs → r ≡ get_or rs i r → t ≡ s + is_sensor (definition ds r.def) → b ≡ a + is_actuator (definition ds r.def)
+        → view v ≡ make (Named r.name) r.def (sources_to (ports_of ds) ins all edges (Some r.name) (ports_of ds r.def).ins) s a
+        → map view us ++ references_from ds make ins all edges s a (drop i rs) ≡ whole
+        → map view (us ++ v ∷ []) ++ references_from ds make ins all edges t b (drop (i + 1) rs) ≡ whole
+    one_reference ins all edges rs i r s a t b us v whole low is sensors actuators made before =
+        pushed view us v (make (Named r.name) r.def (sources_to (ports_of ds) ins all edges (Some r.name) (ports_of ds r.def).ins) s a) (references_from ds make ins all edges t b (drop (i + 1) rs)) made
+        ∙ ap (λ (ws : List tree.Vertex). map view us ++ ws) (sym (next_reference ins all edges rs i r s a t b low is sensors actuators))
+        ∙ before
+
+    pub next_case : (ins : ℕ) (otherwise : Bytes) (cs : List Case) (i : ℕ) (c : Case)
+        → i < length cs → c ≡ get_or cs i c
+        → cases_from ds make ins i (map (λ x. x.def) (drop i cs) ++ otherwise ∷ [])
+        ≡ make (Numbered i) c.def (owns 1 ins) 0 0 ∷ cases_from ds make ins (i + 1) (map (λ x. x.def) (drop (i + 1) cs) ++ otherwise ∷ [])
+    next_case ins otherwise cs i c low is =
+        ap (λ (ks : List Case). cases_from ds make ins i (map (λ x. x.def) ks ++ otherwise ∷ [])) (from_here cs i c low is)
+        ∙ ap (λ (k : ℕ). make (Numbered i) c.def (owns 1 ins) 0 0 ∷ cases_from ds make ins k (map (λ x. x.def) (drop (i + 1) cs) ++ otherwise ∷ [])) (suc-eq-add-one i)

@@ -1,0 +1,54 @@
+-- What is answered of definitions, from what their checks answered.
+use Rattle.std.proofs.Common.{◌≡◌, List, [], ◌∷◌, map, Option, None, Ok, Err, codes, ap, sym, subst, ◌∙◌}
+use Rattle.std.specs.Prelude.{Result, IfOk}
+use Rattle.algo_defs.specs.declared.definition.Def.{Def}
+use Rattle.algo_defs.specs.declared.fault.AlgoError.{AlgoError}
+use Rattle.algo_defs.specs.declared.fault.AlgoError.TheVariants.{Refused, Limit, OutOfMemory}
+use Rattle.algo_defs.specs.Words.{Bytes}
+use Rattle.level_meaning.specs.declared.source.Source.{Source}
+use Rattle.level_meaning.specs.declared.part.Part.TheVariants.{Named}
+use Rattle.algo_tree.specs.Tree as tree
+use Rattle.algo_links.specs.Placing.{Tells}
+use Rattle.algo_rules.specs.Links.{links_of, misplaced, recursive, too_deep, unknown}
+use Rattle.algo_rules.specs.Placed.{Gives}
+use Rattle.algo_rules.specs.Ports.{ports_of}
+use Rattle.algo_rules.specs.Resolved.{Making, bodies_fault, no_main, refusal, resolution_of, resolved_by, too_many, tree_of}
+use Rattle.algo_rules.specs.WellRead.{AreWellRead}
+use Rattle.algo_rules.specs.declared.ports.Ports.{Ports}
+use Rattle.algo_check.proofs.InOrder.{both_none}
+use Rattle.reference_graph.specs.Links.{Links}
+use Rattle.algo_resolve.specs.Ready.{IsReady}
+
+-- the same answer, where it is told in another way
+pub retold : {A B E : Type 0} (f : A → B) (r : Result A E) (x y : B) → x ≡ y → IfOk r (λ v. f v ≡ x) → IfOk r (λ v. f v ≡ y)
+retold f r x y same h = subst (λ z. IfOk r (λ v. f v ≡ z)) same h
+
+-- the vertex of `main`, by whatever makes vertices
+pub main_by : (make : Making) (bytes name : Bytes) (ins : List Source) → bytes ≡ codes "main" → name ≡ codes "main" → ins ≡ []
+    → make (Named bytes) name ins 0 0 ≡ make (Named (codes "main")) (codes "main") [] 0 0
+main_by make bytes name ins same named none =
+    ap (λ (w : Bytes). make (Named w) name ins 0 0) same
+    ∙ ap (λ (w : Bytes). make (Named (codes "main")) w ins 0 0) named
+    ∙ ap (λ (ss : List Source). make (Named (codes "main")) (codes "main") ss 0 0) none
+
+module _ (ds : List Def) where
+  by_refusal : (e : AlgoError) (o : Option AlgoError) → Tells e o → Gives {A = tree.Vertex} (Err e) (resolved_by ds o)
+  by_refusal (Refused f) o h = ap (resolved_by ds) h
+  by_refusal (Limit f) o h = ap (resolved_by ds) h
+  by_refusal OutOfMemory o h = tt
+
+  -- a refusal
+  pub refused : (e : AlgoError) → Tells e (refusal ds) → Gives {A = tree.Vertex} (Err e) (resolution_of ds)
+  refused e h = by_refusal e (refusal ds) h
+
+  -- and the tree, where there is none
+  pub given : (t : tree.Vertex) → refusal ds ≡ None → t ≡ tree_of ds → resolution_of ds ≡ Ok t
+  given t none is = ap (resolved_by ds) none ∙ sym (ap (λ (u : tree.Vertex). Ok u) is)
+
+  pub are_ready : (links : Links) (table : List Ports) → AreWellRead ds → refusal ds ≡ None → links ≡ links_of ds → table ≡ map (λ d. ports_of ds d.name) ds → IsReady ds links table
+  are_ready links table read none linked ports = record {
+    read = read.bodies;
+    known = (both_none (unknown ds) (misplaced ds ∷ recursive ds ∷ too_deep ds ∷ bodies_fault ds ∷ no_main ds ∷ too_many ds ∷ []) none).0;
+    linked = linked;
+    ports = ports;
+  }

@@ -1,0 +1,15 @@
+-- Definitions with the places of those that each names, and with their ports.
+use Rattle.std.specs.Prelude.{◌≡◌, List, map, None}
+use Rattle.std.specs.List.{All}
+use Rattle.algo_defs.specs.declared.definition.Def.{Def}
+use Rattle.algo_rules.specs.Links.{links_of, unknown}
+use Rattle.algo_rules.specs.Ports.{ports_of}
+use Rattle.algo_rules.specs.WellRead.{IsWellRead}
+use Rattle.algo_rules.specs.declared.ports.Ports.{Ports}
+use Rattle.reference_graph.specs.Links.{Links}
+
+pub record IsReady (ds : List Def) (links : Links) (table : List Ports) : Type 0 where
+  pub read : All (λ d. IsWellRead d.body) ds
+  pub known : unknown ds ≡ None
+  pub linked : links ≡ links_of ds
+  pub ports : table ≡ map (λ d. ports_of ds d.name) ds

@@ -1,0 +1,63 @@
+//! Ports and references by name.
+ghost use Rattle.std.specs.Prelude.{◌≡◌, IfOk};
+ghost use Rattle.algo_rules.specs.Graphs.{place};
+ghost use Rattle.algo_rules.specs.Ports.{len_of, number_of};
+
+use algo_defs::Reference;
+use body_lang::Port;
+use std::alloc::Global;
+use syn_base::{Items, Name, OutOfMemory};
+
+/// The number of the port of a name, or how many there are.
+pub fn port_number(ports: &[Port], name: &Name) -> usize
+    ensures { result ≡ number_of ports.now name.now }
+{
+    for (at, port) in ports.iter().enumerate() {
+        if name.as_bytes() == port.name.as_bytes() {
+            return at;
+        }
+    }
+    ports.len()
+}
+
+/// The length of the port of a name, 0 where there is none.
+pub fn port_len(ports: &[Port], name: &Name) -> u32
+    ensures { result ≡ len_of ports.now name.now }
+{
+    for port in ports {
+        if name.as_bytes() == port.name.as_bytes() {
+            return port.len;
+        }
+    }
+    0
+}
+
+/// The number of the reference of a name, or how many there are.
+pub fn reference_number(references: &[Reference], name: &Name) -> usize
+    ensures { result ≡ place references.now name.now }
+{
+    for (at, reference) in references.iter().enumerate() {
+        if name.as_bytes() == reference.name.as_bytes() {
+            return at;
+        }
+    }
+    references.len()
+}
+
+/// A number of a port, a reference or a case as a tree has it. No text has 2^32 of them: so many
+/// would be want of memory.
+pub fn small(number: usize) -> Result<u32, OutOfMemory>
+    ensures { IfOk result (λ n. n ≡ number) }
+{
+    match u32::try_from(number) {
+        Ok(small) => Ok(small),
+        Err(_) => Err(OutOfMemory),
+    }
+}
+
+/// The bytes of a name.
+pub fn copy_name(alloc: Global, name: &Name) -> Result<Items<u8>, OutOfMemory>
+    ensures { IfOk result (λ bytes. bytes ≡ name.now) }
+{
+    Ok(Items::new(Vec::from_slice(alloc, name.as_bytes())?))
+}
