@@ -1,4 +1,4 @@
-pub mod Splits
-pub mod EndCounts
+pub mod Sizes
 pub mod Steps
 pub mod Replies
+pub mod Usage

@@ -1,45 +1,78 @@
 -- Carrying out the plan of a command, part by part.
-use Rattle.std.proofs.Common.{◌≡◌, Option, Some, None, Result, Ok, Err, refl, sym, subst, inl}
+use Rattle.std.proofs.Common.{◌≡◌, List, Option, Some, None, Result, Ok, Err, refl, sym, subst, inl, inr}
 use Rattle.outside.specs.Bytes.{Bytes}
-use Rattle.outside.specs.Shelf.{Held, Stays, IsRead}
-use Rattle.outside.specs.declared.file.File.TheVariants.{Algorithm}
+use Rattle.outside.specs.Shelf.{Held, Stays}
+use Rattle.algo_defs.specs.declared.definition.Def.{Def}
+use Rattle.algo_defs.specs.declared.fault.AlgoError.{AlgoError}
+use Rattle.algo_defs.specs.declared.fault.AlgoError.TheVariants as error
+use Rattle.algo_defs.specs.Text.{definitions_of}
+use Rattle.algo_rules.specs.Placed.{Gives}
+use Rattle.algo_rules.specs.Resolved.{resolution_of}
 use Rattle.algo_tree.specs.Tree.{Vertex}
-use Rattle.command_plan.specs.Plan.{Plan}
+use Rattle.sensor_table.specs.Answers as table
+use Rattle.sensor_table.specs.declared.fault.SensorError.{SensorError}
+use Rattle.sensor_table.specs.declared.fault.SensorError.TheVariants as sensors
+use Rattle.syn_base.specs.declared.limits.LimitFault.{LimitFault}
+use Rattle.command_plan.specs.Plan.{Plan, after}
 use Rattle.command_plan.specs.Ending.{Ending, refused}
 use Rattle.command_plan.specs.Run.{Makes, refuses, was_read}
-use Rattle.command_plan.proofs.Makes.{memory, makes_before}
-use Rattle.syndex_program.specs.Sim.{built, read_file}
-use Rattle.syndex_program.specs.Status.{Refusal, not_built, ending_of}
-use Rattle.syndex_program.specs.View.{Refuses, Yields, ReadsTree}
-use Rattle.algo_tree.specs.Simple.{simple_tree}
-use Rattle.syndex_program.specs.declared.status.Status.{Status}
-use Rattle.syndex_program.specs.declared.status.Status.TheVariants.{Done, Usage, ReadFault, WriteFault, Limit, NotBuilt, OutOfMemory}
+use Rattle.command_plan.proofs.Makes.{after_err, after_ok, makes_before, memory}
+use Rattle.command_status.specs.Status.{Refusal, above, ending_of, of_algorithm, of_sensors, status_of_algorithm, status_of_sensors}
+use Rattle.syndex_program.specs.Plans.{algorithm_plan, unless}
+use Rattle.syndex_program.specs.Reads.{IsAlgorithm, IsRefused, MakesAlgorithm, ReadsAlgorithm, resolves_none, says_none}
+use Rattle.syndex_program.specs.declared.algorithm.Algorithm.{Algorithm}
 
--- a part is there
-pub built_some : {X : Type 0} (old new : Held) (answer : Option X) (next : X → Plan Refusal) (made : Result Bytes (Ending Refusal)) (x : X)
-    → answer ≡ Some x → Makes old new (next x) made → Makes old new (built answer next) made
-built_some old new answer next made x e m = subst (λ o. Makes old new (built o next) made) (sym e) m
+module _ {X : Type 0} (old new : Held) (answer : Result X AlgoError) (next : X → Plan Refusal) where
+  -- an algorithm's text or its definitions are refused
+  by_error : (e : AlgoError) → answer ≡ Err e → Makes old new (after of_algorithm answer next) (Err (ending_of (status_of_algorithm e)))
+  by_error (error.Refused fault) is = after_err old new of_algorithm answer next (error.Refused fault) is
+  by_error (error.Limit fault) is = after_err old new of_algorithm answer next (error.Limit fault) is
+  by_error error.OutOfMemory is = memory old new (after of_algorithm answer next)
 
-built_none : {X : Type 0} (old new : Held) (answer : Option X) (next : X → Plan Refusal) → answer ≡ None → Makes old new (built answer next) (Err (refused not_built))
-built_none old new answer next e = subst (λ o. Makes old new (built o next) (Err (refused not_built))) (sym e) (refuses (inl refl))
+module _ (old new : Held) (text : Bytes) (next : List Def → Vertex → Plan Refusal) where
+  abbrev behind : Plan Refusal
+  behind = after of_algorithm (definitions_of text) (λ defs. after of_algorithm (resolution_of defs) (next defs))
 
--- a part is not there, or memory ran out
-pub built_not : {X : Type 0} (old new : Held) (answer : Option X) (next : X → Plan Refusal) (status : Status) → Refuses answer status → Makes old new (built answer next) (Err (ending_of status))
-built_not old new answer next NotBuilt h = built_none old new answer next h
-built_not old new answer next OutOfMemory h = memory old new (built answer next)
-built_not old new answer next Done h = absurd h
-built_not old new answer next Usage h = absurd h
-built_not old new answer next (ReadFault file) h = absurd h
-built_not old new answer next WriteFault h = absurd h
-built_not old new answer next (Limit fault) h = absurd h
+  is_refused : (e : AlgoError) → IsRefused text e → Makes old new behind (Err (ending_of (status_of_algorithm e)))
+  is_refused e (says_none is) = by_error old new (definitions_of text) (λ defs. after of_algorithm (resolution_of defs) (next defs)) e is
+  is_refused e (resolves_none defs says is) =
+      after_ok old new of_algorithm (definitions_of text) (λ ds. after of_algorithm (resolution_of ds) (next ds)) (Err (ending_of (status_of_algorithm e))) defs says
+      (by_error old new (resolution_of defs) (next defs) e is)
 
--- a text was read, and then its algorithm
-pub tree_read : (name text : Bytes) (old new : Held) (result : Result Vertex Status) → IsRead name old text → Yields (simple_tree text) result → ReadsTree name old new result
-tree_read name text old new (Ok main) is y = (text, is, y)
-tree_read name text old new (Err status) is y = λ next. was_read text is (built_not old new (simple_tree text) next status y)
+  pub refused_so : (e : AlgoError) → MakesAlgorithm text (Err e) → Makes old new behind (Err (ending_of (status_of_algorithm e)))
+  refused_so (error.Refused fault) h = is_refused (error.Refused fault) h
+  refused_so (error.Limit fault) h = is_refused (error.Limit fault) h
+  refused_so error.OutOfMemory h = memory old new behind
+
+  pub resolved_so : (algorithm : Algorithm) (made : Result Bytes (Ending Refusal)) → IsAlgorithm text algorithm → Makes old new (next algorithm.defs.defs algorithm.tree) made → Makes old new behind made
+  resolved_so algorithm made is m =
+      after_ok old new of_algorithm (definitions_of text) (λ ds. after of_algorithm (resolution_of ds) (next ds)) made algorithm.defs.defs is.says
+      (after_ok old new of_algorithm (resolution_of algorithm.defs.defs) (next algorithm.defs.defs) made algorithm.tree is.resolves m)
 
 -- an algorithm was read, and then the plan went on with it
-pub went_on : (name : Bytes) (a b c : Held) (main : Vertex) (next : Vertex → Plan Refusal) (made : Result Bytes (Ending Refusal)) → Stays a b → ReadsTree name a b (Ok main) → Makes b c (next main) made
-    → Makes a c (read_file Algorithm name (λ text. built (simple_tree text) next)) made
-went_on name a b c main next made stays (text, is, t) m =
-    was_read text is (built_some a c (simple_tree text) next made main t (makes_before a b c (next main) made stays m))
+pub went_on : (name : Bytes) (a b c : Held) (algorithm : Algorithm) (next : List Def → Vertex → Plan Refusal) (made : Result Bytes (Ending Refusal)) → Stays a b
+    → ReadsAlgorithm name a b (Ok algorithm) → Makes b c (next algorithm.defs.defs algorithm.tree) made → Makes a c (algorithm_plan name next) made
+went_on name a b c algorithm next made stays (text, read, is) m =
+    was_read text read (resolved_so a c text next algorithm made is (makes_before a b c (next algorithm.defs.defs algorithm.tree) made stays m))
+
+-- a table is refused, or memory ran out
+pub table_refused : {X : Type 0} (old new : Held) (answer : Result X SensorError) (next : X → Plan Refusal) (e : SensorError) → table.Fails e answer
+    → Makes old new (after of_sensors answer next) (Err (ending_of (status_of_sensors e)))
+table_refused old new answer next (sensors.Refused fault) (inl is) = after_err old new of_sensors answer next (sensors.Refused fault) is
+table_refused old new answer next (sensors.Limit fault) (inl is) = after_err old new of_sensors answer next (sensors.Limit fault) is
+table_refused old new answer next sensors.OutOfMemory h = memory old new (after of_sensors answer next)
+table_refused old new answer next (sensors.Refused fault) (inr wants) = cc
+table_refused old new answer next (sensors.Limit fault) (inr wants) = cc
+
+-- more than there may be
+pub is_above : (old new : Held) (o : Option LimitFault) (fault : LimitFault) (next : Plan Refusal) → o ≡ Some fault → Makes old new (unless o next) (Err (refused (above fault)))
+is_above old new o fault next is = subst (λ (x : Option LimitFault). Makes old new (unless x next) (Err (refused (above fault)))) (sym is) (refuses (inl refl))
+
+pub is_within : (old new : Held) (o : Option LimitFault) (next : Plan Refusal) (made : Result Bytes (Ending Refusal)) → o ≡ None → Makes old new next made → Makes old new (unless o next) made
+is_within old new o next made is m = subst (λ (x : Option LimitFault). Makes old new (unless x next) made) (sym is) m
+
+-- the definitions of a text are refused
+pub by_definitions : (text : Bytes) (defs : List Def) (e : AlgoError) → definitions_of text ≡ Ok defs → Gives {A = Vertex} (Err e) (resolution_of defs) → MakesAlgorithm text (Err e)
+by_definitions text defs (error.Refused fault) says h = resolves_none defs says h
+by_definitions text defs (error.Limit fault) says h = resolves_none defs says h
+by_definitions text defs error.OutOfMemory says h = tt

@@ -1,10 +1,3 @@
-pub mod Status
-pub mod Lines
-pub mod Words
-pub mod OutputText
-pub mod Ends
-pub mod SensorTable
-pub mod TableAnswers
-pub mod Sim
+pub mod Plans
 pub mod Replies
-pub mod View
+pub mod Reads

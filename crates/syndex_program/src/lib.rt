@@ -1,38 +1,40 @@
 //! The commands from bytes to bytes, and the top call.
 #![tactic(auto)]
 
-ghost use Rattle.std.specs.Prelude.{◌≡◌, None, map, IfSome, IsSomeAnd};
+ghost use Rattle.std.specs.Prelude.{◌≡◌, map, IfSome, IsSomeAnd, None, Some, IfOk, option_map};
 ghost use Rattle.std.specs.String.{string_bytes};
-ghost use Rattle.command_plan.specs.Run.{Ends, Ran};
+ghost use Rattle.command_plan.specs.Run.{Ends, Makes, Ran};
+ghost use Rattle.command_status.specs.Lines.{line_of, Said};
+ghost use Rattle.command_status.specs.Status.{ending_of};
+ghost use Rattle.command_status.specs.declared.status.Status.TheVariants.{Usage as WrongWords};
+ghost use Rattle.command_words.specs.Command.{command_of};
+ghost use Rattle.command_words.specs.View.{view_of};
 ghost use Rattle.outside.specs.Shelf.{Stays};
-ghost use Rattle.syndex_program.specs.Lines.{line_of, Said};
-ghost use Rattle.syndex_program.specs.Replies.{Replies};
-ghost use Rattle.syndex_program.specs.Sim.{sim_plan};
-ghost use Rattle.syndex_program.specs.Status.{ending_of};
-ghost use Rattle.syndex_program.specs.View.{bytes_in};
-ghost use Rattle.syndex_program.specs.Words.{command_of};
+ghost use Rattle.syndex_program.specs.Plans.{plan_of, plan_for};
+ghost use Rattle.syndex_program.specs.Reads.{bytes_in};
+ghost use Rattle.syndex_program.specs.Replies.{Replies, LeavesUnread};
 
-use command::{Command, command_in};
+use check::check_texts;
+use command_status::say;
+use command_words::{Command, command_of};
 use outside::{Failed, Gate, Shelf, Sink, write_whole};
 use sim::sim_text;
 use std::alloc::Global;
 use std::sync::Wait;
 use std::thread::Threads;
 
-mod append;
-mod command;
-mod ends;
-mod line;
-mod output;
+mod algorithm;
+mod check;
+mod files;
 mod sim;
-mod status;
-mod table;
+#[cfg(test)]
+mod tests;
 
-pub use status::Status;
+pub use command_status::Status;
 
 /// Every command that starts no thread. It answers how the command of the words ended, and writes
-/// its line to `err`; what happens there changes no status. Words of no command that is built are
-/// NotBuilt, and nothing is read or written then. It always returns.
+/// its line to `err`; what happens there changes no status. Nothing is read or written for words
+/// that are no command, or a command that is not built. It always returns.
 pub fn plain_command<S: Shelf, K: Sink, E: Sink>(
     alloc: Global,
     words: &[String],
@@ -43,10 +45,10 @@ pub fn plain_command<S: Shelf, K: Sink, E: Sink>(
     ensures replies { IsSomeAnd result (Replies (map string_bytes words.now) (S.held shelf.old) (S.held shelf.new) (K.sunk out.old) (K.sunk out.new)) }
     ensures line { IfSome result (λ status. Said (line_of status) (E.sunk err.old) (E.sunk err.new)) }
     ensures stays { Stays (S.held shelf.old) (S.held shelf.new) }
-    ensures unread { command_of (map string_bytes words.now) ≡ None → S.held shelf.new ≡ S.held shelf.old }
+    ensures unread { LeavesUnread (command_of (map string_bytes words.now)) (S.held shelf.old) (S.held shelf.new) }
 {
     let status = status_of(alloc, words, shelf, out);
-    line::say(err, &status);
+    say(err, &status);
     Some(status)
 }
 
@@ -65,7 +67,7 @@ pub fn syndex<R: Threads + Wait + Sync, S: Shelf, K: Sink, E: Sink, G: Gate>(
     ensures replies { Replies (map string_bytes words.now) (S.held shelf.old) (S.held shelf.new) (K.sunk out.old) (K.sunk out.new) result }
     ensures line { Said (line_of result) (E.sunk err.old) (E.sunk err.new) }
     ensures stays { Stays (S.held shelf.old) (S.held shelf.new) }
-    ensures unread { command_of (map string_bytes words.now) ≡ None → S.held shelf.new ≡ S.held shelf.old }
+    ensures unread { LeavesUnread (command_of (map string_bytes words.now)) (S.held shelf.old) (S.held shelf.new) }
 {
     match plain_command(alloc, words, shelf, out, err) {
         Some(status) => status,
@@ -82,20 +84,48 @@ fn status_of<S: Shelf, K: Sink>(
 ) -> Status
     ensures replies { Replies (map string_bytes words.now) (S.held shelf.old) (S.held shelf.new) (K.sunk out.old) (K.sunk out.new) result }
     ensures stays { Stays (S.held shelf.old) (S.held shelf.new) }
-    ensures unread { command_of (map string_bytes words.now) ≡ None → S.held shelf.new ≡ S.held shelf.old }
+    ensures unread { LeavesUnread (command_of (map string_bytes words.now)) (S.held shelf.old) (S.held shelf.new) }
 {
-    match command_in(words) {
-        Command::Sim(a, s) => run_sim(alloc, shelf, out, a, s),
-        Command::Other => Status::NotBuilt,
+    match command_of(alloc, words) {
+        Ok(Some(command)) => status_for(alloc, &command, shelf, out),
+        Ok(None) => Status::Usage,
+        Err(_) => Status::OutOfMemory,
     }
 }
 
-fn run_sim<S: Shelf, K: Sink>(alloc: Global, shelf: &mut S, out: &mut K, a: &str, s: &str) -> Status
-    ensures ran { Ran (sim_plan a.now s.now) (S.held shelf.old) (S.held shelf.new) (K.sunk out.old) (K.sunk out.new) (ending_of result) }
+/// How a command ended.
+fn status_for<S: Shelf, K: Sink>(
+    alloc: Global,
+    command: &Command,
+    shelf: &mut S,
+    out: &mut K,
+) -> Status
+    ensures ran { Ran (plan_for (view_of command.now)) (S.held shelf.old) (S.held shelf.new) (K.sunk out.old) (K.sunk out.new) (ending_of result) }
     ensures stays { Stays (S.held shelf.old) (S.held shelf.new) }
+    ensures unread { LeavesUnread (Some (view_of command.now)) (S.held shelf.old) (S.held shelf.new) }
 {
-    let made = sim_text(alloc, shelf, a, s);
+    let made = text_of(alloc, command, shelf);
     write_text(out, made)
+}
+
+/// The text that a command writes, or why there is none.
+fn text_of<S: Shelf>(alloc: Global, command: &Command, shelf: &mut S) -> Result<Vec<u8>, Status>
+    ensures makes { Makes (S.held shelf.old) (S.held shelf.new) (plan_for (view_of command.now)) (bytes_in result) }
+    ensures stays { Stays (S.held shelf.old) (S.held shelf.new) }
+    ensures unread { LeavesUnread (Some (view_of command.now)) (S.held shelf.old) (S.held shelf.new) }
+{
+    match command {
+        Command::Check {
+            algorithm,
+            architecture,
+        } => check_texts(alloc, shelf, algorithm, *architecture),
+        Command::Sim { algorithm, sensors } => sim_text(alloc, shelf, algorithm, sensors),
+        Command::Flat { .. } => Err(Status::NotBuilt),
+        Command::Chart { .. } => Err(Status::NotBuilt),
+        Command::Code { .. } => Err(Status::NotBuilt),
+        Command::Run { .. } => Err(Status::NotBuilt),
+        Command::Load(_) => Err(Status::NotBuilt),
+    }
 }
 
 /// Writes the text that was made, or answers why there is none.
@@ -110,8 +140,3 @@ fn write_text<K: Sink>(out: &mut K, made: Result<Vec<u8>, Status>) -> Status
         },
     }
 }
-
-#[cfg(test)]
-mod rows;
-#[cfg(test)]
-mod tests;

@@ -1,26 +1,35 @@
-use Rattle.std.proofs.Common.{◌≡◌, ◌*◌, ℕ, Bool, true, false, List, Option, Some, None, length, refl}
-use Rattle.std.specs.Prelude.{nat_le, option_and_then}
-use Rattle.syn_base.specs.Limits.{bound_of}
-use Rattle.syn_base.specs.declared.limits.LimitKind.TheVariants.{Output}
-use Rattle.level_meaning.specs.Level.{Values}
-use Rattle.syndex_program.specs.Sim.{within_output}
+use Rattle.std.proofs.Common.{◌≡◌, ◌∙◌, ◌*◌, ℕ, length, sum, sym, ap}
+use Rattle.std.specs.Prelude.{Err, Some}
+use Rattle.std.proofs.lemmas.Result.{err_from_is_err_and}
+use Rattle.csv.specs.Reading.{default_config, records, strip_bom}
+use Rattle.algo_tree.specs.Ends.{actuator_lengths}
+use Rattle.sensor_table.specs.SensorTable.{rows_of}
+use Rattle.command_plan.specs.Ending.{refused}
+use Rattle.command_plan.specs.Plan.{after}
+use Rattle.command_plan.proofs.Makes.{after_ok, memory}
+use Rattle.command_status.specs.Status.{above, of_sensors}
+use Rattle.syndex_program.specs.Plans.{excess, rows_plan}
+use Rattle.syndex_program.proofs.Steps.{is_above, table_refused}
 use Rattle.syndex_program.proofs.sim.read_rows.Goals as goal
 
--- the test decides whether there are rows
-above : (answer : Option (List Values)) (rows : List Values) (count width elements : ℕ) (test : Bool) → answer ≡ Some rows → count ≡ length rows → elements ≡ width
-    → test ≡ nat_le (count * elements) (bound_of Output) → test ≡ false → option_and_then (within_output width) answer ≡ None
-above answer rows count width elements test e count_is width_is test_is is_false = rw (e, ← count_is, ← width_is, ← test_is, is_false) refl
+pub returns-in_err-rows : goal.returns-in_err-rows
+returns-in_err-rows c =
+    let main = c.args.tree.now in
+    let p = err_from_is_err_and c.from_residual.result c.from_residual.ensures.1 in
+    rw (p.1, p.2) (λ old new. table_refused old new (rows_of main (records default_config (strip_bom c.args.table.now))) (rows_plan main) c.in_err-rows.field-0.0 c.in_err-rows.ensures)
 
-within : (answer : Option (List Values)) (rows : List Values) (count width elements : ℕ) (test : Bool) → answer ≡ Some rows → count ≡ length rows → elements ≡ width
-    → test ≡ nat_le (count * elements) (bound_of Output) → test ≡ true → option_and_then (within_output width) answer ≡ Some rows
-within answer rows count width elements test e count_is width_is test_is is_true = rw (e, ← count_is, ← width_is, ← test_is, is_true) refl
+pub returns-in_err-width : goal.returns-in_err-width
+returns-in_err-width c =
+    let main = c.args.tree.now in
+    let p = err_from_is_err_and c.from_residual-in_err-width.result c.from_residual-in_err-width.ensures.1 in
+    rw (p.1, p.2) (λ old new. memory old new (after of_sensors (rows_of main (records default_config (strip_bom c.args.table.now))) (rows_plan main)))
 
-pub returns-then-not-is_within_output : goal.returns-then-not-is_within_output
-returns-then-not-is_within_output c =
-    above _ c.in_ok-rows.rows.reactions c.count.result _ c.in_ok-width.width c.is_within_output.result c.in_ok-rows.ensures.1 c.count.ensures c.in_ok-width.ensures c.is_within_output.ensures c.if-not-is_within_output.true
-
-pub returns : goal.returns
-returns c = (
-  c.in_ok-rows.ensures.0,
-  within _ c.in_ok-rows.rows.reactions c.count.result _ c.in_ok-width.width c.is_within_output.result c.in_ok-rows.ensures.1 c.count.ensures c.in_ok-width.ensures c.is_within_output.ensures c.if-not-is_within_output.false,
-)
+pub returns-in-Some : goal.returns-in-Some
+returns-in-Some c = λ old new.
+    let main = c.args.tree.now in
+    let rows = c.in_ok-rows.rows in
+    let counted : c.count.result * c.in_ok-width.width ≡ length rows.reactions * sum (actuator_lengths main) =
+    ap (λ (n : ℕ). n * c.in_ok-width.width) c.count.ensures ∙ ap (λ (n : ℕ). length rows.reactions * n) c.in_ok-width.ensures in
+    let over : excess (length rows.reactions * sum (actuator_lengths main)) ≡ Some c.in-Some.limit = sym (ap excess counted) ∙ sym c.excess.ensures ∙ c.in-Some.is in
+    after_ok old new of_sensors (rows_of main (records default_config (strip_bom c.args.table.now))) (rows_plan main) (Err (refused (above c.in-Some.limit))) rows c.in_ok-rows.ensures
+    (is_above old new (excess (length rows.reactions * sum (actuator_lengths main))) c.in-Some.limit _ over)

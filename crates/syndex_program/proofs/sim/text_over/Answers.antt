@@ -1,11 +1,16 @@
-use Rattle.std.proofs.Common.{◌≡◌, Ok, Some, inl, ap}
+use Rattle.std.proofs.Common.{◌*◌, length, sum, ap, inl}
+use Rattle.std.specs.Prelude.{Ok}
 use Rattle.std.proofs.lemmas.Result.{err_from_is_err_and}
+use Rattle.csv.specs.Reading.{default_config, records, strip_bom}
 use Rattle.outside.specs.Bytes.{Bytes}
+use Rattle.algo_tree.specs.Ends.{actuator_lengths}
+use Rattle.sensor_table.specs.SensorTable.{rows_of}
 use Rattle.command_plan.specs.Run.{gives, not_read, was_read}
-use Rattle.command_plan.proofs.Makes.{memory}
-use Rattle.syndex_program.specs.Sim.{rows_of}
-use Rattle.syndex_program.specs.View.{Refuses}
-use Rattle.syndex_program.proofs.Steps.{built_some, built_not}
+use Rattle.command_plan.specs.Plan.{give}
+use Rattle.command_plan.proofs.Makes.{after_ok, memory}
+use Rattle.command_status.specs.Status.{of_sensors}
+use Rattle.syndex_program.specs.Plans.{excess, rows_plan, sim_output, table_plan}
+use Rattle.syndex_program.proofs.Steps.{is_within}
 use Rattle.syndex_program.proofs.sim.text_over.Goals as goal
 
 pub returns-in_err-table-clause-makes : goal.returns-in_err-table-clause-makes
@@ -15,17 +20,24 @@ returns-in_err-table-clause-makes g c =
 
 pub returns-in_err-rows-clause-makes : goal.returns-in_err-rows-clause-makes
 returns-in_err-rows-clause-makes g c =
+    let H = g.S.Shelf.held in
     let p = err_from_is_err_and c.from_residual-in_err-rows.result c.from_residual-in_err-rows.ensures.1 in
-    let f : Refuses (rows_of c.args.tree.now c.in_ok-table.table.items) c.in_err-rows.field-0.0 = rw (← c.deref.ensures.value) c.in_err-rows.ensures in
-    rw (p.1, p.2) (was_read c.in_ok-table.table.items c.in_ok-table.ensures.read (built_not _ _ (rows_of c.args.tree.now c.in_ok-table.table.items) _ c.in_err-rows.field-0.0 f))
+    let f = rw c.deref.ensures.value at c.in_err-rows.ensures in
+    rw (p.1, p.2) (was_read c.in_ok-table.table.items c.in_ok-table.ensures.read (f (H c.args.shelf.now) (H c.read_file.new.shelf)))
 
-pub returns-in_err-acts_text-clause-makes : goal.returns-in_err-acts_text-clause-makes
-returns-in_err-acts_text-clause-makes g c =
-    let p = err_from_is_err_and c.from_residual-in_err-acts_text.result c.from_residual-in_err-acts_text.ensures.1 in
-    rw (p.1, p.2) (memory _ _ _)
+pub returns-in_err-simulated-clause-makes : goal.returns-in_err-simulated-clause-makes
+returns-in_err-simulated-clause-makes g c =
+    let H = g.S.Shelf.held in
+    let p = err_from_is_err_and c.from_residual-in_err-simulated.result c.from_residual-in_err-simulated.ensures.1 in
+    rw (p.1, p.2) (memory (H c.args.shelf.now) (H c.read_file.new.shelf) (table_plan c.args.tree.now c.args.sensors.now))
 
 pub returns-clause-makes : goal.returns-clause-makes
 returns-clause-makes g c =
-    let r : rows_of c.args.tree.now c.in_ok-table.table.items ≡ Some c.in_ok-rows.rows.reactions = rw (← c.deref.ensures.value) c.in_ok-rows.ensures.1 in
-    was_read c.in_ok-table.table.items c.in_ok-table.ensures.read (built_some _ _ (rows_of c.args.tree.now c.in_ok-table.table.items) _ _ c.in_ok-rows.rows.reactions r
-    (gives (inl (ap (λ (x : Bytes). Ok x) c.in_ok-acts_text.ensures))))
+    let H = g.S.Shelf.held in
+    let main = c.args.tree.now in
+    let rows = c.in_ok-rows.rows in
+    let read = rw c.deref.ensures.value at c.in_ok-rows.ensures in
+    was_read c.in_ok-table.table.items c.in_ok-table.ensures.read
+    (after_ok (H c.args.shelf.now) (H c.read_file.new.shelf) of_sensors (rows_of main (records default_config (strip_bom c.in_ok-table.table.items))) (rows_plan main) _ rows read.0
+    (is_within (H c.args.shelf.now) (H c.read_file.new.shelf) (excess (length rows.reactions * sum (actuator_lengths main))) (give (sim_output main rows.reactions)) _ read.2
+    (gives (inl (ap (λ (x : Bytes). Ok x) c.in_ok-simulated.ensures)))))

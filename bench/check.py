@@ -1,0 +1,72 @@
+#!/usr/bin/env python3
+"""Times `syndex check` over algorithm texts of 1, 4 and 16 MiB: of sensors, of comments, of a chain of graphs each of which
+refers to the next (refused by its depth), of graphs whose names have a long prefix. Reading, checking and printing together.
+Prints the status, the seconds and the ratios of the times, and the greatest size in memory. Last, a text whose graphs hold no
+operation but would make 64^7 vertices, which ends at once."""
+import os
+import resource
+import subprocess
+import tempfile
+import time
+
+TOP = os.path.dirname(os.path.dirname(os.path.abspath(__file__)))
+MIB = 1024 * 1024
+HEAD = "algorithm 1\n"
+TAIL = "graph main\nend\n"
+KINDS = {
+    "sensors": lambda k: f"sensor S{k} 1\n",
+    "comments": lambda k: f"# nothing {k}\n",
+    "a chain of graphs": lambda k: f"graph G{k}\nref r G{k + 1}\nend\n",
+    "long prefixes": lambda k: f"graph a_graph_with_a_long_name{k:06}\nin x 1\nout y 1\nedge x y\nend\n",
+}
+LAST = {"a chain of graphs": lambda k: f"graph G{k}\nend\n"}
+
+
+def text_of(kind, size):
+    """The head, as many blocks as there is room for, and the main graph."""
+    line, last = KINDS[kind], LAST.get(kind, lambda k: "")
+    parts, room, k = [HEAD], size - len(HEAD) - len(TAIL) - 40, 0
+    while len(line(k)) <= room:
+        parts.append(line(k))
+        room -= len(line(k))
+        k += 1
+    return "".join(parts) + last(k) + TAIL
+
+
+def countless():
+    """Eight levels of 64 references each, down to a graph that is empty."""
+    parts, names = [HEAD, "graph G0\nend\n"], [f"G{i}" for i in range(1, 7)] + ["main"]
+    for depth, name in enumerate(names):
+        refs = "".join(f"ref r{i} G{depth}\n" for i in range(64))
+        parts.append(f"graph {name}\n{refs}end\n")
+    return "".join(parts)
+
+
+def run(path):
+    start = time.monotonic()
+    done = subprocess.run([os.path.join(TOP, "syndex"), "check", path], capture_output=True)
+    return time.monotonic() - start, done.returncode, done.stderr.decode().strip()
+
+
+def main():
+    with tempfile.TemporaryDirectory() as room:
+        path = os.path.join(room, "text")
+        for kind in KINDS:
+            times = []
+            for mib in (1, 4, 16):
+                with open(path, "w", encoding="utf-8") as it:
+                    it.write(text_of(kind, mib * MIB))
+                took, status, line = min(run(path) for _ in range(2))
+                times.append(took)
+            ratios = ", ".join(f"{b / a:.2f}" for a, b in zip(times, times[1:]))
+            print(f"{kind}: {', '.join(f'{t:.3f}' for t in times)} s, ratios {ratios}, status {status} {line}")
+        with open(path, "w", encoding="utf-8") as it:
+            it.write(countless())
+        took, status, line = run(path)
+        print(f"countless graphs: {took:.3f} s, status {status} {line}")
+    most = resource.getrusage(resource.RUSAGE_CHILDREN).ru_maxrss
+    print(f"at most {most / 1024:.0f} MiB")
+
+
+if __name__ == "__main__":
+    main()

@@ -1,0 +1,53 @@
+-- The text of a file has few lines, and few definitions.
+use Rattle.std.proofs.Common.{◌≤◌, ◌+◌, ℕ, Bool, true, false, cond, List, [], ◌∷◌, ◌++◌, length, length-append, append_assoc, sym, subst, arith}
+use Rattle.text_lines.specs.Text.{is_feed, lines_of, with_byte}
+use Rattle.outside.specs.Shelf.{file_bound}
+use Rattle.algo_reader.proofs.LineCounts.{lines_at_most}
+use Rattle.algo_defs.specs.Words.{Bytes}
+use Rattle.algo_defs.specs.declared.definition.Def.{Def}
+use Rattle.algo_defs.specs.declared.definition.Body.{Body}
+use Rattle.algo_defs.specs.declared.definition.Body.TheVariants.{Sensor, Actuator, Constant, Delay, Function, Graph, Switch, Repeat}
+use Rattle.algo_print.specs.Canonical.{body_lines, canonical_text, definition_lines, joined, text_of, version_words}
+
+pub few_lines : (text : Bytes) → length text ≤ file_bound → length (lines_of text) ≤ 4000000000
+few_lines text h = omega (arith, h, lines_at_most text)
+
+one_kept : (f : Bool) (b : ℕ) (ls : List Bytes) → 1 ≤ length ls → length ls ≤ length (cond f ([] ∷ ls) (with_byte b ls))
+one_kept f b [] h = absurd (omega (arith, h))
+one_kept true b (l ∷ ls) h = omega arith
+one_kept false b (l ∷ ls) h = omega arith
+
+-- a line feed ends a line
+behind_feed : (xs ys : Bytes) → length (lines_of ys) + 1 ≤ length (lines_of (xs ++ 10 ∷ ys))
+behind_feed [] ys = omega arith
+behind_feed (b ∷ xs) ys =
+    let below = behind_feed xs ys in
+    let some : 1 ≤ length (lines_of (xs ++ 10 ∷ ys)) = omega (arith, below) in
+    omega (arith, below, one_kept (is_feed b) b (lines_of (xs ++ 10 ∷ ys)) some)
+
+as_many_lines : (ls : List (List Bytes)) → length ls ≤ length (lines_of (text_of ls))
+as_many_lines [] = omega arith
+as_many_lines (ws ∷ ls) =
+    let first : length (lines_of (text_of ls)) + 1 ≤ length (lines_of ((joined ws ++ 10 ∷ []) ++ text_of ls)) =
+    subst (λ (t : Bytes). length (lines_of (text_of ls)) + 1 ≤ length (lines_of t)) (sym (append_assoc (joined ws) (10 ∷ []) (text_of ls))) (behind_feed (joined ws) (text_of ls)) in
+    omega (arith, first, as_many_lines ls)
+
+-- each definition has a line
+one_line : (w : Bytes) (b : Body) → 1 ≤ length (body_lines w b)
+one_line w (Sensor len) = omega arith
+one_line w (Actuator len) = omega arith
+one_line w (Constant values) = omega arith
+one_line w (Delay values) = omega arith
+one_line w (Function ins outs) = omega arith
+one_line w (Graph ins outs references edges) = omega arith
+one_line w (Switch on ins outs cases otherwise line) = omega arith
+one_line w (Repeat copies def lines) = omega arith
+
+as_many_definitions : (ds : List Def) → length ds ≤ length (definition_lines ds)
+as_many_definitions [] = omega arith
+as_many_definitions (d ∷ ds) = omega (arith, one_line d.name d.body, as_many_definitions ds, length-append (body_lines d.name d.body) (definition_lines ds))
+
+pub few_definitions : (text : Bytes) (ds : List Def) → length text ≤ file_bound → length (lines_of (canonical_text ds)) ≤ length (lines_of text) → length ds ≤ 4000000000
+few_definitions text ds short back =
+    let printed : length (version_words ∷ definition_lines ds) ≤ length (lines_of (canonical_text ds)) = as_many_lines (version_words ∷ definition_lines ds) in
+    omega (arith, few_lines text short, back, printed, as_many_definitions ds)

@@ -1,8 +1,0 @@
-use Rattle.std.proofs.Common.{◌≡◌, ◌++◌, drop, map}
-use Rattle.algo_tree.specs.View.{vertices_view}
-use Rattle.syndex_program.specs.Ends.{sensor_names_in}
-use Rattle.syndex_program.proofs.ends.sensors_in.Given as goal
-
--- the names so far, before those of the vertices that are left
-abbrev pub invariant-loop-vertex : goal.invariant-loop-vertex
-invariant-loop-vertex l = map (λ s. s.now) l.names.items ++ sensor_names_in (vertices_view (drop l.vertex-index l.vertices)) ≡ sensor_names_in (vertices_view l.vertices)

@@ -1,8 +1,0 @@
-use Rattle.std.proofs.Common.{◌≡◌, ◌++◌, drop, map, get_or, []}
-use Rattle.syndex_program.specs.OutputText.{reaction_text}
-use Rattle.syndex_program.proofs.output.append_reaction.Given as goal
-
--- what is there, with the lines of the actuators that are left, is the whole
-abbrev pub invariant-loop-a : goal.invariant-loop-a
-invariant-loop-a l = l.text.items ++ reaction_text l.k l.a (map (λ s. s.now) (drop l.a l.names)) (get_or l.rows.reactions l.k [])
-    ≡ l.fn.text.items ++ reaction_text l.k 0 (map (λ s. s.now) l.names) (get_or l.rows.reactions l.k [])

@@ -1,8 +1,0 @@
-use Rattle.std.proofs.Common.{◌≡◌, ◌+◌, drop, not}
-use Rattle.std.specs.List.{position_or_len}
-use Rattle.syndex_program.specs.SensorTable.{is_line_end}
-use Rattle.syndex_program.proofs.table.end_count.Given as goal
-
--- the place is that of what is left, and what was passed
-abbrev pub invariant-loop-i : goal.invariant-loop-i
-invariant-loop-i l = l.i + position_or_len (λ b. not (is_line_end b)) (drop l.i l.text) ≡ position_or_len (λ b. not (is_line_end b)) l.text

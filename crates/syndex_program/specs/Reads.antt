@@ -1,0 +1,56 @@
+-- What the parts of a command answer.
+use Rattle.std.specs.Prelude.{◌≡◌, ◌*◌, ℕ, length, List, sum, None, Result, Ok, Err, Vec}
+use Rattle.csv.specs.Reading.{default_config, records, strip_bom}
+use Rattle.outside.specs.Bytes.{Bytes}
+use Rattle.outside.specs.Shelf.{Held, IsRead}
+use Rattle.syn_base.specs.Rows.{Reactions}
+use Rattle.algo_defs.specs.declared.definition.Def.{Def}
+use Rattle.algo_defs.specs.declared.fault.AlgoError.{AlgoError}
+use Rattle.algo_defs.specs.declared.fault.AlgoError.TheVariants as error
+use Rattle.algo_defs.specs.Text.{definitions_of}
+use Rattle.algo_rules.specs.Resolved.{resolution_of}
+use Rattle.algo_tree.specs.Tree.{Vertex}
+use Rattle.algo_tree.specs.Ends.{sensor_lengths, actuator_lengths}
+use Rattle.sensor_table.specs.SensorTable.{rows_of}
+use Rattle.command_plan.specs.Plan.{Plan, after}
+use Rattle.command_plan.specs.Run.{Makes}
+use Rattle.command_plan.specs.Ending.{Ending}
+use Rattle.command_status.specs.Status.{Refusal, ending_of, of_sensors}
+use Rattle.command_status.specs.declared.status.Status.{Status}
+use Rattle.syndex_program.specs.Plans.{algorithm_plan, excess, rows_plan}
+use Rattle.syndex_program.specs.declared.algorithm.Algorithm.{Algorithm}
+
+module _ {A : Type 0} where
+  -- the bytes of a text, or the ending that its status stands for
+  abbrev pub bytes_in : Result (Vec ℕ A) Status → Result Bytes (Ending Refusal)
+  bytes_in (Ok text) = Ok text.items
+  bytes_in (Err status) = Err (ending_of status)
+
+-- the definitions of a text, and what they resolve to
+pub record IsAlgorithm (text : Bytes) (algorithm : Algorithm) : Type 0 where
+  pub says : definitions_of text ≡ Ok algorithm.defs.defs
+  pub resolves : resolution_of algorithm.defs.defs ≡ Ok algorithm.tree
+
+-- the first refusal of a text, by itself or by its definitions
+pub data IsRefused (text : Bytes) (error : AlgoError) : Type 0 where
+  says_none : definitions_of text ≡ Err error → IsRefused text error
+  resolves_none : (defs : List Def) → definitions_of text ≡ Ok defs → resolution_of defs ≡ Err error → IsRefused text error
+
+-- the algorithm of a text or its first refusal; want of memory may come in place of either
+abbrev pub MakesAlgorithm : Bytes → Result Algorithm AlgoError → Type 0
+MakesAlgorithm text (Ok algorithm) = IsAlgorithm text algorithm
+MakesAlgorithm text (Err (error.Refused fault)) = IsRefused text (error.Refused fault)
+MakesAlgorithm text (Err (error.Limit fault)) = IsRefused text (error.Limit fault)
+MakesAlgorithm text (Err error.OutOfMemory) = Unit {0}
+
+-- the file has a text of this algorithm; or carrying on from it ends so, whatever follows
+abbrev pub ReadsAlgorithm : Bytes → Held → Held → Result Algorithm Status → Type 0
+ReadsAlgorithm name old new (Ok algorithm) = (text : Bytes) × IsRead name old text × IsAlgorithm text algorithm
+ReadsAlgorithm name old new (Err status) = (next : List Def → Vertex → Plan Refusal) → Makes old new (algorithm_plan name next) (Err (ending_of status))
+
+-- a table has these rows, and the output over them is within its bound; or carrying on from it ends so
+abbrev pub ReadsRows : Vertex → Bytes → Result Reactions Status → Type 0
+ReadsRows main table (Ok rows) =
+    (rows_of main (records default_config (strip_bom table)) ≡ Ok rows) × (rows.lens ≡ sensor_lengths main) × (excess (length rows.reactions * sum (actuator_lengths main)) ≡ None)
+ReadsRows main table (Err status) =
+    (old new : Held) → Makes old new (after of_sensors (rows_of main (records default_config (strip_bom table))) (rows_plan main)) (Err (ending_of status))

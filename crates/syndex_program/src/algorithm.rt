@@ -1,0 +1,47 @@
+//! The algorithm of a file: its definitions and their tree.
+ghost use Rattle.std.specs.Prelude.{◌≤◌, length};
+ghost use Rattle.outside.specs.Shelf.{Stays, file_bound};
+ghost use Rattle.syndex_program.specs.Reads.{IsAlgorithm, MakesAlgorithm, ReadsAlgorithm};
+
+use crate::files::read_file;
+use algo_defs::{AlgoError, Defs};
+use algo_forms::accepted_are_well_read;
+use algo_print::canonical_text_reads_back;
+use algo_reader::read_algo;
+use algo_resolve::resolve;
+use algo_tree::Tree;
+use command_status::Status;
+use outside::{File, Shelf};
+use std::alloc::Global;
+
+/// What a text says, and what its definitions resolve to.
+#[derive(Drop)]
+pub struct Algorithm {
+    pub defs: Defs,
+    pub tree: Tree,
+}
+
+/// The algorithm of a file, or why there is none.
+pub fn read_algorithm<S: Shelf>(
+    alloc: Global,
+    shelf: &mut S,
+    name: &str,
+) -> Result<Algorithm, Status>
+    ensures stays { Stays (S.held shelf.old) (S.held shelf.new) }
+    ensures reads { ReadsAlgorithm name.now (S.held shelf.old) (S.held shelf.new) result }
+{
+    let text = read_file(alloc, shelf, File::Algorithm, name)?;
+    Ok(algorithm_of(alloc, &text)?)
+}
+
+/// The algorithm of a text, or its first refusal.
+fn algorithm_of(alloc: Global, text: &[u8]) -> Result<Algorithm, AlgoError>
+    requires { length text.now ≤ file_bound }
+    ensures { MakesAlgorithm text.now result }
+{
+    let defs = read_algo(alloc, text)?;
+    accepted_are_well_read();
+    canonical_text_reads_back();
+    let tree = resolve(alloc, &defs)?;
+    Ok(Algorithm { defs, tree })
+}
