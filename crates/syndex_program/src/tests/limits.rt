@@ -57,9 +57,9 @@ fn one_more_than_a_bound_is_told(rt: HostRuntime) -> Result<(), Fail> {
         ),
         (
             "algorithm 1\nfunction F\nout y 1 = ",
-            257,
+            129,
             ("add(", ","),
-            b"limit tokens: 771 above 512\n",
+            b"limit tokens: 516 above 512\n",
         ),
     ];
     for (head, count, line, told) in rows {
