@@ -55,16 +55,16 @@ fn commands_that_are_not_built_say_so(rt: HostRuntime) -> Result<(), Fail> {
 #[test]
 fn an_unread_file_is_told_by_what_it_is(rt: HostRuntime) -> Result<(), Fail> {
     let alloc = rt.alloc();
-    for (call, line) in [
-        (0, b"cannot read algorithm\n".as_slice()),
-        (2, b"cannot read sensors\n".as_slice()),
-    ] {
+    let rows: [(&[&str], u64, &[u8]); 2] = [
+        (&["syndex", "check", "a"], 0, b"cannot read algorithm\n"),
+        (&["syndex", "sim", "a", "s"], 2, b"cannot read sensors\n"),
+    ];
+    for (words, call, line) in rows {
         let text = text_of_lines(alloc, &ECHO)?;
         let mut shelf = shelf_of(alloc, text, TABLE, vec![in alloc; call]?)?;
         let mut out = sink(alloc, 10, Vec::new(alloc))?;
         let mut err = sink(alloc, 10, Vec::new(alloc))?;
-        let words = ["syndex", "sim", "a", "s"];
-        let status = answer(&rt, &words, &mut shelf, &mut out, &mut err, alloc)?;
+        let status = answer(&rt, words, &mut shelf, &mut out, &mut err, alloc)?;
         assert_eq!(rt; status.number(), 3);
         assert_eq!(rt; err.bytes(), line);
         assert_eq!(rt; out.calls(), 0);
