@@ -70,6 +70,7 @@ fn gives_a_row_for_each_reaction(rt: HostRuntime) -> Result<(), Fail> {
 fn reads_quotes_and_other_ends_of_lines(rt: HostRuntime) -> Result<(), Fail> {
     let tree = tree_of(&rt, rt.alloc(), sensing(rt.alloc(), 1)?);
     let rows = read_sensors(rt.alloc(), b"k,s.0\r\n0,\"5\"\r\n1,-1\r\n", &tree)?;
+    assert_eq!(rt; rows.lens(), [1].as_slice());
     assert_eq!(rt; rows.count(), 2);
     assert_eq!(rt; rows.vector(0, 0), [5].as_slice());
     assert_eq!(rt; rows.vector(1, 0), [-1].as_slice());
