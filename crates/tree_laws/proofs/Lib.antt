@@ -19,4 +19,6 @@ pub mod LineNames
 pub mod Wellness
 pub mod Counting
 pub mod Trees
+pub mod Bounds
+pub mod Names
 pub mod Worked

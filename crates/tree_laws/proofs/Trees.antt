@@ -26,11 +26,11 @@ use Rattle.tree_laws.proofs.Counting.{counted_within}
 use Rattle.algo_defs.specs.Words.{Bytes}
 use Rattle.algo_tree.specs.Tree.{graph}
 
-abbrev main : Bytes
+abbrev pub main : Bytes
 main = codes "main"
 
 -- the definition of `main`
-main_by : (ds : List Def) (o : Option Def) → definition ds main ≡ o → IsGraphOf o → (d : Def) × ((definition ds main ≡ Some d) × (is_main_graph d.body ≡ true))
+pub main_by : (ds : List Def) (o : Option Def) → definition ds main ≡ o → IsGraphOf o → (d : Def) × ((definition ds main ≡ Some d) × (is_main_graph d.body ≡ true))
 main_by ds None e h = absurd h
 main_by ds (Some d) e h = (d, (e, h))
 

@@ -3,6 +3,8 @@ use Rattle.std.specs.Prelude.{◌≡◌, List, None}
 use Rattle.algo_defs.specs.declared.definition.Def.{Def}
 use Rattle.algo_tree.specs.Counted as counted
 use Rattle.algo_tree.specs.Valid.{IsTree}
+use Rattle.path_text.specs.Bounded.{HasBounds}
+use Rattle.path_text.specs.Named.{HasNames}
 use Rattle.algo_rules.specs.Resolved.{refusal, tree_of, operations}
 use Rattle.algo_rules.specs.WellRead.{AreWellRead}
 
@@ -13,3 +15,11 @@ AcceptedMakeATree = (ds : List Def) → AreWellRead ds → refusal ds ≡ None �
 -- Their tree stands for as many flat operations as are counted without making it.
 abbrev pub OperationsAreCounted : Type 0
 OperationsAreCounted = (ds : List Def) → AreWellRead ds → refusal ds ≡ None → counted.operations (tree_of ds) ≡ operations ds
+
+-- Their tree is within the bounds of a valid flat graph.
+abbrev pub AcceptedHaveBounds : Type 0
+AcceptedHaveBounds = (ds : List Def) → AreWellRead ds → refusal ds ≡ None → HasBounds (tree_of ds)
+
+-- In their tree names stand where names are asked for.
+abbrev pub AcceptedHaveNames : Type 0
+AcceptedHaveNames = (ds : List Def) → AreWellRead ds → refusal ds ≡ None → HasNames (tree_of ds)

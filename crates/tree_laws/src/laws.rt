@@ -1,5 +1,5 @@
 //! Laws of resolving, each the contract of a function that does nothing.
-ghost use Rattle.tree_laws.specs.Central.{AcceptedMakeATree, OperationsAreCounted};
+ghost use Rattle.tree_laws.specs.Central.{AcceptedHaveBounds, AcceptedHaveNames, AcceptedMakeATree, OperationsAreCounted};
 ghost use Rattle.tree_laws.specs.Depths.{NamedAreLessDeep, PortsFollowFromBodies};
 
 /// Definitions as an accepted text has them, that have no refusal, resolve to a valid tree: well formed,
@@ -7,6 +7,18 @@ ghost use Rattle.tree_laws.specs.Depths.{NamedAreLessDeep, PortsFollowFromBodies
 /// those of the main graph numbered in order, of at most 2,048 flat operations.
 pub fn accepted_make_a_tree()
     ensures { AcceptedMakeATree }
+{}
+
+/// In the tree of such definitions each function has 1 to 64 outputs, and the numbers of cases and copies
+/// have 32 bits.
+pub fn accepted_have_bounds()
+    ensures { AcceptedHaveBounds }
+{}
+
+/// In the tree of such definitions the parts of paths, the definitions and the ports of which flattening
+/// makes vertices are names.
+pub fn accepted_have_names()
+    ensures { AcceptedHaveNames }
 {}
 
 /// The tree of such definitions stands for as many flat operations as are counted for `main` from the

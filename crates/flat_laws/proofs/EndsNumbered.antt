@@ -1,0 +1,193 @@
+-- In a flat graph that stands for the flat list of a tree, sensors and actuators are numbered in order as in the tree.
+use Rattle.std.proofs.Common.{◌≡◌, ℕ, zero, suc, ◌+◌, ◌≤◌, ◌==◌, Bool, true, List, [], ◌∷◌, ◌++◌, map, length, refl, sym, ap, ap₂, ◌∙◌, subst, arith, append-nil, eq-eqb, length-append}
+use Rattle.std.proofs.lemmas.Bool.{and_from}
+use Rattle.std.proofs.lemmas.List.{append_assoc}
+use Rattle.body_lang.specs.Expr.{Expr}
+use Rattle.level_meaning.specs.declared.source.Source.{Source}
+use Rattle.level_meaning.specs.Level.{Path, numbers_below}
+use Rattle.algo_tree.specs.Tree as tree
+use Rattle.algo_tree.specs.Tree.{Label, sensor, actuator, constant, delay, function, explode, implode, merge, graph, switch, repeat, vertex, Vertices, no_vertices, and_vertex}
+use Rattle.algo_tree.specs.Counted.{operations as count}
+use Rattle.algo_tree.specs.Ends.{IsNoEnd, HasNoEnds, AllNoEnds, NoneInside, sensor_number, actuator_number, sensor_numbers, actuator_numbers}
+use Rattle.algo_tree.specs.Meaning.{vertices_in}
+use Rattle.algo_tree.specs.Valid.{IsTree}
+use Rattle.flat_graph.specs.declared.vertex.Kind.{Kind}
+use Rattle.flat_graph.specs.declared.vertex.Kind.TheVariants.{Sensor, Actuator, Function, Constant, Get, Set, Explode, Implode, Merge}
+use Rattle.flat_graph.specs.declared.vertex.Vertex.{Vertex}
+use Rattle.flat_graph.specs.Graph.{Graph}
+use Rattle.flat_graph.specs.Valid.{sensors_from, actuators_from, kinds_of}
+use Rattle.inline_laws.specs.Flat.{Operation, Task, runs, gets, sets}
+use Rattle.inline_laws.specs.Inlined.{wire, wirings, inlined_by, inlined, inlined_all, operations}
+use Rattle.inline_laws.specs.Plain.{IsPlain}
+use Rattle.inline_laws.proofs.Flatten.{flatten-count}
+use Rattle.flat_laws.specs.Stands.{task_of, AllStand, Stands}
+use Rattle.flat_laws.proofs.Acyclic.{same_length}
+
+-- numbers that count up from n
+abbrev CountFrom : ℕ → List ℕ → Type 0
+CountFrom n [] = Unit {0}
+CountFrom n (x ∷ xs) = (x ≡ n) × CountFrom (suc n) xs
+
+count-append : (n : ℕ) (xs ys : List ℕ) → CountFrom n xs → CountFrom (n + length xs) ys → CountFrom n (xs ++ ys)
+count-append n [] ys h k = subst (λ m. CountFrom m ys) (omega arith) k
+count-append n (x ∷ xs) ys h k = (h.0, count-append (suc n) xs ys h.1 (subst (λ m. CountFrom m ys) (omega arith) k))
+
+long_below : (m : ℕ) → length (numbers_below m) ≡ m
+long_below zero = refl
+long_below (suc m) = length-append (numbers_below m) (m ∷ []) ∙ (let e = long_below m in omega (arith, e))
+
+count-below : (m : ℕ) → CountFrom 0 (numbers_below m)
+count-below zero = tt
+count-below (suc m) = count-append 0 (numbers_below m) (m ∷ []) (count-below m) (let e = long_below m in omega (arith, e), tt)
+
+-- the numbers that a sort of kinds has, where only sensors and actuators have any
+module _ (number : tree.Kind → List ℕ) (none : (k : tree.Kind) → IsNoEnd k → number k ≡ []) where
+  abbrev of_task : Task → List ℕ
+  of_task (runs k) = number k
+  of_task (gets vs) = []
+  of_task sets = []
+
+  abbrev numbers_in : List Operation → List ℕ
+  numbers_in [] = []
+  numbers_in (op ∷ ops) = of_task op.task ++ numbers_in ops
+
+  abbrev numbers_of : Vertices → List ℕ
+  numbers_of no_vertices = []
+  numbers_of (and_vertex (vertex l vs) us) = number l.kind ++ numbers_of us
+
+  numbers-append : (xs ys : List Operation) → numbers_in (xs ++ ys) ≡ numbers_in xs ++ numbers_in ys
+  numbers-append [] ys = refl
+  numbers-append (x ∷ xs) ys = ap (λ zs. of_task x.task ++ zs) (numbers-append xs ys) ∙ sym (append_assoc (of_task x.task) (numbers_in xs) (numbers_in ys))
+
+  none-by : (W : Source → Source) (b : ℕ) (at : Path → Path) (l : Label) (k : tree.Kind) (inner : List Source → ℕ → (Path → Path) → List Operation)
+      → ((own : List Source) (at' : Path → Path) → numbers_in (inner own b at') ≡ []) → IsNoEnd k → numbers_in (inlined_by W b at l k inner) ≡ []
+  none-by W b at l (graph outs) inner deep h = deep (map W l.ins) (λ q. at (l.part ∷ q))
+  none-by W b at l (delay v) inner deep h = refl
+  none-by W b at l (sensor n) inner deep h = absurd h
+  none-by W b at l (actuator n) inner deep h = absurd h
+  none-by W b at l (switch values names) inner deep h = ap (λ xs. xs ++ []) (none (switch values names) h)
+  none-by W b at l (repeat n feeds gives) inner deep h = ap (λ xs. xs ++ []) (none (repeat n feeds gives) h)
+  none-by W b at l (constant v) inner deep h = ap (λ xs. xs ++ []) (none (constant v) h)
+  none-by W b at l (function es) inner deep h = ap (λ xs. xs ++ []) (none (function es) h)
+  none-by W b at l explode inner deep h = ap (λ xs. xs ++ []) (none explode h)
+  none-by W b at l implode inner deep h = ap (λ xs. xs ++ []) (none implode h)
+  none-by W b at l (merge values) inner deep h = ap (λ xs. xs ++ []) (none (merge values) h)
+
+  mutual
+    none-vertex : (W : Source → Source) (b : ℕ) (at : Path → Path) (u : tree.Vertex) → HasNoEnds u → numbers_in (inlined W b at u) ≡ []
+    none-vertex W b at (vertex l us) h = none-by W b at l l.kind _ (λ own at'. none-all (wire (wirings b us) own) b at' us h.1) h.0
+
+    none-all : (W : Source → Source) (b : ℕ) (at : Path → Path) (us : Vertices) → AllNoEnds us → numbers_in (inlined_all W b at us) ≡ []
+    none-all W b at no_vertices h = refl
+    none-all W b at (and_vertex u us) h = numbers-append (inlined W b at u) (inlined_all W (b + count u) at us) ∙ ap₂ (λ xs ys. xs ++ ys) (none-vertex W b at u h.0) (none-all W (b + count u) at us h.1)
+
+  main-by : (W : Source → Source) (b : ℕ) (at : Path → Path) (l : Label) (k : tree.Kind) (inner : List Source → ℕ → (Path → Path) → List Operation)
+      → ((own : List Source) (at' : Path → Path) → numbers_in (inner own b at') ≡ []) → numbers_in (inlined_by W b at l k inner) ≡ number k
+  main-by W b at l (graph outs) inner deep = deep (map W l.ins) (λ q. at (l.part ∷ q)) ∙ sym (none (graph outs) tt)
+  main-by W b at l (delay v) inner deep = sym (none (delay v) tt)
+  main-by W b at l (sensor n) inner deep = append-nil (number (sensor n))
+  main-by W b at l (actuator n) inner deep = append-nil (number (actuator n))
+  main-by W b at l (switch values names) inner deep = append-nil (number (switch values names))
+  main-by W b at l (repeat n feeds gives) inner deep = append-nil (number (repeat n feeds gives))
+  main-by W b at l (constant v) inner deep = append-nil (number (constant v))
+  main-by W b at l (function es) inner deep = append-nil (number (function es))
+  main-by W b at l explode inner deep = append-nil (number explode)
+  main-by W b at l implode inner deep = append-nil (number implode)
+  main-by W b at l (merge values) inner deep = append-nil (number (merge values))
+
+  main-all : (W : Source → Source) (b : ℕ) (at : Path → Path) (us : Vertices) → NoneInside us → numbers_in (inlined_all W b at us) ≡ numbers_of us
+  main-all W b at no_vertices h = refl
+  main-all W b at (and_vertex (vertex l vs) us) h =
+      numbers-append (inlined W b at (vertex l vs)) (inlined_all W (b + count (vertex l vs)) at us)
+      ∙ ap₂ (λ xs ys. xs ++ ys) (main-by W b at l l.kind _ (λ own at'. none-all (wire (wirings b vs) own) b at' vs h.0)) (main-all W (b + count (vertex l vs)) at us h.1)
+
+  main-numbers : (main : tree.Vertex) → NoneInside (vertices_in main) → numbers_in (operations main) ≡ numbers_of (vertices_in main)
+  main-numbers (vertex l us) h = main-all (wire (wirings 0 us) []) 0 (λ q. q) us h
+
+  -- counted through, by a test that takes the next number of such a kind
+  module _ (bodies : List (List Expr)) (test : ℕ → List Kind → Bool) (ended : (n : ℕ) → test n [] ≡ true)
+      (one : (n : ℕ) (k : Kind) (ks : List Kind) (rest : List ℕ) → CountFrom n (of_task (task_of bodies k) ++ rest) → ((m : ℕ) → CountFrom m rest → test m ks ≡ true) → test n (k ∷ ks) ≡ true) where
+    pub all_hold : (n a : ℕ) (xs : List Vertex) (ops : List Operation) → AllStand bodies a xs ops → CountFrom n (numbers_in ops) → test n (kinds_of xs) ≡ true
+    all_hold n a [] [] h c = ended n
+    all_hold n a [] (op ∷ ops) h c = absurd h
+    all_hold n a (x ∷ xs) [] h c = absurd h
+    all_hold n a (x ∷ xs) (op ∷ ops) h c =
+        one n x.kind (kinds_of xs) (numbers_in ops)
+        (subst (λ t. CountFrom n (of_task t ++ numbers_in ops)) (ap (λ (o : Operation). o.task) h.0.same) c)
+        (λ m d. all_hold m (suc a) xs ops h.1 d)
+
+no_sensor : (k : tree.Kind) → IsNoEnd k → sensor_number k ≡ []
+no_sensor (sensor n) h = absurd h
+no_sensor (actuator n) h = absurd h
+no_sensor (constant v) h = refl
+no_sensor (delay v) h = refl
+no_sensor (function es) h = refl
+no_sensor explode h = refl
+no_sensor implode h = refl
+no_sensor (merge values) h = refl
+no_sensor (graph outs) h = refl
+no_sensor (switch values names) h = refl
+no_sensor (repeat n feeds gives) h = refl
+
+no_actuator : (k : tree.Kind) → IsNoEnd k → actuator_number k ≡ []
+no_actuator (sensor n) h = absurd h
+no_actuator (actuator n) h = absurd h
+no_actuator (constant v) h = refl
+no_actuator (delay v) h = refl
+no_actuator (function es) h = refl
+no_actuator explode h = refl
+no_actuator implode h = refl
+no_actuator (merge values) h = refl
+no_actuator (graph outs) h = refl
+no_actuator (switch values names) h = refl
+no_actuator (repeat n feeds gives) h = refl
+
+sensors_of : (us : Vertices) → numbers_of sensor_number no_sensor us ≡ sensor_numbers us
+sensors_of no_vertices = refl
+sensors_of (and_vertex (vertex l vs) us) = ap (λ ns. sensor_number l.kind ++ ns) (sensors_of us)
+
+actuators_of : (us : Vertices) → numbers_of actuator_number no_actuator us ≡ actuator_numbers us
+actuators_of no_vertices = refl
+actuators_of (and_vertex (vertex l vs) us) = ap (λ ns. actuator_number l.kind ++ ns) (actuators_of us)
+
+next_is : (n : ℕ) (rest : List ℕ) → CountFrom (suc n) rest → CountFrom (n + 1) rest
+next_is n rest h = let e : suc n ≡ n + 1 = omega arith in subst (λ m. CountFrom m rest) e h
+
+one_sensor : (bodies : List (List Expr)) (n : ℕ) (k : Kind) (ks : List Kind) (rest : List ℕ) → CountFrom n (of_task sensor_number no_sensor (task_of bodies k) ++ rest)
+    → ((m : ℕ) → CountFrom m rest → sensors_from m ks ≡ true) → sensors_from n (k ∷ ks) ≡ true
+one_sensor bodies n (Sensor i) ks rest c later = and_from (i == n) (sensors_from (n + 1) ks) (eq-eqb i n c.0) (later (n + 1) (next_is n rest c.1))
+one_sensor bodies n (Actuator i) ks rest c later = later n c
+one_sensor bodies n (Function b) ks rest c later = later n c
+one_sensor bodies n (Constant z) ks rest c later = later n c
+one_sensor bodies n (Get z) ks rest c later = later n c
+one_sensor bodies n Set ks rest c later = later n c
+one_sensor bodies n Explode ks rest c later = later n c
+one_sensor bodies n Implode ks rest c later = later n c
+one_sensor bodies n (Merge values) ks rest c later = later n c
+
+one_actuator : (bodies : List (List Expr)) (n : ℕ) (k : Kind) (ks : List Kind) (rest : List ℕ) → CountFrom n (of_task actuator_number no_actuator (task_of bodies k) ++ rest)
+    → ((m : ℕ) → CountFrom m rest → actuators_from m ks ≡ true) → actuators_from n (k ∷ ks) ≡ true
+one_actuator bodies n (Actuator i) ks rest c later = and_from (i == n) (actuators_from (n + 1) ks) (eq-eqb i n c.0) (later (n + 1) (next_is n rest c.1))
+one_actuator bodies n (Sensor i) ks rest c later = later n c
+one_actuator bodies n (Function b) ks rest c later = later n c
+one_actuator bodies n (Constant z) ks rest c later = later n c
+one_actuator bodies n (Get z) ks rest c later = later n c
+one_actuator bodies n Set ks rest c later = later n c
+one_actuator bodies n Explode ks rest c later = later n c
+one_actuator bodies n Implode ks rest c later = later n c
+one_actuator bodies n (Merge values) ks rest c later = later n c
+
+pub sensors-numbered : (main : tree.Vertex) (g : Graph) → IsTree main → IsPlain main → Stands g (operations main) → sensors_from 0 (kinds_of g.vertices) ≡ true
+sensors-numbered main g h plain stands =
+    let us = vertices_in main in
+    let same = main-numbers sensor_number no_sensor main h.inside ∙ sensors_of us ∙ h.numbered.sensors in
+    all_hold sensor_number no_sensor g.bodies sensors_from (λ n. refl) (one_sensor g.bodies) 0 0 g.vertices (operations main) stands (subst (CountFrom 0) (sym same) (count-below (length (sensor_numbers us))))
+
+pub actuators-numbered : (main : tree.Vertex) (g : Graph) → IsTree main → IsPlain main → Stands g (operations main) → actuators_from 0 (kinds_of g.vertices) ≡ true
+actuators-numbered main g h plain stands =
+    let us = vertices_in main in
+    let same = main-numbers actuator_number no_actuator main h.inside ∙ actuators_of us ∙ h.numbered.actuators in
+    all_hold actuator_number no_actuator g.bodies actuators_from (λ n. refl) (one_actuator g.bodies) 0 0 g.vertices (operations main) stands (subst (CountFrom 0) (sym same) (count-below (length (actuator_numbers us))))
+
+pub few : (main : tree.Vertex) (g : Graph) → IsTree main → IsPlain main → Stands g (operations main) → length g.vertices ≤ 2048
+few main g h plain stands = subst (λ n. n ≤ 2048) (sym (same_length g.bodies 0 g.vertices (operations main) stands ∙ flatten-count main h plain)) h.few

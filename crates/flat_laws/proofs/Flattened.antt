@@ -1,0 +1,60 @@
+-- The flat graph of any tree: repetitions are unrolled, cases are put under guards, and graphs are inlined.
+use Rattle.std.proofs.Common.{◌≡◌, true, [], length, sym, ◌∙◌}
+use Rattle.algo_tree.specs.Tree.{Vertex}
+use Rattle.algo_tree.specs.Valid.{IsTree}
+use Rattle.algo_tree.specs.Counted.{operations as count}
+use Rattle.flat_graph.specs.Graph.{Graph}
+use Rattle.flat_graph.specs.Valid.{is_flat}
+use Rattle.pass_laws.specs.SameMeaning.{KeepsMeaning}
+use Rattle.pass_laws.proofs.Passes.{keeps_by_steps}
+use Rattle.unroll_laws.specs.Unrolled.{unroll}
+use Rattle.unroll_laws.proofs.Unroll.{unroll_main-keeps}
+use Rattle.unroll_laws.proofs.Unrepeated.{no-unroll}
+use Rattle.unroll_laws.proofs.Counting.{counted-unroll}
+use Rattle.unroll_laws.proofs.Trees.{tree-unroll}
+use Rattle.guard_laws.specs.Guarded.{guard}
+use Rattle.guard_laws.proofs.Guard.{guard_main-keeps}
+use Rattle.guard_laws.proofs.Uncased.{no_case, no_repeat}
+use Rattle.guard_laws.proofs.Counting.{counted-guarded}
+use Rattle.guard_laws.proofs.Trees.{tree-guard}
+use Rattle.inline_laws.specs.Inlined.{operations}
+use Rattle.inline_laws.specs.Plain.{IsPlain}
+use Rattle.inline_laws.proofs.Flatten.{flatten-count}
+use Rattle.path_text.specs.Named.{HasNames}
+use Rattle.path_text.specs.Bounded.{HasBounds}
+use Rattle.flat_laws.specs.Stands.{Stands, KeepsGraph}
+use Rattle.flat_laws.proofs.Stands.{stands-keeps}
+use Rattle.flat_laws.proofs.Acyclic.{same_length}
+use Rattle.flat_laws.proofs.Plain.{plain}
+use Rattle.flat_laws.proofs.Valid.{stands-flat}
+use Rattle.flat_laws.proofs.UnrollBounds.{unroll-keeps}
+use Rattle.flat_laws.proofs.GuardBounds.{guard-keeps}
+
+module _ (main : Vertex) (h : IsTree main) where
+  abbrev flat : Vertex
+  flat = guard (unroll main)
+
+  tree : IsTree flat
+  tree = tree-guard (unroll main) (tree-unroll main h) (no-unroll main)
+
+  pub flattened-plain : IsPlain flat
+  flattened-plain = plain flat (no_repeat [] 0 (unroll main) (no-unroll main)) (no_case [] 0 (unroll main))
+
+  meaning : KeepsMeaning main flat
+  meaning = keeps_by_steps main (unroll main) flat (unroll_main-keeps main h) (guard_main-keeps (unroll main) (tree-unroll main h) (no-unroll main))
+
+  module _ (g : Graph) (stands : Stands g (operations flat)) where
+    pub flattened-keeps : KeepsGraph main g (operations flat)
+    flattened-keeps =
+        let keeps = stands-keeps flat g tree flattened-plain stands in
+        record {
+          taken = λ rows k. keeps.taken rows k ∙ meaning.taken rows k;
+          kept = λ rows k v op is get. sym (meaning.kept rows k op.path) ∙ keeps.kept rows k v op is get;
+        }
+
+    pub flattened-count : length g.vertices ≡ count main
+    flattened-count =
+        same_length g.bodies 0 g.vertices (operations flat) stands ∙ flatten-count flat tree flattened-plain ∙ counted-guarded [] 0 (unroll main) (no-unroll main) ∙ counted-unroll main h.well
+
+    pub flattened-flat : HasNames flat → HasBounds main → is_flat g ≡ true
+    flattened-flat names bounds = stands-flat flat g tree flattened-plain names (guard-keeps (unroll main) (tree-unroll main h) (unroll-keeps main h bounds)) stands

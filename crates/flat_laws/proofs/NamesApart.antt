@@ -1,0 +1,131 @@
+-- No two operations of a flat list have one name: the vertices of a level have distinct parts, nothing stands below a delay, and
+-- its halves differ in their last part.
+use Rattle.std.proofs.Common.{◌≡◌, ℕ, suc, ◌+◌, ℤ, ◌&&◌, not, true, false, List, [], ◌∷◌, ◌++◌, map, bytes_eq, refl, sym, ap, ap₂, ◌∙◌, subst}
+use Rattle.std.specs.List.{list_any}
+use Rattle.std.proofs.lemmas.Bool.{false≢true, and_from, or_from, not_from_false, false_from_ne_true}
+use Rattle.std.proofs.lemmas.Slice.Eq.{bytes_eq-Decides}
+use Rattle.body_lang.specs.Expr.{Expr}
+use Rattle.level_meaning.specs.declared.source.Source.{Source}
+use Rattle.level_meaning.specs.declared.part.Part.{Part}
+use Rattle.level_meaning.specs.Level.{Path, Node}
+use Rattle.level_meaning.specs.Parts.{IsApart, HasDistinctParts}
+use Rattle.algo_tree.specs.Tree as tree
+use Rattle.algo_tree.specs.Tree.{Label, Kind, sensor, actuator, constant, delay, function, explode, implode, merge, graph, switch, repeat, vertex, Vertices, no_vertices, and_vertex}
+use Rattle.algo_tree.specs.Counted.{operations as count}
+use Rattle.algo_tree.specs.Meaning.{node, nodes}
+use Rattle.algo_tree.specs.Valid.{IsTree}
+use Rattle.flat_graph.specs.declared.vertex.Vertex.{Vertex}
+use Rattle.flat_graph.specs.Valid.{are_named_apart}
+use Rattle.inline_laws.specs.Flat.{Operation, gets, sets, same_path}
+use Rattle.inline_laws.specs.Inlined.{wire, wirings, inlined_by, inlined, inlined_all, operations}
+use Rattle.inline_laws.specs.Plain.{IsPlain}
+use Rattle.inline_laws.proofs.Inlinable.{IsKindInlinable, CanInline, AllCanInline, can_inline}
+use Rattle.inline_laws.proofs.Parts.{same_itself}
+use Rattle.inline_laws.proofs.Cells.{Keeps, keeps-below}
+use Rattle.inline_laws.proofs.Numbered.{path_itself}
+use Rattle.inline_laws.proofs.Pairs.{AtAll, all-append, paths-vertex}
+use Rattle.path_text.specs.Texts.{path_text}
+use Rattle.path_text.specs.Named.{IsPathNamed}
+use Rattle.path_text.specs.Bounded.{IsPathBounded}
+use Rattle.path_text.proofs.Texts.{path_told}
+use Rattle.flat_laws.specs.Names.{name_of}
+use Rattle.flat_laws.specs.Stands.{AllStand}
+use Rattle.flat_laws.proofs.Names.{half, full, full-text, IsTold, full-named, full-bounded}
+
+-- no operation has a name that reads like this path
+abbrev NoFull : Path → List Operation → Type 0
+NoFull x [] = Unit {0}
+NoFull x (op ∷ ops) = (same_path x (full op) ≡ false) × NoFull x ops
+
+abbrev pub AllApart : List Operation → Type 0
+AllApart [] = Unit {0}
+AllApart (op ∷ ops) = NoFull (full op) ops × AllApart ops
+
+no_full-append : (x : Path) (xs ys : List Operation) → NoFull x xs → NoFull x ys → NoFull x (xs ++ ys)
+no_full-append x [] ys h k = k
+no_full-append x (y ∷ xs) ys h k = (h.0, no_full-append x xs ys h.1 k)
+
+no_full-from : (x : Path) (ops : List Operation) → AtAll (λ y. (r : Path) → same_path x (y ++ r) ≡ false) ops → NoFull x ops
+no_full-from x [] h = tt
+no_full-from x (op ∷ ops) h = (h.0 (half op.task), no_full-from x ops h.1)
+
+apart-append : (xs ys : List Operation) → AllApart xs → AllApart ys → AtAll (λ x. (r : Path) → NoFull (x ++ r) ys) xs → AllApart (xs ++ ys)
+apart-append [] ys h k a = k
+apart-append (x ∷ xs) ys h k a = (no_full-append (full x) xs ys h.0 (a.0 (half x.task)), apart-append xs ys h.1 k a.1)
+
+-- what makes a path below a level one of the whole
+record IsPlace (at : Path → Path) : Type 0 where
+  keeps : Keeps at
+  appends : (q r : Path) → at q ++ r ≡ at (q ++ r)
+
+place-below : (at : Path → Path) (p : Part) → IsPlace at → IsPlace (λ q. at (p ∷ q))
+place-below at p h = record { keeps = keeps-below at p h.keeps; appends = λ q r. h.appends (p ∷ q) r }
+
+below-apart : (W : Source → Source) (b : ℕ) (at : Path → Path) (us : Vertices) (p : Part) (q : Path) → IsPlace at → IsApart p (nodes us) → AtAll (λ y. (r : Path) → same_path (at (p ∷ q)) (y ++ r) ≡ false) (inlined_all W b at us)
+below-apart W b at no_vertices p q place h = tt
+below-apart W b at (and_vertex u us) p q place h =
+    all-append (λ y. (r : Path) → same_path (at (p ∷ q)) (y ++ r) ≡ false) (inlined W b at u) _
+    (paths-vertex (λ y. (r : Path) → same_path (at (p ∷ q)) (y ++ r) ≡ false) W b at u
+    (λ a r. ap (same_path (at (p ∷ q))) (place.appends ((node u).part ∷ a) r) ∙ place.keeps (p ∷ q) ((node u).part ∷ (a ++ r)) ∙ ap (λ t. t && same_path q (a ++ r)) h.0))
+    (below-apart W (b + count u) at us p q place h.1)
+
+halves-apart : (at : Path → Path) (p : Part) (vs : List (List ℤ)) → IsPlace at → same_path (at (p ∷ []) ++ half (gets vs)) (at (p ∷ []) ++ half sets) ≡ false
+halves-apart at p vs place =
+    ap₂ same_path (place.appends (p ∷ []) (half (gets vs))) (place.appends (p ∷ []) (half sets))
+    ∙ place.keeps (p ∷ half (gets vs)) (p ∷ half sets) ∙ ap (λ t. t && same_path (half (gets vs)) (half sets)) (same_itself p)
+
+apart-by : (W : Source → Source) (b : ℕ) (at : Path → Path) (l : Label) (k : Kind) (cs : List Node) (inner : List Source → ℕ → (Path → Path) → List Operation) → IsPlace at → IsKindInlinable k l.guards cs
+    → ((own : List Source) → HasDistinctParts cs → AllApart (inner own b (λ q. at (l.part ∷ q)))) → AllApart (inlined_by W b at l k inner)
+apart-by W b at l (graph outs) cs inner place h deep = deep (map W l.ins) h.1.1
+apart-by W b at l (delay vs) cs inner place h deep = ((halves-apart at l.part vs place, tt), (tt, tt))
+apart-by W b at l (switch values names) cs inner place h deep = (tt, tt)
+apart-by W b at l (repeat n feeds gives) cs inner place h deep = (tt, tt)
+apart-by W b at l (sensor n) cs inner place h deep = (tt, tt)
+apart-by W b at l (actuator n) cs inner place h deep = (tt, tt)
+apart-by W b at l (constant v) cs inner place h deep = (tt, tt)
+apart-by W b at l (function es) cs inner place h deep = (tt, tt)
+apart-by W b at l explode cs inner place h deep = (tt, tt)
+apart-by W b at l implode cs inner place h deep = (tt, tt)
+apart-by W b at l (merge values) cs inner place h deep = (tt, tt)
+
+mutual
+  apart-vertex : (W : Source → Source) (b : ℕ) (at : Path → Path) (u : tree.Vertex) → IsPlace at → CanInline u → AllApart (inlined W b at u)
+  apart-vertex W b at (vertex l us) place h =
+      apart-by W b at l l.kind (nodes us) _ place h.0 (λ own d. apart-all (wire (wirings b us) own) b (λ q. at (l.part ∷ q)) us (place-below at l.part place) d h.1)
+
+  apart-all : (W : Source → Source) (b : ℕ) (at : Path → Path) (us : Vertices) → IsPlace at → HasDistinctParts (nodes us) → AllCanInline us → AllApart (inlined_all W b at us)
+  apart-all W b at no_vertices place d h = tt
+  apart-all W b at (and_vertex u us) place d h =
+      apart-append (inlined W b at u) _ (apart-vertex W b at u place h.0) (apart-all W (b + count u) at us place d.1 h.1)
+      (paths-vertex (λ x. (r : Path) → NoFull (x ++ r) (inlined_all W (b + count u) at us)) W b at u
+      (λ q r. subst (λ x. NoFull x (inlined_all W (b + count u) at us)) (sym (place.appends ((node u).part ∷ q) r))
+      (no_full-from (at ((node u).part ∷ (q ++ r))) _ (below-apart W (b + count u) at us (node u).part (q ++ r) place d.0))))
+
+pub apart-main : (main : tree.Vertex) → IsTree main → IsPlain main → AllApart (operations main)
+apart-main (vertex l us) h plain =
+    let can = can_inline (vertex l us) h.well plain in
+    apart-all (wire (wirings 0 us) []) 0 (λ q. q) us (record { keeps = λ a b. refl; appends = λ q r. refl }) (subst (λ k. IsKindInlinable k l.guards (nodes us)) h.portless.kind can.0).1.1 can.1
+
+-- paths that differ have texts that differ
+texts-differ : (p q : Path) → IsPathNamed p → IsPathNamed q → IsPathBounded p → IsPathBounded q → same_path p q ≡ false → bytes_eq (path_text p) (path_text q) ≡ false
+texts-differ p q hp hq bp bq h =
+    false_from_ne_true (bytes_eq (path_text p) (path_text q))
+    (λ e. false≢true (sym h ∙ ap (same_path p) (sym (path_told p q hp hq bp bq ((bytes_eq-Decides (path_text p) (path_text q)).0 e))) ∙ path_itself p))
+
+names-differ : (x y : Operation) → IsTold x.path → IsTold y.path → same_path (full x) (full y) ≡ false → bytes_eq (name_of x) (name_of y) ≡ false
+names-differ x y hx hy h =
+    ap₂ bytes_eq (full-text x.path x.task) (full-text y.path y.task) ∙ texts-differ (full x) (full y) (full-named x hx) (full-named y hy) (full-bounded x hx) (full-bounded y hy) h
+
+module _ (bodies : List (List Expr)) where
+  none-same : (op : Operation) (name : List ℕ) (a : ℕ) (xs : List Vertex) (ops : List Operation) → name ≡ name_of op → IsTold op.path → AllStand bodies a xs ops → AtAll IsTold ops → NoFull (full op) ops → list_any (λ y. bytes_eq name y.name) xs ≡ false
+  none-same op name a [] ops e t h told apart = refl
+  none-same op name a (x ∷ xs) [] e t h told apart = absurd h
+  none-same op name a (x ∷ xs) (o ∷ ops) e t h told apart =
+      or_from (bytes_eq name x.name) (list_any (λ y. bytes_eq name y.name) xs) (ap₂ bytes_eq e h.0.name ∙ names-differ op o t told.0 apart.0) (none-same op name (suc a) xs ops e t h.1 told.1 apart.1)
+
+  pub named-apart : (a : ℕ) (xs : List Vertex) (ops : List Operation) → AllStand bodies a xs ops → AtAll IsTold ops → AllApart ops → are_named_apart xs ≡ true
+  named-apart a [] ops h told apart = refl
+  named-apart a (x ∷ xs) [] h told apart = absurd h
+  named-apart a (x ∷ xs) (op ∷ ops) h told apart =
+      and_from (not (list_any (λ y. bytes_eq x.name y.name) xs)) (are_named_apart xs)
+      (not_from_false (list_any (λ y. bytes_eq x.name y.name) xs) (none-same op x.name (suc a) xs ops h.0.name told.0 h.1 told.1 apart.0)) (named-apart (suc a) xs ops h.1 told.1 apart.1)

@@ -1,0 +1,86 @@
+-- The flat graph of an algorithm, as a function of its tree. Each function operation has a body of its own, in order.
+use Rattle.std.specs.Prelude.{ℕ, suc, ◌-◌, ◌+◌, List, [], ◌∷◌, ◌++◌, map, length, Option, Some, None, slice_index_or}
+use Rattle.body_lang.specs.Expr.{Expr}
+use Rattle.level_meaning.specs.declared.source.Source as of_level
+use Rattle.level_meaning.specs.declared.source.Source.TheVariants.{Own, Of}
+use Rattle.level_meaning.specs.declared.source.Guard as guard_of_level
+use Rattle.algo_tree.specs.Tree as tree
+use Rattle.flat_graph.specs.declared.vertex.Source.{Source}
+use Rattle.flat_graph.specs.declared.vertex.Guard.{Guard}
+use Rattle.flat_graph.specs.declared.vertex.Kind.{Kind}
+use Rattle.flat_graph.specs.declared.vertex.Kind.TheVariants.{Sensor, Actuator, Function, Constant, Get, Set, Explode, Implode, Merge}
+use Rattle.flat_graph.specs.declared.vertex.Vertex.{Vertex}
+use Rattle.flat_graph.specs.Graph.{Graph}
+use Rattle.guard_laws.specs.Guarded.{guard}
+use Rattle.unroll_laws.specs.Unrolled.{unroll}
+use Rattle.inline_laws.specs.Flat.{Operation, Task, runs, gets, sets}
+use Rattle.inline_laws.specs.Inlined.{operations}
+use Rattle.flat_laws.specs.Names.{name_of}
+
+-- a source is an output of an operation: none leads nowhere
+abbrev pub flat_source : of_level.Source → Source
+flat_source (Of r p) = record { vertex = r; port = p }
+flat_source (Own k) = record { vertex = 0; port = 0 }
+
+abbrev pub flat_guard : guard_of_level.Guard → Guard
+flat_guard g = record { source = flat_source g.source; values = g.values; case = g.case }
+
+-- what an operation is, where the next body has number b: graphs, switches and repetitions are none
+abbrev pub kind_of : ℕ → tree.Kind → Kind
+kind_of b (tree.sensor i) = Sensor i
+kind_of b (tree.actuator i) = Actuator i
+kind_of b (tree.function es) = Function b
+kind_of b (tree.constant z) = Constant z
+kind_of b tree.explode = Explode
+kind_of b tree.implode = Implode
+kind_of b (tree.merge values) = Merge values
+kind_of b _ = Set
+
+abbrev pub flat_kind : ℕ → Task → Kind
+flat_kind b (runs k) = kind_of b k
+flat_kind b (gets vs) = Get (slice_index_or vs 0 [])
+flat_kind b sets = Set
+
+-- a set half stands right behind its get half
+abbrev pub twin_of : ℕ → Task → Option ℕ
+twin_of v (runs k) = None
+twin_of v (gets vs) = Some (suc v)
+twin_of v sets = Some (v - 1)
+
+abbrev pub kind_body : tree.Kind → List (List Expr)
+kind_body (tree.function es) = es ∷ []
+kind_body _ = []
+
+-- the body that an operation brings
+abbrev pub body_of : Task → List (List Expr)
+body_of (runs k) = kind_body k
+body_of (gets vs) = []
+body_of sets = []
+
+-- operation v, where the next body has number b
+abbrev pub vertex_of : ℕ → ℕ → Operation → Vertex
+vertex_of v b op = record {
+  name = name_of op;
+  def = op.definition;
+  kind = flat_kind b op.task;
+  guards = map flat_guard op.guards;
+  ins = map flat_source op.ins;
+  outs = op.outs;
+  twin = twin_of v op.task;
+}
+
+-- operations that are numbered from v on, and their bodies from b on
+abbrev pub vertices_from : ℕ → ℕ → List Operation → List Vertex
+vertices_from v b [] = []
+vertices_from v b (op ∷ ops) = vertex_of v b op ∷ vertices_from (suc v) (b + length (body_of op.task)) ops
+
+abbrev pub bodies_of : List Operation → List (List Expr)
+bodies_of [] = []
+bodies_of (op ∷ ops) = body_of op.task ++ bodies_of ops
+
+abbrev pub graph_of : List Operation → Graph
+graph_of ops = record { vertices = vertices_from 0 0 ops; bodies = bodies_of ops }
+
+-- repetitions are unrolled, cases are put under guards, and graphs are inlined
+abbrev pub flat_of : tree.Vertex → Graph
+flat_of main = graph_of (operations (guard (unroll main)))

@@ -1,0 +1,4 @@
+pub mod Names
+pub mod Stands
+pub mod FlatOf
+pub mod Numbering

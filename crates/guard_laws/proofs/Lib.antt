@@ -1,0 +1,13 @@
+pub mod Parts
+pub mod Guards
+pub mod Cases
+pub mod Carries
+pub mod Guard
+pub mod Uncased
+pub mod Names
+pub mod Counting
+pub mod Endings
+pub mod Wellness
+pub mod Typing
+pub mod Trees
+pub mod Worked

@@ -1,0 +1,10 @@
+pub mod Mapped
+pub mod Inlinable
+pub mod Parts
+pub mod Wires
+pub mod Leads
+pub mod Cells
+pub mod Flatten
+pub mod Numbered
+pub mod Pairs
+pub mod Worked

@@ -1,0 +1,50 @@
+-- Names where names stand: what the texts of paths, and the definitions of operations, are made of.
+use Rattle.std.specs.Prelude.{◌≡◌, ℕ, IsTrue, List, [], ◌∷◌}
+use Rattle.syn_base.specs.Name.{is_name}
+use Rattle.level_meaning.specs.declared.part.Part.{Part}
+use Rattle.level_meaning.specs.declared.part.Part.TheVariants.{Named, Numbered, Port}
+use Rattle.level_meaning.specs.Level.{Path}
+use Rattle.algo_tree.specs.Tree.{Kind, switch, repeat, Label, Vertex, vertex, Vertices, no_vertices, and_vertex}
+use Rattle.algo_tree.specs.Well.{fork_names, join_names}
+use Rattle.path_text.specs.Texts.{path_text}
+use Rattle.path_text.specs.Bounded.{IsPathBounded}
+
+abbrev pub IsPartNamed : Part → Type 0
+IsPartNamed (Named x) = IsTrue (is_name x)
+IsPartNamed (Numbered n) = Unit {0}
+IsPartNamed (Port x) = IsTrue (is_name x)
+
+abbrev pub IsPathNamed : Path → Type 0
+IsPathNamed [] = Unit {0}
+IsPathNamed (p ∷ q) = IsPartNamed p × IsPathNamed q
+
+abbrev pub AreNames : List (List ℕ) → Type 0
+AreNames [] = Unit {0}
+AreNames (x ∷ xs) = IsTrue (is_name x) × AreNames xs
+
+-- the outputs of a switch and the outer ports of fork and join lines, of which flattening makes vertices
+abbrev pub IsKindNamed : Kind → Type 0
+IsKindNamed (switch values names) = AreNames names
+IsKindNamed (repeat n feeds gives) = AreNames (fork_names feeds) × AreNames (join_names gives)
+IsKindNamed _ = Unit {0}
+
+pub record IsLabelNamed (l : Label) : Type 0 where
+  pub part : IsPartNamed l.part
+  pub definition : IsTrue (is_name l.definition)
+  pub kind : IsKindNamed l.kind
+
+abbrev mutual
+  pub IsNamed : Vertex → Type 0
+  IsNamed (vertex l us) = IsLabelNamed l × AllNamed us
+
+  pub AllNamed : Vertices → Type 0
+  AllNamed no_vertices = Unit {0}
+  AllNamed (and_vertex u us) = IsNamed u × AllNamed us
+
+-- all inside the main graph
+abbrev pub HasNames : Vertex → Type 0
+HasNames (vertex l us) = AllNamed us
+
+-- A path is told by its text. Numbers are bounded, since `decimal` writes 64 digits at most.
+abbrev pub TextsTellPaths : Type 0
+TextsTellPaths = (p q : Path) → IsPathNamed p → IsPathNamed q → IsPathBounded p → IsPathBounded q → path_text p ≡ path_text q → p ≡ q

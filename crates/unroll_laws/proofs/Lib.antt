@@ -1,0 +1,11 @@
+pub mod Unrolled
+pub mod Unroll
+pub mod Unrepeated
+pub mod Names
+pub mod Wellness
+pub mod Counting
+pub mod Labels
+pub mod Endings
+pub mod Typing
+pub mod Trees
+pub mod Worked
