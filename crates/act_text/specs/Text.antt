@@ -1,6 +1,6 @@
 -- The text of what the actuators take.
-use Rattle.std.specs.Prelude.{ℕ, suc, ℤ, pos, List, [], ◌∷◌, ◌++◌, slice_index_or, codes}
-use Rattle.std.specs.Fmt.{signed_decimal}
+use Rattle.std.specs.Prelude.{ℕ, suc, ℤ, List, [], ◌∷◌, ◌++◌, slice_index_or, codes}
+use Rattle.std.specs.Fmt.{decimal, signed_decimal}
 
 -- ` v0 v1` and so on
 abbrev pub values_text : List ℤ → List ℕ
@@ -9,7 +9,7 @@ values_text (v ∷ vs) = codes " " ++ (signed_decimal v ++ values_text vs)
 
 -- the line `k name v0 v1` and so on
 abbrev pub actuator_line : ℕ → List ℕ → List ℤ → List ℕ
-actuator_line k name values = signed_decimal (pos k) ++ (codes " " ++ (name ++ (values_text values ++ codes "\n")))
+actuator_line k name values = decimal k ++ (codes " " ++ (name ++ (values_text values ++ codes "\n")))
 
 -- the lines of reaction k, from actuator a on, for the actuators of these names
 abbrev pub reaction_text : ℕ → ℕ → List (List ℕ) → List (List ℤ) → List ℕ

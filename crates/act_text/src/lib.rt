@@ -1,7 +1,6 @@
 //! The text of what the actuators take.
 #![tactic(auto)]
 
-mod append;
 mod names;
 mod text;
 

@@ -4,9 +4,9 @@ ghost use Rattle.algo_tree.specs.Ends.{actuator_lengths};
 ghost use Rattle.act_text.specs.Names.{actuator_names};
 ghost use Rattle.act_text.specs.Text.{values_text, actuator_line, reaction_text, output_text};
 
-use crate::append::{append, append_count};
 use crate::names::actuators_of;
 use algo_tree::Tree;
+use grown_text::{append, append_count};
 use std::alloc::Global;
 use syn_base::{ActRows, OutOfMemory, print_int};
 

@@ -5,6 +5,8 @@ ghost use Rattle.algo_rules.specs.Placed.{Gives};
 ghost use Rattle.algo_rules.specs.Resolved.{refusal, resolution_of, tree_of};
 ghost use Rattle.algo_rules.specs.WellRead.{AreWellRead};
 ghost use Rattle.algo_tree.specs.View.{view};
+ghost use Rattle.path_text.specs.Bounded.{HasBounds};
+ghost use Rattle.path_text.specs.Named.{HasNames};
 ghost use Rattle.algo_resolve.specs.Parts.{AreReady};
 
 use crate::build::build_vertex;
@@ -29,7 +31,9 @@ use tree_laws::accepted_make_a_tree;
 pub fn resolve(alloc: Global, defs: &Defs) -> Result<Tree, AlgoError>
     requires read { AreWellRead defs.now.defs }
     requires few { length defs.now.defs ≤ 4000000000 }
-    ensures { Gives result (resolution_of defs.now.defs) }
+    ensures gives { Gives result (resolution_of defs.now.defs) }
+    ensures named { IfOk result (λ t. HasNames t) }
+    ensures bounded { IfOk result (λ t. HasBounds t) }
 {
     let table = check_definitions(alloc, defs)?;
     let Ok(links) = links_of(alloc, defs) else {

@@ -1,6 +1,10 @@
 use Rattle.std.proofs.Common.{◌≡◌, List, None, sym, subst, ◌∙◌}
 use Rattle.algo_defs.specs.declared.definition.Def.{Def}
 use Rattle.algo_rules.specs.Resolved.{refusal, tree_of}
+use Rattle.path_text.specs.Bounded.{HasBounds}
+use Rattle.path_text.specs.Named.{HasNames}
+use Rattle.tree_laws.proofs.Bounds.{have_bounds}
+use Rattle.tree_laws.proofs.Names.{have_names}
 use Rattle.algo_resolve.specs.Ready.{IsReady}
 use Rattle.algo_resolve.proofs.Told.{are_ready, given}
 use Rattle.algo_resolve.proofs.resolution.resolve.Goals as goal
@@ -15,6 +19,16 @@ tree-requires-clause-ready c =
 pub tree-requires-clause-passed : goal.tree-requires-clause-passed
 tree-requires-clause-passed c = subst (λ (ds : List Def). refusal ds ≡ None) (sym c.as_slice.ensures) c.in_ok-table.ensures.checks
 
-pub returns-in-Ok-tree : goal.returns-in-Ok-tree
-returns-in-Ok-tree c =
+pub returns-in-Ok-tree-clause-gives : goal.returns-in-Ok-tree-clause-gives
+returns-in-Ok-tree-clause-gives c =
     given c.args.defs.now.defs c.in-Ok-tree.tree c.in_ok-table.ensures.checks (subst (λ (ds : List Def). c.in-Ok-tree.tree ≡ tree_of ds) c.as_slice.ensures c.in-Ok-tree.ensures)
+
+pub returns-in-Ok-tree-clause-named : goal.returns-in-Ok-tree-clause-named
+returns-in-Ok-tree-clause-named c =
+    let is : c.in-Ok-tree.tree ≡ tree_of c.args.defs.now.defs = subst (λ (ds : List Def). c.in-Ok-tree.tree ≡ tree_of ds) c.as_slice.ensures c.in-Ok-tree.ensures in
+    subst HasNames (sym is) (have_names c.args.defs.now.defs c.requires.read c.in_ok-table.ensures.checks)
+
+pub returns-in-Ok-tree-clause-bounded : goal.returns-in-Ok-tree-clause-bounded
+returns-in-Ok-tree-clause-bounded c =
+    let is : c.in-Ok-tree.tree ≡ tree_of c.args.defs.now.defs = subst (λ (ds : List Def). c.in-Ok-tree.tree ≡ tree_of ds) c.as_slice.ensures c.in-Ok-tree.ensures in
+    subst HasBounds (sym is) (have_bounds c.args.defs.now.defs c.requires.read c.in_ok-table.ensures.checks)

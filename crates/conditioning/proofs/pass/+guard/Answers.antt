@@ -1,0 +1,16 @@
+use Rattle.std.proofs.Common.{◌∙◌}
+use Rattle.algo_tree.specs.declared.vertex.Vertex.{out-Vertex}
+use Rattle.conditioning.proofs.Guarding.{graph_answered, switch_answered}
+use Rattle.conditioning.proofs.pass.+guard.Goals as goal
+
+pub guard_graph-returns : goal.guard_graph-returns
+guard_graph-returns t c =
+    graph_answered c.args.guards.now c.as_slice.result.now c.args.before c.in_ok-handed.handed c.args.vertex.now c.args.outputs.now c.in_ok-outputs.outputs.items c.in_ok-inner.inner.items c.as_graph.result c.requires
+    (c.as_slice.ensures.value ∙ c.in_ok-own.ensures) c.in_ok-handed.ensures c.in_ok-inner.ensures c.in_ok-outputs.ensures c.as_graph.ensures
+
+pub guard_switch-returns : goal.guard_switch-returns
+guard_switch-returns t c =
+    switch_answered c.args.guards.now c.as_slice.result.now c.as_slice-3.result.now c.args.before c.in_ok-handed.handed c.in_ok-cases.cases c.args.vertex.now c.as_slice-2.result.now c.as_slice-4.result.now c.args.values.now c.args.names.now
+    c.in_ok-outputs.outputs.items _ _ c.as_graph.result c.requires
+    (c.as_slice.ensures.value ∙ c.in_ok-own.ensures) (c.as_slice-3.ensures.value ∙ c.in_ok-own.ensures) c.as_slice-2.ensures c.as_slice-4.ensures c.in_ok-handed.ensures (c.in_ok-cases.ensures ∙ c.len.ensures ∙ (out-Vertex c.args.vertex.now).inner.ok.0)
+    c.in_ok-inner.ensures c.in_ok-add_merges.ensures c.in_ok-outputs.ensures c.as_graph.ensures

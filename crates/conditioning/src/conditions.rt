@@ -1,0 +1,133 @@
+//! Sources and guards under the guards of cases.
+ghost use Rattle.std.specs.Prelude.{◌≡◌, ◌++◌, [], ◌∷◌, IfOk, map};
+ghost use Rattle.guard_laws.specs.Guarded.{shift, shift_guard, guard_sources, guard_for, own_guards as guards_owned};
+
+use level_meaning::{Guard, Source};
+use std::alloc::Global;
+use syn_base::OutOfMemory;
+use tree_copy::{copy_guards, copy_numbers};
+
+/// A count as the number of an input or of a vertex. Where it does not fit the answer is want of memory,
+/// which that many inputs or vertices would long have met.
+pub fn number(count: usize) -> Result<u32, OutOfMemory>
+    ensures { IfOk result (λ n. n ≡ count) }
+{
+    match u32::try_from(count) {
+        Ok(number) => Ok(number),
+        Err(_) => Err(OutOfMemory),
+    }
+}
+
+/// A source of a level, where `before` further inputs stand before the level's own.
+fn shifted(before: u32, source: Source) -> Result<Source, OutOfMemory>
+    ensures { IfOk result (λ s. s ≡ shift before source) }
+{
+    match source {
+        Source::Own(input) => match before.checked_add(input) {
+            Some(input) => Ok(Source::Own(input)),
+            None => Err(OutOfMemory),
+        },
+        Source::Of(vertex, output) => Ok(Source::Of(vertex, output)),
+    }
+}
+
+/// These sources, where `before` further inputs stand before a level's own.
+pub fn shifted_sources(
+    alloc: Global,
+    before: u32,
+    sources: &[Source],
+) -> Result<Vec<Source>, OutOfMemory>
+    ensures { IfOk result (λ ss. ss.items ≡ map (shift before) sources.now) }
+{
+    let mut all = Vec::new(alloc);
+    for source in sources {
+        all.push(shifted(before, *source)?)?;
+    }
+    Ok(all)
+}
+
+/// The inputs of a graph under guards: the guards' sources, and behind them its own sources.
+pub fn handed(
+    alloc: Global,
+    guards: &[Guard],
+    before: u32,
+    sources: &[Source],
+) -> Result<Vec<Source>, OutOfMemory>
+    ensures { IfOk result (λ ss. ss.items ≡ guard_sources guards.now ++ map (shift before) sources.now) }
+{
+    let mut all = sources_of(alloc, guards)?;
+    for source in sources {
+        all.push(shifted(before, *source)?)?;
+    }
+    Ok(all)
+}
+
+fn sources_of(alloc: Global, guards: &[Guard]) -> Result<Vec<Source>, OutOfMemory>
+    ensures { IfOk result (λ ss. ss.items ≡ guard_sources guards.now) }
+{
+    let mut all = Vec::new(alloc);
+    for guard in guards {
+        all.push(guard.source)?;
+    }
+    Ok(all)
+}
+
+/// The same condition on another source.
+fn guard_on(alloc: Global, source: Source, guard: &Guard) -> Result<Guard, OutOfMemory>
+    ensures { IfOk result (λ g. g ≡ record { source = source; values = guard.now.values; case = guard.now.case }) }
+{
+    Ok(Guard {
+        source,
+        values: copy_numbers(alloc, guard.values.as_slice())?,
+        case: guard.case,
+    })
+}
+
+/// The same conditions inside a graph to which their sources are handed.
+pub fn own_guards(alloc: Global, guards: &[Guard]) -> Result<Vec<Guard>, OutOfMemory>
+    ensures { IfOk result (λ gs. gs.items ≡ guards_owned 0 guards.now) }
+{
+    let mut all = Vec::new(alloc);
+    for guard in guards {
+        let input = number(all.len())?;
+        all.push(guard_on(alloc, Source::Own(input), guard)?)?;
+    }
+    Ok(all)
+}
+
+/// The guards of an operation: those of the cases around it, outer first, and behind them its own.
+pub fn guards_under(
+    alloc: Global,
+    guards: &[Guard],
+    before: u32,
+    own: &[Guard],
+) -> Result<Vec<Guard>, OutOfMemory>
+    ensures { IfOk result (λ gs. gs.items ≡ guards.now ++ map (shift_guard before) own.now) }
+{
+    let mut all = copy_guards(alloc, guards)?.into_vec();
+    for guard in own {
+        let source = shifted(before, guard.source)?;
+        all.push(guard_on(alloc, source, guard)?)?;
+    }
+    Ok(all)
+}
+
+/// The guards of case number `case` of a switch, whose conditioning input stands behind those of the
+/// guards around it.
+pub fn guards_of_case(
+    alloc: Global,
+    guards: &[Guard],
+    handed: u32,
+    values: &[i64],
+    case: u32,
+) -> Result<Vec<Guard>, OutOfMemory>
+    ensures { IfOk result (λ gs. gs.items ≡ guards.now ++ guard_for handed values.now case ∷ []) }
+{
+    let mut all = copy_guards(alloc, guards)?.into_vec();
+    all.push(Guard {
+        source: Source::Own(handed),
+        values: copy_numbers(alloc, values)?,
+        case,
+    })?;
+    Ok(all)
+}

@@ -1,0 +1,117 @@
+//! The merges of a switch, and the outputs of the graph that it becomes.
+ghost use Rattle.std.specs.Prelude.{◌≡◌, ◌++◌, ◌∷◌, ◌+◌, IfOk, OnOk, map, slice_index_or};
+ghost use Rattle.level_meaning.specs.Level.{numbers_below};
+ghost use Rattle.algo_tree.specs.View.{view};
+ghost use Rattle.guard_laws.specs.Guarded.{merge_of, merge_sources};
+ghost use Rattle.conditioning.specs.Listed.{merges_listed};
+
+use crate::conditions::number;
+use algo_tree::{Kind, Vertex};
+use level_meaning::{Guard, Part, Source};
+use std::alloc::Global;
+use syn_base::{Items, OutOfMemory};
+use tree_copy::{copy_bytes, copy_guards, copy_numbers};
+
+/// What the merges of a switch have in common: its definition, the guards around it as its inside sees
+/// them, the number of its conditioning input, the values of its cases, and the number of these.
+#[derive(Clone, Copy)]
+pub struct Switched<'a> {
+    pub definition: &'a [u8],
+    pub guards: &'a [Guard],
+    pub condition: u32,
+    pub values: &'a [i64],
+    pub cases: u32,
+}
+
+/// This output of each case, in order.
+fn case_outputs(alloc: Global, cases: u32, output: u32) -> Result<Vec<Source>, OutOfMemory>
+    ensures { IfOk result (λ ss. ss.items ≡ map (λ i. Source.Of i output) (numbers_below cases)) }
+{
+    let mut all = Vec::new(alloc);
+    for case in 0..cases {
+        all.push(Source::Of(case, output))?;
+    }
+    Ok(all)
+}
+
+/// The conditioning source, and behind it this output of each case in order.
+fn merge_ins(
+    alloc: Global,
+    condition: u32,
+    cases: u32,
+    output: u32,
+) -> Result<Vec<Source>, OutOfMemory>
+    ensures { IfOk result (λ ss. ss.items ≡ Source.Own condition ∷ map (λ i. Source.Of i output) (numbers_below cases)) }
+{
+    let outputs = case_outputs(alloc, cases, output)?;
+    let mut all = vec![in alloc; Source::Own(condition)]?;
+    all.extend_from_slice(outputs.as_slice())?;
+    Ok(all)
+}
+
+/// The merge of an output of this name and length.
+fn merge(
+    alloc: Global,
+    switch: &Switched<'_>,
+    output: u32,
+    name: &[u8],
+    len: u32,
+) -> Result<Vertex, OutOfMemory>
+    ensures { IfOk result (λ u. view u ≡ merge_of switch.now.definition.now switch.now.guards.now switch.now.condition switch.now.values.now switch.now.cases output name.now len) }
+{
+    let part = Part::Port(copy_bytes(alloc, name)?);
+    let definition = copy_bytes(alloc, switch.definition)?;
+    let ins = merge_ins(alloc, switch.condition, switch.cases, output)?;
+    let guards = copy_guards(alloc, switch.guards)?;
+    let outs = vec![in alloc; len]?;
+    let kind = Kind::Merge(copy_numbers(alloc, switch.values)?);
+    Ok(Vertex {
+        part,
+        definition,
+        ins: Items::new(ins),
+        guards,
+        outs: Items::new(outs),
+        kind,
+        inner: Vec::new(alloc),
+    })
+}
+
+fn len_at(lens: &[u32], at: usize) -> u32
+    ensures { result ≡ slice_index_or lens.now at 0 }
+{
+    if at < lens.len() { lens[at] } else { 0 }
+}
+
+/// Adds a merge for each output, in order, of the length of the switch's output.
+pub fn add_merges(
+    alloc: Global,
+    switch: &Switched<'_>,
+    outs: &[u32],
+    names: &[Items<u8>],
+    all: &mut Vec<Vertex>,
+) -> Result<(), OutOfMemory>
+    ensures { OnOk result (map view all.new.items ≡ map view all.old.items ++ merges_listed switch.now.definition.now switch.now.guards.now switch.now.condition switch.now.values.now switch.now.cases outs.now 0 names.now) }
+{
+    let mut place = 0;
+    for name in names {
+        let output = number(place)?;
+        let len = len_at(outs, place);
+        all.push(merge(alloc, switch, output, name.as_slice(), len)?)?;
+        place += 1;
+    }
+    Ok(())
+}
+
+/// The sources of the graph's outputs: each merge, which stand behind the cases.
+pub fn merge_outputs(alloc: Global, cases: u32, outputs: usize) -> Result<Vec<Source>, OutOfMemory>
+    ensures { IfOk result (λ ss. ss.items ≡ merge_sources cases outputs) }
+{
+    let mut all = Vec::new(alloc);
+    for output in 0..number(outputs)? {
+        let Some(vertex) = cases.checked_add(output) else {
+            return Err(OutOfMemory);
+        };
+        all.push(Source::Of(vertex, 0))?;
+    }
+    Ok(all)
+}

@@ -1,0 +1,140 @@
+//! The pass over a tree.
+ghost use Rattle.std.specs.Prelude.{◌≡◌, [], IfOk, map};
+ghost use Rattle.algo_tree.specs.declared.vertex.Vertex.{out-Vertex};
+ghost use Rattle.algo_tree.specs.Counted.{operations};
+ghost use Rattle.algo_tree.specs.View.{view, vertices_view};
+ghost use Rattle.path_text.specs.Named.{HasNames};
+ghost use Rattle.pass_laws.specs.SameMeaning.{KeepsMeaning};
+ghost use Rattle.unroll_laws.specs.NoRepeat.{HasNoRepeat};
+ghost use Rattle.guard_laws.specs.Guarded.{guard as guarded_tree, guarded};
+ghost use Rattle.guard_laws.specs.NoCase.{HasNoCase};
+ghost use Rattle.conditioning.specs.Listed.{cases_listed};
+
+use crate::conditions::{guards_of_case, number, own_guards, shifted_sources};
+use crate::merges::{Switched, add_merges, merge_outputs};
+use crate::vertices::{as_graph, as_operation};
+use algo_tree::{Kind, Tree, Vertex};
+use level_meaning::{Guard, Source};
+use std::alloc::Global;
+use syn_base::{Items, OutOfMemory};
+
+/// The tree without cases, of the same meaning: each switch is replaced by a graph of its cases and a
+/// merge for each output behind them. Every operation and merge carries the guards of the cases
+/// around it, outer first. The tree has no repetitions.
+pub fn guard(alloc: Global, tree: &Tree) -> Result<Tree, OutOfMemory>
+    requires { HasNoRepeat tree.now }
+    ensures same { IfOk result (λ t. t ≡ guarded_tree tree.now) }
+    ensures kept { IfOk result (λ t. KeepsMeaning tree.now t) }
+    ensures cases { IfOk result (λ t. HasNoCase t) }
+    ensures repeats { IfOk result (λ t. HasNoRepeat t) }
+    ensures count { IfOk result (λ t. operations t ≡ operations tree.now) }
+    ensures names { HasNames tree.now → IfOk result (λ t. HasNames t) }
+{
+    let main = tree.main();
+    Ok(Tree::new(guard_vertex(alloc, &[], 0, main)?))
+}
+
+/// The vertex under these guards, without cases, in a level that has `before` further inputs.
+#[cycle(guard)]
+fn guard_vertex(
+    alloc: Global,
+    guards: &[Guard],
+    before: u32,
+    vertex: &Vertex,
+) -> Result<Vertex, OutOfMemory>
+    ensures { IfOk result (λ u. view u ≡ guarded guards.now before (view vertex.now)) }
+{
+    match &vertex.kind {
+        Kind::Graph(outputs) => guard_graph(alloc, guards, before, vertex, outputs.as_slice()),
+        Kind::Switch(values, names) => {
+            let values = values.as_slice();
+            guard_switch(alloc, guards, before, vertex, values, names.as_slice())
+        }
+        _ => as_operation(alloc, guards, before, vertex),
+    }
+}
+
+/// The vertices under these guards.
+#[cycle(guard)]
+fn guard_each(
+    alloc: Global,
+    guards: &[Guard],
+    before: u32,
+    vertices: &Vec<Vertex>,
+) -> Result<Vec<Vertex>, OutOfMemory>
+    ensures { IfOk result (λ us. map view us.items ≡ map (λ v. guarded guards.now before (view v)) vertices.now.items) }
+{
+    let mut all = Vec::new(alloc);
+    for vertex in vertices {
+        all.push(guard_vertex(alloc, guards, before, vertex)?)?;
+    }
+    Ok(all)
+}
+
+/// The graph with these outputs under these guards.
+#[cycle(guard)]
+fn guard_graph(
+    alloc: Global,
+    guards: &[Guard],
+    before: u32,
+    vertex: &Vertex,
+    outputs: &[Source],
+) -> Result<Vertex, OutOfMemory>
+    requires { (out-Vertex vertex.now).kind ≡ Kind.Graph outputs.now }
+    ensures { IfOk result (λ u. view u ≡ guarded guards.now before (view vertex.now)) }
+{
+    let own = own_guards(alloc, guards)?;
+    let handed = number(guards.len())?;
+    let inner = guard_each(alloc, own.as_slice(), handed, &vertex.inner)?;
+    let outputs = shifted_sources(alloc, handed, outputs)?;
+    as_graph(alloc, guards, before, vertex, outputs, inner)
+}
+
+/// The graph that a switch with these values and outputs becomes under these guards.
+#[cycle(guard)]
+fn guard_switch(
+    alloc: Global,
+    guards: &[Guard],
+    before: u32,
+    vertex: &Vertex,
+    values: &[i64],
+    names: &[Items<u8>],
+) -> Result<Vertex, OutOfMemory>
+    requires { (out-Vertex vertex.now).kind ≡ Kind.Switch values.now names.now }
+    ensures { IfOk result (λ u. view u ≡ guarded guards.now before (view vertex.now)) }
+{
+    let own = own_guards(alloc, guards)?;
+    let handed = number(guards.len())?;
+    let mut inner = guard_cases(alloc, own.as_slice(), handed, values, &vertex.inner)?;
+    let cases = number(vertex.inner.len())?;
+    let switch = Switched {
+        definition: vertex.definition.as_slice(),
+        guards: own.as_slice(),
+        condition: handed,
+        values,
+        cases,
+    };
+    add_merges(alloc, &switch, vertex.outs.as_slice(), names, &mut inner)?;
+    let outputs = merge_outputs(alloc, cases, names.len())?;
+    as_graph(alloc, guards, before, vertex, outputs, inner)
+}
+
+/// The cases of a switch, each under one guard more. Its conditioning input stands behind `handed` others.
+#[cycle(guard)]
+fn guard_cases(
+    alloc: Global,
+    guards: &[Guard],
+    handed: u32,
+    values: &[i64],
+    vertices: &Vec<Vertex>,
+) -> Result<Vec<Vertex>, OutOfMemory>
+    ensures { IfOk result (λ us. map view us.items ≡ cases_listed guards.now handed values.now 0 (map view vertices.now.items)) }
+{
+    let mut all = Vec::new(alloc);
+    for vertex in vertices {
+        let case = number(all.len())?;
+        let inside = guards_of_case(alloc, guards, handed, values, case)?;
+        all.push(guard_vertex(alloc, inside.as_slice(), handed, vertex)?)?;
+    }
+    Ok(all)
+}

@@ -1,0 +1,65 @@
+//! Vertices that are made again, under the guards of cases.
+ghost use Rattle.std.specs.Prelude.{◌≡◌, IfOk};
+ghost use Rattle.algo_tree.specs.declared.vertex.Vertex.{out-Vertex};
+ghost use Rattle.algo_tree.specs.View.{kind_view, label_view, view, vertices_view};
+ghost use Rattle.guard_laws.specs.Guarded.{graph_under, operation_under};
+
+use crate::conditions::{guards_under, handed, shifted_sources};
+use algo_tree::{Kind, Vertex};
+use level_meaning::{Guard, Source};
+use std::alloc::Global;
+use syn_base::{Items, OutOfMemory};
+use tree_copy::{copy_bytes, copy_kind, copy_lens, copy_part};
+
+/// An operation under these guards, in a level that has `before` further inputs.
+pub fn as_operation(
+    alloc: Global,
+    guards: &[Guard],
+    before: u32,
+    vertex: &Vertex,
+) -> Result<Vertex, OutOfMemory>
+    ensures { IfOk result (λ u. view u ≡ operation_under guards.now before (label_view (out-Vertex vertex.now)) (kind_view (out-Vertex vertex.now).kind)) }
+{
+    let part = copy_part(alloc, &vertex.part)?;
+    let definition = copy_bytes(alloc, vertex.definition.as_slice())?;
+    let ins = shifted_sources(alloc, before, vertex.ins.as_slice())?;
+    let guards = guards_under(alloc, guards, before, vertex.guards.as_slice())?;
+    let outs = copy_lens(alloc, vertex.outs.as_slice())?;
+    let kind = copy_kind(alloc, &vertex.kind)?;
+    Ok(Vertex {
+        part,
+        definition,
+        ins: Items::new(ins),
+        guards: Items::new(guards),
+        outs,
+        kind,
+        inner: Vec::new(alloc),
+    })
+}
+
+/// A graph under these guards, with these sources of its outputs and these vertices inside, in a level
+/// that has `before` further inputs.
+pub fn as_graph(
+    alloc: Global,
+    guards: &[Guard],
+    before: u32,
+    vertex: &Vertex,
+    outputs: Vec<Source>,
+    inner: Vec<Vertex>,
+) -> Result<Vertex, OutOfMemory>
+    ensures { IfOk result (λ u. view u ≡ graph_under guards.now before (label_view (out-Vertex vertex.now)) outputs.items (vertices_view inner.items)) }
+{
+    let part = copy_part(alloc, &vertex.part)?;
+    let definition = copy_bytes(alloc, vertex.definition.as_slice())?;
+    let ins = handed(alloc, guards, before, vertex.ins.as_slice())?;
+    let outs = copy_lens(alloc, vertex.outs.as_slice())?;
+    Ok(Vertex {
+        part,
+        definition,
+        ins: Items::new(ins),
+        guards: Items::new(Vec::new(alloc)),
+        outs,
+        kind: Kind::Graph(Items::new(outputs)),
+        inner,
+    })
+}

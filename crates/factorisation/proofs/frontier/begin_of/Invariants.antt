@@ -1,0 +1,6 @@
+use Rattle.std.proofs.Common.{◌≡◌, ◌+◌, drop, length}
+use Rattle.algo_tree.specs.Well.{fork_names}
+use Rattle.factorisation.proofs.frontier.begin_of.Given as goal
+
+abbrev pub invariant-loop-feed : goal.invariant-loop-feed
+invariant-loop-feed l = l.count + length (fork_names (drop l.feed-index l.feeds)) ≡ length (fork_names l.feeds)

@@ -1,0 +1,43 @@
+use Rattle.std.proofs.Common.{◌≡◌, ◌<◌, ◌≤◌, length, get_or, rules, arith}
+use Rattle.algo_tree.specs.View.{view}
+use Rattle.algo_tree.specs.Well.{IsWell}
+use Rattle.algo_tree.specs.declared.vertex.Vertex.{the_lemmas}
+use Rattle.factorisation.specs.Size.{vertices_made}
+use Rattle.factorisation.proofs.Unrolling.{bounded, well_at, made_at, inside_made, plain_answered}
+use Rattle.factorisation.proofs.pass.+unroll.Goals as goal
+
+pub unroll_each-unroll_vertex-requires : goal.unroll_each-unroll_vertex-requires
+unroll_each-unroll_vertex-requires t c =
+    let us = c.args.vertices.now.items in
+    let i = c.loop-vertex.vertex-index in
+    let u = c.vertex-item.result in
+    let items = c.deref-vertex-items.ensures.value in
+    let at : u ≡ get_or us i u = rw items at c.vertex-item.is in
+    let lt : i < length us = rw items at c.loop-vertex-test.true in
+    let well : IsWell (view u) = rw at (well_at us i u c.requires.well lt) in
+    let below = made_at us i u lt in
+    let small : vertices_made (view u) ≤ 20000 = rw at (omega (arith, below, c.requires.small)) in
+    (search (rules, the_lemmas), (well, small))
+
+pub unroll_inside-add_copies-requires : goal.unroll_inside-add_copies-requires
+unroll_inside-add_copies-requires t c =
+    let b = bounded c.args.vertex.now c.args.copies.count c.args.feeds.now c.args.gives.now c.requires.kind c.requires.well c.requires.small in
+    let ends = b.ends in
+    (search (rules, the_lemmas), (b.one, (b.well, (b.forks, (b.bodies, omega (arith, ends, c.requires.begin))))))
+
+pub unroll_inside-add_implodes-requires : goal.unroll_inside-add_implodes-requires
+unroll_inside-add_implodes-requires t c =
+    let ends = (bounded c.args.vertex.now c.args.copies.count c.args.feeds.now c.args.gives.now c.requires.kind c.requires.well c.requires.small).ends in
+    omega (arith, ends, c.requires.begin)
+
+pub unroll_inside-returns : goal.unroll_inside-returns
+unroll_inside-returns t c =
+    inside_made c.args.vertex.now c.args.copies.count c.args.copies.begin c.args.feeds.now c.args.gives.now _ _ _ _ _ c.requires.begin c.as_slice-definition.ensures c.as_slice.ensures c.in_ok-all.ensures c.in_ok-add_copies.ensures c.in_ok-add_implodes.ensures
+
+pub unroll_repeat-as_graph-requires-clause-small : goal.unroll_repeat-as_graph-requires-clause-small
+unroll_repeat-as_graph-requires-clause-small t c =
+    let ends = (bounded c.args.vertex.now c.args.count c.args.feeds.now c.args.gives.now c.requires.kind c.requires.well c.requires.small).ends in
+    omega (arith, ends, c.begin_of.ensures)
+
+pub unroll_vertex-returns-in_ok-inner-in_default : goal.unroll_vertex-returns-in_ok-inner-in_default
+unroll_vertex-returns-in_ok-inner-in_default t c = plain_answered c.args.vertex.now c.in_ok-inner-in_default.inner.items c.with_inside.result c.in_default.not-Repeat c.in_ok-inner-in_default.ensures c.with_inside.ensures

@@ -1,0 +1,46 @@
+use Rattle.std.proofs.Common.{◌≡◌, arith, ap, ◌∙◌, sym, subst}
+use Rattle.algo_tree.specs.Counted.{operations}
+use Rattle.algo_tree.specs.Valid.{IsTree}
+use Rattle.algo_tree.specs.View.{view}
+use Rattle.path_text.specs.Named.{HasNames}
+use Rattle.pass_laws.specs.SameMeaning.{KeepsMeaning}
+use Rattle.unroll_laws.specs.NoRepeat.{HasNoRepeat}
+use Rattle.unroll_laws.specs.Unrolled.{unroll as unrolled}
+use Rattle.unroll_laws.proofs.Unroll.{unroll_main-keeps}
+use Rattle.unroll_laws.proofs.Unrepeated.{no-unroll}
+use Rattle.unroll_laws.proofs.Names.{names-unroll}
+use Rattle.unroll_laws.proofs.Counting.{counted-unroll}
+use Rattle.unroll_laws.proofs.Trees.{tree-unroll}
+use Rattle.factorisation.specs.Size.{size, vertices_made}
+use Rattle.factorisation.proofs.Sizes.{sized-unroll}
+use Rattle.factorisation.proofs.pass.unroll.Goals as goal
+
+pub new-requires : goal.new-requires
+new-requires c =
+    let is : view c.in_ok-unroll_vertex.field-0 ≡ unrolled c.args.tree.now = c.in_ok-unroll_vertex.ensures ∙ ap unrolled c.main-main.ensures.same in
+    subst IsTree (sym is) (tree-unroll c.args.tree.now c.main-main.ensures.valid)
+
+pub returns-clause-kept : goal.returns-clause-kept
+returns-clause-kept c =
+    let is : c.new.result ≡ unrolled c.args.tree.now = c.new.ensures ∙ c.in_ok-unroll_vertex.ensures ∙ ap unrolled c.main-main.ensures.same in
+    subst (KeepsMeaning c.args.tree.now) (sym is) (unroll_main-keeps c.args.tree.now c.main-main.ensures.valid)
+
+pub returns-clause-flat : goal.returns-clause-flat
+returns-clause-flat c =
+    let is : c.new.result ≡ unrolled c.args.tree.now = c.new.ensures ∙ c.in_ok-unroll_vertex.ensures ∙ ap unrolled c.main-main.ensures.same in
+    subst HasNoRepeat (sym is) (no-unroll c.args.tree.now)
+
+pub returns-clause-count : goal.returns-clause-count
+returns-clause-count c =
+    let is : c.new.result ≡ unrolled c.args.tree.now = c.new.ensures ∙ c.in_ok-unroll_vertex.ensures ∙ ap unrolled c.main-main.ensures.same in
+    ap operations is ∙ counted-unroll c.args.tree.now c.main-main.ensures.valid.well
+
+pub returns-clause-large : goal.returns-clause-large
+returns-clause-large c large =
+    let made : vertices_made (view c.main-main.result.now) ≡ size (unrolled c.args.tree.now) = ap vertices_made c.main-main.ensures.same ∙ sym (sized-unroll c.args.tree.now c.main-main.ensures.valid.well) in
+    absurd (omega (arith, made, large, c.count_made.ensures, c.if-count_made-gt-MOST.false))
+
+pub returns-clause-names : goal.returns-clause-names
+returns-clause-names c names =
+    let is : c.new.result ≡ unrolled c.args.tree.now = c.new.ensures ∙ c.in_ok-unroll_vertex.ensures ∙ ap unrolled c.main-main.ensures.same in
+    subst HasNames (sym is) (names-unroll c.args.tree.now c.main-main.ensures.valid names)

@@ -1,0 +1,221 @@
+//! The vertices and edges that the lines of a repetition become.
+ghost use Rattle.std.specs.Prelude.{◌≡◌, ◌<◌, ◌≤◌, ◌+◌, ◌++◌, IfOk, OnOk, length, map, replicate, slice_index_or, ◌-◌, ◌==◌, if◌then◌else◌};
+ghost use Rattle.level_meaning.specs.Level.{numbers_below};
+ghost use Rattle.algo_tree.specs.View.{kind_view, view};
+ghost use Rattle.algo_tree.specs.Well.{fork_names, join_names};
+ghost use Rattle.unroll_laws.specs.Unrolled.{made as vertex_made, explode_of, implode_of, explodes as exploded, implodes as imploded, copy_sources, give_sources as sources_given};
+
+use algo_tree::{Kind, Vertex};
+use level_meaning::{Feed, Give, Part, Source};
+use std::alloc::Global;
+use syn_base::{Items, OutOfMemory};
+use tree_copy::copy_bytes;
+
+/// The copies of a repetition: the number of the first, and how many there are.
+#[derive(Clone, Copy)]
+pub struct Copies {
+    pub begin: u32,
+    pub count: u32,
+}
+
+/// A vertex that flattening makes for a port of a repetition of this definition.
+fn made(
+    alloc: Global,
+    definition: &[u8],
+    name: &[u8],
+    ins: Vec<Source>,
+    outs: Vec<u32>,
+    kind: Kind,
+) -> Result<Vertex, OutOfMemory>
+    ensures { IfOk result (λ u. view u ≡ vertex_made definition.now name.now ins.items outs.items (kind_view kind)) }
+{
+    let name = copy_bytes(alloc, name)?;
+    let definition = copy_bytes(alloc, definition)?;
+    Ok(Vertex {
+        part: Part::Port(name),
+        definition,
+        ins: Items::new(ins),
+        guards: Items::new(Vec::new(alloc)),
+        outs: Items::new(outs),
+        kind,
+        inner: Vec::new(alloc),
+    })
+}
+
+/// The same length `count` times.
+fn repeated(alloc: Global, len: u32, count: u32) -> Result<Vec<u32>, OutOfMemory>
+    ensures { IfOk result (λ lens. lens.items ≡ replicate count len) }
+{
+    Ok(vec![in alloc; len; count as usize]?)
+}
+
+/// An explode of an own input into `count` parts of this length.
+fn explode(
+    alloc: Global,
+    definition: &[u8],
+    count: u32,
+    name: &[u8],
+    input: u32,
+    len: u32,
+) -> Result<Vertex, OutOfMemory>
+    ensures { IfOk result (λ u. view u ≡ explode_of definition.now count name.now input len) }
+{
+    let ins = vec![in alloc; Source::Own(input)]?;
+    let outs = repeated(alloc, len, count)?;
+    made(alloc, definition, name, ins, outs, Kind::Explode)
+}
+
+/// An explode for each fork line, in order.
+pub fn explodes(
+    alloc: Global,
+    definition: &[u8],
+    count: u32,
+    feeds: &[Feed],
+) -> Result<Vec<Vertex>, OutOfMemory>
+    ensures { IfOk result (λ us. map view us.items ≡ exploded definition.now count feeds.now) }
+{
+    let mut all = Vec::new(alloc);
+    for feed in feeds {
+        if let Feed::Fork(name, input, len) = feed {
+            all.push(explode(alloc, definition, count, name.as_slice(), *input, *len)?)?;
+        }
+    }
+    Ok(all)
+}
+
+/// The number of fork lines: the number of the first copy.
+pub fn begin_of(feeds: &[Feed]) -> u32
+    requires { length (fork_names feeds.now) ≤ 20000 }
+    ensures { result ≡ length (fork_names feeds.now) }
+{
+    let mut count = 0;
+    for feed in feeds {
+        if let Feed::Fork(..) = feed {
+            count += 1;
+        }
+    }
+    count
+}
+
+/// The source of an iterated input of copy `i`: the outer input for copy 0, and the body's output for
+/// the copies behind it.
+fn iterated(copies: Copies, i: u32, input: u32, output: u32) -> Source
+    requires { copies.begin + i ≤ 40000 }
+    ensures { result ≡ (if i == 0 then Source.Own input else Source.Of (copies.begin + (i - 1)) output) }
+{
+    if i == 0 {
+        Source::Own(input)
+    } else {
+        Source::Of(copies.begin + (i - 1), output)
+    }
+}
+
+/// The sources of the inputs of copy `i`.
+pub fn copy_ins(
+    alloc: Global,
+    copies: Copies,
+    i: u32,
+    feeds: &[Feed],
+) -> Result<Vec<Source>, OutOfMemory>
+    requires few { length (fork_names feeds.now) ≤ 20000 }
+    requires small { copies.begin + i ≤ 40000 }
+    ensures { IfOk result (λ ins. ins.items ≡ copy_sources copies.begin i 0 feeds.now) }
+{
+    let mut all = Vec::new(alloc);
+    let mut forks = 0;
+    for feed in feeds {
+        match feed {
+            Feed::Fork(..) => {
+                all.push(Source::Of(forks, i))?;
+                forks += 1;
+            }
+            Feed::Diffuse(input) => all.push(Source::Own(*input))?,
+            Feed::Iterate(input, output) => all.push(iterated(copies, i, *input, *output))?,
+        }
+    }
+    Ok(all)
+}
+
+/// Output `output` of each of the copies, in order.
+fn outputs_of(alloc: Global, copies: Copies, output: u32) -> Result<Vec<Source>, OutOfMemory>
+    requires { copies.begin + copies.count ≤ 40000 }
+    ensures { IfOk result (λ ins. ins.items ≡ map (λ i. Source.Of (copies.begin + i) output) (numbers_below copies.count)) }
+{
+    let mut ins = Vec::new(alloc);
+    for i in 0..copies.count {
+        ins.push(Source::Of(copies.begin + i, output))?;
+    }
+    Ok(ins)
+}
+
+/// An implode of an output of each copy.
+fn implode(
+    alloc: Global,
+    definition: &[u8],
+    copies: Copies,
+    name: &[u8],
+    output: u32,
+    len: u32,
+) -> Result<Vertex, OutOfMemory>
+    requires { copies.begin + copies.count ≤ 40000 }
+    ensures { IfOk result (λ u. view u ≡ implode_of definition.now copies.begin copies.count name.now output len) }
+{
+    let ins = outputs_of(alloc, copies, output)?;
+    let outs = vec![in alloc; len]?;
+    made(alloc, definition, name, ins, outs, Kind::Implode)
+}
+
+fn len_at(lens: &[u32], at: usize) -> u32
+    ensures { result ≡ slice_index_or lens.now at 0 }
+{
+    if at < lens.len() { lens[at] } else { 0 }
+}
+
+/// Adds an implode for each join line, in order, of the lengths of the repetition's outputs.
+pub fn add_implodes(
+    alloc: Global,
+    definition: &[u8],
+    copies: Copies,
+    outs: &[u32],
+    gives: &[Give],
+    all: &mut Vec<Vertex>,
+) -> Result<(), OutOfMemory>
+    requires { copies.begin + copies.count ≤ 40000 }
+    ensures { OnOk result (map view all.new.items ≡ map view all.old.items ++ imploded definition.now copies.begin copies.count outs.now 0 gives.now) }
+{
+    let mut place = 0;
+    for give in gives {
+        if let Give::Join(name, output) = give {
+            let len = len_at(outs, place);
+            let name = name.as_slice();
+            all.push(implode(alloc, definition, copies, name, *output, len)?)?;
+        }
+        place += 1;
+    }
+    Ok(())
+}
+
+/// The sources of the graph's outputs: an implode, or an output of the last copy.
+pub fn give_sources(
+    alloc: Global,
+    copies: Copies,
+    gives: &[Give],
+) -> Result<Vec<Source>, OutOfMemory>
+    requires some { 0 < copies.count }
+    requires few { length (join_names gives.now) ≤ 20000 }
+    requires small { copies.begin + copies.count ≤ 40000 }
+    ensures { IfOk result (λ sources. sources.items ≡ sources_given copies.begin copies.count 0 gives.now) }
+{
+    let mut all = Vec::new(alloc);
+    let mut joins = 0;
+    for give in gives {
+        match give {
+            Give::Join(..) => {
+                all.push(Source::Of(copies.begin + copies.count + joins, 0))?;
+                joins += 1;
+            }
+            Give::Last(output) => all.push(Source::Of(copies.begin + (copies.count - 1), *output))?,
+        }
+    }
+    Ok(all)
+}

@@ -1,0 +1,9 @@
+//! The first pass of flattening: the tree without repetitions.
+#![tactic(auto)]
+
+mod frontier;
+mod pass;
+mod size;
+mod vertices;
+
+pub use pass::unroll;

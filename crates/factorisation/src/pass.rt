@@ -1,0 +1,170 @@
+//! The pass over a tree.
+ghost use Rattle.std.specs.Prelude.{◌≡◌, ◌<◌, ◌≤◌, ◌+◌, ◌++◌, IsErr, IfOk, OnOk, length, map};
+ghost use Rattle.algo_tree.specs.declared.vertex.Vertex.{out-Vertex};
+ghost use Rattle.algo_tree.specs.Tree.{and_vertex, no_vertices};
+ghost use Rattle.algo_tree.specs.Counted.{operations};
+ghost use Rattle.algo_tree.specs.Meaning.{vertices_in};
+ghost use Rattle.algo_tree.specs.Typed.{label_of};
+ghost use Rattle.algo_tree.specs.View.{view, vertices_view};
+ghost use Rattle.algo_tree.specs.Well.{fork_names, join_names, IsOne, IsWell, AllWell};
+ghost use Rattle.path_text.specs.Named.{HasNames};
+ghost use Rattle.pass_laws.specs.SameMeaning.{KeepsMeaning};
+ghost use Rattle.unroll_laws.specs.NoRepeat.{HasNoRepeat};
+ghost use Rattle.unroll_laws.specs.Unrolled.{copies as copied, unroll as unrolled, unroll_all, unrolled_inside};
+ghost use Rattle.factorisation.specs.Size.{size, vertices_made, vertices_made_in};
+
+use crate::frontier::{Copies, add_implodes, begin_of, explodes};
+use crate::size::count_made;
+use crate::vertices::{as_copy, as_graph, with_inside};
+use algo_tree::{Kind, Tree, Vertex};
+use level_meaning::{Feed, Give};
+use std::alloc::Global;
+use syn_base::OutOfMemory;
+
+/// The most vertices of an unrolled tree. Those that hold one of 2,048 operations, each within at most
+/// eight, are fewer; so where definitions are nested to depth 8 a tree beyond this is made of copies
+/// without an operation.
+const MOST: u64 = 20_000;
+
+/// The tree without repetitions, of the same meaning: each is replaced by a graph of its copies, with
+/// an explode for each fork line before them and an implode for each join line behind them. Where
+/// the tree would have more than 20,000 vertices the answer is want of memory, before any of it is
+/// taken.
+pub fn unroll(alloc: Global, tree: &Tree) -> Result<Tree, OutOfMemory>
+    ensures same { IfOk result (λ t. t ≡ unrolled tree.now) }
+    ensures kept { IfOk result (λ t. KeepsMeaning tree.now t) }
+    ensures flat { IfOk result (λ t. HasNoRepeat t) }
+    ensures count { IfOk result (λ t. operations t ≡ operations tree.now) }
+    ensures names { HasNames tree.now → IfOk result (λ t. HasNames t) }
+    ensures large { 20000 < size (unrolled tree.now) → IsErr result }
+{
+    let main = tree.main();
+    if count_made(main) > MOST {
+        return Err(OutOfMemory);
+    }
+    Ok(Tree::new(unroll_vertex(alloc, main)?))
+}
+
+/// The vertex without repetitions.
+#[cycle(unroll)]
+fn unroll_vertex(alloc: Global, vertex: &Vertex) -> Result<Vertex, OutOfMemory>
+    requires well { IsWell (view vertex.now) }
+    requires small { vertices_made (view vertex.now) ≤ 20000 }
+    ensures { IfOk result (λ u. view u ≡ unrolled (view vertex.now)) }
+{
+    match &vertex.kind {
+        Kind::Repeat(count, feeds, gives) => {
+            unroll_repeat(alloc, vertex, *count, feeds.as_slice(), gives.as_slice())
+        }
+        _ => {
+            let inner = unroll_each(alloc, &vertex.inner)?;
+            with_inside(alloc, vertex, inner)
+        }
+    }
+}
+
+/// The vertices without repetitions.
+#[cycle(unroll)]
+fn unroll_each(alloc: Global, vertices: &Vec<Vertex>) -> Result<Vec<Vertex>, OutOfMemory>
+    requires well { AllWell (vertices_view vertices.now.items) }
+    requires small { vertices_made_in (vertices_view vertices.now.items) ≤ 20000 }
+    ensures { IfOk result (λ us. map view us.items ≡ map (λ v. unrolled (view v)) vertices.now.items) }
+{
+    let mut all = Vec::new(alloc);
+    for vertex in vertices {
+        all.push(unroll_vertex(alloc, vertex)?)?;
+    }
+    Ok(all)
+}
+
+/// The graph that a repetition with these lines becomes.
+#[cycle(unroll)]
+fn unroll_repeat(
+    alloc: Global,
+    vertex: &Vertex,
+    count: u32,
+    feeds: &[Feed],
+    gives: &[Give],
+) -> Result<Vertex, OutOfMemory>
+    requires kind { (out-Vertex vertex.now).kind ≡ Kind.Repeat count feeds.now gives.now }
+    requires well { IsWell (view vertex.now) }
+    requires small { vertices_made (view vertex.now) ≤ 20000 }
+    ensures { IfOk result (λ u. view u ≡ unrolled (view vertex.now)) }
+{
+    let copies = Copies {
+        begin: begin_of(feeds),
+        count,
+    };
+    let inner = unroll_inside(alloc, vertex, copies, feeds, gives)?;
+    as_graph(alloc, vertex, copies, gives, inner)
+}
+
+/// What stands inside that graph: explodes, copies and implodes.
+#[cycle(unroll)]
+fn unroll_inside(
+    alloc: Global,
+    vertex: &Vertex,
+    copies: Copies,
+    feeds: &[Feed],
+    gives: &[Give],
+) -> Result<Vec<Vertex>, OutOfMemory>
+    requires begin { copies.begin ≡ length (fork_names feeds.now) }
+    requires kind { (out-Vertex vertex.now).kind ≡ Kind.Repeat copies.count feeds.now gives.now }
+    requires well { IsWell (view vertex.now) }
+    requires small { vertices_made (view vertex.now) ≤ 20000 }
+    ensures { IfOk result (λ us. map view us.items ≡ unrolled_inside (label_of (view vertex.now)).definition copies.count feeds.now gives.now (label_of (view vertex.now)).outs (unroll_all (vertices_in (view vertex.now)))) }
+{
+    let definition = vertex.definition.as_slice();
+    let mut all = explodes(alloc, definition, copies.count, feeds)?;
+    add_copies(alloc, &vertex.inner, copies, feeds, &mut all)?;
+    add_implodes(
+        alloc,
+        definition,
+        copies,
+        vertex.outs.as_slice(),
+        gives,
+        &mut all,
+    )?;
+    Ok(all)
+}
+
+/// Adds the copies of the one body.
+#[cycle(unroll)]
+fn add_copies(
+    alloc: Global,
+    inner: &Vec<Vertex>,
+    copies: Copies,
+    feeds: &[Feed],
+    all: &mut Vec<Vertex>,
+) -> Result<(), OutOfMemory>
+    requires one { IsOne (vertices_view inner.now.items) }
+    requires well { AllWell (vertices_view inner.now.items) }
+    requires few { length (fork_names feeds.now) ≤ 20000 }
+    requires bodies { vertices_made_in (vertices_view inner.now.items) ≤ 20000 }
+    requires small { copies.begin + copies.count ≤ 40000 }
+    ensures { OnOk result (map view all.new.items ≡ map view all.old.items ++ copied copies.begin feeds.now copies.count (unroll_all (vertices_view inner.now.items))) }
+{
+    add_copies_of(alloc, &inner[0], copies, feeds, all)
+}
+
+/// Adds the copies of a body, each made anew.
+#[cycle(unroll)]
+fn add_copies_of(
+    alloc: Global,
+    body: &Vertex,
+    copies: Copies,
+    feeds: &[Feed],
+    all: &mut Vec<Vertex>,
+) -> Result<(), OutOfMemory>
+    requires well { IsWell (view body.now) }
+    requires few { length (fork_names feeds.now) ≤ 20000 }
+    requires bodies { vertices_made (view body.now) ≤ 20000 }
+    requires small { copies.begin + copies.count ≤ 40000 }
+    ensures { OnOk result (map view all.new.items ≡ map view all.old.items ++ copied copies.begin feeds.now copies.count (and_vertex (unrolled (view body.now)) no_vertices)) }
+{
+    for i in 0..copies.count {
+        let vertex = unroll_vertex(alloc, body)?;
+        all.push(as_copy(alloc, vertex, copies, i, feeds)?)?;
+    }
+    Ok(())
+}

@@ -1,0 +1,101 @@
+//! Vertices that are made again, with another inside.
+ghost use Rattle.std.specs.Prelude.{◌≡◌, ◌<◌, ◌≤◌, ◌+◌, IfOk, length};
+ghost use Rattle.algo_tree.specs.declared.vertex.Vertex.{out-Vertex};
+ghost use Rattle.algo_tree.specs.Tree.{graph, vertex as plain_vertex};
+ghost use Rattle.algo_tree.specs.Meaning.{vertices_in};
+ghost use Rattle.algo_tree.specs.Typed.{label_of};
+ghost use Rattle.algo_tree.specs.View.{kind_view, label_view, view, vertices_view};
+ghost use Rattle.algo_tree.specs.Well.{fork_names, join_names};
+ghost use Rattle.unroll_laws.specs.Unrolled.{copy, give_sources as sources_given, with_kind};
+
+use crate::frontier::{Copies, copy_ins, give_sources};
+use algo_tree::{Kind, Vertex};
+use level_meaning::{Feed, Give, Part};
+use std::alloc::Global;
+use syn_base::{Items, OutOfMemory};
+use tree_copy::{copy_bytes, copy_guards, copy_kind, copy_lens, copy_part, copy_sources};
+
+/// A vertex with another kind, and other vertices inside.
+fn remade(
+    alloc: Global,
+    vertex: &Vertex,
+    kind: Kind,
+    inner: Vec<Vertex>,
+) -> Result<Vertex, OutOfMemory>
+    ensures { IfOk result (λ u. view u ≡ plain_vertex (with_kind (label_view (out-Vertex vertex.now)) (kind_view kind)) (vertices_view inner.items)) }
+{
+    let part = copy_part(alloc, &vertex.part)?;
+    let definition = copy_bytes(alloc, vertex.definition.as_slice())?;
+    let ins = copy_sources(alloc, vertex.ins.as_slice())?;
+    let guards = copy_guards(alloc, vertex.guards.as_slice())?;
+    let outs = copy_lens(alloc, vertex.outs.as_slice())?;
+    Ok(Vertex {
+        part,
+        definition,
+        ins,
+        guards,
+        outs,
+        kind,
+        inner,
+    })
+}
+
+/// The same vertex, with other vertices inside.
+pub fn with_inside(
+    alloc: Global,
+    vertex: &Vertex,
+    inner: Vec<Vertex>,
+) -> Result<Vertex, OutOfMemory>
+    ensures { IfOk result (λ u. view u ≡ plain_vertex (label_view (out-Vertex vertex.now)) (vertices_view inner.items)) }
+{
+    let kind = copy_kind(alloc, &vertex.kind)?;
+    remade(alloc, vertex, kind, inner)
+}
+
+/// The graph that a repetition with these copies and outputs becomes, with what stands inside it.
+pub fn as_graph(
+    alloc: Global,
+    vertex: &Vertex,
+    copies: Copies,
+    gives: &[Give],
+    inner: Vec<Vertex>,
+) -> Result<Vertex, OutOfMemory>
+    requires some { 0 < copies.count }
+    requires few { length (join_names gives.now) ≤ 20000 }
+    requires small { copies.begin + copies.count ≤ 40000 }
+    ensures { IfOk result (λ u. view u ≡ plain_vertex (with_kind (label_view (out-Vertex vertex.now)) (graph (sources_given copies.begin copies.count 0 gives.now))) (vertices_view inner.items)) }
+{
+    let sources = give_sources(alloc, copies, gives)?;
+    remade(alloc, vertex, Kind::Graph(Items::new(sources)), inner)
+}
+
+/// Makes of an unrolled body the copy number `i`.
+pub fn as_copy(
+    alloc: Global,
+    body: Vertex,
+    copies: Copies,
+    i: u32,
+    feeds: &[Feed],
+) -> Result<Vertex, OutOfMemory>
+    requires few { length (fork_names feeds.now) ≤ 20000 }
+    requires small { copies.begin + i ≤ 40000 }
+    ensures { IfOk result (λ u. view u ≡ copy copies.begin feeds.now (label_of (view body)) (vertices_in (view body)) i) }
+{
+    let ins = copy_ins(alloc, copies, i, feeds)?;
+    let Vertex {
+        definition,
+        outs,
+        kind,
+        inner,
+        ..
+    } = body;
+    Ok(Vertex {
+        part: Part::Numbered(i),
+        definition,
+        ins: Items::new(ins),
+        guards: Items::new(Vec::new(alloc)),
+        outs,
+        kind,
+        inner,
+    })
+}

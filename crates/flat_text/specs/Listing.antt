@@ -1,0 +1,61 @@
+-- The listing of a flat graph.
+use Rattle.std.specs.Prelude.{ℕ, suc, List, [], ◌∷◌, ◌++◌, map, codes}
+use Rattle.std.specs.Fmt.{decimal}
+use Rattle.flat_graph.specs.declared.vertex.Source.{Source}
+use Rattle.flat_graph.specs.declared.vertex.Guard.{Guard}
+use Rattle.flat_graph.specs.declared.vertex.Kind.{Kind}
+use Rattle.flat_graph.specs.declared.vertex.Kind.TheVariants.{Sensor, Actuator, Function, Constant, Get, Set, Explode, Implode, Merge}
+use Rattle.flat_graph.specs.declared.vertex.Vertex.{Vertex}
+use Rattle.flat_graph.specs.Graph.{Graph}
+
+abbrev pub Bytes : Type 0
+Bytes = List ℕ
+
+abbrev pub kind_word : Kind → Bytes
+kind_word (Sensor i) = codes "sensor"
+kind_word (Actuator i) = codes "actuator"
+kind_word (Function b) = codes "function"
+kind_word (Constant z) = codes "constant"
+kind_word (Get z) = codes "get"
+kind_word Set = codes "set"
+kind_word Explode = codes "explode"
+kind_word Implode = codes "implode"
+kind_word (Merge values) = codes "merge"
+
+-- an output of an operation: `v.p`
+abbrev pub source_text : Source → Bytes
+source_text s = decimal s.vertex ++ (codes "." ++ decimal s.port)
+
+-- the source of a condition, and the case that it has to select: `v.p?c`
+abbrev pub guard_text : Guard → Bytes
+guard_text g = source_text g.source ++ (codes "?" ++ decimal g.case)
+
+-- a comma before each
+abbrev pub each_behind : List Bytes → Bytes
+each_behind [] = []
+each_behind (w ∷ ws) = (codes "," ++ w) ++ each_behind ws
+
+-- joined by commas, and `-` for none
+abbrev pub listed : List Bytes → Bytes
+listed [] = codes "-"
+listed (w ∷ ws) = w ++ each_behind ws
+
+-- number, name, kind and definition
+abbrev pub vertex_head : ℕ → Vertex → Bytes
+vertex_head v x = decimal v ++ (codes " " ++ (x.name ++ (codes " " ++ (kind_word x.kind ++ (codes ":" ++ x.def)))))
+
+-- guards, inputs, lengths of outputs
+abbrev pub vertex_lists : Vertex → Bytes
+vertex_lists x = codes " " ++ (listed (map guard_text x.guards) ++ (codes " " ++ (listed (map source_text x.ins) ++ (codes " " ++ listed (map decimal x.outs)))))
+
+-- the line of operation v
+abbrev pub vertex_line : ℕ → Vertex → Bytes
+vertex_line v x = vertex_head v x ++ (vertex_lists x ++ codes "\n")
+
+-- operations that are numbered from v on
+abbrev pub lines_from : ℕ → List Vertex → Bytes
+lines_from v [] = []
+lines_from v (x ∷ xs) = vertex_line v x ++ lines_from (suc v) xs
+
+abbrev pub listing : Graph → Bytes
+listing g = lines_from 0 g.vertices

@@ -1,0 +1,8 @@
+//! The listing of a flat graph.
+#![tactic(auto)]
+
+mod line;
+mod list;
+mod listing;
+
+pub use listing::print_flat;

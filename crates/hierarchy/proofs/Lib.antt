@@ -1,0 +1,5 @@
+pub mod Leading
+pub mod Building
+pub mod Texting
+pub mod Adding
+pub mod Linking

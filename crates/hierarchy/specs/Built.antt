@@ -1,0 +1,63 @@
+-- Operations that are added one by one.
+use Rattle.std.specs.Prelude.{◌≡◌, ℕ, ◌<◌, List, [], ◌∷◌, ◌++◌, length, map}
+use Rattle.level_meaning.specs.declared.source.Source.{Source}
+use Rattle.body_lang.specs.Expr.{Expr}
+use Rattle.algo_tree.specs.Tree as tree
+use Rattle.algo_tree.specs.Tree.{Label}
+use Rattle.flat_graph.specs.declared.vertex.Kind.{Kind}
+use Rattle.flat_graph.specs.declared.vertex.Kind.TheVariants.{Function}
+use Rattle.flat_graph.specs.declared.vertex.Vertex.{Vertex}
+use Rattle.flat_graph.specs.Graph.{Graph, bodies_view}
+use Rattle.flat_graph.specs.Meaning.{level_source, level_guard}
+use Rattle.inline_laws.specs.Flat.{Operation}
+use Rattle.inline_laws.specs.Inlined.{wire_guard}
+use Rattle.flat_laws.specs.Numbering.{IsNumbered, bodies_in, HasBodiesInOrder}
+use Rattle.flat_laws.specs.Stands.{Stands}
+use Rattle.hierarchy.specs.declared.operation.Inlined.{Inlined}
+
+abbrev pub graph_of : Inlined → Graph
+graph_of all = record { vertices = all.vertices.items; bodies = bodies_view all.bodies.items }
+
+-- the body of a function is one of n
+abbrev pub IsBodyThere : ℕ → Kind → Type 0
+IsBodyThere n (Function b) = b < n
+IsBodyThere n _ = Unit {0}
+
+abbrev pub AreBodiesThere : ℕ → List Vertex → Type 0
+AreBodiesThere n [] = Unit {0}
+AreBodiesThere n (x ∷ xs) = IsBodyThere n x.kind × AreBodiesThere n xs
+
+-- Behind n bodies an operation of this kind brings m more: a function has the one that it brings.
+pub record Brings (n m : ℕ) (k : Kind) : Type 0 where
+  pub numbered : IsNumbered n k
+  pub many : m ≡ bodies_in k
+
+-- a graph, whether valid or not yet, that stands for these operations
+pub record Built (g : Graph) (ops : List Operation) : Type 0 where
+  pub stands : Stands g ops
+  pub bodies : AreBodiesThere (length g.bodies) g.vertices
+  pub order : HasBodiesInOrder g
+
+-- Whatever was built before, these operations are added behind it, by the number of the first.
+abbrev pub Adds : Graph → Graph → (ℕ → List Operation) → Type 0
+Adds old new more = (ops : List Operation) → Built old ops → Built new (ops ++ more (length ops))
+
+-- An operation of a vertex with these inputs and outputs, where the sources of its level lead as w says.
+pub record IsOperation (w : Source → Source) (l : Label) (sources : List Source) (lens : List ℕ) (x : Vertex) : Type 0 where
+  pub definition : x.def ≡ l.definition
+  pub ins : map level_source x.ins ≡ map w sources
+  pub guards : map level_guard x.guards ≡ map (wire_guard w) l.guards
+  pub outs : x.outs ≡ lens
+
+-- a vertex of this kind is one operation
+abbrev pub IsRun : tree.Kind → Type 0
+IsRun (tree.delay vs) = ⊥
+IsRun (tree.graph outs) = ⊥
+IsRun (tree.switch values names) = ⊥
+IsRun (tree.repeat n feeds gives) = ⊥
+IsRun _ = Unit {0}
+
+-- a function's operation adds a body
+abbrev pub body_added : tree.Kind → List (List Expr)
+body_added (tree.function es) = es ∷ []
+body_added _ = []

@@ -1,0 +1,5 @@
+pub mod Numbers
+pub mod Wires
+pub mod Texts
+pub mod Built
+pub mod Linked

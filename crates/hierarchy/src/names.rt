@@ -1,0 +1,38 @@
+//! The names of operations: the texts of their paths.
+ghost use Rattle.std.specs.Prelude.{◌≡◌, ◌++◌, IfOk};
+ghost use Rattle.hierarchy.specs.Texts.{joined as text_joined};
+
+use itoa::Buffer;
+use level_meaning::Part;
+use std::alloc::Global;
+use syn_base::OutOfMemory;
+
+/// Three texts, one after another.
+pub fn glued(
+    alloc: Global,
+    first: &[u8],
+    second: &[u8],
+    third: &[u8],
+) -> Result<Vec<u8>, OutOfMemory>
+    ensures { IfOk result (λ text. text.items ≡ first.now ++ (second.now ++ third.now)) }
+{
+    let mut text = Vec::from_slice(alloc, first)?;
+    text.extend_from_slice(second)?;
+    text.extend_from_slice(third)?;
+    Ok(text)
+}
+
+/// The text of a path with one more part.
+pub fn joined(alloc: Global, path: &[u8], part: &Part) -> Result<Vec<u8>, OutOfMemory>
+    ensures { IfOk result (λ text. text.items ≡ text_joined path.now part.now) }
+{
+    match part {
+        Part::Named(name) if path.is_empty() => Ok(Vec::from_slice(alloc, name.as_slice())?),
+        Part::Named(name) => glued(alloc, path, b"/", name.as_slice()),
+        Part::Numbered(number) => {
+            let mut buffer = Buffer::new();
+            glued(alloc, path, b".", buffer.format(*number).as_bytes())
+        }
+        Part::Port(name) => glued(alloc, path, b":", name.as_slice()),
+    }
+}

@@ -1,0 +1,48 @@
+//! The numbers of operations.
+ghost use Rattle.std.specs.Prelude.{◌≡◌, ◌+◌, IfOk};
+ghost use Rattle.algo_tree.specs.Counted.{operations};
+ghost use Rattle.algo_tree.specs.View.{view, vertices_view};
+ghost use Rattle.hierarchy.specs.Numbers.{first_numbers as numbers_of};
+
+use algo_tree::{Vertex, count_operations};
+use std::alloc::Global;
+use syn_base::OutOfMemory;
+
+/// A count as a number. Where it does not fit the answer is want of memory, which that many operations
+/// would long have met.
+pub fn number(count: usize) -> Result<u32, OutOfMemory>
+    ensures { IfOk result (λ n. n ≡ count) }
+{
+    match u32::try_from(count) {
+        Ok(number) => Ok(number),
+        Err(_) => Err(OutOfMemory),
+    }
+}
+
+/// The number behind the operations of a vertex, of which the first has this number.
+fn number_behind(first: u32, vertex: &Vertex) -> Result<u32, OutOfMemory>
+    ensures { IfOk result (λ n. n ≡ first + operations (view vertex.now)) }
+{
+    let count = number(count_operations(vertex) as usize)?;
+    match first.checked_add(count) {
+        Some(number) => Ok(number),
+        None => Err(OutOfMemory),
+    }
+}
+
+/// The number of the first operation of each vertex of a level, in order.
+pub fn first_numbers(
+    alloc: Global,
+    first: u32,
+    vertices: &[Vertex],
+) -> Result<Vec<u32>, OutOfMemory>
+    ensures { IfOk result (λ numbers. numbers.items ≡ numbers_of first (vertices_view vertices.now)) }
+{
+    let mut numbers = Vec::new(alloc);
+    let mut next = first;
+    for vertex in vertices {
+        numbers.push(next)?;
+        next = number_behind(next, vertex)?;
+    }
+    Ok(numbers)
+}

@@ -1,0 +1,243 @@
+//! Operations, one by one.
+ghost use Rattle.std.specs.Prelude.{◌≡◌, ◌+◌, ◌++◌, ◌∷◌, [], IsTrue, IfOk, OnOk, length, map};
+ghost use Rattle.body_lang.specs.Expr.{view as expression};
+ghost use Rattle.syn_base.specs.Name.{is_name};
+ghost use Rattle.level_meaning.specs.Level.{Path};
+ghost use Rattle.algo_tree.specs.declared.vertex.Vertex.{out-Vertex};
+ghost use Rattle.algo_tree.specs.View.{kind_view, label_view};
+ghost use Rattle.flat_graph.specs.Graph.{bodies_view};
+ghost use Rattle.flat_graph.specs.Meaning.{level_guard, level_source};
+ghost use Rattle.inline_laws.specs.Flat.{gets, runs, sets};
+ghost use Rattle.inline_laws.specs.Inlined.{operation_of, wire_guard};
+ghost use Rattle.flat_laws.specs.Stands.{task_of};
+ghost use Rattle.path_text.specs.Texts.{path_text};
+ghost use Rattle.hierarchy.specs.Wires.{led};
+ghost use Rattle.hierarchy.specs.Linked.{AreFound, GuardsFound, IsFound};
+ghost use Rattle.flat_laws.specs.Numbering.{IsNumbered, bodies_in};
+ghost use Rattle.hierarchy.specs.Built.{Adds, IsOperation, IsRun, body_added, graph_of};
+
+use crate::names::glued;
+use crate::numbers::number;
+use crate::wires::{Level, follow};
+use algo_tree::{Kind, Vertex};
+use body_lang::Expr;
+use flat_graph::{Guard as Condition, Kind as Task, Source as Output, Vertex as Operation};
+use level_meaning::{Guard, Source};
+use std::alloc::Global;
+use syn_base::{Items, Name, NameFault, OutOfMemory};
+use tree_copy::{copy_expression, copy_lens, copy_numbers};
+
+/// Operations and the bodies of their functions, as they are so far.
+#[derive(Drop)]
+pub struct Inlined {
+    pub vertices: Vec<Operation>,
+    pub bodies: Vec<Items<Expr>>,
+}
+
+/// What an operation is beside the guards and the definition of its vertex.
+#[derive(Drop)]
+struct Form<'a> {
+    name: Vec<u8>,
+    task: Task,
+    ins: &'a [Source],
+    outs: &'a [u32],
+    twin: Option<u32>,
+}
+
+/// The output of an operation that a source of a level leads to.
+fn output_of(level: &Level<'_>, source: Source) -> Output
+    requires { IsFound (led level.now.leds.now level.now.own.now source) }
+    ensures { level_source result ≡ led level.now.leds.now level.now.own.now source }
+{
+    match follow(level, source) {
+        Source::Of(vertex, port) => Output { vertex, port },
+        Source::Own(_) => unreachable!(),
+    }
+}
+
+fn outputs_of(
+    alloc: Global,
+    level: &Level<'_>,
+    sources: &[Source],
+) -> Result<Vec<Output>, OutOfMemory>
+    requires { AreFound (map (led level.now.leds.now level.now.own.now) sources.now) }
+    ensures { IfOk result (λ os. map level_source os.items ≡ map (led level.now.leds.now level.now.own.now) sources.now) }
+{
+    let mut all = Vec::new(alloc);
+    for source in sources {
+        all.push(output_of(level, *source))?;
+    }
+    Ok(all)
+}
+
+fn condition(alloc: Global, level: &Level<'_>, guard: &Guard) -> Result<Condition, OutOfMemory>
+    requires { IsFound (led level.now.leds.now level.now.own.now guard.now.source) }
+    ensures { IfOk result (λ c. level_guard c ≡ wire_guard (led level.now.leds.now level.now.own.now) guard.now) }
+{
+    Ok(Condition {
+        source: output_of(level, guard.source),
+        values: copy_numbers(alloc, guard.values.as_slice())?,
+        case: guard.case,
+    })
+}
+
+fn conditions(
+    alloc: Global,
+    level: &Level<'_>,
+    guards: &[Guard],
+) -> Result<Vec<Condition>, OutOfMemory>
+    requires { GuardsFound (map (wire_guard (led level.now.leds.now level.now.own.now)) guards.now) }
+    ensures { IfOk result (λ cs. map level_guard cs.items ≡ map (wire_guard (led level.now.leds.now level.now.own.now)) guards.now) }
+{
+    let mut all = Vec::new(alloc);
+    for guard in guards {
+        all.push(condition(alloc, level, guard)?)?;
+    }
+    Ok(all)
+}
+
+/// The name of a definition.
+fn definition(alloc: Global, text: &[u8]) -> Result<Name, OutOfMemory>
+    requires { IsTrue (is_name text.now) }
+    ensures { IfOk result (λ name. name ≡ text.now) }
+{
+    match Name::new(alloc, text) {
+        Ok(name) => Ok(name),
+        Err(NameFault::OutOfMemory) => Err(OutOfMemory),
+        Err(NameFault::BadName) => unreachable!(),
+    }
+}
+
+/// The operation of this form of a vertex of a level.
+fn operation(
+    alloc: Global,
+    level: &Level<'_>,
+    vertex: &Vertex,
+    form: Form<'_>,
+) -> Result<Operation, OutOfMemory>
+    requires definition { IsTrue (is_name (out-Vertex vertex.now).definition) }
+    requires ins { AreFound (map (led level.now.leds.now level.now.own.now) form.ins.now) }
+    requires guards { GuardsFound (map (wire_guard (led level.now.leds.now level.now.own.now)) (out-Vertex vertex.now).guards) }
+    ensures is { IfOk result (λ x. IsOperation (led level.now.leds.now level.now.own.now) (label_view (out-Vertex vertex.now)) form.entry.ins.now form.entry.outs.now x) }
+    ensures name { IfOk result (λ x. x.name ≡ form.entry.name.items) }
+    ensures task { IfOk result (λ x. x.kind ≡ form.entry.task) }
+    ensures twin { IfOk result (λ x. x.twin ≡ form.entry.twin) }
+{
+    let def = definition(alloc, vertex.definition.as_slice())?;
+    let guards = conditions(alloc, level, vertex.guards.as_slice())?;
+    let ins = outputs_of(alloc, level, form.ins)?;
+    let outs = copy_lens(alloc, form.outs)?;
+    Ok(Operation {
+        name: Items::new(form.name),
+        def,
+        kind: form.task,
+        guards: Items::new(guards),
+        ins: Items::new(ins),
+        outs,
+        twin: form.twin,
+    })
+}
+
+/// Adds the two halves of a delay with these initial values: the first gives the kept value, the
+/// second takes the next one.
+pub fn add_delay(
+    alloc: Global,
+    level: &Level<'_>,
+    vertex: &Vertex,
+    path: &[u8],
+    values: &[i64],
+    all: &mut Inlined,
+) -> Result<(), OutOfMemory>
+    requires definition { IsTrue (is_name (out-Vertex vertex.now).definition) }
+    requires ins { AreFound (map (led level.now.leds.now level.now.own.now) (out-Vertex vertex.now).ins) }
+    requires guards { GuardsFound (map (wire_guard (led level.now.leds.now level.now.own.now)) (out-Vertex vertex.now).guards) }
+    ensures count { OnOk result (length all.new.vertices.items ≡ length all.old.vertices.items + 2) }
+    ensures added { OnOk result ((at : Path) → path_text at ≡ path.now → Adds (graph_of all.old) (graph_of all.new) (λ b. operation_of (led level.now.leds.now level.now.own.now) at (label_view (out-Vertex vertex.now)) [] (out-Vertex vertex.now).outs (gets (values.now ∷ [])) ∷ operation_of (led level.now.leds.now level.now.own.now) at (label_view (out-Vertex vertex.now)) (out-Vertex vertex.now).ins [] sets ∷ [])) }
+{
+    let get = number(all.vertices.len())?;
+    let set = number(all.vertices.len() + 1)?;
+    let gives = Form {
+        name: glued(alloc, path, b":get", b"")?,
+        task: Task::Get(copy_numbers(alloc, values)?),
+        ins: &[],
+        outs: vertex.outs.as_slice(),
+        twin: Some(set),
+    };
+    let takes = Form {
+        name: glued(alloc, path, b":set", b"")?,
+        task: Task::Set,
+        ins: vertex.ins.as_slice(),
+        outs: &[],
+        twin: Some(get),
+    };
+    all.vertices.push(operation(alloc, level, vertex, gives)?)?;
+    all.vertices.push(operation(alloc, level, vertex, takes)?)?;
+    Ok(())
+}
+
+/// A body with these expressions.
+fn body(alloc: Global, outs: &[Expr]) -> Result<Items<Expr>, OutOfMemory>
+    ensures { IfOk result (λ es. map expression es ≡ map expression outs.now) }
+{
+    let mut copies = Vec::new(alloc);
+    for out in outs {
+        copies.push(copy_expression(alloc, out)?)?;
+    }
+    Ok(Items::new(copies))
+}
+
+/// Adds the body of a function, and answers its number.
+fn add_body(alloc: Global, outs: &[Expr], bodies: &mut Vec<Items<Expr>>) -> Result<u32, OutOfMemory>
+    ensures number { IfOk result (λ b. b ≡ length bodies.old.items) }
+    ensures added { OnOk result (bodies_view bodies.new.items ≡ bodies_view bodies.old.items ++ map expression outs.now ∷ []) }
+{
+    let number = number(bodies.len())?;
+    bodies.push(body(alloc, outs)?)?;
+    Ok(number)
+}
+
+/// What the operation of a vertex of this kind is. The body of a function is added to the others.
+fn task(alloc: Global, kind: &Kind, bodies: &mut Vec<Items<Expr>>) -> Result<Task, OutOfMemory>
+    requires { IsRun (kind_view kind.now) }
+    ensures task { IfOk result (λ t. task_of (bodies_view bodies.new.items) t ≡ runs (kind_view kind.now)) }
+    ensures numbered { IfOk result (λ t. IsNumbered (length bodies.old.items) t) }
+    ensures many { IfOk result (λ t. length (body_added (kind_view kind.now)) ≡ bodies_in t) }
+    ensures added { OnOk result (bodies_view bodies.new.items ≡ bodies_view bodies.old.items ++ body_added (kind_view kind.now)) }
+{
+    Ok(match kind {
+        Kind::Sensor(number) => Task::Sensor(*number),
+        Kind::Actuator(number) => Task::Actuator(*number),
+        Kind::Constant(values) => Task::Constant(copy_numbers(alloc, values.as_slice())?),
+        Kind::Function(outs) => Task::Function(add_body(alloc, outs.as_slice(), bodies)?),
+        Kind::Explode => Task::Explode,
+        Kind::Implode => Task::Implode,
+        Kind::Merge(values) => Task::Merge(copy_numbers(alloc, values.as_slice())?),
+        Kind::Delay(_) | Kind::Graph(_) | Kind::Switch(..) | Kind::Repeat(..) => unreachable!(),
+    })
+}
+
+/// Adds the one operation of a vertex.
+pub fn add_operation(
+    alloc: Global,
+    level: &Level<'_>,
+    vertex: &Vertex,
+    path: Vec<u8>,
+    all: &mut Inlined,
+) -> Result<(), OutOfMemory>
+    requires definition { IsTrue (is_name (out-Vertex vertex.now).definition) }
+    requires ins { AreFound (map (led level.now.leds.now level.now.own.now) (out-Vertex vertex.now).ins) }
+    requires guards { GuardsFound (map (wire_guard (led level.now.leds.now level.now.own.now)) (out-Vertex vertex.now).guards) }
+    requires kind { IsRun (kind_view (out-Vertex vertex.now).kind) }
+    ensures count { OnOk result (length all.new.vertices.items ≡ length all.old.vertices.items + 1) }
+    ensures added { OnOk result ((at : Path) → path_text at ≡ path.items → Adds (graph_of all.old) (graph_of all.new) (λ b. operation_of (led level.now.leds.now level.now.own.now) at (label_view (out-Vertex vertex.now)) (out-Vertex vertex.now).ins (out-Vertex vertex.now).outs (runs (kind_view (out-Vertex vertex.now).kind)) ∷ [])) }
+{
+    let form = Form {
+        name: path,
+        task: task(alloc, &vertex.kind, &mut all.bodies)?,
+        ins: vertex.ins.as_slice(),
+        outs: vertex.outs.as_slice(),
+        twin: None,
+    };
+    all.vertices.push(operation(alloc, level, vertex, form)?)?;
+    Ok(())
+}

@@ -1,0 +1,37 @@
+//! The passes of flattening, one after another.
+ghost use Rattle.std.specs.Prelude.{◌≡◌, IfOk, length};
+ghost use Rattle.algo_tree.specs.Counted.{operations as count};
+ghost use Rattle.flat_laws.specs.FlatOf.{flat_of};
+ghost use Rattle.flat_laws.specs.Stands.{KeepsGraph, Stands};
+ghost use Rattle.guard_laws.specs.Guarded.{guard as guarded};
+ghost use Rattle.inline_laws.specs.Inlined.{operations};
+ghost use Rattle.path_text.specs.Bounded.{HasBounds};
+ghost use Rattle.path_text.specs.Named.{HasNames};
+ghost use Rattle.unroll_laws.specs.Unrolled.{unroll as unrolled};
+
+use crate::inlining::{Inlined, inline};
+use algo_tree::Tree;
+use conditioning::guard;
+use factorisation::unroll;
+use flat_graph::Flat;
+use std::alloc::Global;
+use syn_base::OutOfMemory;
+
+/// The flat graph of an algorithm: its repetitions are unrolled, its cases are put under guards, and
+/// its graphs are taken apart. It stands for the operations of the tree in order, and keeps its
+/// meaning: the actuators take the same values in each reaction, and each delay keeps the same.
+pub fn flatten(alloc: Global, tree: &Tree) -> Result<Flat, OutOfMemory>
+    requires names { HasNames tree.now }
+    requires bounds { HasBounds tree.now }
+    ensures same { IfOk result (λ g. g ≡ flat_of tree.now) }
+    ensures stands { IfOk result (λ g. Stands g (operations (guarded (unrolled tree.now)))) }
+    ensures kept { IfOk result (λ g. KeepsGraph tree.now g (operations (guarded (unrolled tree.now)))) }
+    ensures count { IfOk result (λ g. length g.vertices ≡ count tree.now) }
+{
+    // By this call the proof knows that the tree is valid.
+    let _main = tree.main();
+    let unrolled = unroll(alloc, tree)?;
+    let guarded = guard(alloc, &unrolled)?;
+    let Inlined { vertices, bodies } = inline(alloc, &guarded)?;
+    Ok(Flat::new(vertices, bodies))
+}
