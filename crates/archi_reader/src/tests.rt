@@ -94,7 +94,9 @@ fn the_first_of_the_whole(rt: HostRuntime) -> Result<(), Fail> {
     let lonely: &[u8] = b"operator P\nmedium x p2p 1 1\nconnect x P\n";
     let apart: &[u8] = b"operator P\nduration Sense P 1\nduration Act P 2\noperator Q\n";
     let both: &[u8] = b"operator P\noperator Q\nmedium x p2p 1 1\nconnect x P\n";
+    let unknown: &[u8] = b"operator P\nmedium x p2p 1 1\nconnect y P\n";
     assert_eq!(rt; behind(alloc, b"medium x p2p 1 1")?, Answer::NoOperator(0));
+    assert_eq!(rt; behind(alloc, unknown)?, Answer::UnknownName(4));
     assert_eq!(rt; behind(alloc, lonely)?, Answer::BadMedium(3));
     assert_eq!(rt; behind(alloc, both)?, Answer::BadMedium(4));
     assert_eq!(rt; behind(alloc, apart)?, Answer::Disconnected(0));

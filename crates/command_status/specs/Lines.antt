@@ -11,11 +11,14 @@ use Rattle.syn_base.specs.Limits.{word_of}
 use Rattle.algo_defs.specs.declared.fault.AlgoCause.{AlgoCause}
 use Rattle.algo_defs.specs.declared.fault.AlgoCause.TheVariants as a
 use Rattle.algo_defs.specs.declared.fault.AlgoFault.{AlgoFault}
+use Rattle.archi_defs.specs.declared.fault.ArchiCause.{ArchiCause}
+use Rattle.archi_defs.specs.declared.fault.ArchiCause.TheVariants as h
+use Rattle.archi_defs.specs.declared.fault.ArchiFault.{ArchiFault}
 use Rattle.sensor_table.specs.declared.fault.SensorCause.{SensorCause}
 use Rattle.sensor_table.specs.declared.fault.SensorCause.TheVariants as s
 use Rattle.sensor_table.specs.declared.fault.SensorFault.{SensorFault}
 use Rattle.command_status.specs.declared.status.Status.{Status}
-use Rattle.command_status.specs.declared.status.Status.TheVariants.{Done, Usage, ReadFault, WriteFault, AlgoRefused, SensorsRefused, Limit, NotBuilt, OutOfMemory}
+use Rattle.command_status.specs.declared.status.Status.TheVariants.{Done, Usage, ReadFault, WriteFault, AlgoRefused, ArchiRefused, SensorsRefused, Limit, NotBuilt, OutOfMemory}
 
 abbrev pub file_word : File → Bytes
 file_word file.Algorithm = codes "algorithm"
@@ -32,7 +35,7 @@ limit_line fault =
 abbrev pub head : Bytes → ℕ → Bytes → Bytes
 head text n word = joined (text ∷ decimal n ∷ codes ": " ∷ word ∷ [])
 
--- what stands behind a cause, to the end of the line: a number, two numbers, a word, or names
+-- what stands behind a cause, to the end of the line: a number, two numbers, a word, two names, or names
 abbrev pub number_line : ℕ → Bytes
 number_line n = joined (codes " " ∷ decimal n ∷ codes "\n" ∷ [])
 
@@ -41,6 +44,9 @@ counts_line n m = joined (codes " " ∷ decimal n ∷ codes " " ∷ decimal m �
 
 abbrev pub word_line : Bytes → Bytes
 word_line w = joined (codes " " ∷ w ∷ codes "\n" ∷ [])
+
+abbrev pub two_names_line : Bytes → Bytes → Bytes
+two_names_line w v = joined (codes " " ∷ w ∷ codes " " ∷ v ∷ codes "\n" ∷ [])
 
 abbrev pub names_line : List Bytes → Bytes
 names_line [] = codes "\n"
@@ -85,6 +91,33 @@ algorithm_detail a.BadRepeat = codes "\n"
 abbrev pub algorithm_line : AlgoFault → Bytes
 algorithm_line fault = head (codes "algorithm line ") fault.line (algorithm_word fault.cause) ++ algorithm_detail fault.cause
 
+abbrev pub architecture_word : ArchiCause → Bytes
+architecture_word (h.NotText place) = codes "H1 NotText"
+architecture_word h.BadLine = codes "H2 BadLine"
+architecture_word (h.BadName w) = codes "H3 BadName"
+architecture_word (h.BadNumber w) = codes "H4 BadNumber"
+architecture_word (h.DuplicateName w) = codes "H5 DuplicateName"
+architecture_word (h.UnknownName w) = codes "H6 UnknownName"
+architecture_word (h.BadMedium w) = codes "H7 BadMedium"
+architecture_word h.NoOperator = codes "H8 NoOperator"
+architecture_word (h.Disconnected w v) = codes "H9 Disconnected"
+architecture_word (h.NoDuration w) = codes "H11 NoDuration"
+
+abbrev pub architecture_detail : ArchiCause → Bytes
+architecture_detail (h.NotText place) = number_line place
+architecture_detail h.BadLine = codes "\n"
+architecture_detail (h.BadName w) = word_line w
+architecture_detail (h.BadNumber w) = word_line w
+architecture_detail (h.DuplicateName w) = word_line w
+architecture_detail (h.UnknownName w) = word_line w
+architecture_detail (h.BadMedium w) = word_line w
+architecture_detail h.NoOperator = codes "\n"
+architecture_detail (h.Disconnected w v) = two_names_line w v
+architecture_detail (h.NoDuration w) = word_line w
+
+abbrev pub architecture_line : ArchiFault → Bytes
+architecture_line fault = head (codes "architecture line ") fault.line (architecture_word fault.cause) ++ architecture_detail fault.cause
+
 abbrev pub sensors_word : SensorCause → Bytes
 sensors_word s.BadHeader = codes "S1 BadHeader"
 sensors_word (s.BadCount found wanted) = codes "S2 BadCount"
@@ -107,6 +140,7 @@ line_of Usage = codes "usage\n"
 line_of (ReadFault f) = joined (codes "cannot read " ∷ file_word f ∷ codes "\n" ∷ [])
 line_of WriteFault = codes "cannot write\n"
 line_of (AlgoRefused fault) = algorithm_line fault
+line_of (ArchiRefused fault) = architecture_line fault
 line_of (SensorsRefused fault) = sensors_line fault
 line_of (Limit fault) = limit_line fault
 line_of NotBuilt = codes "not built\n"

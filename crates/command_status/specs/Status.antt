@@ -4,17 +4,21 @@ use Rattle.command_plan.specs.Ending.{Ending, done, refused, unread, unwritten, 
 use Rattle.algo_defs.specs.declared.fault.AlgoError.{AlgoError}
 use Rattle.algo_defs.specs.declared.fault.AlgoError.TheVariants as algorithm
 use Rattle.algo_defs.specs.declared.fault.AlgoFault.{AlgoFault}
+use Rattle.archi_defs.specs.declared.fault.ArchiError.{ArchiError}
+use Rattle.archi_defs.specs.declared.fault.ArchiError.TheVariants as architecture
+use Rattle.archi_defs.specs.declared.fault.ArchiFault.{ArchiFault}
 use Rattle.sensor_table.specs.declared.fault.SensorError.{SensorError}
 use Rattle.sensor_table.specs.declared.fault.SensorError.TheVariants as sensors
 use Rattle.sensor_table.specs.declared.fault.SensorFault.{SensorFault}
 use Rattle.syn_base.specs.declared.limits.LimitFault.{LimitFault}
 use Rattle.command_status.specs.declared.status.Status.{Status}
-use Rattle.command_status.specs.declared.status.Status.TheVariants.{Done, Usage, ReadFault, WriteFault, AlgoRefused, SensorsRefused, Limit, NotBuilt, OutOfMemory}
+use Rattle.command_status.specs.declared.status.Status.TheVariants.{Done, Usage, ReadFault, WriteFault, AlgoRefused, ArchiRefused, SensorsRefused, Limit, NotBuilt, OutOfMemory}
 
 -- Why a command is refused. No definition says `wants_memory`: it is there because the types of errors have it.
 pub data Refusal : Type 0 where
   usage : Refusal
   bad_algorithm : AlgoFault → Refusal
+  bad_architecture : ArchiFault → Refusal
   bad_sensors : SensorFault → Refusal
   above : LimitFault → Refusal
   not_built : Refusal
@@ -27,6 +31,7 @@ ending_of Usage = refused usage
 ending_of (ReadFault file) = unread file
 ending_of WriteFault = unwritten
 ending_of (AlgoRefused fault) = refused (bad_algorithm fault)
+ending_of (ArchiRefused fault) = refused (bad_architecture fault)
 ending_of (SensorsRefused fault) = refused (bad_sensors fault)
 ending_of (Limit fault) = refused (above fault)
 ending_of NotBuilt = refused not_built
@@ -39,6 +44,7 @@ number_of Usage = 2
 number_of (ReadFault file) = 3
 number_of WriteFault = 4
 number_of (AlgoRefused fault) = 5
+number_of (ArchiRefused fault) = 6
 number_of (SensorsRefused fault) = 7
 number_of (Limit fault) = 8
 number_of OutOfMemory = 9
@@ -54,6 +60,17 @@ abbrev pub status_of_algorithm : AlgoError → Status
 status_of_algorithm (algorithm.Refused fault) = AlgoRefused fault
 status_of_algorithm (algorithm.Limit fault) = Limit fault
 status_of_algorithm algorithm.OutOfMemory = OutOfMemory
+
+-- the refusal by an architecture's text or its durations
+abbrev pub of_architecture : ArchiError → Refusal
+of_architecture (architecture.Refused fault) = bad_architecture fault
+of_architecture (architecture.Limit fault) = above fault
+of_architecture architecture.OutOfMemory = wants_memory
+
+abbrev pub status_of_architecture : ArchiError → Status
+status_of_architecture (architecture.Refused fault) = ArchiRefused fault
+status_of_architecture (architecture.Limit fault) = Limit fault
+status_of_architecture architecture.OutOfMemory = OutOfMemory
 
 -- the refusal by a sensor table
 abbrev pub of_sensors : SensorError → Refusal

@@ -1,6 +1,7 @@
 //! How a command ends: its status, the number with which the program ends, and the line that says why.
 #![tactic(auto)]
 
+mod architecture;
 mod line;
 mod status;
 #[cfg(test)]

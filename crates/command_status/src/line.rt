@@ -3,6 +3,7 @@ ghost use Rattle.std.specs.Prelude.{◌≡◌, is_ok, map};
 ghost use Rattle.outside.specs.Sink.{Wrote};
 ghost use Rattle.command_status.specs.Lines.{algorithm_detail, algorithm_line, algorithm_word, counts_line, file_word, head, limit_line, line_of, names_line, number_line, sensors_detail, sensors_line, sensors_word, word_line, Said};
 
+use crate::architecture::write_architecture;
 use crate::status::Status;
 use algo_defs::{AlgoCause, AlgoFault};
 use itoa::Buffer;
@@ -26,6 +27,7 @@ fn write_line<E: Sink>(err: &mut E, status: &Status) -> Result<(), Failed>
         Status::ReadFault(file) => write_pieces(err, &[b"cannot read ", word_of(*file), b"\n"]),
         Status::WriteFault => write_whole(err, b"cannot write\n"),
         Status::AlgoRefused(fault) => write_algorithm(err, fault),
+        Status::ArchiRefused(fault) => write_architecture(err, fault),
         Status::SensorsRefused(fault) => write_sensors(err, fault),
         Status::Limit(fault) => write_limit(err, fault),
         Status::NotBuilt => write_whole(err, b"not built\n"),
@@ -60,7 +62,7 @@ fn word_of(file: File) -> &'static [u8]
 }
 
 /// Where a text is refused, and for which cause.
-fn write_head<E: Sink>(err: &mut E, text: &[u8], at: u64, word: &[u8]) -> Result<(), Failed>
+pub fn write_head<E: Sink>(err: &mut E, text: &[u8], at: u64, word: &[u8]) -> Result<(), Failed>
     ensures { Wrote (E.sunk err.old) (E.sunk err.new) (head text.now at word.now) (is_ok result) }
 {
     let mut digits = Buffer::new();
@@ -161,20 +163,23 @@ fn write_counts<E: Sink>(err: &mut E, found: u64, wanted: u64) -> Result<(), Fai
     write_pieces(err, &[b" ", found, b" ", wanted, b"\n"])
 }
 
-fn write_number<E: Sink>(err: &mut E, number: usize) -> Result<(), Failed>
+/// A number behind the cause, and the end of the line.
+pub fn write_number<E: Sink>(err: &mut E, number: usize) -> Result<(), Failed>
     ensures { Wrote (E.sunk err.old) (E.sunk err.new) (number_line number) (is_ok result) }
 {
     let mut digits = Buffer::new();
     write_pieces(err, &[b" ", digits.format(number).as_bytes(), b"\n"])
 }
 
-fn write_word<E: Sink>(err: &mut E, word: &[u8]) -> Result<(), Failed>
+/// A word behind the cause, and the end of the line.
+pub fn write_word<E: Sink>(err: &mut E, word: &[u8]) -> Result<(), Failed>
     ensures { Wrote (E.sunk err.old) (E.sunk err.new) (word_line word.now) (is_ok result) }
 {
     write_pieces(err, &[b" ", word, b"\n"])
 }
 
-fn write_names<E: Sink>(err: &mut E, names: &[Name]) -> Result<(), Failed>
+/// Names behind the cause, and the end of the line.
+pub fn write_names<E: Sink>(err: &mut E, names: &[Name]) -> Result<(), Failed>
     ensures { Wrote (E.sunk err.old) (E.sunk err.new) (names_line names.now) (is_ok result) }
 {
     for name in names {

@@ -1,9 +1,10 @@
 //! The status of a command that has ended.
 ghost use Rattle.std.specs.Prelude.{◌≡◌};
-ghost use Rattle.command_status.specs.Status.{number_of, status_of_algorithm, status_of_sensors};
+ghost use Rattle.command_status.specs.Status.{number_of, status_of_algorithm, status_of_architecture, status_of_sensors};
 ghost use Rattle.command_status.specs.declared.status.Status.TheVariants.{OutOfMemory as Wants};
 
 use algo_defs::{AlgoError, AlgoFault};
+use archi_defs::{ArchiError, ArchiFault};
 use outside::File;
 use sensor_table::{SensorError, SensorFault};
 use syn_base::{LimitFault, OutOfMemory};
@@ -21,6 +22,8 @@ pub enum Status {
     WriteFault,
     /// The first refusal of the algorithm.
     AlgoRefused(AlgoFault),
+    /// The first refusal of the architecture or of its durations.
+    ArchiRefused(ArchiFault),
     /// The first refusal of the sensor table.
     SensorsRefused(SensorFault),
     /// A quantity is above its bound.
@@ -42,6 +45,7 @@ impl Status {
             Status::ReadFault(_) => 3,
             Status::WriteFault => 4,
             Status::AlgoRefused(_) => 5,
+            Status::ArchiRefused(_) => 6,
             Status::SensorsRefused(_) => 7,
             Status::Limit(_) => 8,
             Status::OutOfMemory => 9,
@@ -58,6 +62,18 @@ impl From<AlgoError> for Status {
             AlgoError::Refused(fault) => Status::AlgoRefused(fault),
             AlgoError::Limit(fault) => Status::Limit(fault),
             AlgoError::OutOfMemory => Status::OutOfMemory,
+        }
+    }
+}
+
+impl From<ArchiError> for Status {
+    ghost from_gives = { λ error status. status ≡ status_of_architecture error };
+
+    fn from(error: ArchiError) -> Status {
+        match error {
+            ArchiError::Refused(fault) => Status::ArchiRefused(fault),
+            ArchiError::Limit(fault) => Status::Limit(fault),
+            ArchiError::OutOfMemory => Status::OutOfMemory,
         }
     }
 }

@@ -3,6 +3,7 @@ ghost use Rattle.std.specs.Prelude.{◌≤◌};
 
 use super::*;
 use algo_defs::{AlgoCause, AlgoFault};
+use archi_defs::{ArchiCause, ArchiFault};
 use outside::SinkMem;
 use sensor_table::{SensorCause, SensorFault};
 use std::alloc::{AllocError, Global};
@@ -22,7 +23,7 @@ fn refused(line: u32, cause: AlgoCause) -> Status {
 }
 
 #[test]
-fn says_why_an_algorithm_is_refused(rt: HostRuntime) -> Result<(), Fail> {
+fn says_which_name_is_unknown(rt: HostRuntime) -> Result<(), Fail> {
     let alloc = rt.alloc();
     let word = Items::new(Vec::from_slice(alloc, b"a.j")?);
     let unknown = refused(7, AlgoCause::UnknownName(word));
@@ -34,10 +35,27 @@ fn says_why_an_algorithm_is_refused(rt: HostRuntime) -> Result<(), Fail> {
             b"algorithm line 7: A7 UnknownName a.j\n"
         )?
     );
+    Ok(())
+}
+
+#[test]
+fn says_nothing_behind_a_bad_line(rt: HostRuntime) -> Result<(), Fail> {
     let early = refused(8, AlgoCause::BadLine);
-    assert!(rt; says(alloc, &early, 5, b"algorithm line 8: A2 BadLine\n")?);
+    assert!(rt; says(rt.alloc(), &early, 5, b"algorithm line 8: A2 BadLine\n")?);
+    Ok(())
+}
+
+#[test]
+fn says_the_place_in_an_expression(rt: HostRuntime) -> Result<(), Fail> {
     let place = refused(3, AlgoCause::BadExpression(12));
-    assert!(rt; says(alloc, &place, 5, b"algorithm line 3: A5 BadExpression 12\n")?);
+    assert!(rt;
+        says(
+            rt.alloc(),
+            &place,
+            5,
+            b"algorithm line 3: A5 BadExpression 12\n"
+        )?
+    );
     Ok(())
 }
 
@@ -49,6 +67,26 @@ fn says_the_references_of_a_cycle(rt: HostRuntime) -> Result<(), Fail> {
     names.push(Name::new(alloc, b"q2")?)?;
     let cycle = refused(2, AlgoCause::Cycle(Items::new(names)));
     assert!(rt; says(alloc, &cycle, 5, b"algorithm line 2: A12 Cycle p q2\n")?);
+    Ok(())
+}
+
+#[test]
+fn says_which_operators_are_apart(rt: HostRuntime) -> Result<(), Fail> {
+    let alloc = rt.alloc();
+    let first = Name::new(alloc, b"P")?;
+    let other = Name::new(alloc, b"Q")?;
+    let apart = Status::ArchiRefused(ArchiFault {
+        line: 0,
+        cause: ArchiCause::Disconnected(first, other),
+    });
+    assert!(rt;
+        says(
+            alloc,
+            &apart,
+            6,
+            b"architecture line 0: H9 Disconnected P Q\n"
+        )?
+    );
     Ok(())
 }
 

@@ -2,3 +2,4 @@ pub mod Sizes
 pub mod Steps
 pub mod Replies
 pub mod Usage
+pub mod Architectures

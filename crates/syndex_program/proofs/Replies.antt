@@ -6,6 +6,9 @@ use Rattle.outside.specs.Sink.{Sunk}
 use Rattle.outside.specs.declared.file.File.{File}
 use Rattle.algo_defs.specs.Text.{definitions_of}
 use Rattle.algo_rules.specs.Resolved.{resolution_of}
+use Rattle.archi_defs.specs.Text.{description_of}
+use Rattle.durations.specs.Table.{durations_of}
+use Rattle.flat_laws.specs.FlatOf.{flat_of}
 use Rattle.syn_base.specs.declared.limits.LimitFault.{LimitFault}
 use Rattle.sensor_table.specs.SensorTable.{rows_of}
 use Rattle.csv.specs.Reading.{default_config, records, strip_bom}
@@ -15,7 +18,7 @@ use Rattle.command_plan.specs.Answers.{Answers}
 use Rattle.command_plan.specs.Run.{Ran}
 use Rattle.command_plan.proofs.Makes.{memory}
 use Rattle.command_plan.proofs.Meaning.{after_reads, answers_of}
-use Rattle.command_status.specs.Status.{Refusal, of_algorithm, of_sensors}
+use Rattle.command_status.specs.Status.{Refusal, of_algorithm, of_architecture, of_sensors}
 use Rattle.command_words.specs.Command.{Command, check, sim, flat, chart, code, run, load}
 use Rattle.syndex_program.specs.Plans.{plan_of, rows_plan, sim_output, unless}
 use Rattle.syndex_program.specs.Replies.{names_of}
@@ -28,7 +31,14 @@ reads_only : (command : Option Command) → ReadsOnly (names_of command) (plan_o
 reads_only None = tt
 reads_only (Some (check a None)) =
     (refl, λ text. after_reads (names_of (Some (check a None))) of_algorithm (definitions_of text) _ (λ defs. after_reads (names_of (Some (check a None))) of_algorithm (resolution_of defs) _ (λ main. tt)))
-reads_only (Some (check a (Some h))) = tt
+reads_only (Some (check a (Some h))) =
+    let names = names_of (Some (check a (Some h))) in (
+      refl,
+      λ text. after_reads names of_algorithm (definitions_of text) _ (λ defs. after_reads names of_algorithm (resolution_of defs) _ (λ main. (
+        refl,
+        λ described. after_reads names of_architecture (description_of described) _ (λ d. after_reads names of_architecture (durations_of (flat_of main) d) _ (λ durations. tt)),
+      ))),
+    )
 reads_only (Some (sim a s)) =
     let names = names_of (Some (sim a s)) in (
       refl,
@@ -38,7 +48,8 @@ reads_only (Some (sim a s)) =
             after_reads names of_sensors (rows_of main (records default_config (strip_bom table))) (rows_plan main) (λ rows. unless_reads names _ (give (sim_output main rows.reactions)) tt),
       ))),
     )
-reads_only (Some (flat a)) = tt
+reads_only (Some (flat a)) =
+    (refl, λ text. after_reads (names_of (Some (flat a))) of_algorithm (definitions_of text) _ (λ defs. after_reads (names_of (Some (flat a))) of_algorithm (resolution_of defs) _ (λ main. tt)))
 reads_only (Some (chart a h)) = tt
 reads_only (Some (code a h)) = tt
 reads_only (Some (run a h s workers)) = tt

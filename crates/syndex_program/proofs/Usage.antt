@@ -20,11 +20,17 @@ use Rattle.sensor_table.specs.SensorTable.{rows_of}
 use Rattle.command_plan.specs.Plan.{Plan, give, refuse, read, after}
 use Rattle.command_plan.specs.Ending.{Ending, done, no_memory, refused, unread, unwritten}
 use Rattle.command_plan.specs.Run.{Ends, FailsToRead, Makes, Ran, gives, refuses, not_read, was_read}
-use Rattle.command_status.specs.Status.{Refusal, above, ending_of, not_built, of_algorithm, of_sensors, usage}
+use Rattle.command_status.specs.Status.{Refusal, above, ending_of, not_built, of_algorithm, of_architecture, of_sensors, usage}
 use Rattle.command_status.specs.declared.status.Status.{Status}
 use Rattle.command_status.specs.declared.status.Status.TheVariants.{Usage}
 use Rattle.command_words.specs.Command.{Command, check, sim, flat, chart, code, run, load}
-use Rattle.syndex_program.specs.Plans.{algorithm_plan, excess, plan_for, rows_plan, sim_output, table_plan, unless}
+use Rattle.archi_defs.specs.Text.{Described, description_of}
+use Rattle.archi_defs.specs.declared.fault.ArchiError.{ArchiError}
+use Rattle.archi_defs.specs.declared.fault.ArchiError.TheVariants as archi_error
+use Rattle.durations.specs.Table.{Table, durations_of}
+use Rattle.flat_laws.specs.FlatOf.{flat_of}
+use Rattle.flat_text.specs.Listing.{listing}
+use Rattle.syndex_program.specs.Plans.{algorithm_plan, architecture_plan, both_texts, excess, plan_for, rows_plan, sim_output, table_plan, unless}
 
 -- a refusal that a plan does not have
 abbrev NeverSays : Refusal → Plan Refusal → Type 0
@@ -61,6 +67,11 @@ of_text (error.Refused fault) = λ so. cc
 of_text (error.Limit fault) = λ so. cc
 of_text error.OutOfMemory = λ so. cc
 
+of_description : (e : ArchiError) → of_architecture e ≢ usage
+of_description (archi_error.Refused fault) = λ so. cc
+of_description (archi_error.Limit fault) = λ so. cc
+of_description archi_error.OutOfMemory = λ so. cc
+
 of_table : (e : SensorError) → of_sensors e ≢ usage
 of_table (sensors.Refused fault) = λ so. cc
 of_table (sensors.Limit fault) = λ so. cc
@@ -76,6 +87,13 @@ algorithm_never a next rest = (
       (λ defs. after_never usage of_algorithm (resolution_of defs) (next defs) of_text (rest defs)),
 )
 
+architecture_never : (main : Vertex) (h : Bytes) (next : Described → Table → Plan Refusal) → ((d : Described) (t : Table) → NeverSays usage (next d t)) → NeverSays usage (architecture_plan h main next)
+architecture_never main h next rest = (
+  is_no_usage file_limit,
+  λ text. after_never usage of_architecture (description_of text) (λ d. after of_architecture (durations_of (flat_of main) d) (next d)) of_description
+      (λ d. after_never usage of_architecture (durations_of (flat_of main) d) (next d) of_description (rest d)),
+)
+
 table_never : (main : Vertex) (s : Bytes) → NeverSays usage (table_plan main s)
 table_never main s = (
   is_no_usage file_limit,
@@ -88,9 +106,10 @@ not_built_never = λ so. cc
 
 never_for : (command : Command) → NeverSays usage (plan_for command)
 never_for (check a None) = algorithm_never a (λ defs main. give (canonical_text defs)) (λ defs main. tt)
-never_for (check a (Some h)) = not_built_never
+never_for (check a (Some h)) =
+    algorithm_never a (λ defs main. architecture_plan h main (λ (d : Described) (t : Table). give (both_texts defs d))) (λ defs main. architecture_never main h (λ (d : Described) (t : Table). give (both_texts defs d)) (λ d t. tt))
 never_for (sim a s) = algorithm_never a (λ defs main. table_plan main s) (λ defs main. table_never main s)
-never_for (flat a) = not_built_never
+never_for (flat a) = algorithm_never a (λ defs main. give (listing (flat_of main))) (λ defs main. tt)
 never_for (chart a h) = not_built_never
 never_for (code a h) = not_built_never
 never_for (run a h s workers) = not_built_never

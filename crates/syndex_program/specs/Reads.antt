@@ -10,6 +10,14 @@ use Rattle.algo_defs.specs.declared.fault.AlgoError.TheVariants as error
 use Rattle.algo_defs.specs.Text.{definitions_of}
 use Rattle.algo_rules.specs.Resolved.{resolution_of}
 use Rattle.algo_tree.specs.Tree.{Vertex}
+use Rattle.archi_defs.specs.Text.{Described, description_of}
+use Rattle.archi_defs.specs.declared.text.ArchiText.{ArchiText}
+use Rattle.archi_defs.specs.declared.fault.ArchiError.{ArchiError}
+use Rattle.archi_defs.specs.declared.fault.ArchiError.TheVariants as archi_error
+use Rattle.durations.specs.Table.{Table, durations_of}
+use Rattle.flat_laws.specs.FlatOf.{flat_of}
+use Rattle.path_text.specs.Named.{HasNames}
+use Rattle.path_text.specs.Bounded.{HasBounds}
 use Rattle.algo_tree.specs.Ends.{sensor_lengths, actuator_lengths}
 use Rattle.sensor_table.specs.SensorTable.{rows_of}
 use Rattle.command_plan.specs.Plan.{Plan, after}
@@ -17,8 +25,9 @@ use Rattle.command_plan.specs.Run.{Makes}
 use Rattle.command_plan.specs.Ending.{Ending}
 use Rattle.command_status.specs.Status.{Refusal, ending_of, of_sensors}
 use Rattle.command_status.specs.declared.status.Status.{Status}
-use Rattle.syndex_program.specs.Plans.{algorithm_plan, excess, rows_plan}
+use Rattle.syndex_program.specs.Plans.{algorithm_plan, architecture_plan, excess, rows_plan}
 use Rattle.syndex_program.specs.declared.algorithm.Algorithm.{Algorithm}
+use Rattle.syndex_program.specs.declared.architecture.Architecture.{Architecture}
 
 module _ {A : Type 0} where
   -- the bytes of a text, or the ending that its status stands for
@@ -30,6 +39,8 @@ module _ {A : Type 0} where
 pub record IsAlgorithm (text : Bytes) (algorithm : Algorithm) : Type 0 where
   pub says : definitions_of text ≡ Ok algorithm.defs.defs
   pub resolves : resolution_of algorithm.defs.defs ≡ Ok algorithm.tree
+  pub named : HasNames algorithm.tree
+  pub bounded : HasBounds algorithm.tree
 
 -- the first refusal of a text, by itself or by its definitions
 pub data IsRefused (text : Bytes) (error : AlgoError) : Type 0 where
@@ -47,6 +58,33 @@ MakesAlgorithm text (Err error.OutOfMemory) = Unit {0}
 abbrev pub ReadsAlgorithm : Bytes → Held → Held → Result Algorithm Status → Type 0
 ReadsAlgorithm name old new (Ok algorithm) = (text : Bytes) × IsRead name old text × IsAlgorithm text algorithm
 ReadsAlgorithm name old new (Err status) = (next : List Def → Vertex → Plan Refusal) → Makes old new (algorithm_plan name next) (Err (ending_of status))
+
+-- what a text describes
+abbrev pub described : ArchiText → Described
+described text = record { archi = text.archi; durations = text.lines }
+
+-- what a text describes, and how long the operations of this algorithm last by it
+pub record IsArchitecture (main : Vertex) (text : Bytes) (architecture : Architecture) : Type 0 where
+  pub says : description_of text ≡ Ok (described architecture.text)
+  pub lasts : durations_of (flat_of main) (described architecture.text) ≡ Ok architecture.durations
+
+-- the first refusal of a text, by itself or for an operation without a duration
+pub data IsArchitectureRefused (main : Vertex) (text : Bytes) (error : ArchiError) : Type 0 where
+  describes_none : description_of text ≡ Err error → IsArchitectureRefused main text error
+  lasts_none : (d : Described) → description_of text ≡ Ok d → durations_of (flat_of main) d ≡ Err error → IsArchitectureRefused main text error
+
+-- the architecture of a text or its first refusal; want of memory may come in place of either
+abbrev pub MakesArchitecture : Vertex → Bytes → Result Architecture ArchiError → Type 0
+MakesArchitecture main text (Ok architecture) = IsArchitecture main text architecture
+MakesArchitecture main text (Err (archi_error.Refused fault)) = IsArchitectureRefused main text (archi_error.Refused fault)
+MakesArchitecture main text (Err (archi_error.Limit fault)) = IsArchitectureRefused main text (archi_error.Limit fault)
+MakesArchitecture main text (Err archi_error.OutOfMemory) = Unit {0}
+
+-- the file has a text of this architecture; or carrying on from it ends so, whatever follows
+abbrev pub ReadsArchitecture : Vertex → Bytes → Held → Held → Result Architecture Status → Type 0
+ReadsArchitecture main name old new (Ok architecture) = (text : Bytes) × IsRead name old text × IsArchitecture main text architecture
+ReadsArchitecture main name old new (Err status) =
+    (next : Described → Table → Plan Refusal) → Makes old new (architecture_plan name main next) (Err (ending_of status))
 
 -- a table has these rows, and the output over them is within its bound; or carrying on from it ends so
 abbrev pub ReadsRows : Vertex → Bytes → Result Reactions Status → Type 0

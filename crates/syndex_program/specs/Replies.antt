@@ -40,10 +40,9 @@ pub record Replies (words : List Bytes) (held held' : Held) (sunk sunk' : Sunk) 
 
 -- commands that are built
 abbrev pub is_built : Command → Bool
-is_built (check a None) = true
-is_built (check a (Some h)) = false
+is_built (check a h) = true
 is_built (sim a s) = true
-is_built (flat a) = false
+is_built (flat a) = true
 is_built (chart a h) = false
 is_built (code a h) = false
 is_built (run a h s workers) = false

@@ -1,23 +1,24 @@
-//! The command `check A`.
-ghost use Rattle.std.specs.Prelude.{◌≡◌, IfOk, Some, option_map};
+//! The command `check A [H]`.
+ghost use Rattle.std.specs.Prelude.{◌≡◌, ◌++◌, IfOk, None, Some, codes, option_map};
 ghost use Rattle.algo_print.specs.Canonical.{canonical_text, ArePrintable};
 ghost use Rattle.command_plan.specs.Run.{Makes};
-ghost use Rattle.command_words.specs.Command.{check};
 ghost use Rattle.outside.specs.Shelf.{Stays};
-ghost use Rattle.syndex_program.specs.Plans.{check_plan, plan_for};
-ghost use Rattle.syndex_program.specs.Reads.{bytes_in};
-ghost use Rattle.syndex_program.specs.Replies.{LeavesUnread};
+ghost use Rattle.syndex_program.specs.Plans.{both_texts, check_plan};
+ghost use Rattle.syndex_program.specs.Reads.{bytes_in, described};
 
 use crate::algorithm::read_algorithm;
+use crate::architecture::read_architecture;
 use algo_defs::Defs;
 use algo_print::{canonical_text_reads_back, print_algo};
+use archi_defs::ArchiText;
+use archi_reader::print_archi;
 use command_status::Status;
 use outside::Shelf;
 use std::alloc::Global;
 use syn_base::OutOfMemory;
 
-/// The canonical text of an algorithm, or why there is none. With an architecture beside it, it is not
-/// built.
+/// The canonical text of an algorithm, and behind an empty line that of an architecture where one is
+/// named; or why there is none.
 pub fn check_texts<S: Shelf>(
     alloc: Global,
     shelf: &mut S,
@@ -25,23 +26,38 @@ pub fn check_texts<S: Shelf>(
     architecture: Option<&str>,
 ) -> Result<Vec<u8>, Status>
     ensures stays { Stays (S.held shelf.old) (S.held shelf.new) }
-    ensures makes { Makes (S.held shelf.old) (S.held shelf.new) (plan_for (check algorithm.now (option_map (λ name. name.now) architecture.entry))) (bytes_in result) }
-    ensures unread { LeavesUnread (Some (check algorithm.now (option_map (λ name. name.now) architecture.entry))) (S.held shelf.old) (S.held shelf.new) }
+    ensures makes { Makes (S.held shelf.old) (S.held shelf.new) (check_plan algorithm.now (option_map (λ name. name.now) architecture.entry)) (bytes_in result) }
 {
     match architecture {
         None => check_text(alloc, shelf, algorithm),
-        Some(_) => Err(Status::NotBuilt),
+        Some(architecture) => check_both(alloc, shelf, algorithm, architecture),
     }
 }
 
 /// The canonical text of an algorithm, or why there is none.
 fn check_text<S: Shelf>(alloc: Global, shelf: &mut S, algorithm: &str) -> Result<Vec<u8>, Status>
     ensures stays { Stays (S.held shelf.old) (S.held shelf.new) }
-    ensures makes { Makes (S.held shelf.old) (S.held shelf.new) (check_plan algorithm.now) (bytes_in result) }
+    ensures makes { Makes (S.held shelf.old) (S.held shelf.new) (check_plan algorithm.now None) (bytes_in result) }
 {
     let algorithm = read_algorithm(alloc, shelf, algorithm)?;
     canonical_text_reads_back();
     Ok(printed(alloc, &algorithm.defs)?)
+}
+
+/// The canonical texts of an algorithm and an architecture, or why there is none.
+fn check_both<S: Shelf>(
+    alloc: Global,
+    shelf: &mut S,
+    algorithm: &str,
+    architecture: &str,
+) -> Result<Vec<u8>, Status>
+    ensures stays { Stays (S.held shelf.old) (S.held shelf.new) }
+    ensures makes { Makes (S.held shelf.old) (S.held shelf.new) (check_plan algorithm.now (Some architecture.now)) (bytes_in result) }
+{
+    let algorithm = read_algorithm(alloc, shelf, algorithm)?;
+    let architecture = read_architecture(alloc, shelf, architecture, &algorithm.tree)?;
+    canonical_text_reads_back();
+    Ok(both_printed(alloc, &algorithm.defs, &architecture.text)?)
 }
 
 /// The canonical text of definitions.
@@ -51,5 +67,20 @@ fn printed(alloc: Global, defs: &Defs) -> Result<Vec<u8>, OutOfMemory>
 {
     let mut text = Vec::new(alloc);
     print_algo(alloc, defs, &mut text)?;
+    Ok(text)
+}
+
+/// The canonical text of definitions, an empty line, and that of an architecture.
+fn both_printed(
+    alloc: Global,
+    defs: &Defs,
+    architecture: &ArchiText,
+) -> Result<Vec<u8>, OutOfMemory>
+    requires { ArePrintable defs.now.defs }
+    ensures { IfOk result (λ text. text.items ≡ both_texts defs.now.defs (described architecture.now)) }
+{
+    let mut text = printed(alloc, defs)?;
+    text.push(b'\n')?;
+    print_archi(alloc, architecture, &mut text)?;
     Ok(text)
 }

@@ -17,6 +17,7 @@ ghost use Rattle.syndex_program.specs.Replies.{Replies, LeavesUnread};
 use check::check_texts;
 use command_status::say;
 use command_words::{Command, command_of};
+use flat::listing_text;
 use outside::{Failed, Gate, Shelf, Sink, write_whole};
 use sim::sim_text;
 use std::alloc::Global;
@@ -24,8 +25,10 @@ use std::sync::Wait;
 use std::thread::Threads;
 
 mod algorithm;
+mod architecture;
 mod check;
 mod files;
+mod flat;
 mod sim;
 #[cfg(test)]
 mod tests;
@@ -120,7 +123,7 @@ fn text_of<S: Shelf>(alloc: Global, command: &Command, shelf: &mut S) -> Result<
             architecture,
         } => check_texts(alloc, shelf, algorithm, *architecture),
         Command::Sim { algorithm, sensors } => sim_text(alloc, shelf, algorithm, sensors),
-        Command::Flat { .. } => Err(Status::NotBuilt),
+        Command::Flat { algorithm } => listing_text(alloc, shelf, algorithm),
         Command::Chart { .. } => Err(Status::NotBuilt),
         Command::Code { .. } => Err(Status::NotBuilt),
         Command::Run { .. } => Err(Status::NotBuilt),

@@ -6,10 +6,14 @@ use outside::{GateFree, ShelfMem, SinkMem};
 use std::alloc::AllocError;
 use std::process::Abort;
 use std::test::Fail;
-use syn_base::{Items, OutOfMemory};
+use syn_base::{Items, OutOfMemory, print_int};
 
+mod architecture;
 mod commands;
+mod competition;
+mod flat;
 mod limits;
+mod readings;
 mod refusals;
 mod rows;
 
@@ -59,8 +63,19 @@ pub fn shelf_of(
     table: &[u8],
     failing: Vec<u64>,
 ) -> Result<ShelfMem, AllocError> {
+    shelf_with(alloc, algorithm, b"s", table, failing)
+}
+
+/// A shelf with the algorithm under `a` and another file under this name.
+pub fn shelf_with(
+    alloc: Global,
+    algorithm: Vec<u8>,
+    name: &[u8],
+    other: &[u8],
+    failing: Vec<u64>,
+) -> Result<ShelfMem, AllocError> {
     let first = (owned(alloc, b"a")?, Items::new(algorithm));
-    let second = (owned(alloc, b"s")?, owned(alloc, table)?);
+    let second = (owned(alloc, name)?, owned(alloc, other)?);
     let files = vec![in alloc; first, second]?;
     Ok(ShelfMem::new(Items::new(files), Items::new(failing)))
 }
@@ -98,9 +113,20 @@ pub fn ends<R: Threads + Wait + Sync>(
     wanted: (u8, &[u8], &[u8]),
 ) -> Result<bool, Fail> {
     let mut shelf = shelf_of(alloc, algorithm, table, Vec::new(alloc))?;
+    ends_over(rt, alloc, words, &mut shelf, wanted)
+}
+
+/// Whether these words, over this shelf, end with this number and write this text and this line.
+pub fn ends_over<R: Threads + Wait + Sync>(
+    rt: &R,
+    alloc: Global,
+    words: &[&str],
+    shelf: &mut ShelfMem,
+    wanted: (u8, &[u8], &[u8]),
+) -> Result<bool, Fail> {
     let mut out = sink(alloc, 1000, Vec::new(alloc))?;
     let mut err = sink(alloc, 1000, Vec::new(alloc))?;
-    let status = answer(rt, words, &mut shelf, &mut out, &mut err, alloc)?;
+    let status = answer(rt, words, shelf, &mut out, &mut err, alloc)?;
     let (number, text, line) = wanted;
     Ok(status.number() == number && out.bytes() == text && err.bytes() == line)
 }
@@ -128,4 +154,38 @@ pub fn refuses<R: Threads + Wait + Sync>(
 ) -> Result<bool, Fail> {
     let words = ["syndex", "check", "a"];
     ends(rt, alloc, &words, algorithm, b"", (number, b"", line))
+}
+
+/// A text of a head, lines that differ in their number alone, and a tail.
+pub fn many(
+    alloc: Global,
+    head: &str,
+    count: i64,
+    line: (&str, &str),
+    tail: &str,
+) -> Result<Vec<u8>, Fail> {
+    let mut text = Vec::new(alloc);
+    text.extend_from_slice(head.as_bytes())?;
+    for number in 0..count {
+        text.extend_from_slice(line.0.as_bytes())?;
+        print_int(number, &mut text)?;
+        text.extend_from_slice(line.1.as_bytes())?;
+    }
+    text.extend_from_slice(tail.as_bytes())?;
+    Ok(text)
+}
+
+/// Whether `check` refuses each text with its line.
+pub fn refuses_each<R: Threads + Wait + Sync>(
+    rt: &R,
+    alloc: Global,
+    number: u8,
+    rows: &[(&str, &str)],
+) -> Result<bool, Fail> {
+    let mut all = true;
+    for row in rows {
+        let text = Vec::from_slice(alloc, row.0.as_bytes())?;
+        all = refuses(rt, alloc, text, number, row.1.as_bytes())? && all;
+    }
+    Ok(all)
 }

@@ -3,7 +3,7 @@ use Rattle.command_plan.specs.Run.{refuses}
 use Rattle.syndex_program.proofs.text_of.Goals as goal
 
 pub returns-in-Flat-clause-makes : goal.returns-in-Flat-clause-makes
-returns-in-Flat-clause-makes g c = rw c.in-Flat.is (refuses (inl refl))
+returns-in-Flat-clause-makes g c = rw c.in-Flat.is c.listing_text.ensures.makes
 
 pub returns-in-Chart-clause-makes : goal.returns-in-Chart-clause-makes
 returns-in-Chart-clause-makes g c = rw c.in-Chart.is (refuses (inl refl))

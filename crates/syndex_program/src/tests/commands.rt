@@ -37,9 +37,7 @@ fn words_outside_the_table_are_usage(rt: HostRuntime) -> Result<(), Fail> {
 #[test]
 fn commands_that_are_not_built_say_so(rt: HostRuntime) -> Result<(), Fail> {
     let alloc = rt.alloc();
-    let words: [&[&str]; 6] = [
-        &["syndex", "check", "a", "h"],
-        &["syndex", "flat", "a"],
+    let words: [&[&str]; 4] = [
         &["syndex", "chart", "a", "h"],
         &["syndex", "code", "a", "h"],
         &["syndex", "run", "--workers=04", "a", "h", "s"],

@@ -1,30 +1,10 @@
 //! What is above its bound, and what is just within it.
 use super::*;
-use syn_base::print_int;
-
-/// A text of a head, lines that differ in their number alone, and a tail.
-fn many(
-    alloc: Global,
-    head: &str,
-    count: i64,
-    line: (&str, &str),
-    tail: &str,
-) -> Result<Vec<u8>, Fail> {
-    let mut text = Vec::new(alloc);
-    text.extend_from_slice(head.as_bytes())?;
-    for number in 0..count {
-        text.extend_from_slice(line.0.as_bytes())?;
-        print_int(number, &mut text)?;
-        text.extend_from_slice(line.1.as_bytes())?;
-    }
-    text.extend_from_slice(tail.as_bytes())?;
-    Ok(text)
-}
 
 #[test]
 fn one_more_than_a_bound_is_told(rt: HostRuntime) -> Result<(), Fail> {
     let alloc = rt.alloc();
-    let rows: [(&str, i64, (&str, &str), &[u8]); 6] = [
+    let rows: [(&str, i64, (&str, &str), &[u8]); 7] = [
         (
             "algorithm 1\nsensor S 65\n",
             0,
@@ -60,6 +40,12 @@ fn one_more_than_a_bound_is_told(rt: HostRuntime) -> Result<(), Fail> {
             129,
             ("add(", ","),
             b"limit tokens: 516 above 512\n",
+        ),
+        (
+            "algorithm 1\nfunction F\nout y 65 = ",
+            129,
+            ("add(", ","),
+            b"limit length: 65 above 64\n",
         ),
     ];
     for (head, count, line, told) in rows {

@@ -7,22 +7,22 @@ const DELAY: &[u8] =
 const ENDS: &[u8] =
     b"algorithm 1\nsensor Sense 1\nactuator Act 5\nfunction F\nin x 1\nout y 5 = select(eq(j,0),add(9223372036854775807,x[0]),select(eq(j,1),div(-9223372036854775808,-1),select(eq(j,2),div(x[0],0),select(eq(j,3),rem(x[0],0),x[1]))))\nend\ngraph main\nref s Sense\nref f F\nref a Act\nedge s.o f.x\nedge f.y a.i\nend\n";
 
-const CASES: &[u8] =
+pub const CASES: &[u8] =
     b"algorithm 1\nsensor Sense 1\nactuator Act 1\nfunction Same\nin x 1\nout y 1 = x[0]\nend\nfunction Neg\nin x 1\nout y 1 = neg(x[0])\nend\nfunction Add\nin x 1\nin y 1\nout z 1 = add(x[0],y[0])\nend\ndelay Mem = 100\ngraph Acc\nin x 1\nout y 1\nref d Mem\nref f Add\nedge d.o f.x\nedge x f.y\nedge f.z d.i\nedge d.o y\nend\nswitch Sw\non c\nin x 1\nout y 1\ncase 0 Same\ncase 3 Acc\notherwise Neg\nend\ngraph main\nref s Sense\nref w Sw\nref a Act\nedge s.o w.c\nedge s.o w.x\nedge w.y a.i\nend\n";
 
-const CHAIN: &[u8] =
+pub const CHAIN: &[u8] =
     b"algorithm 1\nsensor V 4\nactuator T 1\nactuator P 4\nconstant Two = 2\nconstant Ten = 10\nfunction Add\nin a 1\nin b 1\nout c 1 = add(a[0],b[0])\nend\nfunction Mul\nin a 1\nin b 1\nout c 1 = mul(a[0],b[0])\nend\ngraph Cell\nin v 1\nin w 1\nin acc 1\nout r 1\nref f Add\nref g Mul\nedge acc f.a\nedge v f.b\nedge f.c g.a\nedge w g.b\nedge g.c r\nend\nrepeat Chain 4 Cell\nfork v v\ndiffuse w w\niterate z acc r t\njoin r p\nend\ngraph main\nref s V\nref w Two\nref z Ten\nref c Chain\nref a T\nref b P\nedge s.o c.v\nedge w.o c.w\nedge z.o c.z\nedge c.t a.i\nedge c.p b.i\nend\n";
 
-const NESTED: &[u8] =
+pub const NESTED: &[u8] =
     b"algorithm 1\nsensor X 6\nactuator Y 6\ndelay D = 0\ngraph Hold\nin x 1\nout y 1\nref d D\nedge x d.i\nedge d.o y\nend\nrepeat In 2 Hold\nfork x x\njoin y y\nend\nrepeat Out 3 In\nfork x x\njoin y y\nend\ngraph main\nref s X\nref o Out\nref a Y\nedge s.o o.x\nedge o.y a.i\nend\n";
 
 const DELAYS: &[u8] =
-    b"algorithm 1\nsensor S 1\nactuator A 1\ndelay D1 = 1\ndelay D2 = 2\nconstant Nine = 9\ngraph main\nref s S\nref x D1\nref y D2\nref n Nine\nref a A\nref b A\nedge s.o x.i\nedge x.o y.i\nedge y.o a.i\nedge n.o b.i\nend\n";
+    b"algorithm 1\nsensor S 1\nactuator A 1\ndelay One = 1\ndelay Two = 2\nconstant Nine = 9\ngraph main\nref s S\nref x One\nref y Two\nref n Nine\nref a A\nref b A\nedge s.o x.i\nedge x.o y.i\nedge y.o a.i\nedge n.o b.i\nend\n";
 
 const INNER: &[u8] =
     b"algorithm 1\nsensor S 1\nactuator A 1\nfunction Same\nin x 1\nout y 1 = x[0]\nend\nfunction Neg\nin x 1\nout y 1 = neg(x[0])\nend\nfunction K77\nin k 1\nin x 1\nout y 1 = 77\nend\nswitch In2\non k\nin x 1\nout y 1\ncase 0 Same\notherwise Neg\nend\nswitch Out2\non c\nin k 1\nin x 1\nout y 1\ncase 1 In2\notherwise K77\nend\ngraph main\nref c S\nref k S\nref x S\nref w Out2\nref a A\nedge c.o w.c\nedge k.o w.k\nedge x.o w.x\nedge w.y a.i\nend\n";
 
-const SPEED: &[u8] =
+pub const SPEED: &[u8] =
     b"algorithm 1\nsensor Speed 1\nsensor Target 1\nactuator Motor 1\nactuator Monitor 1\nfunction Shift\nin w 8\nin x 1\nout y 8 = select(eq(j,0),x[0],w[sub(j,1)])\nend\nfunction Mean\nin w 8\nout m 1 = div(sum(w),8)\nend\nfunction Ctl\nin r 1\nin m 1\nout u 1 = mul(3,sub(r[0],m[0]))\nend\nfunction Class\nin u 1\nout c 1 = select(gt(u[0],100),1,select(lt(u[0],-100),2,0))\nend\nfunction Hi\nin u 1\nout y 1 = 100\nend\nfunction Lo\nin u 1\nout y 1 = -100\nend\nfunction Pass\nin u 1\nout y 1 = u[0]\nend\ndelay Win = 0 0 0 0 0 0 0 0\nswitch Sat\non c\nin u 1\nout y 1\ncase 1 Hi\ncase 2 Lo\notherwise Pass\nend\ngraph main\nref v Speed\nref r Target\nref d Win\nref h Shift\nref f Mean\nref e Ctl\nref k Class\nref w Sat\nref m Motor\nref n Monitor\nedge d.o h.w\nedge v.o h.x\nedge h.y d.i\nedge h.y f.w\nedge r.o e.r\nedge f.m e.m\nedge e.u k.u\nedge k.c w.c\nedge e.u w.u\nedge w.y m.i\nedge f.m n.i\nend\n";
 
 #[test]

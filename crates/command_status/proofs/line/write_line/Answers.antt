@@ -14,3 +14,6 @@ returns-in-AlgoRefused g c = rw c.in-AlgoRefused.is c.write_algorithm.ensures
 
 pub returns-in-SensorsRefused : goal.returns-in-SensorsRefused
 returns-in-SensorsRefused g c = rw c.in-SensorsRefused.is c.write_sensors.ensures
+
+pub returns-in-ArchiRefused : goal.returns-in-ArchiRefused
+returns-in-ArchiRefused g c = rw c.in-ArchiRefused.is c.write_architecture.ensures

@@ -17,4 +17,4 @@ resolve-requires-clause-few c =
 pub returns-in_err-tree : goal.returns-in_err-tree
 returns-in_err-tree c =
     let p = err_from_is_err_and c.from_residual-in_err-tree.result c.from_residual-in_err-tree.ensures.1 in
-    rw (p.1, p.2) (by_definitions c.args.text.now c.in_ok-defs.defs.defs c.in_err-tree.field-0.0 c.in_ok-defs.ensures c.in_err-tree.ensures)
+    rw (p.1, p.2) (by_definitions c.args.text.now c.in_ok-defs.defs.defs c.in_err-tree.field-0.0 c.in_ok-defs.ensures c.in_err-tree.ensures.gives)

@@ -1,5 +1,5 @@
 use Rattle.std.proofs.Common.{ap, inl}
-use Rattle.std.specs.Prelude.{List, Ok}
+use Rattle.std.specs.Prelude.{List, None, Ok}
 use Rattle.std.proofs.lemmas.Result.{err_from_is_err_and}
 use Rattle.outside.specs.Bytes.{Bytes}
 use Rattle.algo_defs.specs.declared.definition.Def.{Def}
@@ -16,7 +16,7 @@ pub returns-in_err-printed-clause-makes : goal.returns-in_err-printed-clause-mak
 returns-in_err-printed-clause-makes g c =
     let H = g.S.Shelf.held in
     let p = err_from_is_err_and c.from_residual-in_err-printed.result c.from_residual-in_err-printed.ensures.1 in
-    rw (p.1, p.2) (memory (H c.args.shelf.now) (H c.read_algorithm.new.shelf) (check_plan c.args.algorithm.now))
+    rw (p.1, p.2) (memory (H c.args.shelf.now) (H c.read_algorithm.new.shelf) (check_plan c.args.algorithm.now None))
 
 pub returns-clause-makes : goal.returns-clause-makes
 returns-clause-makes g c =

@@ -1,0 +1,60 @@
+//! The line of a refused architecture.
+ghost use Rattle.std.specs.Prelude.{◌≡◌, is_ok};
+ghost use Rattle.outside.specs.Sink.{Wrote};
+ghost use Rattle.command_status.specs.Lines.{architecture_detail, architecture_line, architecture_word, two_names_line};
+
+use crate::line::{write_head, write_number, write_word};
+use archi_defs::{ArchiCause, ArchiFault};
+use outside::{Failed, Sink, write_pieces, write_whole};
+
+/// Where an architecture's text is refused, for which cause, and what stands behind it.
+pub fn write_architecture<E: Sink>(err: &mut E, fault: &ArchiFault) -> Result<(), Failed>
+    ensures { Wrote (E.sunk err.old) (E.sunk err.new) (architecture_line fault.now) (is_ok result) }
+{
+    let word = architecture_word(&fault.cause);
+    write_head(err, b"architecture line ", u64::from(fault.line), word)?;
+    write_architecture_detail(err, &fault.cause)
+}
+
+fn architecture_word(cause: &ArchiCause) -> &'static [u8]
+    ensures { result.now ≡ architecture_word cause.now }
+{
+    match cause {
+        ArchiCause::NotText(_) => b"H1 NotText",
+        ArchiCause::BadLine => b"H2 BadLine",
+        ArchiCause::BadName(_) => b"H3 BadName",
+        ArchiCause::BadNumber(_) => b"H4 BadNumber",
+        ArchiCause::DuplicateName(_) => b"H5 DuplicateName",
+        ArchiCause::UnknownName(_) => b"H6 UnknownName",
+        ArchiCause::BadMedium(_) => b"H7 BadMedium",
+        ArchiCause::NoOperator => b"H8 NoOperator",
+        ArchiCause::Disconnected(..) => b"H9 Disconnected",
+        ArchiCause::NoDuration(_) => b"H11 NoDuration",
+    }
+}
+
+/// What stands behind the cause's word.
+fn write_architecture_detail<E: Sink>(err: &mut E, cause: &ArchiCause) -> Result<(), Failed>
+    ensures { Wrote (E.sunk err.old) (E.sunk err.new) (architecture_detail cause.now) (is_ok result) }
+{
+    match cause {
+        ArchiCause::NotText(place) => write_number(err, *place),
+        ArchiCause::BadName(word)
+        | ArchiCause::BadNumber(word)
+        | ArchiCause::DuplicateName(word)
+        | ArchiCause::UnknownName(word) => write_word(err, word.as_slice()),
+        ArchiCause::BadMedium(name) | ArchiCause::NoDuration(name) => {
+            write_word(err, name.as_bytes())
+        }
+        ArchiCause::Disconnected(first, other) => {
+            write_two_names(err, first.as_bytes(), other.as_bytes())
+        }
+        ArchiCause::BadLine | ArchiCause::NoOperator => write_whole(err, b"\n"),
+    }
+}
+
+fn write_two_names<E: Sink>(err: &mut E, first: &[u8], other: &[u8]) -> Result<(), Failed>
+    ensures { Wrote (E.sunk err.old) (E.sunk err.new) (two_names_line first.now other.now) (is_ok result) }
+{
+    write_pieces(err, &[b" ", first, b" ", other, b"\n"])
+}

@@ -1,0 +1,44 @@
+-- Durations that are found by hash, and how what was returned stands to what is defined.
+use Rattle.std.specs.Prelude.{◌≡◌, ℕ, ◌<◌, if◌then◌else◌, List, [], ◌∷◌, length, slice_index_or, Option, Some, None, Result, Ok, Err}
+use Rattle.std.specs.Str.{bytes_eq}
+use Rattle.archi_defs.specs.declared.text.DurationLine.{DurationLine}
+use Rattle.archi_defs.specs.declared.fault.ArchiError.{ArchiError}
+use Rattle.archi_defs.specs.declared.fault.ArchiError.TheVariants.{Refused, Limit, OutOfMemory}
+use Rattle.archi_defs.specs.declared.fault.ArchiCause.TheVariants.{NoDuration}
+use Rattle.archi_defs.specs.Text.{Bytes}
+use Rattle.durations.specs.Lines.{ticks_of, AreDurations}
+use Rattle.durations.specs.Table.{Table}
+
+-- the lines of a text for so many operators
+pub record Lines : Type 0 where
+  pub operators : ℕ
+  pub lines : List DurationLine
+
+-- the ticks of a definition, among definitions with their ticks
+abbrev pub ticks_at : List (Bytes × ℕ) → Bytes → Option ℕ
+ticks_at [] def = None
+ticks_at (p ∷ ps) def = if bytes_eq def p.0 then Some p.1 else ticks_at ps def
+
+-- the first of two that is there
+abbrev pub first_of : Option ℕ → Option ℕ → Option ℕ
+first_of (Some t) other = Some t
+first_of None other = other
+
+-- for each operator the definitions that have a duration on it: exactly those of the lines
+pub record AreFound (operators : ℕ) (found : List (List (Bytes × ℕ))) (lines : List DurationLine) : Type 0 where
+  pub each : length found ≡ operators
+  pub same : (def : Bytes) (o : ℕ) → o < operators → ticks_at (slice_index_or found o []) def ≡ ticks_of lines def o
+  pub known : AreDurations operators lines
+
+-- the table or the refusal that is defined, unless memory ran out
+abbrev pub Gives : Result Table ArchiError → Result Table ArchiError → Type 0
+Gives (Ok t) defined = defined ≡ Ok t
+Gives (Err (Refused f)) defined = defined ≡ Err (Refused f)
+Gives (Err (Limit f)) defined = ⊥
+Gives (Err OutOfMemory) defined = Unit {0}
+
+-- the definition is refused, unless memory ran out
+abbrev pub IsRefused : ArchiError → Bytes → Type 0
+IsRefused (Refused f) def = f ≡ record { line = 0; cause = NoDuration def }
+IsRefused (Limit f) def = ⊥
+IsRefused OutOfMemory def = Unit {0}

@@ -1,0 +1,4 @@
+pub mod Accepted
+pub mod Given
+pub mod Lines
+pub mod Table

@@ -1,0 +1,80 @@
+-- How long each operation lasts on each operator.
+use Rattle.std.specs.Prelude.{◌≡◌, ℕ, ◌≤◌, Bool, true, false, ◌&&◌, not, if◌then◌else◌, List, [], ◌∷◌, length, map, min, slice_index_or, Option, Some, None, is_some, IfSome, Result, Ok, All, Contains}
+use Rattle.std.specs.List.{list_any, range_with_len}
+use Rattle.flat_graph.specs.declared.vertex.Kind.{Kind}
+use Rattle.flat_graph.specs.declared.vertex.Kind.TheVariants.{Sensor, Actuator, Function}
+use Rattle.flat_graph.specs.declared.vertex.Vertex.{Vertex}
+use Rattle.flat_graph.specs.Graph.{Graph}
+use Rattle.archi_defs.specs.declared.text.DurationLine.{DurationLine}
+use Rattle.archi_defs.specs.declared.fault.ArchiError.{ArchiError}
+use Rattle.archi_defs.specs.declared.fault.ArchiCause.TheVariants.{NoDuration}
+use Rattle.archi_defs.specs.Text.{Bytes, Described, refused}
+use Rattle.durations.specs.Lines.{ticks_of, is_given}
+
+-- For each operation a row: the ticks on each operator, where it may stand there.
+pub record Table : Type 0 where
+  pub operators : ℕ
+  pub rows : List (List (Option ℕ))
+
+-- sensors, actuators and functions last as long as the text says
+abbrev pub is_timed : Kind → Bool
+is_timed (Sensor i) = true
+is_timed (Actuator i) = true
+is_timed (Function b) = true
+is_timed _ = false
+
+-- constants and what flattening makes take no time, on any operator
+abbrev pub entry : List DurationLine → Vertex → ℕ → Option ℕ
+entry lines x o = if is_timed x.kind then ticks_of lines x.def o else Some 0
+
+abbrev pub row : ℕ → List DurationLine → Vertex → List (Option ℕ)
+row operators lines x = map (entry lines x) (range_with_len 0 operators)
+
+abbrev pub table : List Vertex → ℕ → List DurationLine → Table
+table vertices operators lines = record { operators = operators; rows = map (row operators lines) vertices }
+
+-- its definition has no duration on any operator, and needs one
+abbrev pub is_missing : List DurationLine → Vertex → Bool
+is_missing lines x = is_timed x.kind && not (is_given lines x.def)
+
+-- the definition of the least operation of which a duration is missing
+abbrev pub missing : List DurationLine → List Vertex → Option Bytes
+missing lines [] = None
+missing lines (x ∷ xs) = if is_missing lines x then Some x.def else missing lines xs
+
+-- the table, unless a duration is missing
+abbrev pub unless_missing : Option Bytes → Table → Result Table ArchiError
+unless_missing None t = Ok t
+unless_missing (Some def) t = refused 0 (NoDuration def)
+
+-- the durations of a flat graph by what a text describes, or the refusal
+abbrev pub durations_of : Graph → Described → Result Table ArchiError
+durations_of g d = unless_missing (missing d.durations g.vertices) (table g.vertices (length d.archi.operators) d.durations)
+
+-- an entry for each operator, of which some is there, and none is above 1,000,000,000
+pub record IsRow (operators : ℕ) (entries : List (Option ℕ)) : Type 0 where
+  pub each : length entries ≡ operators
+  pub some : list_any is_some entries ≡ true
+  pub bounded : All (λ e. IfSome e (λ t. t ≤ 1000000000)) entries
+
+-- the row of an operation, by its number
+abbrev pub row_in : Table → ℕ → List (Option ℕ)
+row_in t v = slice_index_or t.rows v []
+
+abbrev pub entry_in : Table → ℕ → ℕ → Option ℕ
+entry_in t v o = slice_index_or (row_in t v) o None
+
+-- the lesser of two entries, where they are there
+abbrev pub lesser : Option ℕ → Option ℕ → Option ℕ
+lesser None f = f
+lesser (Some t) None = Some t
+lesser (Some t) (Some u) = Some (min t u)
+
+-- the least entry that is there
+abbrev pub least_of : List (Option ℕ) → Option ℕ
+least_of [] = None
+least_of (e ∷ entries) = lesser e (least_of entries)
+
+-- it is an entry, and no entry is below it
+abbrev pub IsLeast : List (Option ℕ) → ℕ → Type 0
+IsLeast entries t = Contains entries (Some t) × ((u : ℕ) → Contains entries (Some u) → t ≤ u)

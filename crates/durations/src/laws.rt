@@ -1,0 +1,8 @@
+//! What holds of the durations of texts.
+ghost use Rattle.durations.specs.Accepted.{AcceptedAreDurations};
+
+/// The durations of every text that is accepted are for operators of its architecture, and last at most
+/// 1,000,000,000 ticks each. So `durations_of` may be called with whatever a text was read as.
+pub fn accepted_are_durations()
+    ensures { AcceptedAreDurations }
+{}

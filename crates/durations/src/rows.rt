@@ -1,0 +1,84 @@
+//! The rows of the table.
+ghost use Rattle.std.specs.Prelude.{◌≡◌, ◌<◌, IfOk, length, map};
+ghost use Rattle.flat_graph.specs.Graph.{Graph};
+ghost use Rattle.archi_defs.specs.Text.{Described};
+ghost use Rattle.durations.specs.Lines.{AreDurations};
+ghost use Rattle.durations.specs.Table.{durations_of, entry, row};
+ghost use Rattle.durations.specs.Given.{Gives, IsRefused};
+
+use crate::given::Given;
+use crate::missing::{is_timed, missing};
+use crate::table::Durations;
+use archi_defs::{ArchiCause, ArchiError, ArchiFault, ArchiText};
+use flat_graph::{Flat, Vertex};
+use std::alloc::Global;
+use syn_base::{Items, Name, OutOfMemory};
+
+/// How long each operation lasts on each operator. A sensor, an actuator or a function lasts as long as the
+/// text says for its definition, and may not stand on an operator for which the text says nothing. A constant,
+/// and whatever else flattening makes, lasts 0 ticks on every operator. Durations of other definitions are
+/// passed over. NoDuration, at line 0, comes exactly where some sensor, actuator or function has a definition
+/// without any duration, and has that of the least such operation.
+pub fn durations_of(alloc: Global, flat: &Flat, text: &ArchiText) -> Result<Durations, ArchiError>
+    requires { AreDurations (length text.now.archi.operators) text.now.lines }
+    ensures { Gives result (durations_of flat.now (record { archi = text.now.archi; durations = text.now.lines })) }
+{
+    let operators = text.archi.operators().len() as u32;
+    let Ok(given) = Given::new(alloc, operators, text.lines.as_slice()) else {
+        return Err(ArchiError::OutOfMemory);
+    };
+    if let Some(def) = missing(&given, flat.vertices()) {
+        return Err(no_duration(alloc, def));
+    }
+    match rows(alloc, &given, flat.vertices()) {
+        Ok(rows) => Ok(Durations::new(operators, rows)),
+        Err(_) => Err(ArchiError::OutOfMemory),
+    }
+}
+
+fn no_duration(alloc: Global, def: &Name) -> ArchiError
+    ensures { IsRefused result def.now }
+{
+    match def.copy(alloc) {
+        Ok(def) => ArchiError::Refused(ArchiFault {
+            line: 0,
+            cause: ArchiCause::NoDuration(def),
+        }),
+        Err(_) => ArchiError::OutOfMemory,
+    }
+}
+
+fn rows(
+    alloc: Global,
+    given: &Given,
+    vertices: &[Vertex],
+) -> Result<Vec<Items<Option<u64>>>, OutOfMemory>
+    ensures { IfOk result (λ rows. rows.items ≡ map (row given.now.operators given.now.lines) vertices.now) }
+{
+    let mut rows = Vec::with_capacity(alloc, vertices.len())?;
+    for vertex in vertices {
+        rows.push(row(alloc, given, vertex)?)?;
+    }
+    Ok(rows)
+}
+
+fn row(alloc: Global, given: &Given, vertex: &Vertex) -> Result<Items<Option<u64>>, OutOfMemory>
+    ensures { IfOk result (λ entries. entries ≡ row given.now.operators given.now.lines vertex.now) }
+{
+    let mut entries = Vec::with_capacity(alloc, given.operators() as usize)?;
+    for operator in 0..given.operators() {
+        entries.push(entry(given, vertex, operator))?;
+    }
+    Ok(Items::new(entries))
+}
+
+fn entry(given: &Given, vertex: &Vertex, operator: u32) -> Option<u64>
+    requires { operator < given.now.operators }
+    ensures { result ≡ entry given.now.lines vertex.now operator }
+{
+    if is_timed(&vertex.kind) {
+        given.ticks(vertex.def.as_bytes(), operator)
+    } else {
+        Some(0)
+    }
+}

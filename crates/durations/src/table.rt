@@ -1,0 +1,104 @@
+//! The table of durations.
+ghost use Rattle.std.specs.Prelude.{◌≡◌, ◌<◌, ◌≤◌, Some, All, IfSome, length};
+ghost use Rattle.durations.specs.Table.{entry_in, least_of, lesser, row_in, IsLeast, IsRow};
+
+use std::marker::Model;
+use syn_base::Items;
+
+/// For each operation of a flat graph the ticks that it lasts on each operator, where it may stand there.
+/// Operations and operators are numbered from 0, as in the flat graph and the architecture. Every operation
+/// has an entry on some operator, and no entry is above 1,000,000,000. Contracts see the rows of the
+/// operations, and how many operators there are.
+#[derive(Drop)]
+pub struct Durations {
+    operators: u32,
+    rows: Vec<Items<Option<u64>>>,
+}
+
+impl Model for Durations {
+    ghost use Rattle.std.specs.Prelude.{All};
+    ghost use Rattle.durations.specs.Table.{Table, IsRow};
+
+    ghost Value = { Table };
+
+    ghost view = { λ s. record { operators = s.operators; rows = s.rows.items } };
+
+    ghost invariant = { λ s. All (IsRow s.operators) s.rows.items };
+}
+
+impl Durations {
+    /// The table of these rows. It takes no memory.
+    pub(crate) fn new(operators: u32, rows: Vec<Items<Option<u64>>>) -> Durations
+        requires { All (IsRow operators) rows.items }
+        ensures { result ≡ record { operators = operators; rows = rows.items } }
+    {
+        Durations { operators, rows }
+    }
+
+    /// How many operations there are.
+    pub fn operations(&self) -> usize
+        ensures count { result ≡ length self.now.rows }
+        ensures valid { All (IsRow self.now.operators) self.now.rows }
+    {
+        self.rows.len()
+    }
+
+    /// How many operators there are.
+    pub fn operators(&self) -> u32
+        ensures count { result ≡ self.now.operators }
+        ensures valid { All (IsRow self.now.operators) self.now.rows }
+    {
+        self.operators
+    }
+
+    /// The ticks that the operation lasts on the operator, at most 1,000,000,000; none where it may not
+    /// stand there. It takes no memory.
+    pub fn ticks(&self, op: u32, operator: u32) -> Option<u64>
+        requires { (op < length self.now.rows) × (operator < self.now.operators) }
+        ensures entry { result ≡ entry_in self.now op operator }
+        ensures bounded { IfSome result (λ t. t ≤ 1000000000) }
+    {
+        self.row(op)[operator as usize]
+    }
+
+    /// The least ticks that the operation lasts on some operator, at most 1,000,000,000. It takes no memory.
+    pub fn least(&self, op: u32) -> u64
+        requires { op < length self.now.rows }
+        ensures entry { least_of (row_in self.now op) ≡ Some result }
+        ensures least { IsLeast (row_in self.now op) result }
+        ensures bounded { result ≤ 1000000000 }
+    {
+        match least_of(self.row(op)) {
+            Some(ticks) => ticks,
+            None => 0,
+        }
+    }
+
+    fn row(&self, op: u32) -> &[Option<u64>]
+        requires { op < length self.now.rows }
+        ensures same { result.now ≡ row_in self.now op }
+        ensures valid { IsRow self.now.operators (row_in self.now op) }
+    {
+        self.rows[op as usize].as_slice()
+    }
+}
+
+fn least_of(entries: &[Option<u64>]) -> Option<u64>
+    ensures { result ≡ least_of entries.now }
+{
+    let mut least = None;
+    for entry in entries {
+        least = lesser(least, *entry);
+    }
+    least
+}
+
+fn lesser(one: Option<u64>, other: Option<u64>) -> Option<u64>
+    ensures { result ≡ lesser one other }
+{
+    match (one, other) {
+        (None, entry) => entry,
+        (Some(ticks), None) => Some(ticks),
+        (Some(ticks), Some(others)) => Some(ticks.min(others)),
+    }
+}

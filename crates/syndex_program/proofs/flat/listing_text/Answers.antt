@@ -1,0 +1,27 @@
+use Rattle.std.proofs.Common.{ap, inl}
+use Rattle.std.specs.Prelude.{List, Ok}
+use Rattle.std.proofs.lemmas.Result.{err_from_is_err_and}
+use Rattle.outside.specs.Bytes.{Bytes}
+use Rattle.algo_defs.specs.declared.definition.Def.{Def}
+use Rattle.algo_tree.specs.Tree.{Vertex}
+use Rattle.command_plan.specs.Plan.{give}
+use Rattle.command_plan.specs.Run.{gives}
+use Rattle.command_plan.proofs.Makes.{memory}
+use Rattle.flat_laws.specs.FlatOf.{flat_of}
+use Rattle.flat_text.specs.Listing.{listing}
+use Rattle.syndex_program.specs.Plans.{flat_plan}
+use Rattle.syndex_program.proofs.Steps.{went_on}
+use Rattle.syndex_program.proofs.flat.listing_text.Goals as goal
+
+pub returns-in_err-listed-clause-makes : goal.returns-in_err-listed-clause-makes
+returns-in_err-listed-clause-makes g c =
+    let H = g.S.Shelf.held in
+    let p = err_from_is_err_and c.from_residual-in_err-listed.result c.from_residual-in_err-listed.ensures.1 in
+    rw (p.1, p.2) (memory (H c.args.shelf.now) (H c.read_algorithm.new.shelf) (flat_plan c.args.algorithm.now))
+
+pub returns-clause-makes : goal.returns-clause-makes
+returns-clause-makes g c =
+    let H = g.S.Shelf.held in
+    went_on c.args.algorithm.now (H c.args.shelf.now) (H c.read_algorithm.new.shelf) (H c.read_algorithm.new.shelf) c.in_ok-algorithm.algorithm
+    (λ (defs : List Def) (main : Vertex). give (listing (flat_of main))) _ c.in_ok-algorithm.ensures.stays c.in_ok-algorithm.ensures.reads
+    (gives (inl (ap (λ (x : Bytes). Ok x) c.in_ok-listed.ensures)))

@@ -1,0 +1,55 @@
+//! The architecture of a file: its text, and how long the operations of an algorithm last by it.
+ghost use Rattle.std.specs.Prelude.{◌≤◌, length};
+ghost use Rattle.outside.specs.Shelf.{Stays, file_bound};
+ghost use Rattle.path_text.specs.Bounded.{HasBounds};
+ghost use Rattle.path_text.specs.Named.{HasNames};
+ghost use Rattle.syndex_program.specs.Reads.{MakesArchitecture, ReadsArchitecture};
+
+use crate::files::read_file;
+use algo_tree::Tree;
+use archi_defs::{ArchiError, ArchiText};
+use archi_reader::read_archi;
+use command_status::Status;
+use durations::{Durations, accepted_are_durations, durations_of};
+use hierarchy::flatten;
+use outside::{File, Shelf};
+use std::alloc::Global;
+
+/// What a text describes, and how long each flat operation of an algorithm lasts by it.
+#[derive(Drop)]
+pub struct Architecture {
+    pub text: ArchiText,
+    pub durations: Durations,
+}
+
+/// The architecture of a file for this algorithm, or why there is none.
+pub fn read_architecture<S: Shelf>(
+    alloc: Global,
+    shelf: &mut S,
+    name: &str,
+    tree: &Tree,
+) -> Result<Architecture, Status>
+    requires names { HasNames tree.now }
+    requires bounds { HasBounds tree.now }
+    ensures stays { Stays (S.held shelf.old) (S.held shelf.new) }
+    ensures reads { ReadsArchitecture tree.now name.now (S.held shelf.old) (S.held shelf.new) result }
+{
+    let text = read_file(alloc, shelf, File::Architecture, name)?;
+    Ok(architecture_of(alloc, &text, tree)?)
+}
+
+/// The architecture of a text for this algorithm, or its first refusal.
+fn architecture_of(alloc: Global, text: &[u8], tree: &Tree) -> Result<Architecture, ArchiError>
+    requires short { length text.now ≤ file_bound }
+    requires names { HasNames tree.now }
+    requires bounds { HasBounds tree.now }
+    ensures { MakesArchitecture tree.now text.now result }
+{
+    let text = read_archi(alloc, text)?;
+    accepted_are_durations();
+    let Ok(flat) = flatten(alloc, tree) else {
+        return Err(ArchiError::OutOfMemory);
+    };
+    let durations = durations_of(alloc, &flat, &text)?;
+    Ok(Architecture { text, durations })
+}

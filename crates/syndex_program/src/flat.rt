@@ -1,0 +1,44 @@
+//! The command `flat A`.
+ghost use Rattle.std.specs.Prelude.{◌≡◌, IfOk};
+ghost use Rattle.command_plan.specs.Run.{Makes};
+ghost use Rattle.flat_laws.specs.FlatOf.{flat_of};
+ghost use Rattle.flat_text.specs.Listing.{listing};
+ghost use Rattle.outside.specs.Shelf.{Stays};
+ghost use Rattle.path_text.specs.Bounded.{HasBounds};
+ghost use Rattle.path_text.specs.Named.{HasNames};
+ghost use Rattle.syndex_program.specs.Plans.{flat_plan};
+ghost use Rattle.syndex_program.specs.Reads.{bytes_in};
+
+use crate::algorithm::read_algorithm;
+use algo_tree::Tree;
+use command_status::Status;
+use flat_text::print_flat;
+use hierarchy::flatten;
+use outside::Shelf;
+use std::alloc::Global;
+use syn_base::OutOfMemory;
+
+/// The listing of an algorithm's flat graph, or why there is none.
+pub fn listing_text<S: Shelf>(
+    alloc: Global,
+    shelf: &mut S,
+    algorithm: &str,
+) -> Result<Vec<u8>, Status>
+    ensures stays { Stays (S.held shelf.old) (S.held shelf.new) }
+    ensures makes { Makes (S.held shelf.old) (S.held shelf.new) (flat_plan algorithm.now) (bytes_in result) }
+{
+    let algorithm = read_algorithm(alloc, shelf, algorithm)?;
+    Ok(listed(alloc, &algorithm.tree)?)
+}
+
+/// The listing of the flat graph of a tree.
+fn listed(alloc: Global, tree: &Tree) -> Result<Vec<u8>, OutOfMemory>
+    requires names { HasNames tree.now }
+    requires bounds { HasBounds tree.now }
+    ensures { IfOk result (λ text. text.items ≡ listing (flat_of tree.now)) }
+{
+    let flat = flatten(alloc, tree)?;
+    let mut text = Vec::new(alloc);
+    print_flat(alloc, &flat, &mut text)?;
+    Ok(text)
+}
