@@ -3,9 +3,9 @@ ghost use Rattle.std.specs.Prelude.{◌≤◌, length};
 
 use crate::resolve;
 use algo_defs::AlgoError;
-use algo_forms::accepted_are_well_read;
 use algo_reader::read_algo;
 use algo_tree::Tree;
+use reading_laws::accepted_are_well_read;
 use std::alloc::Global;
 
 /// The tree of a text, or its first refusal.

@@ -1,6 +1,6 @@
 //! Sources and guards under the guards of cases.
 ghost use Rattle.std.specs.Prelude.{◌≡◌, ◌++◌, [], ◌∷◌, IfOk, map};
-ghost use Rattle.guard_laws.specs.Guarded.{shift, shift_guard, guard_sources, guard_for, own_guards as guards_owned};
+ghost use Rattle.conditioning_laws.specs.Guarded.{shift, shift_guard, guard_sources, guard_for, own_guards as guards_owned};
 
 use level_meaning::{Guard, Source};
 use std::alloc::Global;

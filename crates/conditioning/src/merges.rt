@@ -2,7 +2,7 @@
 ghost use Rattle.std.specs.Prelude.{◌≡◌, ◌++◌, ◌∷◌, ◌+◌, IfOk, OnOk, map, slice_index_or};
 ghost use Rattle.level_meaning.specs.Level.{numbers_below};
 ghost use Rattle.algo_tree.specs.View.{view};
-ghost use Rattle.guard_laws.specs.Guarded.{merge_of, merge_sources};
+ghost use Rattle.conditioning_laws.specs.Guarded.{merge_of, merge_sources};
 ghost use Rattle.conditioning.specs.Listed.{merges_listed};
 
 use crate::conditions::number;

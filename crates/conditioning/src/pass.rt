@@ -5,9 +5,9 @@ ghost use Rattle.algo_tree.specs.Counted.{operations};
 ghost use Rattle.algo_tree.specs.View.{view, vertices_view};
 ghost use Rattle.path_text.specs.Named.{HasNames};
 ghost use Rattle.pass_laws.specs.SameMeaning.{KeepsMeaning};
-ghost use Rattle.unroll_laws.specs.NoRepeat.{HasNoRepeat};
-ghost use Rattle.guard_laws.specs.Guarded.{guard as guarded_tree, guarded};
-ghost use Rattle.guard_laws.specs.NoCase.{HasNoCase};
+ghost use Rattle.factorisation_laws.specs.NoRepeat.{HasNoRepeat};
+ghost use Rattle.conditioning_laws.specs.Guarded.{guard as guarded_tree, guarded};
+ghost use Rattle.conditioning_laws.specs.NoCase.{HasNoCase};
 ghost use Rattle.conditioning.specs.Listed.{cases_listed};
 
 use crate::conditions::{guards_of_case, number, own_guards, shifted_sources};

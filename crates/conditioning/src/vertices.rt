@@ -2,7 +2,7 @@
 ghost use Rattle.std.specs.Prelude.{◌≡◌, IfOk};
 ghost use Rattle.algo_tree.specs.declared.vertex.Vertex.{out-Vertex};
 ghost use Rattle.algo_tree.specs.View.{kind_view, label_view, view, vertices_view};
-ghost use Rattle.guard_laws.specs.Guarded.{graph_under, operation_under};
+ghost use Rattle.conditioning_laws.specs.Guarded.{graph_under, operation_under};
 
 use crate::conditions::{guards_under, handed, shifted_sources};
 use algo_tree::{Kind, Vertex};

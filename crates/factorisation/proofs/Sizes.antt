@@ -9,8 +9,8 @@ use Rattle.level_meaning.specs.Level.{numbers_below}
 use Rattle.algo_tree.specs.Tree.{Label, Kind, sensor, actuator, constant, delay, function, explode, implode, merge, graph, switch, repeat, Vertex, vertex, Vertices, no_vertices, and_vertex}
 use Rattle.algo_tree.specs.View.{vertices_of}
 use Rattle.algo_tree.specs.Well.{fork_names, join_names, IsOne, IsWell, AllWell}
-use Rattle.unroll_laws.specs.Unrolled.{explodes, copy, implodes, begin, unrolled_inside, unrolled_at, unroll, unroll_all}
-use Rattle.unroll_laws.proofs.Unroll.{IsRepeatable, can_unroll, repeatable-unrolled}
+use Rattle.factorisation_laws.specs.Unrolled.{explodes, copy, implodes, begin, unrolled_inside, unrolled_at, unroll, unroll_all}
+use Rattle.factorisation_laws.proofs.Unroll.{IsRepeatable, can_unroll, repeatable-unrolled}
 use Rattle.factorisation.specs.Size.{size, size_all, made_by, vertices_made, vertices_made_in}
 
 sized-append : (xs ys : List Vertex) → size_all (vertices_of (xs ++ ys)) ≡ size_all (vertices_of xs) + size_all (vertices_of ys)

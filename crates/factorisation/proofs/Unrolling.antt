@@ -17,7 +17,7 @@ use Rattle.algo_tree.specs.declared.vertex.Vertex.{Vertex as Declared, out-Verte
 use Rattle.algo_tree.specs.declared.vertex.Kind as declared
 use Rattle.algo_tree.specs.declared.vertex.Kind.TheVariants.{Repeat}
 use Rattle.algo_tree.proofs.Views.{view_out}
-use Rattle.unroll_laws.specs.Unrolled.{explodes, copy, copies, implodes, give_sources, unrolled_inside, with_kind, unrolled_at, unroll, unroll_all}
+use Rattle.factorisation_laws.specs.Unrolled.{explodes, copy, copies, implodes, give_sources, unrolled_inside, with_kind, unrolled_at, unroll, unroll_all}
 use Rattle.factorisation.specs.Size.{made_by, vertices_made, vertices_made_in}
 
 abbrev pub inner_of : Declared → List Declared

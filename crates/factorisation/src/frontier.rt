@@ -3,7 +3,7 @@ ghost use Rattle.std.specs.Prelude.{◌≡◌, ◌<◌, ◌≤◌, ◌+◌, ◌+
 ghost use Rattle.level_meaning.specs.Level.{numbers_below};
 ghost use Rattle.algo_tree.specs.View.{kind_view, view};
 ghost use Rattle.algo_tree.specs.Well.{fork_names, join_names};
-ghost use Rattle.unroll_laws.specs.Unrolled.{made as vertex_made, explode_of, implode_of, explodes as exploded, implodes as imploded, copy_sources, give_sources as sources_given};
+ghost use Rattle.factorisation_laws.specs.Unrolled.{made as vertex_made, explode_of, implode_of, explodes as exploded, implodes as imploded, copy_sources, give_sources as sources_given};
 
 use algo_tree::{Kind, Vertex};
 use level_meaning::{Feed, Give, Part, Source};

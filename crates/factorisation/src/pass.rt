@@ -9,8 +9,8 @@ ghost use Rattle.algo_tree.specs.View.{view, vertices_view};
 ghost use Rattle.algo_tree.specs.Well.{fork_names, join_names, IsOne, IsWell, AllWell};
 ghost use Rattle.path_text.specs.Named.{HasNames};
 ghost use Rattle.pass_laws.specs.SameMeaning.{KeepsMeaning};
-ghost use Rattle.unroll_laws.specs.NoRepeat.{HasNoRepeat};
-ghost use Rattle.unroll_laws.specs.Unrolled.{copies as copied, unroll as unrolled, unroll_all, unrolled_inside};
+ghost use Rattle.factorisation_laws.specs.NoRepeat.{HasNoRepeat};
+ghost use Rattle.factorisation_laws.specs.Unrolled.{copies as copied, unroll as unrolled, unroll_all, unrolled_inside};
 ghost use Rattle.factorisation.specs.Size.{size, vertices_made, vertices_made_in};
 
 use crate::frontier::{Copies, add_implodes, begin_of, explodes};

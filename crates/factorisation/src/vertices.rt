@@ -6,7 +6,7 @@ ghost use Rattle.algo_tree.specs.Meaning.{vertices_in};
 ghost use Rattle.algo_tree.specs.Typed.{label_of};
 ghost use Rattle.algo_tree.specs.View.{kind_view, label_view, view, vertices_view};
 ghost use Rattle.algo_tree.specs.Well.{fork_names, join_names};
-ghost use Rattle.unroll_laws.specs.Unrolled.{copy, give_sources as sources_given, with_kind};
+ghost use Rattle.factorisation_laws.specs.Unrolled.{copy, give_sources as sources_given, with_kind};
 
 use crate::frontier::{Copies, copy_ins, give_sources};
 use algo_tree::{Kind, Vertex};

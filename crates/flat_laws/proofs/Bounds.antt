@@ -4,8 +4,8 @@ use Rattle.level_meaning.specs.declared.source.Source.{Source}
 use Rattle.level_meaning.specs.Level.{Path}
 use Rattle.algo_tree.specs.Tree.{Label, Kind, sensor, actuator, constant, delay, function, explode, implode, merge, graph, switch, repeat, Vertex, vertex, Vertices, no_vertices, and_vertex}
 use Rattle.algo_tree.specs.Counted.{operations as count}
-use Rattle.inline_laws.specs.Flat.{Operation, Task, runs, gets, sets}
-use Rattle.inline_laws.specs.Inlined.{wire, wirings, inlined_by, inlined, inlined_all, operations}
+use Rattle.inlining_laws.specs.Flat.{Operation, Task, runs, gets, sets}
+use Rattle.inlining_laws.specs.Inlined.{wire, wirings, inlined_by, inlined, inlined_all, operations}
 use Rattle.path_text.specs.Bounded.{IsKindBounded, IsBounded, AllBounded, HasBounds}
 
 abbrev pub IsTaskBounded : Task → List ℕ → Type 0

@@ -7,19 +7,19 @@ use Rattle.flat_graph.specs.Graph.{Graph}
 use Rattle.flat_graph.specs.Valid.{is_flat}
 use Rattle.pass_laws.specs.SameMeaning.{KeepsMeaning}
 use Rattle.pass_laws.proofs.Passes.{keeps_by_steps}
-use Rattle.unroll_laws.specs.Unrolled.{unroll}
-use Rattle.unroll_laws.proofs.Unroll.{unroll_main-keeps}
-use Rattle.unroll_laws.proofs.Unrepeated.{no-unroll}
-use Rattle.unroll_laws.proofs.Counting.{counted-unroll}
-use Rattle.unroll_laws.proofs.Trees.{tree-unroll}
-use Rattle.guard_laws.specs.Guarded.{guard}
-use Rattle.guard_laws.proofs.Guard.{guard_main-keeps}
-use Rattle.guard_laws.proofs.Uncased.{no_case, no_repeat}
-use Rattle.guard_laws.proofs.Counting.{counted-guarded}
-use Rattle.guard_laws.proofs.Trees.{tree-guard}
-use Rattle.inline_laws.specs.Inlined.{operations}
-use Rattle.inline_laws.specs.Plain.{IsPlain}
-use Rattle.inline_laws.proofs.Flatten.{flatten-count}
+use Rattle.factorisation_laws.specs.Unrolled.{unroll}
+use Rattle.factorisation_laws.proofs.Unroll.{unroll_main-keeps}
+use Rattle.factorisation_laws.proofs.Unrepeated.{no-unroll}
+use Rattle.factorisation_laws.proofs.Counting.{counted-unroll}
+use Rattle.factorisation_laws.proofs.Trees.{tree-unroll}
+use Rattle.conditioning_laws.specs.Guarded.{guard}
+use Rattle.conditioning_laws.proofs.Guard.{guard_main-keeps}
+use Rattle.conditioning_laws.proofs.Uncased.{no_case, no_repeat}
+use Rattle.conditioning_laws.proofs.Counting.{counted-guarded}
+use Rattle.conditioning_laws.proofs.Trees.{tree-guard}
+use Rattle.inlining_laws.specs.Inlined.{operations}
+use Rattle.inlining_laws.specs.Plain.{IsPlain}
+use Rattle.inlining_laws.proofs.Flatten.{flatten-count}
 use Rattle.path_text.specs.Named.{HasNames}
 use Rattle.path_text.specs.Bounded.{HasBounds}
 use Rattle.flat_laws.specs.Stands.{Stands, KeepsGraph}

@@ -12,9 +12,9 @@ use Rattle.level_meaning.specs.Level.{Path}
 use Rattle.algo_tree.specs.Tree.{Vertex, vertex, Vertices, no_vertices, and_vertex}
 use Rattle.algo_tree.specs.Counted.{operations as count}
 use Rattle.flat_graph.specs.Valid.{is_path_byte, is_path}
-use Rattle.inline_laws.specs.Flat.{Operation, Task, runs, gets, sets}
-use Rattle.inline_laws.specs.Inlined.{wire, wirings, inlined, inlined_all, operations}
-use Rattle.inline_laws.proofs.Pairs.{AtAll, all-append, paths-by}
+use Rattle.inlining_laws.specs.Flat.{Operation, Task, runs, gets, sets}
+use Rattle.inlining_laws.specs.Inlined.{wire, wirings, inlined, inlined_all, operations}
+use Rattle.inlining_laws.proofs.Pairs.{AtAll, all-append, paths-by}
 use Rattle.path_text.specs.Texts.{part_text, parts_text, path_text}
 use Rattle.path_text.specs.Named.{IsPathNamed, IsNamed, AllNamed, HasNames}
 use Rattle.path_text.specs.Bounded.{IsPathBounded, IsBounded, AllBounded, HasBounds}

@@ -16,14 +16,14 @@ use Rattle.algo_tree.specs.Meaning.{node, nodes}
 use Rattle.algo_tree.specs.Valid.{IsTree}
 use Rattle.flat_graph.specs.declared.vertex.Vertex.{Vertex}
 use Rattle.flat_graph.specs.Valid.{are_named_apart}
-use Rattle.inline_laws.specs.Flat.{Operation, gets, sets, same_path}
-use Rattle.inline_laws.specs.Inlined.{wire, wirings, inlined_by, inlined, inlined_all, operations}
-use Rattle.inline_laws.specs.Plain.{IsPlain}
-use Rattle.inline_laws.proofs.Inlinable.{IsKindInlinable, CanInline, AllCanInline, can_inline}
-use Rattle.inline_laws.proofs.Parts.{same_itself}
-use Rattle.inline_laws.proofs.Cells.{Keeps, keeps-below}
-use Rattle.inline_laws.proofs.Numbered.{path_itself}
-use Rattle.inline_laws.proofs.Pairs.{AtAll, all-append, paths-vertex}
+use Rattle.inlining_laws.specs.Flat.{Operation, gets, sets, same_path}
+use Rattle.inlining_laws.specs.Inlined.{wire, wirings, inlined_by, inlined, inlined_all, operations}
+use Rattle.inlining_laws.specs.Plain.{IsPlain}
+use Rattle.inlining_laws.proofs.Inlinable.{IsKindInlinable, CanInline, AllCanInline, can_inline}
+use Rattle.inlining_laws.proofs.Parts.{same_itself}
+use Rattle.inlining_laws.proofs.Cells.{Keeps, keeps-below}
+use Rattle.inlining_laws.proofs.Numbered.{path_itself}
+use Rattle.inlining_laws.proofs.Pairs.{AtAll, all-append, paths-vertex}
 use Rattle.path_text.specs.Texts.{path_text}
 use Rattle.path_text.specs.Named.{IsPathNamed}
 use Rattle.path_text.specs.Bounded.{IsPathBounded}

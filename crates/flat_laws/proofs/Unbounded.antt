@@ -12,8 +12,8 @@ use Rattle.algo_tree.specs.Valid.{IsTree}
 use Rattle.flat_graph.specs.declared.vertex.Kind.TheVariants.{Function}
 use Rattle.flat_graph.specs.Graph.{Graph}
 use Rattle.flat_graph.specs.Valid.{is_flat}
-use Rattle.inline_laws.specs.Inlined.{operations}
-use Rattle.inline_laws.specs.Plain.{IsPlain}
+use Rattle.inlining_laws.specs.Inlined.{operations}
+use Rattle.inlining_laws.specs.Plain.{IsPlain}
 use Rattle.path_text.specs.Named.{HasNames}
 use Rattle.path_text.specs.Bounded.{HasBounds}
 use Rattle.flat_laws.specs.Stands.{Stands}

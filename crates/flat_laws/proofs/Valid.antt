@@ -11,10 +11,10 @@ use Rattle.flat_graph.specs.Graph.{Graph, with_vertex, lens_of}
 use Rattle.flat_graph.specs.Meaning.{level_guard}
 use Rattle.flat_graph.specs.Order.{is_acyclic}
 use Rattle.flat_graph.specs.Valid.{is_path, is_len, is_guard, fits, has_twin, are_named_apart, is_vertex, all_from, kinds_of, sensors_from, actuators_from, is_flat}
-use Rattle.inline_laws.specs.Flat.{Operation}
-use Rattle.inline_laws.specs.Inlined.{operations}
-use Rattle.inline_laws.specs.Plain.{IsPlain}
-use Rattle.inline_laws.proofs.Pairs.{AtAll, paired-main}
+use Rattle.inlining_laws.specs.Flat.{Operation}
+use Rattle.inlining_laws.specs.Inlined.{operations}
+use Rattle.inlining_laws.specs.Plain.{IsPlain}
+use Rattle.inlining_laws.proofs.Pairs.{AtAll, paired-main}
 use Rattle.path_text.specs.Named.{HasNames}
 use Rattle.path_text.specs.Bounded.{HasBounds}
 use Rattle.flat_laws.specs.Stands.{task_of, Stands}

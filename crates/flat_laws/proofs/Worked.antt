@@ -12,8 +12,8 @@ use Rattle.flat_graph.specs.declared.vertex.Vertex.{Vertex}
 use Rattle.flat_graph.specs.Graph.{Graph}
 use Rattle.flat_graph.specs.Valid.{is_flat}
 use Rattle.flat_graph.specs.Meaning.{initial_cells, cells_after, flat_act_row}
-use Rattle.inline_laws.specs.Inlined.{operations}
-use Rattle.inline_laws.proofs.Worked.{main, rows}
+use Rattle.inlining_laws.specs.Inlined.{operations}
+use Rattle.inlining_laws.proofs.Worked.{main, rows}
 use Rattle.path_text.specs.Texts.{path_text}
 use Rattle.flat_laws.specs.Stands.{Stands}
 

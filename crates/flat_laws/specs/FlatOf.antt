@@ -11,10 +11,10 @@ use Rattle.flat_graph.specs.declared.vertex.Kind.{Kind}
 use Rattle.flat_graph.specs.declared.vertex.Kind.TheVariants.{Sensor, Actuator, Function, Constant, Get, Set, Explode, Implode, Merge}
 use Rattle.flat_graph.specs.declared.vertex.Vertex.{Vertex}
 use Rattle.flat_graph.specs.Graph.{Graph}
-use Rattle.guard_laws.specs.Guarded.{guard}
-use Rattle.unroll_laws.specs.Unrolled.{unroll}
-use Rattle.inline_laws.specs.Flat.{Operation, Task, runs, gets, sets}
-use Rattle.inline_laws.specs.Inlined.{operations}
+use Rattle.conditioning_laws.specs.Guarded.{guard}
+use Rattle.factorisation_laws.specs.Unrolled.{unroll}
+use Rattle.inlining_laws.specs.Flat.{Operation, Task, runs, gets, sets}
+use Rattle.inlining_laws.specs.Inlined.{operations}
 use Rattle.flat_laws.specs.Names.{name_of}
 
 -- a source is an output of an operation: none leads nowhere

@@ -1,6 +1,6 @@
 -- The names of operations.
 use Rattle.std.specs.Prelude.{ℕ, List, [], ◌++◌, codes}
-use Rattle.inline_laws.specs.Flat.{Operation, Task, runs, gets, sets}
+use Rattle.inlining_laws.specs.Flat.{Operation, Task, runs, gets, sets}
 use Rattle.path_text.specs.Texts.{path_text}
 
 -- the halves of a delay have one path

@@ -14,9 +14,9 @@ use Rattle.algo_tree.specs.declared.vertex.Kind.{Kind}
 use Rattle.algo_tree.specs.declared.vertex.Kind.TheVariants.{Delay, Graph, Switch, Repeat}
 use Rattle.algo_tree.proofs.Views.{view_out}
 use Rattle.flat_graph.specs.Graph.{Graph as Flat}
-use Rattle.inline_laws.specs.Flat.{Operation, runs, gets, sets}
-use Rattle.inline_laws.specs.Inlined.{wire, wirings, wire_guard, operation_of, inlined_by, inlined, inlined_all, inlined_level, operations}
-use Rattle.inline_laws.specs.Plain.{IsKindPlain, IsPlain, AllPlain}
+use Rattle.inlining_laws.specs.Flat.{Operation, runs, gets, sets}
+use Rattle.inlining_laws.specs.Inlined.{wire, wirings, wire_guard, operation_of, inlined_by, inlined, inlined_all, inlined_level, operations}
+use Rattle.inlining_laws.specs.Plain.{IsKindPlain, IsPlain, AllPlain}
 use Rattle.path_text.specs.Named.{IsLabelNamed, IsNamed, AllNamed}
 use Rattle.sync_meaning.specs.Sound.{nodes_of}
 use Rattle.sync_meaning.proofs.Index.{nodes_view}

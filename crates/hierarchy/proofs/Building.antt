@@ -12,10 +12,10 @@ use Rattle.flat_graph.specs.declared.vertex.Kind.TheVariants.{Sensor, Actuator, 
 use Rattle.flat_graph.specs.declared.vertex.Vertex.{Vertex}
 use Rattle.flat_graph.specs.Graph.{Graph}
 use Rattle.flat_graph.specs.Meaning.{level_source, level_guard}
-use Rattle.inline_laws.specs.Flat.{Operation, Task, runs, gets, sets}
-use Rattle.inline_laws.specs.Inlined.{wire, wirings, operation_of, inlined, inlined_all, inlined_level}
-use Rattle.inline_laws.proofs.Inlinable.{CanInline}
-use Rattle.inline_laws.proofs.Wires.{long-inlined}
+use Rattle.inlining_laws.specs.Flat.{Operation, Task, runs, gets, sets}
+use Rattle.inlining_laws.specs.Inlined.{wire, wirings, operation_of, inlined, inlined_all, inlined_level}
+use Rattle.inlining_laws.proofs.Inlinable.{CanInline}
+use Rattle.inlining_laws.proofs.Wires.{long-inlined}
 use Rattle.path_text.specs.Texts.{path_text}
 use Rattle.flat_laws.specs.Names.{half_text}
 use Rattle.flat_laws.specs.Stands.{task_of, IsTwin, StandsFor, AllStand}

@@ -8,10 +8,10 @@ use Rattle.algo_tree.specs.Tree.{Label, Kind, graph, delay, Vertex, vertex, Vert
 use Rattle.algo_tree.specs.Counted.{operations as count}
 use Rattle.algo_tree.specs.Typed.{AreLengths, AreGuardsTyped}
 use Rattle.algo_tree.specs.Valid.{IsTree}
-use Rattle.inline_laws.specs.Flat.{Operation}
-use Rattle.inline_laws.specs.Inlined.{wire, wirings, wire_guard, inlined_by, inlined, inlined_all, operations}
-use Rattle.inline_laws.specs.Numbered.{with_operation}
-use Rattle.inline_laws.specs.Plain.{IsPlain}
+use Rattle.inlining_laws.specs.Flat.{Operation}
+use Rattle.inlining_laws.specs.Inlined.{wire, wirings, wire_guard, inlined_by, inlined, inlined_all, operations}
+use Rattle.inlining_laws.specs.Numbered.{with_operation}
+use Rattle.inlining_laws.specs.Plain.{IsPlain}
 use Rattle.flat_laws.proofs.Lengths.{Outs}
 use Rattle.flat_laws.proofs.Fits.{AllFit, fit-main}
 use Rattle.hierarchy.specs.Linked.{IsFound, AreFound, GuardsFound, AllLinked}

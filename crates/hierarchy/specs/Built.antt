@@ -9,8 +9,8 @@ use Rattle.flat_graph.specs.declared.vertex.Kind.TheVariants.{Function}
 use Rattle.flat_graph.specs.declared.vertex.Vertex.{Vertex}
 use Rattle.flat_graph.specs.Graph.{Graph, bodies_view}
 use Rattle.flat_graph.specs.Meaning.{level_source, level_guard}
-use Rattle.inline_laws.specs.Flat.{Operation}
-use Rattle.inline_laws.specs.Inlined.{wire_guard}
+use Rattle.inlining_laws.specs.Flat.{Operation}
+use Rattle.inlining_laws.specs.Inlined.{wire_guard}
 use Rattle.flat_laws.specs.Numbering.{IsNumbered, bodies_in, HasBodiesInOrder}
 use Rattle.flat_laws.specs.Stands.{Stands}
 use Rattle.hierarchy.specs.declared.operation.Inlined.{Inlined}

@@ -3,7 +3,7 @@ use Rattle.std.specs.Prelude.{List, [], ◌∷◌}
 use Rattle.level_meaning.specs.declared.source.Source.{Source}
 use Rattle.level_meaning.specs.declared.source.Source.TheVariants.{Own, Of}
 use Rattle.level_meaning.specs.declared.source.Guard.{Guard}
-use Rattle.inline_laws.specs.Flat.{Operation}
+use Rattle.inlining_laws.specs.Flat.{Operation}
 
 -- the source is an output of an operation
 abbrev pub IsFound : Source → Type 0

@@ -7,8 +7,8 @@ ghost use Rattle.algo_tree.specs.Counted.{operations as count, operations_in as 
 ghost use Rattle.algo_tree.specs.Valid.{IsTree};
 ghost use Rattle.algo_tree.specs.View.{view, vertices_view};
 ghost use Rattle.algo_tree.specs.Well.{AllWell, IsWell};
-ghost use Rattle.inline_laws.specs.Plain.{AllPlain, IsPlain};
-ghost use Rattle.inline_laws.specs.Inlined.{inlined, inlined_all, inlined_level, operations};
+ghost use Rattle.inlining_laws.specs.Plain.{AllPlain, IsPlain};
+ghost use Rattle.inlining_laws.specs.Inlined.{inlined, inlined_all, inlined_level, operations};
 ghost use Rattle.path_text.specs.Named.{AllNamed, HasNames, IsNamed};
 ghost use Rattle.sync_meaning.specs.Sound.{nodes_of};
 ghost use Rattle.flat_laws.specs.Numbering.{HasBodiesInOrder};

@@ -3,7 +3,7 @@ ghost use Rattle.std.specs.Prelude.{◌≡◌, IfOk, length};
 ghost use Rattle.algo_tree.specs.declared.vertex.Vertex.{out-Vertex};
 ghost use Rattle.algo_tree.specs.View.{view, vertices_view};
 ghost use Rattle.algo_tree.specs.Well.{AllWell, IsWell};
-ghost use Rattle.inline_laws.specs.Inlined.{wire, wirings};
+ghost use Rattle.inlining_laws.specs.Inlined.{wire, wirings};
 ghost use Rattle.level_meaning.specs.Order.{IsAcyclic};
 ghost use Rattle.sync_meaning.specs.Sound.{nodes_of};
 ghost use Rattle.hierarchy.specs.Wires.{led, Leads};

@@ -3,11 +3,11 @@ ghost use Rattle.std.specs.Prelude.{◌≡◌, IfOk, length};
 ghost use Rattle.algo_tree.specs.Counted.{operations as count};
 ghost use Rattle.flat_laws.specs.FlatOf.{flat_of};
 ghost use Rattle.flat_laws.specs.Stands.{KeepsGraph, Stands};
-ghost use Rattle.guard_laws.specs.Guarded.{guard as guarded};
-ghost use Rattle.inline_laws.specs.Inlined.{operations};
+ghost use Rattle.conditioning_laws.specs.Guarded.{guard as guarded};
+ghost use Rattle.inlining_laws.specs.Inlined.{operations};
 ghost use Rattle.path_text.specs.Bounded.{HasBounds};
 ghost use Rattle.path_text.specs.Named.{HasNames};
-ghost use Rattle.unroll_laws.specs.Unrolled.{unroll as unrolled};
+ghost use Rattle.factorisation_laws.specs.Unrolled.{unroll as unrolled};
 
 use crate::inlining::{Inlined, inline};
 use algo_tree::Tree;

@@ -1,6 +1,6 @@
 //! Where the sources of a level lead in the flat graph.
 ghost use Rattle.std.specs.Prelude.{◌≡◌, IfOk, map, slice_index_or};
-ghost use Rattle.inline_laws.specs.Inlined.{nowhere};
+ghost use Rattle.inlining_laws.specs.Inlined.{nowhere};
 ghost use Rattle.hierarchy.specs.Wires.{led, output_led};
 
 use level_meaning::Source;

@@ -5,13 +5,13 @@ ghost use Rattle.syndex_program.specs.Reads.{IsAlgorithm, MakesAlgorithm, ReadsA
 
 use crate::files::read_file;
 use algo_defs::{AlgoError, Defs};
-use algo_forms::accepted_are_well_read;
 use algo_print::canonical_text_reads_back;
 use algo_reader::read_algo;
 use algo_resolve::resolve;
 use algo_tree::Tree;
 use command_status::Status;
 use outside::{File, Shelf};
+use reading_laws::accepted_are_well_read;
 use std::alloc::Global;
 
 /// What a text says, and what its definitions resolve to.

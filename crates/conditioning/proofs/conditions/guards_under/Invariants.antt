@@ -1,5 +1,5 @@
 use Rattle.std.proofs.Common.{◌≡◌, ◌++◌, map, drop}
-use Rattle.guard_laws.specs.Guarded.{shift_guard}
+use Rattle.conditioning_laws.specs.Guarded.{shift_guard}
 use Rattle.conditioning.proofs.conditions.guards_under.Given as goal
 
 abbrev pub invariant-loop-guard : goal.invariant-loop-guard

@@ -1,5 +1,5 @@
 use Rattle.std.proofs.Common.{◌≡◌, ◌++◌, map, drop}
-use Rattle.guard_laws.specs.Guarded.{shift, guard_sources}
+use Rattle.conditioning_laws.specs.Guarded.{shift, guard_sources}
 use Rattle.conditioning.proofs.conditions.handed.Given as goal
 
 abbrev pub invariant-loop-source : goal.invariant-loop-source

@@ -1,5 +1,5 @@
 use Rattle.std.proofs.Common.{◌≡◌, ◌++◌, drop, length}
-use Rattle.guard_laws.specs.Guarded.{own_guards as guards_owned}
+use Rattle.conditioning_laws.specs.Guarded.{own_guards as guards_owned}
 use Rattle.conditioning.proofs.conditions.own_guards.Given as goal
 
 abbrev pub invariant-loop-guard : goal.invariant-loop-guard

@@ -4,14 +4,14 @@ use Rattle.algo_tree.specs.Valid.{IsTree}
 use Rattle.algo_tree.specs.View.{view}
 use Rattle.path_text.specs.Named.{HasNames}
 use Rattle.pass_laws.specs.SameMeaning.{KeepsMeaning}
-use Rattle.unroll_laws.specs.NoRepeat.{HasNoRepeat}
-use Rattle.guard_laws.specs.Guarded.{guard as guarded_tree}
-use Rattle.guard_laws.specs.NoCase.{HasNoCase}
-use Rattle.guard_laws.proofs.Guard.{guard_main-keeps}
-use Rattle.guard_laws.proofs.Uncased.{no_case, no_repeat}
-use Rattle.guard_laws.proofs.Names.{names-guard}
-use Rattle.guard_laws.proofs.Counting.{counted-guarded}
-use Rattle.guard_laws.proofs.Trees.{tree-guard}
+use Rattle.factorisation_laws.specs.NoRepeat.{HasNoRepeat}
+use Rattle.conditioning_laws.specs.Guarded.{guard as guarded_tree}
+use Rattle.conditioning_laws.specs.NoCase.{HasNoCase}
+use Rattle.conditioning_laws.proofs.Guard.{guard_main-keeps}
+use Rattle.conditioning_laws.proofs.Uncased.{no_case, no_repeat}
+use Rattle.conditioning_laws.proofs.Names.{names-guard}
+use Rattle.conditioning_laws.proofs.Counting.{counted-guarded}
+use Rattle.conditioning_laws.proofs.Trees.{tree-guard}
 use Rattle.conditioning.proofs.pass.guard.Goals as goal
 
 pub new-requires : goal.new-requires

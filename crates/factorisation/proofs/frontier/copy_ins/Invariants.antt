@@ -1,6 +1,6 @@
 use Rattle.std.proofs.Common.{◌≡◌, ◌+◌, ◌≤◌, ◌++◌, drop, length}
 use Rattle.algo_tree.specs.Well.{fork_names}
-use Rattle.unroll_laws.specs.Unrolled.{copy_sources}
+use Rattle.factorisation_laws.specs.Unrolled.{copy_sources}
 use Rattle.factorisation.proofs.frontier.copy_ins.Given as goal
 
 abbrev pub invariant-loop-feed : goal.invariant-loop-feed

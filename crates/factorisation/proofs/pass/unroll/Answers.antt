@@ -4,13 +4,13 @@ use Rattle.algo_tree.specs.Valid.{IsTree}
 use Rattle.algo_tree.specs.View.{view}
 use Rattle.path_text.specs.Named.{HasNames}
 use Rattle.pass_laws.specs.SameMeaning.{KeepsMeaning}
-use Rattle.unroll_laws.specs.NoRepeat.{HasNoRepeat}
-use Rattle.unroll_laws.specs.Unrolled.{unroll as unrolled}
-use Rattle.unroll_laws.proofs.Unroll.{unroll_main-keeps}
-use Rattle.unroll_laws.proofs.Unrepeated.{no-unroll}
-use Rattle.unroll_laws.proofs.Names.{names-unroll}
-use Rattle.unroll_laws.proofs.Counting.{counted-unroll}
-use Rattle.unroll_laws.proofs.Trees.{tree-unroll}
+use Rattle.factorisation_laws.specs.NoRepeat.{HasNoRepeat}
+use Rattle.factorisation_laws.specs.Unrolled.{unroll as unrolled}
+use Rattle.factorisation_laws.proofs.Unroll.{unroll_main-keeps}
+use Rattle.factorisation_laws.proofs.Unrepeated.{no-unroll}
+use Rattle.factorisation_laws.proofs.Names.{names-unroll}
+use Rattle.factorisation_laws.proofs.Counting.{counted-unroll}
+use Rattle.factorisation_laws.proofs.Trees.{tree-unroll}
 use Rattle.factorisation.specs.Size.{size, vertices_made}
 use Rattle.factorisation.proofs.Sizes.{sized-unroll}
 use Rattle.factorisation.proofs.pass.unroll.Goals as goal

@@ -7,9 +7,9 @@ use Rattle.algo_tree.specs.View.{view, vertices_view}
 use Rattle.algo_tree.specs.Well.{IsWell}
 use Rattle.algo_tree.specs.declared.vertex.Vertex.{the_lemmas, out-Vertex}
 use Rattle.algo_tree.specs.declared.vertex.Kind.TheVariants.{Delay}
-use Rattle.inline_laws.specs.Inlined.{inlined, inlined_all}
-use Rattle.inline_laws.specs.Plain.{IsPlain}
-use Rattle.inline_laws.proofs.Inlinable.{can_inline}
+use Rattle.inlining_laws.specs.Inlined.{inlined, inlined_all}
+use Rattle.inlining_laws.specs.Plain.{IsPlain}
+use Rattle.inlining_laws.proofs.Inlinable.{can_inline}
 use Rattle.path_text.specs.Named.{IsNamed}
 use Rattle.hierarchy.specs.Built.{graph_of}
 use Rattle.hierarchy.specs.Linked.{AllLinked}

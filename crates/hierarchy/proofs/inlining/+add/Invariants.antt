@@ -2,7 +2,7 @@ use Rattle.std.proofs.Common.{◌≡◌, ◌+◌, drop, length}
 use Rattle.level_meaning.specs.Level.{Path}
 use Rattle.algo_tree.specs.Counted.{operations_in as count_all}
 use Rattle.algo_tree.specs.View.{vertices_view}
-use Rattle.inline_laws.specs.Inlined.{inlined_all}
+use Rattle.inlining_laws.specs.Inlined.{inlined_all}
 use Rattle.hierarchy.specs.Built.{graph_of}
 use Rattle.hierarchy.specs.Linked.{AllLinked}
 use Rattle.hierarchy.specs.Texts.{Prefixes}

@@ -1,6 +1,6 @@
 use Rattle.std.proofs.Common.{[], length, ap, sym, subst}
 use Rattle.algo_tree.proofs.Views.{view_out}
-use Rattle.inline_laws.specs.Inlined.{operations}
+use Rattle.inlining_laws.specs.Inlined.{operations}
 use Rattle.flat_graph.specs.Graph.{bodies_view}
 use Rattle.flat_laws.specs.Stands.{Stands}
 use Rattle.hierarchy.specs.Built.{graph_of}

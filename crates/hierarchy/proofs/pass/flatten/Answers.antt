@@ -1,8 +1,8 @@
 use Rattle.std.proofs.Common.{◌≡◌, length, sym, ap, ◌∙◌, subst}
-use Rattle.guard_laws.specs.Guarded.{guard as guarded}
-use Rattle.inline_laws.specs.Inlined.{operations}
+use Rattle.conditioning_laws.specs.Guarded.{guard as guarded}
+use Rattle.inlining_laws.specs.Inlined.{operations}
 use Rattle.path_text.specs.Named.{HasNames}
-use Rattle.unroll_laws.specs.Unrolled.{unroll as unrolled}
+use Rattle.factorisation_laws.specs.Unrolled.{unroll as unrolled}
 use Rattle.flat_laws.specs.Stands.{KeepsGraph, Stands}
 use Rattle.flat_laws.proofs.Exact.{exact}
 use Rattle.flat_laws.proofs.Flattened.{flattened-count, flattened-flat, flattened-keeps}

@@ -1,0 +1,90 @@
+-- From a tree without repetitions and cases to its operations. The operations of a graph are those of the vertices inside it, in
+-- order, and a graph itself is none: a source that is an input or an output of a graph is followed to the operation behind it.
+use Rattle.std.specs.Prelude.{ℕ, zero, suc, ◌+◌, List, [], ◌∷◌, ◌++◌, length, map, slice_index_or, slice_get, Option, Some, None}
+use Rattle.level_meaning.specs.declared.source.Source.{Source}
+use Rattle.level_meaning.specs.declared.source.Source.TheVariants.{Own, Of}
+use Rattle.level_meaning.specs.declared.source.Guard.{Guard}
+use Rattle.level_meaning.specs.Level.{Path}
+use Rattle.algo_tree.specs.Tree.{Label, Kind, delay, graph, Vertex, vertex, Vertices, no_vertices, and_vertex}
+use Rattle.algo_tree.specs.Meaning.{asked_by}
+use Rattle.algo_tree.specs.Counted.{operations as count}
+use Rattle.inlining_laws.specs.Flat.{Operation, Task, runs, gets, sets}
+
+-- A source that is not there. A level without own inputs gives the empty vector for it, as for any port out of range.
+abbrev pub nowhere : Source
+nowhere = Own 0
+
+-- The outputs of a vertex as sources of the flat list, from those at the inputs that it asks for.
+pub record Wiring : Type 0 where
+  pub asked : List Source
+  pub gives : List Source → ℕ → Source
+
+abbrev pub with_wiring : {A : Type 0} → Option Wiring → A → (Wiring → A) → A
+with_wiring None a f = a
+with_wiring (Some w) a f = f w
+
+-- where a source of a level leads, from where its own inputs and the outputs of its vertices lead
+abbrev pub wire_source : List Source → (ℕ → ℕ → Source) → Source → Source
+wire_source own given (Own k) = slice_index_or own k nowhere
+wire_source own given (Of r p) = given r p
+
+-- where output p of vertex r of a level leads, with this much fuel
+abbrev pub wire_out : List Wiring → List Source → ℕ → ℕ → ℕ → Source
+wire_out ws own zero r p = nowhere
+wire_out ws own (suc fuel) r p = with_wiring (slice_get ws r) nowhere (λ w. w.gives (map (wire_source own (wire_out ws own fuel)) w.asked) p)
+
+-- a source of a level as a source of the flat list, with as much fuel as the level has vertices
+abbrev pub wire : List Wiring → List Source → Source → Source
+wire ws own = wire_source own (wire_out ws own (length ws))
+
+-- Output p of a vertex whose first operation has number b. A graph passes on what its outputs are fed with.
+abbrev pub gives_by : ℕ → Kind → (ℕ → List Wiring) → List Source → ℕ → Source
+gives_by b (graph outs) inner own p = slice_index_or (map (wire (inner b) own) outs) p nowhere
+gives_by b k inner own p = Of b p
+
+abbrev mutual
+  pub wiring : ℕ → Vertex → Wiring
+  wiring b (vertex l us) = record { asked = asked_by l.kind l.ins; gives = gives_by b l.kind (λ c. wirings c us) }
+
+  -- the vertices of a level, whose first operation has number b
+  pub wirings : ℕ → Vertices → List Wiring
+  wirings b no_vertices = []
+  wirings b (and_vertex u us) = wiring b u ∷ wirings (b + count u) us
+
+abbrev pub wire_guard : (Source → Source) → Guard → Guard
+wire_guard w g = record { source = w g.source; values = g.values; case = g.case }
+
+-- an operation of a vertex, where the sources of its level lead as w says
+abbrev pub operation_of : (Source → Source) → Path → Label → List Source → List ℕ → Task → Operation
+operation_of w path l ins outs task = record {
+  path = path;
+  definition = l.definition;
+  ins = map w ins;
+  guards = map (wire_guard w) l.guards;
+  outs = outs;
+  task = task;
+}
+
+-- The operations of a vertex, of which the first has number b. `at` makes a path below its level one of the whole, and `inner` are
+-- the operations of the level inside it. A delay is its get half and then its set half.
+abbrev pub inlined_by : (Source → Source) → ℕ → (Path → Path) → Label → Kind → (List Source → ℕ → (Path → Path) → List Operation) → List Operation
+inlined_by w b at l (graph outs) inner = inner (map w l.ins) b (λ q. at (l.part ∷ q))
+inlined_by w b at l (delay vs) inner =
+    operation_of w (at (l.part ∷ [])) l [] l.outs (gets vs) ∷ operation_of w (at (l.part ∷ [])) l l.ins [] sets ∷ []
+inlined_by w b at l k inner = operation_of w (at (l.part ∷ [])) l l.ins l.outs (runs k) ∷ []
+
+abbrev mutual
+  pub inlined : (Source → Source) → ℕ → (Path → Path) → Vertex → List Operation
+  inlined w b at (vertex l us) = inlined_by w b at l l.kind (λ own c below. inlined_all (wire (wirings c us) own) c below us)
+
+  pub inlined_all : (Source → Source) → ℕ → (Path → Path) → Vertices → List Operation
+  inlined_all w b at no_vertices = []
+  inlined_all w b at (and_vertex u us) = inlined w b at u ++ inlined_all w (b + count u) at us
+
+-- the operations of a level, from where its own inputs lead
+abbrev pub inlined_level : List Source → ℕ → (Path → Path) → Vertices → List Operation
+inlined_level own b at us = inlined_all (wire (wirings b us) own) b at us
+
+-- the flat list of an algorithm without repetitions and cases
+abbrev pub operations : Vertex → List Operation
+operations (vertex l us) = inlined_level [] 0 (λ q. q) us

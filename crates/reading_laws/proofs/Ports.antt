@@ -1,0 +1,167 @@
+-- One port more, and one formula.
+use Rattle.std.proofs.Common.{◌≡◌, ℕ, suc, ◌+◌, ◌≤◌, not, ◌||◌, ◌==◌, true, false, nat_lt, nat_le, Option, Some, None, Ok, List, [], ◌∷◌, ◌++◌, length, map, take, drop, position, refl, arith, sym, ap, ◌∙◌, subst, append-nil, append_assoc, bytes_eq}
+use Rattle.std.proofs.lemmas.List.{map-append, length-append, length-map}
+use Rattle.std.proofs.lemmas.List.Elements.{All-nil, All-push}
+use Rattle.text_lines.specs.Text.{words_of}
+use Rattle.body_lang.specs.declared.expression.Port.{Port}
+use Rattle.body_lang.specs.Expr.{Expr, PortsBelow}
+use Rattle.body_text.specs.Tokens.{tokens}
+use Rattle.body_text.specs.Ports.{unknown, resolved}
+use Rattle.body_text.specs.Parse.{Parse, good, stops, parse, alone}
+use Rattle.body_text.proofs.CanonicalPorts.{known, numbers_below}
+use Rattle.algo_tree.specs.Typed.{IsLength}
+use Rattle.algo_tree.specs.Well.{IsNewName, AreDistinctNames}
+use Rattle.algo_defs.specs.declared.definition.Output.{Output}
+use Rattle.algo_defs.specs.Words.{Bytes}
+use Rattle.algo_defs.specs.Formulas.{known_by, read_by, formula_of}
+use Rattle.algo_defs.specs.Blocks.{Block, all_outer, and_then, is_taken, in_line, with_in, out_line, with_out, is_equals, result_words, result_at, result_line, with_result}
+use Rattle.algo_rules.specs.WellRead.{IsName, port_names, ArePorts, ports_in}
+use Rattle.reading_laws.proofs.Checks.{passed, held, read, never, neither, not_false, same_ok, at_most, port_read}
+use Rattle.reading_laws.proofs.Names.{new_beside, new_first, new_second, new_both, distinct_with}
+
+pub no_ports : ArePorts []
+no_ports = record { few = omega arith; named = All-nil (λ p. IsName p.name); sized = All-nil (λ p. IsLength p.len) }
+
+pub ports_with : (ps : List Port) (p : Port) → ArePorts ps → length ps ≤ 63 → IsName p.name → IsLength p.len → ArePorts (ps ++ p ∷ [])
+ports_with ps p h few named sized = record {
+  few = omega (arith, length-append ps (p ∷ []));
+  named = All-push (λ q. IsName q.name) ps p h.named named;
+  sized = All-push (λ q. IsLength q.len) ps p h.sized sized;
+}
+
+pub input_put : (ps : List Port) (p : Port) (ys : List Bytes) → port_names (ps ++ p ∷ []) ++ ys ≡ port_names ps ++ p.name ∷ ys
+input_put ps p ys = ap (λ (l : List Bytes). l ++ ys) (map-append (λ q. q.name) ps (p ∷ [])) ∙ append_assoc (port_names ps) (p.name ∷ []) ys
+
+pub output_put : (xs : List Bytes) (ps : List Port) (p : Port) → xs ++ port_names (ps ++ p ∷ []) ≡ (xs ++ port_names ps) ++ p.name ∷ []
+output_put xs ps p = ap (λ (l : List Bytes). xs ++ l) (map-append (λ q. q.name) ps (p ∷ [])) ∙ sym (append_assoc xs (port_names ps) (p.name ∷ []))
+
+-- a new name between others, or behind them
+pub put_between : (xs ys after : List Bytes) (w : Bytes) → after ≡ xs ++ w ∷ ys → IsNewName w xs → IsNewName w ys → AreDistinctNames (xs ++ ys) → AreDistinctNames after
+put_between xs ys after w is first second h = subst (λ (l : List Bytes). AreDistinctNames l) (sym is) (distinct_with w xs ys (new_both w xs ys first second) h)
+
+pub put_behind : (xs after : List Bytes) (w : Bytes) → after ≡ xs ++ w ∷ [] → IsNewName w xs → AreDistinctNames xs → AreDistinctNames after
+put_behind xs after w is new h = put_between xs [] after w is new tt (subst (λ (l : List Bytes). AreDistinctNames l) (sym (append-nil xs)) h)
+
+pub result_names : (rs : List Output) → map (λ o. o.port.name) rs ≡ port_names (ports_in rs)
+result_names [] = refl
+result_names (o ∷ rs) = ap (λ (l : List Bytes). o.port.name ∷ l) (result_names rs)
+
+-- a name that no port of the block has
+pub record IsFree (w : Bytes) (b : Block) : Type 0 where
+  pub on : bytes_eq w b.on ≡ false
+  pub ins : IsNewName w (port_names b.ins)
+  pub results : IsNewName w (port_names (ports_in b.results))
+  pub outs : IsNewName w (port_names b.outs)
+
+pub free : (w : Bytes) (b : Block) → is_taken b w ≡ false → IsFree w b
+free w b h =
+    let results : List Bytes = map (λ o. o.port.name) b.results in
+    let behind : List Bytes = port_names b.outs ++ all_outer b.frontier in
+    let all = new_beside w (b.on ∷ (port_names b.ins ++ (results ++ behind))) h in
+    let second = new_second w (port_names b.ins) (results ++ behind) all.1 in
+    record {
+      on = all.0;
+      ins = new_first w (port_names b.ins) (results ++ behind) all.1;
+      results = subst (λ (l : List Bytes). IsNewName w l) (result_names b.results) (new_first w results behind second);
+      outs = new_first w (port_names b.outs) (all_outer b.frontier) (new_second w results behind second);
+    }
+
+-- An accepted line of an input.
+pub record InAdded (part : ℕ) (b after : Block) : Type 0 where
+  pub port : Port
+  pub at : (b.part == part) ≡ true
+  pub named : IsName port.name
+  pub sized : IsLength port.len
+  pub few : length b.ins ≤ 63
+  pub new : IsFree port.name b
+  pub is : record b { ins = b.ins ++ port ∷ [] } ≡ after
+
+pub in_added : (part : ℕ) (b : Block) (n : ℕ) (ws : List Bytes) (after : Block) → in_line part b n ws ≡ Ok after → InAdded part b after
+in_added part b n ws after h =
+    let form = passed (not (length ws == 3) || not (b.part == part)) _ _ after h in
+    let p = port_read n (length b.ins) ws (with_in b n) after form.1 in
+    let last = passed (is_taken b p.port.name) _ _ after p.then in
+    record {
+      port = p.port;
+      at = not_false (b.part == part) (neither (not (length ws == 3)) (not (b.part == part)) form.0).1;
+      named = p.named;
+      sized = p.sized;
+      few = p.few;
+      new = free p.port.name b last.0;
+      is = same_ok _ after last.1;
+    }
+
+-- An accepted line of an output of a graph or a switch.
+pub record OutAdded (least part : ℕ) (b after : Block) : Type 0 where
+  pub port : Port
+  pub low : least ≤ b.part
+  pub named : IsName port.name
+  pub sized : IsLength port.len
+  pub few : length b.outs ≤ 63
+  pub new : IsFree port.name b
+  pub is : record b { part = part; outs = b.outs ++ port ∷ [] } ≡ after
+
+pub out_added : (least part : ℕ) (b : Block) (n : ℕ) (ws : List Bytes) (after : Block) → out_line least part b n ws ≡ Ok after → OutAdded least part b after
+out_added least part b n ws after h =
+    let form = passed (not (length ws == 3) || nat_lt b.part least || nat_lt part b.part) _ _ after h in
+    let below = neither (not (length ws == 3) || nat_lt b.part least) (nat_lt part b.part) form.0 in
+    let p = port_read n (length b.outs) ws (with_out part b n) after form.1 in
+    let last = passed (is_taken b p.port.name) _ _ after p.then in
+    record {
+      port = p.port;
+      low = at_most b.part least (neither (not (length ws == 3)) (nat_lt b.part least) below.0).1;
+      named = p.named;
+      sized = p.sized;
+      few = p.few;
+      new = free p.port.name b last.0;
+      is = same_ok _ after last.1;
+    }
+
+-- a formula names ports that there are
+module _ (n : ℕ) (ports : List Bytes) (text : Bytes) (e : Expr) where
+  known_below : (o : Option ℕ) (of : Expr) → known_by n ports text o of ≡ Ok e → (o ≡ None → PortsBelow (length ports) of) → PortsBelow (length ports) e
+  known_below None of h below = subst (λ (x : Expr). PortsBelow (length ports) x) (same_ok of e h) (below refl)
+  known_below (Some i) of h below = never _ e h
+
+  read_below : (p : Parse) → read_by n ports text p ≡ Ok e → PortsBelow (length ports) e
+  read_below (good w rest) h = known_below (unknown ports w) (resolved ports w) h (λ none. numbers_below ports w (known ports w none))
+  read_below (stops rest) h = never _ e h
+
+  formula_below : formula_of n ports text ≡ Ok e → PortsBelow (length ports) e
+  formula_below h = read_below (alone (parse (suc (length (tokens text))) (tokens text))) (held (nat_le (length (tokens text)) 512) _ _ e h).1
+
+-- An accepted line of an output of a function.
+pub record ResultAdded (b after : Block) : Type 0 where
+  pub port : Port
+  pub formula : Expr
+  pub named : IsName port.name
+  pub sized : IsLength port.len
+  pub few : length b.results ≤ 63
+  pub new : IsFree port.name b
+  pub below : PortsBelow (length b.ins) formula
+  pub is : record b { part = 1; results = b.results ++ record { port = port; formula = formula } ∷ [] } ≡ after
+
+words_added : (b : Block) (n : ℕ) (ws : List Bytes) (text : Bytes) (after : Block) → result_words b n ws text ≡ Ok after → ResultAdded b after
+words_added b n ws text after h =
+    let names : List Bytes = map (λ i. i.name) b.ins in
+    let form = passed (not (length ws == 3) || nat_lt 1 b.part) _ _ after h in
+    let p = port_read n (length b.results) ws (λ q. and_then (formula_of n names text) (with_result b n q)) after form.1 in
+    let body = read (formula_of n names text) (with_result b n p.port) after p.then in
+    let last = passed (is_taken b p.port.name) _ _ after body.2 in
+    record {
+      port = p.port;
+      formula = body.0;
+      named = p.named;
+      sized = p.sized;
+      few = p.few;
+      new = free p.port.name b last.0;
+      below = subst (λ (m : ℕ). PortsBelow m body.0) (length-map b.ins (λ i. i.name)) (formula_below n names text body.0 body.1);
+      is = same_ok _ after last.1;
+    }
+
+at_added : (b : Block) (n : ℕ) (code : Bytes) (o : Option ℕ) (after : Block) → result_at b n code o ≡ Ok after → ResultAdded b after
+at_added b n code None after h = never _ after h
+at_added b n code (Some at) after h = words_added b n (words_of (take at code)) (drop (at + 1) code) after h
+
+pub result_added : (b : Block) (n : ℕ) (code : Bytes) (after : Block) → result_line b n code ≡ Ok after → ResultAdded b after
+result_added b n code after h = at_added b n code (position is_equals code) after h
