@@ -8,8 +8,9 @@ use Rattle.algo_defs.specs.declared.definition.Body.{Body}
 use Rattle.algo_defs.specs.declared.definition.Body.TheVariants.{Sensor, Actuator, Constant, Delay, Function, Graph, Switch, Repeat}
 use Rattle.algo_defs.specs.declared.fault.AlgoError.{AlgoError}
 use Rattle.algo_defs.specs.declared.fault.AlgoCause.TheVariants.{NotText, BadLine, BadNumber, DuplicateName}
-use Rattle.algo_defs.specs.Words.{Bytes, word, is_among, number_of, count_of}
-use Rattle.algo_defs.specs.Blocks.{Block, new_block, refused, above, with_some, and_then, all_names, in_line, out_line, result_line, reference_line, edge_line, on_line, case_line, otherwise_line, fork_line, diffuse_line, iterate_line, join_line}
+use Rattle.algo_defs.specs.Words.{Bytes, is_among}
+use Rattle.algo_text.specs.Words.{word, number_of, count_of}
+use Rattle.algo_text.specs.Blocks.{Block, new_block, refused, above, with_some, and_then, all_names, in_line, out_line, result_line, reference_line, edge_line, on_line, case_line, otherwise_line, fork_line, diffuse_line, iterate_line, join_line}
 
 -- where a line stands
 pub data Stage : Type 0 where

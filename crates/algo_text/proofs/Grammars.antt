@@ -15,8 +15,8 @@ use Rattle.body_text.proofs.Failures.{parse_fails}
 use Rattle.body_text.proofs.Judged.{is_written, fails_at, one_place, fails_is_none}
 use Rattle.algo_defs.specs.declared.fault.AlgoCause.TheVariants.{BadExpression}
 use Rattle.algo_defs.specs.Words.{Bytes}
-use Rattle.algo_defs.specs.Blocks.{refused}
-use Rattle.algo_defs.specs.Formulas.{known_by, read_by, formula_of}
+use Rattle.algo_text.specs.Blocks.{refused}
+use Rattle.algo_text.specs.Formulas.{known_by, read_by, formula_of}
 
 few_shape : {A : Type 0} (m : ℕ) (x y : A) → m ≤ 512 → cond (nat_le m 512) x y ≡ x
 few_shape m x y h = let e : nat_le m 512 ≡ true = grind arith in rw e refl
@@ -50,7 +50,7 @@ suffix n ts rest (stops r) e h short =
     let f = parse_fails n ts rest (e ∙ h) short in
     record { pre = f.pre; is = f.is }
 
-stopped_there : (n : ℕ) (ts rest : List Token) → alone (parse n ts) ≡ stops rest → length ts < n → FailsAt ts (length ts - length rest)
+pub stopped_there : (n : ℕ) (ts rest : List Token) → alone (parse n ts) ≡ stops rest → length ts < n → FailsAt ts (length ts - length rest)
 stopped_there n ts rest h short =
     let s : Suffix ts rest = suffix n ts rest (parse n ts) refl h short in
     let size : length ts - length rest ≡ length s.pre = omega (arith, ap length s.is, length-append s.pre rest) in

@@ -1,10 +1,9 @@
 -- What the text of an expression gives a line: the expression over these ports, or the line's refusal.
-use Rattle.std.specs.Prelude.{ℕ, suc, nat_le, List, [], ◌∷◌, map, length, Option, Some, None, Result, Ok, Err, slice_get, if◌then◌else◌, ◌-◌}
+use Rattle.std.specs.Prelude.{ℕ, suc, nat_le, List, [], length, Option, Some, None, Result, Ok, Err, slice_get, if◌then◌else◌, ◌-◌}
 use Rattle.syn_base.specs.declared.limits.LimitKind.TheVariants.{Tokens}
 use Rattle.syn_base.specs.Limits.{bound_of}
 use Rattle.body_lang.specs.Expr.{Expr}
 use Rattle.body_text.specs.Tokens.{Token, tokens, name}
-use Rattle.body_text.specs.Grammar.{Written}
 use Rattle.body_text.specs.Ports.{unknown, resolved}
 use Rattle.body_text.specs.Parse.{Parse, good, stops, parse, alone}
 use Rattle.body_text.specs.Reads.{place_of}

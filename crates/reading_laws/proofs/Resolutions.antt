@@ -10,8 +10,8 @@ use Rattle.algo_defs.specs.declared.fault.AlgoError.TheVariants.{Limit}
 use Rattle.algo_defs.specs.declared.fault.AlgoCause.TheVariants.{UnknownName, WrongLength, Unconnected, TwiceConnected, Recursive, Cycle, NoMain, BadCase, Misplaced, BadRepeat}
 use Rattle.syn_base.specs.declared.limits.LimitKind.TheVariants.{PortLength, Depth}
 use Rattle.algo_defs.specs.Words.{Bytes}
-use Rattle.algo_defs.specs.Blocks.{refused, and_then}
-use Rattle.algo_defs.specs.Text.{definitions_of}
+use Rattle.algo_text.specs.Blocks.{refused, and_then}
+use Rattle.algo_text.specs.Text.{definitions_of}
 use Rattle.algo_rules.specs.Resolved.{resolution_of, vertex}
 
 abbrev text : List Bytes → Bytes

@@ -1,19 +1,18 @@
 -- What worked texts say.
-use Rattle.std.proofs.Common.{◌≡◌, ℕ, refl, List, [], ◌∷◌, ◌++◌, ℤ, pos, negsuc, Some, None, Result, Ok, Err, codes}
+use Rattle.std.proofs.Common.{◌≡◌, refl, List, [], ◌∷◌, ◌++◌, pos, negsuc, Some, Result, Ok, Err, codes}
 use Rattle.syn_base.specs.declared.arithmetic.Op.TheVariants.{Add}
 use Rattle.syn_base.specs.declared.limits.LimitKind.TheVariants.{PortLength, Copies}
 use Rattle.body_lang.specs.Expr.{literal, element, apply}
 use Rattle.body_text.specs.Words.{form_of}
 use Rattle.algo_defs.specs.declared.definition.Def.{Def}
-use Rattle.algo_defs.specs.declared.definition.Body.{Body}
 use Rattle.algo_defs.specs.declared.definition.Body.TheVariants.{Sensor, Actuator, Constant, Delay, Function, Graph, Switch, Repeat}
 use Rattle.algo_defs.specs.declared.definition.Frontier.TheVariants.{Fork, Diffuse, Iterate, Join}
 use Rattle.algo_defs.specs.declared.fault.AlgoError.{AlgoError}
 use Rattle.algo_defs.specs.declared.fault.AlgoError.TheVariants.{Limit}
 use Rattle.algo_defs.specs.declared.fault.AlgoCause.TheVariants.{NotText, BadLine, BadName, BadNumber, BadExpression, DuplicateName, UnknownName}
 use Rattle.algo_defs.specs.Words.{Bytes}
-use Rattle.algo_defs.specs.Blocks.{refused}
-use Rattle.algo_defs.specs.Text.{definitions_of}
+use Rattle.algo_text.specs.Blocks.{refused}
+use Rattle.algo_text.specs.Text.{definitions_of}
 
 abbrev text : List Bytes → Bytes
 text [] = []

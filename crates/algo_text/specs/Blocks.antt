@@ -1,5 +1,5 @@
 -- What the lines of a block say, each kind of line by itself: the block with it, or the line's first refusal. The checks of a line stand in their order: its form, names, numbers, limits, the expression, names given before.
-use Rattle.std.specs.Prelude.{ℕ, ◌+◌, Bool, not, ◌==◌, ◌||◌, nat_lt, List, [], ◌∷◌, ◌++◌, length, map, position, take, drop, Option, Some, None, Result, Ok, Err, if◌then◌else◌, codes, ℤ, pos}
+use Rattle.std.specs.Prelude.{ℕ, ◌+◌, Bool, not, ◌==◌, ◌||◌, nat_lt, List, [], ◌∷◌, ◌++◌, length, map, position, take, drop, Option, Some, None, Result, Ok, Err, if◌then◌else◌}
 use Rattle.text_lines.specs.Text.{words_of}
 use Rattle.syn_base.specs.Name.{is_name}
 use Rattle.syn_base.specs.Limits.{bound_of}
@@ -18,8 +18,10 @@ use Rattle.algo_defs.specs.declared.fault.AlgoError.{AlgoError}
 use Rattle.algo_defs.specs.declared.fault.AlgoError.TheVariants.{Refused, Limit}
 use Rattle.algo_defs.specs.declared.fault.AlgoCause.{AlgoCause}
 use Rattle.algo_defs.specs.declared.fault.AlgoCause.TheVariants.{BadLine, BadName, BadNumber, DuplicateName}
-use Rattle.algo_defs.specs.Words.{Bytes, word, is_among, number_of, count_of, end_of}
-use Rattle.algo_defs.specs.Formulas.{formula_of}
+use Rattle.algo_defs.specs.Words.{Bytes, is_among}
+use Rattle.algo_defs.specs.Outer.{outer_names, all_outer}
+use Rattle.algo_text.specs.Words.{word, number_of, count_of, end_of}
+use Rattle.algo_text.specs.Formulas.{formula_of}
 
 -- The open block, with all that any kind of block may have. `part` is the kind of its last line: lines of a lower kind may not follow.
 pub record Block : Type 0 where
@@ -60,17 +62,6 @@ with_some None missing go = missing
 abbrev pub and_then : {A B : Type 0} → Result A AlgoError → (A → Result B AlgoError) → Result B AlgoError
 and_then (Ok x) go = go x
 and_then (Err e) go = Err e
-
--- names of inner ports may repeat; a repetition's outer names stand together
-abbrev pub outer_names : Frontier → List Bytes
-outer_names (Fork p x) = p ∷ []
-outer_names (Diffuse p x) = p ∷ []
-outer_names (Iterate p x y q) = p ∷ q ∷ []
-outer_names (Join y q) = q ∷ []
-
-abbrev pub all_outer : List FrontierLine → List Bytes
-all_outer [] = []
-all_outer (l ∷ ls) = outer_names l.frontier ++ all_outer ls
 
 -- the names that ports of the block have: `on`, inputs, outputs and outer names together
 abbrev pub port_names : Block → List Bytes
