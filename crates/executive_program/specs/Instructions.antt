@@ -91,6 +91,10 @@ module _ (p : Program) where
   abbrev pub readers : List Reader
   readers = blocks (readers_from 0 p.seqs) (length p.buffers)
 
+  -- a pair guards buffer b: some sequence reads it and does not write it
+  abbrev pub is_guarded : ℕ → Bool
+  is_guarded b = list_any (waits_for b) p.seqs
+
   -- how many places the buffer of pair q has: that of entry q of the readers, and 1 beyond them
   abbrev pub depth_at : Option Reader → ℕ
   depth_at None = 1

@@ -1,5 +1,5 @@
 -- The micro-steps of a program with what each does beside: where the element lies that it loads or stores, and what it does with the registers.
-use Rattle.std.specs.Prelude.{◌≡◌, ℕ, ◌+◌, ◌-◌, ◌*◌, true, false, cond, nat_eq, nat_lt, List, [], ◌∷◌, ◌++◌, length, Option, Some, None, slice_get, take as take_list}
+use Rattle.std.specs.Prelude.{ℕ, ◌+◌, ◌-◌, ◌*◌, true, false, cond, nat_eq, nat_lt, List, [], ◌∷◌, ◌++◌, length, Option, Some, None, slice_get, take as take_list}
 use Rattle.std.specs.List.{count_by}
 use Rattle.interleavings.specs.Owners.{sum_below}
 use Rattle.consistent_cuts.specs.Sites.{Code}
@@ -15,7 +15,7 @@ use Rattle.executive_program.specs.declared.steps.OnStore.TheVariants.{Give, Car
 use Rattle.executive_program.specs.declared.steps.MicroStep.{MicroStep}
 use Rattle.executive_program.specs.declared.steps.MicroStep.TheVariants.{Take, See, Lower, Signal, Await, Advance, Load, Store}
 use Rattle.executive_program.specs.Blocks.{blocks}
-use Rattle.executive_program.specs.Instructions.{is_communication, number_or, len_of, depth_of, pair_depth}
+use Rattle.executive_program.specs.Instructions.{is_communication, number_or, len_of, pair_depth}
 
 -- a take of semaphore x, where the pair's buffer has so many places
 abbrev pub take_steps : ℕ → ℕ → List MicroStep
@@ -113,7 +113,3 @@ module _ (p : Program) where
 
   abbrev pub all_turns : ℕ
   all_turns = sum_below (λ s. length (steps s).turn) (length p.seqs)
-
--- for now every buffer has one place
-abbrev pub IsSingle : Program → Type 0
-IsSingle p = (b : ℕ) → depth_of p b ≡ 1

@@ -1,5 +1,5 @@
 -- A program is well formed for a flat graph and an architecture by a serial order of one reaction. The order names at each place a sequence, whose next instruction stands there.
-use Rattle.std.specs.Prelude.{◌≡◌, ◌≢◌, ℕ, zero, suc, ◌+◌, ◌<◌, ◌⊎◌, true, cond, nat_eq, List, [], ◌∷◌, ◌++◌, map, length, Option, Some, None, slice_get, ℤ}
+use Rattle.std.specs.Prelude.{◌≡◌, ◌≢◌, ℕ, zero, suc, ◌+◌, ◌<◌, ◌≤◌, ◌⊎◌, true, false, cond, nat_eq, List, [], ◌∷◌, ◌++◌, map, length, Option, Some, None, slice_get, ℤ}
 use Rattle.std.specs.List.{count_by}
 use Rattle.flat_graph.specs.declared.vertex.Source.{Source}
 use Rattle.flat_graph.specs.declared.vertex.Vertex.{Vertex}
@@ -10,7 +10,7 @@ use Rattle.executive_program.specs.declared.program.Instr.{Instr}
 use Rattle.executive_program.specs.declared.program.Instr.TheVariants.{Suc0, Suc1, Pre0, Pre1, Call, Send, Recv, Sync}
 use Rattle.executive_program.specs.declared.program.Buffer.{Buffer}
 use Rattle.executive_program.specs.declared.program.Program.{Program}
-use Rattle.executive_program.specs.Instructions.{is_communication, turn, prologue, medium, operator, len_of, depth_of, communications, readers, Reader}
+use Rattle.executive_program.specs.Instructions.{is_communication, turn, prologue, medium, operator, len_of, depth_of, is_guarded, communications, readers, Reader}
 use Rattle.executive_program.specs.MicroSteps.{transfers}
 use Rattle.executive_program.specs.Places.{Places, places, opening_of, carried}
 
@@ -76,7 +76,7 @@ module _ (p : Program) where
       pub lengths : (s : ℕ) → s < length p.seqs → count_by (λ t. nat_eq t s) order ≡ length (turn p s)
 
     module _ (w : Places) where
-      -- Buffer b is written once, and touched on its own operator alone; where it is written and read in one sequence, it is written first.
+      -- Buffer b is written once, and touched on its own operator alone; where it is written and read in one sequence, it is written first. It has one to four places, and one where no pair guards it.
       pub record IsBuffer (b : ℕ) : Type 0 where
         pub instr : Instr
         pub stands : Stands (w.writing b).writer (w.writing b).at instr
@@ -84,8 +84,9 @@ module _ (p : Program) where
         pub only : (s a k : ℕ) (x : Instr) → Stands s a x → WritesAt x k b → (s ≡ (w.writing b).writer) × (a ≡ (w.writing b).at) × (k ≡ (w.writing b).port)
         pub near : (s a k : ℕ) (x : Instr) → Stands s a x → WritesAt x k b ⊎ ReadsAt x k b → operator_is (slice_get p.buffers b) (operator p s)
         pub own_reads : (a k : ℕ) (x : Instr) → Stands (w.writing b).writer a x → ReadsAt x k b → (w.writing b).at < a
-        -- for now
-        pub one_place : depth_of p b ≡ 1
+        pub some_place : 1 ≤ depth_of p b
+        pub few_places : depth_of p b ≤ 4
+        pub one_place : is_guarded p b ≡ false → depth_of p b ≡ 1
 
       abbrev pub writer_of : ℕ → ℕ
       writer_of q = (w.writing (w.pair q).buffer).writer

@@ -1,11 +1,13 @@
 //! The micro-steps of a program's sequences, laid out so that each is found by its number.
-ghost use Rattle.std.specs.Prelude.{count_by, ◌≡◌, ◌+◌, ◌*◌, ◌^◌, ◌<◌, ◌≤◌, ◌++◌, ◌∷◌, cond, [], true, length, IfOk, OnOk, slice_get, Some, vec_len};
+ghost use Rattle.std.specs.Prelude.{count_by, ◌≡◌, ◌+◌, ◌*◌, ◌^◌, ◌<◌, ◌≤◌, ◌++◌, ◌∷◌, cond, [], true, length, IfOk, OnOk, slice_get, slice_index_or, Some, vec_len};
 ghost use Rattle.executive_program.specs.Blocks.{blocks};
 ghost use Rattle.executive_program.specs.Expanded.{AreSteps};
+ghost use Rattle.executive_program.specs.Sizes.{pair_depths};
 ghost use Rattle.executive_program.specs.Instructions.{len_of, is_communication};
-ghost use Rattle.executive_program.specs.Steps.{elements_in, on_load, on_store, load_step, store_step, input_steps, output_steps, send_step, receive_step, call_steps, steps_of, steps_in_list, IsSingle};
+ghost use Rattle.executive_program.specs.Steps.{elements_in, on_load, on_store, load_step, store_step, input_steps, output_steps, send_step, receive_step, call_steps, steps_of, steps_in_list, take_steps};
 ghost use Rattle.executive_program.specs.declared.steps.MicroStep.TheVariants.{Await, Advance};
 
+use crate::pairs::pair_depths;
 use crate::program::{Instr, Program};
 use crate::steps::{MicroStep, OnLoad, OnStore, Place};
 use std::alloc::Global;
@@ -256,20 +258,43 @@ impl Standing {
     }
 }
 
+/// The places of the buffer of a pair, by the table of all pairs. A pair beyond it counts as one whose buffer
+/// has one place.
+pub fn depth_at(depths: &[u32], pair: u32) -> u32
+    ensures { result ≡ slice_index_or depths.now pair 1 }
+{
+    let pair = pair as usize;
+    if pair < depths.len() { depths[pair] } else { 1 }
+}
+
+/// Adds the take of a semaphore of a pair whose buffer has so many places.
+fn push_take(out: &mut Vec<MicroStep>, semaphore: u64, depth: u32) -> Result<(), OutOfMemory>
+    ensures { OnOk result (out.new.items ≡ out.old.items ++ take_steps depth semaphore) }
+{
+    if depth == 1 {
+        out.push(MicroStep::Take(semaphore))?;
+    } else {
+        out.push(MicroStep::See(semaphore))?;
+        out.push(MicroStep::Lower(semaphore))?;
+    }
+    Ok(())
+}
+
 /// Adds the micro-steps of an instruction.
 fn push_instr(
     out: &mut Vec<MicroStep>,
     program: &Program,
+    depths: &[u32],
     at: Standing,
     instr: &Instr,
 ) -> Result<(), OutOfMemory>
-    requires single { IsSingle program.now }
+    requires depths { depths.now ≡ pair_depths program.now }
     requires fits { (2 * at.communications < 2 ^ 64) × (2 * at.before + 2 < 2 ^ 64) }
     ensures { OnOk result (out.new.items ≡ out.old.items ++ steps_of program.now at.medium at.communications at.before instr.now) }
 {
     match instr {
-        Instr::Suc0(pair) => out.push(MicroStep::Take(2 * *pair as u64))?,
-        Instr::Suc1(pair) => out.push(MicroStep::Take(2 * *pair as u64 + 1))?,
+        Instr::Suc0(pair) => push_take(out, 2 * *pair as u64, depth_at(depths, *pair))?,
+        Instr::Suc1(pair) => push_take(out, 2 * *pair as u64 + 1, depth_at(depths, *pair))?,
         Instr::Pre0(pair) => out.push(MicroStep::Signal(2 * *pair as u64))?,
         Instr::Pre1(pair) => out.push(MicroStep::Signal(2 * *pair as u64 + 1))?,
         Instr::Call { vertex, ins, outs } => push_call(
@@ -344,10 +369,11 @@ fn count_communications(list: &[Instr]) -> usize
 fn expand_list(
     alloc: Global,
     program: &Program,
+    depths: &[u32],
     medium: u32,
     list: &[Instr],
 ) -> Result<Items<MicroStep>, OutOfMemory>
-    requires { IsSingle program.now }
+    requires { depths.now ≡ pair_depths program.now }
     ensures { IfOk result (λ steps. steps ≡ steps_in_list program.now medium list.now) }
 {
     let mut out = Vec::new(alloc);
@@ -357,7 +383,7 @@ fn expand_list(
         before: 0,
     };
     for instr in list {
-        push_instr(&mut out, program, at, instr)?;
+        push_instr(&mut out, program, depths, at, instr)?;
         at.before += communications(instr);
     }
     Ok(Items::new(out))
@@ -365,14 +391,14 @@ fn expand_list(
 
 /// The micro-steps of each sequence of a program.
 pub fn micro_steps_of(alloc: Global, program: &Program) -> Result<Vec<SeqSteps>, OutOfMemory>
-    requires { IsSingle program.now }
     ensures { IfOk result (λ steps. AreSteps program.now steps.items) }
 {
+    let depths = pair_depths(alloc, program)?;
     let mut all = Vec::new(alloc);
     for code in program.seqs.as_slice() {
         let medium = code.seq.medium.unwrap_or(0);
-        let prologue = expand_list(alloc, program, medium, code.prologue.as_slice())?;
-        let turn = expand_list(alloc, program, medium, code.turn.as_slice())?;
+        let prologue = expand_list(alloc, program, &depths, medium, code.prologue.as_slice())?;
+        let turn = expand_list(alloc, program, &depths, medium, code.turn.as_slice())?;
         all.push(SeqSteps { prologue, turn })?;
     }
     Ok(all)
