@@ -164,6 +164,9 @@ module _ (copies : ℕ) (inner own : Ports) where
       → length (fork_names (map (λ p. fed ls p.name) inner.ins)) + length (join_names (gives ls)) ≡ sum_by is_fork ls
   line_count ls fit fresh distinct = ap (λ (m : ℕ). m + length (join_names (gives ls))) (fork_count (map (λ p. fed ls p.name) inner.ins) ∙ summed ls inner.ins) ∙ all_lines [] ls fit fresh distinct
 
+pub arranged : (f c j t : ℕ) → f + j ≡ t → (f + c) + j ≡ c + t
+arranged f c j t h = omega (arith, h)
+
 abbrev MakesCounted : Making → (Bytes → ℕ) → Type 0
 MakesCounted make count = (part : Part) (w : Bytes) (ins : List Source) (s a : ℕ) → counted.operations (make part w ins s a) ≡ count w
 
@@ -186,9 +189,6 @@ module _ (ds : List Def) (make : Making) (count : Bytes → ℕ) (ih : MakesCoun
   as_many_names [] = refl
   as_many_names (p ∷ ps) = ap suc (as_many_names ps)
 
-  arranged : (f c j t : ℕ) → f + j ≡ t → (f + c) + j ≡ c + t
-  arranged f c j t h = omega (arith, h)
-
   body_counted : Accepted ds → (own : Ports) (s a line : ℕ) (b : Body) → body_fault ds line b ≡ None → Each (λ m. AreDistinctNames (port_names (ports_of ds m.def).ins)) (mentions_in line b)
       → counted.operations_by (kind_by ds make own s a b) (counted.operations_in (vertices_of (inner_by ds make b))) ≡ count_by count b
   body_counted acc own s a line (Sensor len) none h = refl
@@ -208,7 +208,7 @@ module _ (ds : List Def) (make : Making) (count : Bytes → ℕ) (ih : MakesCoun
       ap (λ (m : ℕ). (length (fork_names feeds) + copies * m) + length (join_names gives)) inner
       ∙ arranged (length (fork_names feeds)) (copies * count def) (length (join_names gives)) (sum_by is_fork lines) (line_count copies body own lines fits.lines fits.fresh h.0)
 
-all_distinct : (ds : List Def) → Accepted ds → (n : ℕ) (ms : List Mention) → Each (λ m. IsLower ds n m.def) ms → Each (λ m. AreDistinctNames (port_names (ports_of ds m.def).ins)) ms
+pub all_distinct : (ds : List Def) → Accepted ds → (n : ℕ) (ms : List Mention) → Each (λ m. IsLower ds n m.def) ms → Each (λ m. AreDistinctNames (port_names (ports_of ds m.def).ins)) ms
 all_distinct ds acc n [] h = tt
 all_distinct ds acc n (m ∷ ms) h = ((fine ds acc m.def h.0.0.0 h.0.0.1).distinct, all_distinct ds acc n ms h.1)
 

@@ -18,6 +18,7 @@ pub mod Typing
 pub mod LineNames
 pub mod Wellness
 pub mod Counting
+pub mod Sizing
 pub mod Trees
 pub mod Bounds
 pub mod Names

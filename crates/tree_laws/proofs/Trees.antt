@@ -16,13 +16,14 @@ use Rattle.algo_rules.specs.Links.{definition}
 use Rattle.algo_rules.specs.Ports.{ports_of, ports_by, lens_of}
 use Rattle.algo_rules.specs.declared.ports.Ports.{Ports}
 use Rattle.algo_rules.specs.Resolved.{Making, vertex_within, vertex_by, kind_by, is_portless, is_main_graph, operations, tree_of}
-use Rattle.tree_laws.specs.Central.{AcceptedMakeATree, OperationsAreCounted}
+use Rattle.tree_laws.specs.Central.{AcceptedMakeATree, OperationsAreCounted, VerticesAreCounted}
 use Rattle.tree_laws.proofs.Numbered.{IsGraphOf}
 use Rattle.tree_laws.proofs.Refused.{has_none, main_is_graph, stand_in_main, are_numbered}
 use Rattle.tree_laws.proofs.Accepted.{accepted, own_ports}
 use Rattle.tree_laws.proofs.Typing.{typed}
 use Rattle.tree_laws.proofs.Wellness.{well}
 use Rattle.tree_laws.proofs.Counting.{counted_within}
+use Rattle.tree_laws.proofs.Sizing.{made_to}
 use Rattle.algo_defs.specs.Words.{Bytes}
 use Rattle.algo_tree.specs.Tree.{graph}
 
@@ -68,6 +69,9 @@ portless_by ds make (Some d) h = record { kind = kind_is ds make (ports_of ds ma
 few_by : (n : ℕ) (b : Bool) → nat_lt 2048 n ≡ b → (if b then Some (Limit (record { which = Operations; count = n; bound = bound_of Operations })) else None) ≡ None → n ≤ 2048
 few_by n true e h = cc
 few_by n false e h = ltb-false 2048 n e
+
+pub vertices_counted : VerticesAreCounted
+vertices_counted ds read no_refusal = made_to ds (accepted ds read (has_none ds no_refusal)) 8 (Named main) main [] 0 0
 
 pub are_counted : OperationsAreCounted
 are_counted ds read no_refusal = counted_within ds (accepted ds read (has_none ds no_refusal)) 8 (Named main) main [] 0 0

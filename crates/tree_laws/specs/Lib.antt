@@ -1,2 +1,3 @@
+pub mod Sizes
 pub mod Central
 pub mod Depths

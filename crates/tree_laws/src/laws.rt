@@ -1,5 +1,5 @@
 //! Laws of resolving, each the contract of a function that does nothing.
-ghost use Rattle.tree_laws.specs.Central.{AcceptedHaveBounds, AcceptedHaveNames, AcceptedMakeATree, OperationsAreCounted};
+ghost use Rattle.tree_laws.specs.Central.{AcceptedHaveBounds, AcceptedHaveNames, AcceptedMakeATree, OperationsAreCounted, VerticesAreCounted};
 ghost use Rattle.tree_laws.specs.Depths.{NamedAreLessDeep, PortsFollowFromBodies};
 
 /// Definitions as an accepted text has them, that have no refusal, resolve to a valid tree: well formed,
@@ -25,6 +25,12 @@ pub fn accepted_have_names()
 /// definitions alone.
 pub fn operations_are_counted()
     ensures { OperationsAreCounted }
+{}
+
+/// The tree of such definitions is made of as many vertices, each copy of the body of a repetition
+/// counted, as are counted for `main` from the definitions alone.
+pub fn vertices_are_counted()
+    ensures { VerticesAreCounted }
 {}
 
 /// Where every name is known and no definition reaches itself, each definition that a definition names
