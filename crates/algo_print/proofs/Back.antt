@@ -10,10 +10,10 @@ use Rattle.algo_defs.specs.Words.{Bytes}
 use Rattle.algo_text.specs.Words.{word}
 use Rattle.algo_text.specs.Blocks.{Block, and_then}
 use Rattle.algo_text.specs.Text.{Stage, before_version, between, in_function, in_graph, in_switch, in_repeat, Reading, start, begins, version_line, by_stage, line_by, next_line, at_end, rest_of, definitions_of}
+use Rattle.algo_text.proofs.Checks.{never, passed, read, same_ok}
 use Rattle.algo_print.specs.Canonical.{joined, version_words, canonical_text, IsPrintable, ArePrintable}
 use Rattle.algo_print.specs.ReadBack.{Says}
 use Rattle.algo_print.proofs.Pieces.{are_words, all_words, and_true, both, text_back}
-use Rattle.algo_print.proofs.Checks.{passed, read, never, same_ok}
 use Rattle.algo_print.proofs.State.{Lines, lines_at, Numbered, numbered, AreSame, Adds, IsOrdered, next_words}
 use Rattle.algo_print.proofs.Between.{between_step}
 use Rattle.algo_print.proofs.Functions.{function_step}

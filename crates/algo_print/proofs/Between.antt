@@ -12,12 +12,15 @@ use Rattle.algo_defs.specs.Words.{Bytes, is_among}
 use Rattle.algo_text.specs.Words.{word, count_of, number_of}
 use Rattle.algo_text.specs.Blocks.{Block, new_block}
 use Rattle.algo_text.specs.Text.{Stage, between, in_function, in_graph, in_switch, in_repeat, Reading, begins, end_line, numbers_of, values_line, opening_line, repeat_line, between_line}
+use Rattle.algo_text.proofs.Checks.{either, finds, found, held, holds, neither, never, passed, passes, read, reads, same_ok}
+use Rattle.syn_base.specs.declared.limits.LimitKind.TheVariants.{PortLength, Copies}
+use Rattle.algo_text.specs.Blocks.{is_above}
+use Rattle.algo_text.specs.Text.{first_part}
 use Rattle.algo_print.specs.Canonical.{count, value_words, body_lines, definition_lines, version_words, IsPrintable, ArePrintable}
 use Rattle.algo_print.specs.ReadBack.{bare}
 use Rattle.algo_print.proofs.Pieces.{is_word, are_words, and_true}
 use Rattle.algo_print.proofs.Fits.{number_fits}
 use Rattle.algo_print.proofs.Spelled.{name_word, number_word, number_back, count_back, count_word, count_positive}
-use Rattle.algo_print.proofs.Checks.{passed, held, found, read, either, never, neither, same_ok, passes, holds, finds, reads}
 use Rattle.algo_print.proofs.State.{Lines, lines_at, Numbered, numbered, AreSame, Adds, IsOrdered, definitions_joined, more}
 
 -- one definition more, of these lines
@@ -72,7 +75,7 @@ module _ (k : Numbered) (names : List Bytes) (defs : List Def) (b : Block) (same
       let named = held (is_name w) _ _ r form.1 in
       let counted = found (count_of (word ws 2)) _ _ r named.1 in
       let len : ℕ = counted.0 in
-      let low = passed (nat_lt 64 len) _ _ r counted.2 in
+      let low = passed (is_above PortLength len) _ _ r counted.2 in
       let new = passed (is_among w names) _ _ r low.1 in
       let some : (len == 0) ≡ false = count_positive (word ws 2) len counted.1 in
       let words : List Bytes = key ∷ w ∷ count len ∷ [] in
@@ -127,7 +130,7 @@ module _ (k : Numbered) (names : List Bytes) (defs : List Def) (b : Block) (same
       let named = held (is_name w) _ _ r form.1 in
       let all = read (numbers_of n (drop 3 ws)) _ r named.1 in
       let vs : List ℤ = all.0 in
-      let low = passed (nat_lt 64 (length vs)) _ _ r all.2 in
+      let low = passed (is_above PortLength (length vs)) _ _ r all.2 in
       let new = passed (is_among w names) _ _ r low.1 in
       let are : (m : ℕ) → AreRead m (drop 3 ws) vs = λ m. numbers_read n m (drop 3 ws) vs all.1 in
       let some : 1 ≤ length vs = omega (arith, (are 0).length_same, length-drop 3 ws) in
@@ -150,9 +153,9 @@ module _ (k : Numbered) (names : List Bytes) (defs : List Def) (b : Block) (same
 
   -- a block that was opened has no lines yet
   opened_with : (s : Stage) (w : Bytes) (n : ℕ) (copies : ℕ) (def : Bytes) (ws : List Bytes) → are_words ws ≡ true → (length ws == 0) ≡ false
-      → lines_at s defs (record (new_block w n) { copies = copies; def = def }) ≡ version_words ∷ (definition_lines defs ++ ws ∷ []) → IsOrdered s defs (record (new_block w n) { copies = copies; def = def })
-      → ((m : ℕ) → between_line (numbered k (open_at names defs b)) m ws ≡ Ok (numbered (fresh m) (opened_here s w (record (new_block w n) { copies = copies; def = def }))))
-      → Adds k between names defs b (opened_here s w (record (new_block w n) { copies = copies; def = def }))
+      → lines_at s defs (record (new_block (first_part s) w n) { copies = copies; def = def }) ≡ version_words ∷ (definition_lines defs ++ ws ∷ []) → IsOrdered s defs (record (new_block (first_part s) w n) { copies = copies; def = def })
+      → ((m : ℕ) → between_line (numbered k (open_at names defs b)) m ws ≡ Ok (numbered (fresh m) (opened_here s w (record (new_block (first_part s) w n) { copies = copies; def = def }))))
+      → Adds k between names defs b (opened_here s w (record (new_block (first_part s) w n) { copies = copies; def = def }))
   opened_with s w n copies def ws plain some lines ordered again = record {
     words = ws;
     plain = plain;
@@ -166,7 +169,7 @@ module _ (k : Numbered) (names : List Bytes) (defs : List Def) (b : Block) (same
   }
 
   opening_step : (key : Bytes) (s : Stage) (n : ℕ) (ws : List Bytes) (r : Reading) → is_word key ≡ true
-      → ((w : Bytes) → lines_at s defs (new_block w n) ≡ version_words ∷ (definition_lines defs ++ (key ∷ w ∷ []) ∷ [])) → ((w : Bytes) → IsOrdered s defs (new_block w n))
+      → ((w : Bytes) → lines_at s defs (new_block (first_part s) w n) ≡ version_words ∷ (definition_lines defs ++ (key ∷ w ∷ []) ∷ [])) → ((w : Bytes) → IsOrdered s defs (new_block (first_part s) w n))
       → ((m : ℕ) (w : Bytes) → between_line (numbered k (open_at names defs b)) m (key ∷ w ∷ []) ≡ opening_line s (numbered k (open_at names defs b)) m (key ∷ w ∷ []))
       → opening_line s (open_at names defs b) n ws ≡ Ok r → Adds k between names defs b r
   opening_step key s n ws r key_word lines ordered key_line h =
@@ -187,7 +190,7 @@ module _ (k : Numbered) (names : List Bytes) (defs : List Def) (b : Block) (same
       let known = held (is_name def) _ _ r named.1 in
       let counted = found (count_of (word ws 2)) _ _ r known.1 in
       let copies : ℕ = counted.0 in
-      let low = passed (nat_lt 64 copies) _ _ r counted.2 in
+      let low = passed (is_above Copies copies) _ _ r counted.2 in
       let new = passed (is_among w names) _ _ r low.1 in
       let some : (copies == 0) ≡ false = count_positive (word ws 2) copies counted.1 in
       subst (λ (x : Reading). Adds k between names defs b x) (same_ok _ r new.1)

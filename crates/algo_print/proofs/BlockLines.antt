@@ -1,5 +1,5 @@
 -- Lines of an open block add canonical lines: what all kinds of blocks share.
-use Rattle.std.proofs.Common.{◌≡◌, ℕ, ◌≤◌, ◌==◌, Bool, not, ◌||◌, true, false, nat_lt, List, [], ◌∷◌, ◌++◌, length, map, Result, Ok, Err, refl, arith, ap, ap₂, sym, ◌∙◌, append_assoc, append-nil}
+use Rattle.std.proofs.Common.{◌≡◌, ℕ, ◌==◌, not, ◌||◌, true, false, List, [], ◌∷◌, ◌++◌, length, map, Result, Ok, Err, refl, ap, ap₂, sym, ◌∙◌, append_assoc, append-nil, ◌+◌}
 use Rattle.std.proofs.lemmas.List.{map-append}
 use Rattle.syn_base.specs.Name.{is_name}
 use Rattle.body_lang.specs.declared.expression.Port.{Port}
@@ -14,11 +14,15 @@ use Rattle.algo_defs.specs.Words.{Bytes, is_among}
 use Rattle.algo_text.specs.Words.{word, count_of}
 use Rattle.algo_text.specs.Blocks.{Block, is_taken, port_line, in_line, with_in, out_line, with_out}
 use Rattle.algo_text.specs.Text.{Stage, between, Reading, in_block, by_stage}
+use Rattle.algo_text.proofs.Checks.{finds, found, held, holds, neither, not_false, passed, passes, same_ok}
+use Rattle.algo_text.specs.declared.part.Part.TheVariants.{Inputs, Outputs}
+use Rattle.algo_text.specs.Parts.{admits}
+use Rattle.syn_base.specs.declared.limits.LimitKind.TheVariants as limits
+use Rattle.algo_text.specs.Blocks.{is_above}
 use Rattle.algo_print.specs.Canonical.{joined, count, port_words, body_lines, definition_lines, version_words, end_words, IsPrintable}
 use Rattle.algo_print.specs.ReadBack.{bare, bare_body, bare_reference, bare_edge, bare_case, bare_frontier}
 use Rattle.algo_print.proofs.Pieces.{is_word, are_words, and_true}
 use Rattle.algo_print.proofs.Spelled.{name_word, count_back, count_word, count_positive}
-use Rattle.algo_print.proofs.Checks.{passed, held, found, neither, same_ok, passes, holds, finds}
 use Rattle.algo_print.proofs.State.{Lines, open_lines, lines_at, Numbered, numbered_block, numbered, AreSame, Adds, IsOrdered, definitions_joined, more, same_outer}
 use Rattle.algo_print.proofs.Between.{one_printable}
 
@@ -33,19 +37,6 @@ behind front rest all ws is = ap (λ (l : Lines). front ++ l) is ∙ sym (append
 
 pub no_lines : (xs ys : Lines) → xs ≡ [] → ys ≡ [] → xs ++ ys ≡ []
 no_lines xs ys h g = ap₂ (λ (l m : Lines). l ++ m) h g
-
-pub either_false : (p q : Bool) → p ≡ false → q ≡ false → (p || q) ≡ false
-either_false p q h g = rw (h, g) refl
-
-pub not_false : (p : Bool) → not p ≡ false → p ≡ true
-not_false true h = refl
-not_false false h = cc
-
-pub equal : (m n : ℕ) → (m == n) ≡ true → m ≡ n
-equal m n h = grind arith
-
-pub at_most : (m n : ℕ) → nat_lt m n ≡ false → n ≤ m
-at_most m n h = grind arith
 
 pub key_words : (key w v : Bytes) → is_word key ≡ true → is_word w ≡ true → is_word v ≡ true → are_words (key ∷ w ∷ v ∷ []) ≡ true
 key_words key w v h g f = and_true (is_word key) _ h (and_true (is_word w) _ g (and_true (is_word v) true f refl))
@@ -124,20 +115,20 @@ module _ (k : Numbered) (s : Stage) (names : List Bytes) (defs : List Def) (b : 
 pub record PortRead (before : ℕ) (ws : List Bytes) (go : Port → Result Block AlgoError) (after : Block) : Type 0 where
   pub len : ℕ
   pub named : is_name (word ws 1) ≡ true
-  pub few : nat_lt 63 before ≡ false
+  pub few : is_above limits.Ports (before + 1) ≡ false
   pub some : (len == 0) ≡ false
-  pub low : nat_lt 64 len ≡ false
+  pub low : is_above limits.PortLength len ≡ false
   pub then : go (record { name = word ws 1; len = len }) ≡ Ok after
 
 pub port_read : (n before : ℕ) (ws : List Bytes) (go : Port → Result Block AlgoError) (after : Block) → port_line n before ws go ≡ Ok after → PortRead before ws go after
 port_read n before ws go after h =
     let named = held (is_name (word ws 1)) _ _ after h in
     let counted = found (count_of (word ws 2)) _ _ after named.1 in
-    let few = passed (nat_lt 63 before) _ _ after counted.2 in
-    let low = passed (nat_lt 64 counted.0) _ _ after few.1 in
+    let few = passed (is_above limits.Ports (before + 1)) _ _ after counted.2 in
+    let low = passed (is_above limits.PortLength counted.0) _ _ after few.1 in
     record { len = counted.0; named = named.0; few = few.0; some = count_positive (word ws 2) counted.0 counted.1; low = low.0; then = low.1 }
 
-pub port_again : (m before len : ℕ) (key w : Bytes) (go : Port → Result Block AlgoError) (after : Block) → is_name w ≡ true → nat_lt 63 before ≡ false → (len == 0) ≡ false → nat_lt 64 len ≡ false
+pub port_again : (m before len : ℕ) (key w : Bytes) (go : Port → Result Block AlgoError) (after : Block) → is_name w ≡ true → is_above limits.Ports (before + 1) ≡ false → (len == 0) ≡ false → is_above limits.PortLength len ≡ false
     → go (record { name = w; len = len }) ≡ Ok after → port_line m before (key ∷ w ∷ count len ∷ []) go ≡ Ok after
 port_again m before len key w go after named few some low then =
     holds _ _ _ _ named (finds _ _ _ _ len (count_back len some low) (passes _ _ _ _ few (passes _ _ _ _ low then)))
@@ -148,19 +139,19 @@ taken_same k defs b w same =
     ap (λ (ns : List Bytes). is_among w (b.on ∷ (map (λ p. p.name) b.ins ++ (map (λ o. o.port.name) b.results ++ (map (λ p. p.name) b.outs ++ ns))))) (same_outer k.frontier b.frontier same.frontier_same)
 
 -- a line of an input that is accepted, and accepted again
-pub record InRead (part : ℕ) (b after : Block) : Type 0 where
+pub record InRead (b after : Block) : Type 0 where
   pub port : Port
-  pub at : (b.part == part) ≡ true
+  pub at : admits b.part Inputs ≡ true
   pub after_is : record b { ins = b.ins ++ port ∷ [] } ≡ after
   pub plain : (key : Bytes) → is_word key ≡ true → are_words (port_words key port) ≡ true
   pub again : (k : Numbered) (defs : List Def) (m : ℕ) (key : Bytes) → AreSame k defs b
-      → in_line part (numbered_block k b) m (port_words key port) ≡ Ok (numbered_block k (record b { ins = b.ins ++ port ∷ [] }))
+      → in_line (numbered_block k b) m (port_words key port) ≡ Ok (numbered_block k (record b { ins = b.ins ++ port ∷ [] }))
 
-pub in_read : (part : ℕ) (b : Block) (n : ℕ) (ws : List Bytes) (after : Block) → in_line part b n ws ≡ Ok after → InRead part b after
-in_read part b n ws after h =
+pub in_read : (b : Block) (n : ℕ) (ws : List Bytes) (after : Block) → in_line b n ws ≡ Ok after → InRead b after
+in_read b n ws after h =
     let w : Bytes = word ws 1 in
-    let form = passed (not (length ws == 3) || not (b.part == part)) _ _ after h in
-    let at : (b.part == part) ≡ true = not_false (b.part == part) (neither (not (length ws == 3)) (not (b.part == part)) form.0).1 in
+    let form = passed (not (length ws == 3) || not (admits b.part Inputs)) _ _ after h in
+    let at : admits b.part Inputs ≡ true = not_false (admits b.part Inputs) (neither (not (length ws == 3)) (not (admits b.part Inputs)) form.0).1 in
     let p = port_read n (length b.ins) ws (with_in b n) after form.1 in
     let free = passed (is_taken b w) _ _ after p.then in
     record {
@@ -172,29 +163,26 @@ in_read part b n ws after h =
           (port_again m (length b.ins) p.len key w (with_in (numbered_block k b) m) _ p.named p.few p.some p.low (passes _ _ _ _ (taken_same k defs b w same ∙ free.0) refl));
     }
 
-pub record OutRead (least part : ℕ) (b after : Block) : Type 0 where
+pub record OutRead (b after : Block) : Type 0 where
   pub port : Port
-  pub low : least ≤ b.part
-  pub high : b.part ≤ part
-  pub after_is : record b { part = part; outs = b.outs ++ port ∷ [] } ≡ after
+  pub at : admits b.part Outputs ≡ true
+  pub after_is : record b { part = Outputs; outs = b.outs ++ port ∷ [] } ≡ after
   pub plain : (key : Bytes) → is_word key ≡ true → are_words (port_words key port) ≡ true
   pub again : (k : Numbered) (defs : List Def) (m : ℕ) (key : Bytes) → AreSame k defs b
-      → out_line least part (numbered_block k b) m (port_words key port) ≡ Ok (numbered_block k (record b { part = part; outs = b.outs ++ port ∷ [] }))
+      → out_line (numbered_block k b) m (port_words key port) ≡ Ok (numbered_block k (record b { part = Outputs; outs = b.outs ++ port ∷ [] }))
 
-pub out_read : (least part : ℕ) (b : Block) (n : ℕ) (ws : List Bytes) (after : Block) → out_line least part b n ws ≡ Ok after → OutRead least part b after
-out_read least part b n ws after h =
+pub out_read : (b : Block) (n : ℕ) (ws : List Bytes) (after : Block) → out_line b n ws ≡ Ok after → OutRead b after
+out_read b n ws after h =
     let w : Bytes = word ws 1 in
-    let form = passed (not (length ws == 3) || nat_lt b.part least || nat_lt part b.part) _ _ after h in
-    let below = neither (not (length ws == 3) || nat_lt b.part least) (nat_lt part b.part) form.0 in
-    let above = neither (not (length ws == 3)) (nat_lt b.part least) below.0 in
-    let p = port_read n (length b.outs) ws (with_out part b n) after form.1 in
+    let form = passed (not (length ws == 3) || not (admits b.part Outputs)) _ _ after h in
+    let at : admits b.part Outputs ≡ true = not_false (admits b.part Outputs) (neither (not (length ws == 3)) (not (admits b.part Outputs)) form.0).1 in
+    let p = port_read n (length b.outs) ws (with_out b n) after form.1 in
     let free = passed (is_taken b w) _ _ after p.then in
     record {
       port = record { name = w; len = p.len };
-      low = at_most b.part least above.1;
-      high = at_most part b.part below.1;
+      at = at;
       after_is = same_ok _ after free.1;
       plain = λ key word. key_words key w (count p.len) word (name_word w p.named) (count_word p.len p.low);
-      again = λ k defs m key same. passes _ _ _ _ (either_false (nat_lt b.part least) (nat_lt part b.part) above.1 below.1)
-          (port_again m (length b.outs) p.len key w (with_out part (numbered_block k b) m) _ p.named p.few p.some p.low (passes _ _ _ _ (taken_same k defs b w same ∙ free.0) refl));
+      again = λ k defs m key same. passes _ _ _ _ (ap not at)
+          (port_again m (length b.outs) p.len key w (with_out (numbered_block k b) m) _ p.named p.few p.some p.low (passes _ _ _ _ (taken_same k defs b w same ∙ free.0) refl));
     }

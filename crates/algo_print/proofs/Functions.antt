@@ -1,5 +1,5 @@
 -- Lines of functions add canonical lines.
-use Rattle.std.proofs.Common.{◌≡◌, ℕ, suc, ◌+◌, ◌≤◌, ◌==◌, not, ◌||◌, true, cond, nat_lt, nat_le, List, [], ◌∷◌, ◌++◌, length, map, take, drop, position, Option, Some, None, Ok, refl, arith, ap, ap₂, sym, ◌∙◌, subst, codes, append_assoc, append-nil}
+use Rattle.std.proofs.Common.{◌≡◌, ℕ, ◌+◌, ◌≤◌, ◌==◌, not, ◌||◌, true, nat_lt, List, [], ◌∷◌, ◌++◌, length, map, take, drop, position, Option, Some, None, Ok, refl, ap, ap₂, sym, ◌∙◌, subst, codes, append_assoc, append-nil}
 use Rattle.std.specs.Prelude.{All}
 use Rattle.std.specs.List.{list_all}
 use Rattle.std.proofs.lemmas.List.{map-append, take_at, drop_at, length-append}
@@ -8,65 +8,43 @@ use Rattle.syn_base.specs.Name.{is_name_byte}
 use Rattle.text_lines.specs.Text.{words_of}
 use Rattle.body_lang.specs.Expr.{Expr}
 use Rattle.body_text.specs.Tokens.{Token, tokens}
-use Rattle.body_text.specs.Ports.{unknown, resolved}
-use Rattle.body_text.specs.Parse.{Parse, good, stops, parse, alone}
-use Rattle.body_text.specs.Reads.{AreFew, IsBody}
+use Rattle.body_text.specs.Reads.{IsBody}
 use Rattle.body_text.specs.Canonical.{canonical, IsRead}
 use Rattle.body_text.proofs.CanonicalTokens.{without_places}
 use Rattle.body_text.proofs.CanonicalReads.{reads_back}
-use Rattle.body_text.proofs.Complete.{complete_alone}
-use Rattle.body_text.proofs.Judged.{is_written}
 use Rattle.algo_defs.specs.declared.definition.Def.{Def}
 use Rattle.algo_defs.specs.declared.definition.Output.{Output}
 use Rattle.algo_defs.specs.declared.definition.Body.TheVariants.{Function}
 use Rattle.algo_defs.specs.Words.{Bytes}
 use Rattle.algo_text.specs.Words.{word}
-use Rattle.algo_text.specs.Formulas.{known_by, read_by, formula_of}
+use Rattle.algo_text.specs.Formulas.{formula_of}
 use Rattle.algo_text.specs.Blocks.{Block, in_line, and_then, is_taken, is_equals, result_words, result_at, result_line, with_result}
 use Rattle.algo_text.specs.Text.{in_function, Reading, begins, in_block, block_end, function_line}
+use Rattle.algo_text.proofs.Checks.{either, neither, never, not_false, passed, passes, read, reads, same_ok}
+use Rattle.algo_text.specs.declared.part.Part.TheVariants.{Outputs}
+use Rattle.algo_text.specs.Parts.{admits}
+use Rattle.syn_base.specs.declared.limits.LimitKind.TheVariants.{Tokens}
+use Rattle.syn_base.specs.Limits.{bound_of}
+use Rattle.algo_text.specs.Grammatical.{IsFormula}
+use Rattle.algo_text.proofs.Judged.{formula_law}
+use Rattle.algo_text.proofs.Grammars.{body_formula}
 use Rattle.algo_print.specs.Canonical.{spaced, joined, count, port_words, output_words, function_lines}
 use Rattle.algo_print.proofs.Pieces as pieces
 use Rattle.algo_print.proofs.Pieces.{is_word, are_words, and_true, joins, words_then, first_stands}
 use Rattle.algo_print.proofs.Spelled.{name_word, name_bytes, count_word, count_bytes, name_byte_no_equals, expression_word}
-use Rattle.algo_print.proofs.Checks.{passed, held, read, either, never, neither, same_ok, passes, reads}
 use Rattle.algo_print.proofs.State.{Lines, FunctionOrder, Numbered, numbered_block, numbered, AreSame, Adds}
-use Rattle.algo_print.proofs.BlockLines.{in_front, behind, at_most, IntoBlock, into_block, alike, block_adds, end_adds, port_read, port_again, taken_same, InRead, in_read}
+use Rattle.algo_print.proofs.BlockLines.{in_front, behind, IntoBlock, into_block, alike, block_adds, end_adds, port_read, port_again, taken_same, InRead, in_read}
 
--- An expression that a line has is what its text is.
-few_holds : {A : Type 0} (m : ℕ) (x y : A) → m ≤ 512 → cond (nat_le m 512) x y ≡ x
-few_holds m x y h = let e : nat_le m 512 ≡ true = grind arith in rw e refl
-
-body_formula : (n : ℕ) (names : List Bytes) (text : Bytes) (e : Expr) → IsBody names text e → formula_of n names text ≡ Ok e
-body_formula n names text e h =
-    few_holds (length (tokens text)) _ _ h.few
-    ∙ ap (λ (p : Parse). read_by n names text (alone p)) (complete_alone (suc (length (tokens text))) (tokens text) h.tree h.grammar (omega arith))
-    ∙ ap (λ (o : Option ℕ). known_by n names text o (resolved names h.tree)) h.known
-    ∙ ap (λ (x : Expr). Ok x) h.is
-
-few_is : (m : ℕ) → nat_le m 512 ≡ true → m ≤ 512
-few_is m h = grind arith
-
-known_is : (n : ℕ) (names : List Bytes) (text : Bytes) (o : Option ℕ) (w e : Expr) → known_by n names text o w ≡ Ok e → (o ≡ None) × (w ≡ e)
-known_is n names text None w e h = (refl, same_ok w e h)
-known_is n names text (Some i) w e h = cc
-
-read_is : (n : ℕ) (names : List Bytes) (text : Bytes) (p : Parse) (e : Expr) → AreFew text → alone (parse (suc (length (tokens text))) (tokens text)) ≡ p → read_by n names text p ≡ Ok e → IsBody names text e
-read_is n names text (good w rest) e few parsed h =
-    let k = known_is n names text (unknown names w) (resolved names w) e h in
-    record { few = few; tree = w; grammar = is_written (suc (length (tokens text))) (tokens text) w rest parsed; known = k.0; is = k.1 }
-read_is n names text (stops rest) e few parsed h = cc
-
+-- an expression that a line has is what its text is
 formula_body : (n : ℕ) (names : List Bytes) (text : Bytes) (e : Expr) → formula_of n names text ≡ Ok e → IsBody names text e
-formula_body n names text e h =
-    let f = held (nat_le (length (tokens text)) 512) _ _ e h in
-    read_is n names text (alone (parse (suc (length (tokens text))) (tokens text))) e (few_is (length (tokens text)) f.0) refl f.1
+formula_body n names text e h = let is : IsFormula names text n (Ok e) = (formula_law n names text (Ok e)).0 h in is
 
 -- a blank in front of an expression says nothing
 behind_blank : (names : List Bytes) (text : Bytes) (e : Expr) → IsBody names text e → IsBody names (32 ∷ text) e
 behind_blank names text e h =
     let same : tokens (32 ∷ text) ≡ tokens text = without_places 0 0 (32 ∷ text) ∙ sym (without_places 0 0 text) in
     record {
-      few = subst (λ (ts : List Token). length ts ≤ 512) (sym same) h.few;
+      few = subst (λ (ts : List Token). length ts ≤ bound_of Tokens) (sym same) h.few;
       tree = h.tree;
       grammar = (h.grammar.0, same ∙ h.grammar.1);
       known = h.known;
@@ -102,12 +80,12 @@ cut_line b m w len e w_word len_word h g =
     ∙ ap (λ (ws : List Bytes). result_words b m ws (32 ∷ e)) (words_then (codes "out") (w ∷ len ∷ []) [] (and_true (is_word w) _ w_word (and_true (is_word len) true len_word refl)))
 
 abbrev with_output : Block → Output → Block
-with_output b o = record b { part = 1; results = b.results ++ o ∷ [] }
+with_output b o = record b { part = Outputs; results = b.results ++ o ∷ [] }
 
 -- a line of an output that is accepted, and accepted again
 record ResultRead (b after : Block) : Type 0 where
   output : Output
-  high : b.part ≤ 1
+  at : admits b.part Outputs ≡ true
   printable : IsRead (map (λ p. p.name) b.ins) output.formula
   after_is : with_output b output ≡ after
   plain : are_words (output_words b.ins output) ≡ true
@@ -124,8 +102,8 @@ result_read b n code after h =
     let text : Bytes = line.1.0 in
     let names : List Bytes = map (λ p. p.name) b.ins in
     let w : Bytes = word ws 1 in
-    let form = passed (not (length ws == 3) || nat_lt 1 b.part) _ _ after line.1.1 in
-    let order = neither (not (length ws == 3)) (nat_lt 1 b.part) form.0 in
+    let form = passed (not (length ws == 3) || not (admits b.part Outputs)) _ _ after line.1.1 in
+    let order = neither (not (length ws == 3)) (not (admits b.part Outputs)) form.0 in
     let p = port_read n (length b.results) ws (λ q. and_then (formula_of n names text) (with_result b n q)) after form.1 in
     let formula = read (formula_of n names text) _ after p.then in
     let e : Expr = formula.0 in
@@ -134,7 +112,7 @@ result_read b n code after h =
     let o : Output = record { port = record { name = w; len = p.len }; formula = e } in
     record {
       output = o;
-      high = at_most 1 b.part order.1;
+      at = not_false (admits b.part Outputs) order.1;
       printable = is;
       after_is = same_ok _ after free.1;
       plain = and_true (is_word w) _ (name_word w p.named) (and_true (is_word (count p.len)) _ (count_word p.len p.low) (and_true (is_word (canonical names e)) true (expression_word names e is) refl));
@@ -156,10 +134,10 @@ module _ (k : Numbered) (names : List Bytes) (defs : List Def) (b : Block) (same
   abbrev here : Reading
   here = record { stage = in_function; names = names; defs = defs; block = b }
 
-  input_step : (n : ℕ) (ws : List Bytes) (r : Reading) → in_block here (in_line 0 b n ws) ≡ Ok r → Adds k in_function names defs b r
+  input_step : (n : ℕ) (ws : List Bytes) (r : Reading) → in_block here (in_line b n ws) ≡ Ok r → Adds k in_function names defs b r
   input_step n ws r h =
-      let into : IntoBlock here (in_line 0 b n ws) r = into_block here (in_line 0 b n ws) r h in
-      let i : InRead 0 b into.block = in_read 0 b n ws into.block into.is in
+      let into : IntoBlock here (in_line b n ws) r = into_block here (in_line b n ws) r h in
+      let i : InRead b into.block = in_read b n ws into.block into.is in
       let none : b.results ≡ [] = order.no_results i.at in
       let c : Block = record b { ins = b.ins ++ i.port ∷ [] } in
       let lines : function_lines c.ins b.results ≡ function_lines b.ins b.results ++ port_words (codes "in") i.port ∷ [] =

@@ -1,5 +1,5 @@
 -- Lines of graphs add canonical lines.
-use Rattle.std.proofs.Common.{◌≡◌, ℕ, ◌<◌, ◌≤◌, ◌==◌, not, ◌||◌, true, false, nat_lt, List, [], ◌∷◌, ◌++◌, length, map, Some, Result, Ok, refl, arith, ap, ap₂, ◌∙◌, subst, codes}
+use Rattle.std.proofs.Common.{◌≡◌, ℕ, ◌<◌, ◌≤◌, ◌==◌, not, ◌||◌, true, false, List, [], ◌∷◌, ◌++◌, length, map, Some, Result, Ok, refl, arith, ap, ap₂, ◌∙◌, subst, codes, ◌+◌}
 use Rattle.std.proofs.lemmas.List.{map-append}
 use Rattle.syn_base.specs.Name.{is_name}
 use Rattle.body_lang.specs.declared.expression.Port.{Port}
@@ -13,13 +13,18 @@ use Rattle.algo_defs.specs.Words.{Bytes, is_among}
 use Rattle.algo_text.specs.Words.{word, end_of}
 use Rattle.algo_text.specs.Blocks.{Block, in_line, out_line, reference_line, edge_line}
 use Rattle.algo_text.specs.Text.{in_graph, Reading, begins, in_block, block_end, graph_line}
+use Rattle.algo_text.proofs.Checks.{either, finds, found, held, holds, neither, never, not_false, passed, passes, same_ok}
+use Rattle.algo_text.specs.declared.part.Part.TheVariants.{Inputs, Outputs, References, Edges}
+use Rattle.algo_text.specs.Parts.{rank, admits}
+use Rattle.algo_text.proofs.Parts.{admitted}
+use Rattle.syn_base.specs.declared.limits.LimitKind.TheVariants as limits
+use Rattle.algo_text.specs.Blocks.{is_above}
 use Rattle.algo_print.specs.Canonical.{port_words, reference_words, edge_words, end_word}
 use Rattle.algo_print.specs.ReadBack.{bare_reference, bare_edge}
 use Rattle.algo_print.proofs.Spelled.{name_word}
 use Rattle.algo_print.proofs.Ends.{end_read, end_again}
-use Rattle.algo_print.proofs.Checks.{passed, held, found, either, never, neither, same_ok, passes, holds, finds}
 use Rattle.algo_print.proofs.State.{Lines, GraphOrder, Numbered, numbered, AreSame, Adds, more, same_length, same_names}
-use Rattle.algo_print.proofs.BlockLines.{in_front, behind, no_lines, key_words, equal, at_most, IntoBlock, into_block, alike, block_adds, end_adds, InRead, in_read, OutRead, out_read}
+use Rattle.algo_print.proofs.BlockLines.{in_front, behind, no_lines, key_words, IntoBlock, into_block, alike, block_adds, end_adds, InRead, in_read, OutRead, out_read}
 
 module _ (k : Numbered) (names : List Bytes) (defs : List Def) (b : Block) (same : AreSame k defs b) (order : GraphOrder b) where
   abbrev here : Reading
@@ -41,39 +46,39 @@ module _ (k : Numbered) (names : List Bytes) (defs : List Def) (b : Block) (same
   abbrev edges : Lines
   edges = map edge_words b.edges
 
-  no_edge_lines : b.part < 3 → edges ≡ []
+  no_edge_lines : rank b.part < rank Edges → edges ≡ []
   no_edge_lines low = ap (λ (l : List Edge). map edge_words l) (order.no_edges low)
 
-  no_reference_lines : b.part < 2 → references ++ edges ≡ []
+  no_reference_lines : rank b.part < rank References → references ++ edges ≡ []
   no_reference_lines low = no_lines references edges (ap (λ (l : List Reference). map reference_words l) (order.no_references low)) (no_edge_lines (omega arith))
 
-  no_output_lines : b.part < 1 → outputs ++ (references ++ edges) ≡ []
+  no_output_lines : rank b.part < rank Outputs → outputs ++ (references ++ edges) ≡ []
   no_output_lines low = no_lines outputs (references ++ edges) (ap (λ (l : List Port). map (port_words (codes "out")) l) (order.no_outs low)) (no_reference_lines (omega arith))
 
   -- a line makes this block of the open one
   from : (x : Result Block AlgoError) (r : Reading) (c : Block) (into : IntoBlock here x r) → c ≡ into.block → Adds k in_graph names defs b (record here { block = c }) → Adds k in_graph names defs b r
   from x r c into is adds = subst (λ (q : Reading). Adds k in_graph names defs b q) (ap (λ (d : Block). record here { block = d }) is ∙ into.after_is) adds
 
-  input_step : (n : ℕ) (ws : List Bytes) (r : Reading) → in_block here (in_line 0 b n ws) ≡ Ok r → Adds k in_graph names defs b r
+  input_step : (n : ℕ) (ws : List Bytes) (r : Reading) → in_block here (in_line b n ws) ≡ Ok r → Adds k in_graph names defs b r
   input_step n ws r h =
-      let into : IntoBlock here (in_line 0 b n ws) r = into_block here (in_line 0 b n ws) r h in
-      let i : InRead 0 b into.block = in_read 0 b n ws into.block into.is in
+      let into : IntoBlock here (in_line b n ws) r = into_block here (in_line b n ws) r h in
+      let i : InRead b into.block = in_read b n ws into.block into.is in
       let c : Block = record b { ins = b.ins ++ i.port ∷ [] } in
-      let first : b.part ≡ 0 = equal b.part 0 i.at in
-      from (in_line 0 b n ws) r c into i.after_is
+      let low : rank b.part ≤ rank Inputs = (admitted b.part Inputs i.at).1 in
+      from (in_line b n ws) r c into i.after_is
       (block_adds k in_graph names defs b same (λ x. refl) c (port_words (codes "in") i.port) (λ m. k) (i.plain (codes "in") refl) refl
       (ap (λ (ls : Lines). (codes "graph" ∷ b.name ∷ []) ∷ ls) (in_front (port_words (codes "in")) b.ins i.port _ (no_output_lines (omega arith))))
       (λ m. ap (in_block there) (i.again k defs m (codes "in") same))
       (λ m. alike k defs b c same refl refl refl refl)
       (record { no_outs = order.no_outs; no_references = order.no_references; no_edges = order.no_edges }))
 
-  output_step : (n : ℕ) (ws : List Bytes) (r : Reading) → in_block here (out_line 0 1 b n ws) ≡ Ok r → Adds k in_graph names defs b r
+  output_step : (n : ℕ) (ws : List Bytes) (r : Reading) → in_block here (out_line b n ws) ≡ Ok r → Adds k in_graph names defs b r
   output_step n ws r h =
-      let into : IntoBlock here (out_line 0 1 b n ws) r = into_block here (out_line 0 1 b n ws) r h in
-      let i : OutRead 0 1 b into.block = out_read 0 1 b n ws into.block into.is in
-      let c : Block = record b { part = 1; outs = b.outs ++ i.port ∷ [] } in
-      let high : b.part ≤ 1 = i.high in
-      from (out_line 0 1 b n ws) r c into i.after_is
+      let into : IntoBlock here (out_line b n ws) r = into_block here (out_line b n ws) r h in
+      let i : OutRead b into.block = out_read b n ws into.block into.is in
+      let c : Block = record b { part = Outputs; outs = b.outs ++ i.port ∷ [] } in
+      let high : rank b.part ≤ rank Outputs = (admitted b.part Outputs i.at).1 in
+      from (out_line b n ws) r c into i.after_is
       (block_adds k in_graph names defs b same (λ x. refl) c (port_words (codes "out") i.port) (λ m. k) (i.plain (codes "out") refl) refl
       (ap (λ (ls : Lines). (codes "graph" ∷ b.name ∷ []) ∷ ls)
       (behind inputs _ _ (port_words (codes "out") i.port) (in_front (port_words (codes "out")) b.outs i.port _ (no_reference_lines (omega arith)))))
@@ -82,18 +87,19 @@ module _ (k : Numbered) (names : List Bytes) (defs : List Def) (b : Block) (same
       (record { no_outs = λ low. absurd (omega (arith, low)); no_references = λ low. order.no_references (omega arith); no_edges = λ low. order.no_edges (omega arith) }))
 
   abbrev with_reference : Reference → Block
-  with_reference x = record b { part = 2; references = b.references ++ x ∷ [] }
+  with_reference x = record b { part = References; references = b.references ++ x ∷ [] }
 
-  reference_adds : (n : ℕ) (w def : Bytes) → is_name w ≡ true → is_name def ≡ true → b.part ≤ 2 → nat_lt 2 b.part ≡ false → nat_lt 63 (length b.references) ≡ false → is_among w (map (λ x. x.name) b.references) ≡ false
+  reference_adds : (n : ℕ) (w def : Bytes) → is_name w ≡ true → is_name def ≡ true → admits b.part References ≡ true → is_above limits.References (length b.references + 1) ≡ false → is_among w (map (λ x. x.name) b.references) ≡ false
       → Adds k in_graph names defs b (record here { block = with_reference (record { name = w; def = def; line = n }) })
-  reference_adds n w def named known high order_is few free =
+  reference_adds n w def named known admits_it few free =
       let at : ℕ → Reference = λ m. record { name = w; def = def; line = m } in
+      let high : rank b.part ≤ rank References = (admitted b.part References admits_it).1 in
       block_adds k in_graph names defs b same (λ x. refl) (with_reference (at n)) (reference_words (at n)) (λ m. record k { references = k.references ++ at m ∷ [] })
       (key_words (codes "ref") w def refl (name_word w named) (name_word def known)) refl
       (ap (λ (ls : Lines). (codes "graph" ∷ b.name ∷ []) ∷ ls)
       (behind inputs _ _ (reference_words (at n)) (behind outputs _ _ (reference_words (at n)) (in_front reference_words b.references (at n) edges (no_edge_lines (omega arith))))))
-      (λ m. ap (in_block there) (passes _ _ _ _ order_is (holds _ _ _ _ named (holds _ _ _ _ known
-      (passes _ _ _ _ (ap (nat_lt 63) (same_length bare_reference k.references b.references same.references_same) ∙ few)
+      (λ m. ap (in_block there) (passes _ _ _ _ (ap not admits_it) (holds _ _ _ _ named (holds _ _ _ _ known
+      (passes _ _ _ _ (ap (λ (m : ℕ). is_above limits.References (m + 1)) (same_length bare_reference k.references b.references same.references_same) ∙ few)
       (passes _ _ _ _ (ap (is_among w) (same_names k.references b.references same.references_same) ∙ free) refl))))))
       (λ m. record {
         defs_same = same.defs_same;
@@ -107,17 +113,17 @@ module _ (k : Numbered) (names : List Bytes) (defs : List Def) (b : Block) (same
   reference_step : (n : ℕ) (ws : List Bytes) (r : Reading) → in_block here (reference_line b n ws) ≡ Ok r → Adds k in_graph names defs b r
   reference_step n ws r h =
       let into : IntoBlock here (reference_line b n ws) r = into_block here (reference_line b n ws) r h in
-      let form = passed (not (length ws == 3) || nat_lt 2 b.part) _ _ into.block into.is in
-      let order_is = neither (not (length ws == 3)) (nat_lt 2 b.part) form.0 in
+      let form = passed (not (length ws == 3) || not (admits b.part References)) _ _ into.block into.is in
+      let order_is = neither (not (length ws == 3)) (not (admits b.part References)) form.0 in
       let named = held (is_name (word ws 1)) _ _ into.block form.1 in
       let known = held (is_name (word ws 2)) _ _ into.block named.1 in
-      let few = passed (nat_lt 63 (length b.references)) _ _ into.block known.1 in
+      let few = passed (is_above limits.References (length b.references + 1)) _ _ into.block known.1 in
       let free = passed (is_among (word ws 1) (map (λ x. x.name) b.references)) _ _ into.block few.1 in
       from (reference_line b n ws) r _ into (same_ok _ into.block free.1)
-      (reference_adds n (word ws 1) (word ws 2) named.0 known.0 (at_most 2 b.part order_is.1) order_is.1 few.0 free.0)
+      (reference_adds n (word ws 1) (word ws 2) named.0 known.0 (not_false (admits b.part References) order_is.1) few.0 free.0)
 
   abbrev with_edge : Edge → Block
-  with_edge x = record b { part = 3; edges = b.edges ++ x ∷ [] }
+  with_edge x = record b { part = Edges; edges = b.edges ++ x ∷ [] }
 
   edge_adds : (n : ℕ) (v w : Bytes) (from_end to_end : End) → end_of v ≡ Some from_end → end_of w ≡ Some to_end
       → Adds k in_graph names defs b (record here { block = with_edge (record { from = from_end; to = to_end; line = n }) })

@@ -2,7 +2,6 @@ pub mod Texts
 pub mod Pieces
 pub mod Fits
 pub mod Spelled
-pub mod Checks
 pub mod State
 pub mod Between
 pub mod BlockLines

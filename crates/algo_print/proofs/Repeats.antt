@@ -1,5 +1,5 @@
 -- Lines of repetitions add canonical lines.
-use Rattle.std.proofs.Common.{◌≡◌, ℕ, ◌+◌, ◌==◌, if◌then◌else◌, Bool, not, ◌||◌, true, false, cond, nat_lt, List, [], ◌∷◌, ◌++◌, length, map, drop, Result, Ok, refl, arith, ap, sym, ◌∙◌, subst, codes}
+use Rattle.std.proofs.Common.{◌≡◌, ℕ, ◌+◌, ◌==◌, if◌then◌else◌, Bool, not, ◌||◌, true, false, cond, List, [], ◌∷◌, ◌++◌, length, map, drop, Result, Ok, refl, arith, ap, sym, ◌∙◌, subst, codes}
 use Rattle.std.proofs.lemmas.List.{map-append}
 use Rattle.syn_base.specs.Name.{is_name}
 use Rattle.algo_defs.specs.declared.definition.Def.{Def}
@@ -15,18 +15,19 @@ use Rattle.algo_text.specs.Words.{word}
 use Rattle.algo_defs.specs.Outer.{all_outer}
 use Rattle.algo_text.specs.Blocks.{Block, refused, above, all_names, with_frontier}
 use Rattle.algo_text.specs.Text.{in_repeat, Reading, begins, in_block, block_end, frontier_line}
+use Rattle.algo_text.proofs.Checks.{either, equal, held, holds, never, passed, passes, same_ok}
+use Rattle.algo_text.specs.Blocks.{is_above}
 use Rattle.algo_print.specs.Canonical.{words_of_frontier, frontier_words}
 use Rattle.algo_print.specs.ReadBack.{bare_frontier}
 use Rattle.algo_print.proofs.Pieces.{is_word, are_words, and_true}
 use Rattle.algo_print.proofs.Spelled.{name_word}
-use Rattle.algo_print.proofs.Checks.{passed, held, either, never, same_ok, passes, holds}
 use Rattle.algo_print.proofs.State.{Numbered, numbered_block, numbered, AreSame, Adds, more, same_length, same_outer}
-use Rattle.algo_print.proofs.BlockLines.{behind, equal, key_words, IntoBlock, into_block, block_adds, end_adds}
+use Rattle.algo_print.proofs.BlockLines.{behind, key_words, IntoBlock, into_block, block_adds, end_adds}
 
 -- a line of two names, of which one is an outer one
 abbrev pair_line : Block → ℕ → Frontier → Bytes → Result Block AlgoError
 pair_line c m f outer =
-    if nat_lt 63 (length c.frontier) then above Ports (length c.frontier + 1) else
+    if is_above Ports (length c.frontier + 1) then above Ports (length c.frontier + 1) else
     if is_among outer (all_outer c.frontier) then refused m (DuplicateName outer) else
     Ok (record c { frontier = c.frontier ++ record { frontier = f; line = m } ∷ [] })
 
@@ -69,8 +70,8 @@ module _ (k : Numbered) (names : List Bytes) (defs : List Def) (b : Block) (same
   free_again : (w : Bytes) → is_among w (all_outer b.frontier) ≡ false → is_among w (all_outer k.frontier) ≡ false
   free_again w free = ap (is_among w) outer_is ∙ free
 
-  few_again : nat_lt 63 (length b.frontier) ≡ false → nat_lt 63 (length k.frontier) ≡ false
-  few_again few = ap (nat_lt 63) (same_length bare_frontier k.frontier b.frontier same.frontier_same) ∙ few
+  few_again : is_above Ports (length b.frontier + 1) ≡ false → is_above Ports (length k.frontier + 1) ≡ false
+  few_again few = ap (λ (m : ℕ). is_above Ports (m + 1)) (same_length bare_frontier k.frontier b.frontier same.frontier_same) ∙ few
 
   frontier_adds : (n : ℕ) (f : Frontier) → are_words (words_of_frontier f) ≡ true → (length (words_of_frontier f) == 0) ≡ false
       → ((m : ℕ) → frontier_line there m (words_of_frontier f) ≡ in_block there (Ok (numbered_block (record k { frontier = k.frontier ++ record { frontier = f; line = m } ∷ [] }) (with_line f n))))
@@ -107,7 +108,7 @@ module _ (k : Numbered) (names : List Bytes) (defs : List Def) (b : Block) (same
       let x : Result Block AlgoError = all_names n (v ∷ w ∷ []) (with_frontier b n (f v w)) in
       let into : IntoBlock here x r = into_block here x r h in
       let two = two_names n v w (with_frontier b n (f v w)) into.block into.is in
-      let few = passed (nat_lt 63 (length b.frontier)) _ _ into.block (sym (line_is b n v w) ∙ two.2) in
+      let few = passed (is_above Ports (length b.frontier + 1)) _ _ into.block (sym (line_is b n v w) ∙ two.2) in
       let free = passed (is_among (outer v w) (all_outer b.frontier)) _ _ into.block few.1 in
       from x r (with_line (f v w) n) into (same_ok _ into.block free.1)
       (frontier_adds n (f v w) (ap are_words (words_are v w) ∙ key_words key v w key_word (name_word v two.0) (name_word w two.1)) (ap (λ (ws : List Bytes). length ws == 0) (words_are v w))
@@ -122,7 +123,7 @@ module _ (k : Numbered) (names : List Bytes) (defs : List Def) (b : Block) (same
       let second = held (is_name x) _ _ into.block first.1 in
       let third = held (is_name y) _ _ into.block second.1 in
       let fourth = held (is_name q) _ _ into.block third.1 in
-      let few = passed (nat_lt 63 (length b.frontier)) _ _ into.block fourth.1 in
+      let few = passed (is_above Ports (length b.frontier + 1)) _ _ into.block fourth.1 in
       let free = passed (is_among p (all_outer b.frontier)) _ _ into.block few.1 in
       let other = passed (is_among q (p ∷ all_outer b.frontier)) _ _ into.block free.1 in
       from line r (with_line (Iterate p x y q) n) into (same_ok _ into.block other.1)

@@ -11,6 +11,9 @@ use Rattle.algo_defs.specs.declared.definition.Case.{Case}
 use Rattle.algo_defs.specs.declared.definition.FrontierLine.{FrontierLine}
 use Rattle.algo_defs.specs.Words.{Bytes}
 use Rattle.algo_defs.specs.Outer.{outer_names, all_outer}
+use Rattle.algo_text.specs.declared.part.Part.{Part}
+use Rattle.algo_text.specs.declared.part.Part.TheVariants.{Conditioning, Inputs, Outputs, References, Edges, Cases, Whole}
+use Rattle.algo_text.specs.Parts.{rank, admits}
 use Rattle.algo_text.specs.Blocks.{Block}
 use Rattle.algo_text.specs.Text.{Stage, before_version, between, in_function, in_graph, in_switch, in_repeat, Reading, by_stage, line_by, next_line}
 use Rattle.algo_print.specs.Canonical.{joined, count, body_lines, definition_lines, version_words, function_lines, graph_lines, port_words, case_words, frontier_words, ArePrintable}
@@ -20,9 +23,11 @@ use Rattle.algo_print.proofs.Pieces.{are_words, joined_back, code_back, foreign_
 abbrev pub Lines : Type 0
 Lines = List (List Bytes)
 
--- the lines of an open switch behind its first, by the kind of its last line
-abbrev pub open_switch : ℕ → Bytes → Lines → Bytes → Lines
-open_switch part on lines otherwise = cond (part == 0) [] ((codes "on" ∷ on ∷ []) ∷ lines) ++ cond (part == 4) ((codes "otherwise" ∷ otherwise ∷ []) ∷ []) []
+-- the lines of an open switch behind its first, by the part in which the last one stands
+abbrev pub open_switch : Part → Bytes → Lines → Bytes → Lines
+open_switch Conditioning on lines otherwise = []
+open_switch Whole on lines otherwise = ((codes "on" ∷ on ∷ []) ∷ lines) ++ (codes "otherwise" ∷ otherwise ∷ []) ∷ []
+open_switch _ on lines otherwise = (codes "on" ∷ on ∷ []) ∷ lines
 
 abbrev pub open_lines : Stage → Block → Lines
 open_lines before_version b = []
@@ -65,20 +70,20 @@ pub record AreSame (k : Numbered) (defs : List Def) (b : Block) : Type 0 where
   pub frontier_same : map bare_frontier k.frontier ≡ map bare_frontier b.frontier
 
 pub record FunctionOrder (b : Block) : Type 0 where
-  pub no_results : (b.part == 0) ≡ true → b.results ≡ []
+  pub no_results : admits b.part Inputs ≡ true → b.results ≡ []
   pub printable : All (λ o. IsRead (map (λ p. p.name) b.ins) o.formula) b.results
 
 pub record GraphOrder (b : Block) : Type 0 where
-  pub no_outs : b.part < 1 → b.outs ≡ []
-  pub no_references : b.part < 2 → b.references ≡ []
-  pub no_edges : b.part < 3 → b.edges ≡ []
+  pub no_outs : rank b.part < rank Outputs → b.outs ≡ []
+  pub no_references : rank b.part < rank References → b.references ≡ []
+  pub no_edges : rank b.part < rank Edges → b.edges ≡ []
 
 pub record SwitchOrder (b : Block) : Type 0 where
-  pub no_ins : b.part < 1 → b.ins ≡ []
-  pub no_outs : b.part < 2 → b.outs ≡ []
-  pub no_cases : b.part < 3 → b.cases ≡ []
+  pub no_ins : rank b.part < rank Inputs → b.ins ≡ []
+  pub no_outs : rank b.part < rank Outputs → b.outs ≡ []
+  pub no_cases : rank b.part < rank Cases → b.cases ≡ []
 
--- definitions stand behind the version's line, and lines of a later kind are not there yet
+-- definitions stand behind the version's line, and lines of later parts are not there yet
 abbrev pub IsOrdered : Stage → List Def → Block → Type 0
 IsOrdered before_version defs b = defs ≡ []
 IsOrdered between defs b = Unit {0}

@@ -1,5 +1,5 @@
 -- A text has no more lines than bytes.
-use Rattle.std.proofs.Common.{◌≡◌, ℕ, ◌+◌, ◌≤◌, Bool, true, false, cond, List, [], ◌∷◌, length, refl, arith}
+use Rattle.std.proofs.Common.{ℕ, ◌+◌, ◌≤◌, Bool, true, false, cond, List, [], ◌∷◌, length, arith}
 use Rattle.text_lines.specs.Text.{is_feed, lines_of, with_byte}
 
 with_one : (b : ℕ) (ls : List (List ℕ)) → length (with_byte b ls) ≤ length ls + 1

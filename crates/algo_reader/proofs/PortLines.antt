@@ -1,5 +1,5 @@
 -- A line of a port: its port, and what follows.
-use Rattle.std.proofs.Common.{◌≡◌, ◌≤◌, ℕ, ◌+◌, Bool, not, ◌||◌, ◌==◌, nat_lt, true, false, cond, Option, Some, None, List, [], ◌∷◌, ◌++◌, length, map, Result, Ok, Err, refl, ap, sym, ◌∙◌, subst, arith}
+use Rattle.std.proofs.Common.{◌≡◌, ℕ, ◌+◌, Bool, not, ◌||◌, ◌==◌, true, false, cond, Option, Some, None, List, [], ◌∷◌, ◌++◌, length, map, Result, Ok, Err, refl, ap, sym, ◌∙◌, subst, arith}
 use Rattle.std.specs.Prelude.{if◌then◌else◌}
 use Rattle.syn_base.specs.Name.{is_name}
 use Rattle.syn_base.specs.Limits.{bound_of}
@@ -12,7 +12,9 @@ use Rattle.algo_defs.specs.declared.fault.AlgoCause.TheVariants.{BadLine, BadNam
 use Rattle.algo_defs.specs.Words.{Bytes}
 use Rattle.algo_text.specs.Words.{word, count_of}
 use Rattle.algo_text.specs.Formulas.{formula_of}
-use Rattle.algo_text.specs.Blocks.{Block, refused, with_some, and_then, port_line, is_taken, in_line, with_in, out_line, with_out, result_words, with_result}
+use Rattle.algo_text.specs.declared.part.Part.TheVariants.{Inputs, Outputs}
+use Rattle.algo_text.specs.Parts.{admits}
+use Rattle.algo_text.specs.Blocks.{Block, is_above, refused, with_some, and_then, port_line, is_taken, in_line, with_in, out_line, with_out, result_words, with_result}
 use Rattle.algo_reader.specs.Given.{Fails, IsStop, stop}
 use Rattle.algo_reader.specs.Lines.{port_of}
 
@@ -31,7 +33,7 @@ shape true (Some len) false long e1 e2 e3 e4 mk go = length_shape (long len) (e4
 
 pub port_is : (n before : ℕ) (ws : List Bytes) (go : Port → Result Block AlgoError) → port_line n before ws go ≡ and_then (port_of n before ws) go
 unfolding port_of
-port_is n before ws go = shape (is_name (word ws 1)) (count_of (word ws 2)) (nat_lt 63 before) (λ len. nat_lt 64 len)
+port_is n before ws go = shape (is_name (word ws 1)) (count_of (word ws 2)) (is_above Ports (before + 1)) (λ len. is_above PortLength len)
     (stop n (BadName (word ws 1))) (stop n (BadNumber (word ws 2))) (Limit (record { which = Ports; count = before + 1; bound = bound_of Ports }))
     (λ len. Limit (record { which = PortLength; count = len; bound = bound_of PortLength })) (λ len. record { name = word ws 1; len = len }) go
 
@@ -48,9 +50,6 @@ stops_at OutOfMemory asked whole is h = tt
 
 pub equal_test : (m n : ℕ) → m ≡ n → (m == n) ≡ true
 equal_test m n h = grind arith
-
-pub not_less : (m n : ℕ) → n ≤ m → nat_lt m n ≡ false
-not_less m n h = grind arith
 
 -- What follows a port, where the line has its form: its refusal, a name that is taken, or the block with it.
 pub record Follows (whole : Result Block AlgoError) (port : Result Port AlgoError) (go : Port → Result Block AlgoError) : Type 0 where
@@ -75,9 +74,9 @@ in_shape true true x y h g = refl
 in_shape false b x y h g = cc
 in_shape true false x y h g = cc
 
-pub in_follows : (part : ℕ) (b : Block) (n : ℕ) (ws : List Bytes) (k : ℕ) → length ws ≡ 3 → b.part ≡ part → k ≡ length b.ins → Follows (in_line part b n ws) (port_of n k ws) (with_in b n)
-in_follows part b n ws k three at count = record {
-  is = in_shape (length ws == 3) (b.part == part) (refused n BadLine) (port_line n (length b.ins) ws (with_in b n)) (equal_test (length ws) 3 three) (equal_test b.part part at)
+pub in_follows : (b : Block) (n : ℕ) (ws : List Bytes) (k : ℕ) → length ws ≡ 3 → admits b.part Inputs ≡ true → k ≡ length b.ins → Follows (in_line b n ws) (port_of n k ws) (with_in b n)
+in_follows b n ws k three at count = record {
+  is = in_shape (length ws == 3) (admits b.part Inputs) (refused n BadLine) (port_line n (length b.ins) ws (with_in b n)) (equal_test (length ws) 3 three) at
       ∙ port_is n (length b.ins) ws (with_in b n) ∙ ap (λ j. and_then (port_of n j ws) (with_in b n)) (sym count);
 }
 
@@ -87,43 +86,32 @@ in_taken b n p h = taken_shape (is_taken b p.name) _ _ h
 pub in_free : (b : Block) (n : ℕ) (p : Port) → is_taken b p.name ≡ false → with_in b n p ≡ Ok (record b { ins = b.ins ++ p ∷ [] })
 in_free b n p h = free_shape (is_taken b p.name) _ _ h
 
-out_shape : {A : Type 0} (a b c : Bool) (x y : A) → a ≡ true → b ≡ false → c ≡ false → (if not a || b || c then x else y) ≡ y
-out_shape true false false x y h g f = refl
-out_shape false b c x y h g f = cc
-out_shape true true c x y h g f = cc
-out_shape true false true x y h g f = cc
-
-pub out_follows : (least part : ℕ) (b : Block) (n : ℕ) (ws : List Bytes) (k : ℕ) → length ws ≡ 3 → least ≤ b.part → b.part ≤ part → k ≡ length b.outs → Follows (out_line least part b n ws) (port_of n k ws) (with_out part b n)
-out_follows least part b n ws k three low high count = record {
-  is = out_shape (length ws == 3) (nat_lt b.part least) (nat_lt part b.part) (refused n BadLine) (port_line n (length b.outs) ws (with_out part b n)) (equal_test (length ws) 3 three) (not_less b.part least low) (not_less part b.part high)
-      ∙ port_is n (length b.outs) ws (with_out part b n) ∙ ap (λ j. and_then (port_of n j ws) (with_out part b n)) (sym count);
+pub out_follows : (b : Block) (n : ℕ) (ws : List Bytes) (k : ℕ) → length ws ≡ 3 → admits b.part Outputs ≡ true → k ≡ length b.outs → Follows (out_line b n ws) (port_of n k ws) (with_out b n)
+out_follows b n ws k three at count = record {
+  is = in_shape (length ws == 3) (admits b.part Outputs) (refused n BadLine) (port_line n (length b.outs) ws (with_out b n)) (equal_test (length ws) 3 three) at
+      ∙ port_is n (length b.outs) ws (with_out b n) ∙ ap (λ j. and_then (port_of n j ws) (with_out b n)) (sym count);
 }
 
-pub out_taken : (part : ℕ) (b : Block) (n : ℕ) (p : Port) → is_taken b p.name ≡ true → with_out part b n p ≡ Err (stop n (DuplicateName p.name))
-out_taken part b n p h = taken_shape (is_taken b p.name) _ _ h
+pub out_taken : (b : Block) (n : ℕ) (p : Port) → is_taken b p.name ≡ true → with_out b n p ≡ Err (stop n (DuplicateName p.name))
+out_taken b n p h = taken_shape (is_taken b p.name) _ _ h
 
-pub out_free : (part : ℕ) (b : Block) (n : ℕ) (p : Port) → is_taken b p.name ≡ false → with_out part b n p ≡ Ok (record b { part = part; outs = b.outs ++ p ∷ [] })
-out_free part b n p h = free_shape (is_taken b p.name) _ _ h
-
-result_shape : {A : Type 0} (a b : Bool) (x y : A) → a ≡ true → b ≡ false → (if not a || b then x else y) ≡ y
-result_shape true false x y h g = refl
-result_shape false b x y h g = cc
-result_shape true true x y h g = cc
+pub out_free : (b : Block) (n : ℕ) (p : Port) → is_taken b p.name ≡ false → with_out b n p ≡ Ok (record b { part = Outputs; outs = b.outs ++ p ∷ [] })
+out_free b n p h = free_shape (is_taken b p.name) _ _ h
 
 -- behind the port of an output of a function
 abbrev pub expression_then : Block → ℕ → Bytes → Port → Result Block AlgoError
 expression_then b n text p = and_then (formula_of n (map (λ i. i.name) b.ins) text) (with_result b n p)
 
-pub result_follows : (b : Block) (n : ℕ) (ws : List Bytes) (text : Bytes) (k : ℕ) → length ws ≡ 3 → b.part ≤ 1 → k ≡ length b.results → Follows (result_words b n ws text) (port_of n k ws) (expression_then b n text)
-result_follows b n ws text k three high count = record {
-  is = result_shape (length ws == 3) (nat_lt 1 b.part) (refused n BadLine) (port_line n (length b.results) ws (expression_then b n text)) (equal_test (length ws) 3 three) (not_less 1 b.part high)
+pub result_follows : (b : Block) (n : ℕ) (ws : List Bytes) (text : Bytes) (k : ℕ) → length ws ≡ 3 → admits b.part Outputs ≡ true → k ≡ length b.results → Follows (result_words b n ws text) (port_of n k ws) (expression_then b n text)
+result_follows b n ws text k three at count = record {
+  is = in_shape (length ws == 3) (admits b.part Outputs) (refused n BadLine) (port_line n (length b.results) ws (expression_then b n text)) (equal_test (length ws) 3 three) at
       ∙ port_is n (length b.results) ws (expression_then b n text) ∙ ap (λ j. and_then (port_of n j ws) (expression_then b n text)) (sym count);
 }
 
 pub result_taken : (b : Block) (n : ℕ) (p : Port) (e : Expr) → is_taken b p.name ≡ true → with_result b n p e ≡ Err (stop n (DuplicateName p.name))
 result_taken b n p e h = taken_shape (is_taken b p.name) _ _ h
 
-pub result_free : (b : Block) (n : ℕ) (p : Port) (e : Expr) → is_taken b p.name ≡ false → with_result b n p e ≡ Ok (record b { part = 1; results = b.results ++ record { port = p; formula = e } ∷ [] })
+pub result_free : (b : Block) (n : ℕ) (p : Port) (e : Expr) → is_taken b p.name ≡ false → with_result b n p e ≡ Ok (record b { part = Outputs; results = b.results ++ record { port = p; formula = e } ∷ [] })
 result_free b n p e h = free_shape (is_taken b p.name) _ _ h
 
 pub taken_stops : {A : Type 0} (e : AlgoError) (n : ℕ) (w name : Bytes) (whole : Result A AlgoError) → IsStop e (stop n (DuplicateName w)) → w ≡ name → whole ≡ Err (stop n (DuplicateName name)) → Fails e whole

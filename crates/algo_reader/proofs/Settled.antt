@@ -10,7 +10,9 @@ use Rattle.algo_defs.specs.declared.fault.AlgoError.{AlgoError}
 use Rattle.algo_defs.specs.declared.fault.AlgoError.TheVariants.{Refused, Limit, OutOfMemory}
 use Rattle.algo_defs.specs.Words.{Bytes, is_among}
 use Rattle.algo_text.specs.Words.{word, count_of}
-use Rattle.algo_text.specs.Blocks.{Block, new_block, and_then, with_some}
+use Rattle.syn_base.specs.declared.limits.LimitKind.TheVariants.{PortLength}
+use Rattle.algo_text.specs.declared.part.Part.TheVariants.{Inputs}
+use Rattle.algo_text.specs.Blocks.{Block, new_block, is_above, and_then, with_some}
 use Rattle.algo_text.specs.Text.{Stage, before_version, between, in_function, in_graph, in_switch, in_repeat, Reading, numbers_of, defined, end_line, values_line, between_line, begins, by_stage, next_line, line_by, rest_of}
 use Rattle.algo_reader.specs.declared.reader.Reader.{Reader}
 use Rattle.algo_reader.specs.declared.reader.Place.{Place}
@@ -55,11 +57,11 @@ module _ (r : Reading) (b : Block) (h : r.stage ≡ between) (n : ℕ) where
 
   same_end : (body : ℕ → Body) (ws : List Bytes) → Same (end_line body r n ws) (end_line body (with_block r b) n ws)
   same_end body ws = same_if (not (length ws == 3)) _ _ _ _ (alike _) (same_if (is_name (word ws 1)) _ _ _ _
-      (same_some (count_of (word ws 2)) _ _ _ (λ len. same_if (nat_lt 64 len) _ _ _ _ (alike _) (same_defined (word ws 1) (body len)))) (alike _))
+      (same_some (count_of (word ws 2)) _ _ _ (λ len. same_if (is_above PortLength len) _ _ _ _ (alike _) (same_defined (word ws 1) (body len)))) (alike _))
 
   same_values : (body : List ℤ → Body) (ws : List Bytes) → Same (values_line body r n ws) (values_line body (with_block r b) n ws)
   same_values body ws = same_if (nat_lt (length ws) 4 || not (bytes_eq (word ws 2) (codes "="))) _ _ _ _ (alike _) (same_if (is_name (word ws 1)) _ _ _ _
-      (same_then (numbers_of n (drop 3 ws)) _ _ (λ values. same_if (nat_lt 64 (length values)) _ _ _ _ (alike _) (same_defined (word ws 1) (body values)))) (alike _))
+      (same_then (numbers_of n (drop 3 ws)) _ _ (λ values. same_if (is_above PortLength (length values)) _ _ _ _ (alike _) (same_defined (word ws 1) (body values)))) (alike _))
 
   same_between : (ws : List Bytes) → Same (between_line r n ws) (between_line (with_block r b) n ws)
   same_between ws =
@@ -95,7 +97,7 @@ Forgets lines = (r : Reading) (b : Block) (n : ℕ) → r.stage ≡ between → 
 
 settled_at : (lines : List Bytes) → Forgets lines → (r : Reading) (n : ℕ) (s : Stage) → r.stage ≡ s → rest_of r n lines ≡ rest_of (record r { block = kept s r.block }) n lines
 settled_at lines forgets r n before_version h = refl
-settled_at lines forgets r n between h = forgets r (new_block [] 0) n h
+settled_at lines forgets r n between h = forgets r (new_block Inputs [] 0) n h
 settled_at lines forgets r n in_function h = refl
 settled_at lines forgets r n in_graph h = refl
 settled_at lines forgets r n in_switch h = refl

@@ -1,5 +1,5 @@
 -- Parts of lines, apart from the block that they stand in.
-use Rattle.std.specs.Prelude.{ℕ, ◌+◌, nat_lt, Bool, not, min, take, drop, List, Option, Some, None, Result, Ok, if◌then◌else◌}
+use Rattle.std.specs.Prelude.{ℕ, ◌+◌, Bool, not, min, take, drop, List, Option, Some, None, Result, Ok, if◌then◌else◌}
 use Rattle.std.specs.List.{position_or_len}
 use Rattle.syn_base.specs.Name.{is_name, is_name_byte}
 use Rattle.syn_base.specs.declared.limits.LimitKind.TheVariants.{PortLength, Ports}
@@ -8,7 +8,7 @@ use Rattle.algo_defs.specs.declared.fault.AlgoError.{AlgoError}
 use Rattle.algo_defs.specs.declared.fault.AlgoCause.TheVariants.{BadName, BadNumber}
 use Rattle.algo_defs.specs.Words.{Bytes}
 use Rattle.algo_text.specs.Words.{word, count_of}
-use Rattle.algo_text.specs.Blocks.{refused, above, with_some}
+use Rattle.algo_text.specs.Blocks.{refused, is_above, above, with_some}
 
 abbrev pub some_name : Bytes → Option Bytes
 some_name w = if is_name w then Some w else None
@@ -18,8 +18,8 @@ unfoldable pub port_of : ℕ → ℕ → List Bytes → Result Port AlgoError
 port_of n before ws =
     if is_name (word ws 1) then
     with_some (count_of (word ws 2)) (refused n (BadNumber (word ws 2))) (λ len.
-    if nat_lt 63 before then above Ports (before + 1) else
-    if nat_lt 64 len then above PortLength len else
+    if is_above Ports (before + 1) then above Ports (before + 1) else
+    if is_above PortLength len then above PortLength len else
     Ok (record { name = word ws 1; len = len }))
     else refused n (BadName (word ws 1))
 

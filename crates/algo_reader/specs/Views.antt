@@ -1,17 +1,20 @@
 -- What contracts see of the open block and of the reader.
-use Rattle.std.specs.Prelude.{ℕ, ℤ, ◌==◌, nat_lt, length, Bool, true, false, List, [], Option, Some, None, Result, Ok, Err}
+use Rattle.std.specs.Prelude.{ℕ, ℤ, nat_lt, length, Bool, true, false, List, [], Option, Some, None, Result, Ok, Err}
 use Rattle.algo_defs.specs.Words.{Bytes}
 use Rattle.algo_defs.specs.declared.definition.Body.{Body}
 use Rattle.algo_defs.specs.declared.definition.Body.TheVariants.{Sensor, Actuator, Constant, Delay, Function, Graph, Switch, Repeat}
 use Rattle.algo_defs.specs.declared.fault.AlgoError.{AlgoError}
 use Rattle.algo_defs.specs.declared.fault.AlgoCause.TheVariants.{BadLine}
+use Rattle.algo_text.specs.declared.part.Part.{Part}
+use Rattle.algo_text.specs.declared.part.Part.TheVariants as parts
+use Rattle.algo_text.specs.Parts.{is_whole}
 use Rattle.algo_text.specs.Blocks.{Block, new_block, refused}
 use Rattle.algo_text.specs.Text.{Stage, before_version, between, in_function, in_graph, in_switch, in_repeat, Reading, block_end}
 use Rattle.algo_reader.specs.declared.function.FunctionBlock.{FunctionBlock}
 use Rattle.algo_reader.specs.declared.graph.GraphBlock.{GraphBlock}
 use Rattle.algo_reader.specs.declared.switch.SwitchBlock.{SwitchBlock}
-use Rattle.algo_reader.specs.declared.switch.Part.{Part}
-use Rattle.algo_reader.specs.declared.switch.Part.TheVariants.{Inputs, Outputs, Cases, Whole}
+use Rattle.algo_reader.specs.declared.switch.SwitchPart.{SwitchPart}
+use Rattle.algo_reader.specs.declared.switch.SwitchPart.TheVariants.{Inputs, Outputs, Cases, Whole}
 use Rattle.algo_reader.specs.declared.repetition.RepeatBlock.{RepeatBlock}
 use Rattle.algo_reader.specs.declared.reader.Reader.{Reader}
 use Rattle.algo_reader.specs.declared.reader.Kind.{Kind}
@@ -20,31 +23,31 @@ use Rattle.algo_reader.specs.declared.reader.Place.{Place}
 use Rattle.algo_reader.specs.declared.reader.Place.TheVariants as places
 
 abbrev pub function_view : FunctionBlock → Block
-function_view s = record (new_block s.name s.line) { part = s.part; ins = s.ins; results = s.results.items }
+function_view s = record (new_block parts.Inputs s.name s.line) { part = s.part; ins = s.ins; results = s.results.items }
 
 abbrev pub graph_view : GraphBlock → Block
-graph_view s = record (new_block s.name s.line) { part = s.part; ins = s.ins; outs = s.outs; references = s.references.items; edges = s.edges.items }
+graph_view s = record (new_block parts.Inputs s.name s.line) { part = s.part; ins = s.ins; outs = s.outs; references = s.references.items; edges = s.edges.items }
 
 -- the name of the conditioning input
 abbrev pub on_of : Option Bytes → Bytes
 on_of None = []
 on_of (Some on) = on
 
-abbrev pub part_of : Option Bytes → Part → ℕ
-part_of None _ = 0
-part_of (Some on) Inputs = 1
-part_of (Some on) Outputs = 2
-part_of (Some on) Cases = 3
-part_of (Some on) (Whole def line) = 4
+abbrev pub part_of : Option Bytes → SwitchPart → Part
+part_of None _ = parts.Conditioning
+part_of (Some on) Inputs = parts.Inputs
+part_of (Some on) Outputs = parts.Outputs
+part_of (Some on) Cases = parts.Cases
+part_of (Some on) (Whole def line) = parts.Whole
 
-abbrev pub otherwise_of : Option Bytes → Part → Bytes
+abbrev pub otherwise_of : Option Bytes → SwitchPart → Bytes
 otherwise_of None _ = []
 otherwise_of (Some on) Inputs = []
 otherwise_of (Some on) Outputs = []
 otherwise_of (Some on) Cases = []
 otherwise_of (Some on) (Whole def line) = def
 
-abbrev pub otherwise_line_of : Option Bytes → Part → ℕ
+abbrev pub otherwise_line_of : Option Bytes → SwitchPart → ℕ
 otherwise_line_of None _ = 0
 otherwise_line_of (Some on) Inputs = 0
 otherwise_line_of (Some on) Outputs = 0
@@ -52,10 +55,10 @@ otherwise_line_of (Some on) Cases = 0
 otherwise_line_of (Some on) (Whole def line) = line
 
 abbrev pub switch_view : SwitchBlock → Block
-switch_view s = record (new_block s.name s.line) { part = part_of s.on s.part; on = on_of s.on; ins = s.ins; outs = s.outs; cases = s.cases.items; otherwise = otherwise_of s.on s.part; otherwise_line = otherwise_line_of s.on s.part }
+switch_view s = record (new_block parts.Conditioning s.name s.line) { part = part_of s.on s.part; on = on_of s.on; ins = s.ins; outs = s.outs; cases = s.cases.items; otherwise = otherwise_of s.on s.part; otherwise_line = otherwise_line_of s.on s.part }
 
 abbrev pub repeat_view : RepeatBlock → Block
-repeat_view s = record (new_block s.name s.line) { copies = s.copies; def = s.def; frontier = s.frontier.items }
+repeat_view s = record (new_block parts.Inputs s.name s.line) { copies = s.copies; def = s.def; frontier = s.frontier.items }
 
 abbrev pub stage_of : Place → Stage
 stage_of places.BeforeVersion = before_version
@@ -67,8 +70,8 @@ stage_of (places.InRepeat r) = in_repeat
 
 -- the open block, which is empty where none is open
 abbrev pub block_of : Place → Block
-block_of places.BeforeVersion = new_block [] 0
-block_of places.Between = new_block [] 0
+block_of places.BeforeVersion = new_block parts.Inputs [] 0
+block_of places.Between = new_block parts.Inputs [] 0
 block_of (places.InFunction f) = function_view f
 block_of (places.InGraph g) = graph_view g
 block_of (places.InSwitch s) = switch_view s
@@ -80,7 +83,7 @@ reading r = record { stage = stage_of r.place; names = r.names; defs = r.defs.it
 -- the open block, and none between definitions
 abbrev pub kept : Stage → Block → Block
 kept before_version b = b
-kept between b = new_block [] 0
+kept between b = new_block parts.Inputs [] 0
 kept in_function b = b
 kept in_graph b = b
 kept in_switch b = b
@@ -115,7 +118,7 @@ abbrev pub graph_end : Reading → ℕ → List Bytes → Result Reading AlgoErr
 graph_end r n ws = block_end true (Graph r.block.ins r.block.outs r.block.references r.block.edges) r n ws
 
 abbrev pub switch_end : Reading → ℕ → List Bytes → Result Reading AlgoError
-switch_end r n ws = block_end (r.block.part == 4) (Switch r.block.on r.block.ins r.block.outs r.block.cases r.block.otherwise r.block.otherwise_line) r n ws
+switch_end r n ws = block_end (is_whole r.block.part) (Switch r.block.on r.block.ins r.block.outs r.block.cases r.block.otherwise r.block.otherwise_line) r n ws
 
 abbrev pub repeat_end : Reading → ℕ → List Bytes → Result Reading AlgoError
 repeat_end r n ws = block_end true (Repeat r.block.copies r.block.def r.block.frontier) r n ws

@@ -2,6 +2,7 @@
 ghost use Rattle.std.specs.Prelude.{◌≡◌};
 ghost use Rattle.algo_reader.specs.Given.{IsStop, stop, Adds, Has};
 ghost use Rattle.syn_base.specs.Limits.{bound_of};
+ghost use Rattle.algo_text.specs.Blocks.{is_above};
 ghost use Rattle.algo_defs.specs.declared.fault.AlgoCause.TheVariants.{NotText, BadLine, BadName, BadNumber, BadExpression, DuplicateName, UnknownName};
 ghost use Rattle.algo_defs.specs.declared.fault.AlgoError.TheVariants.{Limit};
 
@@ -69,7 +70,14 @@ pub fn unknown(alloc: Global, line: u32, word: &[u8]) -> AlgoError
     }
 }
 
-/// A quantity above its bound.
+/// A quantity is above its bound.
+pub fn is_above(which: LimitKind, count: u128) -> bool
+    ensures { result ≡ is_above which count }
+{
+    count > which.bound()
+}
+
+/// The refusal of a quantity above its bound.
 pub fn above(which: LimitKind, count: u128) -> AlgoError
     ensures { result ≡ Limit (record { which = which; count = count; bound = bound_of which }) }
 {

@@ -10,6 +10,7 @@ use crate::formula::read_formula;
 use crate::ports::{Ports, read_port};
 use crate::words::Words;
 use algo_defs::{AlgoError, Output};
+use algo_text::Part;
 use std::alloc::Global;
 use syn_base::Name;
 
@@ -18,8 +19,8 @@ use syn_base::Name;
 pub struct FunctionBlock {
     pub name: Name,
     pub line: u32,
-    /// 0 at the inputs, 1 at the outputs.
-    pub part: u32,
+    /// Inputs or outputs.
+    pub part: Part,
     pub ins: Ports,
     pub results: Vec<Output>,
 }
@@ -57,12 +58,12 @@ fn equals_in(code: &[u8]) -> Option<usize>
 impl FunctionBlock {
     /// A function without lines. It takes no memory.
     pub fn new(alloc: Global, name: Name, line: u32) -> FunctionBlock
-        ensures { function_view result ≡ new_block name line }
+        ensures { function_view result ≡ new_block Part.Inputs name line }
     {
         FunctionBlock {
             name,
             line,
-            part: 0,
+            part: Part::Inputs,
             ins: Ports::new(alloc),
             results: Vec::new(alloc),
         }
@@ -79,9 +80,9 @@ impl FunctionBlock {
 
     /// in P LEN
     pub fn in_line(&mut self, alloc: Global, number: u32, words: &Words) -> Result<(), AlgoError>
-        ensures { Steps result (function_view self.new) (in_line 0 (function_view self.old) number words.now) }
+        ensures { Steps result (function_view self.new) (in_line (function_view self.old) number words.now) }
     {
-        if words.len() != 3 || self.part != 0 {
+        if words.len() != 3 || !self.part.admits(Part::Inputs) {
             return Err(bad_line(number));
         }
         let port = read_port(alloc, number, self.ins.len(), words)?;
@@ -102,7 +103,7 @@ impl FunctionBlock {
     ) -> Result<(), AlgoError>
         ensures { Steps result (function_view self.new) (result_words (function_view self.old) number words.now text.now) }
     {
-        if words.len() != 3 || self.part > 1 {
+        if words.len() != 3 || !self.part.admits(Part::Outputs) {
             return Err(bad_line(number));
         }
         let port = read_port(alloc, number, count(&self.results), words)?;
@@ -110,7 +111,7 @@ impl FunctionBlock {
         if self.is_taken(&port.name) {
             return Err(duplicate(alloc, number, port.name.as_bytes()));
         }
-        self.part = 1;
+        self.part = Part::Outputs;
         push(&mut self.results, Output { port, formula })?;
         Ok(())
     }

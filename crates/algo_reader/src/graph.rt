@@ -6,11 +6,12 @@ ghost use Rattle.algo_text.specs.Blocks.{in_line, out_line, reference_line, edge
 ghost use Rattle.algo_reader.specs.Given.{Steps};
 ghost use Rattle.algo_reader.specs.Views.{graph_view};
 
-use crate::fault::{above, bad_line, bad_name, duplicate, push};
+use crate::fault::{above, bad_line, bad_name, duplicate, is_above, push};
 use crate::ports::{Ports, read_port};
 use crate::word::{read_end, read_name};
 use crate::words::Words;
 use algo_defs::{AlgoError, Edge, Reference};
+use algo_text::Part;
 use std::alloc::Global;
 use syn_base::{LimitKind, Name};
 
@@ -19,8 +20,8 @@ use syn_base::{LimitKind, Name};
 pub struct GraphBlock {
     pub name: Name,
     pub line: u32,
-    /// 0 at the inputs, 1 at the outputs, 2 at the references, 3 at the edges.
-    pub part: u32,
+    /// Inputs, outputs, references or edges.
+    pub part: Part,
     pub ins: Ports,
     pub outs: Ports,
     pub references: Vec<Reference>,
@@ -41,12 +42,12 @@ fn has_reference(references: &[Reference], name: &[u8]) -> bool
 impl GraphBlock {
     /// A graph without lines. It takes no memory.
     pub fn new(alloc: Global, name: Name, line: u32) -> GraphBlock
-        ensures { graph_view result ≡ new_block name line }
+        ensures { graph_view result ≡ new_block Part.Inputs name line }
     {
         GraphBlock {
             name,
             line,
-            part: 0,
+            part: Part::Inputs,
             ins: Ports::new(alloc),
             outs: Ports::new(alloc),
             references: Vec::new(alloc),
@@ -65,9 +66,9 @@ impl GraphBlock {
 
     /// in P LEN
     pub fn in_line(&mut self, alloc: Global, number: u32, words: &Words) -> Result<(), AlgoError>
-        ensures { Steps result (graph_view self.new) (in_line 0 (graph_view self.old) number words.now) }
+        ensures { Steps result (graph_view self.new) (in_line (graph_view self.old) number words.now) }
     {
-        if words.len() != 3 || self.part != 0 {
+        if words.len() != 3 || !self.part.admits(Part::Inputs) {
             return Err(bad_line(number));
         }
         let port = read_port(alloc, number, self.ins.len(), words)?;
@@ -80,16 +81,16 @@ impl GraphBlock {
 
     /// out P LEN
     pub fn out_line(&mut self, alloc: Global, number: u32, words: &Words) -> Result<(), AlgoError>
-        ensures { Steps result (graph_view self.new) (out_line 0 1 (graph_view self.old) number words.now) }
+        ensures { Steps result (graph_view self.new) (out_line (graph_view self.old) number words.now) }
     {
-        if words.len() != 3 || self.part > 1 {
+        if words.len() != 3 || !self.part.admits(Part::Outputs) {
             return Err(bad_line(number));
         }
         let port = read_port(alloc, number, self.outs.len(), words)?;
         if self.is_taken(&port.name) {
             return Err(duplicate(alloc, number, port.name.as_bytes()));
         }
-        self.part = 1;
+        self.part = Part::Outputs;
         self.outs.add(port)?;
         Ok(())
     }
@@ -103,7 +104,7 @@ impl GraphBlock {
     ) -> Result<(), AlgoError>
         ensures { Steps result (graph_view self.new) (reference_line (graph_view self.old) number words.now) }
     {
-        if words.len() != 3 || self.part > 2 {
+        if words.len() != 3 || !self.part.admits(Part::References) {
             return Err(bad_line(number));
         }
         let Some(name) = read_name(alloc, words.get(1))? else {
@@ -112,13 +113,14 @@ impl GraphBlock {
         let Some(def) = read_name(alloc, words.get(2))? else {
             return Err(bad_name(alloc, number, words.get(2)));
         };
-        if self.references.len() > 63 {
-            return Err(above(LimitKind::References, self.references.len() as u128 + 1));
+        let count = self.references.len() as u128 + 1;
+        if is_above(LimitKind::References, count) {
+            return Err(above(LimitKind::References, count));
         }
         if has_reference(self.references.as_slice(), words.get(1)) {
             return Err(duplicate(alloc, number, words.get(1)));
         }
-        self.part = 2;
+        self.part = Part::References;
         push(
             &mut self.references,
             Reference {
@@ -143,7 +145,7 @@ impl GraphBlock {
         let Some(to) = read_end(alloc, words.get(2))? else {
             return Err(bad_name(alloc, number, words.get(2)));
         };
-        self.part = 3;
+        self.part = Part::Edges;
         push(
             &mut self.edges,
             Edge {

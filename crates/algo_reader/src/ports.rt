@@ -1,10 +1,11 @@
 //! Ports of a block, and the lines that give them.
 ghost use Rattle.std.specs.Prelude.{◌≡◌, ◌<◌, ◌≤◌, length, map, [], IfOk};
+ghost use Rattle.syn_base.specs.Limits.{bound_of};
 ghost use Rattle.algo_defs.specs.Words.{is_among};
 ghost use Rattle.algo_reader.specs.Given.{Makes, Adds};
 ghost use Rattle.algo_reader.specs.Lines.{port_of};
 
-use crate::fault::{above, bad_name, bad_number, push};
+use crate::fault::{above, bad_name, bad_number, is_above, push};
 use crate::word::{read_count, read_name};
 use crate::words::Words;
 use algo_defs::AlgoError;
@@ -13,7 +14,7 @@ use std::alloc::Global;
 use std::marker::Model;
 use syn_base::{Items, LimitKind};
 
-/// Up to 64 ports, seen as their list.
+/// Ports up to their bound, seen as their list.
 #[derive(Drop)]
 pub struct Ports {
     ports: Vec<Port>,
@@ -22,12 +23,14 @@ pub struct Ports {
 impl Model for Ports {
     ghost use Rattle.std.specs.Prelude.{List, length, ◌≤◌};
     ghost use Rattle.body_lang.specs.declared.expression.Port.{Port};
+    ghost use Rattle.syn_base.specs.Limits.{bound_of};
+    ghost use Rattle.syn_base.specs.declared.limits.LimitKind.TheVariants.{Ports as PortCount};
 
     ghost Value = { List Port };
 
     ghost view = { λ s. s.ports.items };
 
-    ghost invariant = { λ s. length s.ports.items ≤ 64 };
+    ghost invariant = { λ s. length s.ports.items ≤ bound_of PortCount };
 }
 
 impl Ports {
@@ -43,7 +46,7 @@ impl Ports {
     /// The ports.
     pub fn as_slice(&self) -> &[Port]
         ensures same { result.now ≡ self.now }
-        ensures few { length self.now ≤ 64 }
+        ensures few { length self.now ≤ bound_of LimitKind.Ports }
     {
         self.ports.as_slice()
     }
@@ -64,7 +67,7 @@ impl Ports {
 
     /// Adds a port at the end.
     pub fn add(&mut self, port: Port) -> Result<(), AlgoError>
-        requires { length self.old < 64 }
+        requires { length self.old < bound_of LimitKind.Ports }
         ensures { Adds result self.old port self.new }
     {
         push(&mut self.ports, port)
@@ -99,7 +102,7 @@ pub fn read_port(
 ) -> Result<Port, AlgoError>
     requires { length words.now ≡ 3 }
     ensures port { Makes result (port_of number before words.now) }
-    ensures few { IfOk result (λ _. before < 64) }
+    ensures few { IfOk result (λ _. before < bound_of LimitKind.Ports) }
 {
     let Some(name) = read_name(alloc, words.get(1))? else {
         return Err(bad_name(alloc, number, words.get(1)));
@@ -107,10 +110,11 @@ pub fn read_port(
     let Some(len) = read_count(words.get(2)) else {
         return Err(bad_number(alloc, number, words.get(2)));
     };
-    if before > 63 {
-        return Err(above(LimitKind::Ports, before as u128 + 1));
+    let count = before as u128 + 1;
+    if is_above(LimitKind::Ports, count) {
+        return Err(above(LimitKind::Ports, count));
     }
-    if len > 64 {
+    if is_above(LimitKind::PortLength, u128::from(len)) {
         return Err(above(LimitKind::PortLength, u128::from(len)));
     }
     Ok(Port {

@@ -2,16 +2,16 @@
 ghost use Rattle.std.specs.Prelude.{◌≡◌, ◌<◌, ◌≤◌, length};
 ghost use Rattle.text_lines.specs.Text.{lines_of};
 ghost use Rattle.algo_text.specs.Blocks.{new_block};
-ghost use Rattle.algo_text.specs.Text.{definitions_of, start, version_line, end_line, values_line, opening_line, repeat_line, between_line, function_line, graph_line, switch_line, frontier_line, by_stage, next_line, at_end, in_function, in_graph, in_switch, in_repeat};
+ghost use Rattle.algo_text.specs.Text.{definitions_of, start, first_part, version_line, end_line, values_line, opening_line, repeat_line, between_line, function_line, graph_line, switch_line, frontier_line, by_stage, next_line, at_end, in_function, in_graph, in_switch, in_repeat};
 ghost use Rattle.algo_reader.specs.Given.{Steps, Gives};
 ghost use Rattle.algo_reader.specs.Views.{reading, settle, function_end, graph_end, switch_end, repeat_end, any_end, stage_of, block_of, stage_for, end_body, values_body, function_view, graph_view, switch_view, repeat_view};
 
-use crate::fault::{above, bad_line, bad_name, bad_number, duplicate, not_text, push};
+use crate::fault::{above, bad_line, bad_name, bad_number, duplicate, is_above, not_text, push};
 use crate::function::FunctionBlock;
 use crate::graph::GraphBlock;
 use crate::names::add_name;
 use crate::repetition::RepeatBlock;
-use crate::switch::{Part, SwitchBlock};
+use crate::switch::{SwitchBlock, SwitchPart};
 use crate::values::read_values;
 use crate::word::{begins, read_count, read_name};
 use crate::words::Words;
@@ -50,7 +50,7 @@ pub struct Reader<'a> {
 
 fn open_block(alloc: Global, kind: Kind, name: Name, line: u32) -> Place
     ensures stage { stage_of result ≡ stage_for kind }
-    ensures block { block_of result ≡ new_block name line }
+    ensures block { block_of result ≡ new_block (first_part (stage_for kind)) name line }
 {
     match kind {
         Kind::Function => Place::InFunction(FunctionBlock::new(alloc, name, line)),
@@ -128,7 +128,7 @@ impl<'a> Reader<'a> {
         let Some(len) = read_count(words.get(2)) else {
             return Err(bad_number(alloc, number, words.get(2)));
         };
-        if len > 64 {
+        if is_above(LimitKind::PortLength, u128::from(len)) {
             return Err(above(LimitKind::PortLength, u128::from(len)));
         }
         if !add_name(&mut self.names, words.get(1))? {
@@ -163,7 +163,7 @@ impl<'a> Reader<'a> {
             return Err(bad_name(alloc, number, words.get(1)));
         };
         let values = read_values(alloc, number, words, 3)?;
-        if values.len() > 64 {
+        if is_above(LimitKind::PortLength, values.len() as u128) {
             return Err(above(LimitKind::PortLength, values.len() as u128));
         }
         if !add_name(&mut self.names, words.get(1))? {
@@ -222,7 +222,7 @@ impl<'a> Reader<'a> {
         let Some(copies) = read_count(words.get(2)) else {
             return Err(bad_number(alloc, number, words.get(2)));
         };
-        if copies > 64 {
+        if is_above(LimitKind::Copies, u128::from(copies)) {
             return Err(above(LimitKind::Copies, u128::from(copies)));
         }
         if !add_name(&mut self.names, words.get(1))? {
@@ -328,7 +328,7 @@ impl<'a> Reader<'a> {
         if words.len() != 1 {
             return Err(bad_line(number));
         }
-        let (Some(on), Part::Whole(otherwise, otherwise_line)) = (block.on, block.part) else {
+        let (Some(on), SwitchPart::Whole(otherwise, otherwise_line)) = (block.on, block.part) else {
             return Err(bad_line(number));
         };
         self.place = Place::Between;

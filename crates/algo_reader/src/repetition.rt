@@ -3,10 +3,11 @@ ghost use Rattle.std.specs.Prelude.{◌≡◌, ◌∷◌, []};
 ghost use Rattle.algo_defs.specs.Words.{is_among};
 ghost use Rattle.algo_defs.specs.Outer.{all_outer, outer_names};
 ghost use Rattle.algo_text.specs.Blocks.{fork_line, diffuse_line, iterate_line, join_line, new_block, with_frontier};
+ghost use Rattle.algo_text.specs.declared.part.Part.TheVariants.{Inputs};
 ghost use Rattle.algo_reader.specs.Given.{Steps};
 ghost use Rattle.algo_reader.specs.Views.{repeat_view};
 
-use crate::fault::{above, bad_line, bad_name, duplicate, push};
+use crate::fault::{above, bad_line, bad_name, duplicate, is_above, push};
 use crate::word::read_name;
 use crate::words::Words;
 use algo_defs::{AlgoError, Frontier, FrontierLine};
@@ -50,7 +51,7 @@ fn has_outer(lines: &[FrontierLine], name: &[u8]) -> bool
 impl RepeatBlock {
     /// A repetition without lines. It takes no memory.
     pub fn new(alloc: Global, name: Name, line: u32, copies: u32, def: Name) -> RepeatBlock
-        ensures { repeat_view result ≡ record (new_block name line) { copies = copies; def = def } }
+        ensures { repeat_view result ≡ record (new_block Inputs name line) { copies = copies; def = def } }
     {
         RepeatBlock {
             name,
@@ -72,8 +73,9 @@ impl RepeatBlock {
         requires { outer_names frontier ≡ outer.now ∷ [] }
         ensures { Steps result (repeat_view self.new) (with_frontier (repeat_view self.old) number frontier) }
     {
-        if self.frontier.len() > 63 {
-            return Err(above(LimitKind::Ports, self.frontier.len() as u128 + 1));
+        let count = self.frontier.len() as u128 + 1;
+        if is_above(LimitKind::Ports, count) {
+            return Err(above(LimitKind::Ports, count));
         }
         if has_outer(self.frontier.as_slice(), outer) {
             return Err(duplicate(alloc, number, outer));
@@ -98,8 +100,9 @@ impl RepeatBlock {
         requires { outer_names frontier ≡ outer.now ∷ last.now ∷ [] }
         ensures { Steps result (repeat_view self.new) (with_frontier (repeat_view self.old) number frontier) }
     {
-        if self.frontier.len() > 63 {
-            return Err(above(LimitKind::Ports, self.frontier.len() as u128 + 1));
+        let count = self.frontier.len() as u128 + 1;
+        if is_above(LimitKind::Ports, count) {
+            return Err(above(LimitKind::Ports, count));
         }
         if has_outer(self.frontier.as_slice(), outer) {
             return Err(duplicate(alloc, number, outer));

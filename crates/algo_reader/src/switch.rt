@@ -5,17 +5,18 @@ ghost use Rattle.algo_text.specs.Blocks.{in_line, out_line, on_line, case_line, 
 ghost use Rattle.algo_reader.specs.Given.{Steps};
 ghost use Rattle.algo_reader.specs.Views.{switch_view, part_of, on_of};
 
-use crate::fault::{above, bad_line, bad_name, bad_number, duplicate, push};
+use crate::fault::{above, bad_line, bad_name, bad_number, duplicate, is_above, push};
 use crate::ports::{Ports, read_port};
 use crate::word::{read_name, read_number};
 use crate::words::Words;
 use algo_defs::{AlgoError, Case};
+use algo_text::Part;
 use std::alloc::Global;
 use syn_base::{LimitKind, Name};
 
-/// The kind of the last line behind `on`.
+/// The part of a conditioned definition behind its line `on` in which the last line stands.
 #[derive(Drop)]
-pub enum Part {
+pub enum SwitchPart {
     Inputs,
     Outputs,
     Cases,
@@ -30,7 +31,7 @@ pub struct SwitchBlock {
     pub line: u32,
     /// The conditioning input, once its line is read.
     pub on: Option<Name>,
-    pub part: Part,
+    pub part: SwitchPart,
     pub ins: Ports,
     pub outs: Ports,
     pub cases: Vec<Case>,
@@ -39,31 +40,31 @@ pub struct SwitchBlock {
 impl SwitchBlock {
     /// A conditioned definition without lines. It takes no memory.
     pub fn new(alloc: Global, name: Name, line: u32) -> SwitchBlock
-        ensures { switch_view result ≡ new_block name line }
+        ensures { switch_view result ≡ new_block Part.Conditioning name line }
     {
         SwitchBlock {
             name,
             line,
             on: None,
-            part: Part::Inputs,
+            part: SwitchPart::Inputs,
             ins: Ports::new(alloc),
             outs: Ports::new(alloc),
             cases: Vec::new(alloc),
         }
     }
 
-    /// 0 before `on`, 1 at the inputs, 2 at the outputs, 3 at the cases, 4 where it is whole.
-    fn part(&self) -> u32
+    /// The part in which the last line stands.
+    fn part(&self) -> Part
         ensures { result ≡ part_of self.now.on self.now.part }
     {
         if self.on.is_none() {
-            return 0;
+            return Part::Conditioning;
         }
         match &self.part {
-            Part::Inputs => 1,
-            Part::Outputs => 2,
-            Part::Cases => 3,
-            Part::Whole(_, _) => 4,
+            SwitchPart::Inputs => Part::Inputs,
+            SwitchPart::Outputs => Part::Outputs,
+            SwitchPart::Cases => Part::Cases,
+            SwitchPart::Whole(_, _) => Part::Whole,
         }
     }
 
@@ -89,22 +90,22 @@ impl SwitchBlock {
     pub fn on_line(&mut self, alloc: Global, number: u32, words: &Words) -> Result<(), AlgoError>
         ensures { Steps result (switch_view self.new) (on_line (switch_view self.old) number words.now) }
     {
-        if words.len() != 2 || self.part() != 0 {
+        if words.len() != 2 || !self.part().is_conditioning() {
             return Err(bad_line(number));
         }
         let Some(on) = read_name(alloc, words.get(1))? else {
             return Err(bad_name(alloc, number, words.get(1)));
         };
         self.on = Some(on);
-        self.part = Part::Inputs;
+        self.part = SwitchPart::Inputs;
         Ok(())
     }
 
     /// in P LEN
     pub fn in_line(&mut self, alloc: Global, number: u32, words: &Words) -> Result<(), AlgoError>
-        ensures { Steps result (switch_view self.new) (in_line 1 (switch_view self.old) number words.now) }
+        ensures { Steps result (switch_view self.new) (in_line (switch_view self.old) number words.now) }
     {
-        if words.len() != 3 || self.part() != 1 {
+        if words.len() != 3 || !self.part().admits(Part::Inputs) {
             return Err(bad_line(number));
         }
         let port = read_port(alloc, number, self.ins.len(), words)?;
@@ -117,16 +118,16 @@ impl SwitchBlock {
 
     /// out P LEN
     pub fn out_line(&mut self, alloc: Global, number: u32, words: &Words) -> Result<(), AlgoError>
-        ensures { Steps result (switch_view self.new) (out_line 1 2 (switch_view self.old) number words.now) }
+        ensures { Steps result (switch_view self.new) (out_line (switch_view self.old) number words.now) }
     {
-        if words.len() != 3 || self.part() < 1 || self.part() > 2 {
+        if words.len() != 3 || !self.part().admits(Part::Outputs) {
             return Err(bad_line(number));
         }
         let port = read_port(alloc, number, self.outs.len(), words)?;
         if self.is_taken(&port.name) {
             return Err(duplicate(alloc, number, port.name.as_bytes()));
         }
-        self.part = Part::Outputs;
+        self.part = SwitchPart::Outputs;
         self.outs.add(port)?;
         Ok(())
     }
@@ -135,7 +136,7 @@ impl SwitchBlock {
     pub fn case_line(&mut self, alloc: Global, number: u32, words: &Words) -> Result<(), AlgoError>
         ensures { Steps result (switch_view self.new) (case_line (switch_view self.old) number words.now) }
     {
-        if words.len() != 3 || self.part() == 0 || self.part() > 3 {
+        if words.len() != 3 || !self.part().admits(Part::Cases) {
             return Err(bad_line(number));
         }
         let Some(def) = read_name(alloc, words.get(2))? else {
@@ -144,10 +145,11 @@ impl SwitchBlock {
         let Some(value) = read_number(words.get(1)) else {
             return Err(bad_number(alloc, number, words.get(1)));
         };
-        if self.cases.len() > 63 {
-            return Err(above(LimitKind::Cases, self.cases.len() as u128 + 1));
+        let count = self.cases.len() as u128 + 1;
+        if is_above(LimitKind::Cases, count) {
+            return Err(above(LimitKind::Cases, count));
         }
-        self.part = Part::Cases;
+        self.part = SwitchPart::Cases;
         push(
             &mut self.cases,
             Case {
@@ -168,13 +170,13 @@ impl SwitchBlock {
     ) -> Result<(), AlgoError>
         ensures { Steps result (switch_view self.new) (otherwise_line (switch_view self.old) number words.now) }
     {
-        if words.len() != 2 || self.part() == 0 || self.part() > 3 {
+        if words.len() != 2 || !self.part().admits(Part::Cases) {
             return Err(bad_line(number));
         }
         let Some(def) = read_name(alloc, words.get(1))? else {
             return Err(bad_name(alloc, number, words.get(1)));
         };
-        self.part = Part::Whole(def, number);
+        self.part = SwitchPart::Whole(def, number);
         Ok(())
     }
 }

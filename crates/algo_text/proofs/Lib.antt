@@ -2,3 +2,5 @@ pub mod Texts
 pub mod Grammars
 pub mod PortNames
 pub mod Judged
+pub mod Checks
+pub mod Parts

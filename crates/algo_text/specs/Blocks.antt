@@ -20,14 +20,17 @@ use Rattle.algo_defs.specs.declared.fault.AlgoCause.{AlgoCause}
 use Rattle.algo_defs.specs.declared.fault.AlgoCause.TheVariants.{BadLine, BadName, BadNumber, DuplicateName}
 use Rattle.algo_defs.specs.Words.{Bytes, is_among}
 use Rattle.algo_defs.specs.Outer.{outer_names, all_outer}
+use Rattle.algo_text.specs.declared.part.Part.{Part}
+use Rattle.algo_text.specs.declared.part.Part.TheVariants as parts
+use Rattle.algo_text.specs.Parts.{admits, is_conditioning}
 use Rattle.algo_text.specs.Words.{word, number_of, count_of, end_of}
 use Rattle.algo_text.specs.Formulas.{formula_of}
 
--- The open block, with all that any kind of block may have. `part` is the kind of its last line: lines of a lower kind may not follow.
+-- The open block, with all that any kind of block may have. `part` is the part in which its last line stands.
 pub record Block : Type 0 where
   pub name : Bytes
   pub line : ℕ
-  pub part : ℕ
+  pub part : Part
   -- of a switch
   pub on : Bytes
   pub ins : List Port
@@ -44,11 +47,16 @@ pub record Block : Type 0 where
   pub def : Bytes
   pub frontier : List FrontierLine
 
-abbrev pub new_block : Bytes → ℕ → Block
-new_block name line = record { name = name; line = line; part = 0; on = []; ins = []; results = []; outs = []; references = []; edges = []; cases = []; otherwise = []; otherwise_line = 0; copies = 0; def = []; frontier = [] }
+-- a block without lines, which begins with this part
+abbrev pub new_block : Part → Bytes → ℕ → Block
+new_block first name line = record { name = name; line = line; part = first; on = []; ins = []; results = []; outs = []; references = []; edges = []; cases = []; otherwise = []; otherwise_line = 0; copies = 0; def = []; frontier = [] }
 
 abbrev pub refused : {A : Type 0} → ℕ → AlgoCause → Result A AlgoError
 refused line cause = Err (Refused (record { line = line; cause = cause }))
+
+-- more than the bound
+abbrev pub is_above : LimitKind → ℕ → Bool
+is_above which count = nat_lt (bound_of which) count
 
 abbrev pub above : {A : Type 0} → LimitKind → ℕ → Result A AlgoError
 above which count = Err (Limit (record { which = which; count = count; bound = bound_of which }))
@@ -79,35 +87,35 @@ all_names n (w ∷ ws) go = if is_name w then all_names n ws go else refused n (
 abbrev pub port_line : ℕ → ℕ → List Bytes → (Port → Result Block AlgoError) → Result Block AlgoError
 port_line n before ws go = all_names n (word ws 1 ∷ [])
     (with_some (count_of (word ws 2)) (refused n (BadNumber (word ws 2))) (λ len.
-    if nat_lt 63 before then above Ports (before + 1) else
-    if nat_lt 64 len then above PortLength len else
+    if is_above Ports (before + 1) then above Ports (before + 1) else
+    if is_above PortLength len then above PortLength len else
     go (record { name = word ws 1; len = len })))
 
 abbrev pub with_in : Block → ℕ → Port → Result Block AlgoError
 with_in b n p = if is_taken b p.name then refused n (DuplicateName p.name) else Ok (record b { ins = b.ins ++ p ∷ [] })
 
--- in P LEN, where lines up to this kind may stand before
-abbrev pub in_line : ℕ → Block → ℕ → List Bytes → Result Block AlgoError
-in_line part b n ws =
-    if not (length ws == 3) || not (b.part == part) then refused n BadLine else
+-- in P LEN
+abbrev pub in_line : Block → ℕ → List Bytes → Result Block AlgoError
+in_line b n ws =
+    if not (length ws == 3) || not (admits b.part parts.Inputs) then refused n BadLine else
     port_line n (length b.ins) ws (with_in b n)
 
-abbrev pub with_out : ℕ → Block → ℕ → Port → Result Block AlgoError
-with_out part b n p = if is_taken b p.name then refused n (DuplicateName p.name) else Ok (record b { part = part; outs = b.outs ++ p ∷ [] })
+abbrev pub with_out : Block → ℕ → Port → Result Block AlgoError
+with_out b n p = if is_taken b p.name then refused n (DuplicateName p.name) else Ok (record b { part = parts.Outputs; outs = b.outs ++ p ∷ [] })
 
--- out P LEN of a graph or a switch: behind a line of kind `least` or a later one, and of `part` or an earlier one
-abbrev pub out_line : ℕ → ℕ → Block → ℕ → List Bytes → Result Block AlgoError
-out_line least part b n ws =
-    if not (length ws == 3) || nat_lt b.part least || nat_lt part b.part then refused n BadLine else
-    port_line n (length b.outs) ws (with_out part b n)
+-- out P LEN of a graph or a switch
+abbrev pub out_line : Block → ℕ → List Bytes → Result Block AlgoError
+out_line b n ws =
+    if not (length ws == 3) || not (admits b.part parts.Outputs) then refused n BadLine else
+    port_line n (length b.outs) ws (with_out b n)
 
 abbrev pub with_result : Block → ℕ → Port → Expr → Result Block AlgoError
-with_result b n p e = if is_taken b p.name then refused n (DuplicateName p.name) else Ok (record b { part = 1; results = b.results ++ record { port = p; formula = e } ∷ [] })
+with_result b n p e = if is_taken b p.name then refused n (DuplicateName p.name) else Ok (record b { part = parts.Outputs; results = b.results ++ record { port = p; formula = e } ∷ [] })
 
 -- out P LEN = EXPRESSION of a function: the words before the first `=`, and the bytes behind it
 abbrev pub result_words : Block → ℕ → List Bytes → Bytes → Result Block AlgoError
 result_words b n ws text =
-    if not (length ws == 3) || nat_lt 1 b.part then refused n BadLine else
+    if not (length ws == 3) || not (admits b.part parts.Outputs) then refused n BadLine else
     port_line n (length b.results) ws (λ p. and_then (formula_of n (map (λ i. i.name) b.ins) text) (with_result b n p))
 
 abbrev pub is_equals : ℕ → Bool
@@ -123,11 +131,11 @@ result_line b n code = result_at b n code (position is_equals code)
 -- ref R DEF
 abbrev pub reference_line : Block → ℕ → List Bytes → Result Block AlgoError
 reference_line b n ws =
-    if not (length ws == 3) || nat_lt 2 b.part then refused n BadLine else
+    if not (length ws == 3) || not (admits b.part parts.References) then refused n BadLine else
     all_names n (word ws 1 ∷ word ws 2 ∷ [])
-    (if nat_lt 63 (length b.references) then above References (length b.references + 1) else
+    (if is_above References (length b.references + 1) then above References (length b.references + 1) else
     if is_among (word ws 1) (map (λ r. r.name) b.references) then refused n (DuplicateName (word ws 1)) else
-    Ok (record b { part = 2; references = b.references ++ record { name = word ws 1; def = word ws 2; line = n } ∷ [] }))
+    Ok (record b { part = parts.References; references = b.references ++ record { name = word ws 1; def = word ws 2; line = n } ∷ [] }))
 
 -- edge FROM TO
 abbrev pub edge_line : Block → ℕ → List Bytes → Result Block AlgoError
@@ -135,33 +143,33 @@ edge_line b n ws =
     if not (length ws == 3) then refused n BadLine else
     with_some (end_of (word ws 1)) (refused n (BadName (word ws 1))) (λ from.
     with_some (end_of (word ws 2)) (refused n (BadName (word ws 2))) (λ to.
-    Ok (record b { part = 3; edges = b.edges ++ record { from = from; to = to; line = n } ∷ [] })))
+    Ok (record b { part = parts.Edges; edges = b.edges ++ record { from = from; to = to; line = n } ∷ [] })))
 
 -- on P, the first line of a switch
 abbrev pub on_line : Block → ℕ → List Bytes → Result Block AlgoError
 on_line b n ws =
-    if not (length ws == 2) || not (b.part == 0) then refused n BadLine else
-    all_names n (word ws 1 ∷ []) (Ok (record b { part = 1; on = word ws 1 }))
+    if not (length ws == 2) || not (is_conditioning b.part) then refused n BadLine else
+    all_names n (word ws 1 ∷ []) (Ok (record b { part = parts.Inputs; on = word ws 1 }))
 
 -- case VALUE DEF
 abbrev pub case_line : Block → ℕ → List Bytes → Result Block AlgoError
 case_line b n ws =
-    if not (length ws == 3) || b.part == 0 || nat_lt 3 b.part then refused n BadLine else
+    if not (length ws == 3) || not (admits b.part parts.Cases) then refused n BadLine else
     all_names n (word ws 2 ∷ [])
     (with_some (number_of (word ws 1)) (refused n (BadNumber (word ws 1))) (λ v.
-    if nat_lt 63 (length b.cases) then above Cases (length b.cases + 1) else
-    Ok (record b { part = 3; cases = b.cases ++ record { value = v; def = word ws 2; line = n } ∷ [] })))
+    if is_above Cases (length b.cases + 1) then above Cases (length b.cases + 1) else
+    Ok (record b { part = parts.Cases; cases = b.cases ++ record { value = v; def = word ws 2; line = n } ∷ [] })))
 
--- otherwise DEF, the last line of a switch
+-- otherwise DEF, the last line of a switch, which stands where a case may stand
 abbrev pub otherwise_line : Block → ℕ → List Bytes → Result Block AlgoError
 otherwise_line b n ws =
-    if not (length ws == 2) || b.part == 0 || nat_lt 3 b.part then refused n BadLine else
-    all_names n (word ws 1 ∷ []) (Ok (record b { part = 4; otherwise = word ws 1; otherwise_line = n }))
+    if not (length ws == 2) || not (admits b.part parts.Cases) then refused n BadLine else
+    all_names n (word ws 1 ∷ []) (Ok (record b { part = parts.Whole; otherwise = word ws 1; otherwise_line = n }))
 
 -- a frontier line's names, of which these are its ports
 abbrev pub with_frontier : Block → ℕ → Frontier → Result Block AlgoError
 with_frontier b n f =
-    if nat_lt 63 (length b.frontier) then above Ports (length b.frontier + 1) else
+    if is_above Ports (length b.frontier + 1) then above Ports (length b.frontier + 1) else
     first_taken (outer_names f) b.frontier
   where
     -- the names are given in order, each beside those before it

@@ -27,5 +27,5 @@ module _ (line : ℕ) (ports : List Bytes) (text : Bytes) where
   read_by (stops rest) = Err (Refused (record { line = line; cause = BadExpression (place_of text (length (tokens text) - length rest)) }))
 
   abbrev pub formula_of : Result Expr AlgoError
-  formula_of = if nat_le (length (tokens text)) 512 then read_by (alone (parse (suc (length (tokens text))) (tokens text)))
+  formula_of = if nat_le (length (tokens text)) (bound_of Tokens) then read_by (alone (parse (suc (length (tokens text))) (tokens text)))
       else Err (Limit (record { which = Tokens; count = length (tokens text); bound = bound_of Tokens }))

@@ -1,4 +1,5 @@
 pub mod Words
+pub mod Parts
 pub mod Formulas
 pub mod Grammatical
 pub mod Blocks

@@ -10,7 +10,10 @@ use Rattle.algo_defs.specs.declared.fault.AlgoError.{AlgoError}
 use Rattle.algo_defs.specs.declared.fault.AlgoCause.TheVariants.{NotText, BadLine, BadNumber, DuplicateName}
 use Rattle.algo_defs.specs.Words.{Bytes, is_among}
 use Rattle.algo_text.specs.Words.{word, number_of, count_of}
-use Rattle.algo_text.specs.Blocks.{Block, new_block, refused, above, with_some, and_then, all_names, in_line, out_line, result_line, reference_line, edge_line, on_line, case_line, otherwise_line, fork_line, diffuse_line, iterate_line, join_line}
+use Rattle.algo_text.specs.declared.part.Part.{Part}
+use Rattle.algo_text.specs.declared.part.Part.TheVariants.{Conditioning, Inputs}
+use Rattle.algo_text.specs.Parts.{is_whole}
+use Rattle.algo_text.specs.Blocks.{Block, new_block, refused, is_above, above, with_some, and_then, all_names, in_line, out_line, result_line, reference_line, edge_line, on_line, case_line, otherwise_line, fork_line, diffuse_line, iterate_line, join_line}
 
 -- where a line stands
 pub data Stage : Type 0 where
@@ -24,7 +27,7 @@ pub record Reading : Type 0 where
   pub block : Block
 
 abbrev pub start : Reading
-start = record { stage = before_version; names = []; defs = []; block = new_block [] 0 }
+start = record { stage = before_version; names = []; defs = []; block = new_block Inputs [] 0 }
 
 abbrev pub begins : List Bytes → Bytes → Bool
 begins ws key = bytes_eq (word ws 0) key
@@ -47,7 +50,7 @@ end_line body r n ws =
     if not (length ws == 3) then refused n BadLine else
     all_names n (word ws 1 ∷ [])
     (with_some (count_of (word ws 2)) (refused n (BadNumber (word ws 2))) (λ len.
-    if nat_lt 64 len then above PortLength len else defined r n (word ws 1) (body len)))
+    if is_above PortLength len then above PortLength len else defined r n (word ws 1) (body len)))
 
 -- the numbers that words are, or the first word that is none
 abbrev pub numbers_of : ℕ → List Bytes → Result (List ℤ) AlgoError
@@ -60,7 +63,7 @@ values_line body r n ws =
     if nat_lt (length ws) 4 || not (bytes_eq (word ws 2) (codes "=")) then refused n BadLine else
     all_names n (word ws 1 ∷ [])
     (and_then (numbers_of n (drop 3 ws)) (λ values.
-    if nat_lt 64 (length values) then above PortLength (length values) else defined r n (word ws 1) (body values)))
+    if is_above PortLength (length values) then above PortLength (length values) else defined r n (word ws 1) (body values)))
 
 -- the block of this name is open, if the name is new
 abbrev pub opened : Stage → Reading → ℕ → Block → Result Reading AlgoError
@@ -68,11 +71,16 @@ opened stage r n b =
     if is_among b.name r.names then refused n (DuplicateName b.name) else
     Ok (record r { stage = stage; names = r.names ++ b.name ∷ []; block = b })
 
+-- the part with which a block begins
+abbrev pub first_part : Stage → Part
+first_part in_switch = Conditioning
+first_part _ = Inputs
+
 -- function NAME, graph NAME and switch NAME
 abbrev pub opening_line : Stage → Reading → ℕ → List Bytes → Result Reading AlgoError
 opening_line stage r n ws =
     if not (length ws == 2) then refused n BadLine else
-    all_names n (word ws 1 ∷ []) (opened stage r n (new_block (word ws 1) n))
+    all_names n (word ws 1 ∷ []) (opened stage r n (new_block (first_part stage) (word ws 1) n))
 
 -- repeat NAME COUNT DEF
 abbrev pub repeat_line : Reading → ℕ → List Bytes → Result Reading AlgoError
@@ -80,8 +88,8 @@ repeat_line r n ws =
     if not (length ws == 4) then refused n BadLine else
     all_names n (word ws 1 ∷ word ws 3 ∷ [])
     (with_some (count_of (word ws 2)) (refused n (BadNumber (word ws 2))) (λ copies.
-    if nat_lt 64 copies then above Copies copies else
-    opened in_repeat r n (record (new_block (word ws 1) n) { copies = copies; def = word ws 3 })))
+    if is_above Copies copies then above Copies copies else
+    opened in_repeat r n (record (new_block Inputs (word ws 1) n) { copies = copies; def = word ws 3 })))
 
 -- a line between definitions
 abbrev pub between_line : Reading → ℕ → List Bytes → Result Reading AlgoError
@@ -110,15 +118,15 @@ block_end whole body r n ws =
 -- a function has an output, and a switch its `otherwise`
 abbrev pub function_line : Reading → ℕ → List Bytes → Bytes → Result Reading AlgoError
 function_line r n ws code =
-    if begins ws (codes "in") then in_block r (in_line 0 r.block n ws) else
+    if begins ws (codes "in") then in_block r (in_line r.block n ws) else
     if begins ws (codes "out") then in_block r (result_line r.block n code) else
     if begins ws (codes "end") then block_end (nat_lt 0 (length r.block.results)) (Function r.block.ins r.block.results) r n ws else
     refused n BadLine
 
 abbrev pub graph_line : Reading → ℕ → List Bytes → Result Reading AlgoError
 graph_line r n ws =
-    if begins ws (codes "in") then in_block r (in_line 0 r.block n ws) else
-    if begins ws (codes "out") then in_block r (out_line 0 1 r.block n ws) else
+    if begins ws (codes "in") then in_block r (in_line r.block n ws) else
+    if begins ws (codes "out") then in_block r (out_line r.block n ws) else
     if begins ws (codes "ref") then in_block r (reference_line r.block n ws) else
     if begins ws (codes "edge") then in_block r (edge_line r.block n ws) else
     if begins ws (codes "end") then block_end true (Graph r.block.ins r.block.outs r.block.references r.block.edges) r n ws else
@@ -127,11 +135,11 @@ graph_line r n ws =
 abbrev pub switch_line : Reading → ℕ → List Bytes → Result Reading AlgoError
 switch_line r n ws =
     if begins ws (codes "on") then in_block r (on_line r.block n ws) else
-    if begins ws (codes "in") then in_block r (in_line 1 r.block n ws) else
-    if begins ws (codes "out") then in_block r (out_line 1 2 r.block n ws) else
+    if begins ws (codes "in") then in_block r (in_line r.block n ws) else
+    if begins ws (codes "out") then in_block r (out_line r.block n ws) else
     if begins ws (codes "case") then in_block r (case_line r.block n ws) else
     if begins ws (codes "otherwise") then in_block r (otherwise_line r.block n ws) else
-    if begins ws (codes "end") then block_end (r.block.part == 4) (Switch r.block.on r.block.ins r.block.outs r.block.cases r.block.otherwise r.block.otherwise_line) r n ws else
+    if begins ws (codes "end") then block_end (is_whole r.block.part) (Switch r.block.on r.block.ins r.block.outs r.block.cases r.block.otherwise r.block.otherwise_line) r n ws else
     refused n BadLine
 
 abbrev pub frontier_line : Reading → ℕ → List Bytes → Result Reading AlgoError

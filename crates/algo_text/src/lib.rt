@@ -6,5 +6,7 @@
 #![tactic(auto)]
 
 mod laws;
+mod part;
 
 pub use laws::formulas_are_grammatical;
+pub use part::Part;

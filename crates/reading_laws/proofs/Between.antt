@@ -14,8 +14,14 @@ use Rattle.algo_defs.specs.Words.{Bytes, is_among}
 use Rattle.algo_text.specs.Words.{word, number_of, count_of}
 use Rattle.algo_text.specs.Blocks.{Block, new_block}
 use Rattle.algo_text.specs.Text.{Stage, between, in_function, in_graph, in_switch, in_repeat, Reading, begins, numbers_of, defined, end_line, values_line, opened, opening_line, repeat_line, between_line}
+use Rattle.algo_text.proofs.Checks.{at_most, either, found, held, neither, never, passed, read, same_ok}
+use Rattle.algo_text.specs.declared.part.Part.TheVariants.{Conditioning, Inputs}
+use Rattle.syn_base.specs.declared.limits.LimitKind.TheVariants.{PortLength, Copies}
+use Rattle.syn_base.specs.Limits.{bound_of}
+use Rattle.algo_text.specs.Blocks.{is_above}
+use Rattle.algo_text.specs.Text.{first_part}
 use Rattle.algo_rules.specs.WellRead.{IsName, IsWellRead}
-use Rattle.reading_laws.proofs.Checks.{passed, held, found, read, either, never, neither, same_ok, at_most, count_positive}
+use Rattle.reading_laws.proofs.Checks.{count_positive}
 use Rattle.reading_laws.proofs.Names.{new_beside, distinct_behind}
 use Rattle.reading_laws.proofs.Ports.{no_ports}
 use Rattle.reading_laws.proofs.Kept.{IsOpen, open_name, names_of, Kept, IsKept, reading, names_with}
@@ -64,8 +70,8 @@ module _ (names : List Bytes) (defs : List Def) (b : Block) (kept : Kept between
       let form = passed (not (length ws == 3)) _ _ r h in
       let named = held (is_name (word ws 1)) _ _ r form.1 in
       let counted = found (count_of (word ws 2)) _ _ r named.1 in
-      let low = passed (nat_lt 64 counted.0) _ _ r counted.2 in
-      defined_kept n (word ws 1) (body counted.0) r named.0 (well counted.0 (count_positive (word ws 2) counted.0 counted.1, at_most 64 counted.0 low.0)) low.1
+      let low = passed (is_above PortLength counted.0) _ _ r counted.2 in
+      defined_kept n (word ws 1) (body counted.0) r named.0 (well counted.0 (count_positive (word ws 2) counted.0 counted.1, at_most (bound_of PortLength) counted.0 low.0)) low.1
 
   values_kept : (body : List ℤ → Body) (n : ℕ) (ws : List Bytes) (r : Reading) → ((vs : List ℤ) → IsLength (length vs) → IsWellRead (body vs)) → values_line body here n ws ≡ Ok r → IsKept r
   values_kept body n ws r well h =
@@ -73,15 +79,15 @@ module _ (names : List Bytes) (defs : List Def) (b : Block) (kept : Kept between
       let long : 4 ≤ length ws = at_most (length ws) 4 (neither (nat_lt (length ws) 4) _ form.0).0 in
       let named = held (is_name (word ws 1)) _ _ r form.1 in
       let all = read (numbers_of n (drop 3 ws)) _ r named.1 in
-      let low = passed (nat_lt 64 (length all.0)) _ _ r all.2 in
+      let low = passed (is_above PortLength (length all.0)) _ _ r all.2 in
       let some : 1 ≤ length all.0 = omega (arith, numbers_length n (drop 3 ws) all.0 all.1, length-drop 3 ws) in
-      defined_kept n (word ws 1) (body all.0) r named.0 (well all.0 (some, at_most 64 (length all.0) low.0)) low.1
+      defined_kept n (word ws 1) (body all.0) r named.0 (well all.0 (some, at_most (bound_of PortLength) (length all.0) low.0)) low.1
 
-  opening_kept : (s : Stage) (n : ℕ) (ws : List Bytes) (r : Reading) → ((w : Bytes) → open_name s (new_block w n) ≡ w ∷ []) → ((w : Bytes) → IsOpen s (new_block w n)) → opening_line s here n ws ≡ Ok r → IsKept r
+  opening_kept : (s : Stage) (n : ℕ) (ws : List Bytes) (r : Reading) → ((w : Bytes) → open_name s (new_block (first_part s) w n) ≡ w ∷ []) → ((w : Bytes) → IsOpen s (new_block (first_part s) w n)) → opening_line s here n ws ≡ Ok r → IsKept r
   opening_kept s n ws r name_is well h =
       let form = passed (not (length ws == 2)) _ _ r h in
       let named = held (is_name (word ws 1)) _ _ r form.1 in
-      opened_kept s n (new_block (word ws 1) n) r (name_is (word ws 1)) (well (word ws 1)) named.0 named.1
+      opened_kept s n (new_block (first_part s) (word ws 1) n) r (name_is (word ws 1)) (well (word ws 1)) named.0 named.1
 
   repeat_kept : (n : ℕ) (ws : List Bytes) (r : Reading) → repeat_line here n ws ≡ Ok r → IsKept r
   repeat_kept n ws r h =
@@ -89,17 +95,17 @@ module _ (names : List Bytes) (defs : List Def) (b : Block) (kept : Kept between
       let named = held (is_name (word ws 1)) _ _ r form.1 in
       let def = held (is_name (word ws 3)) _ _ r named.1 in
       let counted = found (count_of (word ws 2)) _ _ r def.1 in
-      let low = passed (nat_lt 64 counted.0) _ _ r counted.2 in
-      opened_kept in_repeat n (record (new_block (word ws 1) n) { copies = counted.0; def = word ws 3 }) r refl
-      (record { some = count_positive (word ws 2) counted.0 counted.1; most = at_most 64 counted.0 low.0; few = omega arith; named = All-nil IsName; distinct = tt }) named.0 low.1
+      let low = passed (is_above Copies counted.0) _ _ r counted.2 in
+      opened_kept in_repeat n (record (new_block Inputs (word ws 1) n) { copies = counted.0; def = word ws 3 }) r refl
+      (record { some = count_positive (word ws 2) counted.0 counted.1; most = at_most (bound_of Copies) counted.0 low.0; few = omega arith; named = All-nil IsName; distinct = tt }) named.0 low.1
 
-  new_function : (n : ℕ) (w : Bytes) → IsOpen in_function (new_block w n)
+  new_function : (n : ℕ) (w : Bytes) → IsOpen in_function (new_block Inputs w n)
   new_function n w = record { inputs = no_ports; outputs = no_ports; distinct = tt; formulas = All-nil (λ (o : Output). PortsBelow 0 o.formula); none_yet = λ e. refl }
 
-  new_graph : (n : ℕ) (w : Bytes) → IsOpen in_graph (new_block w n)
+  new_graph : (n : ℕ) (w : Bytes) → IsOpen in_graph (new_block Inputs w n)
   new_graph n w = record { inputs = no_ports; outputs = no_ports; distinct = tt; few = omega arith; named = All-nil (λ (r : Reference). IsName r.name); once = tt }
 
-  new_switch : (n : ℕ) (w : Bytes) → IsOpen in_switch (new_block w n)
+  new_switch : (n : ℕ) (w : Bytes) → IsOpen in_switch (new_block Conditioning w n)
   new_switch n w = record { named = λ e. cc; inputs = no_ports; outputs = no_ports; distinct = (tt, tt); few = omega arith; no_inputs = λ e. refl; no_outputs = λ e. refl }
 
   pub between_kept : (n : ℕ) (ws : List Bytes) (r : Reading) → between_line here n ws ≡ Ok r → IsKept r

@@ -1,5 +1,5 @@
 -- Lines of graphs.
-use Rattle.std.proofs.Common.{◌≡◌, ℕ, ◌≤◌, ◌==◌, not, ◌||◌, true, nat_lt, Ok, List, [], ◌∷◌, ◌++◌, length, map, refl, arith, subst, codes}
+use Rattle.std.proofs.Common.{◌≡◌, ℕ, ◌==◌, not, ◌||◌, true, Ok, List, [], ◌∷◌, ◌++◌, length, map, refl, arith, subst, codes, ◌<◌, ◌+◌}
 use Rattle.std.proofs.lemmas.List.{map-append, length-append}
 use Rattle.std.proofs.lemmas.List.Elements.{All-push}
 use Rattle.body_lang.specs.declared.expression.Port.{Port}
@@ -11,13 +11,18 @@ use Rattle.algo_defs.specs.Words.{Bytes, is_among}
 use Rattle.algo_text.specs.Words.{word, end_of}
 use Rattle.algo_text.specs.Blocks.{Block, in_line, out_line, reference_line, edge_line}
 use Rattle.algo_text.specs.Text.{in_graph, Reading, begins, graph_line}
+use Rattle.algo_text.proofs.Checks.{either, fewer, found, held, never, passed, same_ok}
+use Rattle.algo_text.specs.declared.part.Part.TheVariants.{References}
+use Rattle.algo_text.specs.Parts.{admits}
+use Rattle.syn_base.specs.declared.limits.LimitKind.TheVariants as limits
+use Rattle.syn_base.specs.Limits.{bound_of}
+use Rattle.algo_text.specs.Blocks.{is_above}
 use Rattle.algo_rules.specs.WellRead.{IsName, port_names, IsGraph}
-use Rattle.reading_laws.proofs.Checks.{passed, held, found, either, never, same_ok, at_most}
 use Rattle.reading_laws.proofs.Names.{new_beside, new_both}
 use Rattle.reading_laws.proofs.Ports.{ports_with, input_put, output_put, put_between, put_behind, InAdded, in_added, OutAdded, out_added}
 use Rattle.reading_laws.proofs.Kept.{Kept, IsKept, Goes, reading, line_kept, end_kept}
 
-input_goes : (b after : Block) → IsGraph b.ins b.outs b.references → InAdded 0 b after → Goes in_graph b after
+input_goes : (b after : Block) → IsGraph b.ins b.outs b.references → InAdded b after → Goes in_graph b after
 input_goes b after o a =
     let p : Port = a.port in
     subst (λ (c : Block). Goes in_graph b c) a.is (
@@ -32,7 +37,7 @@ input_goes b after o a =
       },
     )
 
-output_goes : (b after : Block) → IsGraph b.ins b.outs b.references → OutAdded 0 1 b after → Goes in_graph b after
+output_goes : (b after : Block) → IsGraph b.ins b.outs b.references → OutAdded b after → Goes in_graph b after
 output_goes b after o a =
     let p : Port = a.port in
     subst (λ (c : Block). Goes in_graph b c) a.is (
@@ -52,12 +57,12 @@ reference_goes b after n ws o h =
     let w : Bytes = word ws 1 in
     let new : Reference = record { name = w; def = word ws 2; line = n } in
     let names : List Bytes = map (λ r. r.name) b.references in
-    let form = passed (not (length ws == 3) || nat_lt 2 b.part) _ _ after h in
+    let form = passed (not (length ws == 3) || not (admits b.part References)) _ _ after h in
     let named = held (is_name w) _ _ after form.1 in
     let def = held (is_name (word ws 2)) _ _ after named.1 in
-    let few = passed (nat_lt 63 (length b.references)) _ _ after def.1 in
+    let few = passed (is_above limits.References (length b.references + 1)) _ _ after def.1 in
     let last = passed (is_among w names) _ _ after few.1 in
-    let size : length b.references ≤ 63 = at_most 63 (length b.references) few.0 in
+    let size : length b.references < bound_of limits.References = fewer (bound_of limits.References) (length b.references) few.0 in
     subst (λ (c : Block). Goes in_graph b c) (same_ok _ after last.1) (
       refl,
       record {
@@ -80,8 +85,8 @@ edge_goes b after n ws o h =
 module _ (names : List Bytes) (defs : List Def) (b : Block) (kept : Kept in_graph names defs b) where
   pub graph_kept : (n : ℕ) (ws : List Bytes) (r : Reading) → graph_line (reading in_graph names defs b) n ws ≡ Ok r → IsKept r
   graph_kept n ws r h =
-      either (begins ws (codes "in")) _ _ r h (line_kept in_graph names defs b kept (in_line 0 b n ws) r (λ after e. input_goes b after kept.well (in_added 0 b n ws after e))) (λ h1.
-      either (begins ws (codes "out")) _ _ r h1 (line_kept in_graph names defs b kept (out_line 0 1 b n ws) r (λ after e. output_goes b after kept.well (out_added 0 1 b n ws after e))) (λ h2.
+      either (begins ws (codes "in")) _ _ r h (line_kept in_graph names defs b kept (in_line b n ws) r (λ after e. input_goes b after kept.well (in_added b n ws after e))) (λ h1.
+      either (begins ws (codes "out")) _ _ r h1 (line_kept in_graph names defs b kept (out_line b n ws) r (λ after e. output_goes b after kept.well (out_added b n ws after e))) (λ h2.
       either (begins ws (codes "ref")) _ _ r h2 (line_kept in_graph names defs b kept (reference_line b n ws) r (λ after e. reference_goes b after n ws kept.well e)) (λ h3.
       either (begins ws (codes "edge")) _ _ r h3 (line_kept in_graph names defs b kept (edge_line b n ws) r (λ after e. edge_goes b after n ws kept.well e)) (λ h4.
       either (begins ws (codes "end")) _ _ r h4 (end_kept in_graph names defs b kept refl true (Graph b.ins b.outs b.references b.edges) n ws r (λ e. kept.well)) (λ h5. never _ r h5)))))

@@ -9,10 +9,14 @@ use Rattle.algo_defs.specs.declared.definition.Body.{Body}
 use Rattle.algo_defs.specs.declared.definition.Def.{Def}
 use Rattle.algo_defs.specs.declared.fault.AlgoError.{AlgoError}
 use Rattle.algo_defs.specs.Words.{Bytes}
+use Rattle.syn_base.specs.declared.limits.LimitKind.TheVariants as limits
 use Rattle.algo_text.specs.Blocks.{Block}
 use Rattle.algo_text.specs.Text.{Stage, before_version, between, in_function, in_graph, in_switch, in_repeat, Reading, in_block, block_end}
+use Rattle.algo_text.proofs.Checks.{neither, never, not_false, passed, same_ok}
+use Rattle.algo_text.specs.declared.part.Part.TheVariants.{Inputs}
+use Rattle.algo_text.specs.Parts.{admits, is_conditioning}
+use Rattle.syn_base.specs.Limits.{bound_of}
 use Rattle.algo_rules.specs.WellRead.{IsName, port_names, ArePorts, ports_in, IsGraph, IsRepetition, IsWellRead}
-use Rattle.reading_laws.proofs.Checks.{passed, never, neither, not_false, same_ok}
 
 -- no input may follow an output
 pub record IsOpenFunction (b : Block) : Type 0 where
@@ -20,17 +24,17 @@ pub record IsOpenFunction (b : Block) : Type 0 where
   pub outputs : ArePorts (ports_in b.results)
   pub distinct : AreDistinctNames (port_names b.ins ++ port_names (ports_in b.results))
   pub formulas : All (λ o. PortsBelow (length b.ins) o.formula) b.results
-  pub none_yet : (b.part == 0) ≡ true → b.results ≡ []
+  pub none_yet : admits b.part Inputs ≡ true → b.results ≡ []
 
 -- no port stands before the line `on`
 pub record IsOpenSwitch (b : Block) : Type 0 where
-  pub named : (b.part == 0) ≡ false → IsName b.on
+  pub named : is_conditioning b.part ≡ false → IsName b.on
   pub inputs : ArePorts b.ins
   pub outputs : ArePorts b.outs
   pub distinct : AreDistinctNames (b.on ∷ (port_names b.ins ++ port_names b.outs))
-  pub few : length b.cases ≤ 64
-  pub no_inputs : (b.part == 0) ≡ true → b.ins ≡ []
-  pub no_outputs : (b.part == 0) ≡ true → b.outs ≡ []
+  pub few : length b.cases ≤ bound_of limits.Cases
+  pub no_inputs : is_conditioning b.part ≡ true → b.ins ≡ []
+  pub no_outputs : is_conditioning b.part ≡ true → b.outs ≡ []
 
 abbrev pub IsOpen : Stage → Block → Type 0
 IsOpen before_version b = Unit {0}

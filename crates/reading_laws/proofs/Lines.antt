@@ -10,8 +10,8 @@ use Rattle.algo_defs.specs.Words.{Bytes}
 use Rattle.algo_text.specs.Words.{word}
 use Rattle.algo_text.specs.Blocks.{Block}
 use Rattle.algo_text.specs.Text.{Stage, before_version, between, in_function, in_graph, in_switch, in_repeat, Reading, start, begins, version_line, by_stage, line_by, next_line, at_end, rest_of, definitions_of}
+use Rattle.algo_text.proofs.Checks.{never, passed, read, same_ok}
 use Rattle.algo_rules.specs.WellRead.{IsName, IsWellRead, AreWellRead}
-use Rattle.reading_laws.proofs.Checks.{passed, read, never, same_ok}
 use Rattle.reading_laws.proofs.Kept.{names_of, Kept, IsKept, reading}
 use Rattle.reading_laws.proofs.Between.{between_kept}
 use Rattle.reading_laws.proofs.Functions.{function_kept}

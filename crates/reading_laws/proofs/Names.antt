@@ -3,7 +3,7 @@ use Rattle.std.proofs.Common.{◌≡◌, Bool, true, false, List, [], ◌∷◌,
 use Rattle.std.proofs.lemmas.Slice.Eq.{bytes_eq-Decides}
 use Rattle.algo_tree.specs.Well.{IsNewName, AreDistinctNames}
 use Rattle.algo_defs.specs.Words.{Bytes, is_among}
-use Rattle.reading_laws.proofs.Checks.{neither}
+use Rattle.algo_text.proofs.Checks.{neither}
 
 flipped : (x y : Bytes) → bytes_eq x y ≡ false → bytes_eq y x ≡ false
 flipped x y h = by (bytes_eq y x) refl

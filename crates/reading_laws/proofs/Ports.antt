@@ -1,29 +1,33 @@
 -- One port more, and one formula.
-use Rattle.std.proofs.Common.{◌≡◌, ℕ, suc, ◌+◌, ◌≤◌, not, ◌||◌, ◌==◌, true, false, nat_lt, nat_le, Option, Some, None, Ok, List, [], ◌∷◌, ◌++◌, length, map, take, drop, position, refl, arith, sym, ap, ◌∙◌, subst, append-nil, append_assoc, bytes_eq}
+use Rattle.std.proofs.Common.{◌≡◌, ℕ, ◌+◌, not, ◌||◌, ◌==◌, true, false, Option, Some, None, Ok, List, [], ◌∷◌, ◌++◌, length, map, take, drop, position, refl, arith, sym, ap, ◌∙◌, subst, append-nil, append_assoc, bytes_eq, ◌<◌}
 use Rattle.std.proofs.lemmas.List.{map-append, length-append, length-map}
 use Rattle.std.proofs.lemmas.List.Elements.{All-nil, All-push}
 use Rattle.text_lines.specs.Text.{words_of}
 use Rattle.body_lang.specs.declared.expression.Port.{Port}
 use Rattle.body_lang.specs.Expr.{Expr, PortsBelow}
-use Rattle.body_text.specs.Tokens.{tokens}
-use Rattle.body_text.specs.Ports.{unknown, resolved}
-use Rattle.body_text.specs.Parse.{Parse, good, stops, parse, alone}
 use Rattle.body_text.proofs.CanonicalPorts.{known, numbers_below}
 use Rattle.algo_tree.specs.Typed.{IsLength}
 use Rattle.algo_tree.specs.Well.{IsNewName, AreDistinctNames}
 use Rattle.algo_defs.specs.declared.definition.Output.{Output}
 use Rattle.algo_defs.specs.Words.{Bytes}
-use Rattle.algo_text.specs.Formulas.{known_by, read_by, formula_of}
+use Rattle.algo_text.specs.Formulas.{formula_of}
 use Rattle.algo_defs.specs.Outer.{all_outer}
 use Rattle.algo_text.specs.Blocks.{Block, and_then, is_taken, in_line, with_in, out_line, with_out, is_equals, result_words, result_at, result_line, with_result}
+use Rattle.algo_text.proofs.Checks.{neither, never, not_false, passed, read, same_ok}
+use Rattle.algo_text.specs.declared.part.Part.TheVariants.{Inputs, Outputs}
+use Rattle.algo_text.specs.Parts.{admits}
+use Rattle.syn_base.specs.declared.limits.LimitKind.TheVariants.{Ports}
+use Rattle.syn_base.specs.Limits.{bound_of}
+use Rattle.algo_text.specs.Grammatical.{IsFormula}
+use Rattle.algo_text.proofs.Judged.{formula_law}
 use Rattle.algo_rules.specs.WellRead.{IsName, port_names, ArePorts, ports_in}
-use Rattle.reading_laws.proofs.Checks.{passed, held, read, never, neither, not_false, same_ok, at_most, port_read}
+use Rattle.reading_laws.proofs.Checks.{port_read}
 use Rattle.reading_laws.proofs.Names.{new_beside, new_first, new_second, new_both, distinct_with}
 
 pub no_ports : ArePorts []
 no_ports = record { few = omega arith; named = All-nil (λ p. IsName p.name); sized = All-nil (λ p. IsLength p.len) }
 
-pub ports_with : (ps : List Port) (p : Port) → ArePorts ps → length ps ≤ 63 → IsName p.name → IsLength p.len → ArePorts (ps ++ p ∷ [])
+pub ports_with : (ps : List Port) (p : Port) → ArePorts ps → length ps < bound_of Ports → IsName p.name → IsLength p.len → ArePorts (ps ++ p ∷ [])
 ports_with ps p h few named sized = record {
   few = omega (arith, length-append ps (p ∷ []));
   named = All-push (λ q. IsName q.name) ps p h.named named;
@@ -68,23 +72,23 @@ free w b h =
     }
 
 -- An accepted line of an input.
-pub record InAdded (part : ℕ) (b after : Block) : Type 0 where
+pub record InAdded (b after : Block) : Type 0 where
   pub port : Port
-  pub at : (b.part == part) ≡ true
+  pub at : admits b.part Inputs ≡ true
   pub named : IsName port.name
   pub sized : IsLength port.len
-  pub few : length b.ins ≤ 63
+  pub few : length b.ins < bound_of Ports
   pub new : IsFree port.name b
   pub is : record b { ins = b.ins ++ port ∷ [] } ≡ after
 
-pub in_added : (part : ℕ) (b : Block) (n : ℕ) (ws : List Bytes) (after : Block) → in_line part b n ws ≡ Ok after → InAdded part b after
-in_added part b n ws after h =
-    let form = passed (not (length ws == 3) || not (b.part == part)) _ _ after h in
+pub in_added : (b : Block) (n : ℕ) (ws : List Bytes) (after : Block) → in_line b n ws ≡ Ok after → InAdded b after
+in_added b n ws after h =
+    let form = passed (not (length ws == 3) || not (admits b.part Inputs)) _ _ after h in
     let p = port_read n (length b.ins) ws (with_in b n) after form.1 in
     let last = passed (is_taken b p.port.name) _ _ after p.then in
     record {
       port = p.port;
-      at = not_false (b.part == part) (neither (not (length ws == 3)) (not (b.part == part)) form.0).1;
+      at = not_false (admits b.part Inputs) (neither (not (length ws == 3)) (not (admits b.part Inputs)) form.0).1;
       named = p.named;
       sized = p.sized;
       few = p.few;
@@ -93,24 +97,23 @@ in_added part b n ws after h =
     }
 
 -- An accepted line of an output of a graph or a switch.
-pub record OutAdded (least part : ℕ) (b after : Block) : Type 0 where
+pub record OutAdded (b after : Block) : Type 0 where
   pub port : Port
-  pub low : least ≤ b.part
+  pub at : admits b.part Outputs ≡ true
   pub named : IsName port.name
   pub sized : IsLength port.len
-  pub few : length b.outs ≤ 63
+  pub few : length b.outs < bound_of Ports
   pub new : IsFree port.name b
-  pub is : record b { part = part; outs = b.outs ++ port ∷ [] } ≡ after
+  pub is : record b { part = Outputs; outs = b.outs ++ port ∷ [] } ≡ after
 
-pub out_added : (least part : ℕ) (b : Block) (n : ℕ) (ws : List Bytes) (after : Block) → out_line least part b n ws ≡ Ok after → OutAdded least part b after
-out_added least part b n ws after h =
-    let form = passed (not (length ws == 3) || nat_lt b.part least || nat_lt part b.part) _ _ after h in
-    let below = neither (not (length ws == 3) || nat_lt b.part least) (nat_lt part b.part) form.0 in
-    let p = port_read n (length b.outs) ws (with_out part b n) after form.1 in
+pub out_added : (b : Block) (n : ℕ) (ws : List Bytes) (after : Block) → out_line b n ws ≡ Ok after → OutAdded b after
+out_added b n ws after h =
+    let form = passed (not (length ws == 3) || not (admits b.part Outputs)) _ _ after h in
+    let p = port_read n (length b.outs) ws (with_out b n) after form.1 in
     let last = passed (is_taken b p.port.name) _ _ after p.then in
     record {
       port = p.port;
-      low = at_most b.part least (neither (not (length ws == 3)) (nat_lt b.part least) below.0).1;
+      at = not_false (admits b.part Outputs) (neither (not (length ws == 3)) (not (admits b.part Outputs)) form.0).1;
       named = p.named;
       sized = p.sized;
       few = p.few;
@@ -120,16 +123,10 @@ out_added least part b n ws after h =
 
 -- a formula names ports that there are
 module _ (n : ℕ) (ports : List Bytes) (text : Bytes) (e : Expr) where
-  known_below : (o : Option ℕ) (of : Expr) → known_by n ports text o of ≡ Ok e → (o ≡ None → PortsBelow (length ports) of) → PortsBelow (length ports) e
-  known_below None of h below = subst (λ (x : Expr). PortsBelow (length ports) x) (same_ok of e h) (below refl)
-  known_below (Some i) of h below = never _ e h
-
-  read_below : (p : Parse) → read_by n ports text p ≡ Ok e → PortsBelow (length ports) e
-  read_below (good w rest) h = known_below (unknown ports w) (resolved ports w) h (λ none. numbers_below ports w (known ports w none))
-  read_below (stops rest) h = never _ e h
-
   formula_below : formula_of n ports text ≡ Ok e → PortsBelow (length ports) e
-  formula_below h = read_below (alone (parse (suc (length (tokens text))) (tokens text))) (held (nat_le (length (tokens text)) 512) _ _ e h).1
+  formula_below h =
+      let is : IsFormula ports text n (Ok e) = (formula_law n ports text (Ok e)).0 h in
+      subst (λ (x : Expr). PortsBelow (length ports) x) is.is (numbers_below ports is.tree (known ports is.tree is.known))
 
 -- An accepted line of an output of a function.
 pub record ResultAdded (b after : Block) : Type 0 where
@@ -137,15 +134,15 @@ pub record ResultAdded (b after : Block) : Type 0 where
   pub formula : Expr
   pub named : IsName port.name
   pub sized : IsLength port.len
-  pub few : length b.results ≤ 63
+  pub few : length b.results < bound_of Ports
   pub new : IsFree port.name b
   pub below : PortsBelow (length b.ins) formula
-  pub is : record b { part = 1; results = b.results ++ record { port = port; formula = formula } ∷ [] } ≡ after
+  pub is : record b { part = Outputs; results = b.results ++ record { port = port; formula = formula } ∷ [] } ≡ after
 
 words_added : (b : Block) (n : ℕ) (ws : List Bytes) (text : Bytes) (after : Block) → result_words b n ws text ≡ Ok after → ResultAdded b after
 words_added b n ws text after h =
     let names : List Bytes = map (λ i. i.name) b.ins in
-    let form = passed (not (length ws == 3) || nat_lt 1 b.part) _ _ after h in
+    let form = passed (not (length ws == 3) || not (admits b.part Outputs)) _ _ after h in
     let p = port_read n (length b.results) ws (λ q. and_then (formula_of n names text) (with_result b n q)) after form.1 in
     let body = read (formula_of n names text) (with_result b n p.port) after p.then in
     let last = passed (is_taken b p.port.name) _ _ after body.2 in

@@ -1,5 +1,5 @@
 -- Lines of repetitions.
-use Rattle.std.proofs.Common.{◌≡◌, ℕ, ◌≤◌, ◌==◌, not, true, false, cond, nat_lt, Ok, Err, List, [], ◌∷◌, ◌++◌, length, drop, refl, arith, sym, ap, ◌∙◌, subst, append-nil, append_assoc, bytes_eq, codes}
+use Rattle.std.proofs.Common.{◌≡◌, ℕ, ◌==◌, not, true, false, cond, Ok, Err, List, [], ◌∷◌, ◌++◌, length, drop, refl, arith, sym, ap, ◌∙◌, subst, append-nil, append_assoc, bytes_eq, codes, ◌<◌, ◌+◌}
 use Rattle.std.specs.Prelude.{All}
 use Rattle.std.proofs.lemmas.List.{length-append}
 use Rattle.std.proofs.lemmas.List.Elements.{All-append, All-cons, All-head, All-nil, All-tail}
@@ -15,8 +15,12 @@ use Rattle.algo_text.specs.Words.{word}
 use Rattle.algo_defs.specs.Outer.{outer_names, all_outer}
 use Rattle.algo_text.specs.Blocks.{Block, all_names, with_frontier, fork_line, diffuse_line, iterate_line, join_line}
 use Rattle.algo_text.specs.Text.{in_repeat, Reading, begins, frontier_line}
+use Rattle.algo_text.proofs.Checks.{either, equal, fewer, neither, never, not_false, passed, same_ok}
+use Rattle.syn_base.specs.declared.limits.LimitKind.TheVariants.{Ports}
+use Rattle.syn_base.specs.Limits.{bound_of}
+use Rattle.algo_text.specs.Blocks.{is_above}
 use Rattle.algo_rules.specs.WellRead.{IsName, IsRepetition}
-use Rattle.reading_laws.proofs.Checks.{passed, either, never, neither, not_false, same_ok, equal, at_most, names_hold}
+use Rattle.reading_laws.proofs.Checks.{names_hold}
 use Rattle.reading_laws.proofs.Names.{new_beside, new_both, distinct_behind}
 use Rattle.reading_laws.proofs.Kept.{Kept, IsKept, Goes, reading, line_kept, end_kept}
 
@@ -25,12 +29,12 @@ all_outer_with [] l = append-nil (outer_names l.frontier)
 all_outer_with (k ∷ ls) l = ap (λ (ns : List Bytes). outer_names k.frontier ++ ns) (all_outer_with ls l) ∙ sym (append_assoc (outer_names k.frontier) (all_outer ls) (outer_names l.frontier))
 
 -- one line more, whose outer names are new
-line_goes : (b after : Block) (n : ℕ) (f : Frontier) → IsRepetition b.copies b.frontier → nat_lt 63 (length b.frontier) ≡ false → All IsName (outer_names f)
+line_goes : (b after : Block) (n : ℕ) (f : Frontier) → IsRepetition b.copies b.frontier → is_above Ports (length b.frontier + 1) ≡ false → All IsName (outer_names f)
     → AreDistinctNames (all_outer b.frontier ++ outer_names f) → record b { frontier = b.frontier ++ record { frontier = f; line = n } ∷ [] } ≡ after → Goes in_repeat b after
 line_goes b after n f o few named distinct is =
     let l : FrontierLine = record { frontier = f; line = n } in
     let names : all_outer (b.frontier ++ l ∷ []) ≡ all_outer b.frontier ++ outer_names f = all_outer_with b.frontier l in
-    let size : length b.frontier ≤ 63 = at_most 63 (length b.frontier) few in
+    let size : length b.frontier < bound_of Ports = fewer (bound_of Ports) (length b.frontier) few in
     subst (λ (c : Block). Goes in_repeat b c) is (
       refl,
       record {
@@ -73,9 +77,9 @@ module _ (b after : Block) (n : ℕ) (o : IsRepetition b.copies b.frontier) wher
 
   -- a line with one outer name
   one_goes : (many taken : AlgoError) (f : Frontier) (w : Bytes) → outer_names f ≡ w ∷ [] → IsName w
-      → cond (nat_lt 63 (length b.frontier)) (Err many) (cond (is_among w (all_outer b.frontier)) (Err taken) (Ok (with_line f))) ≡ Ok after → Goes in_repeat b after
+      → cond (is_above Ports (length b.frontier + 1)) (Err many) (cond (is_among w (all_outer b.frontier)) (Err taken) (Ok (with_line f))) ≡ Ok after → Goes in_repeat b after
   one_goes many taken f w outer named h =
-      let few = passed (nat_lt 63 (length b.frontier)) _ _ after h in
+      let few = passed (is_above Ports (length b.frontier + 1)) _ _ after h in
       let last = passed (is_among w (all_outer b.frontier)) _ _ after few.1 in
       line_goes b after n f o few.0 (subst (λ (ns : List Bytes). All IsName ns) (sym outer) (one_name w named))
       (subst (λ (ns : List Bytes). AreDistinctNames (all_outer b.frontier ++ ns)) (sym outer) (distinct_behind w (all_outer b.frontier) (new_beside w (all_outer b.frontier) last.0) o.distinct))
@@ -84,7 +88,7 @@ module _ (b after : Block) (n : ℕ) (o : IsRepetition b.copies b.frontier) wher
   two_goes : (p x y q : Bytes) → IsName p → IsName q → with_frontier b n (Iterate p x y q) ≡ Ok after → Goes in_repeat b after
   two_goes p x y q first second h =
       let all : List Bytes = all_outer b.frontier in
-      let few = passed (nat_lt 63 (length b.frontier)) _ _ after h in
+      let few = passed (is_above Ports (length b.frontier + 1)) _ _ after h in
       let new = passed (is_among p all) _ _ after few.1 in
       let last = passed (is_among q (p ∷ all)) _ _ after new.1 in
       let apart = neither (bytes_eq q p) (is_among q all) last.0 in

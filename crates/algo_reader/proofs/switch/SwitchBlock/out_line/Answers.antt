@@ -1,7 +1,10 @@
-use Rattle.std.proofs.Common.{◌≡◌, ◌≤◌, List, length, Ok, arith, ap, sym, ◌∙◌}
+use Rattle.std.proofs.Common.{◌≡◌, true, List, length, Ok, arith, ap, sym, ◌∙◌}
 use Rattle.std.proofs.lemmas.Result.{err_from_is_err_and}
 use Rattle.body_lang.specs.declared.expression.Port.{Port}
 use Rattle.algo_text.specs.Blocks.{Block}
+use Rattle.algo_text.specs.declared.part.Part.{Part}
+use Rattle.algo_text.specs.declared.part.Part.TheVariants.{Outputs}
+use Rattle.algo_text.specs.Parts.{admits}
 use Rattle.algo_reader.specs.Views.{switch_view}
 use Rattle.algo_reader.proofs.PortLines.{fails, goes, taken_stops, out_follows, out_taken, out_free}
 use Rattle.algo_reader.proofs.Outputs.{outputs_view}
@@ -11,25 +14,22 @@ pub returns-in_err-port : goal.returns-in_err-port
 returns-in_err-port c =
     let p = err_from_is_err_and c.from_residual.result c.from_residual.ensures.1 in
     let three : length c.args.words.now ≡ 3 = omega arith in
-    let low : 1 ≤ (switch_view c.args.self.now).part = omega arith in
-    let high : (switch_view c.args.self.now).part ≤ 2 = omega arith in
-    rw (p.1, p.2) (fails (out_follows 1 2 (switch_view c.args.self.now) c.args.number c.args.words.now c.len-2.result three low high c.len-2.ensures) _ c.in_err-port.ensures.port)
+    let at : admits (switch_view c.args.self.now).part Outputs ≡ true = sym (c.if-not-admits.ensures ∙ ap (λ (p : Part). admits p Outputs) c.part.ensures) in
+    rw (p.1, p.2) (fails (out_follows (switch_view c.args.self.now) c.args.number c.args.words.now c.len-2.result three at c.len-2.ensures) _ c.in_err-port.ensures.port)
 
 pub returns-then-is_taken : goal.returns-then-is_taken
 returns-then-is_taken c =
     let three : length c.args.words.now ≡ 3 = omega arith in
-    let low : 1 ≤ (switch_view c.args.self.now).part = omega arith in
-    let high : (switch_view c.args.self.now).part ≤ 2 = omega arith in
+    let at : admits (switch_view c.args.self.now).part Outputs ≡ true = sym (c.if-not-admits.ensures ∙ ap (λ (p : Part). admits p Outputs) c.part.ensures) in
     taken_stops _ _ _ _ _ c.duplicate.ensures c.as_bytes.ensures.same
-    (goes (out_follows 1 2 (switch_view c.args.self.now) c.args.number c.args.words.now c.len-2.result three low high c.len-2.ensures) c.in_ok-port.port c.in_ok-port.ensures.port
-    ∙ out_taken 2 (switch_view c.args.self.now) c.args.number c.in_ok-port.port (sym c.if-is_taken.ensures))
+    (goes (out_follows (switch_view c.args.self.now) c.args.number c.args.words.now c.len-2.result three at c.len-2.ensures) c.in_ok-port.port c.in_ok-port.ensures.port
+    ∙ out_taken (switch_view c.args.self.now) c.args.number c.in_ok-port.port (sym c.if-is_taken.ensures))
 
 pub returns : goal.returns
 returns c =
     let three : length c.args.words.now ≡ 3 = omega arith in
-    let low : 1 ≤ (switch_view c.args.self.now).part = omega arith in
-    let high : (switch_view c.args.self.now).part ≤ 2 = omega arith in
-    goes (out_follows 1 2 (switch_view c.args.self.now) c.args.number c.args.words.now c.len-2.result three low high c.len-2.ensures) c.in_ok-port.port c.in_ok-port.ensures.port
-    ∙ out_free 2 (switch_view c.args.self.now) c.args.number c.in_ok-port.port (sym c.if-is_taken.ensures)
-    ∙ ap (λ (ps : List Port). Ok (record (switch_view c.args.self.now) { part = 2; outs = ps })) (sym c.in_ok-add.ensures)
-    ∙ ap (λ (b : Block). Ok b) (outputs_view c.args.self.now c.add.new.self low high)
+    let at : admits (switch_view c.args.self.now).part Outputs ≡ true = sym (c.if-not-admits.ensures ∙ ap (λ (p : Part). admits p Outputs) c.part.ensures) in
+    goes (out_follows (switch_view c.args.self.now) c.args.number c.args.words.now c.len-2.result three at c.len-2.ensures) c.in_ok-port.port c.in_ok-port.ensures.port
+    ∙ out_free (switch_view c.args.self.now) c.args.number c.in_ok-port.port (sym c.if-is_taken.ensures)
+    ∙ ap (λ (ps : List Port). Ok (record (switch_view c.args.self.now) { part = Outputs; outs = ps })) (sym c.in_ok-add.ensures)
+    ∙ ap (λ (b : Block). Ok b) (outputs_view c.args.self.now c.add.new.self at)

@@ -1,5 +1,5 @@
 -- What a line's checks have found where the line is accepted, and that they find it again.
-use Rattle.std.proofs.Common.{◌≡◌, Bool, ◌||◌, true, false, cond, Option, Some, None, Result, Ok, Err, refl, ap, ◌∙◌}
+use Rattle.std.proofs.Common.{◌≡◌, ℕ, ◌+◌, ◌<◌, ◌≤◌, ◌==◌, nat_lt, arith, Bool, not, ◌||◌, true, false, cond, Option, Some, None, Result, Ok, Err, refl, ap, ◌∙◌}
 use Rattle.algo_defs.specs.declared.fault.AlgoError.{AlgoError}
 use Rattle.algo_text.specs.Blocks.{with_some, and_then}
 
@@ -25,6 +25,20 @@ either false x y r h f g = g h
 
 pub never : {A P : Type 0} (e : AlgoError) (r : A) → Err e ≡ Ok r → P
 never e r h = cc
+
+pub not_false : (p : Bool) → not p ≡ false → p ≡ true
+not_false true h = refl
+not_false false h = cc
+
+pub equal : (m n : ℕ) → (m == n) ≡ true → m ≡ n
+equal m n h = grind arith
+
+pub at_most : (m n : ℕ) → nat_lt m n ≡ false → n ≤ m
+at_most m n h = grind arith
+
+-- one more is not above the bound
+pub fewer : (m n : ℕ) → nat_lt m (n + 1) ≡ false → n < m
+fewer m n h = grind arith
 
 pub neither : (p q : Bool) → (p || q) ≡ false → (p ≡ false) × (q ≡ false)
 neither true q h = cc
