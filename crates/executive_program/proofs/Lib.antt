@@ -2,3 +2,6 @@ pub mod Expanding
 pub mod MicroCounts
 pub mod Marks
 pub mod DepthTable
+pub mod Sums
+pub mod DeepPairs
+pub mod Formed

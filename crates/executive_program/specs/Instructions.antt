@@ -1,5 +1,5 @@
 -- Instructions and programs: what an instruction reads, writes and sends, and the parts of a sequence.
-use Rattle.std.specs.Prelude.{ℕ, suc, Bool, true, false, ◌&&◌, not, cond, nat_eq, List, [], ◌∷◌, length, Option, Some, None, slice_get, take}
+use Rattle.std.specs.Prelude.{ℕ, suc, ◌≤◌, Bool, true, false, ◌&&◌, not, cond, nat_eq, List, [], ◌∷◌, length, Option, Some, None, slice_get, take}
 use Rattle.std.specs.List.{count_by, list_any}
 use Rattle.executive_program.specs.declared.program.Instr.{Instr}
 use Rattle.executive_program.specs.declared.program.Instr.TheVariants.{Call, Send, Recv, Sync}
@@ -90,6 +90,10 @@ module _ (p : Program) where
   -- each buffer with each sequence that reads it and does not write it, by buffer and then by sequence
   abbrev pub readers : List Reader
   readers = blocks (readers_from 0 p.seqs) (length p.buffers)
+
+  -- each buffer has a place
+  abbrev pub HasPlaces : Type 0
+  HasPlaces = (b : ℕ) → 1 ≤ depth_of b
 
   -- a pair guards buffer b: some sequence reads it and does not write it
   abbrev pub is_guarded : ℕ → Bool

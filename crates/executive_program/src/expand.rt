@@ -3,7 +3,7 @@ ghost use Rattle.std.specs.Prelude.{count_by, ◌≡◌, ◌+◌, ◌*◌, ◌^�
 ghost use Rattle.executive_program.specs.Blocks.{blocks};
 ghost use Rattle.executive_program.specs.Expanded.{AreSteps};
 ghost use Rattle.executive_program.specs.Sizes.{pair_depths};
-ghost use Rattle.executive_program.specs.Instructions.{len_of, is_communication};
+ghost use Rattle.executive_program.specs.Instructions.{len_of, depth_of, is_communication};
 ghost use Rattle.executive_program.specs.Steps.{elements_in, on_load, on_store, load_step, store_step, input_steps, output_steps, send_step, receive_step, call_steps, steps_of, steps_in_list, take_steps};
 ghost use Rattle.executive_program.specs.declared.steps.MicroStep.TheVariants.{Await, Advance};
 
@@ -72,6 +72,16 @@ pub fn buffer_len(program: &Program, buffer: u32) -> u32
     match program.buffers.as_slice().get(buffer as usize) {
         Some(found) => found.len,
         None => 0,
+    }
+}
+
+/// The number of places of a buffer, 1 for one that is not there.
+pub fn buffer_depth(program: &Program, buffer: u32) -> u32
+    ensures { result ≡ depth_of program.now buffer }
+{
+    match program.buffers.as_slice().get(buffer as usize) {
+        Some(found) => found.depth,
+        None => 1,
     }
 }
 

@@ -110,7 +110,7 @@ module _ (p : Program) (w : Places) (c : Conditions p w) {P : Type 0} (reactions
         written = owned_late p c.media reactions own (stores (element_of p b j)) (w.writing b).writer (stored_at j) (store (element_of p b j) 0) store_here.0 (eq-eqb (element_of p b j) (element_of p b j) refl)
             (stands_sequence p _ _ _ one.stands) only_here (front_no_store (element_of p b j));
         once = rw (lt-ltb (element_of p b j) (buffer_elements p) (element_low p b j low)) refl;
-        some = let d = depth_is in let e = one.one_place in omega arith;
+        some = let d = depth_is in let e = one.some_place in omega arith;
       }
 
       -- in the writing sequence it is loaded after the store

@@ -163,7 +163,7 @@ module _ (p : Program) (w : Places) (c : Conditions p w) {P : Type 0} (reactions
       empty : (d : Micro) (q : ℕ) (r : Origin p s l d) → r.instr ≡ Suc0 q → x ≡ 2 * q → spot p c.order (S x).sequence (S x).site.place < spot p c.order s l
       empty d q r i n = let st = subst (λ (y : Instr). Stands p s r.index y) i r.stands in let low = c.holds.named s r.index (Suc0 q) st in
           let k : (S x).site.early ≡ pair_depth p q = ap (λ (y : Owner). y.site.early) (ap S n ∙ signaller_empty p w c reactions own q) in
-          let z = c.guarded.depth q low in let y = (c.holds.buffers (w.pair q).buffer (c.guarded.buffer q low)).one_place in absurd (omega arith)
+          let z = c.guarded.depth q low in let y = (c.holds.buffers (w.pair q).buffer (c.guarded.buffer q low)).some_place in absurd (omega arith)
 
       cases : (d : Micro) (r : Origin p s l d) (q : ℕ) → Takes r.instr x q → spot p c.order (S x).sequence (S x).site.place < spot p c.order s l
       cases d r q (inl u) = empty d q r u.0 u.1

@@ -16,6 +16,5 @@ pub mod Ready
 pub mod Runs
 pub mod Counting
 pub mod FewSequences
-pub mod Singles
 mod RowFive
 mod RowNine

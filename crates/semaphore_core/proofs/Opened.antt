@@ -176,7 +176,7 @@ module _ (j : JobData) where
             → IsReached j z → IsOpened j (record { core = z; steps = h.steps; rooms = h.rooms; lens = h.lens; desks = h.desks })
         kept_by r a b ready reached = record {
           reached = reached;
-          single = o.single;
+          places = o.places;
           ready = ready;
           steps_are = o.steps_are;
           counts_there = same_length ∙ o.counts_there;

@@ -19,7 +19,8 @@ use Rattle.flat_graph.specs.Fire.{out_lens, cell_len, seen_len}
 use Rattle.semaphore_core.specs.Desk.{DeskLens, IsDesk}
 use Rattle.semaphore_core.specs.RegisterFile.{RegisterFile}
 use Rattle.semaphore_core.specs.Registers.{Own, compute, absorb_by, emit_by, after_by}
-use Rattle.executive_program.specs.Steps.{IsSingle, steps}
+use Rattle.executive_program.specs.Steps.{steps}
+use Rattle.executive_program.specs.Instructions.{HasPlaces}
 use Rattle.semaphore_core.specs.Job.{JobData, reactions, total_steps}
 use Rattle.semaphore_core.specs.Core.{Core, count, full, is_enabled, IsReached}
 use Rattle.semaphore_core.specs.declared.answer.StepAnswer.{StepAnswer}
@@ -126,7 +127,7 @@ module _ (j : JobData) where
   pub record IsOpened (h : Held) : Type 0 where
     -- some list of sequence numbers leads to it from the opening state
     pub reached : IsReached j h.core
-    pub single : IsSingle j.program
+    pub places : HasPlaces j.program
     pub ready : AreReady j (kept_of h)
     pub steps_are : AreSteps j.program h.steps
     pub counts_there : length h.core.counts ≡ length j.program.seqs

@@ -7,11 +7,10 @@ ghost use Rattle.flat_graph.specs.Meaning.{initial_cell, initial_cells};
 ghost use Rattle.semaphore_core.specs.Job.{actuator_len, actuator_lens};
 ghost use Rattle.flat_graph.specs.Laws.{sensor_len, sensor_lens};
 ghost use Rattle.executive_program.specs.MicroSteps.{wire_len};
-ghost use Rattle.executive_program.specs.Steps.{IsSingle};
 ghost use Rattle.semaphore_core.specs.Core.{buffer_zeros, wire_zeros};
 
 use crate::rooms::{addressable, sum_of};
-use executive_program::{Instr, Program, SeqCode, buffer_len};
+use executive_program::{Program, wire_len};
 use flat_graph::{Flat, Kind, Source, Vertex};
 use std::alloc::Global;
 use syn_base::{ActRows, Items, OutOfMemory};
@@ -32,12 +31,12 @@ pub fn words_of(alloc: Global, word: u64, len: usize) -> Result<Vec<u64>, OutOfM
 
 /// The elements of all buffers, all zeros.
 fn zero_buffers(alloc: Global, program: &Program) -> Result<Vec<Items<i64>>, OutOfMemory>
-    requires { IsSingle program.now }
     ensures { IfOk result (λ s. s.items ≡ buffer_zeros program.now) }
 {
     let mut all = Vec::new(alloc);
     for buffer in program.buffers.as_slice() {
-        all.push(zeros(alloc, buffer.len as usize)?)?;
+        let len = buffer.depth as u128 * buffer.len as u128;
+        all.push(zeros(alloc, addressable(len)?)?)?;
     }
     Ok(all)
 }
@@ -48,7 +47,6 @@ pub fn zero_elements(
     program: &Program,
     media: u32,
 ) -> Result<Vec<Items<i64>>, OutOfMemory>
-    requires { IsSingle program.now }
     ensures { IfOk result (λ s. s.items ≡ buffer_zeros program.now ++ wire_zeros program.now media) }
 {
     let mut all = zero_buffers(alloc, program)?;

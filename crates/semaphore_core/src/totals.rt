@@ -4,13 +4,12 @@ ghost use Rattle.std.specs.Prelude.{◌≡◌, ◌-◌, ◌*◌, ◌^◌, ◌<�
 ghost use Rattle.std.specs.List.{sum_by};
 ghost use Rattle.flat_graph.specs.Graph.{len_of as source_len};
 ghost use Rattle.semaphore_core.specs.Job.{output_elements, total_steps};
-ghost use Rattle.executive_program.specs.Steps.{IsSingle};
 ghost use Rattle.syn_base.specs.declared.limits.LimitKind.TheVariants.{Output, Total};
 ghost use Rattle.semaphore_core.specs.IsJob.{above};
-ghost use Rattle.semaphore_core.specs.Totals.{taken_by};
+ghost use Rattle.semaphore_core.specs.Totals.{taken_by, CountsLooks};
 
 use crate::opening::source_len;
-use executive_program::{Program, buffer_len, elements_in, prologue_micros, turn_micros};
+use executive_program::{Program, deep_pairs, plain_prologues, plain_turns};
 use flat_graph::{Flat, Kind, Source, Vertex};
 use syn_base::{LimitFault, LimitKind};
 
@@ -58,14 +57,16 @@ fn output_elements(flat: &Flat, reactions: usize) -> u128
     reactions as u128 * taken_elements(flat)
 }
 
-/// The number of micro-steps of so many reactions of all sequences, or the last value of the type
-/// where it is more.
+/// The number of micro-steps of so many reactions of all sequences of a well-formed program, or the last
+/// value of the type where it is more. A take of a deep pair is two micro-steps, and in each reaction each
+/// pair is taken twice.
 pub fn total_steps(program: &Program, reactions: usize) -> u128
-    requires { IsSingle program.now }
+    requires { CountsLooks program.now }
     ensures { result ≡ min (total_steps program.now reactions) (2 ^ 128 - 1) }
 {
-    let turns = turn_micros(program).saturating_mul(reactions as u128);
-    prologue_micros(program).saturating_add(turns)
+    let looks = deep_pairs(program).saturating_mul(2);
+    let turns = plain_turns(program).saturating_add(looks);
+    plain_prologues(program).saturating_add(turns.saturating_mul(reactions as u128))
 }
 
 /// The fault of a quantity, where it is above its bound.
@@ -87,7 +88,7 @@ fn above(which: LimitKind, count: u128) -> Option<LimitFault>
 /// The limit that refuses so many reactions of a program: that of the elements that the actuators
 /// take, and else that of the micro-steps.
 pub fn limit_fault(program: &Program, flat: &Flat, reactions: usize) -> Option<LimitFault>
-    requires single { IsSingle program.now }
+    requires looks { CountsLooks program.now }
     requires few { reactions ≤ 10000 }
     ensures { result ≡ above Output (output_elements flat.now reactions) (above Total (min (total_steps program.now reactions) (2 ^ 128 - 1)) None) }
 {
