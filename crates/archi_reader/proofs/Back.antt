@@ -46,10 +46,10 @@ operator_steps : (named taken many : Bool) (a b c x : Result Reading ArchiError)
     → (if named then (if taken then a else if many then b else x) else c) ≡ x
 operator_steps named taken many a b c x e f g = rw (e, f, g) refl
 
-operator_read : (r : Reading) (n : ℕ) (name : Bytes) → r.versioned ≡ true → is_name name ≡ true → is_taken r name ≡ false → length r.operators < 16
+operator_read : (r : Reading) (n version : ℕ) (name : Bytes) → r.version ≡ Some version → is_name name ≡ true → is_taken r name ≡ false → length r.operators < 16
     → next_line r n (joined (operator_words name)) ≡ Ok (record r { operators = r.operators ++ name ∷ [] })
-operator_read r n name versioned named new few =
-    described_back r n (codes "operator") (name ∷ []) (and_from (is_word name) true (name_word name named) refl) versioned
+operator_read r n version name versioned named new few =
+    described_back r n version (codes "operator") (name ∷ []) (and_from (is_word name) true (name_word name named) refl) versioned
     ∙ operator_steps (is_name name) (is_taken r name) (nat_lt 15 (length r.operators)) _ _ _ _ named new (le-ltb 15 (length r.operators) (omega (arith, few)))
 
 medium_steps : (named : Bool) (f p : Option ℕ) (fixed per : ℕ) (taken many : Bool) (a b c d e : Result Reading ArchiError) (go : ℕ → ℕ → Result Reading ArchiError)
@@ -68,63 +68,68 @@ pub medium_plain : (name kind : Bytes) (fixed per : ℕ) → is_word name ≡ tr
 medium_plain name kind fixed per a b c d =
     and_from (is_word name) _ a (and_from (is_word kind) _ b (and_from (is_word (number fixed)) _ c (and_from (is_word (number per)) true d refl)))
 
-medium_read : (multi : Bool) (r : Reading) (n : ℕ) (name : Bytes) (fixed per : ℕ) → r.versioned ≡ true → is_name name ≡ true → nat_le fixed 1000000 ≡ true → nat_le per 1000000 ≡ true
+medium_read : (multi : Bool) (r : Reading) (n version : ℕ) (name : Bytes) (fixed per : ℕ) → r.version ≡ Some version → is_name name ≡ true → nat_le fixed 1000000 ≡ true → nat_le per 1000000 ≡ true
     → is_taken r name ≡ false → length r.media < 16
     → next_line r n (joined (codes "medium" ∷ name ∷ kind_word multi ∷ number fixed ∷ number per ∷ []))
     ≡ Ok (record r { media = r.media ++ record { name = name; multi = multi; fixed = fixed; per = per; stands = [] } ∷ []; lines = r.lines ++ n ∷ [] })
-medium_read true r n name fixed per versioned named f p new few =
+medium_read true r n version name fixed per versioned named f p new few =
     let low = leb-true fixed 1000000 f in
     let low_per = leb-true per 1000000 p in
-    described_back r n (codes "medium") (name ∷ kind_word true ∷ number fixed ∷ number per ∷ [])
+    described_back r n version (codes "medium") (name ∷ kind_word true ∷ number fixed ∷ number per ∷ [])
     (medium_plain name (kind_word true) fixed per (name_word name named) refl (number_word fixed (omega (arith, low))) (number_word per (omega (arith, low_per)))) versioned
     ∙ medium_steps (is_name name) (up_to 1000000 (integer_of (number fixed))) (up_to 1000000 (integer_of (number per))) fixed per (is_taken r name) (nat_lt 15 (length r.media)) _ _ _ _ _ _
     named (number_back 1000000 fixed f (omega (arith, low))) (number_back 1000000 per p (omega (arith, low_per))) new (le-ltb 15 (length r.media) (omega (arith, few)))
-medium_read false r n name fixed per versioned named f p new few =
+medium_read false r n version name fixed per versioned named f p new few =
     let low = leb-true fixed 1000000 f in
     let low_per = leb-true per 1000000 p in
-    described_back r n (codes "medium") (name ∷ kind_word false ∷ number fixed ∷ number per ∷ [])
+    described_back r n version (codes "medium") (name ∷ kind_word false ∷ number fixed ∷ number per ∷ [])
     (medium_plain name (kind_word false) fixed per (name_word name named) refl (number_word fixed (omega (arith, low))) (number_word per (omega (arith, low_per)))) versioned
     ∙ medium_steps (is_name name) (up_to 1000000 (integer_of (number fixed))) (up_to 1000000 (integer_of (number per))) fixed per (is_taken r name) (nat_lt 15 (length r.media)) _ _ _ _ _ _
     named (number_back 1000000 fixed f (omega (arith, low))) (number_back 1000000 per p (omega (arith, low_per))) new (le-ltb 15 (length r.media) (omega (arith, few)))
 
--- the reading behind so many operators
-abbrev pub at_operators : List Bytes → Reading
-at_operators operators = record start { versioned = true; operators = operators }
+-- what the first lines say: the version, and the depth where there is one
+pub record Opening : Type 0 where
+  pub version : ℕ
+  pub depth : Option ℕ
 
-pub operators_back : (operators done more : List Bytes) (n : ℕ) → are_distinct (done ++ (operators ++ more)) ≡ true → list_all is_name operators ≡ true → length done + length operators ≤ 16
-    → after (at_operators done) n (map operator_words operators) ≡ Ok (at_operators (done ++ operators))
-operators_back [] done more n distinct named few = ap (λ (l : List Bytes). Ok (at_operators l)) (sym (append-nil done))
-operators_back (w ∷ operators) done more n distinct named few =
+-- the reading after the first lines and so many operators
+abbrev pub at_operators : Opening → List Bytes → Reading
+at_operators opening operators = record start { version = Some opening.version; depth = opening.depth; operators = operators }
+
+pub operators_back : (opening : Opening) (operators done more : List Bytes) (n : ℕ) → are_distinct (done ++ (operators ++ more)) ≡ true → list_all is_name operators ≡ true → length done + length operators ≤ 16
+    → after (at_operators opening done) n (map operator_words operators) ≡ Ok (at_operators opening (done ++ operators))
+operators_back opening [] done more n distinct named few = ap (λ (l : List Bytes). Ok (at_operators opening l)) (sym (append-nil done))
+operators_back opening (w ∷ operators) done more n distinct named few =
     let both = and_parts (is_name w) (list_all is_name operators) named in
-    let new : is_taken (at_operators done) w ≡ false = ap (list_any (bytes_eq w)) (append-nil done) ∙ fresh_at done (operators ++ more) w distinct in
-    then_line (operator_words w) (map operator_words operators) (at_operators done) (at_operators (done ++ w ∷ [])) n (operator_read (at_operators done) n w refl both.0 new (omega (arith, few)))
-    ∙ operators_back operators (done ++ w ∷ []) more (n + 1) (subst (λ (l : List Bytes). are_distinct l ≡ true) (sym (append_assoc done (w ∷ []) (operators ++ more))) distinct) both.1
+    let new : is_taken (at_operators opening done) w ≡ false = ap (list_any (bytes_eq w)) (append-nil done) ∙ fresh_at done (operators ++ more) w distinct in
+    then_line (operator_words w) (map operator_words operators) (at_operators opening done) (at_operators opening (done ++ w ∷ [])) n (operator_read (at_operators opening done) n opening.version w refl both.0 new (omega (arith, few)))
+    ∙ operators_back opening operators (done ++ w ∷ []) more (n + 1) (subst (λ (l : List Bytes). are_distinct l ≡ true) (sym (append_assoc done (w ∷ []) (operators ++ more))) distinct) both.1
     (let long = length_push done w in omega (arith, few, long))
-    ∙ ap (λ (l : List Bytes). Ok (at_operators l)) (append_assoc done (w ∷ []) operators)
+    ∙ ap (λ (l : List Bytes). Ok (at_operators opening l)) (append_assoc done (w ∷ []) operators)
 
--- the reading behind so many media, at which nothing stands yet
-abbrev pub at_media : List Bytes → List Medium → List ℕ → Reading
-at_media operators media lines = record start { versioned = true; operators = operators; media = media; lines = lines }
+-- the reading after so many media, at which nothing stands yet
+abbrev pub at_media : Opening → List Bytes → List Medium → List ℕ → Reading
+at_media opening operators media lines = record start { version = Some opening.version; depth = opening.depth; operators = operators; media = media; lines = lines }
 
 abbrev media_names : List Medium → List Bytes
 media_names media = map (λ m. m.name) media
 
-pub media_back : (media done : List Medium) (operators : List Bytes) (lines : List ℕ) (n : ℕ)
+pub media_back : (opening : Opening) (media done : List Medium) (operators : List Bytes) (lines : List ℕ) (n : ℕ)
     → are_distinct ((operators ++ media_names done) ++ media_names media) ≡ true → list_all is_name (media_names media) ≡ true → list_all has_ticks media ≡ true → length done + length media ≤ 16
-    → (all : List ℕ) × (after (at_media operators done lines) n (map medium_words media) ≡ Ok (at_media operators (done ++ map bare media) all))
-media_back [] done operators lines n distinct named ticks few = (lines, ap (λ (l : List Medium). Ok (at_media operators l lines)) (sym (append-nil done)))
-media_back (m ∷ media) done operators lines n distinct named ticks few =
+    → (all : List ℕ) × (after (at_media opening operators done lines) n (map medium_words media) ≡ Ok (at_media opening operators (done ++ map bare media) all))
+media_back opening [] done operators lines n distinct named ticks few = (lines, ap (λ (l : List Medium). Ok (at_media opening operators l lines)) (sym (append-nil done)))
+media_back opening (m ∷ media) done operators lines n distinct named ticks few =
     let names = and_parts (is_name m.name) (list_all is_name (media_names media)) named in
     let low = and_parts (has_ticks m) (list_all has_ticks media) ticks in
     let each = and_parts (nat_le m.fixed 1000000) (nat_le m.per 1000000) low.0 in
-    let new : is_taken (at_media operators done lines) m.name ≡ false = fresh_at (operators ++ media_names done) (media_names media) m.name distinct in
+    let new : is_taken (at_media opening operators done lines) m.name ≡ false = fresh_at (operators ++ media_names done) (media_names media) m.name distinct in
     let same : (operators ++ media_names done) ++ m.name ∷ media_names media ≡ (operators ++ media_names (done ++ bare m ∷ [])) ++ media_names media =
     sym (append_assoc (operators ++ media_names done) (m.name ∷ []) (media_names media))
     ∙ ap (λ (l : List Bytes). l ++ media_names media) (append_assoc operators (media_names done) (m.name ∷ []) ∙ ap (λ (l : List Bytes). operators ++ l) (sym (map-append (λ (x : Medium). x.name) done (bare m ∷ [])))) in
     let long = length_push done (bare m) in
-    let more = media_back media (done ++ bare m ∷ []) operators (lines ++ n ∷ []) (n + 1) (subst (λ (l : List Bytes). are_distinct l ≡ true) same distinct) names.1 low.1 (omega (arith, few, long)) in (
+    let more = media_back opening media (done ++ bare m ∷ []) operators (lines ++ n ∷ []) (n + 1) (subst (λ (l : List Bytes). are_distinct l ≡ true) same distinct) names.1 low.1 (omega (arith, few, long)) in (
       more.0,
-      then_line (medium_words m) (map medium_words media) (at_media operators done lines) (at_media operators (done ++ bare m ∷ []) (lines ++ n ∷ [])) n
-          (medium_read m.multi (at_media operators done lines) n m.name m.fixed m.per refl names.0 each.0 each.1 new (omega (arith, few)))
-          ∙ more.1 ∙ ap (λ (l : List Medium). Ok (at_media operators l more.0)) (append_assoc done (bare m ∷ []) (map bare media)),
+      then_line (medium_words m) (map medium_words media) (at_media opening operators done lines) (at_media opening operators (done ++ bare m ∷ []) (lines ++ n ∷ [])) n
+          (medium_read m.multi (at_media opening operators done lines) n opening.version m.name m.fixed m.per refl names.0 each.0 each.1 new (omega (arith, few)))
+          ∙ more.1 ∙ ap (λ (l : List Medium). Ok (at_media opening operators l more.0)) (append_assoc done (bare m ∷ []) (map bare media)),
     )

@@ -95,6 +95,7 @@ module _ (r : Reading) (h : IsSound r) where
             stands = omega (arith, one, all, h.stands);
             connections = omega (arith, room);
             begun = all_set (is_begun (length r.operators)) r.media m after (begun new) h.begun;
+            depth = h.depth;
             distinct = subst (λ (l : List Bytes). are_distinct (r.operators ++ l) ≡ true) (sym (names_kept r.media m after refl)) h.distinct;
           }
 

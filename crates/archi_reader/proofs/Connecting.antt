@@ -19,7 +19,7 @@ use Rattle.archi_reader.proofs.Places.{first_or, position_cons}
 use Rattle.archi_reader.proofs.Splits.{is_word}
 use Rattle.archi_reader.proofs.Spelled.{name_word, described_back}
 use Rattle.archi_reader.proofs.After.{after, then_line, then_lines}
-use Rattle.archi_reader.proofs.Back.{fresh_at, bare}
+use Rattle.archi_reader.proofs.Back.{fresh_at, bare, Opening}
 
 -- the first that passes stands behind those that fail
 place_first : (p : Bytes → Bool) (xs ys : List Bytes) (w : Bytes) → list_any p xs ≡ false → p w ≡ true → position p (xs ++ w ∷ ys) ≡ Some (length xs)
@@ -75,36 +75,37 @@ set_seam : (done rest : List Medium) (m new : Medium) → slice_set (done ++ m �
 set_seam [] rest m new = refl
 set_seam (x ∷ done) rest m new = ap (λ l. x ∷ l) (set_seam done rest m new)
 
--- the reading behind so many connections
-abbrev pub at_connections : List Bytes → List Medium → List ℕ → ℕ → Reading
-at_connections operators media lines connections = record start { versioned = true; operators = operators; media = media; lines = lines; connections = connections }
+-- the reading after so many connections
+abbrev pub at_connections : Opening → List Bytes → List Medium → List ℕ → ℕ → Reading
+at_connections opening operators media lines connections =
+    record start { version = Some opening.version; depth = opening.depth; operators = operators; media = media; lines = lines; connections = connections }
 
 pub connect_steps : (a b : Bool) (f g : Option ℕ) (m o : ℕ) (c d e h x : Result Reading ArchiError) (go : ℕ → ℕ → Result Reading ArchiError)
     → a ≡ true → b ≡ true → f ≡ Some m → g ≡ Some o → go m o ≡ x
     → (if a then (if b then with_some f e (λ i. with_some g h (λ k. go i k)) else d) else c) ≡ x
 connect_steps a b f g m o c d e h x go p q r s is = rw (p, q, r, s) is
 
-connect_read : (r s : Reading) (n m o : ℕ) (medium operator : Bytes) → r.versioned ≡ true → is_name medium ≡ true → is_name operator ≡ true
+connect_read : (r s : Reading) (n version m o : ℕ) (medium operator : Bytes) → r.version ≡ Some version → is_name medium ≡ true → is_name operator ≡ true
     → place_of medium (medium_names r) ≡ Some m → place_of operator r.operators ≡ Some o → connected r n operator m o ≡ Ok s
     → next_line r n (joined (codes "connect" ∷ medium ∷ operator ∷ [])) ≡ Ok s
-connect_read r s n m o medium operator versioned a b at found is =
-    described_back r n (codes "connect") (medium ∷ operator ∷ []) (and_from (is_word medium) _ (name_word medium a) (and_from (is_word operator) true (name_word operator b) refl)) versioned
+connect_read r s n version m o medium operator versioned a b at found is =
+    described_back r n version (codes "connect") (medium ∷ operator ∷ []) (and_from (is_word medium) _ (name_word medium a) (and_from (is_word operator) true (name_word operator b) refl)) versioned
     ∙ connect_steps (is_name medium) (is_name operator) (place_of medium (medium_names r)) (place_of operator r.operators) m o _ _ _ _ _ _ a b at found is
 
 connected_steps : (twice many : Bool) (a b x : Result Reading ArchiError) → twice ≡ false → many ≡ false → (if twice then a else if many then b else x) ≡ x
 connected_steps twice many a b x e f = rw (e, f) refl
 
 -- one connection, at the medium behind these
-one_connection : (operators : List Bytes) (done rest : List Medium) (m : Medium) (lines : List ℕ) (c n o : ℕ) (w : Bytes)
+one_connection : (opening : Opening) (operators : List Bytes) (done rest : List Medium) (m : Medium) (lines : List ℕ) (c n o : ℕ) (w : Bytes)
     → with_stand o m.stands ≡ m.stands ++ o ∷ [] → list_any (λ p. p == o) m.stands ≡ false → c < 64
-    → connected (at_connections operators (done ++ m ∷ rest) lines c) n w (length done) o ≡ Ok (at_connections operators (done ++ record m { stands = m.stands ++ o ∷ [] } ∷ rest) lines (c + 1))
-one_connection operators done rest m lines c n o w last new few =
+    → connected (at_connections opening operators (done ++ m ∷ rest) lines c) n w (length done) o ≡ Ok (at_connections opening operators (done ++ record m { stands = m.stands ++ o ∷ [] } ∷ rest) lines (c + 1))
+one_connection opening operators done rest m lines c n o w last new few =
     let seam = read_seam done rest m in
     connected_steps (list_any (λ p. p == o) (slice_index_or (done ++ m ∷ rest) (length done) no_medium).stands) (nat_lt 63 c) _ _ _
     (ap (λ (x : Medium). list_any (λ p. p == o) x.stands) seam ∙ new) (le-ltb 63 c (omega (arith, few)))
-    ∙ ap (λ (x : Medium). Ok (at_connections operators (slice_set (done ++ m ∷ rest) (length done) (record x { stands = with_stand o x.stands })) lines (c + 1))) seam
-    ∙ ap (λ (l : List Medium). Ok (at_connections operators l lines (c + 1))) (set_seam done rest m (record m { stands = with_stand o m.stands }))
-    ∙ ap (λ (l : List ℕ). Ok (at_connections operators (done ++ record m { stands = l } ∷ rest) lines (c + 1))) last
+    ∙ ap (λ (x : Medium). Ok (at_connections opening operators (slice_set (done ++ m ∷ rest) (length done) (record x { stands = with_stand o x.stands })) lines (c + 1))) seam
+    ∙ ap (λ (l : List Medium). Ok (at_connections opening operators l lines (c + 1))) (set_seam done rest m (record m { stands = with_stand o m.stands }))
+    ∙ ap (λ (l : List ℕ). Ok (at_connections opening operators (done ++ record m { stands = l } ∷ rest) lines (c + 1))) last
 
 abbrev pub media_names : List Medium → List Bytes
 media_names media = map (λ m. m.name) media
@@ -115,14 +116,14 @@ medium_found done rest m new =
     ap (place_of m.name) (map-append (λ (x : Medium). x.name) done (m ∷ rest))
     ∙ place_first (bytes_eq m.name) (media_names done) (media_names rest) m.name new (bytes_eq_self m.name) ∙ ap (λ k. Some k) long
 
-module _ (operators : List Bytes) (lines : List ℕ) (found : AreFound operators) where
+module _ (opening : Opening) (operators : List Bytes) (lines : List ℕ) (found : AreFound operators) where
   stands_back : (os front : List ℕ) (done rest : List Medium) (m : Medium) (c n : ℕ)
       → list_any (bytes_eq m.name) (media_names done) ≡ false → is_name m.name ≡ true
       → list_all (λ o. nat_lt o (length operators)) os ≡ true → ascends_from 0 (front ++ os) ≡ true → c + length os ≤ 64
-      → after (at_connections operators (done ++ record m { stands = front } ∷ rest) lines c) n (map (connect_words operators m.name) os)
-      ≡ Ok (at_connections operators (done ++ record m { stands = front ++ os } ∷ rest) lines (c + length os))
+      → after (at_connections opening operators (done ++ record m { stands = front } ∷ rest) lines c) n (map (connect_words operators m.name) os)
+      ≡ Ok (at_connections opening operators (done ++ record m { stands = front ++ os } ∷ rest) lines (c + length os))
   stands_back [] front done rest m c n new named known ascends few =
-      ap₂ (λ (l : List ℕ) (k : ℕ). Ok (at_connections operators (done ++ record m { stands = l } ∷ rest) lines k)) (sym (append-nil front)) (let e : c ≡ c + 0 = omega arith in e)
+      ap₂ (λ (l : List ℕ) (k : ℕ). Ok (at_connections opening operators (done ++ record m { stands = l } ∷ rest) lines k)) (sym (append-nil front)) (let e : c ≡ c + 0 = omega arith in e)
   stands_back (o ∷ os) front done rest m c n new named known ascends few =
       let both = and_parts (nat_lt o (length operators)) (list_all (λ p. nat_lt p (length operators)) os) known in
       let below = ltb-true o (length operators) both.0 in
@@ -130,11 +131,11 @@ module _ (operators : List Bytes) (lines : List ℕ) (found : AreFound operators
       let x : Medium = record m { stands = front } in
       let y : Medium = record m { stands = front ++ o ∷ [] } in
       let count : c + 1 + length os ≡ c + suc (length os) = omega arith in
-      then_line (connect_words operators m.name o) (map (connect_words operators m.name) os) (at_connections operators (done ++ x ∷ rest) lines c) (at_connections operators (done ++ y ∷ rest) lines (c + 1)) n
-      (connect_read (at_connections operators (done ++ x ∷ rest) lines c) _ n (length done) o m.name (name_at operators o) refl named (found.named o below)
-      (medium_found done rest x new) (found.place o below) (one_connection operators done rest x lines c n o (name_at operators o) last.0 last.1 (omega (arith, few))))
+      then_line (connect_words operators m.name o) (map (connect_words operators m.name) os) (at_connections opening operators (done ++ x ∷ rest) lines c) (at_connections opening operators (done ++ y ∷ rest) lines (c + 1)) n
+      (connect_read (at_connections opening operators (done ++ x ∷ rest) lines c) _ n opening.version (length done) o m.name (name_at operators o) refl named (found.named o below)
+      (medium_found done rest x new) (found.place o below) (one_connection opening operators done rest x lines c n o (name_at operators o) last.0 last.1 (omega (arith, few))))
       ∙ stands_back os (front ++ o ∷ []) done rest m (c + 1) (n + 1) new named both.1 (subst (λ l. ascends_from 0 l ≡ true) (sym (append_assoc front (o ∷ []) os)) ascends) (omega (arith, few))
-      ∙ ap₂ (λ (l : List ℕ) (k : ℕ). Ok (at_connections operators (done ++ record m { stands = l } ∷ rest) lines k)) (append_assoc front (o ∷ []) os) count
+      ∙ ap₂ (λ (l : List ℕ) (k : ℕ). Ok (at_connections opening operators (done ++ record m { stands = l } ∷ rest) lines k)) (append_assoc front (o ∷ []) os) count
 
   -- ascending operators stand at the medium
   abbrev pub stands_right : Medium → Bool
@@ -142,8 +143,8 @@ module _ (operators : List Bytes) (lines : List ℕ) (found : AreFound operators
 
   pub connections_back : (media done : List Medium) (c n : ℕ)
       → are_distinct ((operators ++ media_names done) ++ media_names media) ≡ true → list_all is_name (media_names media) ≡ true → list_all stands_right media ≡ true → c + stands_in_all media ≤ 64
-      → after (at_connections operators (done ++ map bare media) lines c) n (flat_map (connections_of operators) media) ≡ Ok (at_connections operators (done ++ media) lines (c + stands_in_all media))
-  connections_back [] done c n distinct named right few = ap (λ (k : ℕ). Ok (at_connections operators (done ++ []) lines k)) (let e : c ≡ c + 0 = omega arith in e)
+      → after (at_connections opening operators (done ++ map bare media) lines c) n (flat_map (connections_of operators) media) ≡ Ok (at_connections opening operators (done ++ media) lines (c + stands_in_all media))
+  connections_back [] done c n distinct named right few = ap (λ (k : ℕ). Ok (at_connections opening operators (done ++ []) lines k)) (let e : c ≡ c + 0 = omega arith in e)
   connections_back (m ∷ media) done c n distinct named right few =
       let names = and_parts (is_name m.name) (list_all is_name (media_names media)) named in
       let rights = and_parts (stands_right m) (list_all stands_right media) right in
@@ -155,11 +156,11 @@ module _ (operators : List Bytes) (lines : List ℕ) (found : AreFound operators
       sym (append_assoc (operators ++ media_names done) (m.name ∷ []) (media_names media))
       ∙ ap (λ (l : List Bytes). l ++ media_names media) (append_assoc operators (media_names done) (m.name ∷ []) ∙ ap (λ (l : List Bytes). operators ++ l) (sym (map-append (λ (x : Medium). x.name) done (m ∷ [])))) in
       let count : c + length m.stands + stands_in_all media ≡ c + stands_in_all (m ∷ media) = omega (arith, all) in
-      let r = at_connections operators (done ++ bare m ∷ map bare media) lines c in
-      let s = at_connections operators (done ++ m ∷ map bare media) lines (c + length m.stands) in
+      let r = at_connections opening operators (done ++ bare m ∷ map bare media) lines c in
+      let s = at_connections opening operators (done ++ m ∷ map bare media) lines (c + length m.stands) in
       ap (after r n) (flat_map-cons (connections_of operators) m media)
       ∙ then_lines (connections_of operators m) (flat_map (connections_of operators) media) r s n
       (stands_back m.stands [] done (map bare media) m c n new.1 names.0 own.1 own.0 (omega (arith, few, all)))
-      ∙ ap (λ (l : List Medium). after (at_connections operators l lines (c + length m.stands)) (n + length (connections_of operators m)) (flat_map (connections_of operators) media)) (sym (append_assoc done (m ∷ []) (map bare media)))
+      ∙ ap (λ (l : List Medium). after (at_connections opening operators l lines (c + length m.stands)) (n + length (connections_of operators m)) (flat_map (connections_of operators) media)) (sym (append_assoc done (m ∷ []) (map bare media)))
       ∙ connections_back media (done ++ m ∷ []) (c + length m.stands) (n + length (connections_of operators m)) (subst (λ (l : List Bytes). are_distinct l ≡ true) same distinct) names.1 rights.1 (omega (arith, few, all))
-      ∙ ap₂ (λ (l : List Medium) (k : ℕ). Ok (at_connections operators l lines k)) (append_assoc done (m ∷ []) media) count
+      ∙ ap₂ (λ (l : List Medium) (k : ℕ). Ok (at_connections opening operators l lines k)) (append_assoc done (m ∷ []) media) count

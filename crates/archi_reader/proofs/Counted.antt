@@ -1,9 +1,10 @@
 -- What was read was spelled, and each line adds one thing at most.
-use Rattle.std.proofs.Common.{◌≡◌, ℕ, ◌+◌, ◌≤◌, ◌<◌, Bool, not, true, false, cond, ◌||◌, ◌&&◌, ◌==◌, if◌then◌else◌, List, [], ◌∷◌, ◌++◌, length, Option, Some, None, Ok, nat_le, nat_lt, refl, sym, ap, subst, ◌∙◌, arith, append_assoc, append-nil}
-use Rattle.std.specs.Prelude.{codes, slice_index_or, slice_set}
+use Rattle.std.proofs.Common.{◌≡◌, ℕ, ◌+◌, ◌≤◌, ◌<◌, Bool, not, true, false, cond, ◌||◌, ◌&&◌, ◌==◌, if◌then◌else◌, List, [], ◌∷◌, ◌++◌, length, Option, Some, None, Ok, nat_le, nat_lt, refl, sym, ap, subst, ◌∙◌, arith, append_assoc, append-nil, inl, inr}
+use Rattle.std.specs.Prelude.{codes, is_some, slice_index_or, slice_set, ◌⊎◌}
 use Rattle.std.specs.List.{list_any, list_all}
 use Rattle.std.specs.Str.{bytes_eq}
-use Rattle.std.proofs.lemmas.Bool.{and_parts, and_from, ltb-true, lt-ltb}
+use Rattle.std.proofs.lemmas.Bool.{and_parts, and_from, eqb-false, ltb-true, lt-ltb, or_parts}
+use Rattle.std.proofs.lemmas.Option.{same_Some}
 use Rattle.std.proofs.lemmas.List.{length_push, map-append, length-set}
 use Rattle.std.proofs.lemmas.List.Folds.{list_all-append}
 use Rattle.text_lines.specs.Text.{words_of, code_of, foreign_place}
@@ -12,32 +13,86 @@ use Rattle.syn_base.specs.Integer.{integer_of}
 use Rattle.archi_graph.specs.declared.medium.Medium.{Medium}
 use Rattle.archi_graph.specs.Archi.{names_of}
 use Rattle.archi_defs.specs.declared.text.DurationLine.{DurationLine}
-use Rattle.archi_defs.specs.Text.{Bytes, Reading, begins, word, up_to, place_of, medium_names, is_taken, no_medium, with_stand, version_line, operator_line, medium_line, connect_line, duration_line, described_line, line_by, next_line}
+use Rattle.archi_defs.specs.Text.{Bytes, Reading, begins, word, up_to, with_some, depth_of, version_of, place_of, medium_names, is_taken, no_medium, with_stand, version_line, operator_line, medium_line, connect_line, duration_line, depth_line, described_line, line_by, next_line}
 use Rattle.archi_reader.specs.Durations.{is_given}
 use Rattle.archi_reader.proofs.Sound.{Holds, Keeps, keeps_if, keeps_names, keeps_some, within, all_with}
 use Rattle.archi_reader.proofs.Connected.{names_kept, place_below}
 use Rattle.archi_reader.proofs.Following.{either}
 use Rattle.archi_reader.proofs.Listed.{AreNew, is_spelled, new_push}
 
--- names are names, and durations are what lines say, each once
+-- the version is 1 or 2, and a text of version 1 has no depth
+abbrev pub IsVersion : Option ℕ → Option ℕ → Type 0
+IsVersion None depth = depth ≡ None
+IsVersion (Some version) depth = ((version ≡ 1) × (depth ≡ None)) ⊎ (version ≡ 2)
+
+-- names are names, durations are what lines say, each once, and there are two versions
 pub record IsSpelled (r : Reading) : Type 0 where
   pub names : list_all is_name (names_of r.operators r.media) ≡ true
   pub durations : list_all (is_spelled (length r.operators)) r.durations ≡ true
   pub new : AreNew [] r.durations
+  pub version : IsVersion r.version r.depth
+
+abbrev pub said : Option ℕ → ℕ
+said None = 0
+said (Some n) = 1
 
 -- how many lines say so much
 abbrev pub weight : Reading → ℕ
-weight r = cond r.versioned 1 0 + length r.operators + length r.media + r.connections + length r.durations
+weight r = said r.version + said r.depth + length r.operators + length r.media + r.connections + length r.durations
 
 pub record Follows (r s : Reading) : Type 0 where
   pub spelled : IsSpelled s
   pub counted : weight s ≤ weight r + 1
 
 module _ (r : Reading) (h : IsSpelled r) where
-  follows_version : (n : ℕ) (ws : List Bytes) → r.versioned ≡ false → Keeps (Follows r) (version_line r n ws)
-  follows_version n ws first = keeps_if (not (length ws == 2) || not (bytes_eq (word ws 0) (codes "architecture")) || not (bytes_eq (word ws 1) (codes "1"))) _ _ (λ a. record {
-    holds = record { spelled = record { names = h.names; durations = h.durations; new = h.new }; counted = omega arith };
-  })
+  version_is : (w : Bytes) (version : ℕ) → version_of w ≡ Some version → (version ≡ 1) ⊎ (version ≡ 2)
+  version_is w version = by (bytes_eq w (codes "1")) (bytes_eq w (codes "2"))
+    where
+      by : (b c : Bool) → (if b then Some 1 else if c then Some 2 else None) ≡ Some version → (version ≡ 1) ⊎ (version ≡ 2)
+      by true c e = inl (sym (same_Some 1 version e))
+      by false true e = inr (sym (same_Some 2 version e))
+      by false false e = cc
+
+  opened : (version : ℕ) → r.depth ≡ None → (version ≡ 1) ⊎ (version ≡ 2) → IsVersion (Some version) r.depth
+  opened version none (inl e) = inl (e, none)
+  opened version none (inr e) = inr e
+
+  no_depth : (o : Option ℕ) → o ≡ None → IsVersion o r.depth → r.depth ≡ None
+  no_depth None e k = k
+  no_depth (Some version) e k = cc
+
+  follows_version : (n : ℕ) (ws : List Bytes) → r.version ≡ None → Keeps (Follows r) (version_line r n ws)
+  follows_version n ws first =
+      keeps_if (not (length ws == 2) || not (bytes_eq (word ws 0) (codes "architecture"))) _ _ (λ a. keeps_some (version_of (word ws 1)) _ _ (λ version v. record {
+        holds = record {
+          spelled = record { names = h.names; durations = h.durations; new = h.new; version = opened version (no_depth r.version first h.version) (version_is (word ws 1) version v) };
+          counted = let none : said r.version ≡ 0 = ap said first in omega (arith, none);
+        };
+      }))
+
+  -- a depth stands in version 2 alone
+  deepened : (version depth : ℕ) → r.version ≡ Some version → (version == 1) ≡ false → IsVersion r.version r.depth → IsVersion r.version (Some depth)
+  deepened version depth is other k = subst (λ (o : Option ℕ). IsVersion o (Some depth)) (sym is) (two (subst (λ (o : Option ℕ). IsVersion o r.depth) is k))
+    where
+      two : ((version ≡ 1) × (r.depth ≡ None)) ⊎ (version ≡ 2) → ((version ≡ 1) × (Some depth ≡ None)) ⊎ (version ≡ 2)
+      two (inl e) = absurd (eqb-false version 1 other e.0)
+      two (inr e) = inr e
+
+  none_said : (o : Option ℕ) → is_some o ≡ false → said o ≡ 0
+  none_said None e = refl
+  none_said (Some n) e = cc
+
+  follows_depth : (n version : ℕ) (ws : List Bytes) → r.version ≡ Some version → Keeps (Follows r) (depth_line r n version ws)
+  follows_depth n version ws is =
+      keeps_if (not (length ws == 2) || (version == 1) || is_some r.depth) _ _ (λ a. keeps_some (depth_of (integer_of (word ws 1))) _ _ (λ depth d. record {
+        holds =
+            let parts = or_parts (not (length ws == 2) || (version == 1)) (is_some r.depth) a in
+            let other = (or_parts (not (length ws == 2)) (version == 1) parts.0).1 in
+            record {
+              spelled = record { names = h.names; durations = h.durations; new = h.new; version = deepened version depth is other h.version };
+              counted = let none = none_said r.depth parts.1 in omega (arith, none);
+            };
+      }))
 
   more_operators : (n : ℕ) (durations : List DurationLine) → list_all (is_spelled n) durations ≡ true → list_all (is_spelled (n + 1)) durations ≡ true
   more_operators n [] e = refl
@@ -61,6 +116,7 @@ module _ (r : Reading) (h : IsSpelled r) where
                   (all_with is_name r.operators (medium_names r) (word ws 1) named h.names);
               durations = subst (λ (k : ℕ). list_all (is_spelled k) r.durations ≡ true) (sym more) (more_operators (length r.operators) r.durations h.durations);
               new = h.new;
+              version = h.version;
             };
             counted = omega (arith, more);
           }
@@ -84,6 +140,7 @@ module _ (r : Reading) (h : IsSpelled r) where
                   (all_with is_name (r.operators ++ medium_names r) [] (word ws 1) named all);
               durations = h.durations;
               new = h.new;
+              version = h.version;
             };
             counted = omega (arith, more);
           }
@@ -105,6 +162,7 @@ module _ (r : Reading) (h : IsSpelled r) where
               names = subst (λ (l : List Bytes). list_all is_name (r.operators ++ l) ≡ true) (sym (names_kept r.media m (after_of m o) refl)) h.names;
               durations = h.durations;
               new = h.new;
+              version = h.version;
             };
             counted = omega (arith, kept);
           }
@@ -128,26 +186,28 @@ module _ (r : Reading) (h : IsSpelled r) where
               names = h.names;
               durations = list_all-append (is_spelled (length r.operators)) r.durations (d ∷ []) ∙ and_from _ _ h.durations (and_from _ true own refl);
               new = new_push r.durations [] d h.new new;
+              version = h.version;
             };
             counted = omega (arith, more);
           }
 
-  follows_described : (n : ℕ) (ws : List Bytes) → Keeps (Follows r) (described_line r n ws)
-  follows_described n ws =
+  follows_described : (n version : ℕ) (ws : List Bytes) → r.version ≡ Some version → Keeps (Follows r) (described_line r n version ws)
+  follows_described n version ws is =
       either (begins ws (codes "operator")) _ _ (follows_operator n ws)
       (either (begins ws (codes "medium")) _ _ (follows_medium n ws)
       (either (begins ws (codes "connect")) _ _ (follows_connect n ws)
-      (either (begins ws (codes "duration")) _ _ (follows_duration n ws) (record { holds = tt }))))
+      (either (begins ws (codes "duration")) _ _ (follows_duration n ws)
+      (either (begins ws (codes "depth")) _ _ (follows_depth n version ws is) (record { holds = tt })))))
 
-  by_version : (b : Bool) (n : ℕ) (ws : List Bytes) → r.versioned ≡ b → Keeps (Follows r) (if b then described_line r n ws else version_line r n ws)
-  by_version true n ws e = follows_described n ws
-  by_version false n ws e = follows_version n ws e
+  by_version : (o : Option ℕ) (n : ℕ) (ws : List Bytes) → r.version ≡ o → Keeps (Follows r) (with_some o (version_line r n ws) (λ version. described_line r n version ws))
+  by_version (Some version) n ws e = follows_described n version ws e
+  by_version None n ws e = follows_version n ws e
 
   follows_line : (n : ℕ) (line : Bytes) (foreign : Option ℕ) → Keeps (Follows r) (line_by r n line foreign)
   follows_line n line (Some place) = record { holds = tt }
   follows_line n line None =
       either (length (words_of (code_of line)) == 0) _ _ (record { holds = record { spelled = h; counted = omega arith } })
-      (by_version r.versioned n (words_of (code_of line)) refl)
+      (by_version r.version n (words_of (code_of line)) refl)
 
 -- one line more
 pub follows_next : (r s : Reading) (n : ℕ) (line : Bytes) → IsSpelled r → next_line r n line ≡ Ok s → Follows r s

@@ -11,9 +11,9 @@ use Rattle.archi_graph.specs.Routes.{AreOperators}
 use Rattle.archi_defs.specs.declared.fault.ArchiError.{ArchiError}
 use Rattle.archi_defs.specs.declared.fault.ArchiError.TheVariants.{Refused, Limit, OutOfMemory}
 use Rattle.archi_defs.specs.declared.fault.ArchiCause.TheVariants.{BadMedium, Disconnected}
-use Rattle.archi_defs.specs.Text.{Reading, has_stands, media_are_right, no_medium, refused, apart, all_joined, operator_name, whole}
+use Rattle.archi_defs.specs.Text.{Reading, has_stands, media_are_right, no_medium, refused, apart, all_joined, operator_name, whole_of, whole, described}
 use Rattle.archi_reader.specs.Given.{Fails, IsStop}
-use Rattle.archi_reader.specs.Views.{IsSound, described, is_begun}
+use Rattle.archi_reader.specs.Views.{IsSound, is_begun}
 use Rattle.archi_reader.proofs.Places.{further, first_or, position_cons, all_pass}
 
 -- the answer by the first medium at which a wrong number of operators stands
@@ -91,20 +91,20 @@ valid r s some right joined =
     and_from _ _ (and_from _ _ (and_from _ _ (bounded r s some) (media_of n r.media stands s.begun)) s.distinct) reached
 
 -- what is told of the whole
-pub whole_wrong : (r : Reading) (n k : ℕ) → r.versioned ≡ true → (length r.operators == 0) ≡ false → position (λ m. not (has_stands m)) r.media ≡ Some k
+pub whole_wrong : (r : Reading) (n version k : ℕ) → r.version ≡ Some version → (length r.operators == 0) ≡ false → position (λ m. not (has_stands m)) r.media ≡ Some k
     → whole r n ≡ refused (slice_index_or r.lines k 0) (BadMedium (slice_index_or r.media k no_medium).name)
-whole_wrong r n k v some at =
-    rw (v, some) (media_told r.media r.lines (all_joined r (apart r)) ∙ ap (λ (o : Option ℕ). told o r.media r.lines (all_joined r (apart r))) at)
+whole_wrong r n version k v some at =
+    rw (v, some) (media_told r.media r.lines (all_joined r version (apart r)) ∙ ap (λ (o : Option ℕ). told o r.media r.lines (all_joined r version (apart r))) at)
 
-pub whole_apart : (r : Reading) (n o : ℕ) → r.versioned ≡ true → (length r.operators == 0) ≡ false → position (λ m. not (has_stands m)) r.media ≡ None → apart r ≡ Some o
+pub whole_apart : (r : Reading) (n version o : ℕ) → r.version ≡ Some version → (length r.operators == 0) ≡ false → position (λ m. not (has_stands m)) r.media ≡ None → apart r ≡ Some o
     → whole r n ≡ refused 0 (Disconnected (operator_name r 0) (operator_name r o))
-whole_apart r n o v some right at =
-    rw (v, some) (media_told r.media r.lines (all_joined r (apart r)) ∙ ap (λ (x : Option ℕ). told x r.media r.lines (all_joined r (apart r))) right ∙ ap (all_joined r) at)
+whole_apart r n version o v some right at =
+    rw (v, some) (media_told r.media r.lines (all_joined r version (apart r)) ∙ ap (λ (x : Option ℕ). told x r.media r.lines (all_joined r version (apart r))) right ∙ ap (all_joined r version) at)
 
-pub whole_fine : (r : Reading) (n : ℕ) → r.versioned ≡ true → (length r.operators == 0) ≡ false → position (λ m. not (has_stands m)) r.media ≡ None → apart r ≡ None
-    → whole r n ≡ Ok (described r)
-whole_fine r n v some right joined =
-    rw (v, some) (media_told r.media r.lines (all_joined r (apart r)) ∙ ap (λ (x : Option ℕ). told x r.media r.lines (all_joined r (apart r))) right ∙ ap (all_joined r) joined)
+pub whole_fine : (r : Reading) (n version : ℕ) → r.version ≡ Some version → (length r.operators == 0) ≡ false → position (λ m. not (has_stands m)) r.media ≡ None → apart r ≡ None
+    → whole r n ≡ Ok (described r version)
+whole_fine r n version v some right joined =
+    rw (v, some) (media_told r.media r.lines (all_joined r version (apart r)) ∙ ap (λ (x : Option ℕ). told x r.media r.lines (all_joined r version (apart r))) right ∙ ap (all_joined r version) joined)
 
 -- a refusal that was asked for
 pub stopped : {A : Type 0} (e asked : ArchiError) (read : Result A ArchiError) → IsStop e asked → read ≡ Err asked → Fails e read

@@ -7,10 +7,10 @@ use Rattle.syn_base.specs.Integer.{integer_of}
 use Rattle.text_lines.specs.Text.{words_of, code_of, foreign_place}
 use Rattle.archi_defs.specs.declared.fault.ArchiError.{ArchiError}
 use Rattle.archi_defs.specs.declared.fault.ArchiError.TheVariants.{Refused, Limit, OutOfMemory}
-use Rattle.archi_defs.specs.Text.{Bytes, Described, Reading, and_then, begins, word, up_to, place_of, duration_line, described_line, line_by, next_line, rest_of}
+use Rattle.archi_defs.specs.Text.{Bytes, Described, Reading, and_then, begins, with_some, word, up_to, place_of, duration_line, described_line, line_by, next_line, rest_of}
 use Rattle.archi_reader.specs.Given.{Fails}
 use Rattle.archi_reader.specs.Views.{IsSound}
-use Rattle.archi_reader.proofs.Sound.{Holds, Keeps, keeps_if, keeps_names, keeps_some, sound_version, sound_operator, sound_medium}
+use Rattle.archi_reader.proofs.Sound.{Holds, Keeps, keeps_if, keeps_names, keeps_some, sound_depth, sound_version, sound_operator, sound_medium}
 use Rattle.archi_reader.proofs.Connected.{sound_connect}
 
 sound_duration : (r : Reading) (n : ℕ) (ws : List Bytes) → IsSound r → Keeps IsSound (duration_line r n ws)
@@ -18,25 +18,31 @@ sound_duration r n ws h =
     keeps_if (not (length ws == 4)) _ _ (λ a. keeps_names n (word ws 1) (word ws 2 ∷ []) _ (λ b. keeps_names n (word ws 2) [] _ (λ c.
     keeps_some (up_to 1000000000 (integer_of (word ws 3))) _ _ (λ ticks t. keeps_some (place_of (word ws 2) r.operators) _ _ (λ o known.
     keeps_if (list_any (λ d. bytes_eq d.def (word ws 1) && (d.operator == o)) r.durations) _ _ (λ new. record {
-      holds = record { operators = h.operators; media = h.media; lines = h.lines; stands = h.stands; connections = h.connections; begun = h.begun; distinct = h.distinct };
+      holds = record { operators = h.operators; media = h.media; lines = h.lines; stands = h.stands; connections = h.connections; begun = h.begun; depth = h.depth; distinct = h.distinct };
     }))))))
 
 pub either : {P : Reading → Type 0} (b : Bool) (x y : Result Reading ArchiError) → Keeps P x → Keeps P y → Keeps P (if b then x else y)
 either true x y h k = h
 either false x y h k = k
 
-sound_described : (r : Reading) (n : ℕ) (ws : List Bytes) → IsSound r → Keeps IsSound (described_line r n ws)
-sound_described r n ws h =
+pub by_version : {P : Reading → Type 0} (version : Option ℕ) {first : Result Reading ArchiError} {later : ℕ → Result Reading ArchiError}
+    → Keeps P first → ((v : ℕ) → Keeps P (later v)) → Keeps P (with_some version first later)
+by_version None h k = h
+by_version (Some v) h k = k v
+
+sound_described : (r : Reading) (n version : ℕ) (ws : List Bytes) → IsSound r → Keeps IsSound (described_line r n version ws)
+sound_described r n version ws h =
     either (begins ws (codes "operator")) _ _ (sound_operator r n ws h)
     (either (begins ws (codes "medium")) _ _ (sound_medium r n ws h)
     (either (begins ws (codes "connect")) _ _ (sound_connect r h n ws)
-    (either (begins ws (codes "duration")) _ _ (sound_duration r n ws h) (record { holds = tt }))))
+    (either (begins ws (codes "duration")) _ _ (sound_duration r n ws h)
+    (either (begins ws (codes "depth")) _ _ (sound_depth r n version ws h) (record { holds = tt })))))
 
 sound_line : (r : Reading) (n : ℕ) (line : Bytes) (foreign : Option ℕ) → IsSound r → Keeps IsSound (line_by r n line foreign)
 sound_line r n line (Some place) h = record { holds = tt }
 sound_line r n line None h =
     either (length (words_of (code_of line)) == 0) _ _ (record { holds = h })
-    (either r.versioned _ _ (sound_described r n (words_of (code_of line)) h) (sound_version r n (words_of (code_of line)) h))
+    (by_version r.version (sound_version r n (words_of (code_of line)) h) (λ version. sound_described r n version (words_of (code_of line)) h))
 
 -- what holds of a reading holds behind each line
 pub sound_next : (r new : Reading) (n : ℕ) (line : Bytes) → IsSound r → next_line r n line ≡ Ok new → IsSound new

@@ -1,5 +1,6 @@
 -- The canonical text of what was read is read as the same.
-use Rattle.std.proofs.Common.{◌≡◌, ℕ, suc, ◌+◌, ◌≤◌, Bool, not, true, false, ◌&&◌, ◌==◌, if◌then◌else◌, List, [], ◌∷◌, ◌++◌, length, map, Option, Some, None, position, Result, Ok, Err, nat_le, nat_lt, refl, sym, ap, ap₂, subst, ◌∙◌, arith, append-nil, length-append, cond}
+use Rattle.std.proofs.Common.{◌≡◌, ℕ, suc, ◌+◌, ◌≤◌, Bool, not, true, false, ◌&&◌, ◌==◌, if◌then◌else◌, List, [], ◌∷◌, ◌++◌, length, map, Option, Some, None, position, Result, Ok, Err, nat_le, nat_lt, refl, sym, ap, ap₂, subst, ◌∙◌, arith, append-nil, length-append, inl, inr}
+use Rattle.std.specs.Prelude.{codes, ◌⊎◌}
 use Rattle.std.specs.List.{list_all, flat_map}
 use Rattle.std.proofs.lemmas.Bool.{and_parts, and_from, ltb-true, leb-true}
 use Rattle.std.proofs.lemmas.List.{length-map}
@@ -9,21 +10,22 @@ use Rattle.std.proofs.lemmas.List.Concat.{flat_map-cons}
 use Rattle.text_lines.specs.Text.{lines_of}
 use Rattle.syn_base.specs.Name.{is_name}
 use Rattle.archi_graph.specs.declared.medium.Medium.{Medium}
-use Rattle.archi_graph.specs.Archi.{ascends_from, stands_in_all}
+use Rattle.archi_graph.specs.Archi.{ascends_from, is_depth, stands_in_all}
 use Rattle.archi_defs.specs.declared.text.DurationLine.{DurationLine}
 use Rattle.archi_defs.specs.declared.fault.ArchiError.{ArchiError}
-use Rattle.archi_defs.specs.Text.{Bytes, Described, Reading, start, and_then, next_line, rest_of, description_of, whole, has_stands, all_joined, apart, medium_names}
-use Rattle.archi_reader.specs.Views.{IsSound, is_begun, described}
-use Rattle.archi_reader.specs.Canonical.{Words, joined, text_of, number, kind_word, version_words, operator_words, medium_words, name_at, connect_words, connections_of, duration_words, canonical_lines, canonical_text}
+use Rattle.archi_defs.specs.declared.fault.ArchiCause.TheVariants.{BadLine, BadNumber}
+use Rattle.archi_defs.specs.Text.{Bytes, Described, Reading, start, and_then, next_line, rest_of, description_of, whole_of, whole, has_stands, all_joined, apart, medium_names, described, depth_or_one, refused, with_some}
+use Rattle.archi_reader.specs.Views.{IsSound, is_begun}
+use Rattle.archi_reader.specs.Canonical.{Words, joined, text_of, number, kind_word, version_words, depth_words, depth_lines, opening_lines, operator_words, medium_words, name_at, connect_words, connections_of, duration_words, canonical_lines, canonical_text}
 use Rattle.archi_reader.proofs.Endings.{told, media_told, whole_fine}
 use Rattle.archi_reader.proofs.Following.{sound_next}
 use Rattle.archi_reader.proofs.Splits.{is_word, are_words, text_back}
-use Rattle.archi_reader.proofs.Spelled.{name_word, number_word}
+use Rattle.archi_reader.proofs.Spelled.{name_word, number_word, depth_back, described_back}
 use Rattle.archi_reader.proofs.After.{after, rest_after, then_line, after_append}
-use Rattle.archi_reader.proofs.Back.{at_operators, at_media, operators_back, media_back, medium_plain, bare, has_ticks}
+use Rattle.archi_reader.proofs.Back.{Opening, at_operators, at_media, operators_back, media_back, medium_plain, bare, has_ticks}
 use Rattle.archi_reader.proofs.Connecting.{AreFound, are_found, at_connections, connections_back, media_names}
 use Rattle.archi_reader.proofs.Listed.{at_durations, durations_back, is_spelled}
-use Rattle.archi_reader.proofs.Counted.{IsSpelled, weight, follows_next}
+use Rattle.archi_reader.proofs.Counted.{IsSpelled, IsVersion, said, weight, follows_next}
 
 -- the reading of a text that was not refused, at its end
 record Ends (r : Reading) (count : ℕ) (d : Described) : Type 0 where
@@ -48,11 +50,11 @@ ends (line ∷ lines) r n d sound spelled h = by (next_line r n line) refl h (λ
 
 -- what a whole that is not refused says
 record IsWhole (r : Reading) (d : Described) : Type 0 where
-  pub versioned : r.versioned ≡ true
+  pub version : r.version ≡ Some d.version
   pub some : (length r.operators == 0) ≡ false
   pub right : position (λ m. not (has_stands m)) r.media ≡ None
   pub reached : apart r ≡ None
-  pub is : described r ≡ d
+  pub is : described r d.version ≡ d
 
 passed : (b : Bool) (e : ArchiError) (go : Result Described ArchiError) (d : Described) → (if b then Err e else go) ≡ Ok d → (b ≡ false) × (go ≡ Ok d)
 passed true e go d h = cc
@@ -62,21 +64,30 @@ told_none : (o : Option ℕ) (media : List Medium) (lines : List ℕ) (go : Resu
 told_none None media lines go d h = (refl, h)
 told_none (Some k) media lines go d h = cc
 
-joined_none : (r : Reading) (o : Option ℕ) (d : Described) → all_joined r o ≡ Ok d → (o ≡ None) × (described r ≡ d)
-joined_none r None d h = (refl, cc)
-joined_none r (Some o) d h = cc
+joined_none : (r : Reading) (version : ℕ) (o : Option ℕ) (d : Described) → all_joined r version o ≡ Ok d → (o ≡ None) × (described r version ≡ d)
+joined_none r version None d h = (refl, cc)
+joined_none r version (Some o) d h = cc
 
-negated : (b : Bool) → not b ≡ false → b ≡ true
-negated true h = refl
-negated false h = cc
+whole_is_of : (r : Reading) (version : ℕ) (d : Described) → r.version ≡ Some version → whole_of r version ≡ Ok d → IsWhole r d
+whole_is_of r version d v h =
+    let b = passed (length r.operators == 0) _ _ d h in
+    let right = told_none (position (λ m. not (has_stands m)) r.media) r.media r.lines (all_joined r version (apart r)) d (sym (media_told r.media r.lines (all_joined r version (apart r))) ∙ b.1) in
+    let c = joined_none r version (apart r) d right.1 in
+    let same : version ≡ d.version = ap (λ (x : Described). x.version) c.1 in
+    record {
+      version = v ∙ ap (λ (k : ℕ). Some k) same;
+      some = b.0;
+      right = right.0;
+      reached = c.0;
+      is = ap (described r) (sym same) ∙ c.1;
+    }
 
 is_whole : (r : Reading) (n : ℕ) (d : Described) → whole r n ≡ Ok d → IsWhole r d
-is_whole r n d h =
-    let a = passed (not r.versioned) _ _ d h in
-    let b = passed (length r.operators == 0) _ _ d a.1 in
-    let right = told_none (position (λ m. not (has_stands m)) r.media) r.media r.lines (all_joined r (apart r)) d (sym (media_told r.media r.lines (all_joined r (apart r))) ∙ b.1) in
-    let c = joined_none r (apart r) d right.1 in
-    record { versioned = negated r.versioned a.0; some = b.0; right = right.0; reached = c.0; is = c.1 }
+is_whole r n d h = by r.version refl h
+  where
+    by : (o : Option ℕ) → r.version ≡ o → with_some o (refused n BadLine) (whole_of r) ≡ Ok d → IsWhole r d
+    by None e k = cc
+    by (Some version) e k = whole_is_of r version d e k
 
 -- lines behind others
 chained : (lines more : List Words) (r s : Reading) (t : Result Reading ArchiError) (n : ℕ) → after r n lines ≡ Ok s → after s (n + length lines) more ≡ t → after r n (lines ++ more) ≡ t
@@ -155,59 +166,116 @@ begun_stands n (m ∷ media) h =
     let b = and_parts (ascends_from 0 m.stands && list_all (λ o. nat_lt o n) m.stands) (nat_le m.fixed 1000000) a.0 in
     and_from _ _ b.0 (begun_stands n media both.1)
 
-module _ (t : Reading) (sound : IsSound t) (spelled : IsSpelled t) where
+-- a text of version 1 has no depth
+abbrev one_or : ℕ → ℕ → Option ℕ
+one_or version depth = if version == 1 then None else Some depth
+
+-- the lines of the version and of the depth are read as they were printed
+opening_back : (version depth : ℕ) (o : Option ℕ) → IsVersion (Some version) o → depth_or_one o ≡ depth → is_depth depth ≡ true
+    → (after start 1 (opening_lines version depth) ≡ Ok (at_operators (record { version = version; depth = one_or version depth }) []))
+    × (list_all are_words (opening_lines version depth) ≡ true)
+    × (depth_or_one (one_or version depth) ≡ depth)
+opening_back version depth o (inl e) is deep =
+    subst (λ (v : ℕ). (after start 1 (opening_lines v depth) ≡ Ok (at_operators (record { version = v; depth = one_or v depth }) [])) × (list_all are_words (opening_lines v depth) ≡ true) × (depth_or_one (one_or v depth) ≡ depth))
+    (sym e.0) (refl, refl, ap depth_or_one (sym e.1) ∙ is)
+opening_back version depth o (inr e) is deep =
+    subst (λ (v : ℕ). (after start 1 (opening_lines v depth) ≡ Ok (at_operators (record { version = v; depth = one_or v depth }) [])) × (list_all are_words (opening_lines v depth) ≡ true) × (depth_or_one (one_or v depth) ≡ depth))
+    (sym e) (read, plain, refl)
+  where
+    small : depth ≤ 4
+    small = leb-true depth 4 (and_parts (nat_le 1 depth) (nat_le depth 4) deep).1
+
+    own : is_word (number depth) ≡ true
+    own = number_word depth (omega (arith, small))
+
+    words : are_words (depth_words depth) ≡ true
+    words = and_from (is_word (number depth)) true own refl
+
+    plain : list_all are_words (opening_lines 2 depth) ≡ true
+    plain = and_from (are_words (depth_words depth)) true words refl
+
+    first : Reading
+    first = at_operators (record { version = 2; depth = None }) []
+
+    both : next_line first 2 (joined (depth_words depth)) ≡ Ok (at_operators (record { version = 2; depth = Some depth }) [])
+    both =
+        described_back first 2 2 (codes "depth") (number depth ∷ []) words refl
+        ∙ ap (λ (x : Option ℕ). with_some x (refused 2 (BadNumber (number depth))) (λ (k : ℕ). Ok (at_operators (record { version = 2; depth = Some k }) []))) (depth_back depth deep (omega (arith, small)))
+
+    read : after start 1 (opening_lines 2 depth) ≡ Ok (at_operators (record { version = 2; depth = Some depth }) [])
+    read =
+        then_line (version_words 2) (depth_words depth ∷ []) start first 1 refl
+        ∙ then_line (depth_words depth) [] first (at_operators (record { version = 2; depth = Some depth }) []) 2 both
+
+module _ (version : ℕ) (t : Reading) (sound : IsSound t) (spelled : IsSpelled t) (versioned : t.version ≡ Some version) where
   names : (list_all is_name t.operators ≡ true) × (list_all is_name (media_names t.media) ≡ true)
   names = and_parts (list_all is_name t.operators) (list_all is_name (media_names t.media)) (sym (list_all-append is_name t.operators (media_names t.media)) ∙ spelled.names)
 
   found : AreFound t.operators
   found = are_found t.operators (medium_names t) sound.distinct names.0
 
+  abbrev depth : ℕ
+  depth = depth_or_one t.depth
+
+  abbrev opening : Opening
+  opening = record { version = version; depth = one_or version depth }
+
+  first : (after start 1 (opening_lines version depth) ≡ Ok (at_operators opening [])) × (list_all are_words (opening_lines version depth) ≡ true) × (depth_or_one (one_or version depth) ≡ depth)
+  first = opening_back version depth t.depth (subst (λ (o : Option ℕ). IsVersion o t.depth) versioned spelled.version) refl sound.depth
+
   abbrev all_lines : List Words
-  all_lines = canonical_lines (record { operators = t.operators; media = t.media }) t.durations
+  all_lines = canonical_lines version (record { operators = t.operators; media = t.media; depth = depth }) t.durations
+
+  abbrev to_operators : List Words
+  to_operators = opening_lines version depth ++ map operator_words t.operators
 
   abbrev to_media : List Words
-  to_media = (version_words ∷ map operator_words t.operators) ++ map medium_words t.media
+  to_media = to_operators ++ map medium_words t.media
 
   abbrev to_connections : List Words
   to_connections = to_media ++ flat_map (connections_of t.operators) t.media
 
-  operator_lines : after start 1 (version_words ∷ map operator_words t.operators) ≡ Ok (at_operators t.operators)
+  operator_lines : after start 1 to_operators ≡ Ok (at_operators opening t.operators)
   operator_lines =
-      then_line version_words (map operator_words t.operators) start (at_operators []) 1 refl
-      ∙ operators_back t.operators [] (medium_names t) 2 sound.distinct names.0 (omega (arith, sound.operators))
+      chained (opening_lines version depth) (map operator_words t.operators) start (at_operators opening []) _ 1 first.0
+      (operators_back opening t.operators [] (medium_names t) _ sound.distinct names.0 (omega (arith, sound.operators)))
 
-  media_lines : (n : ℕ) → (all : List ℕ) × (after (at_operators t.operators) n (map medium_words t.media) ≡ Ok (at_media t.operators (map bare t.media) all))
+  media_lines : (n : ℕ) → (all : List ℕ) × (after (at_operators opening t.operators) n (map medium_words t.media) ≡ Ok (at_media opening t.operators (map bare t.media) all))
   media_lines n =
-      media_back t.media [] t.operators [] n (rw append-nil sound.distinct) names.1 (begun_ticks (length t.operators) t.media sound.begun) (omega (arith, sound.media))
+      media_back opening t.media [] t.operators [] n (rw append-nil sound.distinct) names.1 (begun_ticks (length t.operators) t.media sound.begun) (omega (arith, sound.media))
 
-  read_lines : (all : List ℕ) × (after start 1 all_lines ≡ Ok (at_durations t.operators t.media all (0 + stands_in_all t.media) t.durations))
+  read_lines : (all : List ℕ) × (after start 1 all_lines ≡ Ok (at_durations opening t.operators t.media all (0 + stands_in_all t.media) t.durations))
   read_lines =
-      let m = media_lines (1 + length (version_words ∷ map operator_words t.operators)) in (
+      let m = media_lines (1 + length to_operators) in (
         m.0,
-        chained to_connections (map (duration_words t.operators) t.durations) start (at_connections t.operators t.media m.0 (0 + stands_in_all t.media)) _ 1
-            (chained to_media (flat_map (connections_of t.operators) t.media) start (at_media t.operators (map bare t.media) m.0) _ 1
-            (chained (version_words ∷ map operator_words t.operators) (map medium_words t.media) start (at_operators t.operators) _ 1 operator_lines m.1)
-            (connections_back t.operators m.0 found t.media [] 0 _ (rw append-nil sound.distinct) names.1 (begun_stands (length t.operators) t.media sound.begun) (omega (arith, sound.stands, sound.connections))))
-            (durations_back t.operators t.media m.0 (0 + stands_in_all t.media) found t.durations [] _ spelled.new spelled.durations),
+        chained to_connections (map (duration_words t.operators) t.durations) start (at_connections opening t.operators t.media m.0 (0 + stands_in_all t.media)) _ 1
+            (chained to_media (flat_map (connections_of t.operators) t.media) start (at_media opening t.operators (map bare t.media) m.0) _ 1
+            (chained to_operators (map medium_words t.media) start (at_operators opening t.operators) _ 1 operator_lines m.1)
+            (connections_back opening t.operators m.0 found t.media [] 0 _ (rw append-nil sound.distinct) names.1 (begun_stands (length t.operators) t.media sound.begun) (omega (arith, sound.stands, sound.connections))))
+            (durations_back opening t.operators t.media m.0 (0 + stands_in_all t.media) found t.durations [] _ spelled.new spelled.durations),
       )
 
   lines_plain : list_all are_words all_lines ≡ true
   lines_plain =
       all_both are_words to_connections (map (duration_words t.operators) t.durations)
       (all_both are_words to_media (flat_map (connections_of t.operators) t.media)
-      (all_both are_words (version_words ∷ map operator_words t.operators) (map medium_words t.media) (operators_plain t.operators names.0) (media_plain t.media names.1 (begun_ticks (length t.operators) t.media sound.begun)))
+      (all_both are_words to_operators (map medium_words t.media)
+      (all_both are_words (opening_lines version depth) (map operator_words t.operators) first.1 (operators_plain t.operators names.0))
+      (media_plain t.media names.1 (begun_ticks (length t.operators) t.media sound.begun)))
       (connections_plain t.operators found t.media names.1 (begun_stands (length t.operators) t.media sound.begun)))
       (durations_plain t.operators found t.durations spelled.durations)
 
-  back : (d : Described) (n : ℕ) → whole t n ≡ Ok d → description_of (text_of all_lines) ≡ Ok d
-  back d n h =
+  back : (d : Described) (n : ℕ) → whole t n ≡ Ok d → d.version ≡ version → description_of (text_of all_lines) ≡ Ok d
+  back d n h same =
       let w = is_whole t n d h in
       let r = read_lines in
-      let s = at_durations t.operators t.media r.0 (0 + stands_in_all t.media) t.durations in
+      let s = at_durations opening t.operators t.media r.0 (0 + stands_in_all t.media) t.durations in
       ap (rest_of start 1) (text_back all_lines lines_plain)
       ∙ rest_after all_lines start 1
       ∙ ap (λ read. and_then read (λ u. whole u (1 + length all_lines))) r.1
-      ∙ whole_fine s (1 + length all_lines) refl w.some w.right w.reached
+      ∙ whole_fine s (1 + length all_lines) version refl w.some w.right w.reached
+      ∙ ap (λ (k : ℕ). Ok (record { version = version; archi = record { operators = t.operators; media = t.media; depth = k }; durations = t.durations })) first.2
+      ∙ ap (λ (v : ℕ). Ok (described t v)) (sym same)
       ∙ ap (λ x. Ok x) w.is
 
 connections_count : (operators : List Bytes) (media : List Medium) → length (flat_map (connections_of operators) media) ≡ stands_in_all media
@@ -217,38 +285,41 @@ connections_count operators (m ∷ media) =
     ap length (flat_map-cons (connections_of operators) m media) ∙ length-append (connections_of operators m) (flat_map (connections_of operators) media)
     ∙ ap₂ ◌+◌ own (connections_count operators media) ∙ sym (sum_by-cons (λ x. length x.stands) m media)
 
-canonical_count : (t : Reading) → t.versioned ≡ true → stands_in_all t.media ≡ t.connections → length (canonical_lines (record { operators = t.operators; media = t.media }) t.durations) ≡ weight t
-canonical_count t versioned stands =
-    let a = version_words ∷ map operator_words t.operators in
+canonical_count : (version : ℕ) (t : Reading) → t.version ≡ Some version → stands_in_all t.media ≡ t.connections
+    → length (canonical_lines version (record { operators = t.operators; media = t.media; depth = depth_or_one t.depth }) t.durations) ≤ weight t + length (depth_lines version (depth_or_one t.depth))
+canonical_count version t versioned stands =
+    let o = opening_lines version (depth_or_one t.depth) in
+    let a = map operator_words t.operators in
     let b = map medium_words t.media in
     let c = flat_map (connections_of t.operators) t.media in
     let d = map (duration_words t.operators) t.durations in
-    let first : length a ≡ suc (length t.operators) = ap suc (search length-map) in
+    let first : length a ≡ length t.operators = search length-map in
     let second : length b ≡ length t.media = search length-map in
     let fourth : length d ≡ length t.durations = search length-map in
-    let one : cond t.versioned 1 0 ≡ 1 = ap (λ (v : Bool). cond {A = ℕ} v 1 0) versioned in
-    omega (arith, length-append ((a ++ b) ++ c) d, length-append (a ++ b) c, length-append a b, first, second, connections_count t.operators t.media, fourth, one, stands)
+    let one : said t.version ≡ 1 = ap said versioned in
+    omega (arith, length-append (((o ++ a) ++ b) ++ c) d, length-append ((o ++ a) ++ b) c, length-append (o ++ a) b, length-append o a, first, second, connections_count t.operators t.media, fourth, one, stands)
 
 start_sound : IsSound start
-start_sound = record { operators = omega arith; media = omega arith; lines = refl; stands = refl; connections = omega arith; begun = refl; distinct = refl }
+start_sound = record { operators = omega arith; media = omega arith; lines = refl; stands = refl; connections = omega arith; begun = refl; depth = refl; distinct = refl }
 
 start_spelled : IsSpelled start
-start_spelled = record { names = refl; durations = refl; new = tt }
+start_spelled = record { names = refl; durations = refl; new = tt; version = refl }
 
 -- The canonical text of what a text describes is read as the same.
 pub canonical_back : (text : Bytes) (d : Described) → description_of text ≡ Ok d → description_of (canonical_text d) ≡ Ok d
 canonical_back text d h =
     let e = ends (lines_of text) start 1 d start_sound start_spelled h in
     let w = is_whole e.last e.number_of_end d e.whole_is in
-    subst (λ (x : Described). description_of (canonical_text x) ≡ Ok d) w.is (back e.last e.sound e.spelled d e.number_of_end e.whole_is)
+    subst (λ (x : Described). description_of (canonical_text x) ≡ Ok d) w.is (back d.version e.last e.sound e.spelled w.version d e.number_of_end e.whole_is refl)
 
--- It has no more lines.
-pub canonical_lines_few : (text : Bytes) (d : Described) → description_of text ≡ Ok d → length (lines_of (canonical_text d)) ≤ length (lines_of text)
+-- It has no more lines, but for that of the depth.
+pub canonical_lines_few : (text : Bytes) (d : Described) → description_of text ≡ Ok d
+    → length (lines_of (canonical_text d)) ≤ length (lines_of text) + length (depth_lines d.version d.archi.depth)
 canonical_lines_few text d h =
     let e = ends (lines_of text) start 1 d start_sound start_spelled h in
     let w = is_whole e.last e.number_of_end d e.whole_is in
-    let lines = all_lines e.last e.sound e.spelled in
+    let lines = all_lines d.version e.last e.sound e.spelled w.version in
     let long : length (map joined lines) ≡ length lines = search length-map in
-    let few : length (lines_of (text_of lines)) ≤ length (lines_of text) =
-    omega (arith, ap length (text_back lines (lines_plain e.last e.sound e.spelled)), long, canonical_count e.last w.versioned e.sound.stands, e.counted) in
-    subst (λ (x : Described). length (lines_of (canonical_text x)) ≤ length (lines_of text)) w.is few
+    let few : length (lines_of (text_of lines)) ≤ length (lines_of text) + length (depth_lines d.version (depth_or_one e.last.depth)) =
+    omega (arith, ap length (text_back lines (lines_plain d.version e.last e.sound e.spelled w.version)), long, canonical_count d.version e.last w.version e.sound.stands, e.counted) in
+    subst (λ (x : Described). length (lines_of (canonical_text x)) ≤ length (lines_of text) + length (depth_lines x.version x.archi.depth)) w.is few

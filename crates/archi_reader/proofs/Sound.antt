@@ -1,6 +1,6 @@
 -- What each line keeps.
 use Rattle.std.proofs.Common.{◌≡◌, ℕ, ◌+◌, Bool, not, true, false, cond, ◌||◌, ◌==◌, if◌then◌else◌, List, [], ◌∷◌, ◌++◌, length, Option, Some, None, Result, Ok, Err, ℤ, pos, negsuc, nat_le, nat_lt, refl, sym, ap, ap₂, subst, ◌∙◌, arith, append_assoc, append-nil}
-use Rattle.std.specs.Prelude.{codes}
+use Rattle.std.specs.Prelude.{codes, is_some}
 use Rattle.std.specs.List.{list_any, list_all, count_by}
 use Rattle.std.specs.Str.{bytes_eq}
 use Rattle.std.proofs.lemmas.Bool.{and_parts, and_from, eqb-true, ltb-true, ltb-false, lt-ltb, or_parts, eq-eqb}
@@ -11,10 +11,10 @@ use Rattle.syn_base.specs.Name.{is_name}
 use Rattle.syn_base.specs.Integer.{integer_of}
 use Rattle.syn_base.specs.declared.integer.NumFault.{NumFault}
 use Rattle.archi_graph.specs.declared.medium.Medium.{Medium}
-use Rattle.archi_graph.specs.Archi.{ascends_from, are_distinct, occurs_once}
+use Rattle.archi_graph.specs.Archi.{ascends_from, are_distinct, is_depth, occurs_once}
 use Rattle.archi_defs.specs.declared.fault.ArchiError.{ArchiError}
 use Rattle.archi_defs.specs.declared.fault.ArchiCause.TheVariants.{BadName}
-use Rattle.archi_defs.specs.Text.{Bytes, refused, Reading, word, up_to, with_some, all_names, medium_names, is_taken, operator_line, medium_line, version_line}
+use Rattle.archi_defs.specs.Text.{Bytes, refused, Reading, word, up_to, with_some, all_names, medium_names, is_taken, depth_of, version_of, operator_line, medium_line, version_line, depth_line}
 use Rattle.archi_reader.specs.Views.{IsSound, is_begun}
 use Rattle.archi_reader.proofs.Tables.{bytes_eq_sym, bytes_eq_self}
 
@@ -102,9 +102,30 @@ distinct_with xs ys w fresh distinct =
 
 -- the version line
 pub sound_version : (r : Reading) (n : ℕ) (ws : List Bytes) → IsSound r → Keeps IsSound (version_line r n ws)
-sound_version r n ws h = keeps_if (not (length ws == 2) || not (bytes_eq (word ws 0) (codes "architecture")) || not (bytes_eq (word ws 1) (codes "1"))) _ _ (λ a. record {
-  holds = record { operators = h.operators; media = h.media; lines = h.lines; stands = h.stands; connections = h.connections; begun = h.begun; distinct = h.distinct };
-})
+sound_version r n ws h = keeps_if (not (length ws == 2) || not (bytes_eq (word ws 0) (codes "architecture"))) _ _ (λ a. keeps_some (version_of (word ws 1)) _ _ (λ version v. record {
+  holds = record { operators = h.operators; media = h.media; lines = h.lines; stands = h.stands; connections = h.connections; begun = h.begun; depth = h.depth; distinct = h.distinct };
+}))
+
+-- a depth that was read is one
+pub deep : (r : Result ℤ NumFault) (n : ℕ) → depth_of r ≡ Some n → is_depth n ≡ true
+deep (Ok (pos m)) n h = let w = when_some (is_depth m) m n h in subst (λ (k : ℕ). is_depth k ≡ true) w.1 w.0
+deep (Ok (negsuc m)) n h = cc
+deep (Err e) n h = cc
+
+-- the line of the depth
+pub sound_depth : (r : Reading) (n version : ℕ) (ws : List Bytes) → IsSound r → Keeps IsSound (depth_line r n version ws)
+sound_depth r n version ws h = keeps_if (not (length ws == 2) || (version == 1) || is_some r.depth) _ _ (λ a. keeps_some (depth_of (integer_of (word ws 1))) _ _ (λ depth d. record {
+  holds = record {
+    operators = h.operators;
+    media = h.media;
+    lines = h.lines;
+    stands = h.stands;
+    connections = h.connections;
+    begun = h.begun;
+    depth = deep (integer_of (word ws 1)) depth d;
+    distinct = h.distinct;
+  };
+}))
 
 -- so many operators, and more
 begun_more : (n : ℕ) (m : Medium) → is_begun n m ≡ true → is_begun (n + 1) m ≡ true
@@ -142,6 +163,7 @@ sound_operator r n ws h =
           stands = h.stands;
           connections = h.connections;
           begun = subst (λ (k : ℕ). list_all (is_begun k) r.media ≡ true) (sym more) (all_begun_more (length r.operators) r.media h.begun);
+          depth = h.depth;
           distinct = subst (λ (l : List Bytes). are_distinct l ≡ true) (sym (append_assoc r.operators (word ws 1 ∷ []) (medium_names r)))
               (distinct_with r.operators (medium_names r) (word ws 1) fresh h.distinct);
         }
@@ -173,6 +195,7 @@ sound_medium r n ws h =
           stands = sum_by_push (λ x. length x.stands) r.media m ∙ omega (arith, h.stands);
           connections = h.connections;
           begun = list_all-append (is_begun (length r.operators)) r.media (m ∷ []) ∙ and_from _ _ h.begun (and_from _ true below refl);
+          depth = h.depth;
           distinct = subst (λ (l : List Bytes). are_distinct l ≡ true)
               (append_assoc r.operators (medium_names r) (word ws 1 ∷ []) ∙ ap (λ (l : List Bytes). r.operators ++ l) (sym (map-append (λ (x : Medium). x.name) r.media (m ∷ []))))
               (distinct_with (r.operators ++ medium_names r) [] (word ws 1) fresh_of before);

@@ -1,5 +1,5 @@
 -- Names and numbers are words, and a line of words is read as these words.
-use Rattle.std.proofs.Common.{◌≡◌, ℕ, ◌≤◌, ◌<◌, ◌^◌, Bool, not, true, false, ◌&&◌, ◌||◌, ◌==◌, if◌then◌else◌, [], ◌∷◌, length, Some, None, Result, Ok, pos, nat_le, refl, ap, ◌∙◌, arith, rules, ◌⊎◌, inl, inr}
+use Rattle.std.proofs.Common.{◌≡◌, ℕ, ◌≤◌, ◌<◌, ◌^◌, Bool, not, true, false, ◌&&◌, ◌||◌, ◌==◌, if◌then◌else◌, [], ◌∷◌, length, Option, Some, None, Result, Ok, pos, nat_le, refl, ap, ◌∙◌, arith, rules, ◌⊎◌, inl, inr}
 use Rattle.std.specs.List.{list_all}
 use Rattle.std.specs.Fmt.{decimal}
 use Rattle.std.proofs.lemmas.Bool.{and_parts, and_from, leb-true, le-leb, eqb-true, ne_eqb}
@@ -9,8 +9,9 @@ use Rattle.text_lines.specs.Text.{words_of, is_hash, is_foreign}
 use Rattle.syn_base.specs.Name.{is_name, is_name_byte, is_digit, is_letter, begins_name}
 use Rattle.syn_base.specs.Integer.{integer_of, number_after}
 use Rattle.syn_base.proofs.Decimal as integers
+use Rattle.archi_graph.specs.Archi.{is_depth}
 use Rattle.archi_defs.specs.declared.fault.ArchiError.{ArchiError}
-use Rattle.archi_defs.specs.Text.{Bytes, Reading, described_line, version_line, line_by, next_line, up_to}
+use Rattle.archi_defs.specs.Text.{Bytes, Reading, described_line, version_line, line_by, next_line, up_to, depth_of, with_some}
 use Rattle.archi_reader.specs.Canonical.{Words, joined, number}
 use Rattle.archi_reader.proofs.Splits.{is_plain, is_word, are_words, plain, joined_back, joined_bytes, code_back, foreign_back}
 
@@ -90,7 +91,7 @@ no_foreign ws h = joined_bytes (λ b. not (is_foreign b)) refl (λ b p. ap not (
 
 -- the line of these words
 abbrev by_words : Reading → ℕ → Words → Result Reading ArchiError
-by_words r n ws = if length ws == 0 then Ok r else if r.versioned then described_line r n ws else version_line r n ws
+by_words r n ws = if length ws == 0 then Ok r else with_some r.version (version_line r n ws) (λ version. described_line r n version ws)
 
 words_read : (r : Reading) (n : ℕ) (ws : Words) → are_words ws ≡ true → next_line r n (joined ws) ≡ by_words r n ws
 words_read r n ws h =
@@ -98,9 +99,22 @@ words_read r n ws h =
     ∙ ap (λ code. by_words r n (words_of code)) (code_back (joined ws) (no_hash ws h))
     ∙ ap (by_words r n) (joined_back ws h)
 
--- a line behind the version line
-pub described_back : (r : Reading) (n : ℕ) (w : Bytes) (ws : Words) → are_words (w ∷ ws) ≡ true → r.versioned ≡ true → next_line r n (joined (w ∷ ws)) ≡ described_line r n (w ∷ ws)
-described_back r n w ws h versioned =
+-- a line after the version line
+pub described_back : (r : Reading) (n version : ℕ) (w : Bytes) (ws : Words) → are_words (w ∷ ws) ≡ true → r.version ≡ Some version
+    → next_line r n (joined (w ∷ ws)) ≡ described_line r n version (w ∷ ws)
+described_back r n version w ws h is =
     words_read r n (w ∷ ws) h
-    ∙ ap (λ b. if b then Ok r else if r.versioned then described_line r n (w ∷ ws) else version_line r n (w ∷ ws)) (ne_eqb (length (w ∷ ws)) 0 (λ e. omega (arith, e)))
-    ∙ ap (λ b. if b then described_line r n (w ∷ ws) else version_line r n (w ∷ ws)) versioned
+    ∙ ap (λ b. if b then Ok r else with_some r.version (version_line r n (w ∷ ws)) (λ v. described_line r n v (w ∷ ws))) (ne_eqb (length (w ∷ ws)) 0 (λ e. omega (arith, e)))
+    ∙ ap (λ (o : Option ℕ). with_some o (version_line r n (w ∷ ws)) (λ v. described_line r n v (w ∷ ws))) is
+
+-- the version line
+pub version_back : (r : Reading) (n : ℕ) (w : Bytes) (ws : Words) → are_words (w ∷ ws) ≡ true → r.version ≡ None → next_line r n (joined (w ∷ ws)) ≡ version_line r n (w ∷ ws)
+version_back r n w ws h is =
+    words_read r n (w ∷ ws) h
+    ∙ ap (λ b. if b then Ok r else with_some r.version (version_line r n (w ∷ ws)) (λ v. described_line r n v (w ∷ ws))) (ne_eqb (length (w ∷ ws)) 0 (λ e. omega (arith, e)))
+    ∙ ap (λ (o : Option ℕ). with_some o (version_line r n (w ∷ ws)) (λ v. described_line r n v (w ∷ ws))) is
+
+-- a depth is read back
+pub depth_back : (n : ℕ) → is_depth n ≡ true → n < 2 ^ 63 → depth_of (integer_of (number n)) ≡ Some n
+depth_back n deep small =
+    ap depth_of (integers.reads_back (pos n) (record { sfits = omega (arith, small) })) ∙ ap (λ b. if b then Some n else None) deep

@@ -11,6 +11,12 @@ text_append [] more = refl
 text_append (ws ∷ lines) more =
     ap (λ bs. joined ws ++ 10 ∷ bs) (text_append lines more) ∙ sym (append_assoc (joined ws) (10 ∷ text_of lines) (text_of more))
 
+-- lines in five parts
+pub text_of_parts : (a b c d e : List Words) → text_of (a ++ b ++ c ++ d ++ e) ≡ text_of a ++ text_of b ++ text_of c ++ text_of d ++ text_of e
+text_of_parts a b c d e =
+    text_append (((a ++ b) ++ c) ++ d) e
+    ∙ ap (λ t. t ++ text_of e) (text_append ((a ++ b) ++ c) d ∙ ap (λ t. t ++ text_of d) (text_append (a ++ b) c ∙ ap (λ t. t ++ text_of c) (text_append a b)))
+
 pub text_cons : {X : Type 0} (f : X → List Words) (x : X) (xs : List X) → text_of (flat_map f (x ∷ xs)) ≡ text_of (f x) ++ text_of (flat_map f xs)
 text_cons f x xs = ap text_of (flat_map-cons f x xs) ∙ text_append (f x) (flat_map f xs)
 

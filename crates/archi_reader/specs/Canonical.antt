@@ -1,5 +1,5 @@
--- The canonical text of an architecture and its durations.
-use Rattle.std.specs.Prelude.{ℕ, Bool, true, false, List, [], ◌∷◌, ◌++◌, map, slice_index_or, codes, pos}
+-- The canonical text of an architecture and its durations, of a version.
+use Rattle.std.specs.Prelude.{ℕ, Bool, true, false, ◌==◌, if◌then◌else◌, List, [], ◌∷◌, ◌++◌, map, slice_index_or, codes, pos}
 use Rattle.std.specs.List.{flat_map}
 use Rattle.std.specs.Fmt.{signed_decimal}
 use Rattle.archi_graph.specs.declared.medium.Medium.{Medium}
@@ -25,8 +25,23 @@ text_of (ws ∷ lines) = joined ws ++ 10 ∷ text_of lines
 abbrev pub number : ℕ → Bytes
 number n = signed_decimal (pos n)
 
-abbrev pub version_words : Words
-version_words = codes "architecture" ∷ codes "1" ∷ []
+-- there are versions 1 and 2
+abbrev pub version_word : ℕ → Bytes
+version_word version = if version == 1 then codes "1" else codes "2"
+
+abbrev pub version_words : ℕ → Words
+version_words version = codes "architecture" ∷ version_word version ∷ []
+
+abbrev pub depth_words : ℕ → Words
+depth_words depth = codes "depth" ∷ number depth ∷ []
+
+-- a text of version 1 has no depth
+abbrev pub depth_lines : ℕ → ℕ → List Words
+depth_lines version depth = if version == 1 then [] else depth_words depth ∷ []
+
+-- the version, and then the depth
+abbrev pub opening_lines : ℕ → ℕ → List Words
+opening_lines version depth = version_words version ∷ depth_lines version depth
 
 abbrev pub operator_words : Bytes → Words
 operator_words name = codes "operator" ∷ name ∷ []
@@ -51,10 +66,10 @@ connections_of operators m = map (connect_words operators m.name) m.stands
 abbrev pub duration_words : List Bytes → DurationLine → Words
 duration_words operators d = codes "duration" ∷ d.def ∷ name_at operators d.operator ∷ number d.ticks ∷ []
 
--- the version, operators, media, connections by medium and then operator, and durations as given
-abbrev pub canonical_lines : Architecture → List DurationLine → List Words
-canonical_lines a durations =
-    (version_words ∷ map operator_words a.operators) ++ map medium_words a.media ++ flat_map (connections_of a.operators) a.media ++ map (duration_words a.operators) durations
+-- the version, the depth, operators, media, connections by medium and then operator, and durations as given
+abbrev pub canonical_lines : ℕ → Architecture → List DurationLine → List Words
+canonical_lines version a durations =
+    opening_lines version a.depth ++ map operator_words a.operators ++ map medium_words a.media ++ flat_map (connections_of a.operators) a.media ++ map (duration_words a.operators) durations
 
 abbrev pub canonical_text : Described → Bytes
-canonical_text d = text_of (canonical_lines d.archi d.durations)
+canonical_text d = text_of (canonical_lines d.version d.archi d.durations)

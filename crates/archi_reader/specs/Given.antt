@@ -4,7 +4,7 @@ use Rattle.archi_defs.specs.declared.text.ArchiText.{ArchiText}
 use Rattle.archi_defs.specs.declared.fault.ArchiCause.{ArchiCause}
 use Rattle.archi_defs.specs.declared.fault.ArchiError.{ArchiError}
 use Rattle.archi_defs.specs.declared.fault.ArchiError.TheVariants.{Refused, Limit, OutOfMemory}
-use Rattle.archi_defs.specs.Text.{Described, Reading}
+use Rattle.archi_defs.specs.Text.{Described, Reading, described, described_by}
 use Rattle.archi_reader.specs.declared.reader.Reader.{Reader}
 use Rattle.archi_reader.specs.Views.{reading}
 
@@ -51,8 +51,13 @@ Adds (Err (Limit f)) old x new = ⊥
 
 -- what reading a text answers: what it describes or its first refusal, unless memory ran out
 abbrev pub Gives : Result ArchiText ArchiError → Result Described ArchiError → Type 0
-Gives (Ok t) read = read ≡ Ok (record { archi = t.archi; durations = t.lines })
+Gives (Ok t) read = read ≡ Ok (described_by t)
 Gives (Err e) read = Fails e read
+
+-- what a check of the whole answers: the version of a text that is not refused
+abbrev pub Checks : Result ℕ ArchiError → Reading → Result Described ArchiError → Type 0
+Checks (Ok version) r read = read ≡ Ok (described r version)
+Checks (Err e) r read = Fails e read
 
 -- the reader that was asked for
 abbrev pub MakesReader : Result Reader ArchiError → Reading → Type 0

@@ -3,8 +3,8 @@ use Rattle.std.specs.Prelude.{◌≡◌, ℕ, ◌≤◌, true, ◌&&◌, nat_lt,
 use Rattle.std.specs.List.{list_all}
 use Rattle.syn_base.specs.Name.{is_name}
 use Rattle.archi_graph.specs.declared.medium.Medium.{Medium}
-use Rattle.archi_graph.specs.Archi.{ascends_from, are_distinct, names_of, stands_in_all}
-use Rattle.archi_defs.specs.Text.{Bytes, Described, Reading}
+use Rattle.archi_graph.specs.Archi.{ascends_from, are_distinct, is_depth, names_of, stands_in_all}
+use Rattle.archi_defs.specs.Text.{Bytes, Reading, depth_or_one}
 use Rattle.archi_reader.specs.declared.reader.Reader.{Reader}
 
 -- the name that a word is
@@ -13,11 +13,7 @@ some_name w = if is_name w then Some w else None
 
 -- what the reader has read
 abbrev pub reading : Reader → Reading
-reading r = record { versioned = r.versioned; operators = r.operators.items; media = r.media.items; lines = r.lines.items; connections = r.connections; durations = r.durations }
-
--- what a text gives that is not refused
-abbrev pub described : Reading → Described
-described r = record { archi = record { operators = r.operators; media = r.media }; durations = r.durations }
+reading r = record { version = r.version; depth = r.depth; operators = r.operators.items; media = r.media.items; lines = r.lines.items; connections = r.connections; durations = r.durations }
 
 -- a medium whose operators may still be too few, where there are so many operators
 abbrev pub is_begun : ℕ → Medium → Bool
@@ -31,4 +27,5 @@ pub record IsSound (r : Reading) : Type 0 where
   pub stands : stands_in_all r.media ≡ r.connections
   pub connections : r.connections ≤ 64
   pub begun : list_all (is_begun (length r.operators)) r.media ≡ true
+  pub depth : is_depth (depth_or_one r.depth) ≡ true
   pub distinct : are_distinct (names_of r.operators r.media) ≡ true

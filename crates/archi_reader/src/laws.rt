@@ -1,11 +1,12 @@
 //! What the canonical text says.
-ghost use Rattle.std.specs.Prelude.{◌≡◌, ◌≤◌, length, Ok};
+ghost use Rattle.std.specs.Prelude.{◌≡◌, ◌+◌, ◌≤◌, length, Ok};
 ghost use Rattle.text_lines.specs.Text.{lines_of};
 ghost use Rattle.archi_defs.specs.Text.{Bytes, Described, description_of};
-ghost use Rattle.archi_reader.specs.Canonical.{canonical_text};
+ghost use Rattle.archi_reader.specs.Canonical.{canonical_text, depth_lines};
 
-/// The canonical text of what a text describes says the same, in no more lines.
+/// The canonical text of what a text describes says the same, in no more lines; but it always has the line of
+/// the depth where the text is of version 2.
 pub fn one_canonical_text()
     ensures same { (text : Bytes) (d : Described) → description_of text ≡ Ok d → description_of (canonical_text d) ≡ Ok d }
-    ensures lines { (text : Bytes) (d : Described) → description_of text ≡ Ok d → length (lines_of (canonical_text d)) ≤ length (lines_of text) }
+    ensures lines { (text : Bytes) (d : Described) → description_of text ≡ Ok d → length (lines_of (canonical_text d)) ≤ length (lines_of text) + length (depth_lines d.version d.archi.depth) }
 {}

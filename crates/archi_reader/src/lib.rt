@@ -1,4 +1,7 @@
-//! Reads the text of an architecture, line by line, in time proportional to its size.
+//! Reads the text of an architecture, line by line, in time proportional to its size, and prints the canonical
+//! text of what was read. `read_archi` and `print_archi` are its calls, `one_canonical_text` says that what is
+//! printed is read as the same; the commands that take an architecture's file use them. What a text says is
+//! defined in `archi_defs`, whose types can be named from here too.
 #![tactic(auto)]
 
 mod durations;
@@ -15,6 +18,7 @@ mod whole;
 mod word;
 mod words;
 
+pub use archi_defs::{ArchiCause, ArchiError, ArchiFault, ArchiText, DurationLine};
 pub use laws::one_canonical_text;
 pub use print::print_archi;
 pub use reader::read_archi;

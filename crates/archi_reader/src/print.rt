@@ -1,18 +1,19 @@
 //! Printing the canonical text.
 ghost use Rattle.std.specs.Prelude.{◌≡◌, ◌++◌, [], ◌∷◌, OnOk, OnErr, IfOk, List, map, slice_index_or};
 ghost use Rattle.std.specs.List.{flat_map};
-ghost use Rattle.archi_reader.specs.Canonical.{canonical_text, joined, text_of, number, version_words, operator_words, kind_word, medium_words, name_at, connect_words, connections_of, duration_words};
+ghost use Rattle.archi_defs.specs.Text.{described_by};
+ghost use Rattle.archi_reader.specs.Canonical.{canonical_text, joined, text_of, number, depth_lines, opening_lines, operator_words, version_word, kind_word, medium_words, name_at, connect_words, connections_of, duration_words};
 
 use archi_defs::{ArchiText, DurationLine};
 use archi_graph::Medium;
 use std::alloc::Global;
 use syn_base::{Name, OutOfMemory, print_int};
 
-/// Appends the canonical text: the version line, operators, media, connections by medium and then by
-/// operator, durations as given; words separated by one space, numbers in their shortest form. It has
+/// Appends the canonical text: the version line, in version 2 the depth, operators, media, connections by
+/// medium and then by operator, durations as given; words separated by one space, numbers in their shortest form. It has
 /// no comments and no lines without words. After want of memory `out` is as before.
 pub fn print_archi(alloc: Global, text: &ArchiText, out: &mut Vec<u8>) -> Result<(), OutOfMemory>
-    ensures ok { OnOk result (out.new.items ≡ out.old.items ++ canonical_text (record { archi = text.now.archi; durations = text.now.lines })) }
+    ensures ok { OnOk result (out.new.items ≡ out.old.items ++ canonical_text (described_by text.now)) }
     ensures err { OnErr result (out.new.items ≡ out.old.items) }
 {
     let written = written(alloc, text)?;
@@ -20,19 +21,46 @@ pub fn print_archi(alloc: Global, text: &ArchiText, out: &mut Vec<u8>) -> Result
     Ok(())
 }
 
-#[tactic(auto, using(crate::proofs::Texts::text_append))]
+#[tactic(auto, using(crate::proofs::Texts::text_of_parts))]
 fn written(alloc: Global, text: &ArchiText) -> Result<Vec<u8>, OutOfMemory>
-    ensures { IfOk result (λ v. v.items ≡ canonical_text (record { archi = text.now.archi; durations = text.now.lines })) }
+    ensures { IfOk result (λ v. v.items ≡ canonical_text (described_by text.now)) }
 {
     let operators = text.archi.operators();
     let media = text.archi.media();
     let mut written = Vec::new(alloc);
-    put(b"architecture 1\n", &mut written)?;
+    print_opening(text.version, text.archi.depth(), &mut written)?;
     print_operators(operators, &mut written)?;
     print_media(media, &mut written)?;
     print_connections(operators, media, &mut written)?;
     print_durations(operators, text.lines.as_slice(), &mut written)?;
     Ok(written)
+}
+
+/// The number of a version: 1, or else 2.
+fn version_word(version: u32) -> &'static [u8]
+    ensures { result.now ≡ version_word version }
+{
+    if version == 1 { b"1" } else { b"2" }
+}
+
+fn print_opening(version: u32, depth: u32, text: &mut Vec<u8>) -> Result<(), OutOfMemory>
+    ensures { OnOk result (text.new.items ≡ text.old.items ++ text_of (opening_lines version depth)) }
+{
+    put(b"architecture ", text)?;
+    put(version_word(version), text)?;
+    put(b"\n", text)?;
+    print_depth(version, depth, text)
+}
+
+fn print_depth(version: u32, depth: u32, text: &mut Vec<u8>) -> Result<(), OutOfMemory>
+    ensures { OnOk result (text.new.items ≡ text.old.items ++ text_of (depth_lines version depth)) }
+{
+    if version == 1 {
+        return Ok(());
+    }
+    put(b"depth ", text)?;
+    put_number(depth, text)?;
+    put(b"\n", text)
 }
 
 fn print_operators(operators: &[Name], text: &mut Vec<u8>) -> Result<(), OutOfMemory>

@@ -1,7 +1,7 @@
 //! The lines of a text, one after the other.
 ghost use Rattle.std.specs.Prelude.{◌≡◌, ◌<◌, ◌≤◌, length, map};
 ghost use Rattle.text_lines.specs.Text.{lines_of};
-ghost use Rattle.archi_defs.specs.Text.{description_of, start, version_line, operator_line, medium_line, connect_line, duration_line, connected, described_line, next_line};
+ghost use Rattle.archi_defs.specs.Text.{description_of, start, version_line, operator_line, medium_line, connect_line, duration_line, depth_line, connected, described_line, next_line};
 ghost use Rattle.archi_reader.specs.Given.{Steps, Gives, MakesReader};
 ghost use Rattle.archi_reader.specs.Views.{reading, IsSound};
 
@@ -9,7 +9,7 @@ use crate::durations::Durations;
 use crate::fault::{above, bad_line, bad_name, bad_number, duplicate, not_text, push, unknown};
 use crate::names::{is_taken, medium_at, operator_at};
 use crate::stands::{has_stand, with_stand};
-use crate::word::{begins, read_name, read_up_to};
+use crate::word::{begins, read_depth, read_name, read_up_to, read_version};
 use crate::words::Words;
 use archi_defs::{ArchiError, ArchiText};
 use archi_graph::Medium;
@@ -24,8 +24,10 @@ const MOST_TICKS: u32 = 1_000_000_000;
 /// What was read so far.
 #[derive(Drop)]
 pub struct Reader<'a> {
-    /// The version line was read.
-    pub versioned: bool,
+    /// The version, once its line was read.
+    pub version: Option<u32>,
+    /// The depth, once its line was read.
+    pub depth: Option<u32>,
     pub operators: Vec<Name>,
     pub media: Vec<Medium>,
     /// The lines of the media.
@@ -40,7 +42,8 @@ impl<'a> Reader<'a> {
         ensures { MakesReader result start }
     {
         Ok(Reader {
-            versioned: false,
+            version: None,
+            depth: None,
             operators: Vec::new(alloc),
             media: Vec::new(alloc),
             lines: Vec::new(alloc),
@@ -49,7 +52,7 @@ impl<'a> Reader<'a> {
         })
     }
 
-    /// architecture 1
+    /// architecture 1 and architecture 2
     fn version_line(&mut self, number: u32, words: &Words) -> Result<(), ArchiError>
         requires { 0 < length words.now }
         ensures { Steps result (reading self.new) (version_line (reading self.old) number words.now) }
@@ -60,10 +63,10 @@ impl<'a> Reader<'a> {
         if !begins(words, b"architecture") {
             return Err(bad_line(number));
         }
-        if words.get(1) != b"1".as_slice() {
+        let Some(version) = read_version(words.get(1)) else {
             return Err(bad_line(number));
-        }
-        self.versioned = true;
+        };
+        self.version = Some(version);
         Ok(())
     }
 
@@ -207,16 +210,37 @@ impl<'a> Reader<'a> {
         Ok(())
     }
 
-    /// A line behind the version line.
+    /// depth D, once, and not in version 1
+    fn depth_line(
+        &mut self,
+        alloc: Global,
+        number: u32,
+        version: u32,
+        words: &Words,
+    ) -> Result<(), ArchiError>
+        ensures { Steps result (reading self.new) (depth_line (reading self.old) number version words.now) }
+    {
+        if words.len() != 2 || version == 1 || self.depth.is_some() {
+            return Err(bad_line(number));
+        }
+        let Some(depth) = read_depth(words.get(1)) else {
+            return Err(bad_number(alloc, number, words.get(1)));
+        };
+        self.depth = Some(depth);
+        Ok(())
+    }
+
+    /// A line after the version line.
     fn described_line(
         &mut self,
         alloc: Global,
         number: u32,
+        version: u32,
         words: &Words<'a>,
     ) -> Result<(), ArchiError>
         requires some { 0 < length words.now }
         requires sound { IsSound (reading self.old) }
-        ensures { Steps result (reading self.new) (described_line (reading self.old) number words.now) }
+        ensures { Steps result (reading self.new) (described_line (reading self.old) number version words.now) }
     {
         if begins(words, b"operator") {
             return self.operator_line(alloc, number, words);
@@ -229,6 +253,9 @@ impl<'a> Reader<'a> {
         }
         if begins(words, b"duration") {
             return self.duration_line(alloc, number, words);
+        }
+        if begins(words, b"depth") {
+            return self.depth_line(alloc, number, version, words);
         }
         Err(bad_line(number))
     }
@@ -250,10 +277,10 @@ impl<'a> Reader<'a> {
         if words.len() == 0 {
             return Ok(());
         }
-        if self.versioned {
-            return self.described_line(alloc, number, &words);
+        match self.version {
+            Some(version) => self.described_line(alloc, number, version, &words),
+            None => self.version_line(number, &words),
         }
-        self.version_line(number, &words)
     }
 }
 

@@ -1,6 +1,5 @@
 //! What texts give, and what is told first.
-use crate::{print_archi, read_archi};
-use archi_defs::{ArchiCause, ArchiError, ArchiFault};
+use crate::{ArchiCause, ArchiError, ArchiFault, print_archi, read_archi};
 use std::alloc::Global;
 use std::test::Fail;
 use syn_base::LimitKind;
@@ -51,8 +50,8 @@ fn told(alloc: Global, text: &[u8]) -> Answer {
     }
 }
 
-/// What is told of a text behind its version line.
-fn behind(alloc: Global, rest: &[u8]) -> Result<Answer, Fail> {
+/// What is told of a text after its version line.
+fn after_version(alloc: Global, rest: &[u8]) -> Result<Answer, Fail> {
     let mut text = Vec::from_slice(alloc, b"architecture 1\n")?;
     text.extend_from_slice(rest)?;
     Ok(told(alloc, &text))
@@ -71,18 +70,21 @@ fn the_first_of_a_line(rt: HostRuntime) -> Result<(), Fail> {
     let alloc = rt.alloc();
     let named: &[u8] = b"operator P\nduration F P 1\nduration F Q 1";
     assert_eq!(rt;
-        behind(alloc, b"operator P Q \x01")?,
+        after_version(alloc, b"operator P Q \x01")?,
         Answer::NotText(2, 13)
     );
-    assert_eq!(rt; behind(alloc, b"operator 1 2")?, Answer::BadLine(2));
-    assert_eq!(rt; behind(alloc, b"medium 1 p2p x 1")?, Answer::BadName(2));
+    assert_eq!(rt; after_version(alloc, b"operator 1 2")?, Answer::BadLine(2));
     assert_eq!(rt;
-        behind(alloc, b"duration F P 1000000001")?,
+        after_version(alloc, b"medium 1 p2p x 1")?,
+        Answer::BadName(2)
+    );
+    assert_eq!(rt;
+        after_version(alloc, b"duration F P 1000000001")?,
         Answer::BadNumber(2)
     );
-    assert_eq!(rt; behind(alloc, named)?, Answer::UnknownName(4));
+    assert_eq!(rt; after_version(alloc, named)?, Answer::UnknownName(4));
     assert_eq!(rt;
-        behind(alloc, b"operator P\nmedium P p2p 1 1")?,
+        after_version(alloc, b"operator P\nmedium P p2p 1 1")?,
         Answer::DuplicateName(3)
     );
     Ok(())
@@ -95,11 +97,14 @@ fn the_first_of_the_whole(rt: HostRuntime) -> Result<(), Fail> {
     let apart: &[u8] = b"operator P\nduration Sense P 1\nduration Act P 2\noperator Q\n";
     let both: &[u8] = b"operator P\noperator Q\nmedium x p2p 1 1\nconnect x P\n";
     let unknown: &[u8] = b"operator P\nmedium x p2p 1 1\nconnect y P\n";
-    assert_eq!(rt; behind(alloc, b"medium x p2p 1 1")?, Answer::NoOperator(0));
-    assert_eq!(rt; behind(alloc, unknown)?, Answer::UnknownName(4));
-    assert_eq!(rt; behind(alloc, lonely)?, Answer::BadMedium(3));
-    assert_eq!(rt; behind(alloc, both)?, Answer::BadMedium(4));
-    assert_eq!(rt; behind(alloc, apart)?, Answer::Disconnected(0));
+    assert_eq!(rt;
+        after_version(alloc, b"medium x p2p 1 1")?,
+        Answer::NoOperator(0)
+    );
+    assert_eq!(rt; after_version(alloc, unknown)?, Answer::UnknownName(4));
+    assert_eq!(rt; after_version(alloc, lonely)?, Answer::BadMedium(3));
+    assert_eq!(rt; after_version(alloc, both)?, Answer::BadMedium(4));
+    assert_eq!(rt; after_version(alloc, apart)?, Answer::Disconnected(0));
     Ok(())
 }
 
@@ -122,10 +127,10 @@ fn too_many(rt: HostRuntime) -> Result<(), Fail> {
     text.extend_from_slice(b"operator ")?;
     let mut again = text.clone()?;
     again.extend_from_slice(b"A")?;
-    assert_eq!(rt; behind(alloc, &again)?, Answer::DuplicateName(18));
+    assert_eq!(rt; after_version(alloc, &again)?, Answer::DuplicateName(18));
     text.extend_from_slice(b"Q")?;
     assert_eq!(rt;
-        behind(alloc, &text)?,
+        after_version(alloc, &text)?,
         Answer::Limit(LimitKind::Operators, 17)
     );
     Ok(())
@@ -136,7 +141,10 @@ fn too_many_media(rt: HostRuntime) -> Result<(), Fail> {
     let alloc = rt.alloc();
     let mut text = Vec::new(alloc);
     add_lines(&mut text, b"medium ", b"abcdefghijklmnopq", b" multi 1 1\n")?;
-    assert_eq!(rt; behind(alloc, &text)?, Answer::Limit(LimitKind::Media, 17));
+    assert_eq!(rt;
+        after_version(alloc, &text)?,
+        Answer::Limit(LimitKind::Media, 17)
+    );
     Ok(())
 }
 
@@ -159,7 +167,7 @@ fn too_many_connections(rt: HostRuntime) -> Result<(), Fail> {
     }
     text.extend_from_slice(b"connect e A\n")?;
     assert_eq!(rt;
-        behind(alloc, &text)?,
+        after_version(alloc, &text)?,
         Answer::Limit(LimitKind::Connections, 65)
     );
     Ok(())
@@ -184,5 +192,19 @@ fn the_canonical_text(rt: HostRuntime) -> Result<(), Fail> {
         b"> architecture 1\noperator P\noperator Q\nmedium can multi 2 1\nconnect can P\nconnect can Q\nduration F P 5\nduration F Q 0\n";
     let written = canonical(rt.alloc(), text)?;
     assert_eq!(rt; written.as_slice(), expected);
+    Ok(())
+}
+
+#[test]
+fn a_depth_in_version_2(rt: HostRuntime) -> Result<(), Fail> {
+    let text: &[u8] = b"architecture 2\noperator P\ndepth 3\nduration F P 5\n";
+    let expected: &[u8] = b"> architecture 2\ndepth 3\noperator P\nduration F P 5\n";
+    let written = canonical(rt.alloc(), text)?;
+    assert_eq!(rt; written.as_slice(), expected);
+    let too_deep: &[u8] = b"architecture 2\ndepth 5\n";
+    assert_eq!(rt; told(rt.alloc(), too_deep), Answer::BadNumber(2));
+    let again: &[u8] = b"architecture 2\ndepth 1\ndepth 9\n";
+    assert_eq!(rt; told(rt.alloc(), again), Answer::BadLine(3));
+    assert_eq!(rt; after_version(rt.alloc(), b"depth 2")?, Answer::BadLine(2));
     Ok(())
 }

@@ -3,8 +3,8 @@ ghost use Rattle.std.specs.Prelude.{◌≡◌, ◌<◌, not, true, length, posit
 ghost use Rattle.archi_graph.specs.Archi.{is_archi};
 ghost use Rattle.archi_defs.specs.declared.fault.ArchiCause.TheVariants.{BadMedium, Disconnected};
 ghost use Rattle.archi_defs.specs.Text.{whole, has_stands};
-ghost use Rattle.archi_reader.specs.Given.{Gives, IsStop, Steps, stop};
-ghost use Rattle.archi_reader.specs.Views.{described, reading, IsSound};
+ghost use Rattle.archi_reader.specs.Given.{Checks, Gives, IsStop, stop};
+ghost use Rattle.archi_reader.specs.Views.{reading, IsSound};
 
 use crate::fault::{bad_line, refusal};
 use crate::joined::apart;
@@ -52,17 +52,18 @@ fn wrong_medium(media: &[Medium]) -> Option<usize>
 }
 
 impl<'a> Reader<'a> {
-    /// There is an operator, the media are right, and all operators are joined.
-    fn check_whole(&self, alloc: Global, number: u32) -> Result<(), ArchiError>
+    /// The version of the text. There is one, there is an operator, the media are right, and all operators
+    /// are joined.
+    fn check_whole(&self, alloc: Global, number: u32) -> Result<u32, ArchiError>
         requires { IsSound (reading self.now) }
-        ensures told { Steps result (described (reading self.now)) (whole (reading self.now) number) }
+        ensures told { Checks result (reading self.now) (whole (reading self.now) number) }
         ensures valid { OnOk result (is_archi self.now.operators.items self.now.media.items ≡ true) }
     {
         let operators = self.operators.as_slice();
         let media = self.media.as_slice();
-        if !self.versioned {
+        let Some(version) = self.version else {
             return Err(bad_line(number));
-        }
+        };
         if operators.is_empty() {
             return Err(refusal(0, ArchiCause::NoOperator));
         }
@@ -72,7 +73,7 @@ impl<'a> Reader<'a> {
         if let Some(other) = apart(operators.len(), media) {
             return Err(disconnected(alloc, &operators[0], &operators[other]));
         }
-        Ok(())
+        Ok(version)
     }
 
     /// The architecture and the durations, at the end of the text.
@@ -80,11 +81,14 @@ impl<'a> Reader<'a> {
         requires { IsSound (reading self) }
         ensures { Gives result (whole (reading self.entry) number) }
     {
-        if let Err(fault) = self.check_whole(alloc, number) {
-            return Err(fault);
-        }
+        let version = match self.check_whole(alloc, number) {
+            Ok(version) => version,
+            Err(fault) => return Err(fault),
+        };
+        let depth = self.depth.unwrap_or(1);
         Ok(ArchiText {
-            archi: Archi::new(self.operators, self.media),
+            version,
+            archi: Archi::with_depth(self.operators, self.media, depth),
             lines: self.durations.into_items(),
         })
     }

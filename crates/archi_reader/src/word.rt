@@ -3,7 +3,7 @@ ghost use Rattle.std.specs.Prelude.{◌≡◌, ◌<◌, ◌≤◌, IfOk, MatchOp
 ghost use Rattle.std.specs.Str.{bytes_eq};
 ghost use Rattle.syn_base.specs.Name.{is_name};
 ghost use Rattle.syn_base.specs.Integer.{integer_of};
-ghost use Rattle.archi_defs.specs.Text.{up_to};
+ghost use Rattle.archi_defs.specs.Text.{depth_of, up_to, version_of};
 ghost use Rattle.archi_reader.specs.Given.{GivesSome};
 ghost use Rattle.archi_reader.specs.Views.{some_name};
 
@@ -37,6 +37,33 @@ pub fn read_up_to(most: u32, w: &[u8]) -> Option<u32>
             }
         }
         Err(_) => None,
+    }
+}
+
+/// The number of places, 1 to 4, that a word is.
+pub fn read_depth(w: &[u8]) -> Option<u32>
+    ensures { result ≡ depth_of (integer_of w.now) }
+{
+    match read_int(w) {
+        Ok(number) => {
+            if 1 <= number && number <= 4 {
+                Some(number as u32)
+            } else {
+                None
+            }
+        }
+        Err(_) => None,
+    }
+}
+
+/// The version that a word is, 1 or 2.
+pub fn read_version(w: &[u8]) -> Option<u32>
+    ensures { result ≡ version_of w.now }
+{
+    match w {
+        b"1" => Some(1),
+        b"2" => Some(2),
+        _ => None,
     }
 }
 

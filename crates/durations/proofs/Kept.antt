@@ -1,6 +1,6 @@
 -- What each line of a text keeps of the durations, and so what they are in every text that is accepted.
 use Rattle.std.proofs.Common.{◌≡◌, ℕ, ◌+◌, ◌≤◌, ◌<◌, Bool, not, true, false, cond, ◌||◌, ◌&&◌, ◌==◌, if◌then◌else◌, List, [], ◌∷◌, ◌++◌, length, Option, Some, None, Result, Ok, Err, ℤ, pos, negsuc, position, nat_le, nat_lt, refl, subst, arith}
-use Rattle.std.specs.Prelude.{codes, slice_index_or}
+use Rattle.std.specs.Prelude.{codes, is_some, slice_index_or}
 use Rattle.std.specs.List.{list_any, position_or_len}
 use Rattle.std.specs.Str.{bytes_eq}
 use Rattle.std.proofs.lemmas.Bool.{leb-true, ltb-true}
@@ -12,8 +12,8 @@ use Rattle.syn_base.specs.declared.integer.NumFault.{NumFault}
 use Rattle.text_lines.specs.Text.{lines_of, words_of, code_of, foreign_place}
 use Rattle.archi_graph.specs.declared.medium.Medium.{Medium}
 use Rattle.archi_defs.specs.declared.fault.ArchiError.{ArchiError}
-use Rattle.archi_defs.specs.declared.fault.ArchiCause.TheVariants.{BadName}
-use Rattle.archi_defs.specs.Text.{Bytes, Described, Reading, start, refused, word, with_some, and_then, all_names, up_to, place_of, is_taken, medium_names, no_medium, version_line, operator_line, medium_line, connected, connect_line, duration_line, begins, described_line, line_by, next_line, has_stands, media_are_right, all_joined, apart, whole, rest_of, description_of}
+use Rattle.archi_defs.specs.declared.fault.ArchiCause.TheVariants.{BadLine, BadName}
+use Rattle.archi_defs.specs.Text.{Bytes, Described, Reading, start, refused, word, with_some, version_of, depth_of, depth_line, and_then, all_names, up_to, place_of, is_taken, medium_names, no_medium, version_line, operator_line, medium_line, connected, connect_line, duration_line, begins, described_line, line_by, next_line, has_stands, media_are_right, all_joined, apart, whole_of, whole, rest_of, description_of}
 use Rattle.durations.specs.Lines.{IsDuration, AreDurations}
 
 record IsKept (r : Reading) : Type 0 where
@@ -66,7 +66,11 @@ within most (Err e) n h = cc
 
 kept_version : (r : Reading) (n : ℕ) (ws : List Bytes) → IsKept r → Keeps (version_line r n ws)
 kept_version r n ws h =
-    keeps_if (not (length ws == 2) || not (bytes_eq (word ws 0) (codes "architecture")) || not (bytes_eq (word ws 1) (codes "1"))) _ _ (record { holds = record { kept = h.kept } })
+    keeps_if (not (length ws == 2) || not (bytes_eq (word ws 0) (codes "architecture"))) _ _ (keeps_some (version_of (word ws 1)) _ _ (λ version v. record { holds = record { kept = h.kept } }))
+
+kept_depth : (r : Reading) (n version : ℕ) (ws : List Bytes) → IsKept r → Keeps (depth_line r n version ws)
+kept_depth r n version ws h =
+    keeps_if (not (length ws == 2) || (version == 1) || is_some r.depth) _ _ (keeps_some (depth_of (integer_of (word ws 1))) _ _ (λ depth e. record { holds = record { kept = h.kept } }))
 
 kept_operator : (r : Reading) (n : ℕ) (ws : List Bytes) → IsKept r → Keeps (operator_line r n ws)
 kept_operator r n ws h =
@@ -105,18 +109,23 @@ kept_duration r n ws h =
       };
     })))))
 
-kept_described : (r : Reading) (n : ℕ) (ws : List Bytes) → IsKept r → Keeps (described_line r n ws)
-kept_described r n ws h =
+kept_described : (r : Reading) (n version : ℕ) (ws : List Bytes) → IsKept r → Keeps (described_line r n version ws)
+kept_described r n version ws h =
     either (begins ws (codes "operator")) _ _ (kept_operator r n ws h)
     (either (begins ws (codes "medium")) _ _ (kept_medium r n ws h)
     (either (begins ws (codes "connect")) _ _ (kept_connect r n ws h)
-    (either (begins ws (codes "duration")) _ _ (kept_duration r n ws h) (record { holds = tt }))))
+    (either (begins ws (codes "duration")) _ _ (kept_duration r n ws h)
+    (either (begins ws (codes "depth")) _ _ (kept_depth r n version ws h) (record { holds = tt })))))
+
+by_version : (o : Option ℕ) (first : Result Reading ArchiError) (later : ℕ → Result Reading ArchiError) → Keeps first → ((version : ℕ) → Keeps (later version)) → Keeps (with_some o first later)
+by_version None first later h k = h
+by_version (Some version) first later h k = k version
 
 kept_line : (r : Reading) (n : ℕ) (line : Bytes) (foreign : Option ℕ) → IsKept r → Keeps (line_by r n line foreign)
 kept_line r n line (Some place) h = record { holds = tt }
 kept_line r n line None h =
     either (length (words_of (code_of line)) == 0) _ _ (record { holds = h })
-    (either r.versioned _ _ (kept_described r n (words_of (code_of line)) h) (kept_version r n (words_of (code_of line)) h))
+    (by_version r.version _ _ (kept_version r n (words_of (code_of line)) h) (λ version. kept_described r n version (words_of (code_of line)) h))
 
 kept_next : (r new : Reading) (n : ℕ) (line : Bytes) → IsKept r → next_line r n line ≡ Ok new → IsKept new
 kept_next r new n line h is = let kept : Keeps (next_line r n line) = kept_line r n line (foreign_place line) h in subst Holds is kept.holds
@@ -143,13 +152,16 @@ done d = Ok d
 same : (x y : Described) → done x ≡ Ok y → x ≡ y
 same x y e = cc
 
-joined : (r : Reading) (o : Option ℕ) (d : Described) → IsKept r → all_joined r o ≡ Ok d → AreDurations (length d.archi.operators) d.durations
-joined r None d h is = subst (λ (e : Described). AreDurations (length e.archi.operators) e.durations) (same _ d is) h.kept
-joined r (Some o) d h is = cc
+joined : (r : Reading) (version : ℕ) (o : Option ℕ) (d : Described) → IsKept r → all_joined r version o ≡ Ok d → AreDurations (length d.archi.operators) d.durations
+joined r version None d h is = subst (λ (e : Described). AreDurations (length e.archi.operators) e.durations) (same _ d is) h.kept
+joined r version (Some o) d h is = cc
 
 kept_whole : (r : Reading) (n : ℕ) (d : Described) → IsKept r → whole r n ≡ Ok d → AreDurations (length d.archi.operators) d.durations
-kept_whole r n d h is =
-    joined r (apart r) d h (right r.media r.lines _ d (passed (length r.operators == 0) _ _ d (passed (not r.versioned) _ _ d is)))
+kept_whole r n d h = by r.version
+  where
+    by : (o : Option ℕ) → with_some o (refused n BadLine) (whole_of r) ≡ Ok d → AreDurations (length d.archi.operators) d.durations
+    by None is = cc
+    by (Some version) is = joined r version (apart r) d h (right r.media r.lines _ d (passed (length r.operators == 0) _ _ d is))
 
 kept_rest : (lines : List Bytes) (r : Reading) (n : ℕ) (d : Described) → IsKept r → rest_of r n lines ≡ Ok d → AreDurations (length d.archi.operators) d.durations
 kept_rest [] r n d h is = kept_whole r n d h is

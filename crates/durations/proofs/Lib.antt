@@ -1,4 +1,5 @@
 pub mod Entries
+pub mod Fitted
 pub mod Found
 pub mod Kept
 pub mod Least

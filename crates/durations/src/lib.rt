@@ -1,4 +1,6 @@
 //! How long each operation of a flat graph lasts on each operator, by the durations of an architecture's text.
+//! `durations_of` makes the table or tells the first operation without a duration; `ticks` and `least` read it.
+//! The commands make it of what was read, and whoever places operations asks it where they may stand.
 #![tactic(auto)]
 
 mod given;
@@ -7,7 +9,7 @@ mod missing;
 mod rows;
 mod table;
 
-pub use laws::accepted_are_durations;
+pub use laws::{accepted_are_durations, durations_fit};
 pub use rows::durations_of;
 pub use table::Durations;
 

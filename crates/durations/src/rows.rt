@@ -1,10 +1,11 @@
 //! The rows of the table.
 ghost use Rattle.std.specs.Prelude.{◌≡◌, ◌<◌, IfOk, length, map};
 ghost use Rattle.flat_graph.specs.Graph.{Graph};
-ghost use Rattle.archi_defs.specs.Text.{Described};
+ghost use Rattle.archi_defs.specs.Text.{described_by};
 ghost use Rattle.durations.specs.Lines.{AreDurations};
 ghost use Rattle.durations.specs.Table.{durations_of, entry, row};
 ghost use Rattle.durations.specs.Given.{Gives, IsRefused};
+ghost use Rattle.durations.specs.Fitting.{Fits};
 
 use crate::given::Given;
 use crate::missing::{is_timed, missing};
@@ -18,10 +19,12 @@ use syn_base::{Items, Name, OutOfMemory};
 /// text says for its definition, and may not stand on an operator for which the text says nothing. A constant,
 /// and whatever else flattening makes, lasts 0 ticks on every operator. Durations of other definitions are
 /// passed over. NoDuration, at line 0, comes exactly where some sensor, actuator or function has a definition
-/// without any duration, and has that of the least such operation.
+/// without any duration, and has that of the least such operation. Otherwise each operation may stand on some
+/// operator, and the set half of a delay wherever its get half may.
 pub fn durations_of(alloc: Global, flat: &Flat, text: &ArchiText) -> Result<Durations, ArchiError>
     requires { AreDurations (length text.now.archi.operators) text.now.lines }
-    ensures { Gives result (durations_of flat.now (record { archi = text.now.archi; durations = text.now.lines })) }
+    ensures gives { Gives result (durations_of flat.now (described_by text.now)) }
+    ensures fits { IfOk result (Fits flat.now (length text.now.archi.operators)) }
 {
     let operators = text.archi.operators().len() as u32;
     let Ok(given) = Given::new(alloc, operators, text.lines.as_slice()) else {

@@ -51,14 +51,17 @@ impl Durations {
         self.operators
     }
 
-    /// The ticks that the operation lasts on the operator, at most 1,000,000,000; none where it may not
-    /// stand there. It takes no memory.
+    /// The ticks that the operation lasts on the operator, at most 1,000,000,000. None exactly where the
+    /// table has no entry: where the operation may not stand there, and where there is no such operation or
+    /// operator. It takes no memory.
     pub fn ticks(&self, op: u32, operator: u32) -> Option<u64>
-        requires { (op < length self.now.rows) × (operator < self.now.operators) }
         ensures entry { result ≡ entry_in self.now op operator }
         ensures bounded { IfSome result (λ t. t ≤ 1000000000) }
     {
-        self.row(op)[operator as usize]
+        match self.row(op).get(operator as usize) {
+            Some(entry) => *entry,
+            None => None,
+        }
     }
 
     /// The least ticks that the operation lasts on some operator, at most 1,000,000,000. It takes no memory.
@@ -74,12 +77,16 @@ impl Durations {
         }
     }
 
+    /// The entries of an operation, none where there is no such operation.
     fn row(&self, op: u32) -> &[Option<u64>]
-        requires { op < length self.now.rows }
         ensures same { result.now ≡ row_in self.now op }
-        ensures valid { IsRow self.now.operators (row_in self.now op) }
+        ensures valid { op < length self.now.rows → IsRow self.now.operators (row_in self.now op) }
+        ensures bounded { All (λ e. IfSome e (λ t. t ≤ 1000000000)) (row_in self.now op) }
     {
-        self.rows[op as usize].as_slice()
+        match self.rows.get(op as usize) {
+            Some(row) => row.as_slice(),
+            None => &[],
+        }
     }
 }
 

@@ -126,6 +126,7 @@ fn text(rt: &impl Abort, archi: Archi, lines: Vec<DurationLine>) -> ArchiText
 {
     assert!(rt; are_durations(archi.operators().len(), &lines));
     ArchiText {
+        version: 1,
         archi,
         lines: Items::new(lines),
     }
@@ -172,6 +173,8 @@ fn a_constant_and_a_delay(rt: HostRuntime) -> Result<(), Fail> {
     assert_eq!(rt; durations.ticks(3, 2), Some(0));
     assert_eq!(rt; durations.ticks(4, 0), Some(0));
     assert_eq!(rt; durations.ticks(5, 1), Some(0));
+    assert_eq!(rt; durations.ticks(5, 3), None);
+    assert_eq!(rt; durations.ticks(6, 1), None);
     assert_eq!(rt; durations.least(5), 0);
     Ok(())
 }

@@ -1,10 +1,13 @@
-use Rattle.std.proofs.Common.{◌≡◌, ℕ, ◌≤◌, List, length, Option, None, sym, ap, subst, ◌∙◌, arith}
+use Rattle.std.proofs.Common.{◌≡◌, ℕ, ◌≤◌, List, length, Option, None, Ok, sym, ap, subst, ◌∙◌, arith, rules}
 use Rattle.std.specs.Prelude.{All, option_copied}
 use Rattle.flat_graph.specs.declared.vertex.Vertex.{Vertex}
 use Rattle.archi_defs.specs.Text.{Bytes}
 use Rattle.durations.specs.Lines.{AreDurations}
 use Rattle.durations.specs.Given.{Lines}
 use Rattle.durations.specs.Table.{missing, IsRow}
+use Rattle.archi_defs.specs.Text.{described_by}
+use Rattle.durations.specs.Table.{durations_of}
+use Rattle.durations.proofs.Fitted.{durations_fit}
 use Rattle.durations.proofs.Entries.{rows_valid, has_operator}
 use Rattle.durations.proofs.rows.durations_of.Goals as goal
 
@@ -21,3 +24,9 @@ new-requires-in-Ok-rows c =
     subst (λ (n : ℕ). All (IsRow n) c.in-Ok-rows.rows.items) count
     (subst (λ (rows : List (List (Option ℕ))). All (IsRow g.operators) rows) (sym c.in-Ok-rows.ensures)
     (rows_valid g.operators g.lines c.vertices-2.result.now known any none))
+
+pub returns-in-Ok-rows-clause-fits : goal.returns-in-Ok-rows-clause-fits
+returns-in-Ok-rows-clause-fits c =
+    let d = described_by c.args.text.now in
+    let gives : durations_of c.args.flat.now d ≡ Ok c.new-in-Ok-rows.result = search rules in
+    durations_fit c.args.flat.now d c.new-in-Ok-rows.result c.operators.ensures.valid c.requires gives
