@@ -1,4 +1,2 @@
 pub mod Words
-pub mod Formulas
-pub mod Blocks
-pub mod Text
+pub mod Outer

@@ -1,5 +1,6 @@
-//! Definitions of an algorithm as its text has them, and why a text is refused. What the bytes of a text
-//! say stands in `specs/`.
+//! Definitions of an algorithm as its text has them, and why a text is refused: the types that the reader
+//! of texts makes, the printer writes, and every check and the resolver read. What the bytes of a text say
+//! stands above, in `algo_text`.
 #![tactic(auto)]
 
 mod definition;

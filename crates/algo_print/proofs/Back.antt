@@ -6,9 +6,10 @@ use Rattle.std.proofs.lemmas.List.Elements.{All-nil}
 use Rattle.text_lines.specs.Text.{lines_of, words_of, code_of, foreign_place}
 use Rattle.algo_defs.specs.declared.definition.Def.{Def}
 use Rattle.algo_defs.specs.declared.fault.AlgoError.{AlgoError}
-use Rattle.algo_defs.specs.Words.{Bytes, word}
-use Rattle.algo_defs.specs.Blocks.{Block, and_then}
-use Rattle.algo_defs.specs.Text.{Stage, before_version, between, in_function, in_graph, in_switch, in_repeat, Reading, start, begins, version_line, by_stage, line_by, next_line, at_end, rest_of, definitions_of}
+use Rattle.algo_defs.specs.Words.{Bytes}
+use Rattle.algo_text.specs.Words.{word}
+use Rattle.algo_text.specs.Blocks.{Block, and_then}
+use Rattle.algo_text.specs.Text.{Stage, before_version, between, in_function, in_graph, in_switch, in_repeat, Reading, start, begins, version_line, by_stage, line_by, next_line, at_end, rest_of, definitions_of}
 use Rattle.algo_print.specs.Canonical.{joined, version_words, canonical_text, IsPrintable, ArePrintable}
 use Rattle.algo_print.specs.ReadBack.{Says}
 use Rattle.algo_print.proofs.Pieces.{are_words, all_words, and_true, both, text_back}

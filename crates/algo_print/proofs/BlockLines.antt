@@ -10,9 +10,10 @@ use Rattle.algo_defs.specs.declared.definition.Edge.{Edge}
 use Rattle.algo_defs.specs.declared.definition.Case.{Case}
 use Rattle.algo_defs.specs.declared.definition.FrontierLine.{FrontierLine}
 use Rattle.algo_defs.specs.declared.fault.AlgoError.{AlgoError}
-use Rattle.algo_defs.specs.Words.{Bytes, word, is_among, count_of}
-use Rattle.algo_defs.specs.Blocks.{Block, is_taken, port_line, in_line, with_in, out_line, with_out}
-use Rattle.algo_defs.specs.Text.{Stage, between, Reading, in_block, by_stage}
+use Rattle.algo_defs.specs.Words.{Bytes, is_among}
+use Rattle.algo_text.specs.Words.{word, count_of}
+use Rattle.algo_text.specs.Blocks.{Block, is_taken, port_line, in_line, with_in, out_line, with_out}
+use Rattle.algo_text.specs.Text.{Stage, between, Reading, in_block, by_stage}
 use Rattle.algo_print.specs.Canonical.{joined, count, port_words, body_lines, definition_lines, version_words, end_words, IsPrintable}
 use Rattle.algo_print.specs.ReadBack.{bare, bare_body, bare_reference, bare_edge, bare_case, bare_frontier}
 use Rattle.algo_print.proofs.Pieces.{is_word, are_words, and_true}

@@ -3,8 +3,9 @@ use Rattle.std.proofs.Common.{◌≡◌, ℕ, zero, suc, ◌≤◌, ◌^◌, ◌
 use Rattle.syn_base.specs.declared.integer.NumFault.{NumFault}
 use Rattle.syn_base.specs.declared.integer.NumFault.TheVariants.{TooLarge}
 use Rattle.syn_base.specs.Integer.{integer_of, behind_minus, signed, unless_other, from_digits, with_sign, first_other, number_of}
-use Rattle.algo_defs.specs.Words as words
-use Rattle.algo_defs.specs.Words.{Bytes, number_by}
+use Rattle.algo_text.specs.Words as words
+use Rattle.algo_defs.specs.Words.{Bytes}
+use Rattle.algo_text.specs.Words.{number_by}
 
 abbrev Fitting : Result ℤ NumFault → Type 0
 Fitting (Ok v) = FitsSigned w64 v

@@ -19,10 +19,11 @@ use Rattle.body_text.proofs.Judged.{is_written}
 use Rattle.algo_defs.specs.declared.definition.Def.{Def}
 use Rattle.algo_defs.specs.declared.definition.Output.{Output}
 use Rattle.algo_defs.specs.declared.definition.Body.TheVariants.{Function}
-use Rattle.algo_defs.specs.Words.{Bytes, word}
-use Rattle.algo_defs.specs.Formulas.{known_by, read_by, formula_of}
-use Rattle.algo_defs.specs.Blocks.{Block, in_line, and_then, is_taken, is_equals, result_words, result_at, result_line, with_result}
-use Rattle.algo_defs.specs.Text.{in_function, Reading, begins, in_block, block_end, function_line}
+use Rattle.algo_defs.specs.Words.{Bytes}
+use Rattle.algo_text.specs.Words.{word}
+use Rattle.algo_text.specs.Formulas.{known_by, read_by, formula_of}
+use Rattle.algo_text.specs.Blocks.{Block, in_line, and_then, is_taken, is_equals, result_words, result_at, result_line, with_result}
+use Rattle.algo_text.specs.Text.{in_function, Reading, begins, in_block, block_end, function_line}
 use Rattle.algo_print.specs.Canonical.{spaced, joined, count, port_words, output_words, function_lines}
 use Rattle.algo_print.proofs.Pieces as pieces
 use Rattle.algo_print.proofs.Pieces.{is_word, are_words, and_true, joins, words_then, first_stands}

@@ -9,9 +9,10 @@ use Rattle.algo_defs.specs.declared.definition.End.{End}
 use Rattle.algo_defs.specs.declared.definition.Edge.{Edge}
 use Rattle.algo_defs.specs.declared.definition.Reference.{Reference}
 use Rattle.algo_defs.specs.declared.fault.AlgoError.{AlgoError}
-use Rattle.algo_defs.specs.Words.{Bytes, word, is_among, end_of}
-use Rattle.algo_defs.specs.Blocks.{Block, in_line, out_line, reference_line, edge_line}
-use Rattle.algo_defs.specs.Text.{in_graph, Reading, begins, in_block, block_end, graph_line}
+use Rattle.algo_defs.specs.Words.{Bytes, is_among}
+use Rattle.algo_text.specs.Words.{word, end_of}
+use Rattle.algo_text.specs.Blocks.{Block, in_line, out_line, reference_line, edge_line}
+use Rattle.algo_text.specs.Text.{in_graph, Reading, begins, in_block, block_end, graph_line}
 use Rattle.algo_print.specs.Canonical.{port_words, reference_words, edge_words, end_word}
 use Rattle.algo_print.specs.ReadBack.{bare_reference, bare_edge}
 use Rattle.algo_print.proofs.Spelled.{name_word}

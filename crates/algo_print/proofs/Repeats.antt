@@ -10,9 +10,11 @@ use Rattle.algo_defs.specs.declared.definition.FrontierLine.{FrontierLine}
 use Rattle.algo_defs.specs.declared.fault.AlgoError.{AlgoError}
 use Rattle.algo_defs.specs.declared.fault.AlgoCause.TheVariants.{BadLine, DuplicateName}
 use Rattle.syn_base.specs.declared.limits.LimitKind.TheVariants.{Ports}
-use Rattle.algo_defs.specs.Words.{Bytes, word, is_among}
-use Rattle.algo_defs.specs.Blocks.{Block, refused, above, all_outer, all_names, with_frontier}
-use Rattle.algo_defs.specs.Text.{in_repeat, Reading, begins, in_block, block_end, frontier_line}
+use Rattle.algo_defs.specs.Words.{Bytes, is_among}
+use Rattle.algo_text.specs.Words.{word}
+use Rattle.algo_defs.specs.Outer.{all_outer}
+use Rattle.algo_text.specs.Blocks.{Block, refused, above, all_names, with_frontier}
+use Rattle.algo_text.specs.Text.{in_repeat, Reading, begins, in_block, block_end, frontier_line}
 use Rattle.algo_print.specs.Canonical.{words_of_frontier, frontier_words}
 use Rattle.algo_print.specs.ReadBack.{bare_frontier}
 use Rattle.algo_print.proofs.Pieces.{is_word, are_words, and_true}

@@ -5,7 +5,7 @@ use Rattle.body_text.specs.Words.{form_of}
 use Rattle.algo_defs.specs.declared.definition.Def.{Def}
 use Rattle.algo_defs.specs.declared.fault.AlgoError.{AlgoError}
 use Rattle.algo_defs.specs.Words.{Bytes}
-use Rattle.algo_defs.specs.Text.{definitions_of}
+use Rattle.algo_text.specs.Text.{definitions_of}
 use Rattle.algo_print.specs.Canonical.{canonical_text}
 
 abbrev text : List Bytes → Bytes

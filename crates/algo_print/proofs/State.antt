@@ -10,8 +10,9 @@ use Rattle.algo_defs.specs.declared.definition.Edge.{Edge}
 use Rattle.algo_defs.specs.declared.definition.Case.{Case}
 use Rattle.algo_defs.specs.declared.definition.FrontierLine.{FrontierLine}
 use Rattle.algo_defs.specs.Words.{Bytes}
-use Rattle.algo_defs.specs.Blocks.{Block, outer_names, all_outer}
-use Rattle.algo_defs.specs.Text.{Stage, before_version, between, in_function, in_graph, in_switch, in_repeat, Reading, by_stage, line_by, next_line}
+use Rattle.algo_defs.specs.Outer.{outer_names, all_outer}
+use Rattle.algo_text.specs.Blocks.{Block}
+use Rattle.algo_text.specs.Text.{Stage, before_version, between, in_function, in_graph, in_switch, in_repeat, Reading, by_stage, line_by, next_line}
 use Rattle.algo_print.specs.Canonical.{joined, count, body_lines, definition_lines, version_words, function_lines, graph_lines, port_words, case_words, frontier_words, ArePrintable}
 use Rattle.algo_print.specs.ReadBack.{bare, bare_reference, bare_edge, bare_case, bare_frontier}
 use Rattle.algo_print.proofs.Pieces.{are_words, joined_back, code_back, foreign_back}

@@ -8,9 +8,10 @@ use Rattle.algo_defs.specs.declared.definition.Def.{Def}
 use Rattle.algo_defs.specs.declared.definition.Body.TheVariants.{Switch}
 use Rattle.algo_defs.specs.declared.definition.Case.{Case}
 use Rattle.algo_defs.specs.declared.fault.AlgoError.{AlgoError}
-use Rattle.algo_defs.specs.Words.{Bytes, word, number_of}
-use Rattle.algo_defs.specs.Blocks.{Block, in_line, out_line, on_line, case_line, otherwise_line}
-use Rattle.algo_defs.specs.Text.{in_switch, Reading, begins, in_block, block_end, switch_line}
+use Rattle.algo_defs.specs.Words.{Bytes}
+use Rattle.algo_text.specs.Words.{word, number_of}
+use Rattle.algo_text.specs.Blocks.{Block, in_line, out_line, on_line, case_line, otherwise_line}
+use Rattle.algo_text.specs.Text.{in_switch, Reading, begins, in_block, block_end, switch_line}
 use Rattle.algo_print.specs.Canonical.{port_words, case_words, switch_lines, end_words}
 use Rattle.algo_print.specs.ReadBack.{bare_case}
 use Rattle.algo_print.proofs.Pieces.{is_word, and_true}

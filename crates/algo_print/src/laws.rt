@@ -2,7 +2,7 @@
 ghost use Rattle.std.specs.Prelude.{◌≡◌, ◌≤◌, List, Ok, length, map};
 ghost use Rattle.text_lines.specs.Text.{lines_of};
 ghost use Rattle.algo_defs.specs.Words.{Bytes};
-ghost use Rattle.algo_defs.specs.Text.{definitions_of};
+ghost use Rattle.algo_text.specs.Text.{definitions_of};
 ghost use Rattle.algo_defs.specs.declared.definition.Def.{Def};
 ghost use Rattle.algo_print.specs.Canonical.{canonical_text, ArePrintable};
 ghost use Rattle.algo_print.specs.ReadBack.{Says, bare};

@@ -4,7 +4,6 @@ pub mod Behind
 pub mod Outputs
 pub mod FrontNames
 pub mod Numbers
-pub mod Grammars
 pub mod Settled
 pub mod NameTokens
 pub mod PortTokens

@@ -1,8 +1,8 @@
 -- One number more.
 use Rattle.std.proofs.Common.{◌≡◌, ℕ, ◌≤◌, List, ◌++◌, length, drop, Result, Ok, ap, sym, ◌∙◌, append-nil, ℤ}
 use Rattle.std.proofs.lemmas.List.{drop_all}
-use Rattle.algo_defs.specs.Blocks.{and_then}
-use Rattle.algo_defs.specs.Text.{numbers_of}
+use Rattle.algo_text.specs.Blocks.{and_then}
+use Rattle.algo_text.specs.Text.{numbers_of}
 use Rattle.algo_defs.specs.declared.fault.AlgoError.{AlgoError}
 
 abbrev pub with_front : List ℤ → Result (List ℤ) AlgoError → Result (List ℤ) AlgoError

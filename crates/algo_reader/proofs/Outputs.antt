@@ -2,7 +2,7 @@
 use Rattle.std.proofs.Common.{◌≡◌, ◌≤◌, Option, Some, None, List, refl, arith}
 use Rattle.body_lang.specs.declared.expression.Port.{Port}
 use Rattle.algo_defs.specs.Words.{Bytes}
-use Rattle.algo_defs.specs.Blocks.{Block}
+use Rattle.algo_text.specs.Blocks.{Block}
 use Rattle.algo_reader.specs.declared.switch.SwitchBlock.{SwitchBlock}
 use Rattle.algo_reader.specs.declared.switch.Part.{Part}
 use Rattle.algo_reader.specs.declared.switch.Part.TheVariants.{Inputs, Outputs, Cases, Whole}

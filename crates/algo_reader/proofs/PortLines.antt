@@ -9,9 +9,10 @@ use Rattle.body_lang.specs.Expr.{Expr}
 use Rattle.algo_defs.specs.declared.fault.AlgoError.{AlgoError}
 use Rattle.algo_defs.specs.declared.fault.AlgoError.TheVariants.{Refused, Limit, OutOfMemory}
 use Rattle.algo_defs.specs.declared.fault.AlgoCause.TheVariants.{BadLine, BadName, BadNumber, DuplicateName}
-use Rattle.algo_defs.specs.Words.{Bytes, word, count_of}
-use Rattle.algo_defs.specs.Formulas.{formula_of}
-use Rattle.algo_defs.specs.Blocks.{Block, refused, with_some, and_then, port_line, is_taken, in_line, with_in, out_line, with_out, result_words, with_result}
+use Rattle.algo_defs.specs.Words.{Bytes}
+use Rattle.algo_text.specs.Words.{word, count_of}
+use Rattle.algo_text.specs.Formulas.{formula_of}
+use Rattle.algo_text.specs.Blocks.{Block, refused, with_some, and_then, port_line, is_taken, in_line, with_in, out_line, with_out, result_words, with_result}
 use Rattle.algo_reader.specs.Given.{Fails, IsStop, stop}
 use Rattle.algo_reader.specs.Lines.{port_of}
 

@@ -8,9 +8,10 @@ use Rattle.algo_defs.specs.declared.definition.Body.TheVariants.{Sensor, Actuato
 use Rattle.algo_defs.specs.declared.definition.Def.{Def}
 use Rattle.algo_defs.specs.declared.fault.AlgoError.{AlgoError}
 use Rattle.algo_defs.specs.declared.fault.AlgoError.TheVariants.{Refused, Limit, OutOfMemory}
-use Rattle.algo_defs.specs.Words.{Bytes, word, is_among, count_of}
-use Rattle.algo_defs.specs.Blocks.{Block, new_block, and_then, with_some}
-use Rattle.algo_defs.specs.Text.{Stage, before_version, between, in_function, in_graph, in_switch, in_repeat, Reading, numbers_of, defined, end_line, values_line, between_line, begins, by_stage, next_line, line_by, rest_of}
+use Rattle.algo_defs.specs.Words.{Bytes, is_among}
+use Rattle.algo_text.specs.Words.{word, count_of}
+use Rattle.algo_text.specs.Blocks.{Block, new_block, and_then, with_some}
+use Rattle.algo_text.specs.Text.{Stage, before_version, between, in_function, in_graph, in_switch, in_repeat, Reading, numbers_of, defined, end_line, values_line, between_line, begins, by_stage, next_line, line_by, rest_of}
 use Rattle.algo_reader.specs.declared.reader.Reader.{Reader}
 use Rattle.algo_reader.specs.declared.reader.Place.{Place}
 use Rattle.algo_reader.specs.declared.reader.Place.TheVariants.{BeforeVersion, Between, InFunction, InGraph, InSwitch, InRepeat}

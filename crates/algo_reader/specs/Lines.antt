@@ -6,8 +6,9 @@ use Rattle.syn_base.specs.declared.limits.LimitKind.TheVariants.{PortLength, Por
 use Rattle.body_lang.specs.declared.expression.Port.{Port}
 use Rattle.algo_defs.specs.declared.fault.AlgoError.{AlgoError}
 use Rattle.algo_defs.specs.declared.fault.AlgoCause.TheVariants.{BadName, BadNumber}
-use Rattle.algo_defs.specs.Words.{Bytes, word, count_of}
-use Rattle.algo_defs.specs.Blocks.{refused, above, with_some}
+use Rattle.algo_defs.specs.Words.{Bytes}
+use Rattle.algo_text.specs.Words.{word, count_of}
+use Rattle.algo_text.specs.Blocks.{refused, above, with_some}
 
 abbrev pub some_name : Bytes → Option Bytes
 some_name w = if is_name w then Some w else None

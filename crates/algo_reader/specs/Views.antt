@@ -5,8 +5,8 @@ use Rattle.algo_defs.specs.declared.definition.Body.{Body}
 use Rattle.algo_defs.specs.declared.definition.Body.TheVariants.{Sensor, Actuator, Constant, Delay, Function, Graph, Switch, Repeat}
 use Rattle.algo_defs.specs.declared.fault.AlgoError.{AlgoError}
 use Rattle.algo_defs.specs.declared.fault.AlgoCause.TheVariants.{BadLine}
-use Rattle.algo_defs.specs.Blocks.{Block, new_block, refused}
-use Rattle.algo_defs.specs.Text.{Stage, before_version, between, in_function, in_graph, in_switch, in_repeat, Reading, block_end}
+use Rattle.algo_text.specs.Blocks.{Block, new_block, refused}
+use Rattle.algo_text.specs.Text.{Stage, before_version, between, in_function, in_graph, in_switch, in_repeat, Reading, block_end}
 use Rattle.algo_reader.specs.declared.function.FunctionBlock.{FunctionBlock}
 use Rattle.algo_reader.specs.declared.graph.GraphBlock.{GraphBlock}
 use Rattle.algo_reader.specs.declared.switch.SwitchBlock.{SwitchBlock}

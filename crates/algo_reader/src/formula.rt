@@ -1,6 +1,6 @@
 //! The expression of an output.
 ghost use Rattle.std.specs.Prelude.{◌≡◌, ◌≤◌, length, map, position, drop};
-ghost use Rattle.algo_defs.specs.Formulas.{formula_of};
+ghost use Rattle.algo_text.specs.Formulas.{formula_of};
 ghost use Rattle.algo_reader.specs.Given.{Makes};
 ghost use Rattle.algo_reader.specs.Lines.{name_length, name_from, is_other};
 

@@ -1,7 +1,7 @@
 //! The lines of a function.
 ghost use Rattle.std.specs.Prelude.{◌≡◌, ◌≤◌, map, length, drop, position};
 ghost use Rattle.algo_defs.specs.Words.{is_among};
-ghost use Rattle.algo_defs.specs.Blocks.{in_line, result_line, result_words, is_equals, is_taken, new_block};
+ghost use Rattle.algo_text.specs.Blocks.{in_line, result_line, result_words, is_equals, is_taken, new_block};
 ghost use Rattle.algo_reader.specs.Given.{Steps};
 ghost use Rattle.algo_reader.specs.Views.{function_view};
 

@@ -2,7 +2,7 @@
 ghost use Rattle.std.specs.Prelude.{◌≡◌, IsTrue, map, true};
 ghost use Rattle.syn_base.specs.Name.{is_name};
 ghost use Rattle.algo_defs.specs.Words.{is_among};
-ghost use Rattle.algo_defs.specs.Blocks.{in_line, out_line, reference_line, edge_line, is_taken, new_block};
+ghost use Rattle.algo_text.specs.Blocks.{in_line, out_line, reference_line, edge_line, is_taken, new_block};
 ghost use Rattle.algo_reader.specs.Given.{Steps};
 ghost use Rattle.algo_reader.specs.Views.{graph_view};
 

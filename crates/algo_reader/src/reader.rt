@@ -1,8 +1,8 @@
 //! The lines of a text, one after the other.
 ghost use Rattle.std.specs.Prelude.{◌≡◌, ◌<◌, ◌≤◌, length};
 ghost use Rattle.text_lines.specs.Text.{lines_of};
-ghost use Rattle.algo_defs.specs.Blocks.{new_block};
-ghost use Rattle.algo_defs.specs.Text.{definitions_of, start, version_line, end_line, values_line, opening_line, repeat_line, between_line, function_line, graph_line, switch_line, frontier_line, by_stage, next_line, at_end, in_function, in_graph, in_switch, in_repeat};
+ghost use Rattle.algo_text.specs.Blocks.{new_block};
+ghost use Rattle.algo_text.specs.Text.{definitions_of, start, version_line, end_line, values_line, opening_line, repeat_line, between_line, function_line, graph_line, switch_line, frontier_line, by_stage, next_line, at_end, in_function, in_graph, in_switch, in_repeat};
 ghost use Rattle.algo_reader.specs.Given.{Steps, Gives};
 ghost use Rattle.algo_reader.specs.Views.{reading, settle, function_end, graph_end, switch_end, repeat_end, any_end, stage_of, block_of, stage_for, end_body, values_body, function_view, graph_view, switch_view, repeat_view};
 

@@ -1,7 +1,8 @@
 //! The lines of a repetition.
 ghost use Rattle.std.specs.Prelude.{◌≡◌, ◌∷◌, []};
 ghost use Rattle.algo_defs.specs.Words.{is_among};
-ghost use Rattle.algo_defs.specs.Blocks.{fork_line, diffuse_line, iterate_line, join_line, new_block, all_outer, outer_names, with_frontier};
+ghost use Rattle.algo_defs.specs.Outer.{all_outer, outer_names};
+ghost use Rattle.algo_text.specs.Blocks.{fork_line, diffuse_line, iterate_line, join_line, new_block, with_frontier};
 ghost use Rattle.algo_reader.specs.Given.{Steps};
 ghost use Rattle.algo_reader.specs.Views.{repeat_view};
 

@@ -1,7 +1,7 @@
 //! The lines of a conditioned definition.
 ghost use Rattle.std.specs.Prelude.{◌≡◌};
 ghost use Rattle.std.specs.Str.{bytes_eq};
-ghost use Rattle.algo_defs.specs.Blocks.{in_line, out_line, on_line, case_line, otherwise_line, is_taken, new_block};
+ghost use Rattle.algo_text.specs.Blocks.{in_line, out_line, on_line, case_line, otherwise_line, is_taken, new_block};
 ghost use Rattle.algo_reader.specs.Given.{Steps};
 ghost use Rattle.algo_reader.specs.Views.{switch_view, part_of, on_of};
 

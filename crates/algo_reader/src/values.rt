@@ -1,6 +1,6 @@
 //! The numbers of a line.
 ghost use Rattle.std.specs.Prelude.{◌≤◌, length, drop};
-ghost use Rattle.algo_defs.specs.Text.{numbers_of};
+ghost use Rattle.algo_text.specs.Text.{numbers_of};
 ghost use Rattle.algo_reader.specs.Given.{MakesList};
 
 use crate::fault::{bad_number, push};

@@ -4,7 +4,7 @@ ghost use Rattle.std.specs.Str.{bytes_eq};
 ghost use Rattle.syn_base.specs.Name.{is_name};
 ghost use Rattle.algo_reader.specs.Given.{GivesSome};
 ghost use Rattle.algo_reader.specs.Lines.{some_name};
-ghost use Rattle.algo_defs.specs.Words.{number_of, count_of, end_of, is_dot};
+ghost use Rattle.algo_text.specs.Words.{number_of, count_of, end_of, is_dot};
 
 use crate::words::Words;
 use algo_defs::{AlgoError, End};

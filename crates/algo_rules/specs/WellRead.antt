@@ -1,5 +1,5 @@
 -- What the definitions of every accepted text keep: names are names and given once, and lengths and numbers of lines are within their bounds.
-use Rattle.std.specs.Prelude.{◌≡◌, ℕ, ◌≤◌, List, ◌∷◌, ◌++◌, All, length, map, true, Ok}
+use Rattle.std.specs.Prelude.{◌≡◌, ℕ, ◌≤◌, List, ◌∷◌, ◌++◌, All, length, map, true}
 use Rattle.syn_base.specs.Name.{is_name}
 use Rattle.body_lang.specs.Expr.{PortsBelow}
 use Rattle.body_lang.specs.declared.expression.Port.{Port}
@@ -13,8 +13,7 @@ use Rattle.algo_defs.specs.declared.definition.FrontierLine.{FrontierLine}
 use Rattle.algo_defs.specs.declared.definition.Body.{Body}
 use Rattle.algo_defs.specs.declared.definition.Body.TheVariants.{Sensor, Actuator, Constant, Delay, Function, Graph, Switch, Repeat}
 use Rattle.algo_defs.specs.Words.{Bytes}
-use Rattle.algo_defs.specs.Blocks.{all_outer}
-use Rattle.algo_defs.specs.Text.{definitions_of}
+use Rattle.algo_defs.specs.Outer.{all_outer}
 
 abbrev pub IsName : Bytes → Type 0
 IsName w = is_name w ≡ true
@@ -74,7 +73,3 @@ pub record AreWellRead (ds : List Def) : Type 0 where
   pub named : All (λ d. IsName d.name) ds
   pub once : AreDistinctNames (map (λ d. d.name) ds)
   pub bodies : All (λ d. IsWellRead d.body) ds
-
--- the definitions of every text that is accepted
-abbrev pub AcceptedAreWellRead : Type 0
-AcceptedAreWellRead = (text : Bytes) (ds : List Def) → definitions_of text ≡ Ok ds → AreWellRead ds

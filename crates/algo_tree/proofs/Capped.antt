@@ -2,8 +2,9 @@
 use Rattle.std.proofs.Common.{◌≡◌, ℕ, zero, suc, ◌*◌, min, refl, arith, suc-mul}
 use Rattle.algo_tree.specs.Tree.{Kind, graph, switch, repeat}
 use Rattle.algo_tree.specs.Counted.{operations_by}
+use Rattle.algo_tree.specs.Size.{made_by}
 
-product_capped : (n x y m : ℕ) → min x m ≡ min y m → min (n * x) m ≡ min (n * y) m
+pub product_capped : (n x y m : ℕ) → min x m ≡ min y m → min (n * x) m ≡ min (n * y) m
 product_capped zero x y m h = omega arith
 product_capped (suc n) x y m h = omega (arith, h, suc-mul n x, suc-mul n y, product_capped n x y m h)
 
@@ -13,3 +14,8 @@ capped (graph outs) x y m h = h
 capped (switch values names) x y m h = omega (arith, h)
 capped (repeat n feeds gives) x y m h = omega (arith, product_capped n x y m h)
 capped _ x y m h = refl
+
+-- the same of the vertices that it becomes
+pub made_capped : (k : Kind) (x y m : ℕ) → min x m ≡ min y m → min (made_by k x) m ≡ min (made_by k y) m
+made_capped (repeat n feeds gives) x y m h = omega (arith, product_capped n x y m h)
+made_capped _ x y m h = omega (arith, h)

@@ -5,5 +5,6 @@ pub mod Well
 pub mod Typed
 pub mod Ends
 pub mod Counted
+pub mod Size
 pub mod Valid
 pub mod Code

@@ -1,6 +1,5 @@
 -- The plain data that a declared vertex stands for.
 use Rattle.std.specs.Prelude.{List, [], ◌∷◌, map}
-use Rattle.body_lang.specs.Expr.{view as expression}
 use Rattle.algo_tree.specs.declared.vertex.Kind.{Kind}
 use Rattle.algo_tree.specs.declared.vertex.Kind.TheVariants.{Sensor, Actuator, Constant, Delay, Function, Explode, Implode, Merge, Graph, Switch, Repeat}
 use Rattle.algo_tree.specs.declared.vertex.Vertex.{Vertex, fold-Vertex}
@@ -12,7 +11,7 @@ kind_view (Sensor n) = plain.sensor n
 kind_view (Actuator n) = plain.actuator n
 kind_view (Constant v) = plain.constant v
 kind_view (Delay v) = plain.delay (v ∷ [])
-kind_view (Function es) = plain.function (map expression es)
+kind_view (Function b) = plain.function b
 kind_view Explode = plain.explode
 kind_view Implode = plain.implode
 kind_view (Merge values) = plain.merge values

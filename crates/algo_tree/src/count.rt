@@ -33,7 +33,8 @@ fn count_by(kind: &Kind, inside: u64) -> u64
     }
 }
 
-fn count_forks(feeds: &[Feed]) -> u64
+/// The number of fork lines.
+pub fn count_forks(feeds: &[Feed]) -> u64
     ensures { result ≡ length (fork_names feeds.now) }
 {
     let mut count = 0;
@@ -45,7 +46,8 @@ fn count_forks(feeds: &[Feed]) -> u64
     count
 }
 
-fn count_joins(gives: &[Give]) -> u64
+/// The number of join lines.
+pub fn count_joins(gives: &[Give]) -> u64
     ensures { result ≡ length (join_names gives.now) }
 {
     let mut count = 0;

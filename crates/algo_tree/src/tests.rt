@@ -50,3 +50,13 @@ fn operations_are_counted_without_copies(rt: HostRuntime) -> Result<(), Fail> {
     assert_eq!(rt; count_operations(&switch(alloc)?), 9);
     Ok(())
 }
+
+/// The copies of a body beside an explode and an implode.
+#[test]
+fn vertices_are_counted_with_copies(rt: HostRuntime) -> Result<(), Fail> {
+    let alloc = rt.alloc();
+    assert_eq!(rt; count_vertices(&delay(alloc)?), 1);
+    assert_eq!(rt; count_vertices(&repetition(alloc)?), 6);
+    assert_eq!(rt; count_vertices(&switch(alloc)?), 7);
+    Ok(())
+}

@@ -1,5 +1,5 @@
 //! A vertex of the resolved algorithm and what is inside it.
-use body_lang::Expr;
+use body_lang::Body;
 use level_meaning::{Feed, Give, Guard, Part, Source};
 use syn_base::Items;
 
@@ -15,8 +15,8 @@ pub enum Kind {
     Constant(Items<i64>),
     /// Its initial values.
     Delay(Items<i64>),
-    /// One expression for each output.
-    Function(Items<Expr>),
+    /// What it computes, which all uses of its definition share.
+    Function(Body),
     /// Gives the parts of its input.
     Explode,
     /// Gives its inputs, one after another.

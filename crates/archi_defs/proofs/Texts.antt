@@ -13,8 +13,13 @@ text (l ∷ ls) = l ++ 10 ∷ text ls
 abbrev read : List Bytes → Result Described ArchiError
 read ls = description_of (text (codes "architecture 1" ∷ ls))
 
+-- a text of version 2
+abbrev read_2 : List Bytes → Result Described ArchiError
+read_2 ls = description_of (text (codes "architecture 2" ∷ ls))
+
 plainest : read (codes "operator P" ∷ codes "duration Sense P 1" ∷ codes "duration Act P 2" ∷ []) ≡ Ok (record {
-  archi = record { operators = codes "P" ∷ []; media = [] };
+  version = 1;
+  archi = record { operators = codes "P" ∷ []; media = []; depth = 1 };
   durations = record { def = codes "Sense"; operator = 0; ticks = 1 } ∷ record { def = codes "Act"; operator = 0; ticks = 2 } ∷ [];
 })
 plainest = refl
@@ -24,7 +29,8 @@ abbrev two : Bytes → List Bytes
 two medium = codes "operator P" ∷ codes "operator Q" ∷ medium ∷ codes "connect bus Q" ∷ codes "connect bus P" ∷ []
 
 bus : read (two (codes "medium bus p2p 1 2")) ≡ Ok (record {
-  archi = record { operators = codes "P" ∷ codes "Q" ∷ []; media = record { name = codes "bus"; multi = false; fixed = 1; per = 2; stands = 0 ∷ 1 ∷ [] } ∷ [] };
+  version = 1;
+  archi = record { operators = codes "P" ∷ codes "Q" ∷ []; media = record { name = codes "bus"; multi = false; fixed = 1; per = 2; stands = 0 ∷ 1 ∷ [] } ∷ []; depth = 1 };
   durations = [];
 })
 bus = refl
@@ -49,7 +55,8 @@ three_stand : read (three (codes "medium bus p2p 0 0")) ≡ refused 5 (BadMedium
 three_stand = refl
 
 three_may_stand : read (three (codes "medium bus multi 0 0")) ≡ Ok (record {
-  archi = record { operators = codes "P" ∷ codes "Q" ∷ codes "R" ∷ []; media = record { name = codes "bus"; multi = true; fixed = 0; per = 0; stands = 0 ∷ 1 ∷ 2 ∷ [] } ∷ [] };
+  version = 1;
+  archi = record { operators = codes "P" ∷ codes "Q" ∷ codes "R" ∷ []; media = record { name = codes "bus"; multi = true; fixed = 0; per = 0; stands = 0 ∷ 1 ∷ 2 ∷ [] } ∷ []; depth = 1 };
   durations = [];
 })
 three_may_stand = refl
@@ -101,3 +108,57 @@ lines (o ∷ os) more = (codes "operator " ++ o) ∷ lines os more
 
 many : read (lines operators (codes "operator Q" ∷ [])) ≡ Err (Limit (record { which = Operators; count = 17; bound = 16 }))
 many = refl
+
+-- version 2: a depth stands once, at any place; without it there is one place
+abbrev alone : ℕ → ℕ → Result Described ArchiError
+alone version depth = Ok (record { version = version; archi = record { operators = codes "P" ∷ []; media = []; depth = depth }; durations = record { def = codes "F"; operator = 0; ticks = 7 } ∷ [] })
+
+no_depth : read_2 (codes "operator P" ∷ codes "duration F P 7" ∷ []) ≡ alone 2 1
+no_depth = refl
+
+depth_first : read_2 (codes "depth 2" ∷ codes "operator P" ∷ codes "duration F P 7" ∷ []) ≡ alone 2 2
+depth_first = refl
+
+depth_between : read_2 (codes "operator P" ∷ codes "depth 03 # three" ∷ codes "duration F P 7" ∷ []) ≡ alone 2 3
+depth_between = refl
+
+depth_last : read_2 (codes "operator P" ∷ codes "duration F P 7" ∷ codes "depth 4" ∷ []) ≡ alone 2 4
+depth_last = refl
+
+too_deep : read_2 (codes "depth 5" ∷ codes "operator P" ∷ []) ≡ refused 2 (BadNumber (codes "5"))
+too_deep = refl
+
+no_place : read_2 (codes "operator P" ∷ codes "depth 0" ∷ []) ≡ refused 3 (BadNumber (codes "0"))
+no_place = refl
+
+no_number : read_2 (codes "depth +1" ∷ []) ≡ refused 2 (BadNumber (codes "+1"))
+no_number = refl
+
+fewer_than_none : read_2 (codes "depth -1" ∷ []) ≡ refused 2 (BadNumber (codes "-1"))
+fewer_than_none = refl
+
+-- a second line, and one in version 1, is none, also where its number is bad
+second_depth : read_2 (codes "depth 1" ∷ codes "depth 1" ∷ []) ≡ refused 3 BadLine
+second_depth = refl
+
+second_bad_depth : read_2 (codes "depth 1" ∷ codes "operator P" ∷ codes "depth 9" ∷ []) ≡ refused 4 BadLine
+second_bad_depth = refl
+
+depth_of_old : read (codes "depth 2" ∷ []) ≡ refused 2 BadLine
+depth_of_old = refl
+
+bad_depth_of_old : read (codes "operator P" ∷ codes "depth x" ∷ []) ≡ refused 3 BadLine
+bad_depth_of_old = refl
+
+two_depths : read_2 (codes "depth 1 2" ∷ []) ≡ refused 2 BadLine
+two_depths = refl
+
+-- the version is one of two words
+version_3 : description_of (text (codes "architecture 3" ∷ [])) ≡ refused 1 BadLine
+version_3 = refl
+
+version_02 : description_of (text (codes "architecture 02" ∷ [])) ≡ refused 1 BadLine
+version_02 = refl
+
+second_version : read_2 (codes "architecture 2" ∷ []) ≡ refused 2 BadLine
+second_version = refl

@@ -1,5 +1,5 @@
--- What the text of an architecture says: operators, media and durations, or its first refusal. Lines are numbered from 1.
-use Rattle.std.specs.Prelude.{ℕ, ◌+◌, Bool, true, false, not, ◌&&◌, ◌||◌, ◌==◌, nat_le, nat_lt, List, [], ◌∷◌, ◌++◌, length, map, position, slice_index_or, slice_set, Option, Some, None, Result, Ok, Err, if◌then◌else◌, codes, ℤ, pos, negsuc}
+-- What the text of an architecture says: its version, operators, media, depth and durations, or its first refusal. Lines are numbered from 1.
+use Rattle.std.specs.Prelude.{ℕ, ◌+◌, Bool, true, false, not, ◌&&◌, ◌||◌, ◌==◌, nat_le, nat_lt, List, [], ◌∷◌, ◌++◌, length, map, position, slice_index_or, slice_set, Option, Some, None, is_some, Result, Ok, Err, if◌then◌else◌, codes, ℤ, pos, negsuc}
 use Rattle.std.specs.List.{list_any, range_with_len}
 use Rattle.std.specs.Str.{bytes_eq}
 use Rattle.text_lines.specs.Text.{lines_of, words_of, code_of, foreign_place}
@@ -10,8 +10,9 @@ use Rattle.syn_base.specs.declared.integer.NumFault.{NumFault}
 use Rattle.syn_base.specs.declared.limits.LimitKind.{LimitKind}
 use Rattle.syn_base.specs.declared.limits.LimitKind.TheVariants.{Operators, Media, Connections}
 use Rattle.archi_graph.specs.declared.medium.Medium.{Medium}
-use Rattle.archi_graph.specs.Archi.{Architecture, reached_within}
+use Rattle.archi_graph.specs.Archi.{Architecture, is_depth, reached_within}
 use Rattle.archi_defs.specs.declared.text.DurationLine.{DurationLine}
+use Rattle.archi_defs.specs.declared.text.ArchiText.{ArchiText}
 use Rattle.archi_defs.specs.declared.fault.ArchiError.{ArchiError}
 use Rattle.archi_defs.specs.declared.fault.ArchiError.TheVariants.{Refused, Limit}
 use Rattle.archi_defs.specs.declared.fault.ArchiCause.{ArchiCause}
@@ -22,12 +23,18 @@ Bytes = List ℕ
 
 -- what a text gives
 pub record Described : Type 0 where
+  pub version : ℕ
   pub archi : Architecture
   pub durations : List DurationLine
 
--- What was read so far: the version line, the operators' names, the media with their lines, how many connections, and the durations.
+-- what a text that was read describes
+abbrev pub described_by : ArchiText → Described
+described_by t = record { version = t.version; archi = t.archi; durations = t.lines }
+
+-- What was read so far: the version, the depth, the operators' names, the media with their lines, how many connections, and the durations.
 pub record Reading : Type 0 where
-  pub versioned : Bool
+  pub version : Option ℕ
+  pub depth : Option ℕ
   pub operators : List Bytes
   pub media : List Medium
   pub lines : List ℕ
@@ -35,7 +42,7 @@ pub record Reading : Type 0 where
   pub durations : List DurationLine
 
 abbrev pub start : Reading
-start = record { versioned = false; operators = []; media = []; lines = []; connections = 0; durations = [] }
+start = record { version = None; depth = None; operators = []; media = []; lines = []; connections = 0; durations = [] }
 
 abbrev pub word : List Bytes → ℕ → Bytes
 word ws k = slice_index_or ws k []
@@ -79,11 +86,29 @@ medium_names r = map (λ m. m.name) r.media
 abbrev pub is_taken : Reading → Bytes → Bool
 is_taken r w = list_any (bytes_eq w) (r.operators ++ medium_names r)
 
--- architecture 1
+abbrev pub version_of : Bytes → Option ℕ
+version_of w =
+    if bytes_eq w (codes "1") then Some 1 else
+    if bytes_eq w (codes "2") then Some 2 else
+    None
+
+-- architecture 1 and architecture 2
 abbrev pub version_line : Reading → ℕ → List Bytes → Result Reading ArchiError
 version_line r n ws =
-    if not (length ws == 2) || not (bytes_eq (word ws 0) (codes "architecture")) || not (bytes_eq (word ws 1) (codes "1")) then refused n BadLine else
-    Ok (record r { versioned = true })
+    if not (length ws == 2) || not (bytes_eq (word ws 0) (codes "architecture")) then refused n BadLine else
+    with_some (version_of (word ws 1)) (refused n BadLine) (λ version. Ok (record r { version = Some version }))
+
+-- a number of places
+abbrev pub depth_of : Result ℤ NumFault → Option ℕ
+depth_of (Ok (pos n)) = if is_depth n then Some n else None
+depth_of (Ok (negsuc n)) = None
+depth_of (Err e) = None
+
+-- depth D, once, and not in version 1
+abbrev pub depth_line : Reading → ℕ → ℕ → List Bytes → Result Reading ArchiError
+depth_line r n version ws =
+    if not (length ws == 2) || (version == 1) || is_some r.depth then refused n BadLine else
+    with_some (depth_of (integer_of (word ws 1))) (refused n (BadNumber (word ws 1))) (λ depth. Ok (record r { depth = Some depth }))
 
 -- operator NAME
 abbrev pub operator_line : Reading → ℕ → List Bytes → Result Reading ArchiError
@@ -143,20 +168,21 @@ duration_line r n ws =
 abbrev pub begins : List Bytes → Bytes → Bool
 begins ws key = bytes_eq (word ws 0) key
 
-abbrev pub described_line : Reading → ℕ → List Bytes → Result Reading ArchiError
-described_line r n ws =
+-- a line of a text of this version
+abbrev pub described_line : Reading → ℕ → ℕ → List Bytes → Result Reading ArchiError
+described_line r n version ws =
     if begins ws (codes "operator") then operator_line r n ws else
     if begins ws (codes "medium") then medium_line r n ws else
     if begins ws (codes "connect") then connect_line r n ws else
     if begins ws (codes "duration") then duration_line r n ws else
+    if begins ws (codes "depth") then depth_line r n version ws else
     refused n BadLine
 
 abbrev pub line_by : Reading → ℕ → Bytes → Option ℕ → Result Reading ArchiError
 line_by r n line (Some place) = refused n (NotText place)
 line_by r n line None =
     if length (words_of (code_of line)) == 0 then Ok r else
-    if r.versioned then described_line r n (words_of (code_of line)) else
-    version_line r n (words_of (code_of line))
+    with_some r.version (version_line r n (words_of (code_of line))) (λ version. described_line r n version (words_of (code_of line)))
 
 -- the next line; one without words says nothing
 abbrev pub next_line : Reading → ℕ → Bytes → Result Reading ArchiError
@@ -186,16 +212,32 @@ apart r = position (λ o. not (reached_within r.media (length r.operators) o)) (
 abbrev pub operator_name : Reading → ℕ → Bytes
 operator_name r o = slice_index_or r.operators o []
 
-abbrev pub all_joined : Reading → Option ℕ → Result Described ArchiError
-all_joined r None = Ok (record { archi = record { operators = r.operators; media = r.media }; durations = r.durations })
-all_joined r (Some o) = refused 0 (Disconnected (operator_name r 0) (operator_name r o))
+-- one place, unless the text says otherwise
+abbrev pub depth_or_one : Option ℕ → ℕ
+depth_or_one None = 1
+depth_or_one (Some depth) = depth
 
--- the whole, whose lines are numbered below n: there is an operator, the media are right, and all operators are joined
-abbrev pub whole : Reading → ℕ → Result Described ArchiError
-whole r n =
-    if not r.versioned then refused n BadLine else
+-- what a text of this version gives that is not refused
+abbrev pub described : Reading → ℕ → Described
+described r version = record {
+  version = version;
+  archi = record { operators = r.operators; media = r.media; depth = depth_or_one r.depth };
+  durations = r.durations;
+}
+
+abbrev pub all_joined : Reading → ℕ → Option ℕ → Result Described ArchiError
+all_joined r version None = Ok (described r version)
+all_joined r version (Some o) = refused 0 (Disconnected (operator_name r 0) (operator_name r o))
+
+-- there is an operator, the media are right, and all operators are joined
+abbrev pub whole_of : Reading → ℕ → Result Described ArchiError
+whole_of r version =
     if length r.operators == 0 then refused 0 NoOperator else
-    media_are_right r.media r.lines (all_joined r (apart r))
+    media_are_right r.media r.lines (all_joined r version (apart r))
+
+-- the whole, whose lines are numbered below n, of which one gave the version
+abbrev pub whole : Reading → ℕ → Result Described ArchiError
+whole r n = with_some r.version (refused n BadLine) (whole_of r)
 
 abbrev pub rest_of : Reading → ℕ → List Bytes → Result Described ArchiError
 rest_of r n [] = whole r n

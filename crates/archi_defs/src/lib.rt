@@ -1,5 +1,6 @@
-//! The architecture of a text with its durations, and why a text is refused. What the bytes of a text say
-//! stands in `specs/`.
+//! The architecture of a text with its version and its durations, and why a text is refused. What the bytes of
+//! a text say stands in `specs/`. `archi_reader` reads and prints such texts, `durations` and the commands take
+//! what was read.
 #![tactic(auto)]
 
 mod fault;

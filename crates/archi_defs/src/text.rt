@@ -11,9 +11,11 @@ pub struct DurationLine {
     pub ticks: u32,
 }
 
-/// The architecture, and the durations as given.
+/// The version of the text, the architecture, and the durations as given.
 #[derive(Drop)]
 pub struct ArchiText {
+    /// 1, or 2 where the text may give the depth of the buffers.
+    pub version: u32,
     pub archi: Archi,
     pub lines: Items<DurationLine>,
 }

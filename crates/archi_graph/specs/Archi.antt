@@ -4,10 +4,15 @@ use Rattle.std.specs.List.{list_all, list_any, count_by, sum_by, range_with_len}
 use Rattle.std.specs.Str.{bytes_eq}
 use Rattle.archi_graph.specs.declared.medium.Medium.{Medium}
 
--- the operators' names, and the media
+-- the operators' names, the media, and how many places a buffer between sequences has
 pub record Architecture : Type 0 where
   pub operators : List (List ℕ)
   pub media : List Medium
+  pub depth : ℕ
+
+-- a buffer has 1 to 4 places
+abbrev pub is_depth : ℕ → Bool
+is_depth depth = nat_le 1 depth && nat_le depth 4
 
 -- each is at least this, and above those before it
 abbrev pub ascends_from : ℕ → List ℕ → Bool

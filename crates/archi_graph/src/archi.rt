@@ -5,36 +5,56 @@ use std::alloc::Global;
 use std::marker::Model;
 use syn_base::{Name, OutOfMemory};
 
-/// Operators and media that are valid, as `is_archi` tells. Operators and media are numbered from 0
-/// in order. Contracts see the operators' names and the media.
+/// Operators and media that are valid, as `is_archi` tells, and the depth of the buffers: how many
+/// places a buffer between two sequences has, 1 to 4. Operators and media are numbered from 0 in
+/// order. Contracts see the operators' names, the media and the depth.
 #[derive(Drop)]
 pub struct Archi {
     operators: Vec<Name>,
     media: Vec<Medium>,
+    depth: u32,
 }
 
 impl Model for Archi {
     ghost use Rattle.std.specs.Prelude.{IsTrue};
-    ghost use Rattle.archi_graph.specs.Archi.{Architecture, is_archi};
+    ghost use Rattle.archi_graph.specs.Archi.{Architecture, is_archi, is_depth};
 
     ghost Value = { Architecture };
 
-    ghost view = { λ s. record { operators = s.operators.items; media = s.media.items } };
+    ghost view = { λ s. record { operators = s.operators.items; media = s.media.items; depth = s.depth } };
 
-    ghost invariant = { λ s. IsTrue (is_archi s.operators.items s.media.items) };
+    ghost invariant = { λ s. record {
+      valid : IsTrue (is_archi s.operators.items s.media.items);
+      depth : IsTrue (is_depth s.depth);
+    } };
 }
 
 impl Archi {
     ghost use Rattle.std.specs.Prelude.{◌≡◌, IsTrue, IfOk};
-    ghost use Rattle.archi_graph.specs.Archi.{is_archi};
+    ghost use Rattle.archi_graph.specs.Archi.{is_archi, is_depth};
     ghost use Rattle.archi_graph.specs.Sequences.{sequences};
 
-    /// The architecture of these operators and media. It takes no memory.
+    /// The architecture of these operators and media, whose buffers have one place. It takes no
+    /// memory.
     pub fn new(operators: Vec<Name>, media: Vec<Medium>) -> Archi
         requires { IsTrue (is_archi operators.items media.items) }
-        ensures { result ≡ record { operators = operators.items; media = media.items } }
+        ensures { result ≡ record { operators = operators.items; media = media.items; depth = 1 } }
     {
-        Archi { operators, media }
+        Archi::with_depth(operators, media, 1)
+    }
+
+    /// The architecture of these operators and media, whose buffers have 1 to 4 places. It takes no
+    /// memory.
+    pub fn with_depth(operators: Vec<Name>, media: Vec<Medium>, depth: u32) -> Archi
+        requires valid { IsTrue (is_archi operators.items media.items) }
+        requires depth { IsTrue (is_depth depth) }
+        ensures { result ≡ record { operators = operators.items; media = media.items; depth = depth } }
+    {
+        Archi {
+            operators,
+            media,
+            depth,
+        }
     }
 
     /// The operators' names.
@@ -51,6 +71,14 @@ impl Archi {
         ensures valid { IsTrue (is_archi self.now.operators self.now.media) }
     {
         self.media.as_slice()
+    }
+
+    /// How many places a buffer between two sequences has, 1 to 4. It takes no memory.
+    pub fn depth(&self) -> u32
+        ensures same { result ≡ self.now.depth }
+        ensures valid { IsTrue (is_depth self.now.depth) }
+    {
+        self.depth
     }
 
     /// The sequences, by their number: operator by operator its computation sequence, then its

@@ -42,6 +42,7 @@ fn two_operators(rt: HostRuntime) -> Result<(), Fail> {
     assert_eq!(rt; sequences.as_slice(), expected.as_slice());
     assert_eq!(rt; archi.operators().len(), 2);
     assert_eq!(rt; archi.media().len(), 1);
+    assert_eq!(rt; archi.depth(), 1);
     Ok(())
 }
 
@@ -72,9 +73,12 @@ fn multipoint(rt: HostRuntime) -> Result<(), Fail> {
     let alloc = rt.alloc();
     let operators = names(alloc, &[b"A", b"B", b"C", b"D"])?;
     let media = vec![in alloc; medium(alloc, b"bus", true, &[0, 1, 2, 3])?]?;
-    let sequences = archi(&rt, operators, media).sequences(alloc)?;
+    assert!(rt; is_archi(&operators, &media));
+    let archi = Archi::with_depth(operators, media, 4);
+    let sequences = archi.sequences(alloc)?;
     assert_eq!(rt; sequences.len(), 8);
     assert_eq!(rt; sequences[7], seq(3, Some(0)));
+    assert_eq!(rt; archi.depth(), 4);
     Ok(())
 }
 

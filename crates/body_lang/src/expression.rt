@@ -1,5 +1,9 @@
 //! Ports and expressions.
-use syn_base::{Name, Op};
+ghost use Rattle.std.specs.Prelude.{◌≡◌, IfOk};
+ghost use Rattle.body_lang.specs.Expr.{view};
+
+use std::alloc::Global;
+use syn_base::{Name, Op, OutOfMemory};
 
 /// A port: its name, and its length of 1 to 64 elements.
 #[derive(Drop)]
@@ -24,4 +28,29 @@ pub enum Expr {
     Apply(Op, Box<Expr>, Box<Expr>),
     /// The second where the first is not 0, else the third.
     Select(Box<Expr>, Box<Expr>, Box<Expr>),
+}
+
+impl Expr {
+    /// The same expression once more, in memory of its own. It recurses as deep as the expression.
+    pub fn copy(&self, alloc: Global) -> Result<Expr, OutOfMemory>
+        ensures { IfOk result (λ e. view e ≡ view self.now) }
+    {
+        Ok(match self {
+            Expr::Lit(value) => Expr::Lit(*value),
+            Expr::Index => Expr::Index,
+            Expr::Elem(port, at) => Expr::Elem(*port, Box::new(alloc, at.copy(alloc)?)?),
+            Expr::SumOf(port) => Expr::SumOf(*port),
+            Expr::Neg(inner) => Expr::Neg(Box::new(alloc, inner.copy(alloc)?)?),
+            Expr::Apply(op, left, right) => Expr::Apply(
+                *op,
+                Box::new(alloc, left.copy(alloc)?)?,
+                Box::new(alloc, right.copy(alloc)?)?,
+            ),
+            Expr::Select(condition, first, second) => Expr::Select(
+                Box::new(alloc, condition.copy(alloc)?)?,
+                Box::new(alloc, first.copy(alloc)?)?,
+                Box::new(alloc, second.copy(alloc)?)?,
+            ),
+        })
+    }
 }

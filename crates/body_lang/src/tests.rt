@@ -1,5 +1,5 @@
 //! The value of an expression at the ends of the type, and vectors at ports.
-use crate::{Expr, Ins, has_ports_below, value};
+use crate::{Body, Expr, Ins, has_ports_below, value};
 use std::alloc::Global;
 use std::test::Fail;
 use syn_base::Op;
@@ -32,5 +32,23 @@ fn divisions_answer_at_the_ends(rt: HostRuntime) -> Result<(), Fail> {
         assert_eq!(rt; value(&e, &ins, 0), wanted);
     }
     assert!(rt; !has_ports_below(&Expr::SumOf(1), ins.count()));
+    Ok(())
+}
+
+/// A body stays where another use of it is dropped.
+#[test]
+fn a_body_is_shared(rt: HostRuntime) -> Result<(), Fail> {
+    let alloc = rt.alloc();
+    let one_more = apply(alloc, Op::Add, Expr::SumOf(0), Expr::Lit(1))?;
+    let first = Body::new(alloc, vec![in alloc; one_more.copy(alloc)?]?)?;
+    let second = first.share()?;
+    drop(first);
+    let mut ins = Ins::new(alloc, &[1])?;
+    ins.set(0, 0, 4);
+    for e in second.outputs() {
+        assert!(rt; has_ports_below(e, ins.count()));
+        assert_eq!(rt; value(e, &ins, 0), 5);
+    }
+    assert_eq!(rt; second.outputs().len(), 1);
     Ok(())
 }

@@ -11,7 +11,6 @@ use Rattle.syn_base.specs.Arithmetic.{applied, wrapped}
 use Rattle.body_lang.specs.declared.expression.Expr as declared
 use Rattle.body_lang.specs.Expr.{Expr, view, literal, index, element, sum_over, negation, apply, select, PortsBelow, value_of, vector_of, function_outputs, total, element_at}
 use Rattle.level_meaning.specs.Level.{Vector, Values, vector_at, selected, merged}
-use Rattle.flat_graph.specs.Graph.{bodies_view}
 use Rattle.flat_graph.specs.Valid.{ports_below, is_body, is_only, is_merge}
 use Rattle.flat_graph.proofs.Bodies.{ports_are_below}
 use Rattle.flat_graph.proofs.KindLens.{length-vector_at, only_is, selected_le, merge_lens}
@@ -52,9 +51,9 @@ more_ports n m l (apply op a b) h = (more_ports n m l a h.0, more_ports n m l b 
 more_ports n m l (select c a b) h = (more_ports n m l c h.0, (more_ports n m l a h.1.0, more_ports n m l b h.1.1))
 
 -- the body of a number
-pub body_at : (bodies : List (List declared.Expr)) (b : ℕ) (body : List declared.Expr) → b < length bodies → body ≡ slice_index_or bodies b body → slice_get (bodies_view bodies) b ≡ Some (map view body)
+pub body_at : (bodies : List (List Expr)) (b : ℕ) (body : List Expr) → b < length bodies → body ≡ slice_index_or bodies b body → slice_get bodies b ≡ Some body
 body_at [] b body l e = absurd (omega arith)
-body_at (x ∷ bodies) zero body l e = ap (λ y. Some (map view y)) (sym e)
+body_at (x ∷ bodies) zero body l e = ap Some (sym e)
 body_at (x ∷ bodies) (suc b) body l e = body_at bodies b body (omega arith) e
 
 body_of : (bodies : List (List Expr)) (b : ℕ) (body : List Expr) → slice_get bodies b ≡ Some body → slice_index_or bodies b [] ≡ body
@@ -62,7 +61,7 @@ body_of [] b body e = absurd (cc)
 body_of (x ∷ bodies) zero body e = cc
 body_of (x ∷ bodies) (suc b) body e = body_of bodies b body e
 
-pub body_there : (bodies : List (List declared.Expr)) (b ins outs : ℕ) → is_body ins outs (slice_get (bodies_view bodies) b) ≡ true → b < length bodies
+pub body_there : (bodies : List (List Expr)) (b ins outs : ℕ) → is_body ins outs (slice_get bodies b) ≡ true → b < length bodies
 body_there [] b ins outs h = absurd (false≢true h)
 body_there (x ∷ bodies) zero ins outs h = omega arith
 body_there (x ∷ bodies) (suc b) ins outs h = omega (arith, body_there bodies b ins outs h)
@@ -72,27 +71,28 @@ length-first zero vs l = refl
 length-first (suc n) [] l = absurd (omega arith)
 length-first (suc n) (v ∷ vs) l = ap suc (length-first n vs (omega arith))
 
--- A function, whose body is this one.
-module _ (bodies : List (List declared.Expr)) (b : ℕ) (body : List declared.Expr) (vs : Values) (n outs : ℕ) (few : n ≤ length vs)
-    (is : body ≡ slice_index_or bodies b body) (h : is_body (length (take n (map length vs))) outs (slice_get (bodies_view bodies) b) ≡ true) where
-  fits_body : is_body n outs (Some (map view body)) ≡ true
+-- A function, whose body is this one, with these expressions.
+module _ (bodies : List (List Expr)) (b : ℕ) (body : List Expr) (vs : Values) (n outs : ℕ) (few : n ≤ length vs)
+    (is : body ≡ slice_index_or bodies b body) (h : is_body (length (take n (map length vs))) outs (slice_get bodies b) ≡ true) where
+  fits_body : is_body n outs (Some body) ≡ true
   fits_body =
-      subst (λ (m : ℕ). is_body m outs (Some (map view body)) ≡ true) (length-first n vs few)
+      subst (λ (m : ℕ). is_body m outs (Some body) ≡ true) (length-first n vs few)
       (subst (λ (o : Option (List Expr)). is_body (length (take n (map length vs))) outs o ≡ true) (body_at bodies b body (body_there bodies b (length (take n (map length vs))) outs h) is) h)
 
-  ports_fit : list_all (ports_below n) (map view body) ≡ true
-  ports_fit = (and_parts (length (map view body) == outs) (list_all (ports_below n) (map view body)) fits_body).1
+  ports_fit : list_all (ports_below n) body ≡ true
+  ports_fit = (and_parts (length body == outs) (list_all (ports_below n) body) fits_body).1
 
-  pub ports_all : All (λ e. PortsBelow (length vs) (view e)) body
-  ports_all k d l =
-      let there : k < length (map view body) = omega (arith, length-map body view) in
-      let here : ports_below n (slice_index_or (map view body) k (view d)) ≡ true = AllPass-from_list_all (ports_below n) (map view body) ports_fit k (view d) there in
-      more_ports n (length vs) few (view (slice_index_or body k d)) (ports_are_below n (view (slice_index_or body k d)) (subst (λ e. ports_below n e ≡ true) (get_or-map view body k d (view d) l) here))
+  pub ports_all : (es : List declared.Expr) → map view es ≡ body → All (λ e. PortsBelow (length vs) (view e)) es
+  ports_all es are k d l =
+      let fit : list_all (ports_below n) (map view es) ≡ true = subst (λ xs. list_all (ports_below n) xs ≡ true) (sym are) ports_fit in
+      let there : k < length (map view es) = omega (arith, length-map es view) in
+      let here : ports_below n (slice_index_or (map view es) k (view d)) ≡ true = AllPass-from_list_all (ports_below n) (map view es) fit k (view d) there in
+      more_ports n (length vs) few (view (slice_index_or es k d)) (ports_are_below n (view (slice_index_or es k d)) (subst (λ e. ports_below n e ≡ true) (get_or-map view es k d (view d) l) here))
 
-  pub function_is : (lens : List ℕ) → function_outputs lens (map view body) vs ≡ function_outputs lens (slice_index_or (bodies_view bodies) b []) (take n vs)
+  pub function_is : (lens : List ℕ) → function_outputs lens body vs ≡ function_outputs lens (slice_index_or bodies b []) (take n vs)
   function_is lens =
-      function_same lens (map view body) vs n ports_fit
-      ∙ ap (λ es. function_outputs lens es (take n vs)) (sym (body_of (bodies_view bodies) b (map view body) (body_at bodies b body (body_there bodies b (length (take n (map length vs))) outs h) is)))
+      function_same lens body vs n ports_fit
+      ∙ ap (λ es. function_outputs lens es (take n vs)) (sym (body_of bodies b body (body_at bodies b body (body_there bodies b (length (take n (map length vs))) outs h) is)))
 
 -- the first of the inputs
 first_of : (n m : ℕ) (ns : List ℕ) → take n ns ≡ m ∷ [] → slice_index_or ns 0 0 ≡ m

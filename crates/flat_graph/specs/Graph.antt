@@ -1,8 +1,7 @@
 -- A flat graph as plain data.
 use Rattle.std.specs.Prelude.{ℕ, List, map, Option, None, Some, slice_get, slice_index_or, refl}
 use Rattle.std.specs.Coded.{Coded, code_by, coded×, coded_list}
-use Rattle.body_lang.specs.declared.expression.Expr as declared
-use Rattle.body_lang.specs.Expr.{Expr, view}
+use Rattle.body_lang.specs.Expr.{Expr}
 use Rattle.flat_graph.specs.declared.vertex.Source.{Source}
 use Rattle.flat_graph.specs.declared.vertex.Vertex.{Vertex}
 
@@ -10,10 +9,6 @@ use Rattle.flat_graph.specs.declared.vertex.Vertex.{Vertex}
 pub record Graph : Type 0 where
   pub vertices : List Vertex
   pub bodies : List (List Expr)
-
--- the bodies, whatever memory holds them
-abbrev pub bodies_view : List (List declared.Expr) → List (List Expr)
-bodies_view = map (map view)
 
 abbrev pub with_vertex : {A : Type 0} → Option Vertex → A → (Vertex → A) → A
 with_vertex None a f = a

@@ -2,17 +2,16 @@
 ghost use Rattle.std.specs.Prelude.{◌≡◌, length, map, slice_get, sum, Some};
 ghost use Rattle.std.specs.List.{list_all};
 ghost use Rattle.body_lang.specs.Expr.{view};
-ghost use Rattle.flat_graph.specs.Graph.{bodies_view, lens_of};
+ghost use Rattle.flat_graph.specs.Graph.{lens_of};
 ghost use Rattle.flat_graph.specs.Valid.{fits, is_body, is_merge, is_only, ports_below};
 
 use crate::lengths::{adds_up, is_only, len_of, sources_add_up};
 use crate::vertex::{Kind, Source, Vertex};
-use body_lang::{Expr, has_ports_below};
-use syn_base::Items;
+use body_lang::{Body, Expr, has_ports_below};
 
 /// Whether an operation's inputs and outputs have the number and lengths of its kind.
-pub fn fits(vertices: &[Vertex], bodies: &[Items<Expr>], vertex: &Vertex) -> bool
-    ensures { result ≡ fits (bodies_view bodies.now) vertex.now.kind (lens_of vertices.now vertex.now.ins) vertex.now.outs }
+pub fn fits(vertices: &[Vertex], bodies: &[Body], vertex: &Vertex) -> bool
+    ensures { result ≡ fits bodies.now vertex.now.kind (lens_of vertices.now vertex.now.ins) vertex.now.outs }
 {
     let ins = vertex.ins.as_slice();
     let outs = vertex.outs.as_slice();
@@ -29,11 +28,11 @@ pub fn fits(vertices: &[Vertex], bodies: &[Items<Expr>], vertex: &Vertex) -> boo
     }
 }
 
-fn is_function(bodies: &[Items<Expr>], body: u32, ins: usize, outs: usize) -> bool
-    ensures { result ≡ is_body ins outs (slice_get (bodies_view bodies.now) body) }
+fn is_function(bodies: &[Body], body: u32, ins: usize, outs: usize) -> bool
+    ensures { result ≡ is_body ins outs (slice_get bodies.now body) }
 {
     match bodies.get(body as usize) {
-        Some(body) => is_body(body.as_slice(), ins, outs),
+        Some(body) => is_body(body.outputs(), ins, outs),
         None => false,
     }
 }

@@ -1,15 +1,13 @@
 //! One operation.
 ghost use Rattle.std.specs.Prelude.{◌≡◌, ◌+◌, ◌<◌, ◌≤◌, ◌==◌, All, IsTrue, true, length, map, take, drop};
 ghost use Rattle.level_meaning.specs.Level.{element_at, selected, vector_at};
-ghost use Rattle.flat_graph.specs.Graph.{bodies_view};
 ghost use Rattle.flat_graph.specs.Valid.{fits};
 ghost use Rattle.flat_graph.specs.Fire.{cell_len, fired, fired_at, guards_hold, kept, kept_at, kind_cell_len, kind_outputs, kind_seen_len, out_lens, read_lens, seen_len, stored};
 
 use crate::flat::Flat;
 use crate::put::{put_joined, put_only, put_parts, put_values, put_zeros};
 use crate::vertex::{Guard, Kind, Vertex};
-use body_lang::{Expr, Ins};
-use syn_base::Items;
+use body_lang::{Body, Ins};
 
 /// One operation in one reaction: its outputs, which are zeros where a guard does not hold, and the
 /// new cell of a set half that is active. `ins` has the inputs' vectors in port order and then one
@@ -31,19 +29,19 @@ pub fn fire(flat: &Flat, v: u32, ins: &Ins, cell: &mut [i64], row: &[i64], outs:
 
 fn fire_vertex(
     vertex: &Vertex,
-    bodies: &[Items<Expr>],
+    bodies: &[Body],
     ins: &Ins,
     cell: &mut [i64],
     row: &[i64],
     outs: &mut Ins,
 )
-    requires fits { IsTrue (fits (bodies_view bodies.now) vertex.now.kind (take (length vertex.now.ins) (map length ins.now)) vertex.now.outs) }
+    requires fits { IsTrue (fits bodies.now vertex.now.kind (take (length vertex.now.ins) (map length ins.now)) vertex.now.outs) }
     requires short { All (λ n. n ≤ 64) vertex.now.outs }
     requires ins { length vertex.now.ins + length vertex.now.guards ≡ length ins.now }
     requires cell { length cell.old ≡ kind_cell_len vertex.now.kind (take (length vertex.now.ins) (map length ins.now)) }
     requires row { length row.now ≡ kind_seen_len vertex.now.kind vertex.now.outs }
     requires outs { map length outs.old ≡ vertex.now.outs }
-    ensures outs { outs.new ≡ fired (bodies_view bodies.now) vertex.now cell.old row.now (drop (length vertex.now.ins) ins.now) (take (length vertex.now.ins) ins.now) }
+    ensures outs { outs.new ≡ fired bodies.now vertex.now cell.old row.now (drop (length vertex.now.ins) ins.now) (take (length vertex.now.ins) ins.now) }
     ensures cell { cell.new ≡ kept vertex.now cell.old (drop (length vertex.now.ins) ins.now) (take (length vertex.now.ins) ins.now) }
 {
     let count = vertex.ins.as_slice().len();
@@ -58,7 +56,7 @@ fn fire_vertex(
 /// An active operation, whose inputs are the first of these vectors.
 fn fire_active(
     kind: &Kind,
-    bodies: &[Items<Expr>],
+    bodies: &[Body],
     count: usize,
     lens: &[u32],
     ins: &Ins,
@@ -66,19 +64,19 @@ fn fire_active(
     row: &[i64],
     outs: &mut Ins,
 )
-    requires fits { IsTrue (fits (bodies_view bodies.now) kind.now (take count (map length ins.now)) lens.now) }
+    requires fits { IsTrue (fits bodies.now kind.now (take count (map length ins.now)) lens.now) }
     requires short { All (λ n. n ≤ 64) lens.now }
     requires count { count ≤ length ins.now }
     requires cell { length cell.old ≡ kind_cell_len kind.now (take count (map length ins.now)) }
     requires row { length row.now ≡ kind_seen_len kind.now lens.now }
     requires outs { map length outs.old ≡ lens.now }
-    ensures outs { outs.new ≡ kind_outputs (bodies_view bodies.now) kind.now lens.now cell.old row.now (take count ins.now) }
+    ensures outs { outs.new ≡ kind_outputs bodies.now kind.now lens.now cell.old row.now (take count ins.now) }
     ensures cell { cell.new ≡ stored kind.now true cell.old (vector_at (take count ins.now) 0) }
 {
     match kind {
         Kind::Sensor(_) => put_only(row, outs),
         Kind::Actuator(_) => {}
-        Kind::Function(body) => put_values(lens, bodies[*body as usize].as_slice(), ins, outs),
+        Kind::Function(body) => put_values(lens, bodies[*body as usize].outputs(), ins, outs),
         Kind::Constant(values) => put_only(values.as_slice(), outs),
         Kind::Get(_) => put_only(cell, outs),
         Kind::Set => cell.copy_from_slice(ins.vector(0)),

@@ -1,10 +1,9 @@
 //! Operations made by hand: two functions of a sensor, and a switch over a function, a delay and another function.
 ghost use Rattle.std.specs.Prelude.{◌≡◌, ◌∷◌, [], IfOk, pos};
-ghost use Rattle.flat_graph.specs.Graph.{bodies_view};
 ghost use Rattle.flat_graph.specs.declared.vertex.Kind.TheVariants.{Constant};
 
 use crate::{Flat, Guard, Kind, Source, Vertex, fire, is_flat};
-use body_lang::{Expr, Ins};
+use body_lang::{Body, Expr, Ins};
 use std::alloc::Global;
 use std::process::Abort;
 use std::test::Fail;
@@ -66,19 +65,19 @@ fn element(alloc: Global, port: u32) -> Result<Expr, Fail> {
     Ok(Expr::Elem(port, Box::new(alloc, Expr::Lit(0))?))
 }
 
-fn body(alloc: Global, e: Expr) -> Result<Items<Expr>, Fail> {
-    Ok(Items::new(vec![in alloc; e]?))
+fn body(alloc: Global, e: Expr) -> Result<Body, Fail> {
+    Ok(Body::new(alloc, vec![in alloc; e]?)?)
 }
 
 /// The first element of the first input, and 1 more.
-fn one_more(alloc: Global) -> Result<Items<Expr>, Fail> {
+fn one_more(alloc: Global) -> Result<Body, Fail> {
     let x = Box::new(alloc, element(alloc, 0)?)?;
     let one = Box::new(alloc, Expr::Lit(1))?;
     body(alloc, Expr::Apply(Op::Add, x, one))
 }
 
-fn flat(rt: &impl Abort, vertices: Vec<Vertex>, bodies: Vec<Items<Expr>>) -> Flat
-    ensures { result ≡ record { vertices = vertices.items; bodies = bodies_view bodies.items } }
+fn flat(rt: &impl Abort, vertices: Vec<Vertex>, bodies: Vec<Body>) -> Flat
+    ensures { result ≡ record { vertices = vertices.items; bodies = bodies.items } }
 {
     assert!(rt; is_flat(&vertices, &bodies));
     Flat::new(vertices, bodies)
@@ -157,7 +156,7 @@ fn function(
 }
 
 /// The bodies of `Same`, `Add` and `Neg`.
-fn switch_bodies(alloc: Global) -> Result<Vec<Items<Expr>>, Fail> {
+fn switch_bodies(alloc: Global) -> Result<Vec<Body>, Fail> {
     let mut bodies = Vec::new(alloc);
     bodies.push(body(alloc, element(alloc, 0)?)?)?;
     bodies.push(sum(alloc)?)?;
@@ -165,13 +164,13 @@ fn switch_bodies(alloc: Global) -> Result<Vec<Items<Expr>>, Fail> {
     Ok(bodies)
 }
 
-fn sum(alloc: Global) -> Result<Items<Expr>, Fail> {
+fn sum(alloc: Global) -> Result<Body, Fail> {
     let x = Box::new(alloc, element(alloc, 0)?)?;
     let y = Box::new(alloc, element(alloc, 1)?)?;
     body(alloc, Expr::Apply(Op::Add, x, y))
 }
 
-fn negation(alloc: Global) -> Result<Items<Expr>, Fail> {
+fn negation(alloc: Global) -> Result<Body, Fail> {
     let x = Box::new(alloc, element(alloc, 0)?)?;
     body(alloc, Expr::Neg(x))
 }

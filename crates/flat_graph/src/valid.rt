@@ -2,7 +2,6 @@
 ghost use Rattle.std.specs.Prelude.{◌≡◌};
 ghost use Rattle.std.specs.List.{list_all, list_any};
 ghost use Rattle.std.specs.Str.{bytes_eq};
-ghost use Rattle.flat_graph.specs.Graph.{bodies_view};
 ghost use Rattle.flat_graph.specs.Valid.{all_from, are_named_apart, is_flat, is_guard, is_path, is_path_byte, is_vertex};
 
 use crate::forms::fits;
@@ -11,8 +10,7 @@ use crate::numbering::{are_actuators_numbered, are_sensors_numbered};
 use crate::order::is_acyclic;
 use crate::twins::has_twin;
 use crate::vertex::{Guard, Vertex};
-use body_lang::Expr;
-use syn_base::Items;
+use body_lang::Body;
 
 /// The most operations.
 const MOST: usize = 2048;
@@ -23,8 +21,8 @@ const MOST: usize = 2048;
 /// and lengths of the kind; bodies of one expression for each output over ports that are there; the
 /// halves of each delay each other's twins, the set half later; sensors and actuators numbered from 0
 /// in order; and no operation that depends on itself. It takes no memory.
-pub fn is_flat(vertices: &[Vertex], bodies: &[Items<Expr>]) -> bool
-    ensures { result ≡ is_flat (record { vertices = vertices.now; bodies = bodies_view bodies.now }) }
+pub fn is_flat(vertices: &[Vertex], bodies: &[Body]) -> bool
+    ensures { result ≡ is_flat (record { vertices = vertices.now; bodies = bodies.now }) }
 {
     if vertices.len() > MOST {
         return false;
@@ -53,8 +51,8 @@ fn is_named(vertices: &[Vertex], name: &[u8]) -> bool
     vertices.iter().any(|vertex| name == vertex.name.as_slice())
 }
 
-fn are_all_valid(vertices: &[Vertex], bodies: &[Items<Expr>]) -> bool
-    ensures { result ≡ all_from (is_vertex (record { vertices = vertices.now; bodies = bodies_view bodies.now })) 0 vertices.now }
+fn are_all_valid(vertices: &[Vertex], bodies: &[Body]) -> bool
+    ensures { result ≡ all_from (is_vertex (record { vertices = vertices.now; bodies = bodies.now })) 0 vertices.now }
 {
     for (v, vertex) in vertices.iter().enumerate() {
         if !is_valid(vertices, bodies, v, vertex) {
@@ -64,8 +62,8 @@ fn are_all_valid(vertices: &[Vertex], bodies: &[Items<Expr>]) -> bool
     true
 }
 
-fn is_valid(vertices: &[Vertex], bodies: &[Items<Expr>], v: usize, vertex: &Vertex) -> bool
-    ensures { result ≡ is_vertex (record { vertices = vertices.now; bodies = bodies_view bodies.now }) v vertex.now }
+fn is_valid(vertices: &[Vertex], bodies: &[Body], v: usize, vertex: &Vertex) -> bool
+    ensures { result ≡ is_vertex (record { vertices = vertices.now; bodies = bodies.now }) v vertex.now }
 {
     is_path(vertex.name.as_slice())
         && are_lens(vertex.outs.as_slice())

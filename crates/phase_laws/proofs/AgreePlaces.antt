@@ -9,13 +9,13 @@ use Rattle.std.proofs.lemmas.Option.{get_or_from_slice_get, slice_get-map}
 use Rattle.interleavings.specs.System.{put}
 use Rattle.interleavings.specs.Owners.{sum_below}
 use Rattle.level_meaning.specs.Level.{zeros}
-use Rattle.semaphore_core.specs.declared.program.Program.{Program}
-use Rattle.semaphore_core.specs.declared.program.Buffer as declared
-use Rattle.semaphore_core.specs.declared.steps.Place.{Place}
-use Rattle.semaphore_core.specs.declared.steps.Place.TheVariants.{Buffer, Wire}
-use Rattle.semaphore_core.specs.Blocks.{blocks, block_at}
-use Rattle.semaphore_core.specs.Instructions.{len_of, depth_of, len_in, depth_in}
-use Rattle.semaphore_core.specs.MicroSteps.{element_of, wire_of, wire_len, buffer_elements}
+use Rattle.executive_program.specs.declared.program.Program.{Program}
+use Rattle.executive_program.specs.declared.program.Buffer as declared
+use Rattle.executive_program.specs.declared.steps.Place.{Place}
+use Rattle.executive_program.specs.declared.steps.Place.TheVariants.{Buffer, Wire}
+use Rattle.executive_program.specs.Blocks.{blocks, block_at}
+use Rattle.executive_program.specs.Instructions.{len_of, depth_of, len_in, depth_in}
+use Rattle.executive_program.specs.MicroSteps.{element_of, wire_of, wire_len, buffer_elements}
 use Rattle.semaphore_core.specs.Job.{buffer_at, depth_at, period_at}
 use Rattle.semaphore_core.specs.Core.{home_of, slot_of, buffer_zeros, wire_zeros}
 use Rattle.phase_laws.specs.Agrees.{LiesAt}

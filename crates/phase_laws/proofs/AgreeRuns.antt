@@ -10,17 +10,17 @@ use Rattle.interleavings.specs.System.{Micro, State, put, place_number, take as 
 use Rattle.level_meaning.specs.Level.{Vector, element_at, vector_at}
 use Rattle.flat_graph.specs.declared.vertex.Vertex.{Vertex}
 use Rattle.flat_graph.specs.declared.vertex.Kind.TheVariants.{Actuator}
-use Rattle.semaphore_core.specs.declared.steps.Place.{Place}
-use Rattle.semaphore_core.specs.declared.steps.Place.TheVariants.{Buffer, Wire}
-use Rattle.semaphore_core.specs.declared.steps.OnLoad.{OnLoad}
-use Rattle.semaphore_core.specs.declared.steps.OnStore.{OnStore}
-use Rattle.semaphore_core.specs.declared.steps.MicroStep.{MicroStep}
-use Rattle.semaphore_core.specs.declared.steps.MicroStep.TheVariants.{Take, See, Lower, Signal, Await, Advance, Load, Store}
-use Rattle.semaphore_core.specs.Instructions.{len_of, depth_of}
-use Rattle.semaphore_core.specs.MicroSteps.{code, transfers, wire_len}
+use Rattle.executive_program.specs.declared.steps.Place.{Place}
+use Rattle.executive_program.specs.declared.steps.Place.TheVariants.{Buffer, Wire}
+use Rattle.executive_program.specs.declared.steps.OnLoad.{OnLoad}
+use Rattle.executive_program.specs.declared.steps.OnStore.{OnStore}
+use Rattle.executive_program.specs.declared.steps.MicroStep.{MicroStep}
+use Rattle.executive_program.specs.declared.steps.MicroStep.TheVariants.{Take, See, Lower, Signal, Await, Advance, Load, Store}
+use Rattle.executive_program.specs.Instructions.{len_of, depth_of}
+use Rattle.executive_program.specs.MicroSteps.{code, transfers, wire_len}
 use Rattle.semaphore_core.specs.Operation.{delay_of}
 use Rattle.semaphore_core.specs.Registers.{Own, absorb_by, emit_by, after_by, absorb_at, emit_at, after_at}
-use Rattle.semaphore_core.specs.Steps.{steps}
+use Rattle.executive_program.specs.Steps.{steps}
 use Rattle.semaphore_core.specs.Job.{JobData, reactions, zero_rows, system}
 use Rattle.semaphore_core.specs.Core.{Core, home_of, slot_of, turn_reached, opening, count, counted, reaction, full, next, own, enabled_by, is_enabled, element_of, with_own, done_by, step, run_from, run}
 use Rattle.semaphore_core.proofs.Singles.{is_single}

@@ -11,15 +11,15 @@ use Rattle.interleavings.specs.Owners.{Owner}
 use Rattle.interleavings.specs.Media.{Half}
 use Rattle.interleavings.specs.Pairs.{IsSemaphore}
 use Rattle.interleavings.specs.Order.{IsOrdered}
-use Rattle.semaphore_core.specs.declared.program.Instr.{Instr}
-use Rattle.semaphore_core.specs.declared.program.Instr.TheVariants.{Suc0, Suc1, Pre1, Sync}
-use Rattle.semaphore_core.specs.declared.program.Program.{Program}
-use Rattle.semaphore_core.specs.Blocks.{block_at}
-use Rattle.semaphore_core.specs.Instructions.{is_communication, turn, communications, len_of, pair_depth}
-use Rattle.semaphore_core.specs.MicroSteps.{code, begins, size, transfers, block}
-use Rattle.semaphore_core.specs.Places.{Places}
-use Rattle.semaphore_core.specs.WellFormed.{Stands, Before, place_in, place}
-use Rattle.semaphore_core.specs.WellFormed as WF
+use Rattle.executive_program.specs.declared.program.Instr.{Instr}
+use Rattle.executive_program.specs.declared.program.Instr.TheVariants.{Suc0, Suc1, Pre1, Sync}
+use Rattle.executive_program.specs.declared.program.Program.{Program}
+use Rattle.executive_program.specs.Blocks.{block_at}
+use Rattle.executive_program.specs.Instructions.{is_communication, turn, communications, len_of, pair_depth}
+use Rattle.executive_program.specs.MicroSteps.{code, begins, size, transfers, block}
+use Rattle.executive_program.specs.Places.{Places}
+use Rattle.executive_program.specs.WellFormed.{Stands, Before, place_in, place}
+use Rattle.executive_program.specs.WellFormed as WF
 use Rattle.phase_laws.specs.Discipline.{signaller, half, spot, stride, steps, front}
 use Rattle.phase_laws.proofs.Blocks.{sum_same_block, sum_inside, block_at_is, inside, member_below, blocks_length}
 use Rattle.phase_laws.proofs.Places.{stands_sequence, at_turn, Origin, origin, earlier, front_sequence, slice_get_some}

@@ -10,9 +10,10 @@ use Rattle.algo_defs.specs.declared.definition.Output.{Output}
 use Rattle.algo_defs.specs.declared.definition.Reference.{Reference}
 use Rattle.algo_defs.specs.declared.definition.Body.{Body}
 use Rattle.algo_defs.specs.declared.definition.Body.TheVariants.{Sensor, Actuator, Constant, Delay}
-use Rattle.algo_defs.specs.Words.{Bytes, word, is_among, number_of, count_of}
-use Rattle.algo_defs.specs.Blocks.{Block, new_block}
-use Rattle.algo_defs.specs.Text.{Stage, between, in_function, in_graph, in_switch, in_repeat, Reading, begins, numbers_of, defined, end_line, values_line, opened, opening_line, repeat_line, between_line}
+use Rattle.algo_defs.specs.Words.{Bytes, is_among}
+use Rattle.algo_text.specs.Words.{word, number_of, count_of}
+use Rattle.algo_text.specs.Blocks.{Block, new_block}
+use Rattle.algo_text.specs.Text.{Stage, between, in_function, in_graph, in_switch, in_repeat, Reading, begins, numbers_of, defined, end_line, values_line, opened, opening_line, repeat_line, between_line}
 use Rattle.algo_rules.specs.WellRead.{IsName, IsWellRead}
 use Rattle.reading_laws.proofs.Checks.{passed, held, found, read, either, never, neither, same_ok, at_most, count_positive}
 use Rattle.reading_laws.proofs.Names.{new_beside, distinct_behind}

@@ -6,8 +6,9 @@ use Rattle.syn_base.specs.Name.{is_name}
 use Rattle.body_lang.specs.declared.expression.Port.{Port}
 use Rattle.algo_tree.specs.Typed.{IsLength}
 use Rattle.algo_defs.specs.declared.fault.AlgoError.{AlgoError}
-use Rattle.algo_defs.specs.Words.{Bytes, word, number_of, count_by, count_of}
-use Rattle.algo_defs.specs.Blocks.{Block, with_some, and_then, all_names, port_line}
+use Rattle.algo_defs.specs.Words.{Bytes}
+use Rattle.algo_text.specs.Words.{word, number_of, count_by, count_of}
+use Rattle.algo_text.specs.Blocks.{Block, with_some, and_then, all_names, port_line}
 use Rattle.algo_rules.specs.WellRead.{IsName}
 
 pub passed : {A : Type 0} (t : Bool) (e : AlgoError) (x : Result A AlgoError) (r : A) → cond t (Err e) x ≡ Ok r → (t ≡ false) × (x ≡ Ok r)

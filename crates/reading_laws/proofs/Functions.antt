@@ -9,8 +9,8 @@ use Rattle.algo_defs.specs.declared.definition.Def.{Def}
 use Rattle.algo_defs.specs.declared.definition.Output.{Output}
 use Rattle.algo_defs.specs.declared.definition.Body.TheVariants.{Function}
 use Rattle.algo_defs.specs.Words.{Bytes}
-use Rattle.algo_defs.specs.Blocks.{Block, in_line, result_line}
-use Rattle.algo_defs.specs.Text.{in_function, Reading, begins, function_line}
+use Rattle.algo_text.specs.Blocks.{Block, in_line, result_line}
+use Rattle.algo_text.specs.Text.{in_function, Reading, begins, function_line}
 use Rattle.algo_rules.specs.WellRead.{port_names, ArePorts, ports_in, IsFunction}
 use Rattle.reading_laws.proofs.Checks.{either, never, above_none}
 use Rattle.reading_laws.proofs.Names.{new_both}

@@ -7,9 +7,10 @@ use Rattle.syn_base.specs.Name.{is_name}
 use Rattle.algo_defs.specs.declared.definition.Def.{Def}
 use Rattle.algo_defs.specs.declared.definition.Reference.{Reference}
 use Rattle.algo_defs.specs.declared.definition.Body.TheVariants.{Graph}
-use Rattle.algo_defs.specs.Words.{Bytes, word, is_among, end_of}
-use Rattle.algo_defs.specs.Blocks.{Block, in_line, out_line, reference_line, edge_line}
-use Rattle.algo_defs.specs.Text.{in_graph, Reading, begins, graph_line}
+use Rattle.algo_defs.specs.Words.{Bytes, is_among}
+use Rattle.algo_text.specs.Words.{word, end_of}
+use Rattle.algo_text.specs.Blocks.{Block, in_line, out_line, reference_line, edge_line}
+use Rattle.algo_text.specs.Text.{in_graph, Reading, begins, graph_line}
 use Rattle.algo_rules.specs.WellRead.{IsName, port_names, IsGraph}
 use Rattle.reading_laws.proofs.Checks.{passed, held, found, either, never, same_ok, at_most}
 use Rattle.reading_laws.proofs.Names.{new_beside, new_both}

@@ -9,8 +9,8 @@ use Rattle.algo_defs.specs.declared.definition.Body.{Body}
 use Rattle.algo_defs.specs.declared.definition.Def.{Def}
 use Rattle.algo_defs.specs.declared.fault.AlgoError.{AlgoError}
 use Rattle.algo_defs.specs.Words.{Bytes}
-use Rattle.algo_defs.specs.Blocks.{Block}
-use Rattle.algo_defs.specs.Text.{Stage, before_version, between, in_function, in_graph, in_switch, in_repeat, Reading, in_block, block_end}
+use Rattle.algo_text.specs.Blocks.{Block}
+use Rattle.algo_text.specs.Text.{Stage, before_version, between, in_function, in_graph, in_switch, in_repeat, Reading, in_block, block_end}
 use Rattle.algo_rules.specs.WellRead.{IsName, port_names, ArePorts, ports_in, IsGraph, IsRepetition, IsWellRead}
 use Rattle.reading_laws.proofs.Checks.{passed, never, neither, not_false, same_ok}
 

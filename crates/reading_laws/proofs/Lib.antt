@@ -8,3 +8,4 @@ pub mod Graphs
 pub mod Switches
 pub mod Repetitions
 pub mod Lines
+pub mod Resolutions

@@ -6,9 +6,10 @@ use Rattle.std.proofs.lemmas.List.Elements.{All-cons, All-head, All-nil, All-tai
 use Rattle.text_lines.specs.Text.{lines_of, words_of, code_of, foreign_place}
 use Rattle.algo_tree.specs.Well.{AreDistinctNames}
 use Rattle.algo_defs.specs.declared.definition.Def.{Def}
-use Rattle.algo_defs.specs.Words.{Bytes, word}
-use Rattle.algo_defs.specs.Blocks.{Block}
-use Rattle.algo_defs.specs.Text.{Stage, before_version, between, in_function, in_graph, in_switch, in_repeat, Reading, start, begins, version_line, by_stage, line_by, next_line, at_end, rest_of, definitions_of}
+use Rattle.algo_defs.specs.Words.{Bytes}
+use Rattle.algo_text.specs.Words.{word}
+use Rattle.algo_text.specs.Blocks.{Block}
+use Rattle.algo_text.specs.Text.{Stage, before_version, between, in_function, in_graph, in_switch, in_repeat, Reading, start, begins, version_line, by_stage, line_by, next_line, at_end, rest_of, definitions_of}
 use Rattle.algo_rules.specs.WellRead.{IsName, IsWellRead, AreWellRead}
 use Rattle.reading_laws.proofs.Checks.{passed, read, never, same_ok}
 use Rattle.reading_laws.proofs.Kept.{names_of, Kept, IsKept, reading}

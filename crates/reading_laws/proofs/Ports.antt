@@ -13,8 +13,9 @@ use Rattle.algo_tree.specs.Typed.{IsLength}
 use Rattle.algo_tree.specs.Well.{IsNewName, AreDistinctNames}
 use Rattle.algo_defs.specs.declared.definition.Output.{Output}
 use Rattle.algo_defs.specs.Words.{Bytes}
-use Rattle.algo_defs.specs.Formulas.{known_by, read_by, formula_of}
-use Rattle.algo_defs.specs.Blocks.{Block, all_outer, and_then, is_taken, in_line, with_in, out_line, with_out, is_equals, result_words, result_at, result_line, with_result}
+use Rattle.algo_text.specs.Formulas.{known_by, read_by, formula_of}
+use Rattle.algo_defs.specs.Outer.{all_outer}
+use Rattle.algo_text.specs.Blocks.{Block, and_then, is_taken, in_line, with_in, out_line, with_out, is_equals, result_words, result_at, result_line, with_result}
 use Rattle.algo_rules.specs.WellRead.{IsName, port_names, ArePorts, ports_in}
 use Rattle.reading_laws.proofs.Checks.{passed, held, read, never, neither, not_false, same_ok, at_most, port_read}
 use Rattle.reading_laws.proofs.Names.{new_beside, new_first, new_second, new_both, distinct_with}

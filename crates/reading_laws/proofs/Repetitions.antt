@@ -10,9 +10,11 @@ use Rattle.algo_defs.specs.declared.definition.Frontier.{Frontier}
 use Rattle.algo_defs.specs.declared.definition.Frontier.TheVariants.{Fork, Diffuse, Iterate, Join}
 use Rattle.algo_defs.specs.declared.definition.FrontierLine.{FrontierLine}
 use Rattle.algo_defs.specs.declared.fault.AlgoError.{AlgoError}
-use Rattle.algo_defs.specs.Words.{Bytes, word, is_among}
-use Rattle.algo_defs.specs.Blocks.{Block, outer_names, all_outer, all_names, with_frontier, fork_line, diffuse_line, iterate_line, join_line}
-use Rattle.algo_defs.specs.Text.{in_repeat, Reading, begins, frontier_line}
+use Rattle.algo_defs.specs.Words.{Bytes, is_among}
+use Rattle.algo_text.specs.Words.{word}
+use Rattle.algo_defs.specs.Outer.{outer_names, all_outer}
+use Rattle.algo_text.specs.Blocks.{Block, all_names, with_frontier, fork_line, diffuse_line, iterate_line, join_line}
+use Rattle.algo_text.specs.Text.{in_repeat, Reading, begins, frontier_line}
 use Rattle.algo_rules.specs.WellRead.{IsName, IsRepetition}
 use Rattle.reading_laws.proofs.Checks.{passed, either, never, neither, not_false, same_ok, equal, at_most, names_hold}
 use Rattle.reading_laws.proofs.Names.{new_beside, new_both, distinct_behind}

@@ -7,9 +7,10 @@ use Rattle.algo_tree.specs.Well.{AreDistinctNames}
 use Rattle.algo_defs.specs.declared.definition.Def.{Def}
 use Rattle.algo_defs.specs.declared.definition.Case.{Case}
 use Rattle.algo_defs.specs.declared.definition.Body.TheVariants.{Switch}
-use Rattle.algo_defs.specs.Words.{Bytes, word, number_of}
-use Rattle.algo_defs.specs.Blocks.{Block, in_line, out_line, on_line, case_line, otherwise_line}
-use Rattle.algo_defs.specs.Text.{in_switch, Reading, begins, switch_line}
+use Rattle.algo_defs.specs.Words.{Bytes}
+use Rattle.algo_text.specs.Words.{word, number_of}
+use Rattle.algo_text.specs.Blocks.{Block, in_line, out_line, on_line, case_line, otherwise_line}
+use Rattle.algo_text.specs.Text.{in_switch, Reading, begins, switch_line}
 use Rattle.algo_rules.specs.WellRead.{port_names, IsSwitch}
 use Rattle.reading_laws.proofs.Checks.{passed, held, found, either, never, neither, not_false, same_ok, at_most}
 use Rattle.reading_laws.proofs.Names.{new_both}

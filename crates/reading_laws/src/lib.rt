@@ -3,7 +3,7 @@
 //! The law is the contract of a function that does nothing.
 #![tactic(auto)]
 
-ghost use Rattle.algo_rules.specs.WellRead.{AcceptedAreWellRead};
+ghost use Rattle.reading_laws.specs.Accepted.{AcceptedAreWellRead};
 
 /// The definitions of every text that is accepted are well read: names are names; definitions, the ports of one
 /// definition, the references of a graph and the outer names of a repetition are each named once; vectors have 1 to

@@ -11,7 +11,7 @@ use Rattle.archi_graph.specs.declared.medium.Medium.{Medium}
 use Rattle.archi_graph.specs.declared.medium.Seq.{Seq}
 use Rattle.archi_graph.specs.Archi.{Architecture, is_archi, are_bounded, are_distinct, are_joined, is_medium, names_of, stands_at, stands_in_all}
 use Rattle.archi_graph.specs.Sequences.{communicator, communicators, sequences, sequences_of}
-use Rattle.semaphore_core.specs.declared.program.SeqCode.{SeqCode}
+use Rattle.executive_program.specs.declared.program.SeqCode.{SeqCode}
 use Rattle.semaphore_core.specs.Job.{JobData}
 use Rattle.semaphore_core.specs.IsJob.{IsJobOn}
 

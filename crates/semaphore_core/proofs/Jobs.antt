@@ -17,12 +17,12 @@ use Rattle.flat_graph.specs.Valid.{is_flat}
 use Rattle.flat_graph.specs.Fire.{cell_len, seen_len, kind_cell_len, kind_seen_len}
 use Rattle.flat_graph.specs.Meaning.{initial_cells}
 use Rattle.flat_graph.proofs.KindLens.{length-vector_at}
-use Rattle.semaphore_core.specs.declared.program.SeqCode.{SeqCode}
-use Rattle.semaphore_core.specs.declared.program.Instr.{Instr}
-use Rattle.semaphore_core.specs.declared.steps.MicroStep.{MicroStep}
-use Rattle.semaphore_core.specs.Instructions.{depth_of, depth_in, number_or, prologue_of}
-use Rattle.semaphore_core.specs.Places.{opening_of}
-use Rattle.semaphore_core.specs.Steps.{IsSingle, steps, steps_by, steps_in_list}
+use Rattle.executive_program.specs.declared.program.SeqCode.{SeqCode}
+use Rattle.executive_program.specs.declared.program.Instr.{Instr}
+use Rattle.executive_program.specs.declared.steps.MicroStep.{MicroStep}
+use Rattle.executive_program.specs.Instructions.{depth_of, depth_in, number_or, prologue_of}
+use Rattle.executive_program.specs.Places.{opening_of}
+use Rattle.executive_program.specs.Steps.{IsSingle, steps, steps_by, steps_in_list}
 use Rattle.semaphore_core.specs.Operation.{delay_of}
 use Rattle.semaphore_core.specs.AtOpening.{AreDesks}
 use Rattle.semaphore_core.specs.Job.{JobData, reactions, zero_rows, output_elements, total_steps, actuator_lens}

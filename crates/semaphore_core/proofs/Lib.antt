@@ -1,4 +1,3 @@
-pub mod Expanding
 pub mod Viewing
 pub mod Opened
 pub mod Openings

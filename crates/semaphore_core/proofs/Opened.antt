@@ -9,12 +9,12 @@ use Rattle.std.proofs.lemmas.Nat.{mod_below, div_below}
 use Rattle.std.proofs.Math.Nat.{mul-add}
 use Rattle.consistent_cuts.specs.Sites.{Code, step_at, place_at}
 use Rattle.interleavings.specs.Owners.{sum_below}
-use Rattle.semaphore_core.specs.declared.program.SeqCode.{SeqCode}
-use Rattle.semaphore_core.specs.declared.steps.MicroStep.{MicroStep}
-use Rattle.semaphore_core.specs.declared.steps.MicroStep.TheVariants.{Take, See, Lower, Signal, Await, Advance, Load, Store}
-use Rattle.semaphore_core.specs.declared.expand.SeqSteps.{SeqSteps}
-use Rattle.semaphore_core.specs.Expanded.{expanded, code_of, next_in}
-use Rattle.semaphore_core.specs.Steps.{steps, steps_by}
+use Rattle.executive_program.specs.declared.program.SeqCode.{SeqCode}
+use Rattle.executive_program.specs.declared.steps.MicroStep.{MicroStep}
+use Rattle.executive_program.specs.declared.steps.MicroStep.TheVariants.{Take, See, Lower, Signal, Await, Advance, Load, Store}
+use Rattle.executive_program.specs.declared.expand.SeqSteps.{SeqSteps}
+use Rattle.executive_program.specs.Expanded.{expanded, code_of, next_in}
+use Rattle.executive_program.specs.Steps.{steps, steps_by}
 use Rattle.semaphore_core.specs.Job.{JobData, reactions, total_steps}
 use Rattle.semaphore_core.specs.Core.{Core, count, counted, full, next, reaction, done_in, own, element_of, IsReached}
 use Rattle.semaphore_core.specs.Held.{Held, IsOpened, AreReady, Fits, FitsWord, NeedsReaction, made, answer, kept_of}

@@ -4,10 +4,10 @@ use Rattle.std.proofs.lemmas.Option.{slice_get-get_or}
 use Rattle.std.proofs.lemmas.List.{map_more}
 use native.Mathlib.Nat.{one-mul}
 use Rattle.level_meaning.specs.Level.{Vector, zeros}
-use Rattle.semaphore_core.specs.declared.program.Buffer.{Buffer}
-use Rattle.semaphore_core.specs.declared.program.Program.{Program}
-use Rattle.semaphore_core.specs.Instructions.{depth_in}
-use Rattle.semaphore_core.specs.Steps.{IsSingle}
+use Rattle.executive_program.specs.declared.program.Buffer.{Buffer}
+use Rattle.executive_program.specs.declared.program.Program.{Program}
+use Rattle.executive_program.specs.Instructions.{depth_in}
+use Rattle.executive_program.specs.Steps.{IsSingle}
 
 abbrev pub zeros_of : Buffer → Vector
 zeros_of x = zeros (x.depth * x.len)

@@ -6,11 +6,11 @@ use Rattle.std.proofs.lemmas.Bool.{and_parts, eqb-true}
 use Rattle.std.proofs.lemmas.Option.{slice_get_cases}
 use Rattle.archi_graph.specs.declared.medium.Seq.{Seq}
 use Rattle.flat_graph.specs.Graph.{Graph}
-use Rattle.semaphore_core.specs.declared.program.Program.{Program}
-use Rattle.semaphore_core.specs.declared.program.Buffer.{Buffer}
-use Rattle.semaphore_core.specs.Instructions.{depth_in, depth_of}
-use Rattle.semaphore_core.specs.Steps.{IsSingle}
-use Rattle.semaphore_core.specs.WellFormed.{IsWellFormed}
+use Rattle.executive_program.specs.declared.program.Program.{Program}
+use Rattle.executive_program.specs.declared.program.Buffer.{Buffer}
+use Rattle.executive_program.specs.Instructions.{depth_in, depth_of}
+use Rattle.executive_program.specs.Steps.{IsSingle}
+use Rattle.executive_program.specs.WellFormed.{IsWellFormed}
 
 -- Each buffer in the list has one place, and so has one that is not there.
 one_place : (xs : List Buffer) (b : ℕ) → list_all (λ (x : Buffer). x.depth == 1) xs ≡ true → depth_in (slice_get xs b) ≡ 1

@@ -2,19 +2,17 @@
 ghost use Rattle.std.specs.Prelude.{◌≡◌, ℕ, ◌+◌, ◌*◌, ◌^◌, ◌<◌, ◌≤◌, length, slice_index_or, slice_set, slice_get, Some, IsTrue, IfOk, cond, pos, map};
 ghost use Rattle.semaphore_core.specs.Core.{count, counted, done_in, next, reaction, step, run_from, enabled_in, is_enabled, load_by, store_by, with_element, home_of, slot_of, opening};
 ghost use Rattle.semaphore_core.specs.Held.{AreReady, IsOpened, FitsWord, NeedsReaction, answer, kept_of, top, top_load, top_store};
-ghost use Rattle.semaphore_core.specs.Steps.{IsSingle};
+ghost use Rattle.executive_program.specs.Steps.{IsSingle};
 
 use crate::answer::StepAnswer;
-use crate::expand::{SeqSteps, micro_steps_of};
 use crate::job::Job;
 use crate::laying::small;
 use crate::opening::{words_of, zero_elements};
 use crate::operations::Operations;
-use crate::program::Program;
 use crate::registers::Registers;
 use crate::rooms::all_registers;
-use crate::steps::{MicroStep, OnLoad, OnStore, Place};
 use crate::words;
+use executive_program::{MicroStep, OnLoad, OnStore, Place, Program, SeqSteps, micro_steps_of};
 use std::alloc::Global;
 use std::marker::Model;
 use syn_base::{ActRows, Items, OutOfMemory};

@@ -1,7 +1,7 @@
 -- An element of a flat row that is cut into vectors.
 use Rattle.std.proofs.Common.{◌≡◌, ℕ, zero, suc, ◌+◌, ◌<◌, ◌≤◌, ℤ, List, [], ◌∷◌, ◌++◌, length, map, get_or, set, take, drop, refl, sym, ap, ap₂, ◌∙◌, arith, add_assoc, zero-add, suc-add}
 use Rattle.std.specs.List.{sum}
-use Rattle.std.proofs.lemmas.List.{map-set, drop-drop, length-take-le, length-drop, length-map}
+use Rattle.std.proofs.lemmas.List.{map-set, drop-drop, length-take-le, length-drop, length-map, take_all, take-map, drop-map}
 use Rattle.std.proofs.lemmas.List.Sums.{sum_by-cons}
 use Rattle.syn_base.specs.Rows.{cut, cut_all, with_value, with_element, AreLong, AreCut}
 
@@ -84,3 +84,11 @@ pub all-cut : (lens : List ℕ) (rows : List (List ℤ)) → AreLong (sum lens) 
 all-cut lens rows long k h =
     let there : k < length rows = (let same = length-map rows (cut lens) in omega arith) in
     ap (λ (r : List (List ℤ)). map length r) (reaction-at lens rows k there) ∙ cut-lens lens (get_or rows k []) (long k there)
+
+-- a stretch of the cut reactions is cut from this stretch of the flat rows, all of which were taken
+pub window-is : (lens : List ℕ) (rows : List (List ℤ)) (from n count k : ℕ) → n ≡ count → length (take n (drop from rows)) ≤ k
+    → cut_all lens (take k (take n (drop from rows))) ≡ take count (drop from (cut_all lens rows))
+window-is lens rows from n count k same all =
+    ap (cut_all lens) (take_all k (take n (drop from rows)) all)
+    ∙ sym (take-map (cut lens) n (drop from rows))
+    ∙ ap₂ (λ (m : ℕ) (l : List (List (List ℤ))). take m l) same (sym (drop-map (cut lens) from rows))

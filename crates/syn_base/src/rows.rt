@@ -1,5 +1,5 @@
 //! The vectors of each reaction: what the sensors gave, and what the actuators take.
-ghost use Rattle.std.specs.Prelude.{◌≡◌, ◌+◌, ◌<◌, ◌++◌, ◌∷◌, [], length, slice_index, slice_index_or, sum, IfOk, OnOk, OnErr};
+ghost use Rattle.std.specs.Prelude.{◌≡◌, ◌+◌, ◌<◌, ◌≤◌, ◌++◌, ◌∷◌, [], length, take, drop, slice_index, slice_index_or, sum, IfOk, OnOk, OnErr};
 ghost use Rattle.syn_base.specs.Rows.{cut, element, with_element, vector_of, AreCut};
 
 use crate::items::Items;
@@ -71,6 +71,17 @@ impl Rows {
         &self.rows[k].as_slice()[start..start + len]
     }
 
+    fn window(&self, from: usize, count: usize) -> Result<Rows, OutOfMemory>
+        requires { from + count ≤ length self.now.reactions }
+        ensures { IfOk result (λ s. s ≡ record self.now { reactions = take count (drop from self.now.reactions) }) }
+    {
+        let mut window = Rows::new(self.alloc, self.shape.lens())?;
+        for row in &self.rows[from..from + count] {
+            window.push(row.as_slice())?;
+        }
+        Ok(window)
+    }
+
     fn are_cut(&self)
         ensures { AreCut self.now }
     {
@@ -134,6 +145,16 @@ impl SensorRows {
         ensures { result ≡ length self.now.reactions }
     {
         self.rows.count()
+    }
+
+    /// As many reactions as are counted, from this one on, as rows of their own.
+    pub fn window(&self, from: usize, count: usize) -> Result<SensorRows, OutOfMemory>
+        requires { from + count ≤ length self.now.reactions }
+        ensures { IfOk result (λ s. s ≡ record self.now { reactions = take count (drop from self.now.reactions) }) }
+    {
+        Ok(SensorRows {
+            rows: self.rows.window(from, count)?,
+        })
     }
 
     /// That each reaction has a vector of its length for each sensor.

@@ -49,6 +49,8 @@ fn texts_and_rows_are_made(rt: HostRuntime) -> Result<(), Fail> {
     rows.push(&[5])?;
     rows.push(&[-1])?;
     assert_eq!(rt; (rows.count(), rows.get(1, 0, 0)), (2, -1));
+    let last = rows.window(1, 1)?;
+    assert_eq!(rt; (last.count(), last.get(0, 0, 0)), (1, -1));
     let mut taken = ActRows::new(rt.alloc(), &[1, 2])?;
     taken.push(&[0, 0, 0])?;
     taken.set(0, 1, 1, 7);

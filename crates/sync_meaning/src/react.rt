@@ -48,7 +48,7 @@ fn react_alone(vertex: &Vertex, rows: &SensorRows, k: usize, store: &mut Store, 
         Kind::Constant(v) => write_only(outs, v.as_slice()),
         Kind::Delay(_) => react_delay(&mut store.kept, &store.ins, outs),
         Kind::Actuator(_) => {}
-        Kind::Function(es) => write_function(outs, es.as_slice(), &store.ins),
+        Kind::Function(body) => write_function(outs, body.outputs(), &store.ins),
         Kind::Explode => write_parts(outs, store.ins.vector(0)),
         Kind::Implode => write_joined(outs, &store.ins),
         Kind::Merge(values) => {

@@ -4,7 +4,7 @@ use Rattle.outside.specs.Bytes.{Bytes}
 use Rattle.outside.specs.Shelf.{Held}
 use Rattle.outside.specs.Sink.{Sunk}
 use Rattle.outside.specs.declared.file.File.{File}
-use Rattle.algo_defs.specs.Text.{definitions_of}
+use Rattle.algo_text.specs.Text.{definitions_of}
 use Rattle.algo_rules.specs.Resolved.{resolution_of}
 use Rattle.archi_defs.specs.Text.{description_of}
 use Rattle.durations.specs.Table.{durations_of}

@@ -7,7 +7,7 @@ use Rattle.syn_base.specs.Rows.{Reactions}
 use Rattle.algo_defs.specs.declared.definition.Def.{Def}
 use Rattle.algo_defs.specs.declared.fault.AlgoError.{AlgoError}
 use Rattle.algo_defs.specs.declared.fault.AlgoError.TheVariants as error
-use Rattle.algo_defs.specs.Text.{definitions_of}
+use Rattle.algo_text.specs.Text.{definitions_of}
 use Rattle.algo_rules.specs.Resolved.{resolution_of}
 use Rattle.algo_tree.specs.Tree.{Vertex}
 use Rattle.archi_defs.specs.Text.{Described, description_of}

@@ -4,7 +4,7 @@ ghost use Rattle.algo_tree.specs.View.{view};
 
 use crate::is_tree;
 use algo_tree::{Kind, Tree, Vertex};
-use body_lang::Expr;
+use body_lang::{Body, Expr};
 use level_meaning::{Part, Source};
 use std::alloc::Global;
 use std::process::Abort;
@@ -72,7 +72,7 @@ fn delay(alloc: Global, part: Part, len: usize, source: Source) -> Result<Vertex
 
 /// A function that gives 7 whatever it takes.
 fn seven(alloc: Global, part: Part, source: Source) -> Result<Vertex, Fail> {
-    let body = Items::new(vec![in alloc; Expr::Lit(7)]?);
+    let body = Body::new(alloc, vec![in alloc; Expr::Lit(7)]?)?;
     vertex(
         alloc,
         part,

@@ -108,7 +108,7 @@ fn fits(
         Kind::Actuator(_) => Ok(lens.len() == 1 && outs.is_empty()),
         Kind::Constant(values) => Ok(lens.is_empty() && is_only(values.as_slice().len(), outs)),
         Kind::Delay(values) => Ok(lens == outs && is_only(values.as_slice().len(), outs)),
-        Kind::Function(es) => Ok(is_function(lens, outs, es.as_slice())),
+        Kind::Function(body) => Ok(is_function(lens, outs, body.outputs())),
         Kind::Explode => Ok(is_sum(lens, outs)),
         Kind::Implode => Ok(is_sum(outs, lens)),
         Kind::Merge(values) => {

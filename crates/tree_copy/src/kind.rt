@@ -2,7 +2,6 @@
 ghost use Rattle.std.specs.Prelude.{◌≡◌, IfOk};
 ghost use Rattle.algo_tree.specs.View.{kind_view};
 
-use crate::expression::copy_expressions;
 use crate::label::{copy_bytes, copy_numbers, copy_sources};
 use algo_tree::Kind;
 use level_meaning::{Feed, Give};
@@ -18,7 +17,7 @@ pub fn copy_kind(alloc: Global, kind: &Kind) -> Result<Kind, OutOfMemory>
         Kind::Actuator(number) => Kind::Actuator(*number),
         Kind::Constant(values) => Kind::Constant(copy_numbers(alloc, values.as_slice())?),
         Kind::Delay(values) => Kind::Delay(copy_numbers(alloc, values.as_slice())?),
-        Kind::Function(outs) => Kind::Function(copy_expressions(alloc, outs.as_slice())?),
+        Kind::Function(body) => Kind::Function(body.share()?),
         Kind::Explode => Kind::Explode,
         Kind::Implode => Kind::Implode,
         Kind::Merge(values) => Kind::Merge(copy_numbers(alloc, values.as_slice())?),

@@ -1,13 +1,11 @@
--- A worked text without a refusal: its definitions are as an accepted text has them, so that they make a tree.
-use Rattle.std.proofs.Common.{◌≡◌, refl, List, [], ◌∷◌, ◌++◌, Some, arith, codes, None, Ok}
+-- Worked definitions without a refusal, as an accepted text has them: they make a tree.
+use Rattle.std.proofs.Common.{◌≡◌, refl, List, [], ◌∷◌, Some, arith, codes, None}
 use Rattle.algo_tree.specs.Typed.{IsLength}
 use Rattle.algo_tree.specs.Valid.{IsTree}
 use Rattle.algo_defs.specs.declared.definition.Def.{Def}
 use Rattle.algo_defs.specs.declared.definition.Body.TheVariants.{Sensor, Actuator, Graph}
 use Rattle.algo_defs.specs.declared.definition.Reference.{Reference}
 use Rattle.algo_defs.specs.declared.definition.Edge.{Edge}
-use Rattle.algo_defs.specs.Text.{definitions_of}
-use Rattle.algo_defs.specs.Words.{Bytes}
 use Rattle.algo_rules.specs.Resolved.{tree_of, refusal}
 use Rattle.algo_rules.specs.WellRead.{IsName, ArePorts, IsGraph, IsWellRead, AreWellRead}
 use Rattle.tree_laws.proofs.Firsts.{all_of}
@@ -25,13 +23,6 @@ echo =
     record { name = codes "Sense"; line = 2; body = Sensor 1 }
     ∷ record { name = codes "Act"; line = 3; body = Actuator 1 }
     ∷ record { name = codes "main"; line = 4; body = Graph [] [] two (edge ∷ []) } ∷ []
-
-abbrev text : List Bytes → Bytes
-text [] = []
-text (l ∷ ls) = l ++ 10 ∷ text ls
-
-read : definitions_of (text (codes "algorithm 1" ∷ codes "sensor Sense 1" ∷ codes "actuator Act 1" ∷ codes "graph main" ∷ codes "ref s Sense" ∷ codes "ref a Act" ∷ codes "edge s.o a.i" ∷ codes "end" ∷ [])) ≡ Ok echo
-read = refl
 
 accepted : refusal echo ≡ None
 accepted = refl

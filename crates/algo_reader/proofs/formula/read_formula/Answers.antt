@@ -2,8 +2,8 @@ use Rattle.std.proofs.Common.{Ok, ap, sym, ◌∙◌}
 use Rattle.body_lang.specs.Expr.{Expr}
 use Rattle.algo_defs.specs.declared.fault.AlgoCause.TheVariants.{UnknownName}
 use Rattle.algo_defs.specs.Words.{Bytes}
-use Rattle.algo_defs.specs.Blocks.{refused}
-use Rattle.algo_reader.proofs.Grammars.{body_formula, bad_read}
+use Rattle.algo_text.specs.Blocks.{refused}
+use Rattle.algo_text.proofs.Grammars.{body_formula, bad_read}
 use Rattle.algo_reader.proofs.PortTokens.{unknown_read}
 use Rattle.algo_reader.proofs.PortLines.{stops_at}
 use Rattle.algo_reader.proofs.formula.read_formula.Goals as goal

@@ -1,6 +1,6 @@
 use Rattle.std.proofs.Common.{◌≡◌, ◌≤◌, ◌+◌, ◌-◌, length, drop}
 use Rattle.text_lines.specs.Text.{lines_of}
-use Rattle.algo_defs.specs.Text.{rest_of, definitions_of}
+use Rattle.algo_text.specs.Text.{rest_of, definitions_of}
 use Rattle.algo_reader.specs.Views.{reading}
 use Rattle.algo_reader.proofs.reader.read_algo.Given as goal
 

@@ -1,5 +1,5 @@
 use Rattle.std.proofs.Common.{◌≡◌, ◌≤◌, ◌-◌, length, drop}
-use Rattle.algo_defs.specs.Text.{numbers_of}
+use Rattle.algo_text.specs.Text.{numbers_of}
 use Rattle.algo_reader.proofs.Numbers.{with_front}
 use Rattle.algo_reader.proofs.values.read_values.Given as goal
 

@@ -1,9 +1,7 @@
-use Rattle.std.proofs.Common.{◌+◌, List, ◌∷◌, [], map, length, take, ap, sym, subst, arith, ◌∙◌}
-use Rattle.std.specs.Prelude.{All, sum}
-use Rattle.body_lang.specs.declared.expression.Expr as declared
-use Rattle.body_lang.specs.Expr.{view, PortsBelow, function_outputs}
+use Rattle.std.proofs.Common.{◌+◌, ◌∷◌, [], length, take, ap, sym, arith, ◌∙◌}
+use Rattle.std.specs.Prelude.{sum}
+use Rattle.body_lang.specs.Expr.{function_outputs}
 use Rattle.level_meaning.specs.Level.{selected, vector_at}
-use Rattle.flat_graph.specs.Graph.{bodies_view}
 use Rattle.flat_graph.specs.Fire.{kind_outputs}
 use Rattle.flat_graph.proofs.Firing.{ports_all, function_is, explode_len, case_there, merged_is, merged_fits}
 use Rattle.flat_graph.proofs.operation.fire_active.Goals as goal
@@ -11,8 +9,7 @@ use Rattle.flat_graph.proofs.operation.fire_active.Goals as goal
 pub put_values-requires-clause-ports : goal.put_values-requires-clause-ports
 put_values-requires-clause-ports c =
     let h = rw c.in-Function.is at c.requires.fits in
-    let P : List declared.Expr → Type 0 = λ es. All (λ e. PortsBelow (length c.args.ins.now) (view e)) es in
-    subst P (sym c.as_slice.ensures) (ports_all c.args.bodies.now c.in-Function.body c.index-bodies-body.result c.args.ins.now c.args.count (length c.args.lens.now) c.requires.count c.index-bodies-body.is h)
+    ports_all c.args.bodies.now c.in-Function.body c.index-bodies-body.result c.args.ins.now c.args.count (length c.args.lens.now) c.requires.count c.index-bodies-body.is h c.outputs.result.now c.outputs.ensures
 
 pub put_parts-requires-clause-whole : goal.put_parts-requires-clause-whole
 put_parts-requires-clause-whole c =
@@ -44,9 +41,9 @@ pub returns-in-Function-clause-outs : goal.returns-in-Function-clause-outs
 returns-in-Function-clause-outs c =
     let h = rw c.in-Function.is at c.requires.fits in
     c.put_values.ensures
-    ∙ ap (λ es. function_outputs c.args.lens.now (map view es) c.args.ins.now) c.as_slice.ensures
+    ∙ ap (λ es. function_outputs c.args.lens.now es c.args.ins.now) c.outputs.ensures
     ∙ function_is c.args.bodies.now c.in-Function.body c.index-bodies-body.result c.args.ins.now c.args.count (length c.args.lens.now) c.requires.count c.index-bodies-body.is h c.args.lens.now
-    ∙ ap (λ k. kind_outputs (bodies_view c.args.bodies.now) k c.args.lens.now c.args.cell.now c.args.row.now (take c.args.count c.args.ins.now)) (sym c.in-Function.is)
+    ∙ ap (λ k. kind_outputs c.args.bodies.now k c.args.lens.now c.args.cell.now c.args.row.now (take c.args.count c.args.ins.now)) (sym c.in-Function.is)
 
 pub returns-in-Merge-clause-outs : goal.returns-in-Merge-clause-outs
 returns-in-Merge-clause-outs c =
@@ -55,4 +52,4 @@ returns-in-Merge-clause-outs c =
     let read = c.vector-in-Merge-2.ensures ∙ ap (λ k. vector_at c.args.ins.now (1 + k)) case ∙ merged_is c.in-Merge.values c.args.ins.now c.args.count c.args.lens.now c.requires.count h in
     c.put_only-in-Merge.ensures
     ∙ ap (λ v. v ∷ []) read
-    ∙ ap (λ k. kind_outputs (bodies_view c.args.bodies.now) k c.args.lens.now c.args.cell.now c.args.row.now (take c.args.count c.args.ins.now)) (sym c.in-Merge.is)
+    ∙ ap (λ k. kind_outputs c.args.bodies.now k c.args.lens.now c.args.cell.now c.args.row.now (take c.args.count c.args.ins.now)) (sym c.in-Merge.is)

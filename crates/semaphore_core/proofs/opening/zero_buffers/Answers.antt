@@ -1,6 +1,6 @@
 -- One more buffer, which has one place.
 use Rattle.std.proofs.Common.{◌<◌, length, arith, ap}
-use Rattle.semaphore_core.specs.declared.program.Buffer.{Buffer}
+use Rattle.executive_program.specs.declared.program.Buffer.{Buffer}
 use Rattle.std.proofs.Common.{List}
 use Rattle.semaphore_core.proofs.Openings.{buffer_more}
 use Rattle.semaphore_core.proofs.opening.zero_buffers.Goals as goal

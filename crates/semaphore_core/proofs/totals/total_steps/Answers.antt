@@ -1,8 +1,8 @@
 -- Prologues and loops together.
 use Rattle.std.proofs.Common.{ℕ, ◌+◌, ◌*◌, ◌-◌, ◌^◌, min, ap, sym, ◌∙◌}
 use Rattle.std.specs.List.{sum_by}
-use Rattle.semaphore_core.specs.declared.program.SeqCode.{SeqCode}
-use Rattle.semaphore_core.specs.Totals.{micros_in}
+use Rattle.executive_program.specs.declared.program.SeqCode.{SeqCode}
+use Rattle.executive_program.specs.Sizes.{micros_in}
 use Rattle.semaphore_core.proofs.Counting.{total_capped, total_size}
 use Rattle.semaphore_core.proofs.totals.total_steps.Goals as goal
 

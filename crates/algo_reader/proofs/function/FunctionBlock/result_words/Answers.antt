@@ -4,7 +4,7 @@ use Rattle.body_lang.specs.declared.expression.Port.{Port}
 use Rattle.algo_reader.specs.Views.{function_view}
 use Rattle.algo_reader.proofs.PortLines.{fails, goes, taken_stops, result_follows, result_taken, result_free, formula_same, formula_fails}
 use Rattle.std.specs.Prelude.{map}
-use Rattle.algo_defs.specs.Blocks.{and_then, with_result}
+use Rattle.algo_text.specs.Blocks.{and_then, with_result}
 use Rattle.algo_defs.specs.declared.definition.Output.{Output}
 use Rattle.algo_reader.proofs.function.FunctionBlock.result_words.Goals as goal
 

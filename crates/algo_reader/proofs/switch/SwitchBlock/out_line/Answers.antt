@@ -1,7 +1,7 @@
 use Rattle.std.proofs.Common.{◌≡◌, ◌≤◌, List, length, Ok, arith, ap, sym, ◌∙◌}
 use Rattle.std.proofs.lemmas.Result.{err_from_is_err_and}
 use Rattle.body_lang.specs.declared.expression.Port.{Port}
-use Rattle.algo_defs.specs.Blocks.{Block}
+use Rattle.algo_text.specs.Blocks.{Block}
 use Rattle.algo_reader.specs.Views.{switch_view}
 use Rattle.algo_reader.proofs.PortLines.{fails, goes, taken_stops, out_follows, out_taken, out_free}
 use Rattle.algo_reader.proofs.Outputs.{outputs_view}

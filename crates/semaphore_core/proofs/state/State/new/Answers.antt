@@ -1,7 +1,7 @@
 -- The parts are those of the opening, and the state is open.
 use Rattle.std.proofs.Common.{◌≡◌, ℕ, ◌*◌, ◌++◌, ◌∙◌, List, [], length, replicate, ap}
-use Rattle.semaphore_core.specs.declared.program.Program.{Program}
-use Rattle.semaphore_core.specs.declared.program.SeqCode.{SeqCode}
+use Rattle.executive_program.specs.declared.program.Program.{Program}
+use Rattle.executive_program.specs.declared.program.SeqCode.{SeqCode}
 use Rattle.semaphore_core.specs.Core.{opening, buffer_zeros, wire_zeros}
 use Rattle.semaphore_core.specs.AtOpening.{all_registers}
 use Rattle.semaphore_core.proofs.Viewing.{core_of, values_of}

@@ -6,7 +6,7 @@ use Rattle.semaphore_core.specs.RegisterFile.{RegisterFile}
 use Rattle.std.proofs.lemmas.Int.{to_z-of_z}
 use mir.Val.{SFits}
 use Rattle.semaphore_core.specs.Held.{Held, AreReady, kept_of}
-use Rattle.semaphore_core.specs.declared.program.Program.{Program}
+use Rattle.executive_program.specs.declared.program.Program.{Program}
 use Rattle.semaphore_core.specs.Core.{home_of, slot_of}
 use Rattle.semaphore_core.specs.Elements.{with_element_in}
 use Rattle.semaphore_core.proofs.Viewing.{stored}

@@ -1,0 +1,4 @@
+pub mod Texts
+pub mod Grammars
+pub mod PortNames
+pub mod Judged

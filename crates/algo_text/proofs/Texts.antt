@@ -1,0 +1,155 @@
+-- What worked texts say.
+use Rattle.std.proofs.Common.{◌≡◌, refl, List, [], ◌∷◌, ◌++◌, pos, negsuc, Some, Result, Ok, Err, codes}
+use Rattle.syn_base.specs.declared.arithmetic.Op.TheVariants.{Add}
+use Rattle.syn_base.specs.declared.limits.LimitKind.TheVariants.{PortLength, Copies}
+use Rattle.body_lang.specs.Expr.{literal, element, apply}
+use Rattle.body_text.specs.Words.{form_of}
+use Rattle.algo_defs.specs.declared.definition.Def.{Def}
+use Rattle.algo_defs.specs.declared.definition.Body.TheVariants.{Sensor, Actuator, Constant, Delay, Function, Graph, Switch, Repeat}
+use Rattle.algo_defs.specs.declared.definition.Frontier.TheVariants.{Fork, Diffuse, Iterate, Join}
+use Rattle.algo_defs.specs.declared.fault.AlgoError.{AlgoError}
+use Rattle.algo_defs.specs.declared.fault.AlgoError.TheVariants.{Limit}
+use Rattle.algo_defs.specs.declared.fault.AlgoCause.TheVariants.{NotText, BadLine, BadName, BadNumber, BadExpression, DuplicateName, UnknownName}
+use Rattle.algo_defs.specs.Words.{Bytes}
+use Rattle.algo_text.specs.Blocks.{refused}
+use Rattle.algo_text.specs.Text.{definitions_of}
+
+abbrev text : List Bytes → Bytes
+text [] = []
+text (l ∷ ls) = l ++ 10 ∷ text ls
+
+abbrev read : List Bytes → Result (List Def) AlgoError
+read ls = definitions_of (text ls)
+
+-- a sensor into an actuator
+abbrev echo : Bytes → Bytes → List Bytes
+echo second edge = codes "algorithm 1" ∷ second ∷ codes "actuator Act 1" ∷ codes "graph main" ∷ codes "ref s Sense" ∷ codes "ref a Act" ∷ edge ∷ codes "end" ∷ []
+
+plainest : read (echo (codes "sensor Sense 1") (codes "edge s.o a.i")) ≡ Ok (
+    record { name = codes "Sense"; line = 2; body = Sensor 1 }
+    ∷ record { name = codes "Act"; line = 3; body = Actuator 1 }
+    ∷ record {
+      name = codes "main";
+      line = 4;
+      body = Graph [] []
+          (record { name = codes "s"; def = codes "Sense"; line = 5 } ∷ record { name = codes "a"; def = codes "Act"; line = 6 } ∷ [])
+          (record { from = record { owner = Some (codes "s"); port = codes "o" }; to = record { owner = Some (codes "a"); port = codes "i" }; line = 7 } ∷ []);
+    } ∷ [])
+plainest = refl
+
+length_below_one : read (echo (codes "sensor Sense 0") (codes "edge s.o a.i")) ≡ refused 2 (BadNumber (codes "0"))
+length_below_one = refl
+
+minus_zero : read (echo (codes "sensor Sense -0") (codes "edge s.o a.i")) ≡ refused 2 (BadNumber (codes "-0"))
+minus_zero = refl
+
+too_long : read (echo (codes "sensor Sense 65") (codes "edge s.o a.i")) ≡ Err (Limit (record { which = PortLength; count = 65; bound = 64 }))
+too_long = refl
+
+-- a name is told before a number, and the whole end of an edge
+name_first : read (echo (codes "sensor 1x 0") (codes "edge s.o a.i")) ≡ refused 2 (BadName (codes "1x"))
+name_first = refl
+
+bad_end : read (echo (codes "sensor Sense 1") (codes "edge s.o a.b.c")) ≡ refused 7 (BadName (codes "a.b.c"))
+bad_end = refl
+
+twice : read (echo (codes "sensor Act 1") (codes "edge s.o a.i")) ≡ refused 3 (DuplicateName (codes "Act"))
+twice = refl
+
+-- comments and blanks say nothing, but their lines count
+commented : read (codes "# a text" ∷ codes "" ∷ codes " algorithm  1 # now" ∷ codes "sensor S 1" ∷ []) ≡ Ok (record { name = codes "S"; line = 4; body = Sensor 1 } ∷ [])
+commented = refl
+
+-- the end comes too early, at the number of lines plus one
+no_end : read (codes "algorithm 1" ∷ codes "graph main" ∷ []) ≡ refused 3 BadLine
+no_end = refl
+
+no_text : definitions_of [] ≡ refused 1 BadLine
+no_text = refl
+
+not_one : read (codes "algorithm 01" ∷ []) ≡ refused 1 BadLine
+not_one = refl
+
+foreign : read (codes "algorithm 1" ∷ (codes "sensor " ++ 200 ∷ []) ∷ []) ≡ refused 2 (NotText 7)
+foreign = refl
+
+-- a function, and what may be wrong with its expression
+abbrev adding : Bytes → List Bytes
+adding out = codes "algorithm 1" ∷ codes "function F" ∷ codes "in x 1" ∷ out ∷ codes "end" ∷ []
+
+function : read (adding (codes "out y 1 = add(x[0],1)")) ≡ Ok (record {
+  name = codes "F";
+  line = 2;
+  body =
+      Function (record { name = codes "x"; len = 1 } ∷ []) (record { port = record { name = codes "y"; len = 1 }; formula = apply Add (element 0 (literal (pos 0))) (literal (pos 1)) } ∷ []);
+} ∷ [])
+unfolding form_of
+function = refl
+
+too_large : read (adding (codes "out y 1 = 9223372036854775808")) ≡ refused 4 (BadExpression 1)
+too_large = refl
+
+nothing_behind : read (adding (codes "out y 1=")) ≡ refused 4 (BadExpression 0)
+nothing_behind = refl
+
+no_port : read (adding (codes "out y 1 = add(x[0],q[0])")) ≡ refused 4 (UnknownName (codes "q"))
+unfolding form_of
+no_port = refl
+
+same_port : read (adding (codes "out x 1 = 1")) ≡ refused 4 (DuplicateName (codes "x"))
+same_port = refl
+
+no_output : read (codes "algorithm 1" ∷ codes "function F" ∷ codes "end" ∷ []) ≡ refused 3 BadLine
+no_output = refl
+
+values : read (codes "algorithm 1" ∷ codes "delay M = 7 -07" ∷ codes "constant C = 2" ∷ []) ≡ Ok (record { name = codes "M"; line = 2; body = Delay (pos 7 ∷ negsuc 6 ∷ []) } ∷ record { name = codes "C"; line = 3; body = Constant (pos 2 ∷ []) } ∷ [])
+values = refl
+
+no_value : read (codes "algorithm 1" ∷ codes "delay M =" ∷ []) ≡ refused 2 BadLine
+no_value = refl
+
+-- a conditioned definition
+abbrev switch : List Bytes → List Bytes
+switch ls = codes "algorithm 1" ∷ codes "switch Sw" ∷ ls
+
+cases : read (switch (codes "on c" ∷ codes "in x 1" ∷ codes "out y 1" ∷ codes "case 0 Same" ∷ codes "otherwise Neg" ∷ codes "end" ∷ [])) ≡ Ok (record {
+  name = codes "Sw";
+  line = 2;
+  body =
+      Switch (codes "c") (record { name = codes "x"; len = 1 } ∷ []) (record { name = codes "y"; len = 1 } ∷ []) (record { value = pos 0; def = codes "Same"; line = 6 } ∷ []) (codes "Neg") 7;
+} ∷ [])
+cases = refl
+
+no_on : read (switch (codes "in x 1" ∷ [])) ≡ refused 3 BadLine
+no_on = refl
+
+no_otherwise : read (switch (codes "on c" ∷ codes "case 0 Same" ∷ codes "end" ∷ [])) ≡ refused 5 BadLine
+no_otherwise = refl
+
+in_after_out : read (switch (codes "on c" ∷ codes "out y 1" ∷ codes "in x 1" ∷ [])) ≡ refused 5 BadLine
+in_after_out = refl
+
+on_again : read (switch (codes "on c" ∷ codes "in c 1" ∷ [])) ≡ refused 4 (DuplicateName (codes "c"))
+on_again = refl
+
+-- a repetition
+abbrev chain : Bytes → Bytes → List Bytes
+chain first iterate = codes "algorithm 1" ∷ first ∷ codes "fork v v" ∷ codes "diffuse w w" ∷ iterate ∷ codes "join r p" ∷ codes "end" ∷ []
+
+copies : read (chain (codes "repeat Chain 4 Cell") (codes "iterate z acc r t")) ≡ Ok (record {
+  name = codes "Chain";
+  line = 2;
+  body =
+      Repeat 4 (codes "Cell") (record { frontier = Fork (codes "v") (codes "v"); line = 3 } ∷ record { frontier = Diffuse (codes "w") (codes "w"); line = 4 }
+      ∷ record { frontier = Iterate (codes "z") (codes "acc") (codes "r") (codes "t"); line = 5 } ∷ record { frontier = Join (codes "r") (codes "p"); line = 6 } ∷ []);
+} ∷ [])
+copies = refl
+
+many_copies : read (chain (codes "repeat Chain 65 Cell") (codes "iterate z acc r t")) ≡ Err (Limit (record { which = Copies; count = 65; bound = 64 }))
+many_copies = refl
+
+outer_twice : read (chain (codes "repeat Chain 4 Cell") (codes "iterate z acc r z")) ≡ refused 5 (DuplicateName (codes "z"))
+outer_twice = refl
+
+outer_again : read (chain (codes "repeat Chain 4 Cell") (codes "iterate v acc r t")) ≡ refused 5 (DuplicateName (codes "v"))
+outer_again = refl

@@ -1,0 +1,31 @@
+-- What the text of an expression gives a line: the expression over these ports, or the line's refusal.
+use Rattle.std.specs.Prelude.{ℕ, suc, nat_le, List, [], length, Option, Some, None, Result, Ok, Err, slice_get, if◌then◌else◌, ◌-◌}
+use Rattle.syn_base.specs.declared.limits.LimitKind.TheVariants.{Tokens}
+use Rattle.syn_base.specs.Limits.{bound_of}
+use Rattle.body_lang.specs.Expr.{Expr}
+use Rattle.body_text.specs.Tokens.{Token, tokens, name}
+use Rattle.body_text.specs.Ports.{unknown, resolved}
+use Rattle.body_text.specs.Parse.{Parse, good, stops, parse, alone}
+use Rattle.body_text.specs.Reads.{place_of}
+use Rattle.algo_defs.specs.declared.fault.AlgoError.{AlgoError}
+use Rattle.algo_defs.specs.declared.fault.AlgoError.TheVariants.{Refused, Limit}
+use Rattle.algo_defs.specs.declared.fault.AlgoCause.TheVariants.{BadExpression, UnknownName}
+use Rattle.algo_defs.specs.Words.{Bytes}
+
+abbrev pub name_in : Option Token → Bytes
+name_in (Some (name p)) = p
+name_in _ = []
+
+module _ (line : ℕ) (ports : List Bytes) (text : Bytes) where
+  abbrev pub known_by : Option ℕ → Expr → Result Expr AlgoError
+  known_by None e = Ok e
+  known_by (Some i) e = Err (Refused (record { line = line; cause = UnknownName (name_in (slice_get (tokens text) i)) }))
+
+  -- where parsing stops the grammar fails
+  abbrev pub read_by : Parse → Result Expr AlgoError
+  read_by (good w rest) = known_by (unknown ports w) (resolved ports w)
+  read_by (stops rest) = Err (Refused (record { line = line; cause = BadExpression (place_of text (length (tokens text) - length rest)) }))
+
+  abbrev pub formula_of : Result Expr AlgoError
+  formula_of = if nat_le (length (tokens text)) 512 then read_by (alone (parse (suc (length (tokens text))) (tokens text)))
+      else Err (Limit (record { which = Tokens; count = length (tokens text); bound = bound_of Tokens }))

@@ -1,0 +1,4 @@
+pub mod Expanding
+pub mod MicroCounts
+pub mod Marks
+pub mod DepthTable
