@@ -1,0 +1,11 @@
+pub mod Archis
+pub mod Behind
+pub mod Checked
+pub mod Copies
+pub mod Decided
+pub mod Feeding
+pub mod Lengths
+pub mod Lined
+pub mod Lining
+pub mod Starts
+pub mod Worked

@@ -1,0 +1,4 @@
+pub mod Acts
+pub mod Lines
+pub mod Valid
+pub mod Windows
