@@ -9,13 +9,13 @@ use Rattle.flat_graph.specs.declared.vertex.Kind.TheVariants.{Get}
 use Rattle.flat_graph.specs.declared.vertex.Source.{Source}
 use Rattle.flat_graph.specs.declared.vertex.Vertex.{Vertex}
 use Rattle.flat_graph.specs.Graph.{Graph}
-use Rattle.semaphore_core.specs.declared.program.Buffer.{Buffer}
-use Rattle.semaphore_core.specs.declared.program.Instr.{Instr}
-use Rattle.semaphore_core.specs.declared.program.Instr.TheVariants.{Suc0, Suc1, Pre0, Pre1, Call, Send, Recv, Sync}
-use Rattle.semaphore_core.specs.declared.program.Program.{Program}
-use Rattle.semaphore_core.specs.Instructions.{len_of, medium, turn}
-use Rattle.semaphore_core.specs.Places.{caller_of, calls, carried, ins_in, outs_in, places}
-use Rattle.semaphore_core.specs.WellFormed.{CarryInOrder, CarryOutputs, HasLength, IsCalled, len_is}
+use Rattle.executive_program.specs.declared.program.Buffer.{Buffer}
+use Rattle.executive_program.specs.declared.program.Instr.{Instr}
+use Rattle.executive_program.specs.declared.program.Instr.TheVariants.{Suc0, Suc1, Pre0, Pre1, Call, Send, Recv, Sync}
+use Rattle.executive_program.specs.declared.program.Program.{Program}
+use Rattle.executive_program.specs.Instructions.{len_of, medium, turn}
+use Rattle.executive_program.specs.Places.{caller_of, calls, carried, ins_in, outs_in, places}
+use Rattle.executive_program.specs.WellFormed.{CarryInOrder, CarryOutputs, HasLength, IsCalled, len_is}
 use Rattle.order_check.specs.Checked.{all_at, every, implies}
 use Rattle.order_check.specs.Calls.{are_called, called_at, carries, carry_guards, carry_inputs, gives, gives_at, has_len, has_output, is_before_twin, is_called, takes}
 use Rattle.order_check.specs.Carries.{same_source}

@@ -6,14 +6,14 @@ use Rattle.std.specs.Cmp.Derive.{both_true}
 use Rattle.std.proofs.lemmas.Bool.{and_parts, eqb-true, ltb-true, lt-ltb}
 use Rattle.flat_graph.specs.declared.vertex.Source.{Source}
 use Rattle.flat_graph.specs.Graph.{Graph}
-use Rattle.semaphore_core.specs.declared.program.Instr.{Instr}
-use Rattle.semaphore_core.specs.declared.program.Instr.TheVariants.{Suc0, Suc1, Pre0, Pre1, Call, Send, Recv, Sync}
-use Rattle.semaphore_core.specs.declared.program.SeqCode.{SeqCode}
-use Rattle.semaphore_core.specs.declared.program.Program.{Program}
-use Rattle.semaphore_core.specs.Instructions.{is_communication, turn, turn_of, medium, medium_in}
-use Rattle.semaphore_core.specs.MicroSteps.{transfers}
-use Rattle.semaphore_core.specs.Places.{Places}
-use Rattle.semaphore_core.specs.WellFormed.{FollowsLoops, NamesIn, Stands}
+use Rattle.executive_program.specs.declared.program.Instr.{Instr}
+use Rattle.executive_program.specs.declared.program.Instr.TheVariants.{Suc0, Suc1, Pre0, Pre1, Call, Send, Recv, Sync}
+use Rattle.executive_program.specs.declared.program.SeqCode.{SeqCode}
+use Rattle.executive_program.specs.declared.program.Program.{Program}
+use Rattle.executive_program.specs.Instructions.{is_communication, turn, turn_of, medium, medium_in}
+use Rattle.executive_program.specs.MicroSteps.{transfers}
+use Rattle.executive_program.specs.Places.{Places}
+use Rattle.executive_program.specs.WellFormed.{FollowsLoops, NamesIn, Stands}
 use Rattle.order_check.specs.Checked.{are_below, communicators, counts, counts_loops, follows_loops, is_at_medium, is_counted, is_medium, named, names_in, on_media}
 use Rattle.order_check.proofs.ListTests.{all_here, all_there, below_of, of_below, not_true, stands_of, of_stands}
 

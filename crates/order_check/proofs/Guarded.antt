@@ -5,12 +5,12 @@ use Rattle.std.specs.Cmp.Derive.{both_true}
 use Rattle.std.proofs.lemmas.Bool.{false≢true, and_parts, eqb-true, ltb-true, lt-ltb}
 use Rattle.std.proofs.lemmas.List.{length-map}
 use Rattle.std.proofs.lemmas.Option.{slice_get-get_or, slice_get_within}
-use Rattle.semaphore_core.specs.declared.program.Instr.{Instr}
-use Rattle.semaphore_core.specs.declared.program.Instr.TheVariants.{Suc0, Suc1, Pre0, Pre1}
-use Rattle.semaphore_core.specs.declared.program.Program.{Program}
-use Rattle.semaphore_core.specs.Instructions.{Reader, reads, readers, turn}
-use Rattle.semaphore_core.specs.Places.{places, reader, reader_or, signals_empty, signals_full, takes_empty, takes_full, writer_of, written_at}
-use Rattle.semaphore_core.specs.WellFormed.{IsOnly, IsPair, ReadsAt, Stands, operator_of}
+use Rattle.executive_program.specs.declared.program.Instr.{Instr}
+use Rattle.executive_program.specs.declared.program.Instr.TheVariants.{Suc0, Suc1, Pre0, Pre1}
+use Rattle.executive_program.specs.declared.program.Program.{Program}
+use Rattle.executive_program.specs.Instructions.{Reader, reads, readers, turn}
+use Rattle.executive_program.specs.Places.{places, reader, reader_or, signals_empty, signals_full, takes_empty, takes_full, writer_of, written_at}
+use Rattle.executive_program.specs.WellFormed.{IsOnly, IsPair, ReadsAt, Stands, operator_of}
 use Rattle.order_check.specs.Checked.{all_at, every, implies}
 use Rattle.order_check.specs.Pairs.{are_pairs, first_place, guards, has_operator, is_full_first, is_only, is_read_between, is_written_between, passes, reads_between}
 use Rattle.order_check.proofs.ListTests.{every_of, of_every, from_zero, to_zero, implied, implying}

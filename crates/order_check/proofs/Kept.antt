@@ -4,12 +4,12 @@ use Rattle.std.specs.Prelude.{slice_get, Option, Some, None}
 use Rattle.std.specs.Cmp.Derive.{both_true}
 use Rattle.std.proofs.lemmas.Bool.{and_parts, eqb-true}
 use Rattle.flat_graph.specs.declared.vertex.Source.{Source}
-use Rattle.semaphore_core.specs.declared.program.Instr.{Instr}
-use Rattle.semaphore_core.specs.declared.program.Instr.TheVariants.{Suc0, Suc1, Pre0, Pre1, Call, Send, Recv, Sync}
-use Rattle.semaphore_core.specs.declared.program.Program.{Program}
-use Rattle.semaphore_core.specs.Instructions.{communications, medium, turn}
-use Rattle.semaphore_core.specs.MicroSteps.{sent, transfers}
-use Rattle.semaphore_core.specs.Places.{Writing, carried, carried_within, no_source, sent_source, source_by, writing}
+use Rattle.executive_program.specs.declared.program.Instr.{Instr}
+use Rattle.executive_program.specs.declared.program.Instr.TheVariants.{Suc0, Suc1, Pre0, Pre1, Call, Send, Recv, Sync}
+use Rattle.executive_program.specs.declared.program.Program.{Program}
+use Rattle.executive_program.specs.Instructions.{communications, medium, turn}
+use Rattle.executive_program.specs.MicroSteps.{sent, transfers}
+use Rattle.executive_program.specs.Places.{Writing, carried, carried_within, no_source, sent_source, source_by, writing}
 use Rattle.order_check.specs.declared.carrying.Origin.{Origin}
 use Rattle.order_check.specs.declared.carrying.Origin.TheVariants.{Made, Received, Nowhere}
 use Rattle.order_check.specs.Checked.{all_below}

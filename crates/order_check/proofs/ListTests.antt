@@ -6,11 +6,11 @@ use Rattle.std.specs.Cmp.Derive.{both_true}
 use Rattle.std.proofs.lemmas.Bool.{false≢true, and_parts}
 use Rattle.std.proofs.lemmas.List.FromFn.{get_or-range_with_len, length-range_with_len}
 use Rattle.std.proofs.lemmas.List.Sums.{AllPass-from_list_all, list_all-from_AllPass}
-use Rattle.semaphore_core.specs.declared.program.Instr.{Instr}
-use Rattle.semaphore_core.specs.declared.program.SeqCode.{SeqCode}
-use Rattle.semaphore_core.specs.declared.program.Program.{Program}
-use Rattle.semaphore_core.specs.Instructions.{turn_of}
-use Rattle.semaphore_core.specs.WellFormed.{Stands}
+use Rattle.executive_program.specs.declared.program.Instr.{Instr}
+use Rattle.executive_program.specs.declared.program.SeqCode.{SeqCode}
+use Rattle.executive_program.specs.declared.program.Program.{Program}
+use Rattle.executive_program.specs.Instructions.{turn_of}
+use Rattle.executive_program.specs.WellFormed.{Stands}
 use Rattle.order_check.specs.Checked.{all_at, all_below, every, implies}
 
 pub all_here : {X : Type 0} (test : X → Bool) (xs : List X) → list_all test xs ≡ true → (i : ℕ) (x : X) → slice_get xs i ≡ Some x → test x ≡ true

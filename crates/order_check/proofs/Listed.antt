@@ -10,7 +10,7 @@ use Rattle.archi_graph.specs.declared.medium.Medium.{Medium}
 use Rattle.archi_graph.specs.declared.medium.Seq.{Seq}
 use Rattle.archi_graph.specs.Archi.{Architecture}
 use Rattle.archi_graph.specs.Sequences.{sequences, sequences_of}
-use Rattle.semaphore_core.specs.declared.program.SeqCode.{SeqCode}
+use Rattle.executive_program.specs.declared.program.SeqCode.{SeqCode}
 use Rattle.order_check.specs.Checked.{passed}
 use Rattle.order_check.specs.Sequenced.{are_sequences, ends_at, is_of, is_sequence, same_medium}
 use Rattle.order_check.proofs.Written.{same_numbers}

@@ -5,9 +5,9 @@ use Rattle.std.specs.Cmp.Derive.{both_true}
 use Rattle.std.proofs.lemmas.Bool.{and_parts}
 use Rattle.archi_graph.specs.declared.medium.Seq.{Seq}
 use Rattle.flat_graph.specs.Graph.{Graph}
-use Rattle.semaphore_core.specs.declared.program.Program.{Program}
-use Rattle.semaphore_core.specs.Places.{carried, places}
-use Rattle.semaphore_core.specs.WellFormed.{IsOrder}
+use Rattle.executive_program.specs.declared.program.Program.{Program}
+use Rattle.executive_program.specs.Places.{carried, places}
+use Rattle.executive_program.specs.WellFormed.{IsOrder}
 use Rattle.order_check.specs.Checked.{communicators, counts, follows_loops, named, on_media}
 use Rattle.order_check.specs.Buffers.{are_buffers}
 use Rattle.order_check.specs.Calls.{are_called}

@@ -5,7 +5,7 @@ use Rattle.std.specs.List.{flat_map, range_with_len}
 use Rattle.std.specs.Cmp.Derive.{both_true}
 use Rattle.std.proofs.lemmas.Bool.{and_parts, cases_lt}
 use Rattle.std.proofs.lemmas.List.Concat.{flat_map-cons}
-use Rattle.semaphore_core.specs.Blocks.{blocks}
+use Rattle.executive_program.specs.Blocks.{blocks}
 use Rattle.order_check.specs.Checked.{all_at, passed}
 
 module _ {X : Type 0} (test : ℕ → X → Bool) where

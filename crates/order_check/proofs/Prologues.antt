@@ -7,14 +7,14 @@ use Rattle.std.proofs.lemmas.Bool.{false≢true, and_parts, cases_lt, eqb-true, 
 use Rattle.std.proofs.lemmas.List.{length-map}
 use Rattle.std.proofs.lemmas.List.Sums.{sum_by-append, sum_by-cons}
 use Rattle.std.proofs.lemmas.Option.{slice_get_within}
-use Rattle.semaphore_core.specs.declared.program.Instr.{Instr}
-use Rattle.semaphore_core.specs.declared.program.Instr.TheVariants.{Pre0}
-use Rattle.semaphore_core.specs.declared.program.SeqCode.{SeqCode}
-use Rattle.semaphore_core.specs.declared.program.Program.{Program}
-use Rattle.semaphore_core.specs.Blocks.{blocks, repeated}
-use Rattle.semaphore_core.specs.Instructions.{Reader, prologue, prologue_of, readers}
-use Rattle.semaphore_core.specs.Places.{opening_of, opening_signals, reader, reader_or, signals_empty}
-use Rattle.semaphore_core.specs.WellFormed.{operator_of}
+use Rattle.executive_program.specs.declared.program.Instr.{Instr}
+use Rattle.executive_program.specs.declared.program.Instr.TheVariants.{Pre0}
+use Rattle.executive_program.specs.declared.program.SeqCode.{SeqCode}
+use Rattle.executive_program.specs.declared.program.Program.{Program}
+use Rattle.executive_program.specs.Blocks.{blocks, repeated}
+use Rattle.executive_program.specs.Instructions.{Reader, prologue, prologue_of, readers}
+use Rattle.executive_program.specs.Places.{opening_of, opening_signals, reader, reader_or, signals_empty}
+use Rattle.executive_program.specs.WellFormed.{operator_of}
 use Rattle.order_check.specs.Checked.{all_at, passed}
 use Rattle.order_check.specs.Opened.{are_opened, opens, rise, rises, signals_for, signals_right}
 use Rattle.order_check.proofs.Passing.{all_passed, passed_all}

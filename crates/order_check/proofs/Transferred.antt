@@ -5,14 +5,14 @@ use Rattle.std.specs.List.{count_by}
 use Rattle.std.specs.Cmp.Derive.{both_true}
 use Rattle.std.proofs.lemmas.Bool.{false≢true, and_parts, eqb-true, ltb-true, lt-ltb}
 use Rattle.std.proofs.lemmas.List.Sums.{sum_by-cons}
-use Rattle.semaphore_core.specs.declared.program.Instr.{Instr}
-use Rattle.semaphore_core.specs.declared.program.Instr.TheVariants.{Suc0, Suc1, Pre0, Pre1, Call, Send, Recv, Sync}
-use Rattle.semaphore_core.specs.declared.program.SeqCode.{SeqCode}
-use Rattle.semaphore_core.specs.declared.program.Program.{Program}
-use Rattle.semaphore_core.specs.Instructions.{is_communication, len_of, medium, medium_in, operator, turn, turn_of}
-use Rattle.semaphore_core.specs.MicroSteps.{is_on, transfers}
-use Rattle.semaphore_core.specs.Places.{buffer_in, communication_at, places}
-use Rattle.semaphore_core.specs.WellFormed.{Communicates, IsTransfer, place_in}
+use Rattle.executive_program.specs.declared.program.Instr.{Instr}
+use Rattle.executive_program.specs.declared.program.Instr.TheVariants.{Suc0, Suc1, Pre0, Pre1, Call, Send, Recv, Sync}
+use Rattle.executive_program.specs.declared.program.SeqCode.{SeqCode}
+use Rattle.executive_program.specs.declared.program.Program.{Program}
+use Rattle.executive_program.specs.Instructions.{is_communication, len_of, medium, medium_in, operator, turn, turn_of}
+use Rattle.executive_program.specs.MicroSteps.{is_on, transfers}
+use Rattle.executive_program.specs.Places.{buffer_in, communication_at, places}
+use Rattle.executive_program.specs.WellFormed.{Communicates, IsTransfer, place_in}
 use Rattle.order_check.specs.Checked.{all_at, all_below}
 use Rattle.order_check.specs.Transfers.{are_transfers, buffer_at, is_before_next, is_later, is_other, is_receive_from, is_received, is_send_to, is_sent, is_transfer, is_wait, place_of, receiver_of, sender_of, stands_at, waits, waits_at}
 use Rattle.order_check.proofs.ListTests.{below_of, of_below, from_zero, to_zero, implied, implying, not_true}

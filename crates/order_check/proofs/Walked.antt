@@ -4,11 +4,11 @@ use Rattle.std.specs.Prelude.{slice_get, nat_lt}
 use Rattle.std.proofs.lemmas.Bool.{and_parts, cases_lt, ltb-true}
 use Rattle.std.proofs.lemmas.List.{length-append}
 use Rattle.std.proofs.Math.Bool.{and-true}
-use Rattle.semaphore_core.specs.declared.program.Program.{Program}
-use Rattle.semaphore_core.specs.Blocks.{blocks}
-use Rattle.semaphore_core.specs.Instructions.{Reader, readers, readers_from}
-use Rattle.semaphore_core.specs.Places.{writer_of, written_at}
-use Rattle.semaphore_core.specs.WellFormed.{operator_of}
+use Rattle.executive_program.specs.declared.program.Program.{Program}
+use Rattle.executive_program.specs.Blocks.{blocks}
+use Rattle.executive_program.specs.Instructions.{Reader, readers, readers_from}
+use Rattle.executive_program.specs.Places.{writer_of, written_at}
+use Rattle.executive_program.specs.WellFormed.{operator_of}
 use Rattle.order_check.specs.Checked.{all_at}
 use Rattle.order_check.specs.Pairs.{are_pairs, guards, has_operator, is_full_first, is_read_between, is_written_between}
 

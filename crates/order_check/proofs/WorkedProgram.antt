@@ -8,12 +8,12 @@ use Rattle.flat_graph.specs.declared.vertex.Kind.TheVariants.{Sensor, Actuator, 
 use Rattle.syn_base.specs.declared.arithmetic.Op.TheVariants.{Add}
 use Rattle.body_lang.specs.Expr.{literal, element, index, apply}
 use Rattle.flat_graph.specs.Graph.{Graph}
-use Rattle.semaphore_core.specs.declared.program.Instr.{Instr}
-use Rattle.semaphore_core.specs.declared.program.Instr.TheVariants.{Suc0, Suc1, Pre0, Pre1, Call, Send, Recv}
-use Rattle.semaphore_core.specs.declared.program.Buffer.{Buffer}
-use Rattle.semaphore_core.specs.declared.program.SeqCode.{SeqCode}
-use Rattle.semaphore_core.specs.declared.program.Program.{Program}
-use Rattle.semaphore_core.specs.WellFormed.{IsOrder, IsWellFormed}
+use Rattle.executive_program.specs.declared.program.Instr.{Instr}
+use Rattle.executive_program.specs.declared.program.Instr.TheVariants.{Suc0, Suc1, Pre0, Pre1, Call, Send, Recv}
+use Rattle.executive_program.specs.declared.program.Buffer.{Buffer}
+use Rattle.executive_program.specs.declared.program.SeqCode.{SeqCode}
+use Rattle.executive_program.specs.declared.program.Program.{Program}
+use Rattle.executive_program.specs.WellFormed.{IsOrder, IsWellFormed}
 use Rattle.order_check.specs.Order.{is_order}
 use Rattle.order_check.proofs.Ordered.{decides_order}
 

@@ -4,14 +4,14 @@ use Rattle.std.specs.Prelude.{slice_get, Option, Some, None, nat_lt}
 use Rattle.std.specs.List.{list_all, list_any}
 use Rattle.std.specs.Cmp.Derive.{both_true}
 use Rattle.std.proofs.lemmas.Bool.{false≢true, and_parts, eqb-true, ltb-true, lt-ltb}
-use Rattle.semaphore_core.specs.declared.program.Buffer.{Buffer}
-use Rattle.semaphore_core.specs.declared.program.Instr.{Instr}
-use Rattle.semaphore_core.specs.declared.program.Instr.TheVariants.{Suc0, Suc1, Pre0, Pre1, Call, Send, Recv, Sync}
-use Rattle.semaphore_core.specs.declared.program.SeqCode.{SeqCode}
-use Rattle.semaphore_core.specs.declared.program.Program.{Program}
-use Rattle.semaphore_core.specs.Instructions.{depth_of, operator, operator_in, reads, turn, turn_of, writes}
-use Rattle.semaphore_core.specs.Places.{places, writing}
-use Rattle.semaphore_core.specs.WellFormed.{IsBuffer, ReadsAt, Stands, WritesAt, operator_is}
+use Rattle.executive_program.specs.declared.program.Buffer.{Buffer}
+use Rattle.executive_program.specs.declared.program.Instr.{Instr}
+use Rattle.executive_program.specs.declared.program.Instr.TheVariants.{Suc0, Suc1, Pre0, Pre1, Call, Send, Recv, Sync}
+use Rattle.executive_program.specs.declared.program.SeqCode.{SeqCode}
+use Rattle.executive_program.specs.declared.program.Program.{Program}
+use Rattle.executive_program.specs.Instructions.{depth_of, operator, operator_in, reads, turn, turn_of, writes}
+use Rattle.executive_program.specs.Places.{places, writing}
+use Rattle.executive_program.specs.WellFormed.{IsBuffer, ReadsAt, Stands, WritesAt, operator_is}
 use Rattle.order_check.specs.Checked.{implies}
 use Rattle.order_check.specs.Buffers.{are_buffers, is_buffer, is_near, is_operator, is_written_first, is_written_once, names, touches, writes_at, writes_only}
 use Rattle.order_check.proofs.ListTests.{all_here, all_there, below_of, of_below, every_of, of_every, from_zero, to_zero, implied, implying}

@@ -1,12 +1,12 @@
 -- What makes a buffer right, as tests.
 use Rattle.std.specs.Prelude.{ℕ, Bool, true, false, ◌&&◌, ◌||◌, nat_eq, nat_lt, length, Option, Some, None, slice_get}
 use Rattle.std.specs.List.{list_all}
-use Rattle.semaphore_core.specs.declared.program.Instr.{Instr}
-use Rattle.semaphore_core.specs.declared.program.Instr.TheVariants.{Call, Recv}
-use Rattle.semaphore_core.specs.declared.program.Buffer.{Buffer}
-use Rattle.semaphore_core.specs.declared.program.Program.{Program}
-use Rattle.semaphore_core.specs.Instructions.{depth_of, reads, turn, writes}
-use Rattle.semaphore_core.specs.Places.{writing}
+use Rattle.executive_program.specs.declared.program.Instr.{Instr}
+use Rattle.executive_program.specs.declared.program.Instr.TheVariants.{Call, Recv}
+use Rattle.executive_program.specs.declared.program.Buffer.{Buffer}
+use Rattle.executive_program.specs.declared.program.Program.{Program}
+use Rattle.executive_program.specs.Instructions.{depth_of, reads, turn, writes}
+use Rattle.executive_program.specs.Places.{writing}
 use Rattle.order_check.specs.Checked.{all_at, all_below, every, implies}
 
 abbrev pub names : Option ℕ → ℕ → Bool

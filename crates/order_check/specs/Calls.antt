@@ -6,10 +6,10 @@ use Rattle.flat_graph.specs.declared.vertex.Kind.{Kind}
 use Rattle.flat_graph.specs.declared.vertex.Kind.TheVariants.{Get}
 use Rattle.flat_graph.specs.declared.vertex.Source.{Source}
 use Rattle.flat_graph.specs.declared.vertex.Vertex.{Vertex}
-use Rattle.semaphore_core.specs.declared.program.Buffer.{Buffer}
-use Rattle.semaphore_core.specs.declared.program.Program.{Program}
-use Rattle.semaphore_core.specs.Instructions.{len_of, medium, turn}
-use Rattle.semaphore_core.specs.Places.{caller_of, calls, carried, ins_in, outs_in}
+use Rattle.executive_program.specs.declared.program.Buffer.{Buffer}
+use Rattle.executive_program.specs.declared.program.Program.{Program}
+use Rattle.executive_program.specs.Instructions.{len_of, medium, turn}
+use Rattle.executive_program.specs.Places.{caller_of, calls, carried, ins_in, outs_in}
 use Rattle.order_check.specs.Checked.{all_at}
 use Rattle.order_check.specs.Buffers.{names}
 use Rattle.order_check.specs.Carries.{same_source}

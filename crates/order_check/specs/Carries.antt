@@ -1,12 +1,12 @@
 -- How the source that a buffer carries is found, and the test that transfers keep it.
 use Rattle.std.specs.Prelude.{ℕ, Bool, ◌&&◌, nat_eq, Option, Some, None, slice_get}
 use Rattle.flat_graph.specs.declared.vertex.Source.{Source}
-use Rattle.semaphore_core.specs.declared.program.Instr.{Instr}
-use Rattle.semaphore_core.specs.declared.program.Instr.TheVariants.{Call, Recv, Send}
-use Rattle.semaphore_core.specs.declared.program.Program.{Program}
-use Rattle.semaphore_core.specs.Instructions.{communications, medium, turn}
-use Rattle.semaphore_core.specs.MicroSteps.{sent, transfers}
-use Rattle.semaphore_core.specs.Places.{carried, no_source, output_at, writer_of, written_at}
+use Rattle.executive_program.specs.declared.program.Instr.{Instr}
+use Rattle.executive_program.specs.declared.program.Instr.TheVariants.{Call, Recv, Send}
+use Rattle.executive_program.specs.declared.program.Program.{Program}
+use Rattle.executive_program.specs.Instructions.{communications, medium, turn}
+use Rattle.executive_program.specs.MicroSteps.{sent, transfers}
+use Rattle.executive_program.specs.Places.{carried, no_source, output_at, writer_of, written_at}
 use Rattle.order_check.specs.declared.carrying.Origin.{Origin}
 use Rattle.order_check.specs.declared.carrying.Origin.TheVariants.{Made, Received, Nowhere}
 use Rattle.order_check.specs.Checked.{all_below}

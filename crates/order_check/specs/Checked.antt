@@ -1,11 +1,11 @@
 -- The clauses of what a serial order is, as tests.
 use Rattle.std.specs.Prelude.{ℕ, ◌+◌, Bool, true, ◌&&◌, not, cond, nat_eq, nat_lt, List, [], ◌∷◌, length, Option, Some, None}
 use Rattle.std.specs.List.{count_by, list_all, range_with_len}
-use Rattle.semaphore_core.specs.declared.program.Instr.{Instr}
-use Rattle.semaphore_core.specs.declared.program.Instr.TheVariants.{Suc0, Suc1, Pre0, Pre1, Call, Send, Recv, Sync}
-use Rattle.semaphore_core.specs.declared.program.Program.{Program}
-use Rattle.semaphore_core.specs.Instructions.{is_communication, turn}
-use Rattle.semaphore_core.specs.MicroSteps.{transfers}
+use Rattle.executive_program.specs.declared.program.Instr.{Instr}
+use Rattle.executive_program.specs.declared.program.Instr.TheVariants.{Suc0, Suc1, Pre0, Pre1, Call, Send, Recv, Sync}
+use Rattle.executive_program.specs.declared.program.Program.{Program}
+use Rattle.executive_program.specs.Instructions.{is_communication, turn}
+use Rattle.executive_program.specs.MicroSteps.{transfers}
 
 -- the test passes for each number below n
 abbrev pub all_below : (ℕ → Bool) → ℕ → Bool

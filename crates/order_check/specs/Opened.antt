@@ -1,12 +1,12 @@
 -- What makes the prologues right, as tests: each signals in ascending order, and each pair's empty semaphore as often as it is to be.
 use Rattle.std.specs.Prelude.{ℕ, Bool, true, false, ◌&&◌, cond, nat_eq, nat_le, nat_lt, List, [], ◌∷◌, length, Option, Some, None}
 use Rattle.std.specs.List.{count_by, list_all}
-use Rattle.semaphore_core.specs.declared.program.Instr.{Instr}
-use Rattle.semaphore_core.specs.declared.program.Instr.TheVariants.{Pre0}
-use Rattle.semaphore_core.specs.declared.program.SeqCode.{SeqCode}
-use Rattle.semaphore_core.specs.declared.program.Program.{Program}
-use Rattle.semaphore_core.specs.Instructions.{Reader, depth_of, readers}
-use Rattle.semaphore_core.specs.Places.{signals_empty}
+use Rattle.executive_program.specs.declared.program.Instr.{Instr}
+use Rattle.executive_program.specs.declared.program.Instr.TheVariants.{Pre0}
+use Rattle.executive_program.specs.declared.program.SeqCode.{SeqCode}
+use Rattle.executive_program.specs.declared.program.Program.{Program}
+use Rattle.executive_program.specs.Instructions.{Reader, depth_of, readers}
+use Rattle.executive_program.specs.Places.{signals_empty}
 use Rattle.order_check.specs.Checked.{all_at, passed}
 
 -- each instruction signals the empty semaphore of a pair below n, the first of one at least this, and each of one at least that before it

@@ -2,7 +2,7 @@
 use Rattle.std.specs.Prelude.{ℕ, Bool, ◌&&◌, List, length}
 use Rattle.archi_graph.specs.declared.medium.Seq.{Seq}
 use Rattle.flat_graph.specs.declared.vertex.Vertex.{Vertex}
-use Rattle.semaphore_core.specs.declared.program.Program.{Program}
+use Rattle.executive_program.specs.declared.program.Program.{Program}
 use Rattle.order_check.specs.Checked.{communicators, counts, follows_loops, named, on_media}
 use Rattle.order_check.specs.Buffers.{are_buffers}
 use Rattle.order_check.specs.Calls.{are_called}

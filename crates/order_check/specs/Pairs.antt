@@ -1,11 +1,11 @@
 -- What makes a pair of semaphores right, as tests.
 use Rattle.std.specs.Prelude.{ℕ, Bool, false, ◌&&◌, nat_eq, nat_lt, List, length, Option, Some, None, slice_get}
 use Rattle.std.specs.List.{position_or_len}
-use Rattle.semaphore_core.specs.declared.program.Instr.{Instr}
-use Rattle.semaphore_core.specs.declared.program.Program.{Program}
-use Rattle.semaphore_core.specs.Instructions.{Reader, reads, readers, turn}
-use Rattle.semaphore_core.specs.Places.{calls, signals_empty, signals_full, takes_empty, takes_full, writer_of, written_at}
-use Rattle.semaphore_core.specs.WellFormed.{operator_of, place_in}
+use Rattle.executive_program.specs.declared.program.Instr.{Instr}
+use Rattle.executive_program.specs.declared.program.Program.{Program}
+use Rattle.executive_program.specs.Instructions.{Reader, reads, readers, turn}
+use Rattle.executive_program.specs.Places.{calls, signals_empty, signals_full, takes_empty, takes_full, writer_of, written_at}
+use Rattle.executive_program.specs.WellFormed.{operator_of, place_in}
 use Rattle.order_check.specs.declared.acts.Act.{Act}
 use Rattle.order_check.specs.declared.acts.Act.TheVariants.{TakeEmpty, SignalFull, TakeFull, SignalEmpty, Call}
 use Rattle.order_check.specs.Checked.{all_at, every, implies}

@@ -1,7 +1,7 @@
 -- What makes the sequences of a program those of an architecture, as tests.
 use Rattle.std.specs.Prelude.{ℕ, Bool, true, false, ◌&&◌, nat_eq, nat_lt, List, length, Option, Some, None, slice_get}
 use Rattle.archi_graph.specs.declared.medium.Seq.{Seq}
-use Rattle.semaphore_core.specs.declared.program.SeqCode.{SeqCode}
+use Rattle.executive_program.specs.declared.program.SeqCode.{SeqCode}
 use Rattle.order_check.specs.Checked.{passed}
 
 abbrev pub same_medium : Option ℕ → Option ℕ → Bool

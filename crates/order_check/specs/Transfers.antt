@@ -1,13 +1,13 @@
 -- What makes a transfer right, as tests.
 use Rattle.std.specs.Prelude.{ℕ, ◌+◌, Bool, true, false, ◌&&◌, not, nat_eq, nat_lt, List, Option, Some, None, slice_get}
-use Rattle.semaphore_core.specs.declared.program.Instr.{Instr}
-use Rattle.semaphore_core.specs.declared.program.Instr.TheVariants.{Send, Recv, Sync}
-use Rattle.semaphore_core.specs.declared.program.SeqCode.{SeqCode}
-use Rattle.semaphore_core.specs.declared.program.Program.{Program}
-use Rattle.semaphore_core.specs.Instructions.{len_of, medium, operator, turn}
-use Rattle.semaphore_core.specs.MicroSteps.{is_on, transfers}
-use Rattle.semaphore_core.specs.Places.{buffer_in, communication_at, receives_at, sends_at, sequence_where}
-use Rattle.semaphore_core.specs.WellFormed.{place_in}
+use Rattle.executive_program.specs.declared.program.Instr.{Instr}
+use Rattle.executive_program.specs.declared.program.Instr.TheVariants.{Send, Recv, Sync}
+use Rattle.executive_program.specs.declared.program.SeqCode.{SeqCode}
+use Rattle.executive_program.specs.declared.program.Program.{Program}
+use Rattle.executive_program.specs.Instructions.{len_of, medium, operator, turn}
+use Rattle.executive_program.specs.MicroSteps.{is_on, transfers}
+use Rattle.executive_program.specs.Places.{buffer_in, communication_at, receives_at, sends_at, sequence_where}
+use Rattle.executive_program.specs.WellFormed.{place_in}
 use Rattle.order_check.specs.Checked.{all_at, all_below, implies}
 
 abbrev pub is_send_to : ℕ → Option Instr → Bool

@@ -6,7 +6,7 @@ ghost use Rattle.order_check.specs.Pairs.{is_act, is_only, passes};
 
 use crate::instructions::{calls, signals_empty, signals_full, takes_empty, takes_full};
 use crate::parts::turn_of;
-use semaphore_core::{Instr, Program};
+use executive_program::{Instr, Program};
 
 /// What is done on the semaphores of a pair, or the call of an operation, both by their number.
 #[derive(Clone, Copy, Drop)]

@@ -1,15 +1,15 @@
 //! Buffers are written once, and touched on their own operator alone.
 ghost use Rattle.std.specs.Prelude.{◌≡◌, ◌&&◌, nat_eq, nat_lt, slice_get};
 ghost use Rattle.std.specs.List.{list_all, position_or_len};
-ghost use Rattle.semaphore_core.specs.Instructions.{reads, turn};
-ghost use Rattle.semaphore_core.specs.Places.{output_at, writing};
+ghost use Rattle.executive_program.specs.Instructions.{reads, turn};
+ghost use Rattle.executive_program.specs.Places.{output_at, writing};
 ghost use Rattle.order_check.specs.Checked.{all_at, implies};
 ghost use Rattle.order_check.specs.Buffers.{are_buffers, is_buffer, is_buffer_at, is_near, is_operator, is_written_first, is_written_once, names, touches, writes_at, writes_only};
 
 use crate::instructions::{reads, writes};
 use crate::parts::{depth_of, turn_of};
 use crate::searches::{writer_of, written_at};
-use semaphore_core::{Instr, Program};
+use executive_program::{Instr, Program};
 
 /// Where a buffer is written: its sequence, its place there, and the number of the output.
 #[derive(Clone, Copy, Drop)]

@@ -1,7 +1,7 @@
 //! Each operation is called once, on what carries its inputs, into what carries its outputs.
 ghost use Rattle.std.specs.Prelude.{◌≡◌, ◌+◌, ◌≤◌, ◌&&◌, Some, drop, length, nat_eq, nat_lt, slice_get};
-ghost use Rattle.semaphore_core.specs.Instructions.{turn};
-ghost use Rattle.semaphore_core.specs.Places.{caller_of, carried, ins_in, outs_in};
+ghost use Rattle.executive_program.specs.Instructions.{turn};
+ghost use Rattle.executive_program.specs.Places.{caller_of, carried, ins_in, outs_in};
 ghost use Rattle.order_check.specs.Checked.{all_at};
 ghost use Rattle.order_check.specs.Carries.{same_source};
 ghost use Rattle.order_check.specs.Calls.{are_called, called_at, carries, carry_guards, carry_inputs, gives, gives_at, has_len, has_output, is_before_twin, is_called, is_called_at, takes};
@@ -11,8 +11,8 @@ use crate::buffers::is_entry;
 use crate::carrying::carried_by;
 use crate::parts::{len_of, medium_of, turn_of};
 use crate::searches::{caller_of, first_call};
+use executive_program::{Instr, Program};
 use flat_graph::{Guard, Kind, Source, Vertex};
-use semaphore_core::{Instr, Program};
 
 fn has_output(vertices: &[Vertex], source: Source, len: u32) -> bool
     ensures { result ≡ has_output (slice_get vertices.now source.vertex) source.port len }

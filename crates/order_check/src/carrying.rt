@@ -1,8 +1,8 @@
 //! What buffers carry: an output of an operation, over any number of transfers.
 ghost use Rattle.std.specs.Prelude.{◌≡◌, count_by, nat_eq, slice_get, take};
-ghost use Rattle.semaphore_core.specs.Instructions.{communications, is_communication, medium, turn};
-ghost use Rattle.semaphore_core.specs.MicroSteps.{sent, sent_in, transfers};
-ghost use Rattle.semaphore_core.specs.Places.{carried, output_at};
+ghost use Rattle.executive_program.specs.Instructions.{communications, is_communication, medium, turn};
+ghost use Rattle.executive_program.specs.MicroSteps.{sent, sent_in, transfers};
+ghost use Rattle.executive_program.specs.Places.{carried, output_at};
 ghost use Rattle.order_check.specs.Checked.{all_below};
 ghost use Rattle.order_check.specs.Carries.{are_kept, is_kept, origin, origin_at, origin_of, received, same_source, sent_by_one, sent_on};
 
@@ -11,7 +11,7 @@ use crate::instructions::is_communication;
 use crate::parts::{medium_of, turn_of};
 use crate::searches::{is_on, transfers, writer_of, written_at};
 use crate::transferring::{Crossing, buffer_at, receiver_of, sender_of};
-use semaphore_core::{Instr, Program};
+use executive_program::{Instr, Program};
 
 /// Where what a buffer holds comes from.
 #[derive(Clone, Copy, Drop)]

@@ -2,11 +2,11 @@
 ghost use Rattle.std.specs.Prelude.{◌≡◌, ℕ, ◌<◌, List, Some, length, map, slice_get, true};
 ghost use Rattle.std.specs.List.{count_by};
 ghost use Rattle.archi_graph.specs.Sequences.{sequences};
-ghost use Rattle.semaphore_core.specs.Instructions.{is_communication, medium, prologue, readers, turn};
-ghost use Rattle.semaphore_core.specs.MicroSteps.{transfers};
-ghost use Rattle.semaphore_core.specs.Places.{carried, opening_of, places, transfer};
-ghost use Rattle.semaphore_core.specs.WellFormed.{FollowsLoops, IsBuffer, IsCalled, IsPair, IsTransfer, NamesIn, operator_of, Stands};
-ghost use Rattle.semaphore_core.specs.declared.program.Instr.{Instr};
+ghost use Rattle.executive_program.specs.Instructions.{is_communication, medium, prologue, readers, turn};
+ghost use Rattle.executive_program.specs.MicroSteps.{transfers};
+ghost use Rattle.executive_program.specs.Places.{carried, opening_of, places, transfer};
+ghost use Rattle.executive_program.specs.WellFormed.{FollowsLoops, IsBuffer, IsCalled, IsPair, IsTransfer, NamesIn, operator_of, Stands};
+ghost use Rattle.executive_program.specs.declared.program.Instr.{Instr};
 ghost use Rattle.flat_graph.specs.declared.vertex.Vertex.{Vertex};
 
 use crate::buffers::are_right;
@@ -19,8 +19,8 @@ use crate::opening::are_opened;
 use crate::sequencing::are_sequences;
 use crate::transferring::are_transfers;
 use archi_graph::Archi;
+use executive_program::Program;
 use flat_graph::Flat;
-use semaphore_core::Program;
 
 /// Whether the sequences of the program are those of the architecture, in order.
 pub fn sequences_are_there(program: &Program, archi: &Archi) -> bool

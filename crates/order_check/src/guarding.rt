@@ -1,8 +1,8 @@
 //! Each pair of semaphores guards its buffer for its reader.
 ghost use Rattle.std.specs.Prelude.{◌≡◌, ◌&&◌, ◌≤◌, nat_eq, nat_lt, length, slice_get};
 ghost use Rattle.std.specs.List.{list_any};
-ghost use Rattle.semaphore_core.specs.Instructions.{reads, readers_from, waits_for};
-ghost use Rattle.semaphore_core.specs.WellFormed.{operator_of};
+ghost use Rattle.executive_program.specs.Instructions.{reads, readers_from, waits_for};
+ghost use Rattle.executive_program.specs.WellFormed.{operator_of};
 ghost use Rattle.order_check.specs.Checked.{all_at, implies};
 ghost use Rattle.order_check.specs.Pairs.{are_pairs, first_place, guards, guards_from, has_operator, is_act, is_full_first, is_read_between, is_read_within, is_written_between, is_written_within, reads_between};
 
@@ -11,7 +11,7 @@ use crate::instructions::reads;
 use crate::parts::turn_of;
 use crate::placing::place_in;
 use crate::searches::{is_written, writer_of, written_at};
-use semaphore_core::{Instr, Program, SeqCode};
+use executive_program::{Instr, Program, SeqCode};
 
 /// A buffer with a sequence that reads it and does not write it.
 #[derive(Clone, Copy, Drop)]

@@ -27,10 +27,4 @@ pub use order::is_order;
 pub use placing::place_in;
 
 #[cfg(test)]
-mod ahead;
-#[cfg(test)]
-mod limits;
-#[cfg(test)]
-mod runs;
-#[cfg(test)]
 mod tests;

@@ -1,12 +1,12 @@
 //! The order follows the loops of a program.
 ghost use Rattle.std.specs.Prelude.{◌≡◌, nat_eq, length};
 ghost use Rattle.std.specs.List.{count_by};
-ghost use Rattle.semaphore_core.specs.Instructions.{turn};
+ghost use Rattle.executive_program.specs.Instructions.{turn};
 ghost use Rattle.order_check.specs.Checked.{are_below, counts_loops, follows_loops};
 
 use crate::parts::turn_of;
 use crate::placing::count_in;
-use semaphore_core::Program;
+use executive_program::Program;
 
 /// Whether these numbers are below `bound`.
 pub fn are_below(list: &[u32], bound: usize) -> bool

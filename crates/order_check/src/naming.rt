@@ -1,13 +1,13 @@
 //! What instructions name is there, and communications stand in communicators.
 ghost use Rattle.std.specs.Prelude.{◌≡◌, not, nat_lt, length};
 ghost use Rattle.std.specs.List.{list_all};
-ghost use Rattle.semaphore_core.specs.Instructions.{is_communication};
+ghost use Rattle.executive_program.specs.Instructions.{is_communication};
 ghost use Rattle.order_check.specs.Checked.{are_below, communicators, counts, is_at_medium, is_counted, is_medium, named, names_in, on_media};
 
 use crate::instructions::{count_communications, is_communication};
 use crate::loops::are_below;
 use crate::searches::transfers;
-use semaphore_core::{Instr, Program};
+use executive_program::{Instr, Program};
 
 fn is_pair(program: &Program, pair: u32) -> bool
     ensures { result ≡ nat_lt pair (length program.now.pairs) }

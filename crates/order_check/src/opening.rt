@@ -1,15 +1,15 @@
 //! Each sequence has its prologue: the signals that let the writers of its buffers begin.
 ghost use Rattle.std.specs.Prelude.{◌≡◌, length, nat_eq};
 ghost use Rattle.std.specs.List.{count_by, list_all};
-ghost use Rattle.semaphore_core.specs.Instructions.{readers, readers_from};
-ghost use Rattle.semaphore_core.specs.Places.{signals_empty};
+ghost use Rattle.executive_program.specs.Instructions.{readers, readers_from};
+ghost use Rattle.executive_program.specs.Places.{signals_empty};
 ghost use Rattle.order_check.specs.Checked.{all_at, passed};
 ghost use Rattle.order_check.specs.Opened.{are_opened, opens, rise, rises, signals_for, signals_right};
 
 use crate::guarding::{Reading, waits_for};
 use crate::instructions::signals_empty;
 use crate::parts::depth_of;
-use semaphore_core::{Instr, Program, SeqCode};
+use executive_program::{Instr, Program, SeqCode};
 
 /// Whether these instructions signal empty semaphores alone, of pairs below `bound` in ascending order.
 fn rises(list: &[Instr], bound: usize) -> bool

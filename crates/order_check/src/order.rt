@@ -3,7 +3,7 @@ ghost use Rattle.std.specs.Prelude.{◌≡◌, length};
 ghost use Rattle.std.specs.Bool.{Decides};
 ghost use Rattle.std.specs.List.{flat_map, range_with_len};
 ghost use Rattle.archi_graph.specs.Sequences.{sequences, sequences_of};
-ghost use Rattle.semaphore_core.specs.WellFormed.{IsOrder};
+ghost use Rattle.executive_program.specs.WellFormed.{IsOrder};
 ghost use Rattle.order_check.specs.Order.{are_guards_right, are_numbers_right, are_values_right, is_order};
 
 use crate::buffers::are_right;
@@ -16,8 +16,8 @@ use crate::opening::are_opened;
 use crate::sequencing::are_sequences;
 use crate::transferring::are_transfers;
 use archi_graph::{Archi, Medium};
+use executive_program::Program;
 use flat_graph::{Flat, Vertex};
-use semaphore_core::Program;
 
 /// Whether what the instructions name is there, communications stand in communicators of so many media,
 /// and each has one in each transfer of its medium.

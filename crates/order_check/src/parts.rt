@@ -1,8 +1,8 @@
 //! The parts of a program, by the number of the sequence and of the buffer.
 ghost use Rattle.std.specs.Prelude.{◌≡◌};
-ghost use Rattle.semaphore_core.specs.Instructions.{depth_of, len_of, medium, operator, turn, prologue};
+ghost use Rattle.executive_program.specs.Instructions.{depth_of, len_of, medium, operator, turn, prologue};
 
-use semaphore_core::{Instr, Program};
+use executive_program::{Instr, Program};
 
 /// The loop of a sequence, empty for one that is not there.
 pub fn turn_of(program: &Program, sequence: usize) -> &[Instr]

@@ -1,7 +1,7 @@
 //! Places in a serial order.
 ghost use Rattle.std.specs.Prelude.{◌≡◌, nat_eq};
 ghost use Rattle.std.specs.List.{count_by};
-ghost use Rattle.semaphore_core.specs.WellFormed.{place_in};
+ghost use Rattle.executive_program.specs.WellFormed.{place_in};
 
 /// The place in an order, which names a sequence at each place, at which the instruction stands that has
 /// so many others of its sequence before it. It is the order's length where there is none.

@@ -1,13 +1,13 @@
 //! Where things stand in a program: an instruction is named by its sequence and its place in its loop.
 ghost use Rattle.std.specs.Prelude.{◌≡◌};
 ghost use Rattle.std.specs.List.{list_any, position_or_len};
-ghost use Rattle.semaphore_core.specs.Instructions.{writes, is_communication};
-ghost use Rattle.semaphore_core.specs.MicroSteps.{is_on, transfers};
-ghost use Rattle.semaphore_core.specs.Places.{caller_of, calls, communication_at, writer_of, written_at};
+ghost use Rattle.executive_program.specs.Instructions.{writes, is_communication};
+ghost use Rattle.executive_program.specs.MicroSteps.{is_on, transfers};
+ghost use Rattle.executive_program.specs.Places.{caller_of, calls, communication_at, writer_of, written_at};
 
 use crate::instructions::{calls, count_communications, is_communication, writes};
 use crate::parts::turn_of;
-use semaphore_core::{Instr, Program};
+use executive_program::{Instr, Program};
 
 /// Whether one of these instructions writes a buffer.
 pub fn is_written(list: &[Instr], buffer: usize) -> bool

@@ -7,7 +7,7 @@ ghost use Rattle.order_check.specs.Checked.{passed};
 ghost use Rattle.order_check.specs.Sequenced.{are_sequences, is_of, is_sequence, same_medium};
 
 use archi_graph::Medium;
-use semaphore_core::SeqCode;
+use executive_program::SeqCode;
 
 fn stands_at(medium: &Medium, operator: usize) -> bool
     ensures { result ≡ stands_at medium.now operator }

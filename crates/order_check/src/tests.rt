@@ -3,17 +3,17 @@
 use crate::is_order;
 use archi_graph::{Archi, Medium, Seq, is_archi};
 use body_lang::Expr;
+use executive_program::{Buffer, Instr, Program, SeqCode};
 use flat_graph::{Flat, Kind, Source, Vertex, is_flat};
-use semaphore_core::{Buffer, Instr, Program, SeqCode};
 use std::alloc::Global;
 use std::process::Abort;
 use std::test::Fail;
 use syn_base::{Items, Name, Op};
 
 /// The sensor, its function, the transfer, the other function with its actuator, and the first actuator.
-pub(crate) const ORDER: [u32; 15] = [0, 0, 0, 0, 1, 1, 1, 3, 3, 3, 2, 2, 2, 2, 0];
+const ORDER: [u32; 15] = [0, 0, 0, 0, 1, 1, 1, 3, 3, 3, 2, 2, 2, 2, 0];
 
-pub(crate) fn vertex(
+fn vertex(
     alloc: Global,
     name: &[u8],
     kind: Kind,
@@ -31,11 +31,11 @@ pub(crate) fn vertex(
     })
 }
 
-pub(crate) fn of(vertex: u32) -> Source {
+fn of(vertex: u32) -> Source {
     Source { vertex, port: 0 }
 }
 
-pub(crate) fn vertices(alloc: Global) -> Result<Vec<Vertex>, Fail> {
+fn vertices(alloc: Global) -> Result<Vec<Vertex>, Fail> {
     let mut all = Vec::new(alloc);
     all.push(vertex(alloc, b"s", Kind::Sensor(0), &[], &[1])?)?;
     all.push(vertex(alloc, b"f", Kind::Function(0), &[of(0)], &[1])?)?;
@@ -46,19 +46,19 @@ pub(crate) fn vertices(alloc: Global) -> Result<Vec<Vertex>, Fail> {
 }
 
 /// The first element of the first input, and 1 more.
-pub(crate) fn one_more(alloc: Global) -> Result<Items<Expr>, Fail> {
+fn one_more(alloc: Global) -> Result<Items<Expr>, Fail> {
     let index = Box::new(alloc, Expr::Lit(0))?;
     let element = Box::new(alloc, Expr::Elem(0, index))?;
     let one = Box::new(alloc, Expr::Lit(1))?;
     Ok(Items::new(vec![in alloc; Expr::Apply(Op::Add, element, one)]?))
 }
 
-pub(crate) fn flat(rt: &impl Abort, vertices: Vec<Vertex>, bodies: Vec<Items<Expr>>) -> Flat {
+fn flat(rt: &impl Abort, vertices: Vec<Vertex>, bodies: Vec<Items<Expr>>) -> Flat {
     assert!(rt; is_flat(&vertices, &bodies));
     Flat::new(vertices, bodies)
 }
 
-pub(crate) fn bus(alloc: Global) -> Result<Medium, Fail> {
+fn bus(alloc: Global) -> Result<Medium, Fail> {
     Ok(Medium {
         name: Name::new(alloc, b"bus")?,
         multi: false,
@@ -68,12 +68,12 @@ pub(crate) fn bus(alloc: Global) -> Result<Medium, Fail> {
     })
 }
 
-pub(crate) fn archi(rt: &impl Abort, operators: Vec<Name>, media: Vec<Medium>) -> Archi {
+fn archi(rt: &impl Abort, operators: Vec<Name>, media: Vec<Medium>) -> Archi {
     assert!(rt; is_archi(&operators, &media));
     Archi::new(operators, media)
 }
 
-pub(crate) fn call(alloc: Global, vertex: u32, ins: &[u32], outs: &[u32]) -> Result<Instr, Fail> {
+fn call(alloc: Global, vertex: u32, ins: &[u32], outs: &[u32]) -> Result<Instr, Fail> {
     Ok(Instr::Call {
         vertex,
         ins: Items::new(Vec::from_slice(alloc, ins)?),
@@ -81,12 +81,7 @@ pub(crate) fn call(alloc: Global, vertex: u32, ins: &[u32], outs: &[u32]) -> Res
     })
 }
 
-pub(crate) fn code(
-    operator: u32,
-    medium: Option<u32>,
-    prologue: Vec<Instr>,
-    turn: Vec<Instr>,
-) -> SeqCode {
+fn code(operator: u32, medium: Option<u32>, prologue: Vec<Instr>, turn: Vec<Instr>) -> SeqCode {
     SeqCode {
         seq: Seq { operator, medium },
         prologue: Items::new(prologue),
@@ -104,7 +99,7 @@ fn first_computation(alloc: Global) -> Result<SeqCode, Fail> {
     Ok(code(0, None, Vec::new(alloc), turn))
 }
 
-pub(crate) fn sender(alloc: Global) -> Result<SeqCode, Fail> {
+fn sender(alloc: Global) -> Result<SeqCode, Fail> {
     let mut turn = Vec::new(alloc);
     turn.push(Instr::Suc1(0))?;
     turn.push(Instr::Send { buffer: 0, to: 1 })?;
@@ -138,7 +133,7 @@ fn receiver(alloc: Global) -> Result<SeqCode, Fail> {
     Ok(code(1, Some(0), Vec::new(alloc), turn))
 }
 
-pub(crate) fn on(operator: u32) -> Buffer {
+fn on(operator: u32) -> Buffer {
     Buffer {
         operator,
         len: 1,
@@ -146,7 +141,7 @@ pub(crate) fn on(operator: u32) -> Buffer {
     }
 }
 
-pub(crate) fn program(alloc: Global, sender: SeqCode) -> Result<Program, Fail> {
+fn program(alloc: Global, sender: SeqCode) -> Result<Program, Fail> {
     let mut seqs = Vec::new(alloc);
     seqs.push(first_computation(alloc)?)?;
     seqs.push(sender)?;

@@ -1,9 +1,9 @@
 //! Each transfer has its send, its receive, and the waits of the other communicators, in this order.
 ghost use Rattle.std.specs.Prelude.{◌≡◌, ◌+◌, ◌&&◌, not, nat_eq, nat_lt, slice_get};
-ghost use Rattle.semaphore_core.specs.Instructions.{len_of, medium, operator, turn};
-ghost use Rattle.semaphore_core.specs.MicroSteps.{is_on, transfers};
-ghost use Rattle.semaphore_core.specs.Places.{buffer_in, communication_at, is_receive, is_send, receives_at, sends_at};
-ghost use Rattle.semaphore_core.specs.WellFormed.{place_in};
+ghost use Rattle.executive_program.specs.Instructions.{len_of, medium, operator, turn};
+ghost use Rattle.executive_program.specs.MicroSteps.{is_on, transfers};
+ghost use Rattle.executive_program.specs.Places.{buffer_in, communication_at, is_receive, is_send, receives_at, sends_at};
+ghost use Rattle.executive_program.specs.WellFormed.{place_in};
 ghost use Rattle.order_check.specs.Checked.{all_at, all_below, implies};
 ghost use Rattle.order_check.specs.Transfers.{are_transfers, buffer_at, is_before_next, is_later, is_other, is_received, is_sent, stands_at, waits_at, is_receive_from, is_send_to, is_transfer, is_transfer_between, is_wait, place_of, receiver_of, sender_of, waits};
 
@@ -11,7 +11,7 @@ use crate::acts::Stand;
 use crate::parts::{len_of, medium_of, operator_of, turn_of};
 use crate::placing::place_in;
 use crate::searches::{communication_at, is_on, transfers};
-use semaphore_core::{Instr, Program, SeqCode};
+use executive_program::{Instr, Program, SeqCode};
 
 /// A transfer by its medium and its number there.
 #[derive(Clone, Copy, Drop)]

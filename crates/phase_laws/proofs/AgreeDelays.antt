@@ -12,10 +12,10 @@ use Rattle.flat_graph.specs.Valid.{is_flat, names, has_twin, has_get_half, is_ge
 use Rattle.flat_graph.specs.Meaning.{is_get, delay_number}
 use Rattle.flat_graph.proofs.Facts.{vertex_valid, twin_of}
 use Rattle.archi_graph.specs.declared.medium.Seq.{Seq}
-use Rattle.semaphore_core.specs.declared.program.Program.{Program}
+use Rattle.executive_program.specs.declared.program.Program.{Program}
 use Rattle.semaphore_core.specs.Operation.{delay_by, delay_of}
-use Rattle.semaphore_core.specs.Places.{calling}
-use Rattle.semaphore_core.specs.WellFormed.{IsOrder}
+use Rattle.executive_program.specs.Places.{calling}
+use Rattle.executive_program.specs.WellFormed.{IsOrder}
 
 -- the number of get halves grows past a get half
 more_gets : (xs : List Vertex) (v u : ℕ) (x : Vertex) (z : List ℤ) → slice_get xs v ≡ Some x → x.kind ≡ Get z → v < u → delay_number xs v < delay_number xs u

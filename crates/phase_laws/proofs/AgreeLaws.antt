@@ -6,8 +6,8 @@ use Rattle.interleavings.specs.Fresh.{IsFresh}
 use Rattle.interleavings.specs.Laws as laws_of_theory
 use Rattle.interleavings.specs.Laws.{Discipline, IsDisciplined}
 use Rattle.interleavings.proofs.Synchronized.{have_laws}
-use Rattle.semaphore_core.specs.declared.steps.MicroStep.{MicroStep}
-use Rattle.semaphore_core.specs.declared.steps.MicroStep.TheVariants.{Take, See, Lower, Signal, Await, Advance, Load, Store}
+use Rattle.executive_program.specs.declared.steps.MicroStep.{MicroStep}
+use Rattle.executive_program.specs.declared.steps.MicroStep.TheVariants.{Take, See, Lower, Signal, Await, Advance, Load, Store}
 use Rattle.semaphore_core.specs.Registers.{Own}
 use Rattle.semaphore_core.specs.Job.{JobData, system}
 use Rattle.flat_graph.specs.Valid.{is_flat}

@@ -8,10 +8,10 @@ use Rattle.flat_graph.specs.declared.vertex.Kind.TheVariants.{Sensor, Actuator, 
 use Rattle.flat_graph.specs.declared.vertex.Vertex.{Vertex}
 use Rattle.flat_graph.specs.Fire.{fired, kept as kept_cell}
 use Rattle.flat_graph.specs.Meaning.{sensed}
-use Rattle.semaphore_core.specs.declared.steps.OnLoad.{OnLoad}
-use Rattle.semaphore_core.specs.declared.steps.OnLoad.TheVariants.{Gather, Carry as CarryIn, Compute as ComputeIn}
-use Rattle.semaphore_core.specs.declared.steps.OnStore.{OnStore}
-use Rattle.semaphore_core.specs.declared.steps.OnStore.TheVariants.{Give, Carry as CarryOut, Compute as ComputeOut}
+use Rattle.executive_program.specs.declared.steps.OnLoad.{OnLoad}
+use Rattle.executive_program.specs.declared.steps.OnLoad.TheVariants.{Gather, Carry as CarryIn, Compute as ComputeIn}
+use Rattle.executive_program.specs.declared.steps.OnStore.{OnStore}
+use Rattle.executive_program.specs.declared.steps.OnStore.TheVariants.{Give, Carry as CarryOut, Compute as ComputeOut}
 use Rattle.semaphore_core.specs.Operation.{vectors_from, lens_in, conditions_in, inputs_in, delay_of, cell_at, with_cell, rows_by}
 use Rattle.semaphore_core.specs.Registers.{Own, with_registers, kept, gathered, compute_by, compute, absorb_by, emit_by, after_by}
 use Rattle.semaphore_core.specs.Job.{JobData, zero_rows}

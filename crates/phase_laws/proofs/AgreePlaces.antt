@@ -9,13 +9,13 @@ use Rattle.std.proofs.lemmas.Option.{get_or_from_slice_get, slice_get-map}
 use Rattle.interleavings.specs.System.{put}
 use Rattle.interleavings.specs.Owners.{sum_below}
 use Rattle.level_meaning.specs.Level.{zeros}
-use Rattle.semaphore_core.specs.declared.program.Program.{Program}
-use Rattle.semaphore_core.specs.declared.program.Buffer as declared
-use Rattle.semaphore_core.specs.declared.steps.Place.{Place}
-use Rattle.semaphore_core.specs.declared.steps.Place.TheVariants.{Buffer, Wire}
-use Rattle.semaphore_core.specs.Blocks.{blocks, block_at}
-use Rattle.semaphore_core.specs.Instructions.{len_of, depth_of, len_in, depth_in}
-use Rattle.semaphore_core.specs.MicroSteps.{element_of, wire_of, wire_len, buffer_elements}
+use Rattle.executive_program.specs.declared.program.Program.{Program}
+use Rattle.executive_program.specs.declared.program.Buffer as declared
+use Rattle.executive_program.specs.declared.steps.Place.{Place}
+use Rattle.executive_program.specs.declared.steps.Place.TheVariants.{Buffer, Wire}
+use Rattle.executive_program.specs.Blocks.{blocks, block_at}
+use Rattle.executive_program.specs.Instructions.{len_of, depth_of, HasPlaces, len_in, depth_in}
+use Rattle.executive_program.specs.MicroSteps.{element_of, wire_of, wire_len, buffer_elements}
 use Rattle.semaphore_core.specs.Job.{buffer_at, depth_at, period_at}
 use Rattle.semaphore_core.specs.Core.{home_of, slot_of, buffer_zeros, wire_zeros}
 use Rattle.phase_laws.specs.Agrees.{LiesAt}
@@ -149,11 +149,11 @@ module _ (p : Program) (media : ℕ) where
     pub slot : slot_of p x r ≡ slot_at x at
     pub word : y ≡ word_of x
 
-  pub placed : ((b : ℕ) → depth_of p b ≡ 1) → (x : Place) (y i r : ℕ) → LiesAt p media x y i → Placed x y i r
-  placed single (Buffer b n) y i r h = record {
+  pub placed : HasPlaces p → (x : Place) (y i r : ℕ) → LiesAt p media x y i → Placed x y i r
+  placed places (Buffer b n) y i r h = record {
     at = r % depth_of p b;
     number = (λ t. (r * period t + h.3 t) % depth t) ∙ ap (λ (k : ℕ). k % depth_of p b) (let z : r * 1 + 0 ≡ r = omega arith in z);
-    inside = (h.0, h.1, mod_below r (depth_of p b) (let z = single b in omega arith));
+    inside = (h.0, h.1, mod_below r (depth_of p b) (let z = places b in omega arith));
     slot = refl;
     word = h.2;
   }
@@ -169,7 +169,7 @@ module _ (p : Program) (media : ℕ) where
 
       depth : depth_at p media y ≡ depth_of p b
       depth = rw (lt-ltb y (buffer_elements p) low) (ap (depth_of p) block)
-  placed single (Wire m n) y i r h = record {
+  placed places (Wire m n) y i r h = record {
     at = 0;
     number = ap (λ (d : ℕ). (r * period_at p media y + i) % d) depth ∙ one (r * period_at p media y + i);
     inside = (h.0, h.1, refl);

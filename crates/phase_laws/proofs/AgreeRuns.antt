@@ -10,20 +10,20 @@ use Rattle.interleavings.specs.System.{Micro, State, put, place_number, take as 
 use Rattle.level_meaning.specs.Level.{Vector, element_at, vector_at}
 use Rattle.flat_graph.specs.declared.vertex.Vertex.{Vertex}
 use Rattle.flat_graph.specs.declared.vertex.Kind.TheVariants.{Actuator}
-use Rattle.semaphore_core.specs.declared.steps.Place.{Place}
-use Rattle.semaphore_core.specs.declared.steps.Place.TheVariants.{Buffer, Wire}
-use Rattle.semaphore_core.specs.declared.steps.OnLoad.{OnLoad}
-use Rattle.semaphore_core.specs.declared.steps.OnStore.{OnStore}
-use Rattle.semaphore_core.specs.declared.steps.MicroStep.{MicroStep}
-use Rattle.semaphore_core.specs.declared.steps.MicroStep.TheVariants.{Take, See, Lower, Signal, Await, Advance, Load, Store}
-use Rattle.semaphore_core.specs.Instructions.{len_of, depth_of}
-use Rattle.semaphore_core.specs.MicroSteps.{code, transfers, wire_len}
+use Rattle.executive_program.specs.declared.steps.Place.{Place}
+use Rattle.executive_program.specs.declared.steps.Place.TheVariants.{Buffer, Wire}
+use Rattle.executive_program.specs.declared.steps.OnLoad.{OnLoad}
+use Rattle.executive_program.specs.declared.steps.OnStore.{OnStore}
+use Rattle.executive_program.specs.declared.steps.MicroStep.{MicroStep}
+use Rattle.executive_program.specs.declared.steps.MicroStep.TheVariants.{Take, See, Lower, Signal, Await, Advance, Load, Store}
+use Rattle.executive_program.specs.Instructions.{len_of, depth_of, HasPlaces}
+use Rattle.executive_program.specs.MicroSteps.{code, transfers, wire_len}
 use Rattle.semaphore_core.specs.Operation.{delay_of}
 use Rattle.semaphore_core.specs.Registers.{Own, absorb_by, emit_by, after_by, absorb_at, emit_at, after_at}
-use Rattle.semaphore_core.specs.Steps.{steps}
+use Rattle.executive_program.specs.Steps.{steps}
 use Rattle.semaphore_core.specs.Job.{JobData, reactions, zero_rows, system}
 use Rattle.semaphore_core.specs.Core.{Core, home_of, slot_of, turn_reached, opening, count, counted, reaction, full, next, own, enabled_by, is_enabled, element_of, with_own, done_by, step, run_from, run}
-use Rattle.semaphore_core.proofs.Singles.{is_single}
+use Rattle.executive_program.proofs.Formed.{formed_has_places}
 use Rattle.phase_laws.specs.Agrees.{IsFormed, IsMatched, LiesAt, LoadsHere, StoresHere, caller, row_at, Agrees, StepsTogether}
 use Rattle.phase_laws.proofs.AgreeSteps.{AtSame, matched_at, steps_matched}
 use Rattle.phase_laws.proofs.AgreeLists.{put_here, put_there, set_put, set_in, set_in_lens}
@@ -43,9 +43,9 @@ same_reached j true t a = refl
 same_reached j false t a = refl
 
 module _ (j : JobData) (f : IsFormed j) where
-  -- buffers have one place, and both codes the same reactions and ends
-  single : (b : ℕ) → depth_of j.program b ≡ 1
-  single = is_single j.program j.graph f.seqs j.media f.formed
+  -- buffers have places, and both codes the same reactions and ends
+  has_places : HasPlaces j.program
+  has_places = formed_has_places j.program j.graph f.seqs j.media f.formed
 
   reaction_same : (s n : ℕ) → reaction_at (steps j.program s) n ≡ reaction_at (code j.program s) n
   reaction_same s n = let m = steps_matched j f s in λ i. (n - m.prologues_as_long i) / m.turns_as_long i
@@ -236,7 +236,7 @@ module _ (j : JobData) (f : IsFormed j) where
 
       module _ (x : Place) (y i : ℕ) (lies : LiesAt j.program j.media x y i) where
         p : Placed j.program j.media x y i R
-        p = placed j.program j.media single x y i R lies
+        p = placed j.program j.media has_places x y i R lies
 
         slot_is : slot_of j.program x K ≡ slot_at j.program j.media x p.at
         slot_is = ap (slot_of j.program x) reactions_same ∙ p.slot

@@ -9,20 +9,20 @@ use Rattle.flat_graph.specs.Graph.{Graph}
 use Rattle.archi_graph.specs.declared.medium.Seq.{Seq}
 use Rattle.interleavings.specs.System.{Micro, take as taken, see, sub}
 use Rattle.interleavings.specs.Owners.{sum_below}
-use Rattle.semaphore_core.specs.declared.program.Instr.{Instr}
-use Rattle.semaphore_core.specs.declared.program.Instr.TheVariants.{Suc0, Suc1, Pre0, Pre1, Call, Send, Recv, Sync}
-use Rattle.semaphore_core.specs.declared.program.SeqCode.{SeqCode}
-use Rattle.semaphore_core.specs.declared.program.Program.{Program}
-use Rattle.semaphore_core.specs.declared.steps.MicroStep.{MicroStep}
-use Rattle.semaphore_core.specs.declared.steps.MicroStep.TheVariants.{Take, See, Lower}
-use Rattle.semaphore_core.specs.declared.steps.OnLoad.TheVariants.{Gather, Compute as ComputeIn}
-use Rattle.semaphore_core.specs.declared.steps.OnStore.TheVariants.{Give, Compute as ComputeOut}
-use Rattle.semaphore_core.specs.Blocks.{blocks, repeated}
-use Rattle.semaphore_core.specs.Instructions.{is_communication, turn, turn_of, prologue, prologue_of, medium, medium_in, number_or, len_of, pair_depth, communications, readers, Reader}
-use Rattle.semaphore_core.specs.MicroSteps.{is_on, takes, transfers, element_of, wire_of, wire_len, longest_sent, longest_in, longest_on, sent_len, load_at, store_at, loads_of, stores_of, loads_at, stores_at, send_at, receive_at, micros_of, micros_in, block_in, code}
-use Rattle.semaphore_core.specs.Steps.{take_steps, on_load, on_store, load_step, store_step, send_step, receive_step, load_steps, store_steps, input_steps, output_steps, len_at, elements_in, steps_of, steps_in, steps_at, steps_in_list, steps_by, steps}
-use Rattle.semaphore_core.specs.Places.{calling, signals_of, opening_of, opening_signals, places, Transfer}
-use Rattle.semaphore_core.specs.WellFormed.{Stands, IsTransfer, IsOrder, operator_of}
+use Rattle.executive_program.specs.declared.program.Instr.{Instr}
+use Rattle.executive_program.specs.declared.program.Instr.TheVariants.{Suc0, Suc1, Pre0, Pre1, Call, Send, Recv, Sync}
+use Rattle.executive_program.specs.declared.program.SeqCode.{SeqCode}
+use Rattle.executive_program.specs.declared.program.Program.{Program}
+use Rattle.executive_program.specs.declared.steps.MicroStep.{MicroStep}
+use Rattle.executive_program.specs.declared.steps.MicroStep.TheVariants.{Take, See, Lower}
+use Rattle.executive_program.specs.declared.steps.OnLoad.TheVariants.{Gather, Compute as ComputeIn}
+use Rattle.executive_program.specs.declared.steps.OnStore.TheVariants.{Give, Compute as ComputeOut}
+use Rattle.executive_program.specs.Blocks.{blocks, repeated}
+use Rattle.executive_program.specs.Instructions.{is_communication, turn, turn_of, prologue, prologue_of, medium, medium_in, number_or, len_of, pair_depth, communications, readers, Reader}
+use Rattle.executive_program.specs.MicroSteps.{is_on, takes, transfers, element_of, wire_of, wire_len, longest_sent, longest_in, longest_on, sent_len, load_at, store_at, loads_of, stores_of, loads_at, stores_at, send_at, receive_at, micros_of, micros_in, block_in, code}
+use Rattle.executive_program.specs.Steps.{take_steps, on_load, on_store, load_step, store_step, send_step, receive_step, load_steps, store_steps, input_steps, output_steps, len_at, elements_in, steps_of, steps_in, steps_at, steps_in_list, steps_by, steps}
+use Rattle.executive_program.specs.Places.{calling, signals_of, opening_of, opening_signals, places, Transfer}
+use Rattle.executive_program.specs.WellFormed.{Stands, IsTransfer, IsOrder, operator_of}
 use Rattle.semaphore_core.specs.Job.{JobData}
 use Rattle.phase_laws.specs.Agrees.{IsFormed, LoadsHere, StoresHere, Matches, AreMatched, IsMatched}
 use Rattle.phase_laws.proofs.Blocks.{in_block}

@@ -13,8 +13,8 @@ use Rattle.flat_graph.specs.Graph.{Graph, lens_of}
 use Rattle.flat_graph.specs.Valid.{is_flat, fits, actuators_from, kinds_of}
 use Rattle.flat_graph.specs.Meaning.{is_get, delay_number, initial_cell, initial_cells}
 use Rattle.flat_graph.proofs.Facts.{vertex_valid, fits_of}
-use Rattle.semaphore_core.specs.Instructions.{len_of, depth_of}
-use Rattle.semaphore_core.specs.MicroSteps.{wire_len}
+use Rattle.executive_program.specs.Instructions.{len_of, depth_of}
+use Rattle.executive_program.specs.MicroSteps.{wire_len}
 use Rattle.semaphore_core.specs.Operation.{delay_by, delay_of}
 use Rattle.semaphore_core.specs.Registers.{Own}
 use Rattle.semaphore_core.specs.Job.{JobData, reactions, zero_rows, actuator_len, actuator_lens}

@@ -16,8 +16,8 @@ use Rattle.flat_graph.specs.declared.vertex.Vertex.{Vertex}
 use Rattle.flat_graph.specs.Graph.{lens_of}
 use Rattle.flat_graph.specs.Valid.{actuators_from, kinds_of}
 use Rattle.flat_graph.specs.Meaning.{is_get, delay_number, initial_cell, initial_cells, flat_act, cells_after}
-use Rattle.semaphore_core.specs.Instructions.{len_of, depth_of}
-use Rattle.semaphore_core.specs.MicroSteps.{element_of, wire_of, wire_len}
+use Rattle.executive_program.specs.Instructions.{len_of, depth_of}
+use Rattle.executive_program.specs.MicroSteps.{element_of, wire_of, wire_len}
 use Rattle.semaphore_core.specs.Operation.{delay_of}
 use Rattle.semaphore_core.specs.Job.{JobData, reactions, zero_rows, actuator_len, actuator_lens, system}
 use Rattle.semaphore_core.specs.Told.{stored_value, registers_after, made, last_load, cell_by, cells_from, cells_by, row_by, row_of, rows_from, rows_by, done_in, done_by, own_after, element_told, buffer_told, wire_told, told}

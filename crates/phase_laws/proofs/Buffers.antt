@@ -7,14 +7,14 @@ use Rattle.interleavings.specs.System.{System, Micro, take as taken, see, sub, s
 use Rattle.interleavings.specs.Owners.{Owner}
 use Rattle.interleavings.specs.Media.{Half}
 use Rattle.interleavings.specs.Synchronized as V
-use Rattle.semaphore_core.specs.declared.program.Instr.{Instr}
-use Rattle.semaphore_core.specs.declared.program.Buffer.{Buffer}
-use Rattle.semaphore_core.specs.declared.program.Program.{Program}
-use Rattle.semaphore_core.specs.Instructions.{turn, len_of, len_in, depth_of, medium, number_or, communications}
-use Rattle.semaphore_core.specs.MicroSteps.{code, begins, size, element_of, buffer_elements}
-use Rattle.semaphore_core.specs.Places.{Places}
-use Rattle.semaphore_core.specs.WellFormed.{Stands, WritesAt, ReadsAt}
-use Rattle.semaphore_core.specs.WellFormed as WF
+use Rattle.executive_program.specs.declared.program.Instr.{Instr}
+use Rattle.executive_program.specs.declared.program.Buffer.{Buffer}
+use Rattle.executive_program.specs.declared.program.Program.{Program}
+use Rattle.executive_program.specs.Instructions.{turn, len_of, len_in, depth_of, medium, number_or, communications}
+use Rattle.executive_program.specs.MicroSteps.{code, begins, size, element_of, buffer_elements}
+use Rattle.executive_program.specs.Places.{Places}
+use Rattle.executive_program.specs.WellFormed.{Stands, WritesAt, ReadsAt}
+use Rattle.executive_program.specs.WellFormed as WF
 use Rattle.phase_laws.specs.Discipline.{signaller, half}
 use Rattle.phase_laws.proofs.Blocks.{sum_same_block, sum_inside, block_at_is}
 use Rattle.phase_laws.proofs.Places.{stands_sequence, at_turn, Origin, origin, FromAt, owned_late, earlier}
@@ -110,7 +110,7 @@ module _ (p : Program) (w : Places) (c : Conditions p w) {P : Type 0} (reactions
         written = owned_late p c.media reactions own (stores (element_of p b j)) (w.writing b).writer (stored_at j) (store (element_of p b j) 0) store_here.0 (eq-eqb (element_of p b j) (element_of p b j) refl)
             (stands_sequence p _ _ _ one.stands) only_here (front_no_store (element_of p b j));
         once = rw (lt-ltb (element_of p b j) (buffer_elements p) (element_low p b j low)) refl;
-        some = let d = depth_is in let e = one.one_place in omega arith;
+        some = let d = depth_is in let e = one.some_place in omega arith;
       }
 
       -- in the writing sequence it is loaded after the store

@@ -9,10 +9,10 @@ use Rattle.level_meaning.specs.Level.{Vector, element_at, vector_at, all_joined}
 use Rattle.flat_graph.specs.declared.vertex.Kind.TheVariants.{Get}
 use Rattle.flat_graph.specs.declared.vertex.Vertex.{Vertex}
 use Rattle.flat_graph.specs.Meaning.{delay_number, cell_of, cells_after, flat_outputs}
-use Rattle.semaphore_core.specs.declared.program.Instr.{Instr}
-use Rattle.semaphore_core.specs.declared.program.Instr.TheVariants.{Suc0, Suc1, Pre0, Pre1, Call, Send, Recv, Sync}
-use Rattle.semaphore_core.specs.Instructions.{len_of}
-use Rattle.semaphore_core.specs.Steps.{len_at, elements_in}
+use Rattle.executive_program.specs.declared.program.Instr.{Instr}
+use Rattle.executive_program.specs.declared.program.Instr.TheVariants.{Suc0, Suc1, Pre0, Pre1, Call, Send, Recv, Sync}
+use Rattle.executive_program.specs.Instructions.{len_of}
+use Rattle.executive_program.specs.Steps.{len_at, elements_in}
 use Rattle.semaphore_core.specs.Registers.{Own, gathered, compute, compute_by}
 use Rattle.semaphore_core.specs.Job.{JobData, reactions}
 use Rattle.semaphore_core.specs.Told.{registers_in, buffer_value}

@@ -9,9 +9,9 @@ use Rattle.level_meaning.specs.Level.{Values, vector_at}
 use Rattle.flat_graph.specs.declared.vertex.Vertex.{Vertex}
 use Rattle.flat_graph.specs.declared.vertex.Kind.TheVariants.{Actuator}
 use Rattle.flat_graph.specs.Meaning.{flat_act}
-use Rattle.semaphore_core.specs.declared.program.Instr.TheVariants.{Call}
-use Rattle.semaphore_core.specs.MicroSteps.{code}
-use Rattle.semaphore_core.specs.Places.{calling}
+use Rattle.executive_program.specs.declared.program.Instr.TheVariants.{Call}
+use Rattle.executive_program.specs.MicroSteps.{code}
+use Rattle.executive_program.specs.Places.{calling}
 use Rattle.semaphore_core.specs.Job.{JobData, reactions}
 use Rattle.semaphore_core.specs.Core.{Core, run, count, full}
 use Rattle.semaphore_core.specs.Told.{made, last_load, rows_from, rows_by, done_in}

@@ -6,13 +6,13 @@ use Rattle.std.proofs.lemmas.Bool.{cases_lt, cases_eq, eq-eqb, ne_eqb}
 use native.Mathlib.Nat.{mul-one}
 use Rattle.interleavings.specs.System.{Micro, take as taken, see, sub, signal, await, advance, load, store}
 use Rattle.interleavings.specs.Owners.{sum_below}
-use Rattle.semaphore_core.specs.declared.program.Instr.{Instr}
-use Rattle.semaphore_core.specs.declared.program.Instr.TheVariants.{Suc0, Suc1, Pre0, Pre1, Call, Send, Recv, Sync}
-use Rattle.semaphore_core.specs.declared.program.Program.{Program}
-use Rattle.semaphore_core.specs.Blocks.{blocks}
-use Rattle.semaphore_core.specs.Instructions.{len_of, pair_depth}
-use Rattle.semaphore_core.specs.MicroSteps.{takes, element_of, wire_of, access, store_at, loads_of, stores_of, loads_at, stores_at, send_at, receive_at, micros_of}
-use Rattle.semaphore_core.specs.WellFormed.{WritesAt, ReadsAt}
+use Rattle.executive_program.specs.declared.program.Instr.{Instr}
+use Rattle.executive_program.specs.declared.program.Instr.TheVariants.{Suc0, Suc1, Pre0, Pre1, Call, Send, Recv, Sync}
+use Rattle.executive_program.specs.declared.program.Program.{Program}
+use Rattle.executive_program.specs.Blocks.{blocks}
+use Rattle.executive_program.specs.Instructions.{len_of, pair_depth}
+use Rattle.executive_program.specs.MicroSteps.{takes, element_of, wire_of, access, store_at, loads_of, stores_of, loads_at, stores_at, send_at, receive_at, micros_of}
+use Rattle.executive_program.specs.WellFormed.{WritesAt, ReadsAt}
 use Rattle.phase_laws.proofs.Blocks.{get-append_past, get-append_within, blocks_length, blocks_at, InBlock, in_block, sum_const}
 
 -- x takes semaphore z of pair q, or signals it

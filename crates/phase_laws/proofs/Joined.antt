@@ -7,10 +7,10 @@ use Rattle.std.proofs.lemmas.List.FromFn.{length-map-range_with_len, get_or-map-
 use native.Mathlib.Nat.{zero-add}
 use Rattle.interleavings.specs.Owners.{sum_below}
 use Rattle.level_meaning.specs.Level.{Vector, Values, element_at, vector_at, all_joined}
-use Rattle.semaphore_core.specs.declared.program.Program.{Program}
-use Rattle.semaphore_core.specs.Instructions.{len_of}
+use Rattle.executive_program.specs.declared.program.Program.{Program}
+use Rattle.executive_program.specs.Instructions.{len_of}
 use Rattle.semaphore_core.specs.Operation.{vector_in, vectors_from}
-use Rattle.semaphore_core.specs.Steps.{len_by, len_at, elements_in}
+use Rattle.executive_program.specs.Steps.{len_by, len_at, elements_in}
 use Rattle.phase_laws.proofs.Blocks.{get-append_past, get-append_within}
 
 pub sum_cons : (f : ℕ → ℕ) (n : ℕ) → sum_below f (suc n) ≡ f 0 + sum_below (λ i. f (suc i)) n

@@ -17,11 +17,11 @@ use Rattle.flat_graph.specs.Laws.{delay_lens, delay_len}
 use Rattle.flat_graph.proofs.Facts.{vertex_valid}
 use Rattle.flat_graph.proofs.Sizes.{keeps_lengths}
 use Rattle.flat_graph.proofs.KindLens.{length-vector_at}
-use Rattle.semaphore_core.specs.declared.program.Buffer.{Buffer}
-use Rattle.semaphore_core.specs.Instructions.{len_of, len_in}
+use Rattle.executive_program.specs.declared.program.Buffer.{Buffer}
+use Rattle.executive_program.specs.Instructions.{len_of, len_in}
 use Rattle.semaphore_core.specs.Operation.{lens_in}
-use Rattle.semaphore_core.specs.Places.{places, carried}
-use Rattle.semaphore_core.specs.WellFormed.{HasLength, CarryInOrder, CarryOutputs, len_is}
+use Rattle.executive_program.specs.Places.{places, carried}
+use Rattle.executive_program.specs.WellFormed.{HasLength, CarryInOrder, CarryOutputs, len_is}
 use Rattle.semaphore_core.specs.Job.{JobData, reactions}
 use Rattle.semaphore_core.specs.Told.{source_value, buffer_value}
 use Rattle.phase_laws.specs.Values.{IsSupplied}

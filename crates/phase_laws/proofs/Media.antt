@@ -7,13 +7,13 @@ use Rattle.consistent_cuts.specs.Sites.{step_at, place_at}
 use Rattle.interleavings.specs.System.{System, Micro, take as taken, see, sub, signal, await, advance, load, store, advances}
 use Rattle.interleavings.specs.Owners.{Owner, IsOwned}
 use Rattle.interleavings.specs.Media.{Half, owner_of, advances_half, IsMedium}
-use Rattle.semaphore_core.specs.declared.program.Instr.{Instr}
-use Rattle.semaphore_core.specs.declared.program.Instr.TheVariants.{Send, Recv, Sync}
-use Rattle.semaphore_core.specs.declared.program.Program.{Program}
-use Rattle.semaphore_core.specs.Instructions.{is_communication, turn, medium, number_or, communications, len_of, operator}
-use Rattle.semaphore_core.specs.MicroSteps.{micros_of, code, size, transfers}
-use Rattle.semaphore_core.specs.Places.{Places}
-use Rattle.semaphore_core.specs.WellFormed.{Stands, Communicates, IsTransfer, Before}
+use Rattle.executive_program.specs.declared.program.Instr.{Instr}
+use Rattle.executive_program.specs.declared.program.Instr.TheVariants.{Send, Recv, Sync}
+use Rattle.executive_program.specs.declared.program.Program.{Program}
+use Rattle.executive_program.specs.Instructions.{is_communication, turn, medium, number_or, communications, len_of, operator}
+use Rattle.executive_program.specs.MicroSteps.{micros_of, code, size, transfers}
+use Rattle.executive_program.specs.Places.{Places}
+use Rattle.executive_program.specs.WellFormed.{Stands, Communicates, IsTransfer, Before}
 use Rattle.phase_laws.specs.Discipline.{signaller, half, half_by}
 use Rattle.phase_laws.proofs.Places.{micros_at, stands_sequence, at_turn, at_first, Origin, origin, FromAt, owned_late}
 use Rattle.phase_laws.proofs.Setting.{Parts, Conditions, system_of}

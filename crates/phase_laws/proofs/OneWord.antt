@@ -2,9 +2,9 @@
 use Rattle.std.proofs.Common.{◌≡◌, ℕ, ◌*◌, ◌+◌, cond, ltb, length, Option, Some, None, refl, ap, ◌∙◌}
 use Rattle.std.specs.Prelude.{nat_eq, nat_le}
 use Rattle.consistent_cuts.specs.Sites.{step_at, reaction_at}
-use Rattle.semaphore_core.specs.declared.steps.MicroStep.{MicroStep}
-use Rattle.semaphore_core.specs.declared.steps.MicroStep.TheVariants.{Take, See, Lower, Signal, Await, Advance, Load, Store}
-use Rattle.semaphore_core.specs.Steps.{steps}
+use Rattle.executive_program.specs.declared.steps.MicroStep.{MicroStep}
+use Rattle.executive_program.specs.declared.steps.MicroStep.TheVariants.{Take, See, Lower, Signal, Await, Advance, Load, Store}
+use Rattle.executive_program.specs.Steps.{steps}
 use Rattle.semaphore_core.specs.Job.{JobData}
 use Rattle.semaphore_core.specs.Core.{Core, full, next, reaction, enabled_in, enabled_by, is_enabled, turn_reached}
 use Rattle.phase_laws.specs.OneWord.{HaveSameWord, looked_at, looked_at_by, EnabledByOneWord}

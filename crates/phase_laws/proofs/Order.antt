@@ -11,15 +11,15 @@ use Rattle.interleavings.specs.Owners.{Owner}
 use Rattle.interleavings.specs.Media.{Half}
 use Rattle.interleavings.specs.Pairs.{IsSemaphore}
 use Rattle.interleavings.specs.Order.{IsOrdered}
-use Rattle.semaphore_core.specs.declared.program.Instr.{Instr}
-use Rattle.semaphore_core.specs.declared.program.Instr.TheVariants.{Suc0, Suc1, Pre1, Sync}
-use Rattle.semaphore_core.specs.declared.program.Program.{Program}
-use Rattle.semaphore_core.specs.Blocks.{block_at}
-use Rattle.semaphore_core.specs.Instructions.{is_communication, turn, communications, len_of, pair_depth}
-use Rattle.semaphore_core.specs.MicroSteps.{code, begins, size, transfers, block}
-use Rattle.semaphore_core.specs.Places.{Places}
-use Rattle.semaphore_core.specs.WellFormed.{Stands, Before, place_in, place}
-use Rattle.semaphore_core.specs.WellFormed as WF
+use Rattle.executive_program.specs.declared.program.Instr.{Instr}
+use Rattle.executive_program.specs.declared.program.Instr.TheVariants.{Suc0, Suc1, Pre1, Sync}
+use Rattle.executive_program.specs.declared.program.Program.{Program}
+use Rattle.executive_program.specs.Blocks.{block_at}
+use Rattle.executive_program.specs.Instructions.{is_communication, turn, communications, len_of, pair_depth}
+use Rattle.executive_program.specs.MicroSteps.{code, begins, size, transfers, block}
+use Rattle.executive_program.specs.Places.{Places}
+use Rattle.executive_program.specs.WellFormed.{Stands, Before, place_in, place}
+use Rattle.executive_program.specs.WellFormed as WF
 use Rattle.phase_laws.specs.Discipline.{signaller, half, spot, stride, steps, front}
 use Rattle.phase_laws.proofs.Blocks.{sum_same_block, sum_inside, block_at_is, inside, member_below, blocks_length}
 use Rattle.phase_laws.proofs.Places.{stands_sequence, at_turn, Origin, origin, earlier, front_sequence, slice_get_some}
@@ -163,7 +163,7 @@ module _ (p : Program) (w : Places) (c : Conditions p w) {P : Type 0} (reactions
       empty : (d : Micro) (q : ℕ) (r : Origin p s l d) → r.instr ≡ Suc0 q → x ≡ 2 * q → spot p c.order (S x).sequence (S x).site.place < spot p c.order s l
       empty d q r i n = let st = subst (λ (y : Instr). Stands p s r.index y) i r.stands in let low = c.holds.named s r.index (Suc0 q) st in
           let k : (S x).site.early ≡ pair_depth p q = ap (λ (y : Owner). y.site.early) (ap S n ∙ signaller_empty p w c reactions own q) in
-          let z = c.guarded.depth q low in let y = (c.holds.buffers (w.pair q).buffer (c.guarded.buffer q low)).one_place in absurd (omega arith)
+          let z = c.guarded.depth q low in let y = (c.holds.buffers (w.pair q).buffer (c.guarded.buffer q low)).some_place in absurd (omega arith)
 
       cases : (d : Micro) (r : Origin p s l d) (q : ℕ) → Takes r.instr x q → spot p c.order (S x).sequence (S x).site.place < spot p c.order s l
       cases d r q (inl u) = empty d q r u.0 u.1

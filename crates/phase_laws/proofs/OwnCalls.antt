@@ -10,17 +10,17 @@ use Rattle.level_meaning.specs.Level.{vector_at, element_at, all_joined}
 use Rattle.flat_graph.specs.declared.vertex.Kind.TheVariants.{Get}
 use Rattle.flat_graph.specs.declared.vertex.Vertex.{Vertex}
 use Rattle.flat_graph.specs.Meaning.{is_get, delay_number, cell_of, cells_after, flat_outputs}
-use Rattle.semaphore_core.specs.declared.program.Instr.{Instr}
-use Rattle.semaphore_core.specs.declared.program.Instr.TheVariants.{Call}
-use Rattle.semaphore_core.specs.Instructions.{turn, len_of}
-use Rattle.semaphore_core.specs.MicroSteps.{code, size, begins}
+use Rattle.executive_program.specs.declared.program.Instr.{Instr}
+use Rattle.executive_program.specs.declared.program.Instr.TheVariants.{Call}
+use Rattle.executive_program.specs.Instructions.{turn, len_of}
+use Rattle.executive_program.specs.MicroSteps.{code, size, begins}
 use Rattle.semaphore_core.specs.Operation.{vectors_from, lens_in, inputs_in}
-use Rattle.semaphore_core.specs.Places.{calling, places, carried, ins_in, outs_in}
-use Rattle.semaphore_core.specs.Steps.{len_at, elements_in, on_load, on_store}
+use Rattle.executive_program.specs.Places.{calling, places, carried, ins_in, outs_in}
+use Rattle.executive_program.specs.Steps.{len_at, elements_in, on_load, on_store}
 use Rattle.semaphore_core.specs.Registers.{Own, with_registers, kept, gathered, compute, compute_by, absorb_by, emit_by, after_by}
 use Rattle.semaphore_core.specs.Job.{JobData, reactions}
 use Rattle.semaphore_core.specs.Told.{index_at, registers_in, buffer_value, own_after}
-use Rattle.semaphore_core.specs.WellFormed.{Stands, IsCalled}
+use Rattle.executive_program.specs.WellFormed.{Stands, IsCalled}
 use Rattle.phase_laws.specs.Values.{IsSupplied}
 use Rattle.phase_laws.proofs.Places.{slice_get_some, earlier}
 use Rattle.phase_laws.proofs.Standing.{Here}

@@ -11,16 +11,16 @@ use Rattle.flat_graph.specs.declared.vertex.Kind.TheVariants.{Actuator, Get, Set
 use Rattle.flat_graph.specs.declared.vertex.Vertex.{Vertex}
 use Rattle.flat_graph.specs.Fire.{kept}
 use Rattle.flat_graph.specs.Meaning.{is_get, delay_number, cell_of, cells_after, flat_act}
-use Rattle.semaphore_core.specs.declared.program.Instr.{Instr}
-use Rattle.semaphore_core.specs.declared.program.Instr.TheVariants.{Call}
-use Rattle.semaphore_core.specs.Instructions.{turn}
-use Rattle.semaphore_core.specs.MicroSteps.{code, size, begins}
+use Rattle.executive_program.specs.declared.program.Instr.{Instr}
+use Rattle.executive_program.specs.declared.program.Instr.TheVariants.{Call}
+use Rattle.executive_program.specs.Instructions.{turn}
+use Rattle.executive_program.specs.MicroSteps.{code, size, begins}
 use Rattle.semaphore_core.specs.Operation.{vectors_from, lens_in, delay_by, delay_of, cell_at, with_cell, rows_by as rows_with, cells_left, rows_left, conditions_in, inputs_in}
-use Rattle.semaphore_core.specs.Places.{calling}
-use Rattle.semaphore_core.specs.Steps.{elements_in}
+use Rattle.executive_program.specs.Places.{calling}
+use Rattle.executive_program.specs.Steps.{elements_in}
 use Rattle.semaphore_core.specs.Job.{JobData, reactions}
 use Rattle.semaphore_core.specs.Told.{made, last_load, done_by, own_after, cell_by, rows_from, cells_by, rows_by, buffer_value}
-use Rattle.semaphore_core.specs.WellFormed.{Stands}
+use Rattle.executive_program.specs.WellFormed.{Stands}
 use Rattle.phase_laws.specs.Values.{IsSupplied}
 use Rattle.phase_laws.proofs.Blocks.{sum_same_block}
 use Rattle.phase_laws.proofs.Standing.{Here, made_here, made_else}

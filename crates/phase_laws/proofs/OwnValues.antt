@@ -13,21 +13,21 @@ use Rattle.interleavings.specs.Sound.{IsRightAt}
 use Rattle.level_meaning.specs.Level.{Vector, element_at}
 use Rattle.flat_graph.specs.declared.vertex.Source.{Source}
 use Rattle.flat_graph.specs.Meaning.{initial_cells}
-use Rattle.semaphore_core.specs.declared.program.Instr.{Instr}
-use Rattle.semaphore_core.specs.declared.program.Instr.TheVariants.{Suc0, Suc1, Pre0, Pre1, Call, Send, Recv, Sync}
-use Rattle.semaphore_core.specs.declared.steps.Place.TheVariants.{Buffer, Wire}
-use Rattle.semaphore_core.specs.declared.steps.OnLoad.TheVariants.{Carry as CarryIn}
-use Rattle.semaphore_core.specs.declared.steps.OnStore.TheVariants.{Carry as CarryOut}
-use Rattle.semaphore_core.specs.declared.steps.MicroStep.{MicroStep}
-use Rattle.semaphore_core.specs.declared.steps.MicroStep.TheVariants.{Load, Store}
-use Rattle.semaphore_core.specs.Instructions.{is_communication, turn, medium, number_or, len_of, communications}
-use Rattle.semaphore_core.specs.MicroSteps.{code, transfers, transfer_len, len_sent, loads_at, stores_at}
-use Rattle.semaphore_core.specs.Places.{places, transfer, calling}
-use Rattle.semaphore_core.specs.Steps.{steps, steps_of, call_steps, on_load, on_store, len_at, elements_in}
+use Rattle.executive_program.specs.declared.program.Instr.{Instr}
+use Rattle.executive_program.specs.declared.program.Instr.TheVariants.{Suc0, Suc1, Pre0, Pre1, Call, Send, Recv, Sync}
+use Rattle.executive_program.specs.declared.steps.Place.TheVariants.{Buffer, Wire}
+use Rattle.executive_program.specs.declared.steps.OnLoad.TheVariants.{Carry as CarryIn}
+use Rattle.executive_program.specs.declared.steps.OnStore.TheVariants.{Carry as CarryOut}
+use Rattle.executive_program.specs.declared.steps.MicroStep.{MicroStep}
+use Rattle.executive_program.specs.declared.steps.MicroStep.TheVariants.{Load, Store}
+use Rattle.executive_program.specs.Instructions.{is_communication, turn, medium, number_or, len_of, communications}
+use Rattle.executive_program.specs.MicroSteps.{code, transfers, transfer_len, len_sent, loads_at, stores_at}
+use Rattle.executive_program.specs.Places.{places, transfer, calling}
+use Rattle.executive_program.specs.Steps.{steps, steps_of, call_steps, on_load, on_store, len_at, elements_in}
 use Rattle.semaphore_core.specs.Registers.{Own, absorb_at, emit_at, after_at}
 use Rattle.semaphore_core.specs.Job.{JobData, reactions, system}
 use Rattle.semaphore_core.specs.Told.{index_at, source_value, buffer_value, stored_value, registers_in, made, last_load, done_by, own_after}
-use Rattle.semaphore_core.specs.WellFormed.{Stands, ReadsAt, WritesAt}
+use Rattle.executive_program.specs.WellFormed.{Stands, ReadsAt, WritesAt}
 use Rattle.phase_laws.specs.Values.{IsSupplied, SequencesComputeTheirValues}
 use Rattle.phase_laws.proofs.Setting.{Conditions}
 use Rattle.phase_laws.proofs.From.{LoadsBuffer, LoadsWire, StoresBuffer, StoresWire, load_place, store_place}

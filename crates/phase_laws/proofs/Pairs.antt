@@ -5,14 +5,14 @@ use Rattle.std.proofs.lemmas.Bool.{eqb-true, eq-eqb, ne_eqb}
 use Rattle.interleavings.specs.System.{System, Micro, take as taken, see, sub, signal, await, advance, load, store, is_take, is_signal}
 use Rattle.interleavings.specs.Owners.{Owner, IsOwned}
 use Rattle.interleavings.specs.Pairs.{IsSemaphore, IsPair, late}
-use Rattle.semaphore_core.specs.declared.program.Instr.{Instr}
-use Rattle.semaphore_core.specs.declared.program.Instr.TheVariants.{Suc0, Suc1, Pre0, Pre1}
-use Rattle.semaphore_core.specs.declared.program.Program.{Program}
-use Rattle.semaphore_core.specs.Instructions.{prologue, pair_depth}
-use Rattle.semaphore_core.specs.MicroSteps.{code, begins, size, takes}
-use Rattle.semaphore_core.specs.Places.{Places}
-use Rattle.semaphore_core.specs.WellFormed.{Stands, IsOnly}
-use Rattle.semaphore_core.specs.WellFormed as WF
+use Rattle.executive_program.specs.declared.program.Instr.{Instr}
+use Rattle.executive_program.specs.declared.program.Instr.TheVariants.{Suc0, Suc1, Pre0, Pre1}
+use Rattle.executive_program.specs.declared.program.Program.{Program}
+use Rattle.executive_program.specs.Instructions.{prologue, pair_depth}
+use Rattle.executive_program.specs.MicroSteps.{code, begins, size, takes}
+use Rattle.executive_program.specs.Places.{Places}
+use Rattle.executive_program.specs.WellFormed.{Stands, IsOnly}
+use Rattle.executive_program.specs.WellFormed as WF
 use Rattle.phase_laws.specs.Discipline.{signaller, empty_owner, full_owner}
 use Rattle.phase_laws.proofs.Places.{micros_at, hit_one, stands_sequence, at_first, at_turn, origin, FromAt, owned, owned_late, earlier, front_at, front_from, front_length}
 use Rattle.phase_laws.proofs.Setting.{Parts, Conditions, system_of}

@@ -8,13 +8,13 @@ use Rattle.consistent_cuts.specs.Sites.{step_at, place_at, hit}
 use Rattle.interleavings.specs.System.{System, Micro, signal}
 use Rattle.interleavings.specs.Owners.{Owner, IsOwned, sum_below}
 use Rattle.interleavings.specs.Pairs.{late}
-use Rattle.semaphore_core.specs.declared.program.Instr.{Instr}
-use Rattle.semaphore_core.specs.declared.program.Instr.TheVariants.{Pre0}
-use Rattle.semaphore_core.specs.declared.program.Program.{Program}
-use Rattle.semaphore_core.specs.declared.program.SeqCode.{SeqCode}
-use Rattle.semaphore_core.specs.Instructions.{is_communication, turn, turn_of, prologue, prologue_of, medium, number_or, communications}
-use Rattle.semaphore_core.specs.MicroSteps.{micros_of, micros_in, block, front_block, code, size, begins}
-use Rattle.semaphore_core.specs.WellFormed.{Stands}
+use Rattle.executive_program.specs.declared.program.Instr.{Instr}
+use Rattle.executive_program.specs.declared.program.Instr.TheVariants.{Pre0}
+use Rattle.executive_program.specs.declared.program.Program.{Program}
+use Rattle.executive_program.specs.declared.program.SeqCode.{SeqCode}
+use Rattle.executive_program.specs.Instructions.{is_communication, turn, turn_of, prologue, prologue_of, medium, number_or, communications}
+use Rattle.executive_program.specs.MicroSteps.{micros_of, micros_in, block, front_block, code, size, begins}
+use Rattle.executive_program.specs.WellFormed.{Stands}
 use Rattle.phase_laws.proofs.Blocks.{sum_inside, blocks_at, blocks_length, InBlock, in_block}
 use Rattle.phase_laws.proofs.Setting.{Parts, system_of}
 use Rattle.phase_laws.proofs.From.{From, from}

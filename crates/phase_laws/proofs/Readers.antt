@@ -10,14 +10,14 @@ use Rattle.interleavings.specs.Owners.{sum_below}
 use Rattle.flat_graph.specs.declared.vertex.Source.{Source}
 use Rattle.flat_graph.specs.Graph.{Graph}
 use Rattle.archi_graph.specs.declared.medium.Seq.{Seq}
-use Rattle.semaphore_core.specs.declared.program.Instr.{Instr}
-use Rattle.semaphore_core.specs.declared.program.Instr.TheVariants.{Pre0, Call, Send, Recv}
-use Rattle.semaphore_core.specs.declared.program.SeqCode.{SeqCode}
-use Rattle.semaphore_core.specs.declared.program.Program.{Program}
-use Rattle.semaphore_core.specs.Blocks.{repeated}
-use Rattle.semaphore_core.specs.Instructions.{reads, writes, turn, turn_of, prologue, prologue_of, Reader, waits_for, readers_from, readers, depth_of, depth_at, pair_depth}
-use Rattle.semaphore_core.specs.Places.{places, pair, reader, reader_or, writing, opening_signals, signals_of, opening_of}
-use Rattle.semaphore_core.specs.WellFormed.{Stands, WritesAt, ReadsAt, IsBuffer, IsOrderBy, operator_of}
+use Rattle.executive_program.specs.declared.program.Instr.{Instr}
+use Rattle.executive_program.specs.declared.program.Instr.TheVariants.{Pre0, Call, Send, Recv}
+use Rattle.executive_program.specs.declared.program.SeqCode.{SeqCode}
+use Rattle.executive_program.specs.declared.program.Program.{Program}
+use Rattle.executive_program.specs.Blocks.{repeated}
+use Rattle.executive_program.specs.Instructions.{reads, writes, turn, turn_of, prologue, prologue_of, Reader, waits_for, readers_from, readers, depth_of, depth_at, pair_depth}
+use Rattle.executive_program.specs.Places.{places, pair, reader, reader_or, writing, opening_signals, signals_of, opening_of}
+use Rattle.executive_program.specs.WellFormed.{Stands, WritesAt, ReadsAt, IsBuffer, IsOrderBy, operator_of}
 use Rattle.phase_laws.proofs.Blocks.{blocks_at, blocks_length, InBlock, in_block, sum_rises}
 use Rattle.phase_laws.proofs.Places.{slice_get_some, stands_sequence}
 use Rattle.phase_laws.proofs.Setting.{AreGuarded, Conditions}

@@ -4,13 +4,13 @@ use Rattle.std.specs.Prelude.{slice_get}
 use Rattle.std.specs.List.{count_by}
 use Rattle.std.proofs.lemmas.Option.{same_Some}
 use Rattle.std.proofs.lemmas.Bool.{eq-eqb, eqb-true}
-use Rattle.semaphore_core.specs.declared.program.Instr.{Instr}
-use Rattle.semaphore_core.specs.declared.program.Instr.TheVariants.{Suc0, Suc1, Pre0, Pre1, Call, Send, Recv, Sync}
-use Rattle.semaphore_core.specs.declared.program.SeqCode.{SeqCode}
-use Rattle.semaphore_core.specs.declared.program.Program.{Program}
-use Rattle.semaphore_core.specs.Instructions.{is_communication, medium_in, turn_of, operator, turn}
-use Rattle.semaphore_core.specs.MicroSteps.{sent_in, sent_by, sent, is_on, first_of, transfers}
-use Rattle.semaphore_core.specs.Places.{Places}
+use Rattle.executive_program.specs.declared.program.Instr.{Instr}
+use Rattle.executive_program.specs.declared.program.Instr.TheVariants.{Suc0, Suc1, Pre0, Pre1, Call, Send, Recv, Sync}
+use Rattle.executive_program.specs.declared.program.SeqCode.{SeqCode}
+use Rattle.executive_program.specs.declared.program.Program.{Program}
+use Rattle.executive_program.specs.Instructions.{is_communication, medium_in, turn_of, operator, turn}
+use Rattle.executive_program.specs.MicroSteps.{sent_in, sent_by, sent, is_on, first_of, transfers}
+use Rattle.executive_program.specs.Places.{Places}
 use Rattle.phase_laws.proofs.Setting.{Parts, Conditions}
 use Rattle.phase_laws.proofs.Counting.{count_cons}
 use Rattle.phase_laws.proofs.Media.{Who, sends_it, receives_it, waits_for_it, who}

@@ -4,13 +4,13 @@ use Rattle.interleavings.specs.System.{System}
 use Rattle.flat_graph.specs.declared.vertex.Source.{Source}
 use Rattle.flat_graph.specs.Graph.{Graph}
 use Rattle.archi_graph.specs.declared.medium.Seq.{Seq}
-use Rattle.semaphore_core.specs.declared.program.Instr.{Instr}
-use Rattle.semaphore_core.specs.declared.program.Instr.TheVariants.{Pre0}
-use Rattle.semaphore_core.specs.declared.program.Program.{Program}
-use Rattle.semaphore_core.specs.Instructions.{prologue, pair_depth, depth_of}
-use Rattle.semaphore_core.specs.MicroSteps.{code, transfers}
-use Rattle.semaphore_core.specs.Places.{Places}
-use Rattle.semaphore_core.specs.WellFormed.{Stands, ReadsAt, IsOrderBy}
+use Rattle.executive_program.specs.declared.program.Instr.{Instr}
+use Rattle.executive_program.specs.declared.program.Instr.TheVariants.{Pre0}
+use Rattle.executive_program.specs.declared.program.Program.{Program}
+use Rattle.executive_program.specs.Instructions.{prologue, pair_depth, depth_of}
+use Rattle.executive_program.specs.MicroSteps.{code, transfers}
+use Rattle.executive_program.specs.Places.{Places}
+use Rattle.executive_program.specs.WellFormed.{Stands, ReadsAt, IsOrderBy}
 use Rattle.semaphore_core.specs.Job.{period_at, depth_at}
 
 -- what a sequence has of its own, and how loads and stores change it

@@ -8,12 +8,12 @@ use native.Mathlib.Nat.{suc-mul, zero-mul}
 use Rattle.consistent_cuts.specs.Sites.{Code, step_at, place_at, reaction_at, number_of}
 use Rattle.consistent_cuts.proofs.Numbers.{reaction_number, place_number, number_split}
 use Rattle.interleavings.specs.System.{Micro}
-use Rattle.semaphore_core.specs.declared.program.Instr.{Instr}
-use Rattle.semaphore_core.specs.declared.program.Program.{Program}
-use Rattle.semaphore_core.specs.Blocks.{block_at}
-use Rattle.semaphore_core.specs.MicroSteps.{code, size, begins, block}
-use Rattle.semaphore_core.specs.Instructions.{turn}
-use Rattle.semaphore_core.specs.WellFormed.{Stands}
+use Rattle.executive_program.specs.declared.program.Instr.{Instr}
+use Rattle.executive_program.specs.declared.program.Program.{Program}
+use Rattle.executive_program.specs.Blocks.{block_at}
+use Rattle.executive_program.specs.MicroSteps.{code, size, begins, block}
+use Rattle.executive_program.specs.Instructions.{turn}
+use Rattle.executive_program.specs.WellFormed.{Stands}
 use Rattle.semaphore_core.specs.Told.{index_at, offset_at}
 use Rattle.phase_laws.proofs.Blocks.{sum_rises, sum_inside, block_at_is, inside, blocks_length}
 use Rattle.phase_laws.proofs.Places.{Origin, origin, FromAt}

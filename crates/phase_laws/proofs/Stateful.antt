@@ -13,15 +13,15 @@ use Rattle.flat_graph.specs.Graph.{Graph, lens_of}
 use Rattle.flat_graph.specs.Valid.{is_flat, fits, has_twin}
 use Rattle.flat_graph.proofs.Facts.{vertex_valid, fits_of}
 use Rattle.flat_graph.proofs.KindLens.{one_is}
-use Rattle.semaphore_core.specs.declared.program.Instr.TheVariants.{Call}
-use Rattle.semaphore_core.specs.Blocks.{blocks}
-use Rattle.semaphore_core.specs.Instructions.{turn, len_of}
-use Rattle.semaphore_core.specs.MicroSteps.{code, size, block, loads_at, stores_at}
-use Rattle.semaphore_core.specs.Places.{calling}
-use Rattle.semaphore_core.specs.Steps.{len_at, elements_in}
+use Rattle.executive_program.specs.declared.program.Instr.TheVariants.{Call}
+use Rattle.executive_program.specs.Blocks.{blocks}
+use Rattle.executive_program.specs.Instructions.{turn, len_of}
+use Rattle.executive_program.specs.MicroSteps.{code, size, block, loads_at, stores_at}
+use Rattle.executive_program.specs.Places.{calling}
+use Rattle.executive_program.specs.Steps.{len_at, elements_in}
 use Rattle.semaphore_core.specs.Job.{JobData}
 use Rattle.semaphore_core.specs.Told.{last_load}
-use Rattle.semaphore_core.specs.WellFormed.{Stands}
+use Rattle.executive_program.specs.WellFormed.{Stands}
 use Rattle.phase_laws.specs.Values.{IsSupplied}
 use Rattle.phase_laws.proofs.Blocks.{sum_inside, member_below, blocks_length}
 use Rattle.phase_laws.proofs.Places.{block_is}

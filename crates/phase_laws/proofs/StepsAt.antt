@@ -8,19 +8,19 @@ use native.Mathlib.Nat.{mul-one}
 use Rattle.consistent_cuts.specs.Sites.{step_at, place_at}
 use Rattle.interleavings.specs.System.{Micro, take as taken, see, sub, advance}
 use Rattle.interleavings.specs.Owners.{sum_below}
-use Rattle.semaphore_core.specs.declared.program.Instr.{Instr}
-use Rattle.semaphore_core.specs.declared.program.Instr.TheVariants.{Suc0, Suc1, Pre0, Pre1, Call, Send, Recv, Sync}
-use Rattle.semaphore_core.specs.declared.program.Program.{Program}
-use Rattle.semaphore_core.specs.declared.program.SeqCode.{SeqCode}
-use Rattle.semaphore_core.specs.declared.steps.Place.TheVariants.{Buffer, Wire}
-use Rattle.semaphore_core.specs.declared.steps.OnLoad.TheVariants.{Carry as CarryIn}
-use Rattle.semaphore_core.specs.declared.steps.OnStore.TheVariants.{Carry as CarryOut}
-use Rattle.semaphore_core.specs.declared.steps.MicroStep.{MicroStep}
-use Rattle.semaphore_core.specs.declared.steps.MicroStep.TheVariants.{Take, See, Lower, Await, Advance, Load, Store}
-use Rattle.semaphore_core.specs.Blocks.{blocks}
-use Rattle.semaphore_core.specs.Instructions.{is_communication, turn, turn_of, prologue, prologue_of, medium, medium_in, number_or, len_of, pair_depth, communications}
-use Rattle.semaphore_core.specs.MicroSteps.{code, size, begins, block_in, takes, micros_of, micros_in, loads_of, stores_of, loads_at, stores_at, load_at, store_at, send_at, receive_at}
-use Rattle.semaphore_core.specs.Steps.{steps, steps_by, steps_of, steps_in, steps_at, steps_in_list, call_steps, take_steps, on_load, on_store, load_step, store_step, load_steps, store_steps, input_steps, output_steps, send_step, receive_step, len_by, len_at, elements_in}
+use Rattle.executive_program.specs.declared.program.Instr.{Instr}
+use Rattle.executive_program.specs.declared.program.Instr.TheVariants.{Suc0, Suc1, Pre0, Pre1, Call, Send, Recv, Sync}
+use Rattle.executive_program.specs.declared.program.Program.{Program}
+use Rattle.executive_program.specs.declared.program.SeqCode.{SeqCode}
+use Rattle.executive_program.specs.declared.steps.Place.TheVariants.{Buffer, Wire}
+use Rattle.executive_program.specs.declared.steps.OnLoad.TheVariants.{Carry as CarryIn}
+use Rattle.executive_program.specs.declared.steps.OnStore.TheVariants.{Carry as CarryOut}
+use Rattle.executive_program.specs.declared.steps.MicroStep.{MicroStep}
+use Rattle.executive_program.specs.declared.steps.MicroStep.TheVariants.{Take, See, Lower, Await, Advance, Load, Store}
+use Rattle.executive_program.specs.Blocks.{blocks}
+use Rattle.executive_program.specs.Instructions.{is_communication, turn, turn_of, prologue, prologue_of, medium, medium_in, number_or, len_of, pair_depth, communications}
+use Rattle.executive_program.specs.MicroSteps.{code, size, begins, block_in, takes, micros_of, micros_in, loads_of, stores_of, loads_at, stores_at, load_at, store_at, send_at, receive_at}
+use Rattle.executive_program.specs.Steps.{steps, steps_by, steps_of, steps_in, steps_at, steps_in_list, call_steps, take_steps, on_load, on_store, load_step, store_step, load_steps, store_steps, input_steps, output_steps, send_step, receive_step, len_by, len_at, elements_in}
 use Rattle.phase_laws.proofs.Blocks.{blocks_length, blocks_at, get-append_past, get-append_within, sum_const, sum_inside}
 use Rattle.phase_laws.proofs.Standing.{Here}
 

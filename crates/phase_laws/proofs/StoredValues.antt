@@ -8,10 +8,10 @@ use Rattle.consistent_cuts.specs.Sites.{reaction_at}
 use Rattle.interleavings.specs.System.{round_number}
 use Rattle.interleavings.specs.Owners.{sum_below}
 use Rattle.level_meaning.specs.Level.{element_at}
-use Rattle.semaphore_core.specs.Blocks.{block_at}
-use Rattle.semaphore_core.specs.Instructions.{len_of}
-use Rattle.semaphore_core.specs.MicroSteps.{code, element_of, wire_of, buffer_elements, wire_len, transfers, transfer_len, len_sent, uses, access, sent}
-use Rattle.semaphore_core.specs.Places.{places, transfer}
+use Rattle.executive_program.specs.Blocks.{block_at}
+use Rattle.executive_program.specs.Instructions.{len_of}
+use Rattle.executive_program.specs.MicroSteps.{code, element_of, wire_of, buffer_elements, wire_len, transfers, transfer_len, len_sent, uses, access, sent}
+use Rattle.executive_program.specs.Places.{places, transfer}
 use Rattle.semaphore_core.specs.Job.{JobData, reactions, buffer_at, wire_at, number_at, period_at, system}
 use Rattle.semaphore_core.specs.Told.{buffer_value, sent_value, wire_value, stored_value}
 use Rattle.phase_laws.specs.Values.{IsSupplied}

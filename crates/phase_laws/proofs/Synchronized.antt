@@ -9,13 +9,13 @@ use Rattle.interleavings.specs.Media.{Half}
 use Rattle.interleavings.specs.Pairs.{IsSemaphore}
 use Rattle.interleavings.specs.Order.{IsJoined}
 use Rattle.interleavings.specs.Synchronized as V
-use Rattle.semaphore_core.specs.declared.program.Instr.{Instr}
-use Rattle.semaphore_core.specs.declared.program.Instr.TheVariants.{Suc0, Suc1, Pre0, Pre1}
-use Rattle.semaphore_core.specs.declared.program.Program.{Program}
-use Rattle.semaphore_core.specs.Instructions.{pair_depth}
-use Rattle.semaphore_core.specs.MicroSteps.{code, begins}
-use Rattle.semaphore_core.specs.Places.{Places}
-use Rattle.semaphore_core.specs.WellFormed.{Stands}
+use Rattle.executive_program.specs.declared.program.Instr.{Instr}
+use Rattle.executive_program.specs.declared.program.Instr.TheVariants.{Suc0, Suc1, Pre0, Pre1}
+use Rattle.executive_program.specs.declared.program.Program.{Program}
+use Rattle.executive_program.specs.Instructions.{pair_depth}
+use Rattle.executive_program.specs.MicroSteps.{code, begins}
+use Rattle.executive_program.specs.Places.{Places}
+use Rattle.executive_program.specs.WellFormed.{Stands}
 use Rattle.phase_laws.specs.Discipline.{signaller, half}
 use Rattle.phase_laws.proofs.Places.{Origin, origin}
 use Rattle.phase_laws.proofs.Setting.{Parts, Conditions, system_of}

@@ -10,15 +10,15 @@ use Rattle.interleavings.specs.Owners.{Owner, IsOwned, sum_below}
 use Rattle.interleavings.specs.Media.{Half, stores_access, writer_of, IsMedium, IsOwnWait, IsWire}
 use Rattle.interleavings.specs.Pairs.{late}
 use Rattle.interleavings.specs.Synchronized as V
-use Rattle.semaphore_core.specs.declared.program.Instr.{Instr}
-use Rattle.semaphore_core.specs.declared.program.Instr.TheVariants.{Send, Recv, Sync}
-use Rattle.semaphore_core.specs.declared.program.Program.{Program}
-use Rattle.semaphore_core.specs.declared.program.SeqCode.{SeqCode}
-use Rattle.semaphore_core.specs.Blocks.{block_at}
-use Rattle.semaphore_core.specs.Instructions.{is_communication, communications, len_of, operator, depth_of, medium_in, turn_of, turn}
-use Rattle.semaphore_core.specs.MicroSteps.{code, begins, transfers, wire_of, buffer_elements, uses, access, longest_sent, longest_in, longest_on, sent_len, is_on, wire_len, transfer_len, len_sent}
-use Rattle.semaphore_core.specs.Places.{Places}
-use Rattle.semaphore_core.specs.WellFormed.{Stands, Communicates}
+use Rattle.executive_program.specs.declared.program.Instr.{Instr}
+use Rattle.executive_program.specs.declared.program.Instr.TheVariants.{Send, Recv, Sync}
+use Rattle.executive_program.specs.declared.program.Program.{Program}
+use Rattle.executive_program.specs.declared.program.SeqCode.{SeqCode}
+use Rattle.executive_program.specs.Blocks.{block_at}
+use Rattle.executive_program.specs.Instructions.{is_communication, communications, len_of, operator, depth_of, medium_in, turn_of, turn}
+use Rattle.executive_program.specs.MicroSteps.{code, begins, transfers, wire_of, buffer_elements, uses, access, longest_sent, longest_in, longest_on, sent_len, is_on, wire_len, transfer_len, len_sent}
+use Rattle.executive_program.specs.Places.{Places}
+use Rattle.executive_program.specs.WellFormed.{Stands, Communicates}
 use Rattle.semaphore_core.specs.Job.{buffer_at, wire_at, number_at}
 use Rattle.phase_laws.specs.Discipline.{signaller, half}
 use Rattle.phase_laws.proofs.Blocks.{sum_same_block, sum_inside, sum_rises, block_at_is, inside}

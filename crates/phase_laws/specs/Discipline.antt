@@ -7,12 +7,12 @@ use Rattle.interleavings.specs.Order.{IsOrdered}
 use Rattle.interleavings.specs.Synchronized.{IsSynchronized}
 use Rattle.interleavings.specs.Laws.{Discipline}
 use Rattle.archi_graph.specs.declared.medium.Seq.{Seq}
-use Rattle.semaphore_core.specs.declared.program.Program.{Program}
-use Rattle.semaphore_core.specs.Blocks.{block_at}
-use Rattle.semaphore_core.specs.Instructions.{turn, len_of, pair_depth}
-use Rattle.semaphore_core.specs.MicroSteps.{code, size, begins}
-use Rattle.semaphore_core.specs.Places.{Places, places}
-use Rattle.semaphore_core.specs.WellFormed.{place, IsOrder}
+use Rattle.executive_program.specs.declared.program.Program.{Program}
+use Rattle.executive_program.specs.Blocks.{block_at}
+use Rattle.executive_program.specs.Instructions.{turn, len_of, pair_depth}
+use Rattle.executive_program.specs.MicroSteps.{code, size, begins}
+use Rattle.executive_program.specs.Places.{Places, places}
+use Rattle.executive_program.specs.WellFormed.{place, IsOrder}
 use Rattle.semaphore_core.specs.Job.{JobData, system}
 
 module _ (p : Program) (w : Places) where

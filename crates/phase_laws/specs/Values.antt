@@ -5,7 +5,7 @@ use Rattle.flat_graph.specs.Valid.{is_flat}
 use Rattle.flat_graph.specs.Meaning.{initial_cells}
 use Rattle.flat_graph.specs.Laws.{sensor_lens}
 use Rattle.archi_graph.specs.declared.medium.Seq.{Seq}
-use Rattle.semaphore_core.specs.WellFormed.{IsOrder}
+use Rattle.executive_program.specs.WellFormed.{IsOrder}
 use Rattle.semaphore_core.specs.Job.{JobData, reactions, system}
 use Rattle.semaphore_core.specs.Told.{stored_value, own_after}
 

@@ -38,12 +38,3 @@ pub fn steps_in_all(job: &Job) -> u64
 {
     job.total_steps()
 }
-
-#[cfg(test)]
-mod ahead;
-#[cfg(test)]
-mod refused;
-#[cfg(test)]
-mod shared;
-#[cfg(test)]
-mod tests;

@@ -1,7 +1,7 @@
 -- A valid architecture has few sequences, and so has the program of a job on it.
-use Rattle.std.proofs.Common.{◌≡◌, ℕ, ◌+◌, ◌*◌, ◌≤◌, Bool, true, false, List, [], ◌∷◌, map, length, sym, ap, arith, ◌∙◌, suc-mul}
+use Rattle.std.proofs.Common.{ℕ, ◌+◌, ◌*◌, ◌≤◌, Bool, true, false, List, [], ◌∷◌, length, ap, arith, suc-mul}
 use Rattle.std.specs.Prelude.{IsTrue, if◌then◌else◌, nat_le}
-use Rattle.std.specs.List.{list_all, sum_by, flat_map, range_with_len}
+use Rattle.std.specs.List.{list_all, sum_by, range_with_len}
 use Rattle.std.proofs.lemmas.Bool.{and_parts, leb-true}
 use Rattle.std.proofs.lemmas.List.{length-map}
 use Rattle.std.proofs.lemmas.List.Concat.{length-flat_map}
@@ -9,9 +9,9 @@ use Rattle.std.proofs.lemmas.List.FromFn.{length-range_with_len}
 use Rattle.std.proofs.lemmas.List.Sums.{sum_by-cons}
 use Rattle.archi_graph.specs.declared.medium.Medium.{Medium}
 use Rattle.archi_graph.specs.declared.medium.Seq.{Seq}
-use Rattle.archi_graph.specs.Archi.{Architecture, is_archi, are_bounded, are_distinct, are_joined, is_medium, names_of, stands_at, stands_in_all}
+use Rattle.archi_graph.specs.Archi.{Architecture, is_archi, are_distinct, are_joined, is_medium, names_of, stands_at, stands_in_all}
 use Rattle.archi_graph.specs.Sequences.{communicator, communicators, sequences, sequences_of}
-use Rattle.semaphore_core.specs.declared.program.SeqCode.{SeqCode}
+use Rattle.executive_program.specs.declared.program.SeqCode.{SeqCode}
 use Rattle.semaphore_core.specs.Job.{JobData}
 use Rattle.semaphore_core.specs.IsJob.{IsJobOn}
 

@@ -1,9 +1,9 @@
--- What every job has: buffers of one place, prologues of signals, few micro-steps, and lengths that fit.
+-- What every job has: buffers with places, prologues of signals, few micro-steps, and lengths that fit.
 use Rattle.std.proofs.Common.{◌≡◌, ℕ, ◌-◌, ◌^◌, ◌<◌, ◌≤◌, ◌⊎◌, inl, inr, true, List, map, length, min, Option, Some, None, refl, sym, ap, subst, arith, ◌∙◌}
 use Rattle.std.specs.Prelude.{slice_get, slice_index_or}
 use Rattle.std.proofs.lemmas.Bool.{cases_lt, lt-ltb, le-ltb}
 use Rattle.std.proofs.lemmas.List.{length-map, length-replicate}
-use Rattle.std.proofs.lemmas.Option.{slice_get_past, slice_get_within, none-some}
+use Rattle.std.proofs.lemmas.Option.{slice_get_within, none-some}
 use Rattle.syn_base.specs.declared.limits.LimitKind.{LimitKind}
 use Rattle.syn_base.specs.declared.limits.LimitKind.TheVariants.{Output, Total}
 use Rattle.syn_base.specs.declared.limits.LimitFault.{LimitFault}
@@ -17,12 +17,12 @@ use Rattle.flat_graph.specs.Valid.{is_flat}
 use Rattle.flat_graph.specs.Fire.{cell_len, seen_len, kind_cell_len, kind_seen_len}
 use Rattle.flat_graph.specs.Meaning.{initial_cells}
 use Rattle.flat_graph.proofs.KindLens.{length-vector_at}
-use Rattle.semaphore_core.specs.declared.program.SeqCode.{SeqCode}
-use Rattle.semaphore_core.specs.declared.program.Instr.{Instr}
-use Rattle.semaphore_core.specs.declared.steps.MicroStep.{MicroStep}
-use Rattle.semaphore_core.specs.Instructions.{depth_of, depth_in, number_or, prologue_of}
-use Rattle.semaphore_core.specs.Places.{opening_of}
-use Rattle.semaphore_core.specs.Steps.{IsSingle, steps, steps_by, steps_in_list}
+use Rattle.executive_program.specs.declared.program.SeqCode.{SeqCode}
+use Rattle.executive_program.specs.declared.program.Instr.{Instr}
+use Rattle.executive_program.specs.declared.steps.MicroStep.{MicroStep}
+use Rattle.executive_program.specs.Instructions.{number_or, prologue_of}
+use Rattle.executive_program.specs.Places.{opening_of}
+use Rattle.executive_program.specs.Steps.{steps, steps_by, steps_in_list}
 use Rattle.semaphore_core.specs.Operation.{delay_of}
 use Rattle.semaphore_core.specs.AtOpening.{AreDesks}
 use Rattle.semaphore_core.specs.Job.{JobData, reactions, zero_rows, output_elements, total_steps, actuator_lens}
@@ -30,6 +30,9 @@ use Rattle.semaphore_core.specs.IsJob.{IsJob, above}
 use Rattle.semaphore_core.specs.Held.{Kept, AreReady, NeedsReaction}
 use Rattle.semaphore_core.proofs.Numbered.{actuator_at, sensor_at, delay_cell, no_delay}
 use Rattle.semaphore_core.proofs.Prologues.{opening_bare}
+use Rattle.archi_graph.specs.Sequences.{sequences}
+use Rattle.executive_program.specs.Instructions.{HasPlaces}
+use Rattle.executive_program.proofs.Formed.{formed_has_places}
 
 above_none : (which : LimitKind) (count : ℕ) (next : Option LimitFault) → above which count next ≡ None → (count ≤ bound_of which) × (next ≡ None)
 above_none which count next e = by (cases_lt (bound_of which) count)
@@ -42,13 +45,9 @@ above_none which count next e = by (cases_lt (bound_of which) count)
     by (inr l) = (l, rw (le-ltb (bound_of which) count l) at e)
 
 module _ (j : JobData) (job : IsJob j) where
-  -- every buffer has one place
-  pub single : IsSingle j.program
-  single b = by (cases_lt b (length j.program.buffers))
-    where
-      by : (b < length j.program.buffers) ⊎ (length j.program.buffers ≤ b) → depth_of j.program b ≡ 1
-      by (inl l) = (job.1.0.formed.1.buffers b l).one_place
-      by (inr l) = ap depth_in (slice_get_past j.program.buffers b l)
+  -- every buffer has a place
+  pub has_places : HasPlaces j.program
+  has_places = formed_has_places j.program j.graph (sequences job.0) j.media job.1.0.formed
 
   -- the micro-steps in all are few
   pub few_steps : total_steps j.program (reactions j) ≤ 20000000

@@ -1,4 +1,3 @@
-pub mod Expanding
 pub mod Viewing
 pub mod Opened
 pub mod Openings
@@ -17,6 +16,5 @@ pub mod Ready
 pub mod Runs
 pub mod Counting
 pub mod FewSequences
-pub mod Singles
 mod RowFive
 mod RowNine

@@ -6,12 +6,12 @@ use Rattle.std.proofs.lemmas.Bool.{cases_lt}
 use Rattle.std.proofs.lemmas.List.{length-map, length-replicate, get_or-replicate, get_or_past}
 use Rattle.std.proofs.lemmas.Option.{slice_get-map, get_or_from_slice_get}
 use Rattle.flat_graph.specs.Graph.{Graph}
-use Rattle.semaphore_core.specs.declared.program.Program.{Program}
-use Rattle.semaphore_core.specs.declared.program.SeqCode.{SeqCode}
-use Rattle.semaphore_core.specs.declared.steps.MicroStep.{MicroStep}
-use Rattle.semaphore_core.specs.declared.expand.SeqSteps.{SeqSteps}
-use Rattle.semaphore_core.specs.Expanded.{expanded, AreSteps}
-use Rattle.semaphore_core.specs.Steps.{IsSingle, steps, steps_by}
+use Rattle.executive_program.specs.declared.program.Program.{Program}
+use Rattle.executive_program.specs.declared.program.SeqCode.{SeqCode}
+use Rattle.executive_program.specs.declared.steps.MicroStep.{MicroStep}
+use Rattle.executive_program.specs.declared.expand.SeqSteps.{SeqSteps}
+use Rattle.executive_program.specs.Expanded.{expanded, AreSteps}
+use Rattle.executive_program.specs.Steps.{steps, steps_by}
 use Rattle.semaphore_core.specs.RegisterFile.{RegisterFile}
 use Rattle.semaphore_core.specs.Desk.{DeskLens}
 use Rattle.semaphore_core.specs.Job.{JobData}
@@ -20,7 +20,7 @@ use Rattle.semaphore_core.specs.Core.{Core, opening}
 use Rattle.semaphore_core.specs.Held.{Held, IsOpened, AreReady, Fits, highest}
 use Rattle.semaphore_core.specs.AtOpening.{room_of, all_registers}
 use Rattle.semaphore_core.proofs.Viewing.{values_of, rooms_of}
-use Rattle.semaphore_core.proofs.Jobs.{single, few_steps, prologue_bare}
+use Rattle.semaphore_core.proofs.Jobs.{has_places, few_steps, prologue_bare}
 
 zero_at : (n i : ℕ) → ◌≡◌ {A = ℕ} (slice_index_or (replicate n 0) i 0) 0
 zero_at n i = by (cases_lt i n)
@@ -63,7 +63,7 @@ module _ (j : JobData) (code : List SeqSteps) (are : AreSteps j.program code) wh
       → IsOpened j (record { core = opening j; steps = code; rooms = map (room_of j.graph) code; lens = lens; desks = desks })
   opening_open job lens desks ready = record {
     reached = ([], refl);
-    single = single j job;
+    places = has_places j job;
     ready = ready;
     steps_are = are;
     counts_there = length-replicate (length j.program.seqs) 0;
@@ -105,7 +105,3 @@ module _ (j : JobData) (p : Program) (same : p ≡ j.program) (code : List SeqSt
     where
       rooms : rooms_of regs ≡ map (room_of j.graph) code
       rooms = ap rooms_of empty ∙ rooms_empty j.graph code
-
--- buffers of one place in the program that a job hands out
-pub single_of : (j : JobData) (p : Program) → p ≡ j.program → IsJob j → IsSingle p
-single_of j p same job = subst IsSingle (sym same) (single j job)

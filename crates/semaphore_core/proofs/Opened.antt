@@ -9,12 +9,12 @@ use Rattle.std.proofs.lemmas.Nat.{mod_below, div_below}
 use Rattle.std.proofs.Math.Nat.{mul-add}
 use Rattle.consistent_cuts.specs.Sites.{Code, step_at, place_at}
 use Rattle.interleavings.specs.Owners.{sum_below}
-use Rattle.semaphore_core.specs.declared.program.SeqCode.{SeqCode}
-use Rattle.semaphore_core.specs.declared.steps.MicroStep.{MicroStep}
-use Rattle.semaphore_core.specs.declared.steps.MicroStep.TheVariants.{Take, See, Lower, Signal, Await, Advance, Load, Store}
-use Rattle.semaphore_core.specs.declared.expand.SeqSteps.{SeqSteps}
-use Rattle.semaphore_core.specs.Expanded.{expanded, code_of, next_in}
-use Rattle.semaphore_core.specs.Steps.{steps, steps_by}
+use Rattle.executive_program.specs.declared.program.SeqCode.{SeqCode}
+use Rattle.executive_program.specs.declared.steps.MicroStep.{MicroStep}
+use Rattle.executive_program.specs.declared.steps.MicroStep.TheVariants.{Take, See, Lower, Signal, Await, Advance, Load, Store}
+use Rattle.executive_program.specs.declared.expand.SeqSteps.{SeqSteps}
+use Rattle.executive_program.specs.Expanded.{expanded, code_of, next_in}
+use Rattle.executive_program.specs.Steps.{steps, steps_by}
 use Rattle.semaphore_core.specs.Job.{JobData, reactions, total_steps}
 use Rattle.semaphore_core.specs.Core.{Core, count, counted, full, next, reaction, done_in, own, element_of, IsReached}
 use Rattle.semaphore_core.specs.Held.{Held, IsOpened, AreReady, Fits, FitsWord, NeedsReaction, made, answer, kept_of}
@@ -176,7 +176,7 @@ module _ (j : JobData) where
             → IsReached j z → IsOpened j (record { core = z; steps = h.steps; rooms = h.rooms; lens = h.lens; desks = h.desks })
         kept_by r a b ready reached = record {
           reached = reached;
-          single = o.single;
+          places = o.places;
           ready = ready;
           steps_are = o.steps_are;
           counts_there = same_length ∙ o.counts_there;

@@ -2,15 +2,15 @@
 use Rattle.std.proofs.Common.{◌≡◌, ℕ, zero, suc, List, [], ◌∷◌, ◌++◌, length, Option, Some, None, refl, subst}
 use Rattle.std.specs.Prelude.{slice_get, take as take_list}
 use Rattle.std.specs.List.{count_by}
-use Rattle.semaphore_core.specs.declared.program.Instr.{Instr}
-use Rattle.semaphore_core.specs.declared.program.Instr.TheVariants.{Suc0, Suc1, Pre0, Pre1, Call, Send, Recv, Sync}
-use Rattle.semaphore_core.specs.declared.program.Program.{Program}
-use Rattle.semaphore_core.specs.declared.steps.MicroStep.{MicroStep}
-use Rattle.semaphore_core.specs.declared.steps.MicroStep.TheVariants.{Take, See, Lower, Signal, Await, Advance, Load, Store}
-use Rattle.semaphore_core.specs.Blocks.{blocks, repeated}
-use Rattle.semaphore_core.specs.Instructions.{is_communication, readers}
-use Rattle.semaphore_core.specs.Steps.{steps_in, steps_at, steps_in_list}
-use Rattle.semaphore_core.specs.Places.{opening_signals, signals_of, opening_of}
+use Rattle.executive_program.specs.declared.program.Instr.{Instr}
+use Rattle.executive_program.specs.declared.program.Instr.TheVariants.{Suc0, Suc1, Pre0, Pre1, Call, Send, Recv, Sync}
+use Rattle.executive_program.specs.declared.program.Program.{Program}
+use Rattle.executive_program.specs.declared.steps.MicroStep.{MicroStep}
+use Rattle.executive_program.specs.declared.steps.MicroStep.TheVariants.{Take, See, Lower, Signal, Await, Advance, Load, Store}
+use Rattle.executive_program.specs.Blocks.{blocks, repeated}
+use Rattle.executive_program.specs.Instructions.{is_communication, readers}
+use Rattle.executive_program.specs.Steps.{steps_in, steps_at, steps_in_list}
+use Rattle.executive_program.specs.Places.{opening_signals, signals_of, opening_of}
 use Rattle.semaphore_core.specs.Held.{NeedsReaction}
 
 -- the property holds for each of the list

@@ -15,15 +15,15 @@ use Rattle.semaphore_core.specs.Told.{told}
 use Rattle.semaphore_core.specs.Held.{answer}
 use Rattle.semaphore_core.specs.declared.answer.StepAnswer.{StepAnswer}
 use Rattle.semaphore_core.specs.declared.answer.StepAnswer.TheVariants.{Finished}
-use Rattle.semaphore_core.specs.declared.program.Instr.{Instr}
-use Rattle.semaphore_core.specs.declared.program.Instr.TheVariants.{Suc0, Suc1, Pre0, Pre1, Call, Send, Recv}
-use Rattle.semaphore_core.specs.declared.program.SeqCode.{SeqCode}
-use Rattle.semaphore_core.specs.declared.program.Program.{Program}
-use Rattle.semaphore_core.specs.Instructions.{readers, pair_depth}
-use Rattle.semaphore_core.specs.MicroSteps.{code, words, transfers, sent, wire_len}
-use Rattle.semaphore_core.specs.Steps.{all_prologues, all_turns}
-use Rattle.semaphore_core.specs.Places.{writing, pair, transfer, calling, carried, opening_of}
-use Rattle.semaphore_core.specs.WellFormed.{place_in}
+use Rattle.executive_program.specs.declared.program.Instr.{Instr}
+use Rattle.executive_program.specs.declared.program.Instr.TheVariants.{Suc0, Suc1, Pre0, Pre1, Call, Send, Recv}
+use Rattle.executive_program.specs.declared.program.SeqCode.{SeqCode}
+use Rattle.executive_program.specs.declared.program.Program.{Program}
+use Rattle.executive_program.specs.Instructions.{readers, pair_depth}
+use Rattle.executive_program.specs.MicroSteps.{code, words, transfers, sent, wire_len}
+use Rattle.executive_program.specs.Steps.{all_prologues, all_turns}
+use Rattle.executive_program.specs.Places.{writing, pair, transfer, calling, carried, opening_of}
+use Rattle.executive_program.specs.WellFormed.{place_in}
 
 abbrev sequence : ℕ → Option ℕ → List Instr → List Instr → SeqCode
 sequence o m p t = record { seq = record { operator = o; medium = m }; prologue = p; turn = t }

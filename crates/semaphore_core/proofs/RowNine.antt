@@ -12,11 +12,11 @@ use Rattle.semaphore_core.specs.Core.{Core, opening, step}
 use Rattle.semaphore_core.specs.Held.{answer}
 use Rattle.semaphore_core.specs.declared.answer.StepAnswer.{StepAnswer}
 use Rattle.semaphore_core.specs.declared.answer.StepAnswer.TheVariants.{Stepped, NotYet}
-use Rattle.semaphore_core.specs.declared.program.Buffer.{Buffer}
-use Rattle.semaphore_core.specs.declared.program.Instr.{Instr}
-use Rattle.semaphore_core.specs.declared.program.Instr.TheVariants.{Suc0, Suc1, Pre0, Pre1, Call, Send, Recv}
-use Rattle.semaphore_core.specs.declared.program.SeqCode.{SeqCode}
-use Rattle.semaphore_core.specs.declared.program.Program.{Program}
+use Rattle.executive_program.specs.declared.program.Buffer.{Buffer}
+use Rattle.executive_program.specs.declared.program.Instr.{Instr}
+use Rattle.executive_program.specs.declared.program.Instr.TheVariants.{Suc0, Suc1, Pre0, Pre1, Call, Send, Recv}
+use Rattle.executive_program.specs.declared.program.SeqCode.{SeqCode}
+use Rattle.executive_program.specs.declared.program.Program.{Program}
 
 abbrev sequence : ℕ → Option ℕ → List Instr → List Instr → SeqCode
 sequence o m p t = record { seq = record { operator = o; medium = m }; prologue = p; turn = t }

@@ -3,7 +3,7 @@ use Rattle.std.proofs.Common.{◌≡◌, ℕ, ◌<◌, ◌≤◌, ◌+◌, Bool,
 use Rattle.std.proofs.lemmas.Bool.{le-ltb}
 use Rattle.std.proofs.lemmas.List.{take_more}
 use Rattle.semaphore_core.specs.Job.{JobData}
-use Rattle.semaphore_core.specs.declared.steps.MicroStep.{MicroStep}
+use Rattle.executive_program.specs.declared.steps.MicroStep.{MicroStep}
 use Rattle.semaphore_core.specs.Core.{Core, opening, next, reaction, enabled_in, enabled_by, done_in, done_by, step, run_from, IsReached}
 use Rattle.semaphore_core.specs.Held.{Held}
 

@@ -5,11 +5,11 @@ use Rattle.std.specs.Option.{option_map}
 use Rattle.std.proofs.lemmas.Option.{slice_get_read, get_or_from_slice_get, slice_get-map}
 use Rattle.std.proofs.lemmas.List.{map-set}
 use Rattle.std.proofs.Math.Seq.{map-set_same}
-use Rattle.semaphore_core.specs.declared.steps.Place.{Place}
-use Rattle.semaphore_core.specs.declared.steps.OnLoad.{OnLoad}
-use Rattle.semaphore_core.specs.declared.steps.OnStore.{OnStore}
-use Rattle.semaphore_core.specs.declared.expand.SeqSteps.{SeqSteps}
-use Rattle.semaphore_core.specs.declared.program.Program.{Program}
+use Rattle.executive_program.specs.declared.steps.Place.{Place}
+use Rattle.executive_program.specs.declared.steps.OnLoad.{OnLoad}
+use Rattle.executive_program.specs.declared.steps.OnStore.{OnStore}
+use Rattle.executive_program.specs.declared.expand.SeqSteps.{SeqSteps}
+use Rattle.executive_program.specs.declared.program.Program.{Program}
 use Rattle.semaphore_core.specs.RegisterFile.{RegisterFile}
 use Rattle.semaphore_core.specs.Registers.{Own, absorb_by, emit_by, after_by}
 use Rattle.semaphore_core.specs.Elements.{element_in, with_element_in}

@@ -2,7 +2,7 @@
 use Rattle.std.specs.Prelude.{◌≡◌, ℕ, ◌+◌, max, List, [], map, length, Some, slice_get}
 use Rattle.flat_graph.specs.declared.vertex.Vertex.{Vertex}
 use Rattle.flat_graph.specs.Graph.{Graph}
-use Rattle.semaphore_core.specs.declared.expand.SeqSteps.{SeqSteps}
+use Rattle.executive_program.specs.declared.expand.SeqSteps.{SeqSteps}
 use Rattle.semaphore_core.specs.Desk.{DeskLens, IsDesk}
 use Rattle.semaphore_core.specs.RegisterFile.{RegisterFile}
 use Rattle.semaphore_core.specs.Held.{highest}

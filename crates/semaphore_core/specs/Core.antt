@@ -2,17 +2,17 @@
 use Rattle.std.specs.Prelude.{◌≡◌, ℕ, ◌+◌, ◌-◌, ◌*◌, ◌%◌, ◌<◌, Bool, true, false, cond, nat_eq, nat_le, nat_lt, List, [], ◌∷◌, ◌++◌, map, length, Option, Some, None, slice_index_or, slice_set, replicate, ℤ}
 use Rattle.consistent_cuts.specs.Sites.{step_at, reaction_at}
 use Rattle.level_meaning.specs.Level.{Values, element_at, zeros}
-use Rattle.semaphore_core.specs.declared.program.Program.{Program}
-use Rattle.semaphore_core.specs.declared.steps.Place.{Place}
-use Rattle.semaphore_core.specs.declared.steps.Place.TheVariants.{Buffer, Wire}
-use Rattle.semaphore_core.specs.declared.steps.OnLoad.{OnLoad}
-use Rattle.semaphore_core.specs.declared.steps.OnStore.{OnStore}
-use Rattle.semaphore_core.specs.declared.steps.MicroStep.{MicroStep}
-use Rattle.semaphore_core.specs.declared.steps.MicroStep.TheVariants.{Take, See, Lower, Signal, Await, Advance, Load, Store}
-use Rattle.semaphore_core.specs.Blocks.{blocks}
-use Rattle.semaphore_core.specs.Instructions.{len_of, depth_of}
-use Rattle.semaphore_core.specs.MicroSteps.{wire_len}
-use Rattle.semaphore_core.specs.Steps.{steps}
+use Rattle.executive_program.specs.declared.program.Program.{Program}
+use Rattle.executive_program.specs.declared.steps.Place.{Place}
+use Rattle.executive_program.specs.declared.steps.Place.TheVariants.{Buffer, Wire}
+use Rattle.executive_program.specs.declared.steps.OnLoad.{OnLoad}
+use Rattle.executive_program.specs.declared.steps.OnStore.{OnStore}
+use Rattle.executive_program.specs.declared.steps.MicroStep.{MicroStep}
+use Rattle.executive_program.specs.declared.steps.MicroStep.TheVariants.{Take, See, Lower, Signal, Await, Advance, Load, Store}
+use Rattle.executive_program.specs.Blocks.{blocks}
+use Rattle.executive_program.specs.Instructions.{len_of, depth_of}
+use Rattle.executive_program.specs.MicroSteps.{wire_len}
+use Rattle.executive_program.specs.Steps.{steps}
 use Rattle.semaphore_core.specs.Registers.{Own, absorb_by, emit_by, after_by}
 use Rattle.semaphore_core.specs.Job.{JobData, reactions, zero_rows}
 

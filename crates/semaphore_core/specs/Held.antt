@@ -1,14 +1,14 @@
 -- What a state holds beside the state of a run: the micro-steps of its program, laid out, and the room of its registers.
 use Rattle.std.specs.Prelude.{◌≡◌, ℕ, ◌+◌, ◌<◌, ◌≤◌, ◌^◌, cond, true, max, nat_lt, sum, List, [], ◌∷◌, length, Option, Some, None, slice_get, slice_index_or, ℤ}
 use Rattle.interleavings.specs.Owners.{sum_below}
-use Rattle.semaphore_core.specs.declared.steps.OnLoad.{OnLoad}
-use Rattle.semaphore_core.specs.declared.steps.OnLoad.TheVariants.{Gather, Carry as CarryIn, Compute as ComputeIn}
-use Rattle.semaphore_core.specs.declared.steps.OnStore.{OnStore}
-use Rattle.semaphore_core.specs.declared.steps.OnStore.TheVariants.{Compute as ComputeOut}
-use Rattle.semaphore_core.specs.declared.steps.MicroStep.{MicroStep}
-use Rattle.semaphore_core.specs.declared.steps.MicroStep.TheVariants.{Signal, Advance, Load, Store}
-use Rattle.semaphore_core.specs.declared.expand.SeqSteps.{SeqSteps}
-use Rattle.semaphore_core.specs.Expanded.{AreSteps}
+use Rattle.executive_program.specs.declared.steps.OnLoad.{OnLoad}
+use Rattle.executive_program.specs.declared.steps.OnLoad.TheVariants.{Gather, Carry as CarryIn, Compute as ComputeIn}
+use Rattle.executive_program.specs.declared.steps.OnStore.{OnStore}
+use Rattle.executive_program.specs.declared.steps.OnStore.TheVariants.{Compute as ComputeOut}
+use Rattle.executive_program.specs.declared.steps.MicroStep.{MicroStep}
+use Rattle.executive_program.specs.declared.steps.MicroStep.TheVariants.{Signal, Advance, Load, Store}
+use Rattle.executive_program.specs.declared.expand.SeqSteps.{SeqSteps}
+use Rattle.executive_program.specs.Expanded.{AreSteps}
 use Rattle.level_meaning.specs.Level.{Values, vector_at}
 use Rattle.flat_graph.specs.declared.vertex.Vertex.{Vertex}
 use Rattle.flat_graph.specs.declared.vertex.Kind.TheVariants.{Actuator, Sensor}
@@ -19,7 +19,8 @@ use Rattle.flat_graph.specs.Fire.{out_lens, cell_len, seen_len}
 use Rattle.semaphore_core.specs.Desk.{DeskLens, IsDesk}
 use Rattle.semaphore_core.specs.RegisterFile.{RegisterFile}
 use Rattle.semaphore_core.specs.Registers.{Own, compute, absorb_by, emit_by, after_by}
-use Rattle.semaphore_core.specs.Steps.{IsSingle, steps}
+use Rattle.executive_program.specs.Steps.{steps}
+use Rattle.executive_program.specs.Instructions.{HasPlaces}
 use Rattle.semaphore_core.specs.Job.{JobData, reactions, total_steps}
 use Rattle.semaphore_core.specs.Core.{Core, count, full, is_enabled, IsReached}
 use Rattle.semaphore_core.specs.declared.answer.StepAnswer.{StepAnswer}
@@ -126,7 +127,7 @@ module _ (j : JobData) where
   pub record IsOpened (h : Held) : Type 0 where
     -- some list of sequence numbers leads to it from the opening state
     pub reached : IsReached j h.core
-    pub single : IsSingle j.program
+    pub places : HasPlaces j.program
     pub ready : AreReady j (kept_of h)
     pub steps_are : AreSteps j.program h.steps
     pub counts_there : length h.core.counts ≡ length j.program.seqs

@@ -11,8 +11,8 @@ use Rattle.flat_graph.specs.Laws.{sensor_lens}
 use Rattle.flat_graph.specs.Meaning.{initial_cells}
 use Rattle.archi_graph.specs.Archi.{Architecture}
 use Rattle.archi_graph.specs.Sequences.{sequences}
-use Rattle.semaphore_core.specs.declared.program.Program.{Program}
-use Rattle.semaphore_core.specs.WellFormed.{IsWellFormed}
+use Rattle.executive_program.specs.declared.program.Program.{Program}
+use Rattle.executive_program.specs.WellFormed.{IsWellFormed}
 use Rattle.semaphore_core.specs.Job.{JobData, reactions, output_elements, total_steps}
 
 -- the job of these parts

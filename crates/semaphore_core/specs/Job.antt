@@ -11,12 +11,12 @@ use Rattle.flat_graph.specs.declared.vertex.Vertex.{Vertex}
 use Rattle.flat_graph.specs.declared.vertex.Kind.{Kind}
 use Rattle.flat_graph.specs.declared.vertex.Kind.TheVariants.{Actuator}
 use Rattle.flat_graph.specs.Graph.{Graph, lens_of}
-use Rattle.semaphore_core.specs.declared.program.Program.{Program}
-use Rattle.semaphore_core.specs.Blocks.{block_at}
-use Rattle.semaphore_core.specs.Instructions.{len_of, depth_of}
-use Rattle.semaphore_core.specs.MicroSteps.{code, transfers, access, wire_len, buffer_elements}
+use Rattle.executive_program.specs.declared.program.Program.{Program}
+use Rattle.executive_program.specs.Blocks.{block_at}
+use Rattle.executive_program.specs.Instructions.{len_of, depth_of}
+use Rattle.executive_program.specs.MicroSteps.{code, transfers, access, wire_len, buffer_elements}
 use Rattle.semaphore_core.specs.Registers.{Own, absorb_at, emit_at, after_at}
-use Rattle.semaphore_core.specs.Steps.{steps, all_prologues, all_turns}
+use Rattle.executive_program.specs.Steps.{steps, all_prologues, all_turns}
 
 pub record JobData : Type 0 where
   pub program : Program

@@ -1,11 +1,4 @@
-pub mod Blocks
-pub mod Instructions
-pub mod MicroSteps
-pub mod Steps
-pub mod Expanded
 pub mod Elements
-pub mod Places
-pub mod WellFormed
 pub mod Operation
 pub mod Desk
 pub mod Rows

@@ -10,15 +10,15 @@ use Rattle.flat_graph.specs.declared.vertex.Kind.{Kind}
 use Rattle.flat_graph.specs.declared.vertex.Kind.TheVariants.{Actuator}
 use Rattle.flat_graph.specs.Graph.{lens_of}
 use Rattle.flat_graph.specs.Meaning.{is_get, flat_outputs, flat_val, flat_act, cells_after}
-use Rattle.semaphore_core.specs.declared.program.Instr.{Instr}
-use Rattle.semaphore_core.specs.declared.program.Instr.TheVariants.{Call, Send, Recv}
-use Rattle.semaphore_core.specs.Blocks.{block_at}
-use Rattle.semaphore_core.specs.Instructions.{turn, len_of, depth_of}
-use Rattle.semaphore_core.specs.MicroSteps.{code, size, begins, sent, transfers, uses, element_of, wire_of, buffer_elements, wire_len}
-use Rattle.semaphore_core.specs.Places.{calling, carried}
+use Rattle.executive_program.specs.declared.program.Instr.{Instr}
+use Rattle.executive_program.specs.declared.program.Instr.TheVariants.{Call, Send, Recv}
+use Rattle.executive_program.specs.Blocks.{block_at}
+use Rattle.executive_program.specs.Instructions.{turn, len_of, depth_of}
+use Rattle.executive_program.specs.MicroSteps.{code, size, begins, sent, transfers, uses, element_of, wire_of, buffer_elements, wire_len}
+use Rattle.executive_program.specs.Places.{calling, carried}
 use Rattle.semaphore_core.specs.Registers.{Own}
-use Rattle.semaphore_core.specs.declared.program.Program.{Program}
-use Rattle.semaphore_core.specs.Steps.{elements_in}
+use Rattle.executive_program.specs.declared.program.Program.{Program}
+use Rattle.executive_program.specs.Steps.{elements_in}
 use Rattle.semaphore_core.specs.Job.{JobData, reactions, buffer_at, wire_at, number_at, depth_at, period_at, system}
 use Rattle.semaphore_core.specs.Core.{Core}
 

@@ -1,7 +1,7 @@
 //! A job: a well-formed program with the sensors' rows and the delays' opening values.
-use crate::program::Program;
 use crate::totals::{limit_fault, total_steps};
 use archi_graph::Archi;
+use executive_program::Program;
 use flat_graph::{Flat, Kind, Vertex};
 use std::marker::Model;
 use syn_base::{Items, LimitFault, SensorRows};

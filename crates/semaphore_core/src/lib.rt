@@ -4,28 +4,19 @@
 
 mod answer;
 mod desk;
-mod expand;
 mod job;
 mod laying;
 mod opening;
 mod operations;
-mod program;
 mod reading;
 mod registers;
 mod rooms;
 mod state;
-mod steps;
 mod totals;
 mod words;
 
 pub use answer::StepAnswer;
-pub use expand::{SeqSteps, micro_steps_of};
 pub use job::Job;
 pub use opening::{actuator_lens, opening_of, sensor_lens};
-pub use program::{Buffer, Instr, Program, SeqCode};
 pub use registers::Registers;
 pub use state::{State, run_list, try_step};
-pub use steps::{MicroStep, OnLoad, OnStore, Place};
-
-#[cfg(test)]
-mod tests;

@@ -6,14 +6,11 @@ ghost use Rattle.flat_graph.specs.Graph.{len_of as source_len, lens_of};
 ghost use Rattle.flat_graph.specs.Meaning.{initial_cell, initial_cells};
 ghost use Rattle.semaphore_core.specs.Job.{actuator_len, actuator_lens};
 ghost use Rattle.flat_graph.specs.Laws.{sensor_len, sensor_lens};
-ghost use Rattle.semaphore_core.specs.Instructions.{len_of, depth_of};
-ghost use Rattle.semaphore_core.specs.MicroSteps.{sent_len, longest_sent, longest_in, longest_on, wire_len};
-ghost use Rattle.semaphore_core.specs.Steps.{IsSingle};
+ghost use Rattle.executive_program.specs.MicroSteps.{wire_len};
 ghost use Rattle.semaphore_core.specs.Core.{buffer_zeros, wire_zeros};
 
-use crate::expand::buffer_len;
-use crate::program::{Instr, Program, SeqCode};
 use crate::rooms::{addressable, sum_of};
+use executive_program::{Program, wire_len};
 use flat_graph::{Flat, Kind, Source, Vertex};
 use std::alloc::Global;
 use syn_base::{ActRows, Items, OutOfMemory};
@@ -32,56 +29,14 @@ pub fn words_of(alloc: Global, word: u64, len: usize) -> Result<Vec<u64>, OutOfM
     Ok(vec![in alloc; word; len]?)
 }
 
-/// The length of the buffer that an instruction sends, 0 for another instruction.
-fn sent_len(program: &Program, instr: &Instr) -> u32
-    ensures { result ≡ sent_len program.now instr.now }
-{
-    match instr {
-        Instr::Send { buffer, .. } => buffer_len(program, *buffer),
-        _ => 0,
-    }
-}
-
-/// The length of the longest buffer that these instructions send.
-fn longest_sent(program: &Program, list: &[Instr]) -> u32
-    ensures { result ≡ longest_sent program.now list.now }
-{
-    let mut longest = 0;
-    for instr in list {
-        longest = sent_len(program, instr).max(longest);
-    }
-    longest
-}
-
-/// The length of the longest buffer that a sequence sends over a medium.
-fn longest_in(program: &Program, medium: u32, code: &SeqCode) -> u32
-    ensures { result ≡ longest_in program.now medium code.now }
-{
-    match code.seq.medium {
-        Some(found) if found == medium => longest_sent(program, code.turn.as_slice()),
-        _ => 0,
-    }
-}
-
-/// The length of the wire of a medium.
-fn wire_len(program: &Program, medium: u32) -> u32
-    ensures { result ≡ wire_len program.now medium }
-{
-    let mut longest = 0;
-    for code in program.seqs.as_slice() {
-        longest = longest_in(program, medium, code).max(longest);
-    }
-    longest
-}
-
 /// The elements of all buffers, all zeros.
 fn zero_buffers(alloc: Global, program: &Program) -> Result<Vec<Items<i64>>, OutOfMemory>
-    requires { IsSingle program.now }
     ensures { IfOk result (λ s. s.items ≡ buffer_zeros program.now) }
 {
     let mut all = Vec::new(alloc);
     for buffer in program.buffers.as_slice() {
-        all.push(zeros(alloc, buffer.len as usize)?)?;
+        let len = buffer.depth as u128 * buffer.len as u128;
+        all.push(zeros(alloc, addressable(len)?)?)?;
     }
     Ok(all)
 }
@@ -92,7 +47,6 @@ pub fn zero_elements(
     program: &Program,
     media: u32,
 ) -> Result<Vec<Items<i64>>, OutOfMemory>
-    requires { IsSingle program.now }
     ensures { IfOk result (λ s. s.items ≡ buffer_zeros program.now ++ wire_zeros program.now media) }
 {
     let mut all = zero_buffers(alloc, program)?;

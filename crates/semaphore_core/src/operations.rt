@@ -17,7 +17,7 @@ use crate::job::Job;
 use crate::laying::desks_of;
 use crate::opening::{actuator_lens, copy_of, zero_rows};
 use crate::registers::Registers;
-use crate::steps::{OnLoad, OnStore};
+use executive_program::{OnLoad, OnStore};
 use flat_graph::{Flat, Kind, Vertex};
 use std::alloc::Global;
 use std::marker::Model;

@@ -4,9 +4,8 @@ ghost use Rattle.flat_graph.specs.Fire.{out_lens};
 ghost use Rattle.semaphore_core.specs.Held.{outputs_len, top_load, top_store, top, highest};
 ghost use Rattle.semaphore_core.specs.AtOpening.{empty_registers, all_registers};
 
-use crate::expand::SeqSteps;
 use crate::registers::Registers;
-use crate::steps::{MicroStep, OnLoad, OnStore};
+use executive_program::{MicroStep, OnLoad, OnStore, SeqSteps};
 use flat_graph::Flat;
 use std::alloc::Global;
 use syn_base::OutOfMemory;

@@ -1,20 +1,20 @@
 //! The state of a run, and one micro-step of it.
-ghost use Rattle.std.specs.Prelude.{◌≡◌, ℕ, ◌+◌, ◌*◌, ◌^◌, ◌<◌, ◌≤◌, length, slice_index_or, slice_set, slice_get, Some, IsTrue, IfOk, cond, pos, map};
+ghost use Rattle.std.specs.Prelude.{◌≡◌, ℕ, ◌+◌, ◌*◌, ◌%◌, ◌^◌, ◌<◌, ◌≤◌, length, slice_index_or, slice_set, slice_get, Some, IsTrue, IfOk, cond, pos, map};
 ghost use Rattle.semaphore_core.specs.Core.{count, counted, done_in, next, reaction, step, run_from, enabled_in, is_enabled, load_by, store_by, with_element, home_of, slot_of, opening};
 ghost use Rattle.semaphore_core.specs.Held.{AreReady, IsOpened, FitsWord, NeedsReaction, answer, kept_of, top, top_load, top_store};
-ghost use Rattle.semaphore_core.specs.Steps.{IsSingle};
+ghost use Rattle.executive_program.specs.Instructions.{HasPlaces, depth_of};
 
 use crate::answer::StepAnswer;
-use crate::expand::{SeqSteps, micro_steps_of};
 use crate::job::Job;
 use crate::laying::small;
 use crate::opening::{words_of, zero_elements};
 use crate::operations::Operations;
-use crate::program::Program;
 use crate::registers::Registers;
 use crate::rooms::all_registers;
-use crate::steps::{MicroStep, OnLoad, OnStore, Place};
 use crate::words;
+use executive_program::{
+    MicroStep, OnLoad, OnStore, Place, Program, SeqSteps, buffer_depth, buffer_len, micro_steps_of,
+};
 use std::alloc::Global;
 use std::marker::Model;
 use syn_base::{ActRows, Items, OutOfMemory};
@@ -64,13 +64,29 @@ fn home(program: &Program, place: Place) -> usize
     }
 }
 
-/// The place in its list, which is the same in all reactions where each buffer has one place.
-fn slot(program: &Program, place: Place) -> usize
-    requires { IsSingle program.now }
-    ensures { (k : ℕ) → result ≡ slot_of program.now place k }
+/// The place of a buffer that is used in a reaction.
+fn turn_of(program: &Program, buffer: u32, reaction: u64) -> u32
+    requires { HasPlaces program.now }
+    ensures { result ≡ reaction % depth_of program.now buffer }
+{
+    let depth = buffer_depth(program, buffer);
+    if depth == 1 {
+        0
+    } else {
+        (reaction % depth as u64) as u32
+    }
+}
+
+/// The place of an element in its list in a reaction.
+fn slot(program: &Program, place: Place, reaction: u64) -> usize
+    requires { HasPlaces program.now }
+    ensures { result ≡ slot_of program.now place reaction }
 {
     match place {
-        Place::Buffer { number, .. } => number as usize,
+        Place::Buffer { buffer, number } => {
+            let before = turn_of(program, buffer, reaction) as usize;
+            before * buffer_len(program, buffer) as usize + number as usize
+        }
         Place::Wire { number, .. } => number as usize,
     }
 }
@@ -119,7 +135,7 @@ impl State {
 
     /// Makes a load of a sequence.
     fn load(&mut self, job: &Job, seq: usize, reaction: u64, place: Place, then: OnLoad)
-        requires single { IsSingle job.now.program }
+        requires places { HasPlaces job.now.program }
         requires ready { AreReady job.now (kept_of self.old) }
         requires reaction { reaction < length job.now.sensors }
         requires counted { (seq < length self.old.core.counts) × (count self.old.core seq + 1 < 2 ^ 64) }
@@ -127,7 +143,8 @@ impl State {
         ensures { self.new ≡ record self.old { core = load_by job.now self.old.core seq place then reaction } }
     {
         let program = job.program();
-        let value = words::element_in(&self.elements, home(program, place), slot(program, place));
+        let at = slot(program, place, reaction);
+        let value = words::element_in(&self.elements, home(program, place), at);
         self.counts[seq] += 1;
         let registers = &mut self.registers[seq];
         self.operations
@@ -136,7 +153,7 @@ impl State {
 
     /// Makes a store of a sequence.
     fn store(&mut self, job: &Job, seq: usize, reaction: u64, place: Place, what: OnStore)
-        requires single { IsSingle job.now.program }
+        requires places { HasPlaces job.now.program }
         requires ready { AreReady job.now (kept_of self.old) }
         requires reaction { reaction < length job.now.sensors }
         requires counted { (seq < length self.old.core.counts) × (count self.old.core seq + 1 < 2 ^ 64) }
@@ -150,7 +167,7 @@ impl State {
         words::put_element(
             &mut self.elements,
             home(program, place),
-            slot(program, place),
+            slot(program, place, reaction),
             value,
         );
     }
@@ -185,7 +202,7 @@ impl State {
 
     /// Makes a micro-step of a sequence.
     fn make(&mut self, job: &Job, seq: usize, reaction: u64, step: MicroStep)
-        requires single { IsSingle job.now.program }
+        requires places { HasPlaces job.now.program }
         requires ready { AreReady job.now (kept_of self.old) }
         requires reaction { NeedsReaction step reaction (length job.now.sensors) }
         requires counted { (seq < length self.old.core.counts) × (count self.old.core seq + 1 < 2 ^ 64) }

@@ -4,14 +4,12 @@ ghost use Rattle.std.specs.Prelude.{◌≡◌, ◌-◌, ◌*◌, ◌^◌, ◌<�
 ghost use Rattle.std.specs.List.{sum_by};
 ghost use Rattle.flat_graph.specs.Graph.{len_of as source_len};
 ghost use Rattle.semaphore_core.specs.Job.{output_elements, total_steps};
-ghost use Rattle.semaphore_core.specs.Steps.{IsSingle};
 ghost use Rattle.syn_base.specs.declared.limits.LimitKind.TheVariants.{Output, Total};
 ghost use Rattle.semaphore_core.specs.IsJob.{above};
-ghost use Rattle.semaphore_core.specs.Totals.{taken_by, micros_of, micros_in};
+ghost use Rattle.semaphore_core.specs.Totals.{taken_by, CountsLooks};
 
-use crate::expand::{buffer_len, elements_in};
 use crate::opening::source_len;
-use crate::program::{Instr, Program};
+use executive_program::{Program, deep_pairs, plain_prologues, plain_turns};
 use flat_graph::{Flat, Kind, Source, Vertex};
 use syn_base::{LimitFault, LimitKind};
 
@@ -59,63 +57,16 @@ fn output_elements(flat: &Flat, reactions: usize) -> u128
     reactions as u128 * taken_elements(flat)
 }
 
-/// The number of micro-steps of an instruction.
-fn micros_of(program: &Program, instr: &Instr) -> u128
-    ensures { result ≡ micros_of program.now instr.now }
-{
-    match instr {
-        Instr::Call { ins, outs, .. } => {
-            elements_in(program, ins.as_slice()) + elements_in(program, outs.as_slice())
-        }
-        Instr::Send { buffer, .. } | Instr::Recv { buffer, .. } => {
-            2 + 2 * buffer_len(program, *buffer) as u128
-        }
-        _ => 1,
-    }
-}
-
-/// The number of micro-steps of these instructions, or the last value of the type where it is more.
-fn micros_in(program: &Program, list: &[Instr]) -> u128
-    ensures { result ≡ min (micros_in program.now list.now) (2 ^ 128 - 1) }
-{
-    let mut total: u128 = 0;
-    for instr in list {
-        total = total.saturating_add(micros_of(program, instr));
-    }
-    total
-}
-
-/// The number of micro-steps of all prologues, or the last value of the type where it is more.
-fn prologue_micros(program: &Program) -> u128
-    ensures { result ≡ min (sum_by (λ q. micros_in program.now q.prologue) program.now.seqs) (2 ^ 128 - 1) }
-{
-    let mut total: u128 = 0;
-    for code in program.seqs.as_slice() {
-        total = total.saturating_add(micros_in(program, code.prologue.as_slice()));
-    }
-    total
-}
-
-/// The number of micro-steps of all loops in one reaction, or the last value of the type where it is
-/// more.
-fn turn_micros(program: &Program) -> u128
-    ensures { result ≡ min (sum_by (λ q. micros_in program.now q.turn) program.now.seqs) (2 ^ 128 - 1) }
-{
-    let mut total: u128 = 0;
-    for code in program.seqs.as_slice() {
-        total = total.saturating_add(micros_in(program, code.turn.as_slice()));
-    }
-    total
-}
-
-/// The number of micro-steps of so many reactions of all sequences, or the last value of the type
-/// where it is more.
+/// The number of micro-steps of so many reactions of all sequences of a well-formed program, or the last
+/// value of the type where it is more. A take of a deep pair is two micro-steps, and in each reaction each
+/// pair is taken twice.
 pub fn total_steps(program: &Program, reactions: usize) -> u128
-    requires { IsSingle program.now }
+    requires { CountsLooks program.now }
     ensures { result ≡ min (total_steps program.now reactions) (2 ^ 128 - 1) }
 {
-    let turns = turn_micros(program).saturating_mul(reactions as u128);
-    prologue_micros(program).saturating_add(turns)
+    let looks = deep_pairs(program).saturating_mul(2);
+    let turns = plain_turns(program).saturating_add(looks);
+    plain_prologues(program).saturating_add(turns.saturating_mul(reactions as u128))
 }
 
 /// The fault of a quantity, where it is above its bound.
@@ -137,7 +88,7 @@ fn above(which: LimitKind, count: u128) -> Option<LimitFault>
 /// The limit that refuses so many reactions of a program: that of the elements that the actuators
 /// take, and else that of the micro-steps.
 pub fn limit_fault(program: &Program, flat: &Flat, reactions: usize) -> Option<LimitFault>
-    requires single { IsSingle program.now }
+    requires looks { CountsLooks program.now }
     requires few { reactions ≤ 10000 }
     ensures { result ≡ above Output (output_elements flat.now reactions) (above Total (min (total_steps program.now reactions) (2 ^ 128 - 1)) None) }
 {

@@ -3,10 +3,9 @@ ghost use Rattle.std.specs.Prelude.{◌≡◌, ◌+◌, ◌-◌, ◌*◌, ◌/�
 ghost use Rattle.consistent_cuts.specs.Sites.{reaction_at};
 ghost use Rattle.semaphore_core.specs.Core.{turn_reached};
 ghost use Rattle.semaphore_core.specs.Elements.{element_in, with_element_in};
-ghost use Rattle.semaphore_core.specs.Expanded.{code_of, next_in};
+ghost use Rattle.executive_program.specs.Expanded.{code_of, next_in};
 
-use crate::expand::SeqSteps;
-use crate::steps::MicroStep;
+use executive_program::{MicroStep, SeqSteps};
 use syn_base::Items;
 
 /// The word at a place, 0 for one that is not there.

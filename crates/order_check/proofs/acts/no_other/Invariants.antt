@@ -1,7 +1,7 @@
 use Rattle.std.proofs.Common.{◌≡◌, ℕ, ◌&&◌, drop, nat_eq}
-use Rattle.semaphore_core.specs.declared.program.Instr.{Instr}
+use Rattle.executive_program.specs.declared.program.Instr.{Instr}
 use Rattle.order_check.specs.Checked.{all_at, implies}
-use Rattle.semaphore_core.specs.declared.program.SeqCode.{SeqCode}
+use Rattle.executive_program.specs.declared.program.SeqCode.{SeqCode}
 use Rattle.order_check.specs.Pairs.{is_act}
 use Rattle.order_check.proofs.acts.no_other.Given as goal
 

@@ -1,5 +1,5 @@
 use Rattle.std.proofs.Common.{◌≡◌, ℕ, ◌&&◌, drop, nat_eq}
-use Rattle.semaphore_core.specs.declared.program.Instr.{Instr}
+use Rattle.executive_program.specs.declared.program.Instr.{Instr}
 use Rattle.order_check.specs.Checked.{all_at, implies}
 use Rattle.order_check.specs.Pairs.{is_act}
 use Rattle.order_check.proofs.acts.no_other_in.Given as goal

@@ -1,7 +1,7 @@
 use Rattle.std.proofs.Common.{◌≡◌, ℕ, drop, nat_lt}
-use Rattle.semaphore_core.specs.declared.program.Instr.{Instr}
+use Rattle.executive_program.specs.declared.program.Instr.{Instr}
 use Rattle.order_check.specs.Checked.{all_at, implies}
-use Rattle.semaphore_core.specs.Instructions.{reads}
+use Rattle.executive_program.specs.Instructions.{reads}
 use Rattle.order_check.proofs.buffers.all_read_after.Given as goal
 
 -- the instructions that are left decide

@@ -1,5 +1,5 @@
 use Rattle.std.proofs.Common.{◌≡◌, ℕ, ◌&&◌, drop, nat_eq}
-use Rattle.semaphore_core.specs.declared.program.Instr.{Instr}
+use Rattle.executive_program.specs.declared.program.Instr.{Instr}
 use Rattle.order_check.specs.Checked.{all_at}
 use Rattle.order_check.specs.Buffers.{writes_only}
 use Rattle.order_check.proofs.buffers.all_write_only.Given as goal

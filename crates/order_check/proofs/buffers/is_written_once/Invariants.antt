@@ -1,7 +1,7 @@
 use Rattle.std.proofs.Common.{◌≡◌, ℕ, ◌&&◌, drop, nat_eq}
-use Rattle.semaphore_core.specs.declared.program.Instr.{Instr}
+use Rattle.executive_program.specs.declared.program.Instr.{Instr}
 use Rattle.order_check.specs.Checked.{all_at}
-use Rattle.semaphore_core.specs.declared.program.SeqCode.{SeqCode}
+use Rattle.executive_program.specs.declared.program.SeqCode.{SeqCode}
 use Rattle.order_check.specs.Buffers.{writes_only}
 use Rattle.order_check.proofs.buffers.is_written_once.Given as goal
 

@@ -1,5 +1,5 @@
 use Rattle.std.proofs.Common.{ℕ, ap, ◌∙◌}
-use Rattle.semaphore_core.specs.Places.{caller_of}
+use Rattle.executive_program.specs.Places.{caller_of}
 use Rattle.order_check.specs.Calls.{is_called_at}
 use Rattle.order_check.proofs.calling.is_called.Goals as goal
 

@@ -1,5 +1,5 @@
 use Rattle.std.proofs.Common.{◌≡◌, ◌-◌, length}
-use Rattle.semaphore_core.specs.Places.{carried, carried_within}
+use Rattle.executive_program.specs.Places.{carried, carried_within}
 use Rattle.order_check.proofs.carrying.carried_by.Given as goal
 
 -- what the buffer carries that was come to

@@ -1,5 +1,5 @@
 use Rattle.std.proofs.Common.{◌≡◌, drop}
-use Rattle.semaphore_core.specs.MicroSteps.{sent_by}
+use Rattle.executive_program.specs.MicroSteps.{sent_by}
 use Rattle.order_check.proofs.carrying.sent.Given as goal
 
 -- the sequences that are left decide

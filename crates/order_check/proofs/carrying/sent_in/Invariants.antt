@@ -1,5 +1,5 @@
 use Rattle.std.proofs.Common.{◌≡◌, drop}
-use Rattle.semaphore_core.specs.MicroSteps.{sent_in}
+use Rattle.executive_program.specs.MicroSteps.{sent_in}
 use Rattle.order_check.proofs.carrying.sent_in.Given as goal
 
 -- the instructions that are left decide

@@ -1,6 +1,6 @@
 use Rattle.std.proofs.Common.{List, length, ap, sym, ◌∙◌}
 use Rattle.flat_graph.specs.declared.vertex.Vertex.{Vertex}
-use Rattle.semaphore_core.specs.Places.{carried, places}
+use Rattle.executive_program.specs.Places.{carried, places}
 use Rattle.order_check.specs.Checked.{named}
 use Rattle.order_check.proofs.Exact.{named_of, of_named}
 use Rattle.order_check.proofs.clauses.names_what_is_there.Goals as goal

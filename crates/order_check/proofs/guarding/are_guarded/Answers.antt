@@ -1,6 +1,6 @@
 use Rattle.std.proofs.Common.{◌+◌, ◌<◌, ◌≤◌, List, length, arith, sym, ap}
-use Rattle.semaphore_core.specs.declared.program.Buffer.{Buffer}
-use Rattle.semaphore_core.specs.Instructions.{readers_from}
+use Rattle.executive_program.specs.declared.program.Buffer.{Buffer}
+use Rattle.executive_program.specs.Instructions.{readers_from}
 use Rattle.order_check.proofs.Walked.{fits, right_more, many_more, one_fails}
 use Rattle.order_check.proofs.guarding.are_guarded.Goals as goal
 

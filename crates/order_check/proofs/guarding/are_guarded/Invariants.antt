@@ -1,6 +1,6 @@
 use Rattle.std.proofs.Common.{◌≡◌, ◌≤◌, true, length}
-use Rattle.semaphore_core.specs.Blocks.{blocks}
-use Rattle.semaphore_core.specs.Instructions.{readers_from}
+use Rattle.executive_program.specs.Blocks.{blocks}
+use Rattle.executive_program.specs.Instructions.{readers_from}
 use Rattle.order_check.specs.Checked.{all_at}
 use Rattle.order_check.specs.Pairs.{guards}
 use Rattle.order_check.proofs.guarding.are_guarded.Given as goal

@@ -1,5 +1,5 @@
 use Rattle.std.proofs.Common.{◌≡◌, ◌+◌, ◌≤◌, drop, length}
-use Rattle.semaphore_core.specs.Instructions.{readers_from}
+use Rattle.executive_program.specs.Instructions.{readers_from}
 use Rattle.order_check.proofs.guarding.count_readers.Given as goal
 
 -- the readers so far, and those that are left

@@ -1,6 +1,6 @@
 use Rattle.std.proofs.Common.{ℕ, ap, ◌∙◌}
-use Rattle.semaphore_core.specs.Instructions.{Reader}
-use Rattle.semaphore_core.specs.Places.{writer_of}
+use Rattle.executive_program.specs.Instructions.{Reader}
+use Rattle.executive_program.specs.Places.{writer_of}
 use Rattle.order_check.specs.Pairs.{guards_from}
 use Rattle.order_check.proofs.guarding.guards.Goals as goal
 

@@ -1,5 +1,5 @@
 use Rattle.std.proofs.Common.{◌≡◌, ◌≤◌, drop, length}
-use Rattle.semaphore_core.specs.Instructions.{readers_from}
+use Rattle.executive_program.specs.Instructions.{readers_from}
 use Rattle.order_check.specs.Checked.{all_at}
 use Rattle.order_check.specs.Pairs.{guards}
 use Rattle.order_check.proofs.guarding.guards_buffer.Given as goal

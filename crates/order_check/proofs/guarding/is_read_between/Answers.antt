@@ -1,5 +1,5 @@
 use Rattle.std.proofs.Common.{ℕ, ap, ◌∙◌}
-use Rattle.semaphore_core.specs.Places.{takes_full}
+use Rattle.executive_program.specs.Places.{takes_full}
 use Rattle.order_check.specs.Pairs.{first_place, is_read_within}
 use Rattle.order_check.proofs.guarding.is_read_between.Goals as goal
 

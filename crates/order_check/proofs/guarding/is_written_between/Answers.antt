@@ -1,5 +1,5 @@
 use Rattle.std.proofs.Common.{ℕ, ap, ◌∙◌}
-use Rattle.semaphore_core.specs.Places.{takes_empty}
+use Rattle.executive_program.specs.Places.{takes_empty}
 use Rattle.order_check.specs.Pairs.{first_place, is_written_within}
 use Rattle.order_check.proofs.guarding.is_written_between.Goals as goal
 

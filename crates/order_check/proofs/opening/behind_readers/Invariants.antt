@@ -1,5 +1,5 @@
 use Rattle.std.proofs.Common.{◌≡◌, drop}
-use Rattle.semaphore_core.specs.Instructions.{readers_from}
+use Rattle.executive_program.specs.Instructions.{readers_from}
 use Rattle.order_check.specs.Checked.{passed}
 use Rattle.order_check.specs.Opened.{opens}
 use Rattle.order_check.proofs.opening.behind_readers.Given as goal

@@ -1,8 +1,8 @@
 use Rattle.std.proofs.Common.{◌≡◌, ℕ, suc, ◌+◌, ◌<◌, List, length, sym, ap, subst, arith, ◌∙◌}
 use Rattle.std.specs.Prelude.{Some}
-use Rattle.semaphore_core.specs.declared.program.Buffer.{Buffer}
-use Rattle.semaphore_core.specs.Blocks.{blocks}
-use Rattle.semaphore_core.specs.Instructions.{readers_from}
+use Rattle.executive_program.specs.declared.program.Buffer.{Buffer}
+use Rattle.executive_program.specs.Blocks.{blocks}
+use Rattle.executive_program.specs.Instructions.{readers_from}
 use Rattle.order_check.specs.Checked.{passed}
 use Rattle.order_check.specs.Opened.{opens}
 use Rattle.order_check.proofs.Passing.{block_passed, block_stops}

@@ -1,7 +1,7 @@
 use Rattle.std.proofs.Common.{◌≡◌}
 use Rattle.std.specs.Prelude.{Some}
-use Rattle.semaphore_core.specs.Blocks.{blocks}
-use Rattle.semaphore_core.specs.Instructions.{readers_from}
+use Rattle.executive_program.specs.Blocks.{blocks}
+use Rattle.executive_program.specs.Instructions.{readers_from}
 use Rattle.order_check.specs.Checked.{passed}
 use Rattle.order_check.specs.Opened.{opens}
 use Rattle.order_check.proofs.opening.count_opened.Given as goal

@@ -1,5 +1,5 @@
 use Rattle.std.proofs.Common.{◌≡◌, ◌+◌, drop}
-use Rattle.semaphore_core.specs.WellFormed.{place_in}
+use Rattle.executive_program.specs.WellFormed.{place_in}
 use Rattle.order_check.proofs.placing.place_in.Given as goal
 
 -- the entries that are left decide

@@ -1,5 +1,5 @@
 use Rattle.std.proofs.Common.{◌≡◌, ◌+◌, drop}
-use Rattle.semaphore_core.specs.Places.{communication_at}
+use Rattle.executive_program.specs.Places.{communication_at}
 use Rattle.order_check.proofs.searches.communication_at.Given as goal
 
 -- the instructions that are left decide

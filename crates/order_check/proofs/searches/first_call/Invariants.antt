@@ -1,6 +1,6 @@
 use Rattle.std.proofs.Common.{◌≡◌, ◌+◌, drop}
 use Rattle.std.specs.List.{position_or_len}
-use Rattle.semaphore_core.specs.Places.{calls}
+use Rattle.executive_program.specs.Places.{calls}
 use Rattle.order_check.proofs.searches.first_call.Given as goal
 
 -- the instructions that are left decide

@@ -1,5 +1,5 @@
 use Rattle.std.proofs.Common.{◌≡◌, drop}
-use Rattle.semaphore_core.specs.MicroSteps.{transfers_on}
+use Rattle.executive_program.specs.MicroSteps.{transfers_on}
 use Rattle.order_check.proofs.searches.transfers.Given as goal
 
 -- the sequences that are left decide

@@ -1,6 +1,6 @@
 use Rattle.std.proofs.Common.{◌≡◌, ◌+◌, drop}
 use Rattle.std.specs.List.{position_or_len}
-use Rattle.semaphore_core.specs.Places.{sends_at}
+use Rattle.executive_program.specs.Places.{sends_at}
 use Rattle.order_check.proofs.transferring.sender_of.Given as goal
 
 -- the sequences that are left decide

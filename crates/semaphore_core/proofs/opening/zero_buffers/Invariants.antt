@@ -1,6 +1,6 @@
 use Rattle.std.proofs.Common.{◌≡◌, ◌*◌, map, take}
 use Rattle.level_meaning.specs.Level.{zeros}
-use Rattle.semaphore_core.specs.declared.program.Buffer.{Buffer}
+use Rattle.executive_program.specs.declared.program.Buffer.{Buffer}
 use Rattle.semaphore_core.proofs.opening.zero_buffers.Given as goal
 
 abbrev pub invariant-loop-buffer : goal.invariant-loop-buffer

@@ -2,8 +2,8 @@
 use Rattle.std.proofs.Common.{◌++◌, ◌∷◌, [], List, ℤ, ℕ, ap, ◌∙◌}
 use Rattle.level_meaning.specs.Level.{zeros}
 use Rattle.semaphore_core.specs.Core.{buffer_zeros}
-use Rattle.semaphore_core.specs.MicroSteps.{wire_len}
-use Rattle.semaphore_core.proofs.Expanding.{blocks_more}
+use Rattle.executive_program.specs.MicroSteps.{wire_len}
+use Rattle.executive_program.proofs.Expanding.{blocks_more}
 use Rattle.semaphore_core.proofs.opening.zero_elements.Goals as goal
 
 pub loop-medium-preserved : goal.loop-medium-preserved

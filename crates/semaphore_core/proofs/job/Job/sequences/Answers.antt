@@ -1,6 +1,6 @@
 -- A valid architecture has few sequences.
 use Rattle.std.proofs.Common.{◌≤◌, List, length, arith, rules, ap}
-use Rattle.semaphore_core.specs.declared.program.SeqCode.{SeqCode}
+use Rattle.executive_program.specs.declared.program.SeqCode.{SeqCode}
 use Rattle.semaphore_core.specs.IsJob.{job_of}
 use Rattle.semaphore_core.proofs.FewSequences.{few_sequences}
 use Rattle.semaphore_core.proofs.job.Job.sequences.Goals as goal

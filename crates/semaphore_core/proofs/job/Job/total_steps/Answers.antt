@@ -1,7 +1,8 @@
--- A job's buffers have one place each, and its micro-steps are few.
-use Rattle.semaphore_core.specs.IsJob.{job_of}
-use Rattle.semaphore_core.proofs.Jobs.{single}
+-- A job's program takes each pair twice in a reaction, and its micro-steps are few.
+use Rattle.std.proofs.Common.{length}
+use Rattle.archi_graph.specs.Sequences.{sequences}
+use Rattle.semaphore_core.proofs.Counting.{counts_looks}
 use Rattle.semaphore_core.proofs.job.Job.total_steps.Goals as goal
 
 pub total_steps-requires : goal.total_steps-requires
-total_steps-requires c = let s = c.self.inside in single (job_of s.program.now s.flat.now s.archi.now s.rows.now s.opening) (s.archi.now, c.self.invariant)
+total_steps-requires c = let s = c.self.inside in counts_looks s.program.now s.flat.now (sequences s.archi.now) (length s.archi.now.media) c.self.invariant.0.formed

@@ -18,8 +18,8 @@ returns c = rw (← c.self.view_is) (
     loaded c.args.job.now s.counts.items s.semaphores.items s.turns.items s.elements.items s.registers.items s.operations s.steps.items
     c.args.seq c.args.reaction c.index_mut.result.now c.index_mut-registers.result.now c.absorb.new.registers few there c.index_mut.ensures.value c.index_mut-registers.ensures.value
     c.args.place c.args.then (to_z w64 (of_z w64 c.element_in-value.result)) c.absorb.new.self
-    (found c.args.job.now (core_of s.counts.items s.semaphores.items s.turns.items s.elements.items s.registers.items s.operations) c.program-program.result.now c.args.place c.args.reaction c.home.result c.slot.result c.deref.result.now c.element_in-value.result _
-    c.program-program.ensures.same c.deref.ensures.value c.home.ensures (c.slot.ensures c.args.reaction) c.element_in-value.ensures (to_z-of_z w64 c.element_in-value.result f))
+    (found c.args.job.now (core_of s.counts.items s.semaphores.items s.turns.items s.elements.items s.registers.items s.operations) c.program-program.result.now c.args.place c.args.reaction c.home.result c.slot-at.result c.deref.result.now c.element_in-value.result _
+    c.program-program.ensures.same c.deref.ensures.value c.home.ensures c.slot-at.ensures c.element_in-value.ensures (to_z-of_z w64 c.element_in-value.result f))
     c.absorb.ensures.registers c.absorb.ensures.kept)
 
 pub absorb-requires-clause-ready : goal.absorb-requires-clause-ready

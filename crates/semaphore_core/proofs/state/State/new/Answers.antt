@@ -1,18 +1,12 @@
 -- The parts are those of the opening, and the state is open.
 use Rattle.std.proofs.Common.{◌≡◌, ℕ, ◌*◌, ◌++◌, ◌∙◌, List, [], length, replicate, ap}
-use Rattle.semaphore_core.specs.declared.program.Program.{Program}
-use Rattle.semaphore_core.specs.declared.program.SeqCode.{SeqCode}
+use Rattle.executive_program.specs.declared.program.Program.{Program}
+use Rattle.executive_program.specs.declared.program.SeqCode.{SeqCode}
 use Rattle.semaphore_core.specs.Core.{opening, buffer_zeros, wire_zeros}
 use Rattle.semaphore_core.specs.AtOpening.{all_registers}
 use Rattle.semaphore_core.proofs.Viewing.{core_of, values_of}
-use Rattle.semaphore_core.proofs.OpenStates.{single_of, registers_empty, state_open}
+use Rattle.semaphore_core.proofs.OpenStates.{registers_empty, state_open}
 use Rattle.semaphore_core.proofs.state.State.new.Goals as goal
-
-pub micro_steps_of-requires : goal.micro_steps_of-requires
-micro_steps_of-requires c = single_of c.args.job.now c.program-program.result.now c.program-program.ensures.same c.program-program.ensures.job
-
-pub zero_elements-requires : goal.zero_elements-requires
-zero_elements-requires c = single_of c.args.job.now c.program-program.result.now c.program-program.ensures.same c.program-program.ensures.job
 
 files_are : (c : goal.In_ok-new) → c.in_ok-registers.registers.items ≡ all_registers c.args.job.now.graph c.in_ok-steps.steps.items
 files_are c = c.in_ok-registers.ensures ∙ (λ i. all_registers (c.flat.ensures i) (c.as_slice.ensures.value i))

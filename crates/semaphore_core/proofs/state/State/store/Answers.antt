@@ -6,7 +6,7 @@ use Rattle.semaphore_core.specs.RegisterFile.{RegisterFile}
 use Rattle.std.proofs.lemmas.Int.{to_z-of_z}
 use mir.Val.{SFits}
 use Rattle.semaphore_core.specs.Held.{Held, AreReady, kept_of}
-use Rattle.semaphore_core.specs.declared.program.Program.{Program}
+use Rattle.executive_program.specs.declared.program.Program.{Program}
 use Rattle.semaphore_core.specs.Core.{home_of, slot_of}
 use Rattle.semaphore_core.specs.Elements.{with_element_in}
 use Rattle.semaphore_core.proofs.Viewing.{stored}
@@ -23,7 +23,7 @@ returns c = rw (← c.self.view_is) (
     stored c.args.job.now s.counts.items s.semaphores.items s.turns.items s.elements.items s.registers.items s.operations s.steps.items
     c.args.seq c.args.reaction c.index_mut.result.now c.index_mut-registers.result.now c.emit-value.new.registers few there c.index_mut.ensures.value c.index_mut-registers.ensures.value
     c.args.place c.args.what (to_z w64 (of_z w64 c.emit-value.result)) c.home.result c.slot.result (with_items s.elements c.put_element.new.lists).items c.emit-value.new.self
-    (to_z-of_z w64 c.emit-value.result f ∙ c.emit-value.ensures.value) (c.home.ensures ∙ ap (λ (r : Program). home_of r c.args.place) c.program-program.ensures.same) (c.slot.ensures c.args.reaction ∙ ap (λ (r : Program). slot_of r c.args.place c.args.reaction) c.program-program.ensures.same)
+    (to_z-of_z w64 c.emit-value.result f ∙ c.emit-value.ensures.value) (c.home.ensures ∙ ap (λ (r : Program). home_of r c.args.place) c.program-program.ensures.same) (c.slot.ensures ∙ ap (λ (r : Program). slot_of r c.args.place c.args.reaction) c.program-program.ensures.same)
     (same ∙ c.put_element.ensures ∙ ap (λ (l : List (List ℤ)). with_element_in l c.home.result c.slot.result (to_z w64 (of_z w64 c.emit-value.result))) c.deref_mut.ensures.value)
     c.emit-value.ensures.registers c.emit-value.ensures.kept)
 

@@ -1,0 +1,7 @@
+pub mod Expanding
+pub mod MicroCounts
+pub mod Marks
+pub mod DepthTable
+pub mod Sums
+pub mod DeepPairs
+pub mod Formed

@@ -1,0 +1,23 @@
+-- The micro-steps of a program's sequences as the code keeps them.
+use Rattle.std.specs.Prelude.{◌≡◌, ℕ, ◌+◌, ◌*◌, cond, nat_lt, length, List, map, Option, None}
+use Rattle.consistent_cuts.specs.Sites.{Code, step_at}
+use Rattle.executive_program.specs.declared.steps.MicroStep.{MicroStep}
+use Rattle.executive_program.specs.declared.program.SeqCode.{SeqCode}
+use Rattle.executive_program.specs.declared.program.Program.{Program}
+use Rattle.executive_program.specs.declared.expand.SeqSteps.{SeqSteps}
+use Rattle.executive_program.specs.Instructions.{number_or}
+use Rattle.executive_program.specs.Steps.{steps_in_list}
+
+abbrev pub expanded : Program → SeqCode → SeqSteps
+expanded p q = record { prologue = steps_in_list p (number_or 0 q.seq.medium) q.prologue; turn = steps_in_list p (number_or 0 q.seq.medium) q.turn }
+
+-- these are the micro-steps of each sequence of the program
+abbrev pub AreSteps : Program → List SeqSteps → Type 0
+AreSteps p list = list ≡ map (expanded p) p.seqs
+
+abbrev pub code_of : SeqSteps → Code MicroStep
+code_of q = record { prologue = q.prologue; turn = q.turn }
+
+-- the next micro-step of a sequence that has made n, in a run of so many reactions
+abbrev pub next_in : ℕ → SeqSteps → ℕ → Option MicroStep
+next_in reactions q n = cond (nat_lt n (length q.prologue + reactions * length q.turn)) (step_at (code_of q) n) None

@@ -1,0 +1,199 @@
+-- Where things stand in a program: an instruction is named by its sequence and its place in its loop. All of it is computed from the program.
+use Rattle.std.specs.Prelude.{ℕ, zero, suc, Bool, true, false, ◌&&◌, cond, nat_eq, List, [], ◌∷◌, length, Option, Some, None, slice_get}
+use Rattle.std.specs.List.{list_any, position_or_len}
+use Rattle.flat_graph.specs.declared.vertex.Source.{Source}
+use Rattle.interleavings.specs.Owners.{sum_below}
+use Rattle.executive_program.specs.declared.program.Instr.{Instr}
+use Rattle.executive_program.specs.declared.program.Instr.TheVariants.{Suc0, Suc1, Pre0, Pre1, Call, Send, Recv}
+use Rattle.executive_program.specs.declared.program.SeqCode.{SeqCode}
+use Rattle.executive_program.specs.declared.program.Program.{Program}
+use Rattle.executive_program.specs.Blocks.{blocks, repeated}
+use Rattle.executive_program.specs.Instructions.{is_communication, writes, turn, medium, Reader, readers, depth_of, communications}
+use Rattle.executive_program.specs.MicroSteps.{is_on, sent}
+
+-- A buffer is written as output `port` of instruction `at` of sequence `writer`.
+pub record Writing : Type 0 where
+  pub writer : ℕ
+  pub at : ℕ
+  pub port : ℕ
+
+-- A pair of semaphores: its buffer, the reading sequence, the places of its four instructions in the loops of the writing and the reading sequence, and of its first signal in the reader's prologue.
+pub record Pair : Type 0 where
+  pub buffer : ℕ
+  pub reader : ℕ
+  pub take_empty : ℕ
+  pub signal_full : ℕ
+  pub take_full : ℕ
+  pub signal_empty : ℕ
+  pub front : ℕ
+
+pub record Transfer : Type 0 where
+  pub sender : ℕ
+  pub send_at : ℕ
+  pub receiver : ℕ
+  pub receive_at : ℕ
+  pub sent : ℕ
+  pub received : ℕ
+
+pub record Calling : Type 0 where
+  pub sequence : ℕ
+  pub at : ℕ
+  pub ins : List ℕ
+  pub outs : List ℕ
+
+pub record Places : Type 0 where
+  pub writing : ℕ → Writing
+  pub pair : ℕ → Pair
+  pub transfer : ℕ → ℕ → Transfer
+  pub calling : ℕ → Calling
+
+abbrev pub takes_empty : ℕ → Instr → Bool
+takes_empty q (Suc0 r) = nat_eq r q
+takes_empty q _ = false
+
+abbrev pub takes_full : ℕ → Instr → Bool
+takes_full q (Suc1 r) = nat_eq r q
+takes_full q _ = false
+
+abbrev pub signals_empty : ℕ → Instr → Bool
+signals_empty q (Pre0 r) = nat_eq r q
+signals_empty q _ = false
+
+abbrev pub signals_full : ℕ → Instr → Bool
+signals_full q (Pre1 r) = nat_eq r q
+signals_full q _ = false
+
+abbrev pub calls : ℕ → Instr → Bool
+calls v (Call u ins outs) = nat_eq u v
+calls v _ = false
+
+abbrev pub is_send : Option Instr → Bool
+is_send (Some (Send b q)) = true
+is_send _ = false
+
+abbrev pub is_receive : Option Instr → Bool
+is_receive (Some (Recv b q)) = true
+is_receive _ = false
+
+-- the number of the output at which an instruction writes buffer b, and of the first input by which it reads it
+abbrev pub output_at : ℕ → Option Instr → ℕ
+output_at b (Some (Call v ins outs)) = position_or_len (λ c. nat_eq c b) outs
+output_at b _ = 0
+
+abbrev pub buffer_in : Option Instr → ℕ
+buffer_in (Some (Send b q)) = b
+buffer_in (Some (Recv b q)) = b
+buffer_in _ = 0
+
+abbrev pub ins_in : Option Instr → List ℕ
+ins_in (Some (Call v ins outs)) = ins
+ins_in _ = []
+
+abbrev pub outs_in : Option Instr → List ℕ
+outs_in (Some (Call v ins outs)) = outs
+outs_in _ = []
+
+-- the place of communication t among these instructions, or their number
+abbrev pub communication_at : List Instr → ℕ → ℕ
+communication_at [] t = 0
+communication_at (x ∷ xs) zero = cond (is_communication x) 0 (suc (communication_at xs zero))
+communication_at (x ∷ xs) (suc t) = suc (communication_at xs (cond (is_communication x) t (suc t)))
+
+abbrev pub reader_or : Option Reader → Reader
+reader_or None = record { buffer = 0; sequence = 0 }
+reader_or (Some x) = x
+
+module _ (p : Program) where
+  -- the first sequence of which the test holds, or their number
+  abbrev pub sequence_where : (SeqCode → Bool) → ℕ
+  sequence_where test = position_or_len test p.seqs
+
+  abbrev pub writer_of : ℕ → ℕ
+  writer_of b = sequence_where (λ q. list_any (writes b) q.turn)
+
+  abbrev pub written_at : ℕ → ℕ
+  written_at b = position_or_len (writes b) (turn p (writer_of b))
+
+  abbrev pub writing : ℕ → Writing
+  writing b = record { writer = writer_of b; at = written_at b; port = output_at b (slice_get (turn p (writer_of b)) (written_at b)) }
+
+  abbrev pub reader : ℕ → Reader
+  reader q = reader_or (slice_get (readers p) q)
+
+  -- of the pairs before n, the signals of the empty semaphore in the prologue of s
+  abbrev pub opening_signals : ℕ → ℕ → ℕ
+  opening_signals s i = cond (nat_eq (reader i).sequence s) (depth_of p (reader i).buffer) 0
+
+  abbrev pub pair : ℕ → Pair
+  pair q = record {
+    buffer = (reader q).buffer;
+    reader = (reader q).sequence;
+    take_empty = position_or_len (takes_empty q) (turn p (writer_of (reader q).buffer));
+    signal_full = position_or_len (signals_full q) (turn p (writer_of (reader q).buffer));
+    take_full = position_or_len (takes_full q) (turn p (reader q).sequence);
+    signal_empty = position_or_len (signals_empty q) (turn p (reader q).sequence);
+    front = sum_below (opening_signals (reader q).sequence) q;
+  }
+
+  -- the prologue that a sequence has: for each pair of which it is the reader, by number, a signal of the empty semaphore for each place of the buffer
+  abbrev pub signals_of : ℕ → ℕ → List Instr
+  signals_of s q = repeated (Pre0 q) (opening_signals s q)
+
+  abbrev pub opening_of : ℕ → List Instr
+  opening_of s = blocks (signals_of s) (length (readers p))
+
+  -- the communicator of medium m whose communication t is a send, or a receive
+  abbrev pub sends_at : ℕ → ℕ → SeqCode → Bool
+  sends_at m t q = is_on m q.seq.medium && is_send (slice_get q.turn (communication_at q.turn t))
+
+  abbrev pub receives_at : ℕ → ℕ → SeqCode → Bool
+  receives_at m t q = is_on m q.seq.medium && is_receive (slice_get q.turn (communication_at q.turn t))
+
+  abbrev pub transfer_by : ℕ → ℕ → ℕ → Transfer
+  transfer_by t s r = record {
+    sender = s;
+    send_at = communication_at (turn p s) t;
+    receiver = r;
+    receive_at = communication_at (turn p r) t;
+    sent = buffer_in (slice_get (turn p s) (communication_at (turn p s) t));
+    received = buffer_in (slice_get (turn p r) (communication_at (turn p r) t));
+  }
+
+  abbrev pub transfer : ℕ → ℕ → Transfer
+  transfer m t = transfer_by t (sequence_where (sends_at m t)) (sequence_where (receives_at m t))
+
+  abbrev pub calling_by : ℕ → ℕ → Calling
+  calling_by s a = record { sequence = s; at = a; ins = ins_in (slice_get (turn p s) a); outs = outs_in (slice_get (turn p s) a) }
+
+  abbrev pub caller_of : ℕ → ℕ
+  caller_of v = sequence_where (λ q. list_any (calls v) q.turn)
+
+  abbrev pub calling : ℕ → Calling
+  calling v = calling_by (caller_of v) (position_or_len (calls v) (turn p (caller_of v)))
+
+  abbrev pub places : Places
+  places = record { writing = writing; pair = pair; transfer = transfer; calling = calling }
+
+  -- The source that a buffer carries: an output of the call that writes it, or what the buffer carries whose transfer it receives. A value goes over no more transfers than there are buffers.
+  abbrev pub no_source : Source
+  no_source = record { vertex = 0; port = 0 }
+
+  abbrev pub sent_source : (ℕ → Source) → Option ℕ → Source
+  sent_source inner None = no_source
+  sent_source inner (Some b) = inner b
+
+  abbrev pub source_by : (ℕ → Source) → Writing → Option Instr → Source
+  source_by inner w (Some (Call v ins outs)) = record { vertex = v; port = w.port }
+  source_by inner w (Some (Recv b o)) = sent_source inner (sent_in_turn w (medium p w.writer))
+    where
+      sent_in_turn : Writing → Option ℕ → Option ℕ
+      sent_in_turn w None = None
+      sent_in_turn w (Some m) = sent p m (communications p w.writer w.at)
+  source_by inner w _ = no_source
+
+  abbrev pub carried_within : ℕ → ℕ → Source
+  carried_within zero b = no_source
+  carried_within (suc hops) b = source_by (carried_within hops) (writing b) (slice_get (turn p (writing b).writer) (writing b).at)
+
+  abbrev pub carried : ℕ → Source
+  carried b = carried_within (length p.buffers) b

@@ -1,6 +1,0 @@
-use Rattle.std.proofs.Common.{◌≡◌, take, map}
-use Rattle.semaphore_core.specs.Expanded.{expanded}
-use Rattle.semaphore_core.proofs.expand.micro_steps_of.Given as goal
-
-abbrev pub invariant-loop-code : goal.invariant-loop-code
-invariant-loop-code l = l.all.items ≡ map (expanded l.program) (take l.code-index l.program.seqs)
