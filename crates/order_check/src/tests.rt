@@ -2,7 +2,7 @@
 //! function on the second, and an actuator on each.
 use crate::is_order;
 use archi_graph::{Archi, Medium, Seq, is_archi};
-use body_lang::Expr;
+use body_lang::{Body, Expr};
 use executive_program::{Buffer, Instr, Program, SeqCode};
 use flat_graph::{Flat, Kind, Source, Vertex, is_flat};
 use std::alloc::Global;
@@ -46,14 +46,14 @@ fn vertices(alloc: Global) -> Result<Vec<Vertex>, Fail> {
 }
 
 /// The first element of the first input, and 1 more.
-fn one_more(alloc: Global) -> Result<Items<Expr>, Fail> {
+fn one_more(alloc: Global) -> Result<Body, Fail> {
     let index = Box::new(alloc, Expr::Lit(0))?;
     let element = Box::new(alloc, Expr::Elem(0, index))?;
     let one = Box::new(alloc, Expr::Lit(1))?;
-    Ok(Items::new(vec![in alloc; Expr::Apply(Op::Add, element, one)]?))
+    Ok(Body::new(alloc, vec![in alloc; Expr::Apply(Op::Add, element, one)]?)?)
 }
 
-fn flat(rt: &impl Abort, vertices: Vec<Vertex>, bodies: Vec<Items<Expr>>) -> Flat {
+fn flat(rt: &impl Abort, vertices: Vec<Vertex>, bodies: Vec<Body>) -> Flat {
     assert!(rt; is_flat(&vertices, &bodies));
     Flat::new(vertices, bodies)
 }
