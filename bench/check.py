@@ -1,13 +1,16 @@
 #!/usr/bin/env python3
 """Times `syndex check` over algorithm texts of 1, 4 and 16 MiB: of sensors, of comments, of a chain of graphs each of which
 refers to the next (refused by its depth), of graphs whose names have a long prefix. Reading, checking and printing together.
-Prints the status, the seconds and the ratios of the times, and the greatest size in memory. Last, a text whose graphs hold no
-operation but would make 64^7 vertices, which ends at once."""
+Graphs of thousands of edges come besides, and a function with long expressions that is used up to 1,984 times in one text.
+Prints the status, the seconds and the ratios of the times and of the sizes of the texts, and the greatest size in memory.
+Last, texts whose graphs or repetitions hold no operation but would make 64^7 vertices and more, which end at once."""
 import os
 import resource
 import subprocess
 import tempfile
 import time
+
+import shapes
 
 TOP = os.path.dirname(os.path.dirname(os.path.abspath(__file__)))
 MIB = 1024 * 1024
@@ -48,6 +51,21 @@ def run(path):
     return time.monotonic() - start, done.returncode, done.stderr.decode().strip()
 
 
+def told(kind, path, texts):
+    """Checks each of the texts."""
+    times, sizes = [], []
+    for text in texts:
+        with open(path, "w", encoding="utf-8") as it:
+            it.write(text)
+        took, status, line = min(run(path) for _ in range(2))
+        times.append(took)
+        sizes.append(len(text))
+    ratios = "".join(
+        f", {times[i] / times[i - 1]:.2f} times for a text of {sizes[i] / sizes[i - 1]:.2f} times" for i in range(1, len(texts))
+    )
+    print(f"{kind}: {', '.join(f'{t:.3f}' for t in times)} s{ratios}, status {status} {line}")
+
+
 def main():
     with tempfile.TemporaryDirectory() as room:
         path = os.path.join(room, "text")
@@ -60,10 +78,11 @@ def main():
                 times.append(took)
             ratios = ", ".join(f"{b / a:.2f}" for a, b in zip(times, times[1:]))
             print(f"{kind}: {', '.join(f'{t:.3f}' for t in times)} s, ratios {ratios}, status {status} {line}")
-        with open(path, "w", encoding="utf-8") as it:
-            it.write(countless())
-        took, status, line = run(path)
-        print(f"countless graphs: {took:.3f} s, status {status} {line}")
+        told("graphs of 4,032 edges", path, [shapes.wide_graphs(mib * MIB) for mib in (1, 4, 16)])
+        told("a long function used again and again", path, [shapes.shared_body(uses) for uses in (1, 8, 31)])
+        told("22,000 vertices and 1,000 operations", path, [shapes.passing(1_000)])
+        told("countless graphs", path, [countless()])
+        told("countless copies", path, [shapes.nested_repetitions()])
     most = resource.getrusage(resource.RUSAGE_CHILDREN).ru_maxrss
     print(f"at most {most / 1024:.0f} MiB")
 

@@ -1,11 +1,14 @@
 #!/usr/bin/env python3
 """Times `syndex flat` over algorithms of 512, 1,024 and 2,048 operations, a chain of functions in graphs, and `syndex sim` of the
-largest over 1,000 and 10,000 reactions; each with references declared in the order of the chain and in reverse. Prints the
-seconds and the ratios, so that the growth shows on a noisy machine."""
+largest over 1,000 and 10,000 reactions; each with references declared in the order of the chain and in reverse. Then `syndex
+flat` of a function with long expressions, used 64, 512 and 1,984 times, and of 22,000 vertices that stand for 1,000 operations.
+Prints the seconds and the ratios, so that the growth shows on a noisy machine."""
 import os
 import subprocess
 import tempfile
 import time
+
+import shapes
 
 TOP = os.path.dirname(os.path.dirname(os.path.abspath(__file__)))
 PROGRAM = os.path.join(TOP, "syndex")
@@ -53,6 +56,13 @@ def told(what, took, before):
     return took
 
 
+def listed(text, content):
+    """Writes the text of an algorithm, and times its listing."""
+    with open(text, "w", encoding="ascii") as it:
+        it.write(content)
+    return seconds([PROGRAM, "flat", text])
+
+
 def main():
     with tempfile.TemporaryDirectory() as room:
         text, rows = os.path.join(room, "algorithm.txt"), os.path.join(room, "sensors.csv")
@@ -62,14 +72,21 @@ def main():
             for operations in OPERATIONS:
                 with open(text, "w", encoding="ascii") as it:
                     it.write(algorithm(operations, backwards))
-                listed = subprocess.run([PROGRAM, "flat", text], check=True, capture_output=True).stdout
-                assert listed.count(b"\n") == operations
+                listing = subprocess.run([PROGRAM, "flat", text], check=True, capture_output=True).stdout
+                assert listing.count(b"\n") == operations
                 before = told(f"flat, {operations} operations {order}", seconds([PROGRAM, "flat", text]), before)
             before = None
             for reactions in REACTIONS:
                 with open(rows, "w", encoding="ascii") as it:
                     it.write("k,s.0\n" + "".join(f"{k},{k}\n" for k in range(reactions)))
                 before = told(f"sim, {reactions} reactions {order}", seconds([PROGRAM, "sim", text, rows]), before)
+
+        before = None
+        for uses in [1, 8, 31]:
+            content = shapes.shared_body(uses)
+            what = f"flat, a long function used {64 * uses} times in a text of {len(content)} bytes"
+            before = told(what, listed(text, content), before)
+        told("flat, 22,000 vertices and 1,000 operations", listed(text, shapes.passing(1_000)), None)
 
 
 if __name__ == "__main__":

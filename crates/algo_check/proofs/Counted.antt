@@ -39,7 +39,7 @@ named_few (Graph ins outs references edges) h = omega (arith, as_many (λ r. r.d
 named_few (Switch on ins outs cases otherwise last) h = omega (arith, length-append (map (λ c. c.def) cases) (otherwise ∷ []), as_many (λ c. c.def) cases, h.few)
 named_few (Repeat copies def lines) h = omega arith
 
-sum_mapped : {A : Type 0} (g : Bytes → ℕ) (f : A → Bytes) (xs : List A) → sum_by g (map f xs) ≡ sum_by (λ x. g (f x)) xs
+pub sum_mapped : {A : Type 0} (g : Bytes → ℕ) (f : A → Bytes) (xs : List A) → sum_by g (map f xs) ≡ sum_by (λ x. g (f x)) xs
 sum_mapped g f [] = refl
 sum_mapped g f (x ∷ xs) = omega (arith, sum_by-cons g (f x) (map f xs), sum_by-cons (λ y. g (f y)) x xs, sum_mapped g f xs)
 

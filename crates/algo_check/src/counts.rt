@@ -160,8 +160,8 @@ fn count_of(body: &Body, inner: u128) -> u128
     }
 }
 
-/// How many of the lines are fork or join lines.
-fn count_forks(lines: &[FrontierLine]) -> u128
+/// How many of the lines of a repetition are fork or join lines.
+pub fn count_forks(lines: &[FrontierLine]) -> u128
     requires { length lines.now ≤ 64 }
     ensures count { result ≡ sum_by is_fork lines.now }
     ensures few { result ≤ 64 }

@@ -1,4 +1,5 @@
-//! The first refusal of the definitions of a text, in the order of the checks.
+//! The first refusal of the definitions of a text, in the order of the checks: `check_definitions`, of
+//! which `algo_resolve` makes use, with `count_forks`.
 #![tactic(auto)]
 
 mod bodies;
@@ -9,3 +10,4 @@ mod main_graph;
 mod tables;
 
 pub use check::check_definitions;
+pub use counts::count_forks;

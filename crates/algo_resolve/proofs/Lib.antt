@@ -1,3 +1,6 @@
 pub mod Placed
 pub mod Steps
 pub mod Told
+pub mod Edges
+pub mod Sizing
+pub mod Planned

@@ -1,3 +1,5 @@
 pub mod Ready
 pub mod Parts
-pub mod Units
+pub mod Plans
+pub mod Wiring
+pub mod Sizes

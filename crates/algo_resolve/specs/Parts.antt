@@ -1,23 +1,37 @@
 -- A graph with the definitions that its references name.
-use Rattle.std.specs.Prelude.{List, map}
+use Rattle.std.specs.Prelude.{◌≡◌, List, map, Some}
 use Rattle.algo_defs.specs.declared.definition.Def.{Def}
 use Rattle.algo_defs.specs.Words.{Bytes}
 use Rattle.algo_rules.specs.declared.ports.Ports.{Ports}
 use Rattle.algo_rules.specs.Ports.{ports_of}
 use Rattle.algo_rules.specs.Placed.{ArePlaced}
+use Rattle.algo_rules.specs.Resolved.{sources_to}
 use Rattle.algo_resolve.specs.Ready.{IsReady}
+use Rattle.algo_resolve.specs.Plans.{plan_of, plan_view}
+use Rattle.algo_resolve.specs.declared.checked.Checked.{Checked}
 use Rattle.algo_resolve.specs.declared.builder.Builder.{Builder}
+use Rattle.algo_resolve.specs.declared.builder.WiredGraph.{WiredGraph}
 use Rattle.algo_resolve.specs.declared.sources.Graph.{Graph}
 
-abbrev pub AreReady : Builder → Type 0
+abbrev pub AreReady : Checked → Type 0
 AreReady b = IsReady b.defs.now b.links.now b.table.now
 
+-- the same, with a plan for each definition
+pub record ArePlanned (b : Builder) : Type 0 where
+  pub ready : IsReady b.defs.now b.links.now b.table.now
+  pub plans : map plan_view b.plans.now ≡ map (plan_of b.defs.now) b.defs.now
+
+-- the definitions of the references stand at their places, and their inputs are wired
+pub record IsWired (b : Builder) (g : WiredGraph) : Type 0 where
+  pub placed : ArePlaced b.defs.now b.table.now (map (λ r. r.def) g.references.now) g.places.now
+  pub wires : g.wires.now ≡ map (λ r. sources_to (ports_of b.defs.now) g.ins.now g.references.now g.edges.now (Some r.name) (ports_of b.defs.now r.def).ins) g.references.now
+
 abbrev pub all : Graph → List Def
-all g = g.builder.defs.now
+all g = g.checked.defs.now
 
 abbrev pub of : Graph → Bytes → Ports
 of g = ports_of (all g)
 
 -- the definitions of the references stand at their places
 abbrev pub IsPlacedGraph : Graph → Type 0
-IsPlacedGraph g = ArePlaced (all g) g.builder.table.now (map (λ r. r.def) g.references.now) g.places.now
+IsPlacedGraph g = ArePlaced (all g) g.checked.table.now (map (λ r. r.def) g.references.now) g.places.now

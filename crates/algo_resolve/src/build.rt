@@ -1,78 +1,118 @@
 //! From definitions to vertices, each with what is inside it.
-ghost use Rattle.std.specs.Prelude.{◌≡◌, ◌+◌, ◌<◌, ◌≤◌, ◌∷◌, ◌++◌, [], IfOk, None, Some, length, map, slice_get};
+ghost use Rattle.std.specs.Prelude.{◌≡◌, ◌+◌, ◌<◌, ◌≤◌, ◌∷◌, ◌++◌, [], IfOk, Some, length, map, slice_get};
 ghost use Rattle.algo_links.specs.Linked.{named};
 ghost use Rattle.algo_rules.specs.Placed.{ArePlaced, IsPlaced};
 ghost use Rattle.algo_rules.specs.Ports.{lens_of, ports_of};
-ghost use Rattle.algo_rules.specs.Resolved.{cases_from, inner_by, is_actuator, is_sensor, owns, references_from, sources_to, vertex, vertex_within};
+ghost use Rattle.algo_rules.specs.Resolved.{Making, cases_from, inner_by, is_actuator, is_sensor, kind_by, owns, references_from, vertex, vertex_within};
 ghost use Rattle.algo_rules.specs.WellRead.{IsWellRead};
 ghost use Rattle.algo_tree.specs.Tree.{graph as no_graph};
 ghost use Rattle.algo_tree.specs.View.{kind_view, view};
+ghost use Rattle.algo_rules.specs.declared.ports.Ports.{Ports as PortLists};
+ghost use Rattle.algo_defs.specs.declared.definition.Def.{Def as Definition};
 ghost use Rattle.level_meaning.specs.declared.part.Part.TheVariants.{Named, Numbered};
-ghost use Rattle.algo_resolve.specs.Parts.{AreReady, IsPlacedGraph, all, of};
+ghost use Rattle.std.specs.Prelude.{List};
+ghost use Rattle.algo_resolve.specs.Parts.{ArePlanned, IsWired};
+ghost use Rattle.algo_resolve.specs.Plans.{wires_by};
 
-use crate::builder::Builder;
+use crate::builder::{Builder, WiredGraph};
 use crate::kind::port_lens;
 use crate::lookup::{copy_name, small};
-use crate::sources::Graph;
 use algo_defs::{Body, Case, Def, Reference};
 use algo_rules::Ports;
 use algo_tree::{Kind, Vertex};
 use level_meaning::{Part, Source};
 use std::alloc::Global;
 use syn_base::{Items, Name, OutOfMemory};
+use tree_copy::{copy_kind, copy_sources};
+
+/// Where a vertex stands.
+#[derive(Drop)]
+pub struct Seat {
+    pub part: Part,
+    /// The sources of its inputs.
+    pub ins: Items<Source>,
+    /// Its number if it is a sensor.
+    pub sensor: u32,
+    /// Its number if it is an actuator.
+    pub actuator: u32,
+}
 
 /// The vertex of the definition of a name, which stands at this place, with all that is inside it, to a
-/// depth of `fuel`: a vertex of no fuel is an empty graph, so that the recursion ends. It takes its
-/// inputs from `ins`; as a sensor or an actuator it has the number given.
+/// depth of `fuel`: a vertex of no fuel is an empty graph, so that the recursion ends.
 #[cycle(build)]
 pub fn build_vertex(
     alloc: Global,
     builder: &Builder,
     fuel: u32,
-    part: Part,
     name: &Name,
     place: usize,
-    ins: Items<Source>,
-    sensors: u32,
-    actuators: u32,
+    seat: Seat,
 ) -> Result<Vertex, OutOfMemory>
-    requires ready { AreReady builder.now }
+    requires planned { ArePlanned builder.now }
     requires placed { IsPlaced builder.now.defs.now builder.now.table.now name.now place }
-    ensures { IfOk result (λ v. view v ≡ vertex_within builder.now.defs.now fuel part name.now ins sensors actuators) }
+    ensures { IfOk result (λ v. view v ≡ vertex_within builder.now.defs.now fuel seat.part name.now seat.ins seat.sensor seat.actuator) }
 {
     if fuel == 0 {
-        return empty_vertex(alloc, part, name, ins);
+        return empty_vertex(alloc, name, seat);
     }
     let body = &builder.defs[place].body;
+    let plan = &builder.plans[place];
+    let kind = numbered(alloc, body, &plan.kind, seat.sensor, seat.actuator)?;
     let places = places_of(builder, place);
-    let own = &builder.table[place];
-    let kind = builder.kind(alloc, own, places, sensors, actuators, body)?;
-    let inner = build_inner(alloc, builder, fuel - 1, places, body)?;
-    assemble(alloc, part, name, ins, own, kind, inner)
+    let inner = build_inner(
+        alloc,
+        builder,
+        fuel - 1,
+        places,
+        plan.wires.as_slice(),
+        body,
+    )?;
+    assemble(alloc, name, seat, &builder.table[place], kind, inner)
 }
 
 /// The places of the definitions that the definition at a place names.
 fn places_of<'a>(builder: &Builder<'a>, place: usize) -> &'a [u32]
-    requires ready { AreReady builder.now }
+    requires planned { ArePlanned builder.now }
     requires below { place < length builder.now.defs.now }
-    ensures { (d : Def) → slice_get builder.now.defs.now place ≡ Some d → ArePlaced builder.now.defs.now builder.now.table.now (named d.body) result.now }
+    ensures { (d : Definition) → slice_get builder.now.defs.now place ≡ Some d → ArePlaced builder.now.defs.now builder.now.table.now (named d.body) result.now }
 {
     builder.links[place].as_slice()
 }
 
+/// The kind of a vertex of this definition: that of the plan, but for the number of a sensor or an
+/// actuator.
+fn numbered(
+    alloc: Global,
+    body: &Body,
+    plan: &Kind,
+    sensor: u32,
+    actuator: u32,
+) -> Result<Kind, OutOfMemory>
+    ensures { IfOk result (λ k. (ds : List Definition) (make : Making) (own : PortLists) → kind_view plan.now ≡ kind_by ds make own 0 0 body.now → kind_view k ≡ kind_by ds make own sensor actuator body.now) }
+{
+    match body {
+        Body::Sensor(_) => Ok(Kind::Sensor(sensor)),
+        Body::Actuator(_) => Ok(Kind::Actuator(actuator)),
+        _ => copy_kind(alloc, plan),
+    }
+}
+
 /// What is inside a vertex: the references of a graph, the cases of a switch, or the body of a
-/// repetition. The definitions that it names stand at `places`.
+/// repetition. The definitions that it names stand at `places`, and `wires` has the sources of the
+/// inputs of the references.
 #[cycle(build)]
 fn build_inner(
     alloc: Global,
     builder: &Builder,
     fuel: u32,
     places: &[u32],
+    wires: &[Items<Source>],
     body: &Body,
 ) -> Result<Vec<Vertex>, OutOfMemory>
-    requires ready { AreReady builder.now }
+    requires planned { ArePlanned builder.now }
     requires read { IsWellRead body.now }
     requires placed { ArePlaced builder.now.defs.now builder.now.table.now (named body.now) places.now }
+    requires wires { wires.now ≡ wires_by builder.now.defs.now body.now }
     ensures { IfOk result (λ us. map view us.items ≡ inner_by builder.now.defs.now (vertex_within builder.now.defs.now fuel) body.now) }
 {
     match body {
@@ -82,14 +122,14 @@ fn build_inner(
             edges,
             ..
         } => {
-            let graph = Graph {
-                builder: *builder,
-                places,
+            let graph = WiredGraph {
                 ins: ins.as_slice(),
                 references: references.as_slice(),
                 edges: edges.as_slice(),
+                places,
+                wires,
             };
-            build_references(alloc, &graph, fuel)
+            build_references(alloc, builder, fuel, &graph)
         }
         Body::Switch {
             ins,
@@ -97,16 +137,12 @@ fn build_inner(
             otherwise,
             ..
         } => {
-            let count = ins.as_slice().len();
-            build_cases(
-                alloc,
-                builder,
-                fuel,
-                places,
-                count,
-                cases.as_slice(),
+            let names = Cases {
+                ins: ins.as_slice().len(),
+                cases: cases.as_slice(),
                 otherwise,
-            )
+            };
+            build_cases(alloc, builder, fuel, places, &names)
         }
         Body::Repeat { def, .. } => build_copy(alloc, builder, fuel, places, def),
         _ => Ok(Vec::new(alloc)),
@@ -122,151 +158,119 @@ fn build_copy(
     places: &[u32],
     name: &Name,
 ) -> Result<Vec<Vertex>, OutOfMemory>
-    requires ready { AreReady builder.now }
+    requires planned { ArePlanned builder.now }
     requires placed { ArePlaced builder.now.defs.now builder.now.table.now (name.now ∷ []) places.now }
     ensures { IfOk result (λ us. map view us.items ≡ vertex_within builder.now.defs.now fuel (Numbered 0) name.now (owns 0 (length (ports_of builder.now.defs.now name.now).ins)) 0 0 ∷ []) }
 {
     let place = places[0] as usize;
     let ins = own_inputs(alloc, 0, builder.table[place].ins.as_slice().len())?;
-    let body = build_vertex(
-        alloc,
-        builder,
-        fuel,
-        Part::Numbered(0),
-        name,
-        place,
-        ins,
-        0,
-        0,
-    )?;
+    let seat = inner_seat(0, ins);
     let mut inner = Vec::new(alloc);
-    inner.push(body)?;
+    inner.push(build_vertex(alloc, builder, fuel, name, place, seat)?)?;
     Ok(inner)
 }
 
-/// The cases of a switch with so many inputs behind the conditioning one. `otherwise` is the last.
+/// The definitions that a switch names, and how many inputs it has behind the conditioning one.
+struct Cases<'a> {
+    ins: usize,
+    cases: &'a [Case],
+    otherwise: &'a Name,
+}
+
+/// The cases of a switch, with `otherwise` last.
 #[cycle(build)]
 fn build_cases(
     alloc: Global,
     builder: &Builder,
     fuel: u32,
     places: &[u32],
-    ins: usize,
-    cases: &[Case],
-    otherwise: &Name,
+    names: &Cases,
 ) -> Result<Vec<Vertex>, OutOfMemory>
-    requires ready { AreReady builder.now }
-    requires placed { ArePlaced builder.now.defs.now builder.now.table.now (map (λ c. c.def) cases.now ++ otherwise.now ∷ []) places.now }
-    ensures { IfOk result (λ us. map view us.items ≡ cases_from builder.now.defs.now (vertex_within builder.now.defs.now fuel) ins 0 (map (λ c. c.def) cases.now ++ otherwise.now ∷ [])) }
+    requires planned { ArePlanned builder.now }
+    requires placed { ArePlaced builder.now.defs.now builder.now.table.now (map (λ c. c.def) names.now.cases.now ++ names.now.otherwise.now ∷ []) places.now }
+    ensures { IfOk result (λ us. map view us.items ≡ cases_from builder.now.defs.now (vertex_within builder.now.defs.now fuel) names.now.ins 0 (map (λ c. c.def) names.now.cases.now ++ names.now.otherwise.now ∷ [])) }
 {
     let mut inner = Vec::new(alloc);
-    for (number, case) in cases.iter().enumerate() {
-        let place = places[number];
-        inner.push(build_case(alloc, builder, fuel, number, &case.def, place, ins)?)?;
+    for (number, case) in names.cases.iter().enumerate() {
+        let seat = case_seat(alloc, number, names.ins)?;
+        let place = places[number] as usize;
+        inner.push(build_vertex(alloc, builder, fuel, &case.def, place, seat)?)?;
     }
-    let last = cases.len();
-    let place = places[last];
-    inner.push(build_case(alloc, builder, fuel, last, otherwise, place, ins)?)?;
+    let last = names.cases.len();
+    let seat = case_seat(alloc, last, names.ins)?;
+    let place = places[last] as usize;
+    inner.push(build_vertex(alloc, builder, fuel, names.otherwise, place, seat)?)?;
     Ok(inner)
 }
 
-/// A case of a switch: it takes the inputs behind the conditioning one.
-#[cycle(build)]
-fn build_case(
-    alloc: Global,
-    builder: &Builder,
-    fuel: u32,
-    number: usize,
-    name: &Name,
-    place: u32,
-    ins: usize,
-) -> Result<Vertex, OutOfMemory>
-    requires ready { AreReady builder.now }
-    requires placed { IsPlaced builder.now.defs.now builder.now.table.now name.now place }
-    ensures { IfOk result (λ v. view v ≡ vertex_within builder.now.defs.now fuel (Numbered number) name.now (owns 1 ins) 0 0) }
+/// Where the body of a repetition or a case stands.
+fn inner_seat(number: u32, ins: Items<Source>) -> Seat
+    ensures { result ≡ record { part = Numbered number; ins = ins; sensor = 0; actuator = 0 } }
 {
-    let part = Part::Numbered(small(number)?);
-    let sources = own_inputs(alloc, 1, ins)?;
-    build_vertex(
-        alloc,
-        builder,
-        fuel,
-        part,
-        name,
-        place as usize,
-        sources,
-        0,
-        0,
-    )
+    Seat {
+        part: Part::Numbered(number),
+        ins,
+        sensor: 0,
+        actuator: 0,
+    }
+}
+
+/// Where the case of this number stands: it takes the inputs behind the conditioning one.
+fn case_seat(alloc: Global, number: usize, ins: usize) -> Result<Seat, OutOfMemory>
+    ensures { IfOk result (λ s. s ≡ record { part = Numbered number; ins = owns 1 ins; sensor = 0; actuator = 0 }) }
+{
+    Ok(inner_seat(small(number)?, own_inputs(alloc, 1, ins)?))
 }
 
 /// The references of a graph, in order.
 #[cycle(build)]
-fn build_references(alloc: Global, graph: &Graph, fuel: u32) -> Result<Vec<Vertex>, OutOfMemory>
-    requires ready { AreReady graph.now.builder }
-    requires placed { IsPlacedGraph graph.now }
+fn build_references(
+    alloc: Global,
+    builder: &Builder,
+    fuel: u32,
+    graph: &WiredGraph,
+) -> Result<Vec<Vertex>, OutOfMemory>
+    requires planned { ArePlanned builder.now }
+    requires wired { IsWired builder.now graph.now }
     requires few { length graph.now.references.now ≤ 64 }
-    ensures { IfOk result (λ us. map view us.items ≡ references_from (all graph.now) (vertex_within (all graph.now) fuel) graph.now.ins.now graph.now.references.now graph.now.edges.now 0 0 graph.now.references.now) }
+    ensures { IfOk result (λ us. map view us.items ≡ references_from builder.now.defs.now (vertex_within builder.now.defs.now fuel) graph.now.ins.now graph.now.references.now graph.now.edges.now 0 0 graph.now.references.now) }
 {
     let mut inner = Vec::new(alloc);
     let mut sensors: u32 = 0;
     let mut actuators: u32 = 0;
     for (at, reference) in graph.references.iter().enumerate() {
-        let place = graph.places[at];
-        inner.push(build_reference(alloc, graph, fuel, reference, place, sensors, actuators)?)?;
-        sensors += sensors_of(&graph.builder.defs[place as usize]);
-        actuators += actuators_of(&graph.builder.defs[place as usize]);
+        let place = graph.places[at] as usize;
+        let seat = reference_seat(
+            alloc,
+            reference,
+            graph.wires[at].as_slice(),
+            sensors,
+            actuators,
+        )?;
+        inner.push(build_vertex(alloc, builder, fuel, &reference.def, place, seat)?)?;
+        let def = &builder.defs[place];
+        sensors += sensors_of(def);
+        actuators += actuators_of(def);
     }
     Ok(inner)
 }
 
-/// The vertex of a reference, behind so many sensors and actuators.
-#[cycle(build)]
-fn build_reference(
+/// Where a reference stands, behind so many sensors and actuators.
+fn reference_seat(
     alloc: Global,
-    graph: &Graph,
-    fuel: u32,
     reference: &Reference,
-    place: u32,
+    wires: &[Source],
     sensors: u32,
     actuators: u32,
-) -> Result<Vertex, OutOfMemory>
-    requires ready { AreReady graph.now.builder }
-    requires linked { IsPlacedGraph graph.now }
-    requires placed { IsPlaced (all graph.now) graph.now.builder.table.now reference.now.def place }
-    ensures { IfOk result (λ v. view v ≡ vertex_within (all graph.now) fuel (Named reference.now.name) reference.now.def (sources_to (of graph.now) graph.now.ins.now graph.now.references.now graph.now.edges.now (Some reference.now.name) (of graph.now reference.now.def).ins) sensors actuators) }
+) -> Result<Seat, OutOfMemory>
+    ensures { IfOk result (λ s. s ≡ record { part = Named reference.now.name; ins = wires.now; sensor = sensors; actuator = actuators }) }
 {
-    let part = Part::Named(copy_name(alloc, &reference.name)?);
-    let ins = reference_inputs(alloc, graph, reference, place)?;
-    let builder = &graph.builder;
-    let name = &reference.def;
-    build_vertex(
-        alloc,
-        builder,
-        fuel,
-        part,
-        name,
-        place as usize,
-        ins,
-        sensors,
-        actuators,
-    )
-}
-
-/// The sources of the inputs of a reference.
-fn reference_inputs(
-    alloc: Global,
-    graph: &Graph,
-    reference: &Reference,
-    place: u32,
-) -> Result<Items<Source>, OutOfMemory>
-    requires linked { IsPlacedGraph graph.now }
-    requires placed { IsPlaced (all graph.now) graph.now.builder.table.now reference.now.def place }
-    ensures { IfOk result (λ sources. sources ≡ sources_to (of graph.now) graph.now.ins.now graph.now.references.now graph.now.edges.now (Some reference.now.name) (of graph.now reference.now.def).ins) }
-{
-    let owner = Some(reference.name.copy(alloc)?);
-    let ports = graph.builder.table[place as usize].ins.as_slice();
-    graph.sources_to(alloc, &owner, ports)
+    Ok(Seat {
+        part: Part::Named(copy_name(alloc, &reference.name)?),
+        ins: copy_sources(alloc, wires)?,
+        sensor: sensors,
+        actuator: actuators,
+    })
 }
 
 /// How many sensors a definition is: 1 or 0.
@@ -304,18 +308,13 @@ fn own_inputs(alloc: Global, first: u32, count: usize) -> Result<Items<Source>, 
 }
 
 /// A vertex that nothing is known of.
-fn empty_vertex(
-    alloc: Global,
-    part: Part,
-    name: &Name,
-    ins: Items<Source>,
-) -> Result<Vertex, OutOfMemory>
-    ensures { IfOk result (λ v. view v ≡ vertex part name.now ins [] (no_graph []) []) }
+fn empty_vertex(alloc: Global, name: &Name, seat: Seat) -> Result<Vertex, OutOfMemory>
+    ensures { IfOk result (λ v. view v ≡ vertex seat.part name.now seat.ins [] (no_graph []) []) }
 {
     Ok(Vertex {
-        part,
         definition: copy_name(alloc, name)?,
-        ins,
+        part: seat.part,
+        ins: seat.ins,
         guards: Items::new(Vec::new(alloc)),
         outs: Items::new(Vec::new(alloc)),
         kind: Kind::Graph(Items::new(Vec::new(alloc))),
@@ -326,21 +325,20 @@ fn empty_vertex(
 /// A vertex with the outputs `own` has.
 fn assemble(
     alloc: Global,
-    part: Part,
     name: &Name,
-    ins: Items<Source>,
+    seat: Seat,
     own: &Ports,
     kind: Kind,
     inner: Vec<Vertex>,
 ) -> Result<Vertex, OutOfMemory>
-    ensures { IfOk result (λ v. view v ≡ vertex part name.now ins (lens_of own.now.outs) (kind_view kind) (map view inner.items)) }
+    ensures { IfOk result (λ v. view v ≡ vertex seat.part name.now seat.ins (lens_of own.now.outs) (kind_view kind) (map view inner.items)) }
 {
     Ok(Vertex {
-        part,
         definition: copy_name(alloc, name)?,
-        ins,
-        guards: Items::new(Vec::new(alloc)),
         outs: port_lens(alloc, own.outs.as_slice())?,
+        part: seat.part,
+        ins: seat.ins,
+        guards: Items::new(Vec::new(alloc)),
         kind,
         inner,
     })

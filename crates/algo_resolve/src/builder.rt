@@ -1,9 +1,12 @@
-//! Definitions with what is known of them once they are checked.
-use algo_defs::Def;
+//! Definitions with a plan for each, from which vertices are made.
+use crate::plan::Plan;
+use algo_defs::{Def, Edge, Reference};
 use algo_rules::Ports;
+use body_lang::Port;
+use level_meaning::Source;
 use syn_base::Items;
 
-/// The definitions of a text that has passed its checks.
+/// The definitions of a text that has passed its checks, with what their vertices have in common.
 #[derive(Clone, Copy)]
 pub struct Builder<'a> {
     /// In the order of the text.
@@ -12,4 +15,18 @@ pub struct Builder<'a> {
     pub links: &'a [Items<u32>],
     /// The ports of each definition, by its place.
     pub table: &'a [Ports],
+    /// The plan of each definition, by its place.
+    pub plans: &'a [Plan],
+}
+
+/// A graph among them.
+#[derive(Clone, Copy)]
+pub struct WiredGraph<'a> {
+    pub ins: &'a [Port],
+    pub references: &'a [Reference],
+    pub edges: &'a [Edge],
+    /// The place of the definition of each reference.
+    pub places: &'a [u32],
+    /// The sources of the inputs of each reference.
+    pub wires: &'a [Items<Source>],
 }

@@ -1,4 +1,4 @@
-//! What a definition makes of a vertex, beside what is inside it.
+//! The kind of the vertices of a definition.
 ghost use Rattle.std.specs.Prelude.{◌≡◌, ◌∷◌, [], IfOk, List, map};
 ghost use Rattle.algo_links.specs.Linked.{named};
 ghost use Rattle.algo_rules.specs.Placed.{ArePlaced};
@@ -7,38 +7,37 @@ ghost use Rattle.algo_rules.specs.Resolved.{Making, kind_by};
 ghost use Rattle.algo_tree.specs.View.{kind_view};
 ghost use Rattle.body_lang.specs.Expr.{view};
 
-use crate::builder::Builder;
-use crate::expression::copy_expression;
+use crate::checked::Checked;
 use crate::frontier::{feeds, gives};
 use crate::lookup::copy_name;
 use crate::sources::Graph;
 use algo_defs::{Body, Case, Output};
 use algo_rules::Ports;
 use algo_tree::Kind;
-use body_lang::{Expr, Port};
+use body_lang::{Body as Function, Expr, Port};
 use std::alloc::Global;
 use syn_base::{Items, Name, OutOfMemory};
+use tree_copy::copy_numbers;
 
-impl<'a> Builder<'a> {
-    /// The kind of a vertex of this definition, which has the ports `own`. The definitions that it
-    /// names stand at `places`. As a sensor or an actuator it has the number given.
+impl<'a> Checked<'a> {
+    /// The kind of the vertices of this definition, which has the ports `own`. The definitions that it
+    /// names stand at `places`. The number of a sensor or an actuator is 0. The expressions of a
+    /// function are copied here, once.
     pub fn kind(
         &self,
         alloc: Global,
         own: &Ports,
         places: &[u32],
-        sensors: u32,
-        actuators: u32,
         body: &Body,
     ) -> Result<Kind, OutOfMemory>
         requires { ArePlaced self.now.defs.now self.now.table.now (named body.now) places.now }
-        ensures { IfOk result (λ k. (make : Making) → kind_view k ≡ kind_by self.now.defs.now make own.now sensors actuators body.now) }
+        ensures { IfOk result (λ k. (make : Making) → kind_view k ≡ kind_by self.now.defs.now make own.now 0 0 body.now) }
     {
         match body {
-            Body::Sensor(_) => Ok(Kind::Sensor(sensors)),
-            Body::Actuator(_) => Ok(Kind::Actuator(actuators)),
-            Body::Constant(values) => Ok(Kind::Constant(copy_values(alloc, values.as_slice())?)),
-            Body::Delay(values) => Ok(Kind::Delay(copy_values(alloc, values.as_slice())?)),
+            Body::Sensor(_) => Ok(Kind::Sensor(0)),
+            Body::Actuator(_) => Ok(Kind::Actuator(0)),
+            Body::Constant(values) => Ok(Kind::Constant(copy_numbers(alloc, values.as_slice())?)),
+            Body::Delay(values) => Ok(Kind::Delay(copy_numbers(alloc, values.as_slice())?)),
             Body::Function { outs, .. } => Ok(Kind::Function(formulas(alloc, outs.as_slice())?)),
             Body::Graph {
                 ins,
@@ -47,7 +46,7 @@ impl<'a> Builder<'a> {
                 edges,
             } => {
                 let graph = Graph {
-                    builder: *self,
+                    checked: *self,
                     places,
                     ins: ins.as_slice(),
                     references: references.as_slice(),
@@ -79,21 +78,21 @@ impl<'a> Builder<'a> {
     }
 }
 
-fn copy_values(alloc: Global, values: &[i64]) -> Result<Items<i64>, OutOfMemory>
-    ensures { IfOk result (λ copies. copies ≡ values.now) }
+/// The expressions of a function's outputs, as its vertices share them.
+fn formulas(alloc: Global, outs: &[Output]) -> Result<Function, OutOfMemory>
+    ensures { IfOk result (λ es. es ≡ map (λ o. o.formula) outs.now) }
 {
-    Ok(Items::new(Vec::from_slice(alloc, values)?))
+    Ok(Function::new(alloc, copies_of(alloc, outs)?)?)
 }
 
-/// The expressions of a function's outputs.
-fn formulas(alloc: Global, outs: &[Output]) -> Result<Items<Expr>, OutOfMemory>
-    ensures { IfOk result (λ es. map view es ≡ map (λ o. o.formula) outs.now) }
+fn copies_of(alloc: Global, outs: &[Output]) -> Result<Vec<Expr>, OutOfMemory>
+    ensures { IfOk result (λ es. map view es.items ≡ map (λ o. o.formula) outs.now) }
 {
     let mut formulas = Vec::new(alloc);
     for out in outs {
-        formulas.push(copy_expression(alloc, out.formula.expr())?)?;
+        formulas.push(out.formula.expr().copy(alloc)?)?;
     }
-    Ok(Items::new(formulas))
+    Ok(formulas)
 }
 
 /// The values of the cases of a switch.

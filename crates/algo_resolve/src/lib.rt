@@ -3,14 +3,15 @@
 
 mod build;
 mod builder;
-mod expression;
+mod checked;
 mod frontier;
 mod kind;
 mod lookup;
+mod plan;
 mod resolution;
+mod size;
 mod sources;
 #[cfg(test)]
 mod tests;
-mod units;
 
 pub use resolution::resolve;

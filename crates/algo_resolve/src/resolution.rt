@@ -1,87 +1,127 @@
 //! The tree of definitions, or their first refusal.
-ghost use Rattle.std.specs.Prelude.{◌≡◌, ◌<◌, ◌≤◌, IfOk, IfSome, None, Some, codes, length, slice_get};
+ghost use Rattle.std.specs.Prelude.{◌≡◌, ◌<◌, ◌≤◌, IfOk, IfSome, MatchOption, None, Some, codes, length, nat_lt, slice_get};
 ghost use Rattle.algo_rules.specs.Links.{definition};
 ghost use Rattle.algo_rules.specs.Placed.{Gives};
 ghost use Rattle.algo_rules.specs.Resolved.{refusal, resolution_of, tree_of};
 ghost use Rattle.algo_rules.specs.WellRead.{AreWellRead};
+ghost use Rattle.algo_tree.specs.Size.{vertices_made};
 ghost use Rattle.algo_tree.specs.View.{view};
 ghost use Rattle.path_text.specs.Bounded.{HasBounds};
 ghost use Rattle.path_text.specs.Named.{HasNames};
-ghost use Rattle.algo_resolve.specs.Parts.{AreReady};
+ghost use Rattle.algo_resolve.specs.Parts.{ArePlanned, AreReady};
 
-use crate::build::build_vertex;
+use crate::build::{Seat, build_vertex};
 use crate::builder::Builder;
+use crate::checked::Checked;
 use crate::lookup::copy_name;
-use crate::units::has_too_many_units;
+use crate::plan::plans;
+use crate::size::sizes;
 use algo_check::check_definitions;
 use algo_defs::{AlgoError, Def, Defs};
 use algo_links::links_of;
-use algo_tree::{Tree, Vertex};
+use algo_tree::{MOST_VERTICES, Tree, Vertex};
 use level_meaning::Part;
 use std::alloc::Global;
 use syn_base::{Items, OutOfMemory};
-use tree_laws::accepted_make_a_tree;
+use tree_laws::{accepted_make_a_tree, vertices_are_counted};
 
 /// The tree of the definitions of a text, or their first refusal in the order of the checks.
 ///
-/// OutOfMemory may come in place of any answer. It comes also where the tree would be made of more
-/// than 20,000 vertices, before anything is made: each vertex is one definition used once. Of these at
-/// most 16,384 have a flat operation inside, so a text beyond the bound has thousands of graphs,
-/// switches and repetitions that stand for no operation, and want of memory is the answer.
+/// OutOfMemory may come in place of any answer. It comes also where the tree would be made of more than
+/// `MOST_VERTICES`, each copy of the body of a repetition counted, before anything is made; a tree of
+/// at most so many is always made, as far as there is memory.
 pub fn resolve(alloc: Global, defs: &Defs) -> Result<Tree, AlgoError>
     requires read { AreWellRead defs.now.defs }
     requires few { length defs.now.defs ≤ 4000000000 }
     ensures gives { Gives result (resolution_of defs.now.defs) }
     ensures named { IfOk result (λ t. HasNames t) }
     ensures bounded { IfOk result (λ t. HasBounds t) }
+    ensures few { IfOk result (λ t. vertices_made t ≤ 262144) }
 {
     let table = check_definitions(alloc, defs)?;
     let Ok(links) = links_of(alloc, defs) else {
         return Err(AlgoError::OutOfMemory);
     };
-    let builder = Builder {
+    let checked = Checked {
         defs: defs.defs.as_slice(),
         links: links.as_slice(),
         table: table.as_slice(),
     };
-    match tree(alloc, &builder) {
+    match tree(alloc, &checked) {
         Ok(tree) => Ok(tree),
         Err(_) => Err(AlgoError::OutOfMemory),
     }
 }
 
 /// The tree of definitions that have passed all checks.
-fn tree(alloc: Global, builder: &Builder) -> Result<Tree, OutOfMemory>
-    requires ready { AreReady builder.now }
-    requires read { AreWellRead builder.now.defs.now }
-    requires passed { refusal builder.now.defs.now ≡ None }
-    ensures { IfOk result (λ t. t ≡ tree_of builder.now.defs.now) }
+fn tree(alloc: Global, checked: &Checked) -> Result<Tree, OutOfMemory>
+    requires ready { AreReady checked.now }
+    requires read { AreWellRead checked.now.defs.now }
+    requires passed { refusal checked.now.defs.now ≡ None }
+    ensures is { IfOk result (λ t. t ≡ tree_of checked.now.defs.now) }
+    ensures few { IfOk result (λ t. vertices_made t ≤ 262144) }
 {
-    let main = main_vertex(alloc, builder)?;
+    let Some(place) = main_place(checked.defs) else {
+        unreachable!()
+    };
+    if is_too_large(alloc, checked, place)? {
+        return Err(OutOfMemory);
+    }
+    let main = main_vertex(alloc, checked, place)?;
     accepted_make_a_tree();
     Ok(Tree::new(main))
 }
 
-/// The vertex of the main graph. A text that has passed its checks has one.
-fn main_vertex(alloc: Global, builder: &Builder) -> Result<Vertex, OutOfMemory>
-    requires ready { AreReady builder.now }
+/// Whether the tree would be made of more vertices than any tree is.
+fn is_too_large(alloc: Global, checked: &Checked, place: usize) -> Result<bool, OutOfMemory>
+    requires ready { AreReady checked.now }
+    requires read { AreWellRead checked.now.defs.now }
+    requires passed { refusal checked.now.defs.now ≡ None }
+    requires below { place < length checked.now.defs.now }
+    requires main { definition checked.now.defs.now (codes "main") ≡ slice_get checked.now.defs.now place }
+    ensures { IfOk result (λ large. large ≡ nat_lt 262144 (vertices_made (tree_of checked.now.defs.now))) }
+{
+    let sizes = sizes(alloc, checked)?;
+    vertices_are_counted();
+    Ok(sizes[place] > MOST_VERTICES)
+}
+
+/// The vertex of the main graph, whose definition stands at this place.
+fn main_vertex(alloc: Global, checked: &Checked, place: usize) -> Result<Vertex, OutOfMemory>
+    requires ready { AreReady checked.now }
+    requires below { place < length checked.now.defs.now }
+    requires main { definition checked.now.defs.now (codes "main") ≡ slice_get checked.now.defs.now place }
+    ensures { IfOk result (λ v. view v ≡ tree_of checked.now.defs.now) }
+{
+    let plans = plans(alloc, checked)?;
+    let builder = Builder {
+        defs: checked.defs,
+        links: checked.links,
+        table: checked.table,
+        plans: &plans,
+    };
+    build_main(alloc, &builder, place)
+}
+
+fn build_main(alloc: Global, builder: &Builder, place: usize) -> Result<Vertex, OutOfMemory>
+    requires planned { ArePlanned builder.now }
+    requires below { place < length builder.now.defs.now }
+    requires main { definition builder.now.defs.now (codes "main") ≡ slice_get builder.now.defs.now place }
     ensures { IfOk result (λ v. view v ≡ tree_of builder.now.defs.now) }
 {
-    let Some(place) = main_place(builder.defs) else {
-        return Err(OutOfMemory);
-    };
-    if has_too_many_units(alloc, builder.links, place)? {
-        return Err(OutOfMemory);
-    }
     let name = &builder.defs[place].name;
-    let part = Part::Named(copy_name(alloc, name)?);
-    let ins = Items::new(Vec::new(alloc));
-    build_vertex(alloc, builder, 8, part, name, place, ins, 0, 0)
+    let seat = Seat {
+        part: Part::Named(copy_name(alloc, name)?),
+        ins: Items::new(Vec::new(alloc)),
+        sensor: 0,
+        actuator: 0,
+    };
+    build_vertex(alloc, builder, 8, name, place, seat)
 }
 
 /// The place of the definition of `main`, if there is one.
 fn main_place(defs: &[Def]) -> Option<usize>
-    ensures found { IfSome result (λ p. definition defs.now (codes "main") ≡ slice_get defs.now p) }
+    ensures found { MatchOption result (definition defs.now (codes "main") ≡ None) (λ p. definition defs.now (codes "main") ≡ slice_get defs.now p) }
     ensures below { IfSome result (λ p. p < length defs.now) }
 {
     for (place, def) in defs.iter().enumerate() {

@@ -1,11 +1,12 @@
 //! Where the values in a graph come from.
-ghost use Rattle.std.specs.Prelude.{◌≡◌, IfOk, MatchOption};
-ghost use Rattle.algo_rules.specs.Graphs.{ports_at, same_end, same_owner};
+ghost use Rattle.std.specs.Prelude.{◌≡◌, IfOk, MatchOption, map};
+ghost use Rattle.algo_rules.specs.Graphs.{ports_at, same_owner};
 ghost use Rattle.algo_rules.specs.Ports.{no_ports, number_of};
-ghost use Rattle.algo_rules.specs.Resolved.{source_from, source_to, sources_to};
+ghost use Rattle.algo_rules.specs.Resolved.{source_from, sources_to};
 ghost use Rattle.algo_resolve.specs.Parts.{IsPlacedGraph, of};
+ghost use Rattle.algo_resolve.specs.Wiring.{into, source_among};
 
-use crate::builder::Builder;
+use crate::checked::Checked;
 use crate::lookup::{port_number, reference_number, small};
 use algo_defs::{Edge, End, Reference};
 use algo_rules::Ports;
@@ -17,7 +18,7 @@ use syn_base::{Items, Name, OutOfMemory};
 /// A graph among the definitions of its text.
 #[derive(Clone, Copy)]
 pub struct Graph<'a> {
-    pub builder: Builder<'a>,
+    pub checked: Checked<'a>,
     /// The place of the definition of each reference.
     pub places: &'a [u32],
     pub ins: &'a [Port],
@@ -26,7 +27,9 @@ pub struct Graph<'a> {
 }
 
 impl<'a> Graph<'a> {
-    /// The sources of these ports of a reference, or of the graph itself.
+    /// The sources of these ports of a reference, or of the graph itself. It goes once over the edges
+    /// of the graph, and for each port over those into its owner alone.
+    #[tactic(auto, using(crate::proofs::Edges::sources_by_owner))]
     pub fn sources_to(
         &self,
         alloc: Global,
@@ -36,20 +39,34 @@ impl<'a> Graph<'a> {
         requires { IsPlacedGraph self.now }
         ensures { IfOk result (λ sources. sources ≡ sources_to (of self.now) self.now.ins.now self.now.references.now self.now.edges.now owner.now ports.now) }
     {
+        let edges = edges_into(alloc, self.edges, owner)?;
+        self.sources_among(alloc, &edges, ports)
+    }
+
+    /// The sources of these ports. All edges into their owner are among these, and no others.
+    fn sources_among(
+        &self,
+        alloc: Global,
+        edges: &[&Edge],
+        ports: &[Port],
+    ) -> Result<Items<Source>, OutOfMemory>
+        requires { IsPlacedGraph self.now }
+        ensures { IfOk result (λ sources. sources ≡ map (λ p. source_among (of self.now) self.now.ins.now self.now.references.now (map (λ e. e.now) edges.now) p.name) ports.now) }
+    {
         let mut sources = Vec::new(alloc);
         for port in ports {
-            sources.push(self.source_to(owner, &port.name)?)?;
+            sources.push(self.source_among(edges, &port.name)?)?;
         }
         Ok(Items::new(sources))
     }
 
-    /// Where the first edge into an end comes from.
-    fn source_to(&self, owner: &Option<Name>, port: &Name) -> Result<Source, OutOfMemory>
+    /// Where the first of these edges into a port of this name comes from.
+    fn source_among(&self, edges: &[&Edge], port: &Name) -> Result<Source, OutOfMemory>
         requires { IsPlacedGraph self.now }
-        ensures { IfOk result (λ s. s ≡ source_to (of self.now) self.now.ins.now self.now.references.now self.now.edges.now (record { owner = owner.now; port = port.now })) }
+        ensures { IfOk result (λ s. s ≡ source_among (of self.now) self.now.ins.now self.now.references.now (map (λ e. e.now) edges.now) port.now) }
     {
-        for edge in self.edges {
-            if is_end(&edge.to, owner, port) {
+        for edge in edges {
+            if edge.to.port.as_bytes() == port.as_bytes() {
                 return self.source_from(&edge.from);
             }
         }
@@ -87,18 +104,28 @@ impl<'a> Graph<'a> {
     {
         let at = reference_number(self.references, name);
         if at < self.places.len() {
-            Some(&self.builder.table[self.places[at] as usize])
+            Some(&self.checked.table[self.places[at] as usize])
         } else {
             None
         }
     }
 }
 
-/// Whether an end is this port of this owner.
-fn is_end(end: &End, owner: &Option<Name>, port: &Name) -> bool
-    ensures { result ≡ same_end end.now (record { owner = owner.now; port = port.now }) }
+/// The edges into the ports of a reference, or of the graph itself, in order.
+fn edges_into<'a>(
+    alloc: Global,
+    edges: &'a [Edge],
+    owner: &Option<Name>,
+) -> Result<Vec<&'a Edge>, OutOfMemory>
+    ensures { IfOk result (λ es. map (λ e. e.now) es.items ≡ into owner.now edges.now) }
 {
-    is_same_owner(&end.owner, owner) && end.port.as_bytes() == port.as_bytes()
+    let mut all = Vec::new(alloc);
+    for edge in edges {
+        if is_same_owner(&edge.to.owner, owner) {
+            all.push(edge)?;
+        }
+    }
+    Ok(all)
 }
 
 fn is_same_owner(first: &Option<Name>, second: &Option<Name>) -> bool

@@ -5,7 +5,7 @@ ghost use Rattle.durations.specs.Lines.{AreDurations};
 use crate::{Durations, durations_of};
 use archi_defs::{ArchiCause, ArchiError, ArchiFault, ArchiText, DurationLine};
 use archi_graph::{Archi, Medium, is_archi};
-use body_lang::Expr;
+use body_lang::{Body, Expr};
 use flat_graph::{Flat, Kind, Source, Vertex, is_flat};
 use std::alloc::Global;
 use std::process::Abort;
@@ -76,7 +76,7 @@ fn vertices(alloc: Global) -> Result<Vec<Vertex>, Fail> {
 
 fn flat(rt: &impl Abort, alloc: Global) -> Result<Flat, Fail> {
     let vertices = vertices(alloc)?;
-    let body = Items::new(vec![in alloc; Expr::Lit(1)]?);
+    let body = Body::new(alloc, vec![in alloc; Expr::Lit(1)]?)?;
     let bodies = vec![in alloc; body]?;
     assert!(rt; is_flat(&vertices, &bodies));
     Ok(Flat::new(vertices, bodies))

@@ -9,3 +9,4 @@ pub mod Switches
 pub mod Repetitions
 pub mod Lines
 pub mod Resolutions
+pub mod Growth

@@ -1,9 +1,11 @@
-//! What the definitions of every accepted text keep, before any of them is linked to another.
+//! What the definitions of every accepted text keep, before any of them is linked to another. Whoever reads a
+//! text and resolves its definitions has by these laws all that `resolve` asks for.
 //!
-//! The law is the contract of a function that does nothing.
+//! Each law is the contract of a function that does nothing.
 #![tactic(auto)]
 
 ghost use Rattle.reading_laws.specs.Accepted.{AcceptedAreWellRead};
+ghost use Rattle.reading_laws.specs.Few.{AcceptedAreFew};
 
 /// The definitions of every text that is accepted are well read: names are names; definitions, the ports of one
 /// definition, the references of a graph and the outer names of a repetition are each named once; vectors have 1 to
@@ -11,4 +13,10 @@ ghost use Rattle.reading_laws.specs.Accepted.{AcceptedAreWellRead};
 /// has an output, and its formulas name inputs of its own; a repetition has 1 to 64 copies.
 pub fn accepted_are_well_read()
     ensures { AcceptedAreWellRead }
+{}
+
+/// Every text that is accepted has at most as many definitions as lines, so that a text that was read is not too
+/// long to be resolved.
+pub fn accepted_are_few()
+    ensures { AcceptedAreFew }
 {}

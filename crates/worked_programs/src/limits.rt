@@ -4,7 +4,7 @@ ghost use Rattle.flat_graph.specs.Laws.{sensor_lens};
 
 use crate::two_operators::{archi, call, code, flat, job, of, vertex};
 use archi_graph::Archi;
-use body_lang::Expr;
+use body_lang::{Body, Expr};
 use executive_program::{Buffer, Instr, Program};
 use flat_graph::{Flat, Kind, Vertex};
 use order_check::is_order;
@@ -124,8 +124,8 @@ fn functions(alloc: Global) -> Result<Vec<Vertex>, Fail> {
     Ok(all)
 }
 
-fn summing(alloc: Global) -> Result<Items<Expr>, Fail> {
-    Ok(Items::new(vec![in alloc; Expr::SumOf(0)]?))
+fn summing(alloc: Global) -> Result<Body, Fail> {
+    Ok(Body::new(alloc, vec![in alloc; Expr::SumOf(0)]?)?)
 }
 
 fn buffers(alloc: Global) -> Result<Vec<Buffer>, Fail> {

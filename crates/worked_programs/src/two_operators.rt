@@ -6,7 +6,7 @@ ghost use Rattle.flat_graph.specs.Laws.{sensor_lens};
 ghost use Rattle.semaphore_core.specs.Held.{IsOpened};
 
 use archi_graph::{Archi, Medium, Seq, is_archi};
-use body_lang::Expr;
+use body_lang::{Body, Expr};
 use executive_program::{Buffer, Instr, Program, SeqCode};
 use flat_graph::{Flat, Kind, Source, Vertex, is_flat};
 use order_check::is_order;
@@ -50,13 +50,13 @@ pub(crate) fn first_element(alloc: Global, port: u32) -> Result<Expr, Fail> {
     Ok(Expr::Elem(port, index))
 }
 
-pub(crate) fn sum(alloc: Global, left: Expr, right: Expr) -> Result<Items<Expr>, Fail> {
+pub(crate) fn sum(alloc: Global, left: Expr, right: Expr) -> Result<Body, Fail> {
     let left = Box::new(alloc, left)?;
     let right = Box::new(alloc, right)?;
-    Ok(Items::new(vec![in alloc; Expr::Apply(Op::Add, left, right)]?))
+    Ok(Body::new(alloc, vec![in alloc; Expr::Apply(Op::Add, left, right)]?)?)
 }
 
-pub(crate) fn flat(rt: &impl Abort, vertices: Vec<Vertex>, bodies: Vec<Items<Expr>>) -> Flat {
+pub(crate) fn flat(rt: &impl Abort, vertices: Vec<Vertex>, bodies: Vec<Body>) -> Flat {
     assert!(rt; is_flat(&vertices, &bodies));
     Flat::new(vertices, bodies)
 }

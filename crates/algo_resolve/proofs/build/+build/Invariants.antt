@@ -1,39 +1,32 @@
 use Rattle.std.proofs.Common.{◌≡◌, ◌+◌, ◌*◌, ◌≤◌, ◌++◌, ◌∷◌, [], drop, map}
 use Rattle.algo_tree.specs.View.{view}
 use Rattle.algo_rules.specs.Resolved.{cases_from, references_from, vertex_within}
-use Rattle.algo_resolve.specs.Parts.{all}
 use Rattle.algo_resolve.proofs.build.+build.Given as goal
 
 abbrev pub decreases-build_vertex : goal.decreases-build_vertex
-decreases-build_vertex l = 4 * l.fuel
-
-abbrev pub decreases-build_case : goal.decreases-build_case
-decreases-build_case l = 4 * l.fuel + 1
-
-abbrev pub decreases-build_reference : goal.decreases-build_reference
-decreases-build_reference l = 4 * l.fuel + 1
+decreases-build_vertex l = 3 * l.fuel
 
 abbrev pub decreases-build_copy : goal.decreases-build_copy
-decreases-build_copy l = 4 * l.fuel + 1
+decreases-build_copy l = 3 * l.fuel + 1
 
 abbrev pub decreases-build_cases : goal.decreases-build_cases
-decreases-build_cases l = 4 * l.fuel + 2
+decreases-build_cases l = 3 * l.fuel + 1
 
 abbrev pub decreases-build_references : goal.decreases-build_references
-decreases-build_references l = 4 * l.fuel + 2
+decreases-build_references l = 3 * l.fuel + 1
 
 abbrev pub decreases-build_inner : goal.decreases-build_inner
-decreases-build_inner l = 4 * l.fuel + 3
+decreases-build_inner l = 3 * l.fuel + 2
 
 abbrev pub invariant-build_cases-loop-number : goal.invariant-build_cases-loop-number
 invariant-build_cases-loop-number l =
-    map view l.inner.items ++ cases_from l.builder.defs.now (vertex_within l.builder.defs.now l.fuel) l.ins l.number (map (λ c. c.def) (drop l.number l.cases) ++ l.otherwise ∷ [])
-    ≡ cases_from l.builder.defs.now (vertex_within l.builder.defs.now l.fuel) l.ins 0 (map (λ c. c.def) l.cases ++ l.otherwise ∷ [])
+    map view l.inner.items ++ cases_from l.builder.defs.now (vertex_within l.builder.defs.now l.fuel) l.names.ins l.number (map (λ c. c.def) (drop l.number l.names.cases.now) ++ l.names.otherwise.now ∷ [])
+    ≡ cases_from l.builder.defs.now (vertex_within l.builder.defs.now l.fuel) l.names.ins 0 (map (λ c. c.def) l.names.cases.now ++ l.names.otherwise.now ∷ [])
 
 abbrev pub invariant-build_references-loop-at : goal.invariant-build_references-loop-at
 invariant-build_references-loop-at l = record {
-  so_far : map view l.inner.items ++ references_from (all l.graph) (vertex_within (all l.graph) l.fuel) l.graph.ins.now l.graph.references.now l.graph.edges.now l.sensors l.actuators (drop l.at l.graph.references.now)
-      ≡ references_from (all l.graph) (vertex_within (all l.graph) l.fuel) l.graph.ins.now l.graph.references.now l.graph.edges.now 0 0 l.graph.references.now;
+  so_far : map view l.inner.items ++ references_from l.builder.defs.now (vertex_within l.builder.defs.now l.fuel) l.graph.ins.now l.graph.references.now l.graph.edges.now l.sensors l.actuators (drop l.at l.graph.references.now)
+      ≡ references_from l.builder.defs.now (vertex_within l.builder.defs.now l.fuel) l.graph.ins.now l.graph.references.now l.graph.edges.now 0 0 l.graph.references.now;
   few_sensors : l.sensors ≤ l.at;
   few_actuators : l.actuators ≤ l.at;
 }

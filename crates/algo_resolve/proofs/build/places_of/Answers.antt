@@ -8,4 +8,4 @@ pub returns : goal.returns
 returns c = λ d at.
     let b = c.args.builder.now in
     subst (λ (ps : List ℕ). ArePlaced b.defs.now b.table.now (named d.body) ps) (c.index-builder-place.is ∙ sym c.as_slice.ensures)
-    (places_stand b.defs.now b.links.now b.table.now c.requires.ready c.args.place d c.index-builder-place.result c.requires.below at c.index-builder-place.is)
+    (places_stand b.defs.now b.links.now b.table.now c.requires.planned.ready c.args.place d c.index-builder-place.result c.requires.below at c.index-builder-place.is)

@@ -1,0 +1,89 @@
+-- What the plan of a definition has.
+use Rattle.std.proofs.Common.{◌≡◌, ◌≢◌, ℕ, zero, suc, ◌<◌, ℤ, List, [], ◌∷◌, length, get_or, map, Option, Some, refl, ap, sym, ◌∙◌, arith}
+use Rattle.std.specs.Prelude.{slice_get}
+use Rattle.body_lang.specs.declared.expression.Port.{Port}
+use Rattle.level_meaning.specs.declared.source.Source.{Source}
+use Rattle.algo_tree.specs.Tree as tree
+use Rattle.algo_defs.specs.declared.definition.Def.{Def}
+use Rattle.algo_defs.specs.declared.definition.Body.{Body}
+use Rattle.algo_defs.specs.declared.definition.Body.TheVariants.{Sensor, Actuator, Constant, Delay, Function, Graph, Switch, Repeat}
+use Rattle.algo_defs.specs.declared.definition.Reference.{Reference}
+use Rattle.algo_defs.specs.declared.definition.Edge.{Edge}
+use Rattle.algo_defs.specs.Words.{Bytes}
+use Rattle.algo_rules.specs.Links.{definition}
+use Rattle.algo_rules.specs.Ports.{ports_of}
+use Rattle.algo_rules.specs.Resolved.{Making, kind_by, vertex_within}
+use Rattle.algo_rules.specs.declared.ports.Ports.{Ports}
+use Rattle.algo_resolve.specs.Plans.{plan_of, plan_view, wires_by}
+use Rattle.algo_resolve.specs.declared.plan.Plan.{Plan}
+use Rattle.algo_resolve.proofs.Placed.{same_name}
+
+head_same : {A : Type 0} (x y : A) (xs ys : List A) → x ∷ xs ≡ y ∷ ys → x ≡ y
+head_same x y xs ys h = cc
+
+tail_same : {A : Type 0} (x y : A) (xs ys : List A) → x ∷ xs ≡ y ∷ ys → xs ≡ ys
+tail_same x y xs ys h = cc
+
+module _ (ds : List Def) where
+  as_many : (ps : List Plan) (xs : List Def) → map plan_view ps ≡ map (plan_of ds) xs → length ps ≡ length xs
+  as_many [] [] h = refl
+  as_many [] (x ∷ xs) h = cc
+  as_many (p ∷ ps) [] h = cc
+  as_many (p ∷ ps) (x ∷ xs) h = ap suc (as_many ps xs (tail_same (plan_view p) (plan_of ds x) (map plan_view ps) (map (plan_of ds) xs) h))
+
+  pub plan_below : (ps : List Plan) (i : ℕ) → map plan_view ps ≡ map (plan_of ds) ds → i < length ds → i < length ps
+  plan_below ps i h low = omega (arith, as_many ps ds h, low)
+
+  -- the plan at the place of a definition
+  plan_in : (ps : List Plan) (xs : List Def) (i : ℕ) (d : Def) (p : Plan) → map plan_view ps ≡ map (plan_of ds) xs → slice_get xs i ≡ Some d → p ≡ get_or ps i p → plan_view p ≡ plan_of ds d
+  plan_in ps [] i d p h at is = cc
+  plan_in [] (x ∷ xs) i d p h at is = cc
+  plan_in (q ∷ ps) (x ∷ xs) zero d p h at is =
+      let same : x ≡ d = cc in
+      ap plan_view is ∙ head_same (plan_view q) (plan_of ds x) (map plan_view ps) (map (plan_of ds) xs) h ∙ ap (plan_of ds) same
+  plan_in (q ∷ ps) (x ∷ xs) (suc i) d p h at is = plan_in ps xs i d p (tail_same (plan_view q) (plan_of ds x) (map plan_view ps) (map (plan_of ds) xs) h) at is
+
+  pub plan_at : (ps : List Plan) (i : ℕ) (d : Def) (p : Plan) → map plan_view ps ≡ map (plan_of ds) ds → slice_get ds i ≡ Some d → p ≡ get_or ps i p → plan_view p ≡ plan_of ds d
+  plan_at ps i d p h at is = plan_in ps ds i d p h at is
+
+  -- the kind depends on the making of vertices in nothing
+  any_kind : (m n : Making) (own : Ports) (b : Body) → kind_by ds m own 0 0 b ≡ kind_by ds n own 0 0 b
+  any_kind m n own (Sensor len) = refl
+  any_kind m n own (Actuator len) = refl
+  any_kind m n own (Constant values) = refl
+  any_kind m n own (Delay values) = refl
+  any_kind m n own (Function ins outs) = refl
+  any_kind m n own (Graph ins outs references edges) = refl
+  any_kind m n own (Switch on ins outs cases otherwise last) = refl
+  any_kind m n own (Repeat copies def lines) = refl
+
+  pub planned_kind : (make : Making) (w : Bytes) (d : Def) (own : Ports) (k : tree.Kind) → definition ds w ≡ Some d → own ≡ ports_of ds w
+      → k ≡ kind_by ds (vertex_within ds 0) (ports_of ds d.name) 0 0 d.body → k ≡ kind_by ds make own 0 0 d.body
+  planned_kind make w d own k at own_is is =
+      is ∙ any_kind (vertex_within ds 0) make (ports_of ds d.name) d.body
+      ∙ ap (λ (o : Ports). kind_by ds make o 0 0 d.body) (ap (ports_of ds) (sym (same_name ds w d at)) ∙ sym own_is)
+
+  -- and on the number of a sensor or an actuator nowhere else
+  pub same_kind : (make : Making) (own : Ports) (s a : ℕ) (b : Body) → ((n : ℕ) → b ≢ Sensor n) → ((n : ℕ) → b ≢ Actuator n) → kind_by ds make own 0 0 b ≡ kind_by ds make own s a b
+  same_kind make own s a (Sensor len) h k = absurd (h len refl)
+  same_kind make own s a (Actuator len) h k = absurd (k len refl)
+  same_kind make own s a (Constant values) h k = refl
+  same_kind make own s a (Delay values) h k = refl
+  same_kind make own s a (Function ins outs) h k = refl
+  same_kind make own s a (Graph ins outs references edges) h k = refl
+  same_kind make own s a (Switch on ins outs cases otherwise last) h k = refl
+  same_kind make own s a (Repeat copies def lines) h k = refl
+
+-- what stands beside an element of a mapped list
+pub beside : {A B : Type 0} (f : A → B) (ys : List B) (xs : List A) (k : ℕ) (x : A) (y : B) → ys ≡ map f xs → k < length xs → x ≡ get_or xs k x → y ≡ get_or ys k y → y ≡ f x
+beside f ys [] k x y h low at is = absurd (omega (arith, low))
+beside f [] (z ∷ xs) k x y h low at is = cc
+beside f (v ∷ ys) (z ∷ xs) zero x y h low at is = is ∙ head_same v (f z) ys (map f xs) h ∙ ap f (sym at)
+beside f (v ∷ ys) (z ∷ xs) (suc k) x y h low at is = beside f ys xs k x y (tail_same v (f z) ys (map f xs) h) (omega (arith, low)) at is
+
+mapped_length : {A B : Type 0} (f : A → B) (xs : List A) → length (map f xs) ≡ length xs
+mapped_length f [] = refl
+mapped_length f (x ∷ xs) = ap suc (mapped_length f xs)
+
+pub beside_below : {A B : Type 0} (f : A → B) (ys : List B) (xs : List A) (k : ℕ) → ys ≡ map f xs → k < length xs → k < length ys
+beside_below f ys xs k h low = omega (arith, low, ap (λ (l : List B). length l) h, mapped_length f xs)

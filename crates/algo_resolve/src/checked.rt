@@ -1,0 +1,15 @@
+//! Definitions with what is known of them once they are checked.
+use algo_defs::Def;
+use algo_rules::Ports;
+use syn_base::Items;
+
+/// The definitions of a text that has passed its checks.
+#[derive(Clone, Copy)]
+pub struct Checked<'a> {
+    /// In the order of the text.
+    pub defs: &'a [Def],
+    /// For each definition the places of those that it names.
+    pub links: &'a [Items<u32>],
+    /// The ports of each definition, by its place.
+    pub table: &'a [Ports],
+}
