@@ -1,9 +1,9 @@
 -- What every job has: buffers with places, prologues of signals, few micro-steps, and lengths that fit.
 use Rattle.std.proofs.Common.{◌≡◌, ℕ, ◌<◌, ◌≤◌, true, List, map, length, Option, Some, None, refl, sym, ap, subst, arith, ◌∙◌}
 use Rattle.std.specs.Prelude.{slice_get, slice_index_or}
-use Rattle.std.proofs.lemmas.List.{length-map, length-replicate}
+use Rattle.std.proofs.lemmas.List.{length-map}
 use Rattle.std.proofs.lemmas.Option.{slice_get_within}
-use Rattle.level_meaning.specs.Level.{Values, vector_at, zeros}
+use Rattle.level_meaning.specs.Level.{Values, vector_at}
 use Rattle.flat_graph.specs.Graph.{lens_of}
 use Rattle.flat_graph.specs.declared.vertex.Vertex.{Vertex}
 use Rattle.flat_graph.specs.declared.vertex.Kind.{Kind}
@@ -20,9 +20,9 @@ use Rattle.executive_program.specs.Places.{opening_of}
 use Rattle.executive_program.specs.Steps.{steps, steps_by, steps_in_list}
 use Rattle.semaphore_core.specs.Operation.{delay_of}
 use Rattle.semaphore_core.specs.AtOpening.{AreDesks}
-use Rattle.semaphore_core.specs.Job.{JobData, reactions, zero_rows, total_steps, actuator_lens}
+use Rattle.semaphore_core.specs.Job.{JobData, reactions, total_steps, actuator_lens}
 use Rattle.semaphore_core.specs.IsJob.{IsJob}
-use Rattle.semaphore_core.specs.Held.{Kept, AreReady, NeedsReaction}
+use Rattle.semaphore_core.specs.Held.{Kept, AreReady, HasRow, NeedsReaction}
 use Rattle.semaphore_core.proofs.Numbered.{actuator_at, sensor_at, delay_cell, no_delay}
 use Rattle.semaphore_core.proofs.Limits.{limits_kept}
 use Rattle.semaphore_core.proofs.Prologues.{opening_bare}
@@ -49,16 +49,19 @@ module _ (j : JobData) (job : IsJob j) where
           let same : q.prologue ≡ opening_of j.program s = sym (ap prologue_of is) ∙ job.1.0.formed.1.prologues s (slice_get_within j.program.seqs s q is) in
           opening_bare j.program s (number_or 0 q.seq.medium) l m (subst (λ (xs : List Instr). slice_get (steps_in_list j.program (number_or 0 q.seq.medium) xs) l ≡ Some m) same e)
 
+  -- the rows of all actuators are laid out
+  pub rows_laid_out : is_flat j.graph ≡ true → (lens : List ℕ) → lens ≡ actuator_lens j.graph j.graph.vertices → (v : ℕ) → HasRow j lens v
+  rows_laid_out valid lens e v x a is k = subst (λ (l : List ℕ). (a < length l) × (slice_index_or l a 0 ≡ slice_index_or (lens_of j.graph.vertices x.ins) 0 0)) (sym e) (actuator_at j.graph valid v a x is k)
+
   -- the opening cells, rows of zeros, and a desk for each operation
-  pub opening_ready : (k : Kept) → is_flat j.graph ≡ true → k.cells ≡ j.opening → k.rows ≡ zero_rows j → k.lens ≡ actuator_lens j.graph j.graph.vertices → AreDesks j.graph (length j.graph.vertices) k.desks → AreReady j k
-  opening_ready k valid cells rows lens desks = record {
+  pub opening_ready : (k : Kept) → is_flat j.graph ≡ true → k.cells ≡ j.opening → length k.rows ≡ reactions j → AreDesks j.graph (length j.graph.vertices) k.desks → AreReady j k
+  opening_ready k valid cells rows desks = record {
     valid = valid;
     desks_there = desks.there;
     desk = desks.each;
     cells_fit = cells_fit;
     no_cell = λ v x is e. vertex_cell v x is ∙ no_delay j.graph valid v x is e;
-    rows_there = ap (λ (l : List Values). length l) rows ∙ length-replicate (reactions j) (map zeros (actuator_lens j.graph j.graph.vertices));
-    row_fits = λ v x a is e. subst (λ (l : List ℕ). (a < length l) × (slice_index_or l a 0 ≡ slice_index_or (lens_of j.graph.vertices x.ins) 0 0)) (sym lens) (actuator_at j.graph valid v a x is e);
+    rows_there = rows;
     sensor_fits = sensor_fits;
   }
     where

@@ -4,6 +4,7 @@ pub mod Openings
 pub mod Numbered
 pub mod Prologues
 pub mod Limits
+pub mod Some
 pub mod Jobs
 pub mod MoreDesks
 pub mod ZeroRows
