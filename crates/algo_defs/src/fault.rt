@@ -3,7 +3,7 @@ use std::fmt;
 use syn_base::{Items, LimitFault, Name};
 use thiserror::Error;
 
-/// The causes of a refusal, with what a message prints behind the cause: the place, the word, the end of
+/// The causes of a refusal, with what a message prints after the cause: the place, the word, the end of
 /// an edge, or the names.
 #[derive(Drop)]
 pub enum AlgoCause {

@@ -26,7 +26,7 @@ use Rattle.algo_print.proofs.Spelled.{name_word, count_back, count_word, count_p
 use Rattle.algo_print.proofs.State.{Lines, open_lines, lines_at, Numbered, numbered_block, numbered, AreSame, Adds, IsOrdered, definitions_joined, more, same_outer}
 use Rattle.algo_print.proofs.Between.{one_printable}
 
--- a list of lines with one more in front of nothing, and behind others
+-- a list of lines with one more in front of nothing, and after others
 pub in_front : {A : Type 0} (f : A → List Bytes) (xs : List A) (x : A) (rest : Lines) → rest ≡ [] → map f (xs ++ x ∷ []) ++ rest ≡ (map f xs ++ rest) ++ f x ∷ []
 in_front f xs x rest none =
     ap (λ (r : Lines). map f (xs ++ x ∷ []) ++ r) none ∙ append-nil (map f (xs ++ x ∷ [])) ∙ map-append f xs (x ∷ [])

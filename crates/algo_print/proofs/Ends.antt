@@ -17,7 +17,7 @@ pub record EndRead (w : Bytes) (e : End) : Type 0 where
 is_46 : (b : ℕ) → is_dot b ≡ true → b ≡ 46
 is_46 b h = grind arith
 
--- a name stands behind the first dot, so that there is one
+-- a name stands after the first dot, so that there is one
 dot_inside : (w : Bytes) → is_name (after_first is_dot w) ≡ true → position_or_len is_dot w < length w
 dot_inside w h =
     let some : 0 < length (after_first is_dot w) = name_some (after_first is_dot w) h in

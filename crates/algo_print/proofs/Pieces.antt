@@ -57,7 +57,7 @@ joins test (b ∷ l) m h k =
     let p = both (test b) (list_all test l) h in
     and_true (test b) (list_all test (l ++ m)) p.0 (joins test l m p.1 k)
 
--- a word with more plain bytes behind it
+-- a word with more plain bytes after it
 pub word_more : (w m : Bytes) → is_word w ≡ true → list_all is_plain m ≡ true → is_word (w ++ m) ≡ true
 word_more [] m h k = cc
 word_more (b ∷ w) m h k = joins is_plain (b ∷ w) m h k
@@ -93,7 +93,7 @@ last_back b (c ∷ w) h =
 abbrev pub are_words : List Bytes → Bool
 are_words ws = list_all is_word ws
 
--- words with a blank and more behind them
+-- words with a blank and more after them
 pub words_then : (w : Bytes) (ws : List Bytes) (rest : Bytes) → are_words (w ∷ ws) ≡ true → words_of (w ++ (spaced ws ++ 32 ∷ rest)) ≡ w ∷ (ws ++ words_of rest)
 words_then [] ws rest h = cc
 words_then (b ∷ w) [] rest h = word_back b w rest (both (is_word (b ∷ w)) true h).0

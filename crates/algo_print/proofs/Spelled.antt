@@ -111,7 +111,7 @@ operator_word Min = refl
 operator_word Max = refl
 operator_word Neg = refl
 
--- the text of an expression in brackets, with more behind it
+-- the text of an expression in brackets, with more after it
 inside : (w rest : Bytes) → is_word w ≡ true → list_all is_plain rest ≡ true → list_all is_plain (w ++ rest) ≡ true
 inside w rest h k = joins is_plain w rest (plain_word w h) k
 

@@ -23,7 +23,7 @@ use Rattle.algo_print.proofs.Pieces.{are_words, joined_back, code_back, foreign_
 abbrev pub Lines : Type 0
 Lines = List (List Bytes)
 
--- the lines of an open switch behind its first, by the part in which the last one stands
+-- the lines of an open switch after its first, by the part in which the last one stands
 abbrev pub open_switch : Part → Bytes → Lines → Bytes → Lines
 open_switch Conditioning on lines otherwise = []
 open_switch Whole on lines otherwise = ((codes "on" ∷ on ∷ []) ∷ lines) ++ (codes "otherwise" ∷ otherwise ∷ []) ∷ []
@@ -83,7 +83,7 @@ pub record SwitchOrder (b : Block) : Type 0 where
   pub no_outs : rank b.part < rank Outputs → b.outs ≡ []
   pub no_cases : rank b.part < rank Cases → b.cases ≡ []
 
--- definitions stand behind the version's line, and lines of later parts are not there yet
+-- definitions stand after the version's line, and lines of later parts are not there yet
 abbrev pub IsOrdered : Stage → List Def → Block → Type 0
 IsOrdered before_version defs b = defs ≡ []
 IsOrdered between defs b = Unit {0}

@@ -110,7 +110,7 @@ module _ (k : Numbered) (names : List Bytes) (defs : List Def) (b : Block) (same
       let named = held (is_name (word ws 1)) _ _ into.block form.1 in
       from (on_line b n ws) r _ into (same_ok _ into.block named.1) (on_adds n (word ws 1) named.0 zero)
 
-  -- a line more behind the one with `on`
+  -- a line more after the one with `on`
   one_more : (part : Part) (rest : Lines) (ws : List Bytes) → admits b.part Cases ≡ true → admits part Cases ≡ true → rest ≡ (inputs ++ (outputs ++ cases)) ++ ws ∷ []
       → first ∷ open_switch part b.on rest b.otherwise ≡ (first ∷ open_switch b.part b.on (inputs ++ (outputs ++ cases)) b.otherwise) ++ ws ∷ []
   one_more part rest ws now then is =

@@ -16,7 +16,7 @@ use Rattle.algo_defs.specs.declared.definition.Frontier.TheVariants.{Fork, Diffu
 use Rattle.algo_defs.specs.declared.definition.FrontierLine.{FrontierLine}
 use Rattle.algo_defs.specs.Words.{Bytes}
 
--- words, each behind a space
+-- words, each after a space
 abbrev pub spaced : List Bytes → Bytes
 spaced [] = []
 spaced (w ∷ ws) = 32 ∷ (w ++ spaced ws)

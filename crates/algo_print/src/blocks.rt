@@ -27,7 +27,7 @@ pub(crate) fn print_values(
     put(b"\n", text)
 }
 
-/// Appends numbers, each behind a space.
+/// Appends numbers, each after a space.
 fn put_numbers(values: &[i64], text: &mut Vec<u8>) -> Result<(), OutOfMemory>
     ensures { OnOk result (text.new.items ≡ text.old.items ++ spaced (map signed_decimal values.now)) }
 {

@@ -1,4 +1,4 @@
--- The words behind the first.
+-- The words after the first.
 use Rattle.std.proofs.Common.{◌≡◌, List, [], ◌∷◌, length, drop, refl, arith}
 use Rattle.algo_defs.specs.Words.{Bytes}
 use Rattle.algo_text.specs.Words.{word}

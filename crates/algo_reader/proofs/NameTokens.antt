@@ -72,7 +72,7 @@ token_name b bs p h =
     let is : (is_name word ≡ true) × (word ≡ p) = name_word word p (no_mark (b == 40) (b == 41) (b == 91) (b == 93) (b == 44) word p h) in
     sym is.1 ∙ ap (λ (k : ℕ). take k (b ∷ bs)) (len_is (is_digit b) (b == 45) (is_name_byte b) b bs refl refl refl is.0)
 
--- the name stands so many bytes behind the place
+-- the name stands this many bytes after the place
 pub record Stands (bs : Bytes) (start place : ℕ) (p : Bytes) : Type 0 where
   pub behind : ℕ
   pub is : place ≡ start + behind

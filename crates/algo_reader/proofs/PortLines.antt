@@ -98,7 +98,7 @@ out_taken b n p h = taken_shape (is_taken b p.name) _ _ h
 pub out_free : (b : Block) (n : ℕ) (p : Port) → is_taken b p.name ≡ false → with_out b n p ≡ Ok (record b { part = Outputs; outs = b.outs ++ p ∷ [] })
 out_free b n p h = free_shape (is_taken b p.name) _ _ h
 
--- behind the port of an output of a function
+-- after the port of an output of a function
 abbrev pub expression_then : Block → ℕ → Bytes → Port → Result Block AlgoError
 expression_then b n text p = and_then (formula_of n (map (λ i. i.name) b.ins) text) (with_result b n p)
 

@@ -91,7 +91,7 @@ module _ (r : Reading) (b : Block) (h : r.stage ≡ between) (n : ℕ) where
   same_next : (line : Bytes) → Same (next_line r n line) (next_line (with_block r b) n line)
   same_next line = same_line (foreign_place line) line
 
--- so many lines on, the block that has ended says nothing
+-- this many lines on, the block that has ended says nothing
 abbrev Forgets : List Bytes → Type 0
 Forgets lines = (r : Reading) (b : Block) (n : ℕ) → r.stage ≡ between → rest_of r n lines ≡ rest_of (with_block r b) n lines
 

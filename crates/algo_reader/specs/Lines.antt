@@ -13,7 +13,7 @@ use Rattle.algo_text.specs.Blocks.{refused, is_above, above, with_some}
 abbrev pub some_name : Bytes → Option Bytes
 some_name w = if is_name w then Some w else None
 
--- P LEN behind `in` or `out`: so many such lines stand before
+-- P LEN after `in` or `out`: this many such lines stand before
 unfoldable pub port_of : ℕ → ℕ → List Bytes → Result Port AlgoError
 port_of n before ws =
     if is_name (word ws 1) then

@@ -116,7 +116,7 @@ impl FunctionBlock {
         Ok(())
     }
 
-    /// The words before the first `=`, and the expression behind it.
+    /// The words before the first `=`, and the expression after it.
     pub fn result_line(&mut self, alloc: Global, number: u32, code: &[u8]) -> Result<(), AlgoError>
         ensures { Steps result (function_view self.new) (result_line (function_view self.old) number code.now) }
     {

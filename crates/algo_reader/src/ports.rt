@@ -92,7 +92,7 @@ fn has_port(ports: &[Port], name: &[u8]) -> bool
     false
 }
 
-/// P LEN behind `in` or `out`, where so many such lines stand before.
+/// P LEN after `in` or `out`, where this many such lines stand before.
 #[tactic(auto, unfolding(crate::specs::Lines::port_of))]
 pub fn read_port(
     alloc: Global,

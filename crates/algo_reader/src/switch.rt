@@ -14,7 +14,7 @@ use algo_text::Part;
 use std::alloc::Global;
 use syn_base::{LimitKind, Name};
 
-/// The part of a conditioned definition behind its line `on` in which the last line stands.
+/// The part of a conditioned definition after its line `on` in which the last line stands.
 #[derive(Drop)]
 pub enum SwitchPart {
     Inputs,

@@ -17,12 +17,14 @@ use Rattle.algo_defs.specs.declared.fault.AlgoCause.TheVariants.{BadExpression}
 use Rattle.algo_defs.specs.Words.{Bytes}
 use Rattle.algo_text.specs.Blocks.{refused}
 use Rattle.algo_text.specs.Formulas.{known_by, read_by, formula_of}
+use Rattle.syn_base.specs.Limits.{bound_of}
+use Rattle.syn_base.specs.declared.limits.LimitKind.TheVariants.{Tokens}
 
-few_shape : {A : Type 0} (m : ℕ) (x y : A) → m ≤ 512 → cond (nat_le m 512) x y ≡ x
-few_shape m x y h = let e : nat_le m 512 ≡ true = grind arith in rw e refl
+few_shape : {A : Type 0} (m n : ℕ) (x y : A) → m ≤ n → cond (nat_le m n) x y ≡ x
+few_shape m n x y h = let e : nat_le m n ≡ true = grind arith in rw e refl
 
 pub few_formula : (n : ℕ) (names : List Bytes) (text : Bytes) → AreFew text → formula_of n names text ≡ read_by n names text (alone (parse (suc (length (tokens text))) (tokens text)))
-few_formula n names text few = few_shape (length (tokens text)) _ _ few
+few_formula n names text few = few_shape (length (tokens text)) (bound_of Tokens) _ _ few
 
 -- The tokens of an expression are read as it.
 pub written_formula : (n : ℕ) (names : List Bytes) (text : Bytes) (w : Written) → AreFew text → AreWritten (tokens text) w → formula_of n names text ≡ known_by n names text (unknown names w) (resolved names w)

@@ -41,14 +41,14 @@ module _ (line : ℕ) (ports : List Bytes) (text : Bytes) where
     },
   )
 
-  by_count : (b : Bool) → nat_le (length (tokens text)) 512 ≡ b
+  by_count : (b : Bool) → nat_le (length (tokens text)) (bound_of Tokens) ≡ b
       → IsFormula ports text line (cond b (read_by line ports text (alone (parse (suc (length (tokens text))) (tokens text)))) (Err (Limit (record { which = Tokens; count = length (tokens text); bound = bound_of Tokens }))))
   by_count true e = by_parse (alone (parse (suc (length (tokens text))) (tokens text))) (grind arith) refl
   by_count false e = (grind arith, refl)
 
   -- what the definition gives is what the grammar says
   pub formula_is : IsFormula ports text line (formula_of line ports text)
-  formula_is = by_count (nat_le (length (tokens text)) 512) refl
+  formula_is = by_count (nat_le (length (tokens text)) (bound_of Tokens)) refl
 
   unknown_formula : (w : Bytes) → NamesNoPort ports text w → formula_of line ports text ≡ refused line (UnknownName w)
   unknown_formula w h =
@@ -56,8 +56,8 @@ module _ (line : ℕ) (ports : List Bytes) (text : Bytes) where
       ∙ ap (λ (o : Option ℕ). known_by line ports text o (resolved ports h.first.tree)) h.first.first
       ∙ ap (λ (o : Option Token). refused line (UnknownName (name_in o))) h.named
 
-  many_shape : {A : Type 0} (m : ℕ) (x y : A) → 512 < m → cond (nat_le m 512) x y ≡ y
-  many_shape m x y h = let e : nat_le m 512 ≡ false = grind arith in rw e refl
+  many_shape : {A : Type 0} (m n : ℕ) (x y : A) → n < m → cond (nat_le m n) x y ≡ y
+  many_shape m n x y h = let e : nat_le m n ≡ false = grind arith in rw e refl
 
   at_line : (n : ℕ) (c : AlgoCause) → n ≡ line → formula_of line ports text ≡ refused line c → formula_of line ports text ≡ Err (Refused (record { line = n; cause = c }))
   at_line n c e h = h ∙ ap (λ (m : ℕ). refused m c) (sym e)
@@ -83,7 +83,7 @@ module _ (line : ℕ) (ports : List Bytes) (text : Bytes) where
   -- the grammar says one thing of a text
   pub one_formula : (r : Result Expr AlgoError) → IsFormula ports text line r → formula_of line ports text ≡ r
   one_formula (Ok e) h = body_formula line ports text e h
-  one_formula (Err (Limit f)) h = many_shape (length (tokens text)) _ _ h.0 ∙ ap (λ (g : _). Err (Limit g)) (sym h.1)
+  one_formula (Err (Limit f)) h = many_shape (length (tokens text)) (bound_of Tokens) _ _ h.0 ∙ ap (λ (g : _). Err (Limit g)) (sym h.1)
   one_formula (Err (Refused r)) h = refusal r.line r.cause h.0 h.1
   one_formula (Err OutOfMemory) h = absurd h
 

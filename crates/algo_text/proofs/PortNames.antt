@@ -36,11 +36,11 @@ get_seam (y ∷ ys) x rest = let e : length (y ∷ ys) ≡ suc (length ys) = ome
 get_at : (pre : List Token) (x : Token) (rest ts : List Token) (at : ℕ) → length pre ≡ at → ts ≡ pre ++ x ∷ rest → slice_get ts at ≡ Some x
 get_at pre x rest ts at size is = ap (λ (l : List Token). slice_get l at) is ∙ ap (λ (k : ℕ). slice_get (pre ++ x ∷ rest) k) (sym size) ∙ get_seam pre x rest
 
--- behind a word and its mark
+-- after a word and its mark
 inside : (pre : List Token) (s t : Token) (xs more post : List Token) → pre ++ ((s ∷ t ∷ (xs ++ more)) ++ post) ≡ (pre ++ s ∷ t ∷ []) ++ (xs ++ (more ++ post))
 inside pre s t xs more post = ap (λ (l : List Token). pre ++ s ∷ t ∷ l) (append_assoc xs more post) ∙ sym (append_assoc pre (s ∷ t ∷ []) (xs ++ (more ++ post)))
 
--- behind an argument and its comma
+-- after an argument and its comma
 onward : (pre xs : List Token) (s : Token) (ys more post : List Token) → pre ++ (xs ++ ((s ∷ (ys ++ more)) ++ post)) ≡ (pre ++ (xs ++ s ∷ [])) ++ (ys ++ (more ++ post))
 onward pre xs s ys more post =
     ap (λ (l : List Token). pre ++ (xs ++ s ∷ l)) (append_assoc ys more post)

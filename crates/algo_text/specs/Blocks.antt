@@ -83,7 +83,7 @@ abbrev pub all_names : {A : Type 0} → ℕ → List Bytes → Result A AlgoErro
 all_names n [] go = go
 all_names n (w ∷ ws) go = if is_name w then all_names n ws go else refused n (BadName w)
 
--- P LEN behind `in` or `out`: so many such lines stand before
+-- P LEN after `in` or `out`: this many such lines stand before
 abbrev pub port_line : ℕ → ℕ → List Bytes → (Port → Result Block AlgoError) → Result Block AlgoError
 port_line n before ws go = all_names n (word ws 1 ∷ [])
     (with_some (count_of (word ws 2)) (refused n (BadNumber (word ws 2))) (λ len.
@@ -112,7 +112,7 @@ out_line b n ws =
 abbrev pub with_result : Block → ℕ → Port → Expr → Result Block AlgoError
 with_result b n p e = if is_taken b p.name then refused n (DuplicateName p.name) else Ok (record b { part = parts.Outputs; results = b.results ++ record { port = p; formula = e } ∷ [] })
 
--- out P LEN = EXPRESSION of a function: the words before the first `=`, and the bytes behind it
+-- out P LEN = EXPRESSION of a function: the words before the first `=`, and the bytes after it
 abbrev pub result_words : Block → ℕ → List Bytes → Bytes → Result Block AlgoError
 result_words b n ws text =
     if not (length ws == 3) || not (admits b.part parts.Outputs) then refused n BadLine else

@@ -14,7 +14,7 @@ pub enum Part {
     References,
     Edges,
     Cases,
-    /// Behind `otherwise`.
+    /// After `otherwise`.
     Whole,
 }
 

@@ -18,7 +18,8 @@ abbrev pub AreSound : List Token → Type 0
 AreSound [] = Unit {0}
 AreSound (t ∷ ts) = IsSound t × AreSound ts
 
-abbrev Fitting : Result ℤ NumFault → Type 0
+-- a number that was read fits 64 bits
+abbrev pub Fitting : Result ℤ NumFault → Type 0
 Fitting (Ok v) = FitsSigned w64 v
 Fitting (Err e) = Unit {0}
 
@@ -52,7 +53,7 @@ behind_fits : (minus : Bool) (b : ℕ) (bs : Bytes) → Fitting (behind_minus mi
 behind_fits true b bs = signed_fits true 1 bs
 behind_fits false b bs = signed_fits false 0 (b ∷ bs)
 
-integer_fits : (word : Bytes) → Fitting (integer_of word)
+pub integer_fits : (word : Bytes) → Fitting (integer_of word)
 integer_fits [] = tt
 integer_fits (b ∷ bs) = behind_fits (b == 45) b bs
 
@@ -101,7 +102,7 @@ IsSoundTree (negation a) = IsSoundTree a
 IsSoundTree (apply op a b) = IsSoundTree a × IsSoundTree b
 IsSoundTree (select c a b) = IsSoundTree c × (IsSoundTree a × IsSoundTree b)
 
--- what stands behind a part, where a mark follows the part
+-- what stands after a part, where a mark follows the part
 behind : (ts : List Token) (mark : Token) (us rest : List Token) → AreSound ((ts ++ mark ∷ us) ++ rest) → AreSound (ts ++ mark ∷ (us ++ rest))
 behind ts mark us rest h = subst AreSound (append_assoc ts (mark ∷ us) rest) h
 

@@ -20,7 +20,7 @@ text_of (negation a) = word_of Neg ++ (codes "(" ++ (text_of a ++ codes ")"))
 text_of (apply op a b) = word_of op ++ (codes "(" ++ (text_of a ++ (codes "," ++ (text_of b ++ codes ")"))))
 text_of (select c a b) = codes "select(" ++ (text_of c ++ (codes "," ++ (text_of a ++ (codes "," ++ (text_of b ++ codes ")")))))
 
--- these bytes are these tokens, whatever stands behind
+-- these bytes are these tokens, whatever stands after
 record IsText (text : Bytes) (ts : List Token) : Type 0 where
   pub reads : (rest : Bytes) → Stops rest → token_list 0 (text ++ rest) ≡ ts ++ token_list 0 rest
 

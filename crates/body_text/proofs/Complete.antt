@@ -17,7 +17,7 @@ use Rattle.body_text.proofs.Fronts.{IsClear, clear_first, mark_itself, one_tail,
 abbrev pub Completes : ℕ → Type 0
 Completes n = (w : Written) (rest : List Token) → IsProper w → IsClear w rest → length (written w) < n → parse n (written w ++ rest) ≡ good w rest
 
--- An expression with a mark behind it is read.
+-- An expression with a mark after it is read.
 pub ended_complete : (n : ℕ) → Completes n → (m : Mark) → is_mark OpenSquare (mark_view m) ≡ false → (w : Written) (rest : List Token) → IsProper w → length (written w) < n
     → ended (parse n) m (written w ++ mark_view m ∷ rest) ≡ good w rest
 ended_complete n below m square w rest proper short =
@@ -78,7 +78,7 @@ complete (suc n) w rest proper clear short = complete_step n (λ v more p c s. c
 clear_end : (w : Written) → IsClear w []
 clear_end w = clear_first w None [] refl refl
 
--- Alone, the tokens of an expression are read with nothing behind.
+-- Alone, the tokens of an expression are read with nothing after.
 pub complete_alone : (n : ℕ) (ts : List Token) (w : Written) → AreWritten ts w → length ts < n → parse n ts ≡ good w []
 complete_alone n ts w is short =
     let all : ts ≡ written w ++ [] = is.1 ∙ sym (append-nil (written w)) in

@@ -24,13 +24,13 @@ pub record Fails (p : ℕ → List Token → Parse) (C : List Token → Type 0) 
   pub whole : C (pre ++ more)
   pub local : (m : ℕ) (cont : List Token) → length pre < m → first_token cont ≡ first_token rest → p m (pre ++ cont) ≡ stops cont
 
--- these tokens are an expression with a mark behind it
+-- these tokens are an expression with a mark after it
 pub record EndedBy (m : Mark) (ts : List Token) : Type 0 where
   pub tree : Written
   pub proper : IsProper tree
   pub is : ts ≡ written tree ++ mark_view m ∷ []
 
--- these tokens are two expressions, with a comma behind the first and a `)` behind the second
+-- these tokens are two expressions, with a comma after the first and a `)` after the second
 pub record Two (ts : List Token) : Type 0 where
   pub first : Written
   pub second : Written
@@ -45,7 +45,7 @@ middle : (xs ys zs : List Token) (t : Token) → (xs ++ t ∷ ys) ++ zs ≡ xs +
 middle xs ys zs t = append_assoc xs (t ∷ ys) zs
 
 module _ (n : ℕ) (below : Stopping n) (m : Mark) (square : is_mark OpenSquare (mark_view m) ≡ false) where
-  -- no mark behind an expression
+  -- no mark after an expression
   no_mark : (ts rest : List Token) (w : Written) (more : List Token) → parse n ts ≡ good w more → begins m more ≡ false → more ≡ rest → Fails (λ k xs. ended (parse k) m xs) (EndedBy m) ts rest
   no_mark ts rest w more e lacks same =
       let f : IsFront ts w more = parse_sound n ts w more e in
@@ -188,7 +188,7 @@ module _ (n : ℕ) (below : Stopping n) where
       (λ c xs proper d. (select c d.first d.second, ((proper, d.proper), ap (λ us. name (codes "select") ∷ open_round ∷ (written c ++ comma ∷ us)) d.is)))
       ts rest h short
 
--- Behind `sum(`.
+-- After `sum(`.
 is_named : Option Token → Bool
 is_named None = false
 is_named (Some (name p)) = true

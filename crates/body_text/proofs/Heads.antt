@@ -1,4 +1,4 @@
--- The token at a number, and the tokens behind it.
+-- The token at a number, and the tokens after it.
 use Rattle.std.proofs.Common.{◌≡◌, ℕ, zero, suc, ◌<◌, Some, List, [], ◌∷◌, length, drop, get_or, refl, arith, map}
 use Rattle.body_text.specs.Tokens.{Token}
 use Rattle.body_text.specs.Parse.{first_token}

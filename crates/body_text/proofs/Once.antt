@@ -8,6 +8,8 @@ use Rattle.body_text.specs.Ports.{unknown, resolved}
 use Rattle.body_text.specs.Reads.{place_of, AreFew, IsBody, IsBad, IsUnknown, Reads}
 use Rattle.body_text.proofs.Complete.{one_expression}
 use Rattle.body_text.proofs.Judged.{one_place, fails_is_none}
+use Rattle.syn_base.specs.Limits.{bound_of}
+use Rattle.syn_base.specs.declared.limits.LimitKind.TheVariants.{Tokens}
 
 module _ (ports : List Bytes) (text : Bytes) where
   pub one_body : (d e : Expr) → IsBody ports text d → IsBody ports text e → d ≡ e
@@ -23,7 +25,7 @@ module _ (ports : List Bytes) (text : Bytes) where
       let token : a.token ≡ b.token = cc in
       sym a.there ∙ ap (place_of text) token ∙ b.there
 
-  too_many : 512 < length (tokens text) → AreFew text → ⊥
+  too_many : bound_of Tokens < length (tokens text) → AreFew text → ⊥
   too_many many few = omega (arith, many, few)
 
   -- an expression leaves no fault but want of memory

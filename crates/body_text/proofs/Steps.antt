@@ -35,7 +35,7 @@ good_of names ps from more (stops rest) r h = absurd h
 pub good_at : (names : List Bytes) (ps : List declared.Placed) (from more : ℕ) (p : Parse) (r : Read) → Good names ps from more p r → Answers names ps from more p (Ok r)
 good_at names ps from more p r g = subst (λ (q : Parse). Answers names ps from more q (Ok r)) (sym g.is) g.read
 
--- Where a mark begins what is behind, there is a token.
+-- Where a mark begins what is after, there is a token.
 begins_some : (m : Mark) (ts : List Token) → begins m ts ≡ true → 0 < length ts
 begins_some m [] h = cc
 begins_some m (t ∷ ts) h = omega arith
@@ -49,7 +49,7 @@ begins_within m i ps h = omega (arith, begins_some m (behind_of i ps) h, length_
 pub one_behind : (i : ℕ) (ps : List declared.Placed) → drop 1 (behind_of i ps) ≡ behind_of (i + 1) ps
 one_behind i ps = drop-drop 1 i (tokens_of ps)
 
--- a mark behind an expression
+-- a mark after an expression
 pub ended_step : (names : List Bytes) (ps : List declared.Placed) (start : ℕ) (p : Parse) (m : Mark) (r s : Read)
     → Answers names ps start 0 p (Ok r) → begins m (behind_of r.next ps) ≡ true
     → s.value ≡ r.value → s.next ≡ r.next + 1 → s.unknown ≡ r.unknown
@@ -183,7 +183,7 @@ select_step names ps start read ts c a b r hc ha hb value next unknown =
       option_or_three None p q = refl
       option_or_three (Some n) p q = refl
 
--- What a name begins is what stands behind it.
+-- What a name begins is what stands after it.
 pub named_element : (read : List Token → Parse) (p : Bytes) (i : ℕ) (ps : List declared.Placed) → begins OpenSquare (behind_of (i + 1) ps) ≡ true
     → named read p (behind_of (i + 1) ps) ≡ element_of read p (behind_of (i + 2) ps)
 named_element read p i ps h =
@@ -202,7 +202,7 @@ named_word read p w i ps square word round =
     ∙ ap (λ (b : Bool). cond b (arguments_of read w (drop 1 xs)) (index_of p xs)) round
     ∙ ap (arguments_of read w) (one_behind (i + 1) ps ∙ go)
 
--- The first token is what stands in front of those behind it.
+-- The first token is what stands in front of those after it.
 first_is : (xs : List Token) (t : Token) → Some t ≡ first_token xs → xs ≡ t ∷ drop 1 xs
 first_is [] t h = cc
 first_is (x ∷ xs) t h = let e : t ≡ x = cc in rw e refl
@@ -283,7 +283,7 @@ alone_err names ps (good w (t ∷ ts)) (At i) h = absurd h
 alone_err names ps (good w (t ∷ ts)) OutOfMemory h = tt
 alone_err names ps (stops rest) s h = h
 
--- A token behind the expression is one too many.
+-- A token after the expression is one too many.
 pub alone_more : (names : List Bytes) (ps : List declared.Placed) (p : Parse) (r : Read) → Answers names ps 0 0 p (Ok r) → r.next < length ps → Answers names ps 0 0 (alone p) (Err (At r.next))
 alone_more names ps (good w []) r h less = absurd (omega (arith, less, ap length h.left, length_behind r.next ps))
 alone_more names ps (good w (t ∷ ts)) r h less = record { within = h.within; left = h.left }

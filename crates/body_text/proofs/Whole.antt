@@ -20,6 +20,8 @@ use Rattle.body_text.specs.Answers.{tokens_of, behind_of, IsStop, Answers, Known
 use Rattle.body_text.specs.Reads.{AreFew, place_or, IsBad, Reads}
 use Rattle.body_text.proofs.Steps.{Good, good_of}
 use Rattle.body_text.proofs.Judged.{is_written, fails_at}
+use Rattle.syn_base.specs.Limits.{bound_of}
+use Rattle.syn_base.specs.declared.limits.LimitKind.TheVariants.{Tokens}
 
 tokens_seen : (ps : List declared.Placed) → tokens_of ps ≡ map (λ p. p.token) (map placed_view ps)
 tokens_seen [] = refl
@@ -28,7 +30,7 @@ tokens_seen (p ∷ ps) = ap (λ ts. (placed_view p).token ∷ ts) (tokens_seen p
 pub tokens_are : (ps : List declared.Placed) (text : Bytes) → map placed_view ps ≡ placed text → tokens_of ps ≡ tokens text
 tokens_are ps text e = tokens_seen ps ∙ ap (λ (qs : List Placed). map (λ p. p.token) qs) e
 
-pub few : (text : Bytes) (n : ℕ) → n ≡ length (placed text) → n ≤ 512 → AreFew text
+pub few : (text : Bytes) (n : ℕ) → n ≡ length (placed text) → n ≤ bound_of Tokens → AreFew text
 few text n e h = omega (arith, length-map (placed text) (λ p. p.token), h)
 
 record Stopped (ps : List declared.Placed) (i : ℕ) (p : Parse) : Type 0 where

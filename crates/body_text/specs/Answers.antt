@@ -27,7 +27,7 @@ behind_of i ps = drop i (tokens_of ps)
 abbrev pub names_of : List Port → List Bytes
 names_of ports = map (λ p. p.name) ports
 
--- The expression that begins with token `from` was read, and so many tokens more.
+-- The expression that begins with token `from` was read, and this many tokens more.
 pub record IsRead (names : List Bytes) (ps : List declared.Placed) (from more : ℕ) (w : Written) (rest : List Token) (r : Read) : Type 0 where
   pub value : view r.value ≡ resolved names w
   pub unknown : r.unknown ≡ first_unknown names (namings from w)

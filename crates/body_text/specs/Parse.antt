@@ -11,12 +11,12 @@ use Rattle.body_text.specs.Grammar.{Written, literal, index, element, sum_over, 
 use Rattle.body_text.specs.Words.{form_of}
 
 pub data Parse : Type 0 where
-  -- an expression, and the tokens behind it
+  -- an expression, and the tokens after it
   good : Written → List Token → Parse
   -- the tokens from the first one on that cannot stand there
   stops : List Token → Parse
 
--- goes on behind what was read
+-- goes on after what was read
 abbrev pub andthen : Parse → (Written → List Token → Parse) → Parse
 andthen (good w rest) go = go w rest
 andthen (stops rest) go = stops rest
@@ -49,33 +49,33 @@ behind m ts go = cond (begins m ts) (go (drop 1 ts)) (stops ts)
 abbrev pub index_of : Bytes → List Token → Parse
 index_of p ts = cond (bytes_eq p (codes "j")) (good index ts) (stops ts)
 
--- behind `sum(`
+-- after `sum(`
 abbrev pub sum_of : List Token → Parse
 sum_of (name p ∷ ts) = behind CloseRound ts (λ rest. good (sum_over p) rest)
 sum_of ts = stops ts
 
 module _ (read : List Token → Parse) where
-  -- an expression with a mark behind it
+  -- an expression with a mark after it
   abbrev pub ended : Mark → List Token → Parse
   ended m ts = andthen (read ts) (λ w rest. behind m rest (λ more. good w more))
 
-  -- behind the port and `[`
+  -- after the port and `[`
   abbrev pub element_of : Bytes → List Token → Parse
   element_of p ts = andthen (ended CloseSquare ts) (λ e rest. good (element p e) rest)
 
-  -- behind `neg(`
+  -- after `neg(`
   abbrev pub negation_of : List Token → Parse
   negation_of ts = andthen (ended CloseRound ts) (λ a rest. good (negation a) rest)
 
-  -- behind an operator's word and `(`
+  -- after an operator's word and `(`
   abbrev pub apply_of : Op → List Token → Parse
   apply_of op ts = andthen (ended Comma ts) (λ a rest. andthen (ended CloseRound rest) (λ b last. good (apply op a b) last))
 
-  -- behind `select(`
+  -- after `select(`
   abbrev pub select_of : List Token → Parse
   select_of ts = andthen (ended Comma ts) (λ c rest. andthen (ended Comma rest) (λ a more. andthen (ended CloseRound more) (λ b last. good (select c a b) last)))
 
-  -- behind a word and `(`
+  -- after a word and `(`
   abbrev pub arguments_of : Word → List Token → Parse
   arguments_of Select ts = select_of ts
   arguments_of Sum ts = sum_of ts
@@ -86,7 +86,7 @@ module _ (read : List Token → Parse) where
   opened None p ts = index_of p ts
   opened (Some w) p ts = cond (begins OpenRound ts) (arguments_of w (drop 1 ts)) (index_of p ts)
 
-  -- behind a name
+  -- after a name
   abbrev pub named : Bytes → List Token → Parse
   named p ts = cond (begins OpenSquare ts) (element_of p (drop 1 ts)) (opened (form_of p) p ts)
 

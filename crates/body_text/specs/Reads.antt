@@ -14,7 +14,7 @@ abbrev pub place_or : ℕ → Option Placed → ℕ
 place_or end None = end
 place_or end (Some p) = p.place
 
--- the place of token i, or the text's length behind the last token
+-- the place of token i, or the text's length after the last token
 abbrev pub place_of : Bytes → ℕ → ℕ
 place_of text i = place_or (length text) (slice_get (placed text) i)
 
@@ -49,7 +49,7 @@ pub record IsUnknown (ports : List Bytes) (text : Bytes) (place : ℕ) : Type 0 
 -- Too many tokens, then the grammar, then the ports.
 abbrev pub Reads : List Bytes → Bytes → Result declared.Expr BodyFault → Type 0
 Reads ports text (Ok e) = IsBody ports text (view e)
-Reads ports text (Err (Limit f)) = (512 < length (tokens text)) × (f ≡ record { which = Tokens; count = length (tokens text); bound = bound_of Tokens })
+Reads ports text (Err (Limit f)) = (bound_of Tokens < length (tokens text)) × (f ≡ record { which = Tokens; count = length (tokens text); bound = bound_of Tokens })
 Reads ports text (Err (BadExpression place)) = IsBad text place
 Reads ports text (Err (UnknownPort place)) = IsUnknown ports text place
 Reads ports text (Err OutOfMemory) = Unit {0}

@@ -53,7 +53,7 @@ mark_or_word None word = word_token word
 abbrev pub token_of : ℕ → Bytes → Token
 token_of b bs = mark_or_word (mark_of b) (take (len_by b bs) (b ∷ bs))
 
--- The tokens of bytes that begin at this place of a text, where so many of the bytes belong to a token before. Blanks may stand between tokens.
+-- The tokens of bytes that begin at this place of a text, where this many of the bytes belong to a token before. Blanks may stand between tokens.
 abbrev pub tokens_from : ℕ → ℕ → Bytes → List Placed
 tokens_from place inside [] = []
 tokens_from place (suc inside) (b ∷ bs) = tokens_from (suc place) inside bs

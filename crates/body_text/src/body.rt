@@ -11,9 +11,6 @@ use body_lang::{Expr, Port};
 use std::alloc::Global;
 use syn_base::{LimitFault, LimitKind};
 
-/// The most tokens of an expression.
-const MOST_TOKENS: usize = 512;
-
 /// The expression of a text over these input ports, of which there are at most 4,000,000,000.
 ///
 /// The refusals come in this order, whatever the text has further on: Limit where it has more than
@@ -26,11 +23,12 @@ pub fn read_body(alloc: Global, text: &[u8], ports: &[Port]) -> Result<Expr, Bod
     ensures { Reads (map (λ p. p.name) ports.now) text.now result }
 {
     let count = count(text);
-    if count > MOST_TOKENS {
+    let bound = LimitKind::Tokens.bound();
+    if count as u128 > bound {
         return Err(BodyFault::Limit(LimitFault {
             which: LimitKind::Tokens,
             count: count as u128,
-            bound: LimitKind::Tokens.bound(),
+            bound,
         }));
     }
     let Ok(tokens) = tokens(alloc, text) else {
@@ -59,7 +57,7 @@ fn known(read: Read, tokens: &[Placed<'_>], end: usize) -> Result<Expr, BodyFaul
     }
 }
 
-/// The place of a token, or the end of the text behind the last one.
+/// The place of a token, or the end of the text after the last one.
 fn place(tokens: &[Placed<'_>], token: usize, end: usize) -> usize
     ensures { result ≡ place_or end (slice_get (map placed_view tokens.now) token) }
 {

@@ -29,7 +29,7 @@ pub fn print_body(e: &Expr, ports: &[Port], out: &mut Vec<u8>) -> Result<(), Out
 }
 
 /// Appends the canonical text of an expression whose port numbers are below the number of ports. After
-/// want of memory a part of it may stand behind what was there.
+/// want of memory a part of it may stand after what was there.
 fn print_expression(e: &Expr, ports: &[Port], out: &mut Vec<u8>) -> Result<(), OutOfMemory>
     requires { PortsBelow (length ports.now) (view e.now) }
     ensures text { OnOk result (out.new.items ≡ out.old.items ++ canonical (map (λ p. p.name) ports.now) (view e.now)) }

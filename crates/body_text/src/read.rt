@@ -18,7 +18,7 @@ use syn_base::Op;
 #[derive(Drop)]
 pub struct Read {
     pub value: Expr,
-    /// The number of the token behind it.
+    /// The number of the token after it.
     pub next: usize,
     /// The number of the first token that names a port that is none.
     pub unknown: Option<usize>,
@@ -113,7 +113,7 @@ impl<'a> Reader<'a> {
         })
     }
 
-    /// What a word begins, behind its `(`.
+    /// What a word begins, after its `(`.
     #[cycle(read)]
     fn form(&self, word: Word, start: usize, depth: usize) -> Result<Read, Stop>
         requires ports { length self.now.ports.now ≤ 4000000000 }
@@ -177,7 +177,7 @@ impl<'a> Reader<'a> {
         })
     }
 
-    /// An expression with a mark behind it; the next token is the one behind the mark.
+    /// An expression with a mark after it; the next token is the one after the mark.
     #[cycle(read)]
     fn ended(&self, start: usize, mark: Mark, depth: usize) -> Result<Read, Stop>
         requires ports { length self.now.ports.now ≤ 4000000000 }
@@ -192,7 +192,7 @@ impl<'a> Reader<'a> {
         Ok(read)
     }
 
-    /// The sum of a port, behind `sum(`.
+    /// The sum of a port, after `sum(`.
     fn sum(&self, start: usize) -> Result<Read, Stop>
         requires ports { length self.now.ports.now ≤ 4000000000 }
         requires start { start + 2 ≤ length self.now.tokens.now }

@@ -1,3 +1,4 @@
+pub mod Placing
 pub mod Capped
 pub mod Unrolling
 pub mod Sizes

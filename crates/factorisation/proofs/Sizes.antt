@@ -9,6 +9,8 @@ use Rattle.level_meaning.specs.Level.{numbers_below}
 use Rattle.algo_tree.specs.Tree.{Label, Kind, sensor, actuator, constant, delay, function, explode, implode, merge, graph, switch, repeat, Vertex, vertex, Vertices, no_vertices, and_vertex}
 use Rattle.algo_tree.specs.View.{vertices_of}
 use Rattle.algo_tree.specs.Well.{fork_names, join_names, IsOne, IsWell, AllWell}
+use Rattle.factorisation_laws.specs.Lines.{in_line_order}
+use Rattle.factorisation_laws.proofs.Lines.{many-lines}
 use Rattle.factorisation_laws.specs.Unrolled.{explodes, copy, implodes, begin, unrolled_inside, unrolled_at, unroll, unroll_all}
 use Rattle.factorisation_laws.proofs.Unroll.{IsRepeatable, can_unroll, repeatable-unrolled}
 use Rattle.factorisation.specs.Size.{size, size_all, made_by, vertices_made, vertices_made_in}
@@ -43,17 +45,18 @@ sized-repeat l n feeds gives (and_vertex u (and_vertex v us)) one = absurd one
 sized-repeat l n feeds gives (and_vertex (vertex lb vs) no_vertices) one =
     let d = l.definition in
     let c = begin feeds in
-    let before = sized-explodes d n feeds in
+    let S = in_line_order feeds in
+    let before : size_all (vertices_of (explodes d n S)) ≡ length (fork_names feeds) = sized-explodes d n S ∙ many-lines feeds in
     let each = sized-copies c feeds lb vs n in
     let after = sized-implodes d c n l.outs 0 gives in
     let alone : size (vertex lb vs) ≡ size (vertex lb vs) + 0 = omega arith in
-    sized-append (explodes d n feeds) _
-    ∙ ap (λ m. size_all (vertices_of (explodes d n feeds)) + m) (sized-append (map (copy c feeds lb vs) (numbers_below n)) (implodes d c n l.outs 0 gives))
-    ∙ subst (λ m. size_all (vertices_of (explodes d n feeds)) + (size_all (vertices_of (map (copy c feeds lb vs) (numbers_below n))) + size_all (vertices_of (implodes d c n l.outs 0 gives))) ≡ length (fork_names feeds) + n * m + length (join_names gives)) alone
+    sized-append (explodes d n S) _
+    ∙ ap (λ m. size_all (vertices_of (explodes d n S)) + m) (sized-append (map (copy c feeds lb vs) (numbers_below n)) (implodes d c n l.outs 0 gives))
+    ∙ subst (λ m. size_all (vertices_of (explodes d n S)) + (size_all (vertices_of (map (copy c feeds lb vs) (numbers_below n))) + size_all (vertices_of (implodes d c n l.outs 0 gives))) ≡ length (fork_names feeds) + n * m + length (join_names gives)) alone
     (omega (arith, before, each, after))
 
 sized-at : (l : Label) (k : Kind) (us : Vertices) → IsRepeatable k us → size (unrolled_at l k us) ≡ made_by k (size_all us)
-sized-at l (repeat n feeds gives) us h = ap suc (sized-repeat l n feeds gives us h.1)
+sized-at l (repeat n feeds gives) us h = ap suc (sized-repeat l n feeds gives us h.0.1)
 sized-at l (sensor m) us h = refl
 sized-at l (actuator m) us h = refl
 sized-at l (constant v) us h = refl

@@ -17,6 +17,7 @@ use Rattle.algo_tree.specs.declared.vertex.Vertex.{Vertex as Declared, out-Verte
 use Rattle.algo_tree.specs.declared.vertex.Kind as declared
 use Rattle.algo_tree.specs.declared.vertex.Kind.TheVariants.{Repeat}
 use Rattle.algo_tree.proofs.Views.{view_out}
+use Rattle.factorisation_laws.specs.Lines.{in_line_order}
 use Rattle.factorisation_laws.specs.Unrolled.{explodes, copy, copies, implodes, give_sources, unrolled_inside, with_kind, unrolled_at, unroll, unroll_all}
 use Rattle.factorisation.specs.Size.{made_by, vertices_made, vertices_made_in}
 
@@ -123,13 +124,13 @@ repeat_unrolled u n b feeds gives vs w is from inside made =
     ∙ ap (λ k. unrolled_at l (kind_view k) us) (sym is) ∙ sym (unroll_out u)
 
 pub inside_made : (u : Declared) (n b : ℕ) (feeds : List Feed) (gives : List Give) (d outs : List ℕ) (e x y : List Vertex) → b ≡ length (fork_names feeds) → d ≡ (out-Vertex u).definition → outs ≡ (out-Vertex u).outs
-    → e ≡ explodes d n feeds → x ≡ e ++ copies b feeds n (unroll_all (vertices_view (inner_of u))) → y ≡ x ++ implodes d b n outs 0 gives → y ≡ inside_now u n feeds gives
+    → e ≡ explodes d n (in_line_order feeds) → x ≡ e ++ copies b feeds n (unroll_all (vertices_view (inner_of u))) → y ≡ x ++ implodes d b n outs 0 gives → y ≡ inside_now u n feeds gives
 inside_made u n b feeds gives d outs e x y from d_is outs_is first then last =
     let l = label_view (out-Vertex u) in
     let us = unroll_all (vertices_view (inner_of u)) in
     last ∙ ap (λ zs. zs ++ implodes d b n outs 0 gives) (then ∙ ap (λ zs. zs ++ copies b feeds n us) first)
-    ∙ append_assoc (explodes d n feeds) (copies b feeds n us) (implodes d b n outs 0 gives)
-    ∙ ap (λ c. explodes d n feeds ++ (copies c feeds n us ++ implodes d c n outs 0 gives)) from
+    ∙ append_assoc (explodes d n (in_line_order feeds)) (copies b feeds n us) (implodes d b n outs 0 gives)
+    ∙ ap (λ c. explodes d n (in_line_order feeds) ++ (copies c feeds n us ++ implodes d c n outs 0 gives)) from
     ∙ ap₂ (λ d' o'. unrolled_inside d' n feeds gives o' us) d_is outs_is
     ∙ ap (λ v. unrolled_inside (label_of v).definition n feeds gives (label_of v).outs (unroll_all (vertices_in v))) (sym (view_out u))
 

@@ -5,6 +5,7 @@ ghost use Rattle.algo_tree.specs.View.{kind_view, view};
 ghost use Rattle.algo_tree.specs.Well.{fork_names, join_names};
 ghost use Rattle.factorisation_laws.specs.Unrolled.{made as vertex_made, explode_of, implode_of, explodes as exploded, implodes as imploded, copy_sources, give_sources as sources_given};
 
+use crate::lines::place_of;
 use algo_tree::{Kind, Vertex};
 use level_meaning::{Feed, Give, Part, Source};
 use std::alloc::Global;
@@ -65,18 +66,18 @@ fn explode(
     made(alloc, definition, name, ins, outs, Kind::Explode)
 }
 
-/// An explode for each fork line, in order.
+/// An explode for each fork line among these lines.
 pub fn explodes(
     alloc: Global,
     definition: &[u8],
     count: u32,
-    feeds: &[Feed],
+    lines: &[&Feed],
 ) -> Result<Vec<Vertex>, OutOfMemory>
-    ensures { IfOk result (λ us. map view us.items ≡ exploded definition.now count feeds.now) }
+    ensures { IfOk result (λ us. map view us.items ≡ exploded definition.now count (map (λ f. f.now) lines.now)) }
 {
     let mut all = Vec::new(alloc);
-    for feed in feeds {
-        if let Feed::Fork(name, input, len) = feed {
+    for line in lines {
+        if let Feed::Fork(name, input, len) = line {
             all.push(explode(alloc, definition, count, name.as_slice(), *input, *len)?)?;
         }
     }
@@ -110,25 +111,22 @@ fn iterated(copies: Copies, i: u32, input: u32, output: u32) -> Source
     }
 }
 
-/// The sources of the inputs of copy `i`.
+/// The sources of the inputs of copy `i`, where the explodes stand in the order of `lines`.
 pub fn copy_ins(
     alloc: Global,
     copies: Copies,
     i: u32,
     feeds: &[Feed],
+    lines: &[&Feed],
 ) -> Result<Vec<Source>, OutOfMemory>
-    requires few { length (fork_names feeds.now) ≤ 20000 }
+    requires few { length (fork_names (map (λ f. f.now) lines.now)) ≤ 20000 }
     requires small { copies.begin + i ≤ 40000 }
-    ensures { IfOk result (λ ins. ins.items ≡ copy_sources copies.begin i 0 feeds.now) }
+    ensures { IfOk result (λ ins. ins.items ≡ copy_sources copies.begin i (map (λ f. f.now) lines.now) feeds.now) }
 {
     let mut all = Vec::new(alloc);
-    let mut forks = 0;
     for feed in feeds {
         match feed {
-            Feed::Fork(..) => {
-                all.push(Source::Of(forks, i))?;
-                forks += 1;
-            }
+            Feed::Fork(name, ..) => all.push(Source::Of(place_of(name.as_slice(), lines), i))?,
             Feed::Diffuse(input) => all.push(Source::Own(*input))?,
             Feed::Iterate(input, output) => all.push(iterated(copies, i, *input, *output))?,
         }

@@ -2,6 +2,7 @@
 #![tactic(auto)]
 
 mod frontier;
+mod lines;
 mod pass;
 mod size;
 mod vertices;

@@ -10,10 +10,12 @@ ghost use Rattle.algo_tree.specs.Well.{fork_names, join_names, IsOne, IsWell, Al
 ghost use Rattle.path_text.specs.Named.{HasNames};
 ghost use Rattle.pass_laws.specs.SameMeaning.{KeepsMeaning};
 ghost use Rattle.factorisation_laws.specs.NoRepeat.{HasNoRepeat};
+ghost use Rattle.factorisation_laws.specs.Lines.{in_line_order as ordered};
 ghost use Rattle.factorisation_laws.specs.Unrolled.{copies as copied, unroll as unrolled, unroll_all, unrolled_inside};
 ghost use Rattle.factorisation.specs.Size.{size, vertices_made, vertices_made_in};
 
 use crate::frontier::{Copies, add_implodes, begin_of, explodes};
+use crate::lines::in_line_order;
 use crate::size::count_made;
 use crate::vertices::{as_copy, as_graph, with_inside};
 use algo_tree::{Kind, Tree, Vertex};
@@ -115,8 +117,9 @@ fn unroll_inside(
     ensures { IfOk result (λ us. map view us.items ≡ unrolled_inside (label_of (view vertex.now)).definition copies.count feeds.now gives.now (label_of (view vertex.now)).outs (unroll_all (vertices_in (view vertex.now)))) }
 {
     let definition = vertex.definition.as_slice();
-    let mut all = explodes(alloc, definition, copies.count, feeds)?;
-    add_copies(alloc, &vertex.inner, copies, feeds, &mut all)?;
+    let lines = in_line_order(alloc, feeds)?;
+    let mut all = explodes(alloc, definition, copies.count, &lines)?;
+    add_copies(alloc, &vertex.inner, copies, feeds, &lines, &mut all)?;
     add_implodes(
         alloc,
         definition,
@@ -135,8 +138,10 @@ fn add_copies(
     inner: &Vec<Vertex>,
     copies: Copies,
     feeds: &[Feed],
+    lines: &[&Feed],
     all: &mut Vec<Vertex>,
 ) -> Result<(), OutOfMemory>
+    requires lines { map (λ f. f.now) lines.now ≡ ordered feeds.now }
     requires one { IsOne (vertices_view inner.now.items) }
     requires well { AllWell (vertices_view inner.now.items) }
     requires few { length (fork_names feeds.now) ≤ 20000 }
@@ -144,7 +149,7 @@ fn add_copies(
     requires small { copies.begin + copies.count ≤ 40000 }
     ensures { OnOk result (map view all.new.items ≡ map view all.old.items ++ copied copies.begin feeds.now copies.count (unroll_all (vertices_view inner.now.items))) }
 {
-    add_copies_of(alloc, &inner[0], copies, feeds, all)
+    add_copies_of(alloc, &inner[0], copies, feeds, lines, all)
 }
 
 /// Adds the copies of a body, each made anew.
@@ -154,8 +159,10 @@ fn add_copies_of(
     body: &Vertex,
     copies: Copies,
     feeds: &[Feed],
+    lines: &[&Feed],
     all: &mut Vec<Vertex>,
 ) -> Result<(), OutOfMemory>
+    requires lines { map (λ f. f.now) lines.now ≡ ordered feeds.now }
     requires well { IsWell (view body.now) }
     requires few { length (fork_names feeds.now) ≤ 20000 }
     requires bodies { vertices_made (view body.now) ≤ 20000 }
@@ -164,7 +171,7 @@ fn add_copies_of(
 {
     for i in 0..copies.count {
         let vertex = unroll_vertex(alloc, body)?;
-        all.push(as_copy(alloc, vertex, copies, i, feeds)?)?;
+        all.push(as_copy(alloc, vertex, copies, i, feeds, lines)?)?;
     }
     Ok(())
 }

@@ -1,11 +1,12 @@
 //! Vertices that are made again, with another inside.
-ghost use Rattle.std.specs.Prelude.{◌≡◌, ◌<◌, ◌≤◌, ◌+◌, IfOk, length};
+ghost use Rattle.std.specs.Prelude.{◌≡◌, ◌<◌, ◌≤◌, ◌+◌, IfOk, length, map};
 ghost use Rattle.algo_tree.specs.declared.vertex.Vertex.{out-Vertex};
 ghost use Rattle.algo_tree.specs.Tree.{graph, vertex as plain_vertex};
 ghost use Rattle.algo_tree.specs.Meaning.{vertices_in};
 ghost use Rattle.algo_tree.specs.Typed.{label_of};
 ghost use Rattle.algo_tree.specs.View.{kind_view, label_view, view, vertices_view};
 ghost use Rattle.algo_tree.specs.Well.{fork_names, join_names};
+ghost use Rattle.factorisation_laws.specs.Lines.{in_line_order};
 ghost use Rattle.factorisation_laws.specs.Unrolled.{copy, give_sources as sources_given, with_kind};
 
 use crate::frontier::{Copies, copy_ins, give_sources};
@@ -76,12 +77,14 @@ pub fn as_copy(
     copies: Copies,
     i: u32,
     feeds: &[Feed],
+    lines: &[&Feed],
 ) -> Result<Vertex, OutOfMemory>
+    requires lines { map (λ f. f.now) lines.now ≡ in_line_order feeds.now }
     requires few { length (fork_names feeds.now) ≤ 20000 }
     requires small { copies.begin + i ≤ 40000 }
     ensures { IfOk result (λ u. view u ≡ copy copies.begin feeds.now (label_of (view body)) (vertices_in (view body)) i) }
 {
-    let ins = copy_ins(alloc, copies, i, feeds)?;
+    let ins = copy_ins(alloc, copies, i, feeds, lines)?;
     let Vertex {
         definition,
         outs,

@@ -10,6 +10,8 @@ use Rattle.algo_tree.specs.Tree.{Label, Kind, sensor, actuator, constant, delay,
 use Rattle.algo_tree.specs.View.{vertices_of}
 use Rattle.algo_tree.specs.Well.{fork_names, join_names, IsOne, IsWell, AllWell}
 use Rattle.algo_tree.specs.Counted.{operations_by, operations, operations_in}
+use Rattle.factorisation_laws.specs.Lines.{in_line_order}
+use Rattle.factorisation_laws.proofs.Lines.{many-lines}
 use Rattle.factorisation_laws.specs.Unrolled.{explodes, copy, implodes, begin, unrolled_inside, unrolled_at, unroll, unroll_all}
 use Rattle.factorisation_laws.proofs.Unroll.{IsRepeatable, can_unroll, repeatable-unrolled}
 
@@ -43,17 +45,18 @@ counted-repeat l n feeds gives (and_vertex u (and_vertex v us)) one = absurd one
 counted-repeat l n feeds gives (and_vertex (vertex lb vs) no_vertices) one =
     let d = l.definition in
     let c = begin feeds in
-    let before = counted-explodes d n feeds in
+    let S = in_line_order feeds in
+    let before : operations_in (vertices_of (explodes d n S)) ≡ length (fork_names feeds) = counted-explodes d n S ∙ many-lines feeds in
     let each = counted-copies c feeds lb vs n in
     let after = counted-implodes d c n l.outs 0 gives in
     let alone : operations (vertex lb vs) ≡ operations (vertex lb vs) + 0 = omega arith in
-    counted-append (explodes d n feeds) _
-    ∙ ap (λ m. operations_in (vertices_of (explodes d n feeds)) + m) (counted-append (map (copy c feeds lb vs) (numbers_below n)) (implodes d c n l.outs 0 gives))
-    ∙ subst (λ m. operations_in (vertices_of (explodes d n feeds)) + (operations_in (vertices_of (map (copy c feeds lb vs) (numbers_below n))) + operations_in (vertices_of (implodes d c n l.outs 0 gives))) ≡ length (fork_names feeds) + n * m + length (join_names gives)) alone
+    counted-append (explodes d n S) _
+    ∙ ap (λ m. operations_in (vertices_of (explodes d n S)) + m) (counted-append (map (copy c feeds lb vs) (numbers_below n)) (implodes d c n l.outs 0 gives))
+    ∙ subst (λ m. operations_in (vertices_of (explodes d n S)) + (operations_in (vertices_of (map (copy c feeds lb vs) (numbers_below n))) + operations_in (vertices_of (implodes d c n l.outs 0 gives))) ≡ length (fork_names feeds) + n * m + length (join_names gives)) alone
     (omega (arith, before, each, after))
 
 counted-at : (l : Label) (k : Kind) (us : Vertices) → IsRepeatable k us → operations (unrolled_at l k us) ≡ operations_by k (operations_in us)
-counted-at l (repeat n feeds gives) us h = counted-repeat l n feeds gives us h.1
+counted-at l (repeat n feeds gives) us h = counted-repeat l n feeds gives us h.0.1
 counted-at l (sensor m) us h = refl
 counted-at l (actuator m) us h = refl
 counted-at l (constant v) us h = refl

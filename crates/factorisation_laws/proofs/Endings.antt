@@ -8,6 +8,7 @@ use Rattle.level_meaning.specs.Level.{numbers_below}
 use Rattle.algo_tree.specs.Tree.{Label, Kind, sensor, actuator, constant, delay, function, explode, implode, merge, graph, switch, repeat, Vertex, vertex, Vertices, no_vertices, and_vertex}
 use Rattle.algo_tree.specs.View.{vertices_of}
 use Rattle.algo_tree.specs.Ends.{IsNoEnd, HasNoEnds, AllNoEnds, NoneInside, sensor_number, actuator_number, sensor_numbers, actuator_numbers, AreEndsNumbered}
+use Rattle.factorisation_laws.specs.Lines.{in_line_order}
 use Rattle.factorisation_laws.specs.Unrolled.{explodes, copy, copies, implodes, begin, unrolled_inside, unrolled_at, unroll, unroll_all}
 
 none-append : (xs ys : List Vertex) → AllNoEnds (vertices_of xs) → AllNoEnds (vertices_of ys) → AllNoEnds (vertices_of (xs ++ ys))
@@ -37,7 +38,7 @@ none-repeat : (l : Label) (n : ℕ) (feeds : List Feed) (gives : List Give) (us 
 none-repeat l n feeds gives us h =
     let d = l.definition in
     let c = begin feeds in
-    none-append (explodes d n feeds) _ (none-explodes d n feeds) (none-append (copies c feeds n us) _ (none-copies c feeds n us h) (none-implodes d c n l.outs 0 gives))
+    none-append (explodes d n (in_line_order feeds)) _ (none-explodes d n (in_line_order feeds)) (none-append (copies c feeds n us) _ (none-copies c feeds n us h) (none-implodes d c n l.outs 0 gives))
 
 none-at : (l : Label) (k : Kind) (us : Vertices) → IsNoEnd k → AllNoEnds us → HasNoEnds (unrolled_at l k us)
 none-at l (repeat n feeds gives) us h all = (tt, none-repeat l n feeds gives us all)

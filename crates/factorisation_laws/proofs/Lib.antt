@@ -1,3 +1,4 @@
+pub mod Lines
 pub mod Unrolled
 pub mod Unroll
 pub mod Unrepeated
@@ -9,3 +10,4 @@ pub mod Endings
 pub mod Typing
 pub mod Trees
 pub mod Worked
+pub mod WorkedLines

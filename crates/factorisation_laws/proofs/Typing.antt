@@ -13,9 +13,11 @@ use Rattle.level_meaning.specs.declared.frontier.Give.TheVariants.{Last, Join}
 use Rattle.level_meaning.specs.Level.{numbers_below}
 use Rattle.algo_tree.specs.Tree.{Label, Kind, sensor, actuator, constant, delay, function, explode, implode, merge, graph, switch, repeat, Vertex, vertex, Vertices, no_vertices, and_vertex}
 use Rattle.algo_tree.specs.View.{vertices_of}
-use Rattle.algo_tree.specs.Well.{fork_names, IsOne, IsWell, AllWell}
-use Rattle.algo_tree.specs.Typed.{IsLength, AreLengths, label_of, outs_of, source_length, AllFed, fed_length, given_length, IsKindTyped, IsTyped, AllTyped, IsBodyTyped, AreGuardsTyped}
+use Rattle.algo_tree.specs.Well.{IsOne, IsWell, AllWell}
+use Rattle.algo_tree.specs.Typed.{IsLength, AreLengths, label_of, outs_of, source_length, IsFed, AllFed, fed_length, given_length, IsKindTyped, IsTyped, AllTyped, IsBodyTyped, AreGuardsTyped}
 use Rattle.factorisation_laws.specs.Unrolled.{explodes, copy_sources, copy, implodes, give_sources, begin, unrolled_inside, with_kind, unrolled_at, unroll, unroll_all}
+use Rattle.factorisation_laws.specs.Lines.{in_line_order, fork_place}
+use Rattle.factorisation_laws.proofs.Lines.{AllLines, all-lines, AreApart, apart-lines, IsLine, lines-are, many-lines, forked, long-forked, place-below, at-place}
 use Rattle.factorisation_laws.proofs.Unrolled.{append_left, append_right, map_map, map_below}
 use Rattle.factorisation_laws.proofs.Unroll.{IsRepeatable, can_unroll, repeatable-unrolled}
 use Rattle.factorisation_laws.proofs.Labels.{label-unroll, outs-unroll}
@@ -59,10 +61,7 @@ typed-append own outs (x ∷ xs) ys h k = (h.0, typed-append own outs xs ys h.1 
 
 -- the lengths of the outputs of the explodes, and of the implodes from output j on
 abbrev explode_outs : ℕ → List Feed → List (List ℕ)
-explode_outs n [] = []
-explode_outs n (Fork name k len ∷ fs) = replicate n len ∷ explode_outs n fs
-explode_outs n (Diffuse k ∷ fs) = explode_outs n fs
-explode_outs n (Iterate k y ∷ fs) = explode_outs n fs
+explode_outs n = forked (λ k len. replicate n len)
 
 abbrev implode_outs : List ℕ → ℕ → List Give → List (List ℕ)
 implode_outs outs j [] = []
@@ -73,8 +72,11 @@ module _ (d : List ℕ) (n : ℕ) (feeds : List Feed) (gives : List Give) (outs 
   abbrev c : ℕ
   c = begin feeds
 
+  abbrev S : List Feed
+  S = in_line_order feeds
+
   abbrev E : List (List ℕ)
-  E = explode_outs n feeds
+  E = explode_outs n S
 
   abbrev C : List (List ℕ)
   C = replicate n lb.outs
@@ -85,11 +87,8 @@ module _ (d : List ℕ) (n : ℕ) (feeds : List Feed) (gives : List Give) (outs 
   abbrev O : List (List ℕ)
   O = E ++ (C ++ I)
 
-  long_explodes : (fs : List Feed) → length (fork_names fs) ≡ length (explode_outs n fs)
-  long_explodes [] = refl
-  long_explodes (Fork name k len ∷ fs) = ap suc (long_explodes fs)
-  long_explodes (Diffuse k ∷ fs) = long_explodes fs
-  long_explodes (Iterate k y ∷ fs) = long_explodes fs
+  long_explodes : c ≡ length E
+  long_explodes = sym (long-forked (λ k len. replicate n len) S ∙ many-lines feeds)
 
   outs-explodes : (fs : List Feed) → outs_of (vertices_of (explodes d n fs)) ≡ explode_outs n fs
   outs-explodes [] = refl
@@ -108,21 +107,25 @@ module _ (d : List ℕ) (n : ℕ) (feeds : List Feed) (gives : List Give) (outs 
 
   pub outs-inside : outs_of (vertices_of (unrolled_inside d n feeds gives outs (and_vertex (vertex lb vs) no_vertices))) ≡ O
   outs-inside =
-      outs-append (explodes d n feeds) _
-      ∙ ap₂ (λ xs ys. xs ++ ys) (outs-explodes feeds)
+      outs-append (explodes d n S) _
+      ∙ ap₂ (λ xs ys. xs ++ ys) (outs-explodes S)
       (outs-append (map (copy c feeds lb vs) (numbers_below n)) (implodes d c n outs 0 gives) ∙ ap₂ (λ xs ys. xs ++ ys) (outs-copy (numbers_below n) ∙ same_below n lb.outs) (outs-implodes 0 gives))
 
-  at_explode : (j : ℕ) → j < length E → get_or O (0 + j) [] ≡ get_or E j []
-  at_explode j lt = ap (λ k. get_or O k []) (zero-add j) ∙ append_left E (C ++ I) j [] lt
+  at_explode : AreApart feeds → (name : List ℕ) (k len : ℕ) → IsLine (Fork name k len) S → get_or O (fork_place name S) [] ≡ replicate n len
+  at_explode apart name k len line =
+      let below = place-below name k len S line in
+      let many = many-lines feeds in
+      let long = long_explodes in
+      append_left E (C ++ I) (fork_place name S) [] (omega (arith, below, many, long)) ∙ at-place (λ j m. replicate n m) [] name k len S (apart-lines feeds apart) line
 
   at_copy : (i : ℕ) → i < n → get_or O (c + i) [] ≡ lb.outs
   at_copy i lt =
-      let e : c ≡ length E = long_explodes feeds in
+      let e : c ≡ length E = long_explodes in
       ap (λ k. get_or O (k + i) []) e ∙ append_right E (C ++ I) i [] ∙ append_left C I i [] (let k = length-replicate n lb.outs in omega (arith, k)) ∙ get_or-replicate n i lb.outs [] lt
 
   at_implode : (j : ℕ) → get_or O (c + n + j) [] ≡ get_or I j []
   at_implode j =
-      let e : c ≡ length E = long_explodes feeds in
+      let e : c ≡ length E = long_explodes in
       let k : length C ≡ n = length-replicate n lb.outs in
       ap (λ m. get_or O m []) (add_assoc c n j) ∙ ap (λ m. get_or O (m + (n + j)) []) e ∙ append_right E (C ++ I) (n + j) [] ∙ ap (λ m. get_or (C ++ I) (m + j) []) (sym k) ∙ append_right C I j []
 
@@ -138,32 +141,37 @@ module _ (d : List ℕ) (n : ℕ) (feeds : List Feed) (gives : List Give) (outs 
         rw test (ap (λ os. get_or os y 0) before ∙ sym same)
 
     -- the inputs of copy i have the lengths that the lines say
-    copy_lengths : (i m : ℕ) → i < n → (fs : List Feed) → ((j : ℕ) → j < length (explode_outs n fs) → get_or O (m + j) [] ≡ get_or (explode_outs n fs) j []) → AllFed n lens lb.outs fs
-        → map len_of (copy_sources c i m fs) ≡ map (fed_length lens) fs
-    copy_lengths i m lt [] at fed = refl
-    copy_lengths i m lt (Fork name k len ∷ fs) at fed =
-        let first : get_or O m [] ≡ replicate n len = ap (λ q. get_or O q []) (omega arith) ∙ at 0 (omega arith) in
-        ap₂ (λ x xs. x ∷ xs) (ap (λ os. get_or os i 0) first ∙ get_or-replicate n i len 0 lt)
-        (copy_lengths i (suc m) lt fs (λ j jl. ap (λ q. get_or O q []) (omega arith) ∙ at (suc j) (omega arith)) fed.1)
-    copy_lengths i m lt (Diffuse k ∷ fs) at fed = ap (λ xs. get_or lens k 0 ∷ xs) (copy_lengths i m lt fs at fed.1)
-    copy_lengths i m lt (Iterate k y ∷ fs) at fed = ap₂ (λ x xs. x ∷ xs) (iterated i k y lt fed.0) (copy_lengths i m lt fs at fed.1)
+    copy_lengths : AreApart feeds → (i : ℕ) → i < n → (fs : List Feed) → AllLines (λ f. IsLine f S) fs → AllFed n lens lb.outs fs → map len_of (copy_sources c i S fs) ≡ map (fed_length lens) fs
+    copy_lengths apart i lt [] at fed = refl
+    copy_lengths apart i lt (Fork name k len ∷ fs) at fed =
+        ap₂ (λ x xs. x ∷ xs) (ap (λ os. get_or os i 0) (at_explode apart name k len at.0) ∙ get_or-replicate n i len 0 lt) (copy_lengths apart i lt fs at.1 fed.1)
+    copy_lengths apart i lt (Diffuse k ∷ fs) at fed = ap (λ xs. get_or lens k 0 ∷ xs) (copy_lengths apart i lt fs at.1 fed.1)
+    copy_lengths apart i lt (Iterate k y ∷ fs) at fed = ap₂ (λ x xs. x ∷ xs) (iterated i k y lt fed.0) (copy_lengths apart i lt fs at.1 fed.1)
 
-    typed-copies : (k : ℕ) → k ≤ n → AllFed n lens lb.outs feeds → IsTyped (map (fed_length lens) feeds) (vertex lb vs) → AllTyped lens O (vertices_of (map (copy c feeds lb vs) (numbers_below k)))
-    typed-copies zero le fed body = tt
-    typed-copies (suc k) le fed body =
-        let here : IsTyped (map len_of (copy_sources c k 0 feeds)) (vertex lb vs) = subst (λ ns. IsTyped ns (vertex lb vs)) (sym (copy_lengths k 0 (omega arith) feeds at_explode fed)) body in
+    typed-copies : AreApart feeds → (k : ℕ) → k ≤ n → AllFed n lens lb.outs feeds → IsTyped (map (fed_length lens) feeds) (vertex lb vs) → AllTyped lens O (vertices_of (map (copy c feeds lb vs) (numbers_below k)))
+    typed-copies apart zero le fed body = tt
+    typed-copies apart (suc k) le fed body =
+        let here : IsTyped (map len_of (copy_sources c k S feeds)) (vertex lb vs) = subst (λ ns. IsTyped ns (vertex lb vs)) (sym (copy_lengths apart k (omega arith) feeds (lines-are feeds) fed)) body in
         subst (λ xs. AllTyped lens O (vertices_of xs)) (sym (map-append (copy c feeds lb vs) (numbers_below k) (k ∷ [])))
-        (typed-append lens O (map (copy c feeds lb vs) (numbers_below k)) (copy c feeds lb vs k ∷ []) (typed-copies k (omega arith) fed body) ((tt, here), tt))
+        (typed-append lens O (map (copy c feeds lb vs) (numbers_below k)) (copy c feeds lb vs k ∷ []) (typed-copies apart k (omega arith) fed body) ((tt, here), tt))
 
-    typed-explodes : (fs : List Feed) → AreLengths lens → AllFed n lens lb.outs fs → AreLengths (map (fed_length lens) fs) → AllTyped lens O (vertices_of (explodes d n fs))
-    typed-explodes [] h fed each = tt
-    typed-explodes (Fork name k len ∷ fs) h fed each =
-        let whole : get_or lens k 0 ≡ n * len = fed.0 in
-        let one : 0 < len = let e = each.0.0 in omega (arith, e) in
+    -- what the lengths ask of a line
+    abbrev IsLineFed : Feed → Type 0
+    IsLineFed f = IsFed n lens lb.outs f × IsLength (fed_length lens f)
+
+    all-fed : (fs : List Feed) → AllFed n lens lb.outs fs → AreLengths (map (fed_length lens) fs) → AllLines IsLineFed fs
+    all-fed [] fed each = tt
+    all-fed (f ∷ fs) fed each = ((fed.0, each.0), all-fed fs fed.1 each.1)
+
+    typed-explodes : (fs : List Feed) → AreLengths lens → AllLines IsLineFed fs → AllTyped lens O (vertices_of (explodes d n fs))
+    typed-explodes [] h fed = tt
+    typed-explodes (Fork name k len ∷ fs) h fed =
+        let whole : get_or lens k 0 ≡ n * len = fed.0.0 in
+        let one : 0 < len = let e = fed.0.1.0 in omega (arith, e) in
         let there : 0 < get_or lens k 0 = subst (λ m. 0 < m) (sym whole) (mul-pos some one) in
-        ((tt, (((length_at lens k h there, tt), lengths-replicate n len each.0), ap (λ m. m ∷ []) (whole ∙ sym (sum-replicate n len)))), typed-explodes fs h fed.1 each.1)
-    typed-explodes (Diffuse k ∷ fs) h fed each = typed-explodes fs h fed.1 each.1
-    typed-explodes (Iterate k y ∷ fs) h fed each = typed-explodes fs h fed.1 each.1
+        ((tt, (((length_at lens k h there, tt), lengths-replicate n len fed.0.1), ap (λ m. m ∷ []) (whole ∙ sym (sum-replicate n len)))), typed-explodes fs h fed.1)
+    typed-explodes (Diffuse k ∷ fs) h fed = typed-explodes fs h fed.1
+    typed-explodes (Iterate k y ∷ fs) h fed = typed-explodes fs h fed.1
 
     abbrev given : List Give → List ℕ
     given gs = map (given_length n lb.outs) gs
@@ -197,26 +205,26 @@ module _ (d : List ℕ) (n : ℕ) (feeds : List Feed) (gives : List Give) (outs 
     abbrev inside : Vertices
     inside = vertices_of (unrolled_inside d n feeds gives outs (and_vertex (vertex lb vs) no_vertices))
 
-    pub typed-inside : AreLengths lens → AreLengths outs → AllFed n lens lb.outs feeds → IsTyped (map (fed_length lens) feeds) (vertex lb vs) → outs ≡ given gives
+    pub typed-inside : AreApart feeds → AreLengths lens → AreLengths outs → AllFed n lens lb.outs feeds → IsTyped (map (fed_length lens) feeds) (vertex lb vs) → outs ≡ given gives
         → AllTyped lens (outs_of inside) inside × (outs ≡ map (source_length lens (outs_of inside)) (give_sources c n 0 gives))
-    typed-inside ins_lengths outs_lengths fed body is =
+    typed-inside apart ins_lengths outs_lengths fed body is =
         let at : (q : ℕ) → q < length gives → get_or outs (0 + q) 0 ≡ get_or (given gives) q 0 = λ q lt. ap (λ k. get_or outs k 0) (zero-add q) ∙ ap (λ os. get_or os q 0) is in
         let each : AreLengths (given gives) = subst AreLengths is outs_lengths in
         subst (λ oss. AllTyped lens oss inside × (outs ≡ map (source_length lens oss) (give_sources c n 0 gives))) (sym outs-inside) (
-          typed-append lens O (explodes d n feeds) _ (typed-explodes feeds ins_lengths fed body.0.0)
-              (typed-append lens O (map (copy c feeds lb vs) (numbers_below n)) _ (typed-copies n (omega arith) fed body) (typed-implodes 0 gives each at)),
+          typed-append lens O (explodes d n S) _ (typed-explodes S ins_lengths (all-lines IsLineFed feeds (all-fed feeds fed body.0.0)))
+              (typed-append lens O (map (copy c feeds lb vs) (numbers_below n)) _ (typed-copies apart n (omega arith) fed body) (typed-implodes 0 gives each at)),
           is ∙ gives_lengths 0 0 gives (λ q. ap (λ k. get_or O (c + n + k) []) (zero-add q) ∙ at_implode q) at,
         )
 
 -- a vertex of a kind, where what is inside it has become other vertices of the same lengths
-typed-repeat : (l : Label) (n : ℕ) (feeds : List Feed) (gives : List Give) (us : Vertices) (lens : List ℕ) → 0 < n → IsOne us → IsTyped lens (vertex (with_kind l (repeat n feeds gives)) us) → IsTyped lens (unrolled_at l (repeat n feeds gives) us)
-typed-repeat l n feeds gives no_vertices lens some one h = absurd one
-typed-repeat l n feeds gives (and_vertex u (and_vertex v us)) lens some one h = absurd one
-typed-repeat l n feeds gives (and_vertex (vertex lb vs) no_vertices) lens some one h =
-    (h.0, typed-inside l.definition n feeds gives l.outs lb vs lens some h.0.0 h.0.1 h.1.0.0 h.1.0.1 h.1.1)
+typed-repeat : (l : Label) (n : ℕ) (feeds : List Feed) (gives : List Give) (us : Vertices) (lens : List ℕ) → 0 < n → IsOne us → AreApart feeds → IsTyped lens (vertex (with_kind l (repeat n feeds gives)) us) → IsTyped lens (unrolled_at l (repeat n feeds gives) us)
+typed-repeat l n feeds gives no_vertices lens some one apart h = absurd one
+typed-repeat l n feeds gives (and_vertex u (and_vertex v us)) lens some one apart h = absurd one
+typed-repeat l n feeds gives (and_vertex (vertex lb vs) no_vertices) lens some one apart h =
+    (h.0, typed-inside l.definition n feeds gives l.outs lb vs lens some apart h.0.0 h.0.1 h.1.0.0 h.1.0.1 h.1.1)
 
 typed-at : (l : Label) (k : Kind) (us : Vertices) (lens : List ℕ) → IsRepeatable k us → IsTyped lens (vertex (with_kind l k) us) → IsTyped lens (unrolled_at l k us)
-typed-at l (repeat n feeds gives) us lens can h = typed-repeat l n feeds gives us lens can.0 can.1 h
+typed-at l (repeat n feeds gives) us lens can h = typed-repeat l n feeds gives us lens can.0.0 can.0.1 can.1 h
 typed-at l (sensor m) us lens can h = h
 typed-at l (actuator m) us lens can h = h
 typed-at l (constant v) us lens can h = h

@@ -7,6 +7,7 @@ use Rattle.level_meaning.specs.declared.frontier.Give.TheVariants.{Last, Join}
 use Rattle.level_meaning.specs.Level.{numbers_below}
 use Rattle.algo_tree.specs.Tree.{Label, Kind, sensor, actuator, constant, delay, function, explode, implode, merge, graph, switch, repeat, Vertex, vertex, Vertices, no_vertices, and_vertex}
 use Rattle.algo_tree.specs.View.{vertices_of}
+use Rattle.factorisation_laws.specs.Lines.{in_line_order}
 use Rattle.factorisation_laws.specs.Unrolled.{explodes, copy, copies, implodes, begin, unrolled_at, unroll, unroll_all}
 use Rattle.factorisation_laws.specs.NoRepeat.{HasNoRepeat, AllNoRepeat}
 
@@ -37,7 +38,7 @@ no-at : (l : Label) (k : Kind) (us : Vertices) → AllNoRepeat us → HasNoRepea
 no-at l (repeat n feeds gives) us h =
     let d = l.definition in
     let c = begin feeds in
-    (tt, no-append (explodes d n feeds) _ (no-explodes d n feeds) (no-append (copies c feeds n us) _ (no-copies c feeds n us h) (no-implodes d c n l.outs 0 gives)))
+    (tt, no-append (explodes d n (in_line_order feeds)) _ (no-explodes d n (in_line_order feeds)) (no-append (copies c feeds n us) _ (no-copies c feeds n us h) (no-implodes d c n l.outs 0 gives)))
 no-at l (sensor m) us h = (tt, h)
 no-at l (actuator m) us h = (tt, h)
 no-at l (constant v) us h = (tt, h)

@@ -9,21 +9,23 @@ use Rattle.level_meaning.specs.Level.{Vector, Behaviour, numbers_below}
 use Rattle.algo_tree.specs.Tree.{Label, Kind, sensor, actuator, constant, delay, function, explode, implode, merge, graph, switch, repeat, Vertex, vertex, Vertices, no_vertices, and_vertex}
 use Rattle.algo_tree.specs.Meaning.{asked_by, behaviour_of, node, nodes, actuator_values, actuator_value}
 use Rattle.algo_tree.specs.View.{vertices_of}
-use Rattle.algo_tree.specs.Well.{IsOne, IsKindWell, IsWell, AllWell}
+use Rattle.algo_tree.specs.Well.{join_names, IsOne, IsKindWell, IsWell, AllWell}
 use Rattle.algo_tree.specs.Valid.{IsTree}
 use Rattle.pass_laws.specs.SameMeaning.{KeepsMeaning}
 use Rattle.pass_laws.proofs.Passes.{keeps_meaning}
 use Rattle.pass_laws.proofs.Views.{nodes-vertices_of}
 use Rattle.factorisation_laws.specs.Unrolled.{explodes, copy, implodes, give_sources, begin, unrolled_inside, with_kind, unrolled_at, unroll, unroll_all}
+use Rattle.factorisation_laws.specs.Lines.{in_line_order}
+use Rattle.factorisation_laws.proofs.Lines.{AreApart, apart-of}
 use Rattle.factorisation_laws.proofs.Unrolled.{level, level_acyclic, unrolled_outputs, unrolled_next, unrolled_initial, map_map}
 
--- what unrolling asks for: a copy at least, and one body
+-- what unrolling asks for: a copy at least, one body, and fork lines of distinct names
 abbrev pub IsRepeatable : Kind → Vertices → Type 0
-IsRepeatable (repeat n feeds gives) us = (0 < n) × IsOne us
+IsRepeatable (repeat n feeds gives) us = ((0 < n) × IsOne us) × AreApart feeds
 IsRepeatable _ us = Unit {0}
 
 pub can_unroll : (k : Kind) (gs : List Guard) (us : Vertices) → IsKindWell k gs us → IsRepeatable k us
-can_unroll (repeat n feeds gives) gs us h = h.1.0
+can_unroll (repeat n feeds gives) gs us h = (h.1.0, apart-of feeds (join_names gives) h.1.1)
 can_unroll (sensor m) gs us h = tt
 can_unroll (actuator m) gs us h = tt
 can_unroll (constant v) gs us h = tt
@@ -45,25 +47,25 @@ pub nodes-unrolled : (d : List ℕ) (n : ℕ) (feeds : List Feed) (gives : List 
 nodes-unrolled d n feeds gives outs lb vs =
     let c = begin feeds in
     nodes-vertices_of (unrolled_inside d n feeds gives outs (and_vertex (vertex lb vs) no_vertices))
-    ∙ map-append node (explodes d n feeds) _
-    ∙ ap (λ xs. map node (explodes d n feeds) ++ xs)
+    ∙ map-append node (explodes d n (in_line_order feeds)) _
+    ∙ ap (λ xs. map node (explodes d n (in_line_order feeds)) ++ xs)
     (map-append node (map (copy c feeds lb vs) (numbers_below n)) (implodes d c n outs 0 gives) ∙ ap (λ xs. xs ++ map node (implodes d c n outs 0 gives)) (map_map node (copy c feeds lb vs) (numbers_below n)))
 
-same-repeat : (l : Label) (n : ℕ) (feeds : List Feed) (gives : List Give) (us : Vertices) → 0 < n → IsOne us
+same-repeat : (l : Label) (n : ℕ) (feeds : List Feed) (gives : List Give) (us : Vertices) → 0 < n → IsOne us → AreApart feeds
     → behaviour_of (with_kind l (graph (give_sources (begin feeds) n 0 gives))) (nodes (vertices_of (unrolled_inside l.definition n feeds gives l.outs us)))
     ≡ behaviour_of (with_kind l (repeat n feeds gives)) (nodes us)
-same-repeat l n feeds gives no_vertices some one = absurd one
-same-repeat l n feeds gives (and_vertex u (and_vertex v us)) some one = absurd one
-same-repeat l n feeds gives (and_vertex (vertex lb vs) no_vertices) some one =
+same-repeat l n feeds gives no_vertices some one apart = absurd one
+same-repeat l n feeds gives (and_vertex u (and_vertex v us)) some one apart = absurd one
+same-repeat l n feeds gives (and_vertex (vertex lb vs) no_vertices) some one apart =
     ap (behaviour_of (with_kind l (graph (give_sources (begin feeds) n 0 gives)))) (nodes-unrolled l.definition n feeds gives l.outs lb vs)
     ∙ behaviour-equal _ _
-    (λ i row st ins. unrolled_outputs l.definition n feeds gives l.outs lb vs row st ins (level_acyclic l.definition n feeds gives l.outs lb vs) some i)
-    (λ i row st ins q. unrolled_next l.definition n feeds gives l.outs lb vs row st ins (level_acyclic l.definition n feeds gives l.outs lb vs) q i)
+    (λ i row st ins. unrolled_outputs l.definition n feeds gives l.outs lb vs row st ins apart (level_acyclic l.definition n feeds gives l.outs lb vs) some i)
+    (λ i row st ins q. unrolled_next l.definition n feeds gives l.outs lb vs row st ins apart (level_acyclic l.definition n feeds gives l.outs lb vs) q i)
     (λ i q. unrolled_initial l.definition n feeds gives l.outs lb vs [] (λ _. []) [] q i)
 
 node-at : (l : Label) (k : Kind) (us : Vertices) → IsRepeatable k us → node (unrolled_at l k us) ≡ node (vertex (with_kind l k) us)
 node-at l (repeat n feeds gives) us h =
-    ap (λ d. record { part = l.part; ins = l.ins; asked = l.ins; guards = l.guards; outs = l.outs; does = d }) (same-repeat l n feeds gives us h.0 h.1)
+    ap (λ d. record { part = l.part; ins = l.ins; asked = l.ins; guards = l.guards; outs = l.outs; does = d }) (same-repeat l n feeds gives us h.0.0 h.0.1 h.1)
 node-at l (sensor m) us h = refl
 node-at l (actuator m) us h = refl
 node-at l (constant v) us h = refl
@@ -81,7 +83,7 @@ one-unrolled (and_vertex u no_vertices) h = tt
 one-unrolled (and_vertex u (and_vertex v us)) h = absurd h
 
 pub repeatable-unrolled : (k : Kind) (us : Vertices) → IsRepeatable k us → IsRepeatable k (unroll_all us)
-repeatable-unrolled (repeat n feeds gives) us h = (h.0, one-unrolled us h.1)
+repeatable-unrolled (repeat n feeds gives) us h = ((h.0.0, one-unrolled us h.0.1), h.1)
 repeatable-unrolled (sensor m) us h = tt
 repeatable-unrolled (actuator m) us h = tt
 repeatable-unrolled (constant v) us h = tt

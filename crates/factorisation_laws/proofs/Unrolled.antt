@@ -22,6 +22,8 @@ use Rattle.level_meaning.proofs.InOrder.{acyclic-in_order}
 use Rattle.algo_tree.specs.Tree.{Label, Kind, sensor, actuator, constant, delay, function, explode, implode, merge, graph, switch, repeat, Vertices}
 use Rattle.algo_tree.specs.Meaning.{kind_outputs, asked_by, behaviour_of, node, nodes}
 use Rattle.algo_tree.specs.Well.{fork_names}
+use Rattle.factorisation_laws.specs.Lines.{in_line_order, fork_place}
+use Rattle.factorisation_laws.proofs.Lines.{AllLines, AreApart, apart-lines, IsLine, lines-are, many-lines, forked, long-forked, place-below, at-place}
 use Rattle.pass_laws.proofs.Segments.{OrderFrom, in_order-from, order-append, before_below, order_below, before-asked}
 use Rattle.factorisation_laws.specs.Unrolled.{explode_of, explodes, copy_sources, copy as copy_vertex, implode_of, implodes, give_sources, begin}
 
@@ -91,10 +93,7 @@ mapped (c ∷ cs) F zero = refl
 mapped (c ∷ cs) F (suc r) = mapped cs F r
 
 abbrev explode_values : ℕ → Values → List Feed → List Values
-explode_values n ins [] = []
-explode_values n ins (Fork name k len ∷ fs) = parts_of (replicate n len) (vector_at ins k) ∷ explode_values n ins fs
-explode_values n ins (Diffuse k ∷ fs) = explode_values n ins fs
-explode_values n ins (Iterate k y ∷ fs) = explode_values n ins fs
+explode_values n ins = forked (λ k len. parts_of (replicate n len) (vector_at ins k))
 
 abbrev implode_values : ℕ → (ℕ → Values) → List Give → List Values
 implode_values n copy [] = []
@@ -122,11 +121,14 @@ module _ (d : List ℕ) (n : ℕ) (feeds : List Feed) (gives : List Give) (lens 
   abbrev pub c : ℕ
   c = begin feeds
 
+  abbrev pub S : List Feed
+  S = in_line_order feeds
+
   abbrev pub kid : ℕ → Node
   kid i = node (copy_vertex c feeds lb vs i)
 
   abbrev pub level : List Node
-  level = map node (explodes d n feeds) ++ (map kid (numbers_below n) ++ map node (implodes d c n lens 0 gives))
+  level = map node (explodes d n S) ++ (map kid (numbers_below n) ++ map node (implodes d c n lens 0 gives))
 
   -- each source of the graph stands earlier
   explodes_order : (k : ℕ) (fs : List Feed) → OrderFrom k (map node (explodes d n fs))
@@ -139,11 +141,14 @@ module _ (d : List ℕ) (n : ℕ) (feeds : List Feed) (gives : List Give) (lens 
   iterate_before zero k y = tt
   iterate_before (suc i) k y = let test : (suc i == 0) ≡ false = eqb-suc-zero i in subst (λ b. IsBefore (c + suc i) (cond b (Own k) (Of (c + (suc i - 1)) y))) (sym test) (omega arith)
 
-  sources_before : (i m : ℕ) (fs : List Feed) → m + length (fork_names fs) ≤ c → AreBefore (c + i) (copy_sources c i m fs)
-  sources_before i m [] h = tt
-  sources_before i m (Fork name k len ∷ fs) h = (omega arith, sources_before i (suc m) fs (omega arith))
-  sources_before i m (Diffuse k ∷ fs) h = (tt, sources_before i m fs h)
-  sources_before i m (Iterate k y ∷ fs) h = (iterate_before i k y, sources_before i m fs h)
+  sources_before : (i : ℕ) (fs : List Feed) → AllLines (λ f. IsLine f S) fs → AreBefore (c + i) (copy_sources c i S fs)
+  sources_before i [] h = tt
+  sources_before i (Fork name k len ∷ fs) h =
+      let below = place-below name k len S h.0 in
+      let many = many-lines feeds in
+      (omega (arith, below, many), sources_before i fs h.1)
+  sources_before i (Diffuse k ∷ fs) h = (tt, sources_before i fs h.1)
+  sources_before i (Iterate k y ∷ fs) h = (iterate_before i k y, sources_before i fs h.1)
 
   implodes_order : (k : ℕ) (gs : List Give) (j : ℕ) → c + n ≤ k → OrderFrom k (map node (implodes d c n lens j gs))
   implodes_order k [] j le = tt
@@ -158,10 +163,10 @@ module _ (d : List ℕ) (n : ℕ) (feeds : List Feed) (gives : List Give) (lens 
 
   pub level_acyclic : IsAcyclic level
   level_acyclic =
-      let len = long_nodes feeds in
-      let kids = order_below c n kid (λ i lt. (tt, before-asked (c + i) lb.kind (copy_sources c i 0 feeds) (sources_before i 0 feeds (omega arith)))) in
+      let len : length (map node (explodes d n S)) ≡ c = long_nodes S ∙ many-lines feeds in
+      let kids = order_below c n kid (λ i lt. (tt, before-asked (c + i) lb.kind (copy_sources c i S feeds) (sources_before i feeds (lines-are feeds)))) in
       let many = kids.0 in
-      acyclic-in_order level (in_order-from level (order-append 0 (map node (explodes d n feeds)) _ (explodes_order 0 feeds)
+      acyclic-in_order level (in_order-from level (order-append 0 (map node (explodes d n S)) _ (explodes_order 0 S)
       (subst (λ m. OrderFrom m (map kid (numbers_below n) ++ map node (implodes d c n lens 0 gives))) (sym len ∙ omega arith)
       (order-append c (map kid (numbers_below n)) _ kids.1 (implodes_order _ gives 0 (omega (arith, many)))))))
 
@@ -170,7 +175,7 @@ module _ (d : List ℕ) (n : ℕ) (feeds : List Feed) (gives : List Give) (lens 
     copy = copy_outputs feeds body row st ins
 
     abbrev EV : List Values
-    EV = explode_values n ins feeds
+    EV = explode_values n ins S
 
     abbrev CV : List Values
     CV = map copy (numbers_below n)
@@ -187,11 +192,8 @@ module _ (d : List ℕ) (n : ℕ) (feeds : List Feed) (gives : List Give) (lens 
     abbrev F : Node → Values
     F k = node_outputs row (below k.part st) look k
 
-    long_explodes : (fs : List Feed) → length (fork_names fs) ≡ length (explode_values n ins fs)
-    long_explodes [] = refl
-    long_explodes (Fork name k len ∷ fs) = ap suc (long_explodes fs)
-    long_explodes (Diffuse k ∷ fs) = long_explodes fs
-    long_explodes (Iterate k y ∷ fs) = long_explodes fs
+    long_explodes : c ≡ length EV
+    long_explodes = sym (long-forked (λ k len. parts_of (replicate n len) (vector_at ins k)) S ∙ many-lines feeds)
 
     explodes_meet : (fs : List Feed) → map F (map node (explodes d n fs)) ≡ explode_values n ins fs
     explodes_meet [] = refl
@@ -201,7 +203,7 @@ module _ (d : List ℕ) (n : ℕ) (feeds : List Feed) (gives : List Give) (lens 
 
     at_copy : (i : ℕ) → i < n → expected (c + i) ≡ copy i
     at_copy i lt =
-        let e : c ≡ length EV = long_explodes feeds in
+        let e : c ≡ length EV = long_explodes in
         ap (λ k. get_or (EV ++ (CV ++ IV)) (k + i) []) e ∙ append_right EV (CV ++ IV) i [] ∙ append_left CV IV i [] (let k = long_below n copy in omega (arith, k)) ∙ at_below n copy i [] lt
 
     copy_unfold : (i : ℕ) → copy i ≡ body.outputs row (below (Numbered i) st) (map (copy_input ins (copy_before feeds body row st ins i) i) feeds)
@@ -215,23 +217,26 @@ module _ (d : List ℕ) (n : ℕ) (feeds : List Feed) (gives : List Give) (lens 
         let before : expected (c + (suc i - 1)) ≡ copy i = ap (λ m. expected (c + m)) (omega arith) ∙ at_copy i (omega arith) in
         rw test (ap (λ vs. vector_at vs y) before)
 
-    -- the inputs of copy i, where the explodes of the feeds left begin at m
-    copy_meets : (i m : ℕ) → i < n → (fs : List Feed) → ((j : ℕ) → j < length (explode_values n ins fs) → expected (m + j) ≡ get_or (explode_values n ins fs) j [])
-        → map look (copy_sources c i m fs) ≡ map (copy_input ins (copy_before feeds body row st ins i) i) fs
-    copy_meets i m lt [] h = refl
-    copy_meets i m lt (Fork name k len ∷ fs) h =
-        let first : expected m ≡ parts_of (replicate n len) (vector_at ins k) = ap expected (omega arith) ∙ h 0 (omega arith) in
-        ap₂ (λ v vs. v ∷ vs) (ap (λ vs. vector_at vs i) first ∙ part_at n len i (vector_at ins k) lt)
-        (copy_meets i (suc m) lt fs (λ j jl. ap expected (omega arith) ∙ h (suc j) (omega arith)))
-    copy_meets i m lt (Diffuse k ∷ fs) h = ap (λ vs. vector_at ins k ∷ vs) (copy_meets i m lt fs h)
-    copy_meets i m lt (Iterate k y ∷ fs) h = ap₂ (λ v vs. v ∷ vs) (iterated i k y lt) (copy_meets i m lt fs h)
+    -- an explode gives the parts of the outer input of its line
+    at_explode : AreApart feeds → (name : List ℕ) (k len : ℕ) → IsLine (Fork name k len) S → expected (fork_place name S) ≡ parts_of (replicate n len) (vector_at ins k)
+    at_explode apart name k len line =
+        let below = place-below name k len S line in
+        let many = many-lines feeds in
+        let long = long_explodes in
+        append_left EV (CV ++ IV) (fork_place name S) [] (omega (arith, below, many, long))
+        ∙ at-place (λ j m. parts_of (replicate n m) (vector_at ins j)) [] name k len S (apart-lines feeds apart) line
 
-    at_explode : (j : ℕ) → j < length EV → expected (0 + j) ≡ get_or EV j []
-    at_explode j lt = ap expected (zero-add j) ∙ append_left EV (CV ++ IV) j [] lt
+    -- the inputs of copy i
+    copy_meets : AreApart feeds → (i : ℕ) → i < n → (fs : List Feed) → AllLines (λ f. IsLine f S) fs → map look (copy_sources c i S fs) ≡ map (copy_input ins (copy_before feeds body row st ins i) i) fs
+    copy_meets apart i lt [] h = refl
+    copy_meets apart i lt (Fork name k len ∷ fs) h =
+        ap₂ (λ v vs. v ∷ vs) (ap (λ vs. vector_at vs i) (at_explode apart name k len h.0) ∙ part_at n len i (vector_at ins k) lt) (copy_meets apart i lt fs h.1)
+    copy_meets apart i lt (Diffuse k ∷ fs) h = ap (λ vs. vector_at ins k ∷ vs) (copy_meets apart i lt fs h.1)
+    copy_meets apart i lt (Iterate k y ∷ fs) h = ap₂ (λ v vs. v ∷ vs) (iterated i k y lt) (copy_meets apart i lt fs h.1)
 
-    copies_meet : map F (map kid (numbers_below n)) ≡ CV
-    copies_meet = map_map F (kid) (numbers_below n) ∙ map_below n (λ i. F (kid i)) copy
-        (λ i lt. blind lb.kind lb.outs (nodes vs) row (below (Numbered i) st) look (copy_sources c i 0 feeds) ∙ ap (λ xs. body.outputs row (below (Numbered i) st) xs) (copy_meets i 0 lt feeds at_explode) ∙ sym (copy_unfold i))
+    copies_meet : AreApart feeds → map F (map kid (numbers_below n)) ≡ CV
+    copies_meet apart = map_map F (kid) (numbers_below n) ∙ map_below n (λ i. F (kid i)) copy
+        (λ i lt. blind lb.kind lb.outs (nodes vs) row (below (Numbered i) st) look (copy_sources c i S feeds) ∙ ap (λ xs. body.outputs row (below (Numbered i) st) xs) (copy_meets apart i lt feeds (lines-are feeds)) ∙ sym (copy_unfold i))
 
     implodes_meet : (gs : List Give) (j : ℕ) → map F (map node (implodes d c n lens j gs)) ≡ implode_values n copy gs
     implodes_meet [] j = refl
@@ -241,30 +246,30 @@ module _ (d : List ℕ) (n : ℕ) (feeds : List Feed) (gives : List Give) (lens 
         ap₂ (λ v vs. (v ∷ []) ∷ vs) (ap all_joined parts ∙ joined_is copy y n) (implodes_meet gs (suc j))
     implodes_meet (Last y ∷ gs) j = implodes_meet gs (suc j)
 
-    all_meet : map F (level) ≡ EV ++ (CV ++ IV)
-    all_meet =
-        map-append F (map node (explodes d n feeds)) (map kid (numbers_below n) ++ map node (implodes d c n lens 0 gives))
-        ∙ ap₂ (λ xs ys. xs ++ ys) (explodes_meet feeds) (map-append F (map kid (numbers_below n)) (map node (implodes d c n lens 0 gives)) ∙ ap₂ (λ xs ys. xs ++ ys) copies_meet (implodes_meet gives 0))
+    all_meet : AreApart feeds → map F (level) ≡ EV ++ (CV ++ IV)
+    all_meet apart =
+        map-append F (map node (explodes d n S)) (map kid (numbers_below n) ++ map node (implodes d c n lens 0 gives))
+        ∙ ap₂ (λ xs ys. xs ++ ys) (explodes_meet S) (map-append F (map kid (numbers_below n)) (map node (implodes d c n lens 0 gives)) ∙ ap₂ (λ xs ys. xs ++ ys) (copies_meet apart) (implodes_meet gives 0))
 
-    pub unrolled_meets : MeetsLevel (level) row st ins expected
-    unrolled_meets r = mapped (level) F r ∙ ap (λ xs. get_or xs r []) all_meet
+    pub unrolled_meets : AreApart feeds → MeetsLevel (level) row st ins expected
+    unrolled_meets apart r = mapped (level) F r ∙ ap (λ xs. get_or xs r []) (all_meet apart)
 
     out_past : (fuel r : ℕ) → length level ≤ r → out level row st ins fuel r ≡ []
     out_past zero r h = rw (none_past level r h)
     out_past (suc fuel) r h = rw (none_past level r h)
 
-    everywhere : IsAcyclic level → (r : ℕ) → out level row st ins (length level) r ≡ expected r
-    everywhere acyclic r = elim (cases_lt r (length level)) [
-      | inl lt ↦ unique level row st ins expected unrolled_meets (length level) (length level) r (acyclic r lt) (omega arith)
-      | inr past ↦ out_past (length level) r past ∙ sym (ap (λ o. with_node o [] F) (none_past level r past)) ∙ unrolled_meets r
+    everywhere : AreApart feeds → IsAcyclic level → (r : ℕ) → out level row st ins (length level) r ≡ expected r
+    everywhere apart acyclic r = elim (cases_lt r (length level)) [
+      | inl lt ↦ unique level row st ins expected (unrolled_meets apart) (length level) (length level) r (acyclic r lt) (omega arith)
+      | inr past ↦ out_past (length level) r past ∙ sym (ap (λ o. with_node o [] F) (none_past level r past)) ∙ unrolled_meets apart r
     ]
 
-    same_look : IsAcyclic level → level_value level row st ins ≡ look
-    same_look acyclic = ap (source_value ins) (fun_ext (everywhere acyclic))
+    same_look : AreApart feeds → IsAcyclic level → level_value level row st ins ≡ look
+    same_look apart acyclic = ap (source_value ins) (fun_ext (everywhere apart acyclic))
 
     at_implode : (j : ℕ) → expected (c + n + j) ≡ get_or IV j []
     at_implode j =
-        let e : c ≡ length EV = long_explodes feeds in
+        let e : c ≡ length EV = long_explodes in
         let k : length CV ≡ n = long_below n copy in
         ap expected (add_assoc c n j) ∙ ap (λ m. get_or (EV ++ (CV ++ IV)) (m + (n + j)) []) e ∙ append_right EV (CV ++ IV) (n + j) [] ∙ ap (λ m. get_or (CV ++ IV) (m + j) []) (sym k) ∙ append_right CV IV j []
 
@@ -274,8 +279,8 @@ module _ (d : List ℕ) (n : ℕ) (feeds : List Feed) (gives : List Give) (lens 
         ap₂ (λ v vs. v ∷ vs) (ap (λ vs. vector_at vs 0) (ap expected (omega arith) ∙ h 0)) (gives_meet some (suc m) gs (λ j. ap expected (omega arith) ∙ h (suc j)))
     gives_meet some m (Last y ∷ gs) h = ap₂ (λ v vs. v ∷ vs) (ap (λ vs. vector_at vs y) (at_copy (n - 1) (omega arith))) (gives_meet some m gs h)
 
-    pub unrolled_outputs : IsAcyclic level → 0 < n → graph_outputs (give_sources c n 0 gives) level row st ins ≡ repeat_outputs n feeds gives body row st ins
-    unrolled_outputs acyclic some = ap (λ (f : Source → Vector). map f (give_sources c n 0 gives)) (same_look acyclic) ∙ gives_meet some 0 gives (λ j. ap (λ k. expected (c + n + k)) (zero-add j) ∙ at_implode j)
+    pub unrolled_outputs : AreApart feeds → IsAcyclic level → 0 < n → graph_outputs (give_sources c n 0 gives) level row st ins ≡ repeat_outputs n feeds gives body row st ins
+    unrolled_outputs apart acyclic some = ap (λ (f : Source → Vector). map f (give_sources c n 0 gives)) (same_look apart acyclic) ∙ gives_meet some 0 gives (λ j. ap (λ k. expected (c + n + k)) (zero-add j) ∙ at_implode j)
 
     -- what is kept next at a path: nothing new at the explodes and implodes, and that of copy i at copy i
     abbrev at_found : Part → Path → (Source → Vector) → Option Node → List Vector
@@ -351,24 +356,24 @@ module _ (d : List ℕ) (n : ℕ) (feeds : List Feed) (gives : List Give) (lens 
           lost_copy k i (kid k ∷ others) above ∙ ap (λ b. cond b (Some (kid k)) (find_node (Numbered i) others)) (eq-eqb k i same) ∙ ap (λ j. Some (kid j)) same
     ]
 
-    copy_next : IsAcyclic level → (i : ℕ) → i < n → (q : Path)
+    copy_next : AreApart feeds → IsAcyclic level → (i : ℕ) → i < n → (q : Path)
         → node_next row (below (Numbered i) st) (level_value level row st ins) (kid i) q ≡ body.next row (below (Numbered i) st) (map (copy_input ins (copy_before feeds body row st ins i) i) feeds) q
-    copy_next acyclic i lt q =
-        ap (λ (f : Source → Vector). body.next row (below (Numbered i) st) (map f (copy_sources c i 0 feeds)) q) (same_look acyclic)
-        ∙ ap (λ vs. body.next row (below (Numbered i) st) vs q) (copy_meets i 0 lt feeds at_explode)
+    copy_next apart acyclic i lt q =
+        ap (λ (f : Source → Vector). body.next row (below (Numbered i) st) (map f (copy_sources c i S feeds)) q) (same_look apart acyclic)
+        ∙ ap (λ vs. body.next row (below (Numbered i) st) vs q) (copy_meets apart i lt feeds (lines-are feeds))
 
-    pub unrolled_next : IsAcyclic level → (q : Path) → graph_next level row st ins q ≡ repeat_next n feeds body row st ins q
-    unrolled_next acyclic [] = refl
-    unrolled_next acyclic (Named x ∷ q) =
-        ap (at_found (Named x) q (level_value level row st ins)) (named_explodes feeds x _ ∙ named_copies (numbers_below n) x (map node (implodes d c n lens 0 gives)) ∙ named_implodes gives 0 x)
-    unrolled_next acyclic (Port y ∷ q) =
-        port_explodes feeds y q (level_value level row st ins) _ (ap (at_found (Port y) q (level_value level row st ins)) (port_copies (numbers_below n) y (map node (implodes d c n lens 0 gives))) ∙ port_implodes gives 0 y q (level_value level row st ins))
-    unrolled_next acyclic (Numbered i ∷ q) = elim (cases_lt i n) [
+    pub unrolled_next : AreApart feeds → IsAcyclic level → (q : Path) → graph_next level row st ins q ≡ repeat_next n feeds body row st ins q
+    unrolled_next apart acyclic [] = refl
+    unrolled_next apart acyclic (Named x ∷ q) =
+        ap (at_found (Named x) q (level_value level row st ins)) (named_explodes S x _ ∙ named_copies (numbers_below n) x (map node (implodes d c n lens 0 gives)) ∙ named_implodes gives 0 x)
+    unrolled_next apart acyclic (Port y ∷ q) =
+        port_explodes S y q (level_value level row st ins) _ (ap (at_found (Port y) q (level_value level row st ins)) (port_copies (numbers_below n) y (map node (implodes d c n lens 0 gives))) ∙ port_implodes gives 0 y q (level_value level row st ins))
+    unrolled_next apart acyclic (Numbered i ∷ q) = elim (cases_lt i n) [
       | inl lt ↦
-          ap (at_found (Numbered i) q (level_value level row st ins)) (copy_explodes feeds i _ ∙ found_copy n i (map node (implodes d c n lens 0 gives)) lt) ∙ copy_next acyclic i lt q
+          ap (at_found (Numbered i) q (level_value level row st ins)) (copy_explodes S i _ ∙ found_copy n i (map node (implodes d c n lens 0 gives)) lt) ∙ copy_next apart acyclic i lt q
           ∙ sym (ap (λ b. cond b (body.next row (below (Numbered i) st) (map (copy_input ins (copy_before feeds body row st ins i) i) feeds) q) (st (Numbered i ∷ q))) (lt-ltb i n lt))
       | inr above ↦
-          ap (at_found (Numbered i) q (level_value level row st ins)) (copy_explodes feeds i _ ∙ lost_copy n i (map node (implodes d c n lens 0 gives)) above ∙ copy_implodes gives 0 i)
+          ap (at_found (Numbered i) q (level_value level row st ins)) (copy_explodes S i _ ∙ lost_copy n i (map node (implodes d c n lens 0 gives)) above ∙ copy_implodes gives 0 i)
           ∙ sym (ap (λ b. cond b (body.next row (below (Numbered i) st) (map (copy_input ins (copy_before feeds body row st ins i) i) feeds) q) (st (Numbered i ∷ q))) (le-ltb i n above))
     ]
 
@@ -394,11 +399,11 @@ module _ (d : List ℕ) (n : ℕ) (feeds : List Feed) (gives : List Give) (lens 
 
     pub unrolled_initial : (q : Path) → graph_initial level q ≡ repeat_initial n body q
     unrolled_initial [] = refl
-    unrolled_initial (Named x ∷ q) = ap (first_found q) (named_explodes feeds x _ ∙ named_copies (numbers_below n) x (map node (implodes d c n lens 0 gives)) ∙ named_implodes gives 0 x)
-    unrolled_initial (Port y ∷ q) = first_explodes feeds y q _ (ap (first_found q) (port_copies (numbers_below n) y (map node (implodes d c n lens 0 gives))) ∙ first_implodes gives 0 y q)
+    unrolled_initial (Named x ∷ q) = ap (first_found q) (named_explodes S x _ ∙ named_copies (numbers_below n) x (map node (implodes d c n lens 0 gives)) ∙ named_implodes gives 0 x)
+    unrolled_initial (Port y ∷ q) = first_explodes S y q _ (ap (first_found q) (port_copies (numbers_below n) y (map node (implodes d c n lens 0 gives))) ∙ first_implodes gives 0 y q)
     unrolled_initial (Numbered i ∷ q) = elim (cases_lt i n) [
-      | inl lt ↦ ap (first_found q) (copy_explodes feeds i _ ∙ found_copy n i (map node (implodes d c n lens 0 gives)) lt) ∙ sym (ap (λ b. cond b (body.initial q) []) (lt-ltb i n lt))
+      | inl lt ↦ ap (first_found q) (copy_explodes S i _ ∙ found_copy n i (map node (implodes d c n lens 0 gives)) lt) ∙ sym (ap (λ b. cond b (body.initial q) []) (lt-ltb i n lt))
       | inr above ↦
-          ap (first_found q) (copy_explodes feeds i _ ∙ lost_copy n i (map node (implodes d c n lens 0 gives)) above ∙ copy_implodes gives 0 i)
+          ap (first_found q) (copy_explodes S i _ ∙ lost_copy n i (map node (implodes d c n lens 0 gives)) above ∙ copy_implodes gives 0 i)
           ∙ sym (ap (λ b. cond b (body.initial q) []) (le-ltb i n above))
     ]

@@ -16,6 +16,8 @@ use Rattle.algo_tree.specs.Tree.{Label, Kind, sensor, actuator, constant, delay,
 use Rattle.algo_tree.specs.Meaning.{node, nodes}
 use Rattle.algo_tree.specs.View.{vertices_of}
 use Rattle.algo_tree.specs.Well.{IsNewName, AreDistinctNames, fork_names, join_names, AreNumbered, IsEmpty, IsOne, AreOwn, OwnGuards, AreCases, IsKindWell, IsWell, AllWell}
+use Rattle.factorisation_laws.specs.Lines.{in_line_order}
+use Rattle.factorisation_laws.proofs.Lines.{new-left, new-right, names-right, distinct-lines}
 use Rattle.factorisation_laws.specs.Unrolled.{explodes, copy, implodes, begin, unrolled_at, unroll, unroll_all}
 use Rattle.factorisation_laws.proofs.Unrolled.{level, level_acyclic, kid}
 use Rattle.factorisation_laws.proofs.Unroll.{nodes-unroll, nodes-unrolled, one-unrolled}
@@ -33,21 +35,9 @@ pub distinct-append : (xs ys : List Node) → HasDistinctParts xs → HasDistinc
 distinct-append [] ys h k a = k
 distinct-append (x ∷ xs) ys h k a = (apart-append x.part xs ys h.0 a.0, distinct-append xs ys h.1 k a.1)
 
-new-left : (x : List ℕ) (xs ys : List (List ℕ)) → IsNewName x (xs ++ ys) → IsNewName x xs
-new-left x [] ys h = tt
-new-left x (y ∷ xs) ys h = (h.0, new-left x xs ys h.1)
-
-new-right : (x : List ℕ) (xs ys : List (List ℕ)) → IsNewName x (xs ++ ys) → IsNewName x ys
-new-right x [] ys h = h
-new-right x (y ∷ xs) ys h = new-right x xs ys h.1
-
 names-left : (xs ys : List (List ℕ)) → AreDistinctNames (xs ++ ys) → AreDistinctNames xs
 names-left [] ys h = tt
 names-left (x ∷ xs) ys h = (new-left x xs ys h.0, names-left xs ys h.1)
-
-names-right : (xs ys : List (List ℕ)) → AreDistinctNames (xs ++ ys) → AreDistinctNames ys
-names-right [] ys h = h
-names-right (x ∷ xs) ys h = names-right xs ys h.1
 
 module _ (d : List ℕ) (n : ℕ) (feeds : List Feed) (gives : List Give) (outs : List ℕ) (lb : Label) (vs : Vertices) where
   abbrev c : ℕ
@@ -114,10 +104,12 @@ module _ (d : List ℕ) (n : ℕ) (feeds : List Feed) (gives : List Give) (outs 
   distinct-kids (suc k) = subst HasDistinctParts (sym (map-append (kid d n feeds gives outs lb vs) (numbers_below k) (k ∷ []))) (distinct-append (kids (numbers_below k)) (kids (k ∷ [])) (distinct-kids k) (tt, tt) (below-Last k k (omega arith)))
 
   pub distinct-level : AreDistinctNames (fork_names feeds ++ join_names gives) → HasDistinctParts (level d n feeds gives outs lb vs)
-  distinct-level h =
-      distinct-append (map node (explodes d n feeds)) _ (distinct-explodes feeds (names-left (fork_names feeds) (join_names gives) h))
-      (distinct-append (kids (numbers_below n)) _ (distinct-kids n) (distinct-implodes gives 0 (names-right (fork_names feeds) (join_names gives) h)) (kids-implodes (numbers_below n) gives 0))
-      (explodes-rest feeds (numbers_below n) gives 0 h)
+  distinct-level given =
+      let S = in_line_order feeds in
+      let h = distinct-lines feeds (join_names gives) given in
+      distinct-append (map node (explodes d n S)) _ (distinct-explodes S (names-left (fork_names S) (join_names gives) h))
+      (distinct-append (kids (numbers_below n)) _ (distinct-kids n) (distinct-implodes gives 0 (names-right (fork_names S) (join_names gives) h)) (kids-implodes (numbers_below n) gives 0))
+      (explodes-rest S (numbers_below n) gives 0 h)
 
 -- what is made is well
 well-append : (xs ys : List Vertex) → AllWell (vertices_of xs) → AllWell (vertices_of ys) → AllWell (vertices_of (xs ++ ys))
@@ -160,7 +152,7 @@ well-repeat l n feeds gives (and_vertex (vertex lb vs) no_vertices) h all =
     let c = begin feeds in
     let e = sym (nodes-unrolled d n feeds gives l.outs lb vs) in (
       (h.0, (subst IsAcyclic e (level_acyclic d n feeds gives l.outs lb vs), subst HasDistinctParts e (distinct-level d n feeds gives l.outs lb vs h.1.1))),
-      well-append (explodes d n feeds) _ (well-explodes d n feeds) (well-append (map (copy c feeds lb vs) (numbers_below n)) _ (well-copies c feeds lb vs all.0 (numbers_below n)) (well-implodes d c n l.outs 0 gives)),
+      well-append (explodes d n (in_line_order feeds)) _ (well-explodes d n (in_line_order feeds)) (well-append (map (copy c feeds lb vs) (numbers_below n)) _ (well-copies c feeds lb vs all.0 (numbers_below n)) (well-implodes d c n l.outs 0 gives)),
     )
 
 abbrev IsCase : Vertex → Type 0

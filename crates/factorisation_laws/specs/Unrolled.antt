@@ -1,5 +1,5 @@
--- The tree without repetitions. Each repetition becomes a graph: an explode for each fork line, the copies of the body in order,
--- and an implode for each join line. The edges say what the lines say: a forked input is the part of the copy's number, a diffused
+-- The tree without repetitions. Each repetition becomes a graph: an explode for each fork line, in the order of the lines, the copies
+-- of the body in order, and an implode for each join line, in the order of the lines. The edges say what the lines say: a forked input is the part of the copy's number, a diffused
 -- one is the outer input, an iterated one is the outer input for copy 0 and an output of the copy before for the others.
 use Rattle.std.specs.Prelude.{ℕ, suc, ◌+◌, ◌-◌, ◌==◌, List, [], ◌∷◌, ◌++◌, length, map, replicate, slice_index_or, if◌then◌else◌}
 use Rattle.level_meaning.specs.declared.source.Source.{Source}
@@ -13,6 +13,7 @@ use Rattle.level_meaning.specs.Level.{numbers_below}
 use Rattle.algo_tree.specs.Tree.{Label, Kind, explode, implode, graph, repeat, Vertex, vertex, Vertices, no_vertices, and_vertex}
 use Rattle.algo_tree.specs.View.{vertices_of}
 use Rattle.algo_tree.specs.Well.{fork_names}
+use Rattle.factorisation_laws.specs.Lines.{in_line_order, fork_place}
 
 -- A vertex that flattening makes for a port of a repetition. It has the repetition's definition, no guard, and nothing inside.
 abbrev pub made : List ℕ → List ℕ → List Source → List ℕ → Kind → Vertex
@@ -22,23 +23,23 @@ made definition name ins outs k = vertex (record { part = Port name; definition 
 abbrev pub explode_of : List ℕ → ℕ → List ℕ → ℕ → ℕ → Vertex
 explode_of d n name k len = made d name (Own k ∷ []) (replicate n len) explode
 
--- an explode for each fork line, in order
+-- an explode for each fork line among these lines
 abbrev pub explodes : List ℕ → ℕ → List Feed → List Vertex
 explodes d n [] = []
 explodes d n (Fork name k len ∷ fs) = explode_of d n name k len ∷ explodes d n fs
 explodes d n (Diffuse k ∷ fs) = explodes d n fs
 explodes d n (Iterate k y ∷ fs) = explodes d n fs
 
--- The sources of the inputs of copy i. The explodes of these lines are numbered from m, and the copies from c.
-abbrev pub copy_sources : ℕ → ℕ → ℕ → List Feed → List Source
-copy_sources c i m [] = []
-copy_sources c i m (Fork name k len ∷ fs) = Of m i ∷ copy_sources c i (suc m) fs
-copy_sources c i m (Diffuse k ∷ fs) = Own k ∷ copy_sources c i m fs
-copy_sources c i m (Iterate k y ∷ fs) = (if i == 0 then Own k else Of (c + (i - 1)) y) ∷ copy_sources c i m fs
+-- The sources of the inputs of copy i. The explodes stand in the order of `lines`, and the copies are numbered from c.
+abbrev pub copy_sources : ℕ → ℕ → List Feed → List Feed → List Source
+copy_sources c i lines [] = []
+copy_sources c i lines (Fork name k len ∷ fs) = Of (fork_place name lines) i ∷ copy_sources c i lines fs
+copy_sources c i lines (Diffuse k ∷ fs) = Own k ∷ copy_sources c i lines fs
+copy_sources c i lines (Iterate k y ∷ fs) = (if i == 0 then Own k else Of (c + (i - 1)) y) ∷ copy_sources c i lines fs
 
 -- copy i of a body: the whole body, with a path and inputs of its own
 abbrev pub copy : ℕ → List Feed → Label → Vertices → ℕ → Vertex
-copy c feeds body us i = vertex (record { part = Numbered i; definition = body.definition; ins = copy_sources c i 0 feeds; guards = []; outs = body.outs; kind = body.kind }) us
+copy c feeds body us i = vertex (record { part = Numbered i; definition = body.definition; ins = copy_sources c i (in_line_order feeds) feeds; guards = []; outs = body.outs; kind = body.kind }) us
 
 -- the copies of the one body, in order
 abbrev pub copies : ℕ → List Feed → ℕ → Vertices → List Vertex
@@ -70,7 +71,7 @@ begin feeds = length (fork_names feeds)
 -- what stands inside the graph that a repetition becomes
 abbrev pub unrolled_inside : List ℕ → ℕ → List Feed → List Give → List ℕ → Vertices → List Vertex
 unrolled_inside d n feeds gives outs us =
-    explodes d n feeds ++ (copies (begin feeds) feeds n us ++ implodes d (begin feeds) n outs 0 gives)
+    explodes d n (in_line_order feeds) ++ (copies (begin feeds) feeds n us ++ implodes d (begin feeds) n outs 0 gives)
 
 abbrev pub with_kind : Label → Kind → Label
 with_kind l k = record { part = l.part; definition = l.definition; ins = l.ins; guards = l.guards; outs = l.outs; kind = k }

@@ -22,6 +22,7 @@ use Rattle.inlining_laws.specs.Plain.{IsPlain}
 use Rattle.inlining_laws.proofs.Flatten.{flatten-count}
 use Rattle.flat_laws.specs.Stands.{task_of, AllStand, Stands}
 use Rattle.flat_laws.proofs.Acyclic.{same_length}
+use Rattle.flat_laws.proofs.Ends.{IsNoEndTask, told_in, told_of, main_wire, told-main}
 
 -- numbers that count up from n
 abbrev CountFrom : ℕ → List ℕ → Type 0
@@ -55,54 +56,25 @@ module _ (number : tree.Kind → List ℕ) (none : (k : tree.Kind) → IsNoEnd k
   numbers_of no_vertices = []
   numbers_of (and_vertex (vertex l vs) us) = number l.kind ++ numbers_of us
 
-  numbers-append : (xs ys : List Operation) → numbers_in (xs ++ ys) ≡ numbers_in xs ++ numbers_in ys
-  numbers-append [] ys = refl
-  numbers-append (x ∷ xs) ys = ap (λ zs. of_task x.task ++ zs) (numbers-append xs ys) ∙ sym (append_assoc (of_task x.task) (numbers_in xs) (numbers_in ys))
+  no_number : (op : Operation) → IsNoEndTask op.task → of_task op.task ≡ []
+  no_number op h = by op.task h
+    where
+      by : (t : Task) → IsNoEndTask t → of_task t ≡ []
+      by (runs k) f = none k f
+      by (gets vs) f = refl
+      by sets f = refl
 
-  none-by : (W : Source → Source) (b : ℕ) (at : Path → Path) (l : Label) (k : tree.Kind) (inner : List Source → ℕ → (Path → Path) → List Operation)
-      → ((own : List Source) (at' : Path → Path) → numbers_in (inner own b at') ≡ []) → IsNoEnd k → numbers_in (inlined_by W b at l k inner) ≡ []
-  none-by W b at l (graph outs) inner deep h = deep (map W l.ins) (λ q. at (l.part ∷ q))
-  none-by W b at l (delay v) inner deep h = refl
-  none-by W b at l (sensor n) inner deep h = absurd h
-  none-by W b at l (actuator n) inner deep h = absurd h
-  none-by W b at l (switch values names) inner deep h = ap (λ xs. xs ++ []) (none (switch values names) h)
-  none-by W b at l (repeat n feeds gives) inner deep h = ap (λ xs. xs ++ []) (none (repeat n feeds gives) h)
-  none-by W b at l (constant v) inner deep h = ap (λ xs. xs ++ []) (none (constant v) h)
-  none-by W b at l (function es) inner deep h = ap (λ xs. xs ++ []) (none (function es) h)
-  none-by W b at l explode inner deep h = ap (λ xs. xs ++ []) (none explode h)
-  none-by W b at l implode inner deep h = ap (λ xs. xs ++ []) (none implode h)
-  none-by W b at l (merge values) inner deep h = ap (λ xs. xs ++ []) (none (merge values) h)
+  numbers-are : (ops : List Operation) → told_in (λ op. of_task op.task) no_number ops ≡ numbers_in ops
+  numbers-are [] = refl
+  numbers-are (op ∷ ops) = ap (λ xs. of_task op.task ++ xs) (numbers-are ops)
 
-  mutual
-    none-vertex : (W : Source → Source) (b : ℕ) (at : Path → Path) (u : tree.Vertex) → HasNoEnds u → numbers_in (inlined W b at u) ≡ []
-    none-vertex W b at (vertex l us) h = none-by W b at l l.kind _ (λ own at'. none-all (wire (wirings b us) own) b at' us h.1) h.0
-
-    none-all : (W : Source → Source) (b : ℕ) (at : Path → Path) (us : Vertices) → AllNoEnds us → numbers_in (inlined_all W b at us) ≡ []
-    none-all W b at no_vertices h = refl
-    none-all W b at (and_vertex u us) h = numbers-append (inlined W b at u) (inlined_all W (b + count u) at us) ∙ ap₂ (λ xs ys. xs ++ ys) (none-vertex W b at u h.0) (none-all W (b + count u) at us h.1)
-
-  main-by : (W : Source → Source) (b : ℕ) (at : Path → Path) (l : Label) (k : tree.Kind) (inner : List Source → ℕ → (Path → Path) → List Operation)
-      → ((own : List Source) (at' : Path → Path) → numbers_in (inner own b at') ≡ []) → numbers_in (inlined_by W b at l k inner) ≡ number k
-  main-by W b at l (graph outs) inner deep = deep (map W l.ins) (λ q. at (l.part ∷ q)) ∙ sym (none (graph outs) tt)
-  main-by W b at l (delay v) inner deep = sym (none (delay v) tt)
-  main-by W b at l (sensor n) inner deep = append-nil (number (sensor n))
-  main-by W b at l (actuator n) inner deep = append-nil (number (actuator n))
-  main-by W b at l (switch values names) inner deep = append-nil (number (switch values names))
-  main-by W b at l (repeat n feeds gives) inner deep = append-nil (number (repeat n feeds gives))
-  main-by W b at l (constant v) inner deep = append-nil (number (constant v))
-  main-by W b at l (function es) inner deep = append-nil (number (function es))
-  main-by W b at l explode inner deep = append-nil (number explode)
-  main-by W b at l implode inner deep = append-nil (number implode)
-  main-by W b at l (merge values) inner deep = append-nil (number (merge values))
-
-  main-all : (W : Source → Source) (b : ℕ) (at : Path → Path) (us : Vertices) → NoneInside us → numbers_in (inlined_all W b at us) ≡ numbers_of us
-  main-all W b at no_vertices h = refl
-  main-all W b at (and_vertex (vertex l vs) us) h =
-      numbers-append (inlined W b at (vertex l vs)) (inlined_all W (b + count (vertex l vs)) at us)
-      ∙ ap₂ (λ xs ys. xs ++ ys) (main-by W b at l l.kind _ (λ own at'. none-all (wire (wirings b vs) own) b at' vs h.0)) (main-all W (b + count (vertex l vs)) at us h.1)
+  numbers-told : (W : Source → Source) (at : Path → Path) (us : Vertices) → told_of (λ op. of_task op.task) no_number W at us ≡ numbers_of us
+  numbers-told W at no_vertices = refl
+  numbers-told W at (and_vertex (vertex l vs) us) = ap (λ xs. number l.kind ++ xs) (numbers-told W at us)
 
   main-numbers : (main : tree.Vertex) → NoneInside (vertices_in main) → numbers_in (operations main) ≡ numbers_of (vertices_in main)
-  main-numbers (vertex l us) h = main-all (wire (wirings 0 us) []) 0 (λ q. q) us h
+  main-numbers main h =
+      sym (numbers-are (operations main)) ∙ told-main (λ op. of_task op.task) no_number main h ∙ numbers-told (main_wire (λ op. of_task op.task) no_number main) (λ q. q) (vertices_in main)
 
   -- counted through, by a test that takes the next number of such a kind
   module _ (bodies : List (List Expr)) (test : ℕ → List Kind → Bool) (ended : (n : ℕ) → test n [] ≡ true)

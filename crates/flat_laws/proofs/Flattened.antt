@@ -23,7 +23,10 @@ use Rattle.inlining_laws.proofs.Flatten.{flatten-count}
 use Rattle.path_text.specs.Named.{HasNames}
 use Rattle.path_text.specs.Bounded.{HasBounds}
 use Rattle.flat_laws.specs.Stands.{Stands, KeepsGraph}
+use Rattle.flat_laws.specs.EndLengths.{HasEndLengths}
 use Rattle.flat_laws.proofs.Stands.{stands-keeps}
+use Rattle.flat_laws.proofs.EndLengths.{stands-lengths}
+use Rattle.flat_laws.proofs.KeptLengths.{lengths-unroll, lengths-guard}
 use Rattle.flat_laws.proofs.Acyclic.{same_length}
 use Rattle.flat_laws.proofs.Plain.{plain}
 use Rattle.flat_laws.proofs.Valid.{stands-flat}
@@ -51,6 +54,14 @@ module _ (main : Vertex) (h : IsTree main) where
           taken = λ rows k. keeps.taken rows k ∙ meaning.taken rows k;
           kept = λ rows k v op is get. sym (meaning.kept rows k op.path) ∙ keeps.kept rows k v op is get;
         }
+
+    pub flattened-lengths : HasEndLengths main g
+    flattened-lengths =
+        let one = unroll main in
+        let last = stands-lengths flat g tree flattened-plain stands in
+        let second = lengths-guard one (tree-unroll main h) in
+        let first = lengths-unroll main h in
+        record { sensors = last.sensors ∙ second.0 ∙ first.0; actuators = last.actuators ∙ second.1 ∙ first.1 }
 
     pub flattened-count : length g.vertices ≡ count main
     flattened-count =

@@ -1,7 +1,10 @@
 pub mod Stands
 pub mod Halves
 pub mod Acyclic
+pub mod Ends
 pub mod EndsNumbered
+pub mod EndLengths
+pub mod KeptLengths
 pub mod Plain
 pub mod Lengths
 pub mod Fits

@@ -4,7 +4,7 @@ use Rattle.std.proofs.Common.{◌≡◌, ℕ, ◌+◌, ◌≤◌, ◌==◌, ◌|
 use Rattle.std.specs.List.{list_all}
 use Rattle.std.proofs.lemmas.Bool.{false≢true, and_parts, and_from, or_left}
 use Rattle.std.proofs.lemmas.List.Folds.{list_all-append}
-use Rattle.syn_base.specs.Name.{is_name_byte, is_name}
+use Rattle.syn_base.specs.Name.{is_name_byte}
 use Rattle.level_meaning.specs.declared.source.Source.{Source}
 use Rattle.level_meaning.specs.declared.part.Part.{Part}
 use Rattle.level_meaning.specs.declared.part.Part.TheVariants.{Named, Numbered, Port}
@@ -16,9 +16,9 @@ use Rattle.inlining_laws.specs.Flat.{Operation, Task, runs, gets, sets}
 use Rattle.inlining_laws.specs.Inlined.{wire, wirings, inlined, inlined_all, operations}
 use Rattle.inlining_laws.proofs.Pairs.{AtAll, all-append, paths-by}
 use Rattle.path_text.specs.Texts.{part_text, parts_text, path_text}
-use Rattle.path_text.specs.Named.{IsPathNamed, IsNamed, AllNamed, HasNames}
+use Rattle.path_text.specs.Named.{is_word, IsPathNamed, IsNamed, AllNamed, HasNames}
 use Rattle.path_text.specs.Bounded.{IsPathBounded, IsBounded, AllBounded, HasBounds}
-use Rattle.path_text.proofs.Texts.{AreNameBytes, name_bytes, number_bytes}
+use Rattle.path_text.proofs.Texts.{AreNameBytes, word_bytes, number_bytes}
 use Rattle.flat_laws.specs.Names.{half_text}
 
 -- the path that the name of an operation reads like
@@ -96,17 +96,17 @@ joined-pass x y h k = list_all-append is_path_byte x y ∙ and_from (list_all is
 
 parts-pass : (q : Path) → IsPathNamed q → IsPathBounded q → list_all is_path_byte (parts_text q) ≡ true
 parts-pass [] h k = refl
-parts-pass (Named x ∷ q) h k = joined-pass x (parts_text q) (bytes-pass x (name_bytes x h.0)) (parts-pass q h.1 k.1)
+parts-pass (Named x ∷ q) h k = joined-pass x (parts_text q) (bytes-pass x (word_bytes x h.0)) (parts-pass q h.1 k.1)
 parts-pass (Numbered n ∷ q) h k = joined-pass (decimal n) (parts_text q) (bytes-pass (decimal n) (number_bytes n k.0)) (parts-pass q h.1 k.1)
-parts-pass (Port x ∷ q) h k = joined-pass x (parts_text q) (bytes-pass x (name_bytes x h.0)) (parts-pass q h.1 k.1)
+parts-pass (Port x ∷ q) h k = joined-pass x (parts_text q) (bytes-pass x (word_bytes x h.0)) (parts-pass q h.1 k.1)
 
 path-pass : (q : Path) → IsPathNamed q → IsPathBounded q → list_all is_path_byte (path_text q) ≡ true
 path-pass [] h k = refl
-path-pass (Named x ∷ q) h k = joined-pass x (parts_text q) (bytes-pass x (name_bytes x h.0)) (parts-pass q h.1 k.1)
+path-pass (Named x ∷ q) h k = joined-pass x (parts_text q) (bytes-pass x (word_bytes x h.0)) (parts-pass q h.1 k.1)
 path-pass (Numbered n ∷ q) h k = parts-pass (Numbered n ∷ q) h k
 path-pass (Port x ∷ q) h k = parts-pass (Port x ∷ q) h k
 
-name-long : (x s : List ℕ) → is_name x ≡ true → 1 ≤ length (x ++ s)
+name-long : (x s : List ℕ) → is_word x ≡ true → 1 ≤ length (x ++ s)
 name-long [] s h = absurd (false≢true h)
 name-long (b ∷ x) s h = omega arith
 

@@ -9,6 +9,7 @@ use Rattle.level_meaning.specs.Level.{numbers_below}
 use Rattle.algo_tree.specs.Tree.{Label, Kind, sensor, actuator, constant, delay, function, explode, implode, merge, graph, switch, repeat, Vertex, vertex, Vertices, no_vertices, and_vertex}
 use Rattle.algo_tree.specs.Valid.{IsTree}
 use Rattle.algo_tree.specs.View.{vertices_of}
+use Rattle.factorisation_laws.specs.Lines.{in_line_order}
 use Rattle.factorisation_laws.specs.Unrolled.{explodes, copy, copies, implodes, begin, unrolled_inside, unrolled_at, unroll, unroll_all}
 use Rattle.path_text.specs.Bounded.{IsKindBounded, IsLabelBounded, IsBounded, AllBounded, HasBounds}
 
@@ -50,7 +51,7 @@ unrolled-bounded : (l : Label) (k : Kind) (us : Vertices) â†’ IsLabelBounded l â
 unrolled-bounded l (repeat n feeds gives) us h k inside = (
   record { part = h.part; kind = tt },
   all-from_each (unrolled_inside l.definition n feeds gives l.outs us)
-      (each-append (explodes l.definition n feeds) _ (explodes-bounded l.definition n feeds)
+      (each-append (explodes l.definition n (in_line_order feeds)) _ (explodes-bounded l.definition n (in_line_order feeds))
       (each-append (copies (begin feeds) feeds n us) _ (copies-bounded (begin feeds) feeds n us k inside) (implodes-bounded l.definition (begin feeds) n l.outs 0 gives))),
 )
 unrolled-bounded l (sensor n) us h k inside = (record { part = h.part; kind = k }, inside)

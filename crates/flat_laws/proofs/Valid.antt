@@ -38,7 +38,7 @@ outs-from vertices b (op ∷ ops) h = (
   outs-from vertices (suc b) ops (λ i o is p. let e : b + suc i ≡ suc b + i = omega arith in subst (λ m. long vertices (Of m p) ≡ slice_index_or o.outs p 0) e (h (suc i) o is p)),
 )
 
-outs-main : (g : Graph) (ops : List Operation) → Stands g ops → Outs (long g.vertices) (λ k. refl) 0 ops
+pub outs-main : (g : Graph) (ops : List Operation) → Stands g ops → Outs (long g.vertices) (λ k. refl) 0 ops
 outs-main g ops stands = outs-from g.vertices 0 ops (λ i op is p.
     let y = vertex_of g.bodies 0 g.vertices ops stands i op is in
     subst (λ m. long g.vertices (Of m p) ≡ slice_index_or op.outs p 0) (sym (zero-add i))

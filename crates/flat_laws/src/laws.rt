@@ -15,6 +15,7 @@ ghost use Rattle.path_text.specs.Bounded.{HasBounds};
 ghost use Rattle.path_text.specs.Named.{HasNames};
 ghost use Rattle.factorisation_laws.specs.NoRepeat.{HasNoRepeat};
 ghost use Rattle.factorisation_laws.specs.Unrolled.{unroll};
+ghost use Rattle.flat_laws.specs.EndLengths.{HasEndLengths};
 ghost use Rattle.flat_laws.specs.Stands.{Stands, KeepsGraph};
 ghost use Rattle.flat_laws.specs.FlatOf.{graph_of};
 ghost use Rattle.flat_laws.specs.Numbering.{HasBodiesInOrder};
@@ -62,8 +63,8 @@ pub fn bounds_are_kept()
 {}
 
 /// So the flat graph of any tree, whose repetitions are unrolled and whose cases are put under guards,
-/// keeps its meaning, has the number of operations that is counted without expanding the tree, and is
-/// valid.
+/// keeps its meaning, has the number of operations that is counted without expanding the tree, is
+/// valid, and has sensors and actuators of the same lengths.
 pub fn flattened_is_flat()
     ensures kept { (main : Vertex) (g : Graph) → IsTree main → Stands g (operations (guard (unroll main)))
         → KeepsGraph main g (operations (guard (unroll main))) }
@@ -71,6 +72,8 @@ pub fn flattened_is_flat()
         → Stands g (operations (guard (unroll main))) → length g.vertices ≡ count main }
     ensures valid { (main : Vertex) (g : Graph) → IsTree main → HasNames (guard (unroll main))
         → HasBounds main → Stands g (operations (guard (unroll main))) → IsTrue (is_flat g) }
+    ensures lengths { (main : Vertex) (g : Graph) → IsTree main
+        → Stands g (operations (guard (unroll main))) → HasEndLengths main g }
 {}
 
 /// A list of operations has one flat graph that stands for it with the bodies in order.

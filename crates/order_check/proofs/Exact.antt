@@ -15,7 +15,7 @@ use Rattle.executive_program.specs.MicroSteps.{transfers}
 use Rattle.executive_program.specs.Places.{Places}
 use Rattle.executive_program.specs.WellFormed.{FollowsLoops, NamesIn, Stands}
 use Rattle.order_check.specs.Checked.{are_below, communicators, counts, counts_loops, follows_loops, is_at_medium, is_counted, is_medium, named, names_in, on_media}
-use Rattle.order_check.proofs.ListTests.{all_here, all_there, below_of, of_below, not_true, stands_of, of_stands}
+use Rattle.program_walks.proofs.ListTests.{all_here, all_there, below_of, of_below, not_true, stands_of, of_stands}
 
 pub below_each : (n : ℕ) (list : List ℕ) → are_below n list ≡ true → (k b : ℕ) → slice_get list k ≡ Some b → b < n
 below_each n list h k b e = ltb-true b n (all_here (λ c. nat_lt c n) list h k b e)

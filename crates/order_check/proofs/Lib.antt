@@ -1,13 +1,4 @@
-mod Called
 mod Exact
-mod Guarded
-mod Kept
-mod ListTests
 mod Listed
 mod Ordered
-mod Passing
-mod Prologues
-mod Transferred
-mod Walked
-mod Written
 mod WorkedProgram

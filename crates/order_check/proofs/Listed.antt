@@ -11,9 +11,9 @@ use Rattle.archi_graph.specs.declared.medium.Seq.{Seq}
 use Rattle.archi_graph.specs.Archi.{Architecture}
 use Rattle.archi_graph.specs.Sequences.{sequences, sequences_of}
 use Rattle.executive_program.specs.declared.program.SeqCode.{SeqCode}
-use Rattle.order_check.specs.Checked.{passed}
+use Rattle.program_walks.specs.Walks.{passed}
 use Rattle.order_check.specs.Sequenced.{are_sequences, ends_at, is_of, is_sequence, same_medium}
-use Rattle.order_check.proofs.Written.{same_numbers}
+use Rattle.program_walks.proofs.Readings.{same_numbers}
 
 -- the parts of a sequence decide it
 medium_is : (m n : Option ℕ) → same_medium m n ≡ true → m ≡ n

@@ -1,5 +1,5 @@
--- A worked program is well formed: two operators with a bus, a sensor and a function on the first, a function on the second, an actuator on each.
-use Rattle.std.proofs.Common.{◌≡◌, ℕ, List, [], ◌∷◌, Option, Some, None, refl, false, pos}
+-- Worked programs are well formed: two operators with a bus, a sensor and a function on the first, a function on the second, an actuator on each.
+use Rattle.std.proofs.Common.{◌≡◌, ℕ, Bool, List, [], ◌∷◌, Option, Some, None, refl, true, false, pos}
 use Rattle.archi_graph.specs.declared.medium.Seq.{Seq}
 use Rattle.flat_graph.specs.declared.vertex.Source.{Source}
 use Rattle.flat_graph.specs.declared.vertex.Vertex.{Vertex}
@@ -23,19 +23,27 @@ seq o m = record { operator = o; medium = m }
 abbrev code : Seq → List Instr → List Instr → SeqCode
 code q p t = record { seq = q; prologue = p; turn = t }
 
-abbrev on : ℕ → Buffer
-on o = record { operator = o; len = 1; depth = 1 }
+-- a buffer of an operator with so many places
+abbrev with_places : ℕ → ℕ → Buffer
+with_places o depth = record { operator = o; len = 1; depth = depth }
 
--- the communicator of the first operator with this loop
-abbrev program : List Instr → Program
-program sender = record {
-  buffers = on 0 ∷ on 0 ∷ on 1 ∷ on 1 ∷ [];
+abbrev on : ℕ → Buffer
+on o = with_places o 1
+
+-- these buffers, the prologues of the sender and of the second operator, and the sender's loop
+abbrev program_with : List Buffer → List Instr → List Instr → List Instr → Program
+program_with buffers first second sender = record {
+  buffers = buffers;
   pairs = 0 ∷ 1 ∷ [];
   seqs = code (seq 0 None) [] (Suc0 0 ∷ Call 0 [] (0 ∷ []) ∷ Pre1 0 ∷ Call 1 (0 ∷ []) (1 ∷ []) ∷ Call 3 (1 ∷ []) [] ∷ [])
-      ∷ code (seq 0 (Some 0)) (Pre0 0 ∷ []) sender
-      ∷ code (seq 1 None) (Pre0 1 ∷ []) (Suc1 1 ∷ Call 2 (2 ∷ []) (3 ∷ []) ∷ Pre0 1 ∷ Call 4 (3 ∷ []) [] ∷ [])
+      ∷ code (seq 0 (Some 0)) first sender
+      ∷ code (seq 1 None) second (Suc1 1 ∷ Call 2 (2 ∷ []) (3 ∷ []) ∷ Pre0 1 ∷ Call 4 (3 ∷ []) [] ∷ [])
       ∷ code (seq 1 (Some 0)) [] (Suc0 1 ∷ Recv 2 0 ∷ Pre1 1 ∷ []) ∷ [];
 }
+
+-- all buffers of one place, and the communicator of the first operator with this loop
+abbrev program : List Instr → Program
+program sender = program_with (on 0 ∷ on 0 ∷ on 1 ∷ on 1 ∷ []) (Pre0 0 ∷ []) (Pre0 1 ∷ []) sender
 
 abbrev source : ℕ → Source
 source v = record { vertex = v; port = 0 }
@@ -68,3 +76,27 @@ well_formed = (order, in_order)
 -- but not where the empty semaphore is signalled before the read
 hasty : is_order (program (Suc1 0 ∷ Pre0 0 ∷ Send 0 1 ∷ [])) graph.vertices sequences 1 order ≡ false
 hasty = refl
+
+-- Two pairs guard the first and the third buffer, which may be deep.
+abbrev deep : List Buffer → List Instr → List Instr → Bool
+deep buffers first second = is_order (program_with buffers first second sends) graph.vertices sequences 1 order
+
+two_and_four : deep (with_places 0 2 ∷ on 0 ∷ with_places 1 4 ∷ on 1 ∷ []) (Pre0 0 ∷ Pre0 0 ∷ []) (Pre0 1 ∷ Pre0 1 ∷ Pre0 1 ∷ Pre0 1 ∷ []) ≡ true
+two_and_four = refl
+
+-- a prologue signals for each place
+one_signal : deep (with_places 0 2 ∷ on 0 ∷ on 1 ∷ on 1 ∷ []) (Pre0 0 ∷ []) (Pre0 1 ∷ []) ≡ false
+one_signal = refl
+
+three_signals : deep (with_places 0 2 ∷ on 0 ∷ on 1 ∷ on 1 ∷ []) (Pre0 0 ∷ Pre0 0 ∷ Pre0 0 ∷ []) (Pre0 1 ∷ []) ≡ false
+three_signals = refl
+
+-- a buffer that no pair guards has one place, and any has one to four
+unguarded : deep (on 0 ∷ with_places 0 2 ∷ on 1 ∷ on 1 ∷ []) (Pre0 0 ∷ []) (Pre0 1 ∷ []) ≡ false
+unguarded = refl
+
+five_places : deep (with_places 0 5 ∷ on 0 ∷ on 1 ∷ on 1 ∷ []) (Pre0 0 ∷ Pre0 0 ∷ Pre0 0 ∷ Pre0 0 ∷ Pre0 0 ∷ []) (Pre0 1 ∷ []) ≡ false
+five_places = refl
+
+no_place : deep (with_places 0 0 ∷ on 0 ∷ on 1 ∷ on 1 ∷ []) [] (Pre0 1 ∷ []) ≡ false
+no_place = refl

@@ -1,15 +1,12 @@
 -- The clauses of what a serial order is, as tests.
-use Rattle.std.specs.Prelude.{ℕ, ◌+◌, Bool, true, ◌&&◌, not, cond, nat_eq, nat_lt, List, [], ◌∷◌, length, Option, Some, None}
-use Rattle.std.specs.List.{count_by, list_all, range_with_len}
+use Rattle.std.specs.Prelude.{ℕ, Bool, true, ◌&&◌, not, nat_eq, nat_lt, List, length, Option, Some, None}
+use Rattle.std.specs.List.{count_by, list_all}
 use Rattle.executive_program.specs.declared.program.Instr.{Instr}
 use Rattle.executive_program.specs.declared.program.Instr.TheVariants.{Suc0, Suc1, Pre0, Pre1, Call, Send, Recv, Sync}
 use Rattle.executive_program.specs.declared.program.Program.{Program}
+use Rattle.program_walks.specs.Walks.{all_below}
 use Rattle.executive_program.specs.Instructions.{is_communication, turn}
 use Rattle.executive_program.specs.MicroSteps.{transfers}
-
--- the test passes for each number below n
-abbrev pub all_below : (ℕ → Bool) → ℕ → Bool
-all_below test n = list_all test (range_with_len 0 n)
 
 -- the numbers are below n
 abbrev pub are_below : ℕ → List ℕ → Bool
@@ -60,20 +57,3 @@ module _ (p : Program) where
 
   abbrev pub counts : Bool
   counts = list_all (λ q. is_counted q.seq.medium q.turn) p.seqs
-
--- the test passes at each element with its place, of which the first is n
-abbrev pub all_at : {X : Type 0} → (ℕ → X → Bool) → ℕ → List X → Bool
-all_at test n [] = true
-all_at test n (x ∷ xs) = test n x && all_at test (n + 1) xs
-
--- the place behind the list, of which the first element has place n, if the test passes at each element with its place
-abbrev pub passed : {X : Type 0} → (ℕ → X → Bool) → ℕ → List X → Option ℕ
-passed test n [] = Some n
-passed test n (x ∷ xs) = cond (test n x) (passed test (n + 1) xs) None
-
--- the test passes at each instruction with its sequence and its place
-abbrev pub every : Program → (ℕ → ℕ → Instr → Bool) → Bool
-every p test = all_at (λ s q. all_at (test s) 0 q.turn) 0 p.seqs
-
-abbrev pub implies : Bool → Bool → Bool
-implies a b = cond a b true

@@ -1,9 +1,3 @@
-pub mod Buffers
-pub mod Calls
-pub mod Carries
 pub mod Checked
-pub mod Opened
 pub mod Order
-pub mod Pairs
 pub mod Sequenced
-pub mod Transfers

@@ -2,7 +2,7 @@
 use Rattle.std.specs.Prelude.{ℕ, Bool, true, false, ◌&&◌, nat_eq, nat_lt, List, length, Option, Some, None, slice_get}
 use Rattle.archi_graph.specs.declared.medium.Seq.{Seq}
 use Rattle.executive_program.specs.declared.program.SeqCode.{SeqCode}
-use Rattle.order_check.specs.Checked.{passed}
+use Rattle.program_walks.specs.Walks.{passed}
 
 abbrev pub same_medium : Option ℕ → Option ℕ → Bool
 same_medium None None = true

@@ -4,9 +4,8 @@ ghost use Rattle.std.specs.List.{count_by};
 ghost use Rattle.executive_program.specs.Instructions.{turn};
 ghost use Rattle.order_check.specs.Checked.{are_below, counts_loops, follows_loops};
 
-use crate::parts::turn_of;
-use crate::placing::count_in;
 use executive_program::Program;
+use program_walks::{count_in, turn_of};
 
 /// Whether these numbers are below `bound`.
 pub fn are_below(list: &[u32], bound: usize) -> bool

@@ -4,10 +4,9 @@ ghost use Rattle.std.specs.List.{list_all};
 ghost use Rattle.executive_program.specs.Instructions.{is_communication};
 ghost use Rattle.order_check.specs.Checked.{are_below, communicators, counts, is_at_medium, is_counted, is_medium, named, names_in, on_media};
 
-use crate::instructions::{count_communications, is_communication};
 use crate::loops::are_below;
-use crate::searches::transfers;
 use executive_program::{Instr, Program};
+use program_walks::{count_communications, is_communication, transfers};
 
 fn is_pair(program: &Program, pair: u32) -> bool
     ensures { result ≡ nat_lt pair (length program.now.pairs) }

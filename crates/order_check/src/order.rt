@@ -6,18 +6,14 @@ ghost use Rattle.archi_graph.specs.Sequences.{sequences, sequences_of};
 ghost use Rattle.executive_program.specs.WellFormed.{IsOrder};
 ghost use Rattle.order_check.specs.Order.{are_guards_right, are_numbers_right, are_values_right, is_order};
 
-use crate::buffers::are_right;
-use crate::calling::are_called;
-use crate::carrying::are_kept;
-use crate::guarding::are_guarded;
 use crate::loops::are_followed;
 use crate::naming::{are_communicators, are_counted, are_named, are_on_media};
-use crate::opening::are_opened;
 use crate::sequencing::are_sequences;
-use crate::transferring::are_transfers;
 use archi_graph::{Archi, Medium};
+use buffer_check::{buffers_are_right, pairs_guard, prologues_open};
 use executive_program::Program;
-use flat_graph::{Flat, Vertex};
+use flat_graph::Flat;
+use value_check::{operations_are_called, transfers_are_right, transfers_keep_sources};
 
 /// Whether what the instructions name is there, communications stand in communicators of so many media,
 /// and each has one in each transfer of its medium.
@@ -35,32 +31,27 @@ fn are_numbers_right(program: &Program, operations: usize, media: usize) -> bool
 fn are_guards_right(program: &Program, order: &[u32]) -> bool
     ensures { result ≡ are_guards_right program.now order.now }
 {
-    are_right(program) && are_guarded(program, order) && are_opened(program)
+    buffers_are_right(program, order) && pairs_guard(program, order) && prologues_open(program)
 }
 
 /// Whether each operation is called right, and each transfer is right and keeps the source.
-fn are_values_right(program: &Program, order: &[u32], vertices: &[Vertex], media: usize) -> bool
-    ensures { result ≡ are_values_right program.now order.now vertices.now media }
+fn are_values_right(program: &Program, order: &[u32], flat: &Flat, media: usize) -> bool
+    ensures { result ≡ are_values_right program.now order.now flat.now.vertices media }
 {
-    are_called(program, vertices)
-        && are_transfers(program, order, media)
-        && are_kept(program, media)
+    operations_are_called(program, flat, order)
+        && transfers_are_right(program, order, media)
+        && transfers_keep_sources(program, media)
 }
 
-fn passes(
-    program: &Program,
-    order: &[u32],
-    vertices: &[Vertex],
-    operators: usize,
-    media: &[Medium],
-) -> bool
-    ensures { result ≡ is_order program.now vertices.now (flat_map (sequences_of media.now) (range_with_len 0 operators)) (length media.now) order.now }
+/// The whole test, over so many operators and these media.
+fn passes(program: &Program, order: &[u32], flat: &Flat, operators: usize, media: &[Medium]) -> bool
+    ensures { result ≡ is_order program.now flat.now.vertices (flat_map (sequences_of media.now) (range_with_len 0 operators)) (length media.now) order.now }
 {
     are_sequences(program.seqs.as_slice(), operators, media)
         && are_followed(program, order)
-        && are_numbers_right(program, vertices.len(), media.len())
+        && are_numbers_right(program, flat.vertices().len(), media.len())
         && are_guards_right(program, order)
-        && are_values_right(program, order, vertices, media.len())
+        && are_values_right(program, order, flat, media.len())
 }
 
 /// Whether a program is well formed for a flat graph and an architecture by the serial order that takes,
@@ -69,11 +60,5 @@ fn passes(
 pub fn is_order(program: &Program, flat: &Flat, archi: &Archi, order: &[u32]) -> bool
     ensures { Decides result (IsOrder program.now flat.now (sequences archi.now) (length archi.now.media) order.now) }
 {
-    passes(
-        program,
-        order,
-        flat.vertices(),
-        archi.operators().len(),
-        archi.media(),
-    )
+    passes(program, order, flat, archi.operators().len(), archi.media())
 }

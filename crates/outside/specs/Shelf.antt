@@ -2,6 +2,7 @@
 use Rattle.std.specs.Prelude.{◌≡◌, ◌≢◌, ℕ, ◌+◌, ◌-◌, ◌<◌, ◌≤◌, List, length, take, drop, Option, IfSome}
 use Rattle.syn_base.specs.declared.limits.LimitFault.{LimitFault}
 use Rattle.syn_base.specs.declared.limits.LimitKind.TheVariants as limit
+use Rattle.syn_base.specs.Limits.{bound_of}
 use Rattle.outside.specs.Bytes.{Bytes}
 use Rattle.outside.specs.Faults.{Rose}
 use Rattle.outside.specs.declared.file.File.{File}
@@ -31,7 +32,7 @@ pub record Took (file : Bytes) (at n : ℕ) (buffer : List ℕ) : Type 0 where
 
 -- the most bytes that a file may have
 abbrev pub file_bound : ℕ
-file_bound = 16777216
+file_bound = bound_of limit.File
 
 -- a file that is one byte or more too long
 abbrev pub file_limit : LimitFault

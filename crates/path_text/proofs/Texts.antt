@@ -9,14 +9,20 @@ use Rattle.syn_base.specs.Name.{is_letter, is_digit, is_name_byte, begins_name, 
 use Rattle.level_meaning.specs.declared.part.Part.TheVariants.{Named, Numbered, Port}
 use Rattle.level_meaning.specs.Level.{Path}
 use Rattle.path_text.specs.Texts.{parts_text, path_text}
-use Rattle.path_text.specs.Named.{IsPathNamed}
+use Rattle.path_text.specs.Named.{is_word, IsPathNamed}
 use Rattle.path_text.specs.Bounded.{IsPathBounded}
 
 abbrev pub AreNameBytes : List ℕ → Type 0
 AreNameBytes xs = list_all is_name_byte xs ≡ true
 
-pub name_bytes : (x : List ℕ) → is_name x ≡ true → AreNameBytes x
-name_bytes x h = (and_parts (begins_name x && nat_le (length x) 32) (list_all is_name_byte x) h).1
+pub word_bytes : (x : List ℕ) → is_word x ≡ true → AreNameBytes x
+word_bytes x h = (and_parts (begins_name x) (list_all is_name_byte x) h).1
+
+-- a name of a text is such a word
+pub name_word : (x : List ℕ) → is_name x ≡ true → is_word x ≡ true
+name_word x h =
+    let both = and_parts (begins_name x && nat_le (length x) 32) (list_all is_name_byte x) h in
+    and_from (begins_name x) (list_all is_name_byte x) (and_parts (begins_name x) (nat_le (length x) 32) both.0).0 both.1
 
 digit_byte : (d : ℕ) → d < 10 → is_name_byte (48 + d) ≡ true
 digit_byte d lt =
@@ -71,13 +77,13 @@ parts_tell (Named x ∷ p) [] hp hq bp bq e = absurd (let n = ap length e in ome
 parts_tell (Numbered m ∷ p) [] hp hq bp bq e = absurd (let n = ap length e in omega (arith, n))
 parts_tell (Port x ∷ p) [] hp hq bp bq e = absurd (let n = ap length e in omega (arith, n))
 parts_tell (Named x ∷ p) (Named y ∷ q) hp hq bp bq e =
-    let both = cut x y (parts_text p) (parts_text q) (name_bytes x hp.0) (name_bytes y hq.0) (parts_end p) (parts_end q) (ap (drop 1) e) in
+    let both = cut x y (parts_text p) (parts_text q) (word_bytes x hp.0) (word_bytes y hq.0) (parts_end p) (parts_end q) (ap (drop 1) e) in
     ap₂ (λ z r. Named z ∷ r) both.0 (parts_tell p q hp.1 hq.1 bp.1 bq.1 both.1)
 parts_tell (Numbered m ∷ p) (Numbered n ∷ q) hp hq bp bq e =
     let both = cut (decimal m) (decimal n) (parts_text p) (parts_text q) (number_bytes m bp.0) (number_bytes n bq.0) (parts_end p) (parts_end q) (ap (drop 1) e) in
     ap₂ (λ z r. Numbered z ∷ r) (decimal_injective m n (omega (arith, bp.0)) (omega (arith, bq.0)) both.0) (parts_tell p q hp.1 hq.1 bp.1 bq.1 both.1)
 parts_tell (Port x ∷ p) (Port y ∷ q) hp hq bp bq e =
-    let both = cut x y (parts_text p) (parts_text q) (name_bytes x hp.0) (name_bytes y hq.0) (parts_end p) (parts_end q) (ap (drop 1) e) in
+    let both = cut x y (parts_text p) (parts_text q) (word_bytes x hp.0) (word_bytes y hq.0) (parts_end p) (parts_end q) (ap (drop 1) e) in
     ap₂ (λ z r. Port z ∷ r) both.0 (parts_tell p q hp.1 hq.1 bp.1 bq.1 both.1)
 parts_tell (Named x ∷ p) (Numbered n ∷ q) hp hq bp bq e = absurd (let n = same_head 47 46 _ _ e in omega (arith, n))
 parts_tell (Named x ∷ p) (Port y ∷ q) hp hq bp bq e = absurd (let n = same_head 47 58 _ _ e in omega (arith, n))
@@ -87,13 +93,13 @@ parts_tell (Port x ∷ p) (Named y ∷ q) hp hq bp bq e = absurd (let n = same_h
 parts_tell (Port x ∷ p) (Numbered n ∷ q) hp hq bp bq e = absurd (let n = same_head 58 46 _ _ e in omega (arith, n))
 
 -- a name is not empty
-name_other : (x s t : List ℕ) → is_name x ≡ true → IsEnd t → x ++ s ≡ t → ⊥
+name_other : (x s t : List ℕ) → is_word x ≡ true → IsEnd t → x ++ s ≡ t → ⊥
 name_other [] s t name h e = false≢true name
-name_other (b ∷ x) s t name h e = no_end t b (x ++ s) h (and_parts (is_name_byte b) (list_all is_name_byte x) (name_bytes (b ∷ x) name)).0 (sym e)
+name_other (b ∷ x) s t name h e = no_end t b (x ++ s) h (and_parts (is_name_byte b) (list_all is_name_byte x) (word_bytes (b ∷ x) name)).0 (sym e)
 
 pub path_told : (p q : Path) → IsPathNamed p → IsPathNamed q → IsPathBounded p → IsPathBounded q → path_text p ≡ path_text q → p ≡ q
 path_told (Named x ∷ p) (Named y ∷ q) hp hq bp bq e =
-    let both = cut x y (parts_text p) (parts_text q) (name_bytes x hp.0) (name_bytes y hq.0) (parts_end p) (parts_end q) e in
+    let both = cut x y (parts_text p) (parts_text q) (word_bytes x hp.0) (word_bytes y hq.0) (parts_end p) (parts_end q) e in
     ap₂ (λ z r. Named z ∷ r) both.0 (parts_tell p q hp.1 hq.1 bp.1 bq.1 both.1)
 path_told (Named x ∷ p) [] hp hq bp bq e = absurd (name_other x (parts_text p) [] hp.0 tt e)
 path_told (Named x ∷ p) (Numbered n ∷ q) hp hq bp bq e = absurd (name_other x (parts_text p) (parts_text (Numbered n ∷ q)) hp.0 refl e)

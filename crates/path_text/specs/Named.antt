@@ -1,6 +1,7 @@
 -- Names where names stand: what the texts of paths, and the definitions of operations, are made of.
-use Rattle.std.specs.Prelude.{◌≡◌, ℕ, IsTrue, List, [], ◌∷◌}
-use Rattle.syn_base.specs.Name.{is_name}
+use Rattle.std.specs.Prelude.{◌≡◌, ℕ, Bool, ◌&&◌, IsTrue, List, [], ◌∷◌}
+use Rattle.std.specs.List.{list_all}
+use Rattle.syn_base.specs.Name.{is_name_byte, begins_name}
 use Rattle.level_meaning.specs.declared.part.Part.{Part}
 use Rattle.level_meaning.specs.declared.part.Part.TheVariants.{Named, Numbered, Port}
 use Rattle.level_meaning.specs.Level.{Path}
@@ -9,10 +10,14 @@ use Rattle.algo_tree.specs.Well.{fork_names, join_names}
 use Rattle.path_text.specs.Texts.{path_text}
 use Rattle.path_text.specs.Bounded.{IsPathBounded}
 
+-- One or more letters, digits and `_`, of which the first is no digit: a name of a text, or a longer one, as passes make them.
+abbrev pub is_word : List ℕ → Bool
+is_word x = begins_name x && list_all is_name_byte x
+
 abbrev pub IsPartNamed : Part → Type 0
-IsPartNamed (Named x) = IsTrue (is_name x)
+IsPartNamed (Named x) = IsTrue (is_word x)
 IsPartNamed (Numbered n) = Unit {0}
-IsPartNamed (Port x) = IsTrue (is_name x)
+IsPartNamed (Port x) = IsTrue (is_word x)
 
 abbrev pub IsPathNamed : Path → Type 0
 IsPathNamed [] = Unit {0}
@@ -20,7 +25,7 @@ IsPathNamed (p ∷ q) = IsPartNamed p × IsPathNamed q
 
 abbrev pub AreNames : List (List ℕ) → Type 0
 AreNames [] = Unit {0}
-AreNames (x ∷ xs) = IsTrue (is_name x) × AreNames xs
+AreNames (x ∷ xs) = IsTrue (is_word x) × AreNames xs
 
 -- the outputs of a switch and the outer ports of fork and join lines, of which flattening makes vertices
 abbrev pub IsKindNamed : Kind → Type 0
@@ -30,7 +35,7 @@ IsKindNamed _ = Unit {0}
 
 pub record IsLabelNamed (l : Label) : Type 0 where
   pub part : IsPartNamed l.part
-  pub definition : IsTrue (is_name l.definition)
+  pub definition : IsTrue (is_word l.definition)
   pub kind : IsKindNamed l.kind
 
 abbrev mutual

@@ -41,7 +41,7 @@ pub distinct_with : (w : Bytes) (xs ys : List Bytes) → IsNewName w (xs ++ ys) 
 distinct_with w [] ys new h = (new, h)
 distinct_with w (x ∷ xs) ys new h = (still_new x w xs ys h.0 (flipped w x new.0), distinct_with w xs ys new.1 h.1)
 
--- a new name, put behind
+-- a new name, put after
 pub distinct_behind : (w : Bytes) (xs : List Bytes) → IsNewName w xs → AreDistinctNames xs → AreDistinctNames (xs ++ w ∷ [])
 distinct_behind w xs new h =
     let all : xs ≡ xs ++ [] = sym (append-nil xs) in

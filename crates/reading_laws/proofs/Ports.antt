@@ -40,7 +40,7 @@ input_put ps p ys = ap (λ (l : List Bytes). l ++ ys) (map-append (λ q. q.name)
 pub output_put : (xs : List Bytes) (ps : List Port) (p : Port) → xs ++ port_names (ps ++ p ∷ []) ≡ (xs ++ port_names ps) ++ p.name ∷ []
 output_put xs ps p = ap (λ (l : List Bytes). xs ++ l) (map-append (λ q. q.name) ps (p ∷ [])) ∙ sym (append_assoc xs (port_names ps) (p.name ∷ []))
 
--- a new name between others, or behind them
+-- a new name between others, or after them
 pub put_between : (xs ys after : List Bytes) (w : Bytes) → after ≡ xs ++ w ∷ ys → IsNewName w xs → IsNewName w ys → AreDistinctNames (xs ++ ys) → AreDistinctNames after
 put_between xs ys after w is first second h = subst (λ (l : List Bytes). AreDistinctNames l) (sym is) (distinct_with w xs ys (new_both w xs ys first second) h)
 

@@ -23,7 +23,7 @@ use Rattle.reading_laws.proofs.Names.{new_both}
 use Rattle.reading_laws.proofs.Ports.{ports_with, input_put, output_put, put_between, put_behind, InAdded, in_added, OutAdded, out_added}
 use Rattle.reading_laws.proofs.Kept.{IsOpenSwitch, Kept, IsKept, Goes, reading, line_kept, end_kept}
 
--- behind the line `on`
+-- after the line `on`
 begun : (p next : Part) → admits p next ≡ true → is_conditioning p ≡ false
 begun Conditioning next h = cc
 begun _ next h = refl

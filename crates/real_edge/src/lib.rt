@@ -10,11 +10,11 @@ use std::fs;
 use std::io::Write;
 use std::os::unix::fs::FileExt;
 
-/// Files where they lie, each opened when its first bytes are asked for.
+/// Files where they lie. Each call opens the file that it names, so that its answer depends on no call
+/// before it.
 #[derive(Drop)]
 pub struct FileShelf<'r> {
     rt: &'r HostRuntime,
-    open: Option<fs::File>,
     faults: [u64; 5],
 }
 
@@ -23,22 +23,14 @@ impl<'r> FileShelf<'r> {
     pub fn new(rt: &'r HostRuntime) -> FileShelf<'r>
         ensures { result.faults ≡ replicate 5 0 }
     {
-        FileShelf {
-            rt,
-            open: None,
-            faults: [0; 5],
-        }
+        FileShelf { rt, faults: [0; 5] }
     }
 
-    /// Reads from a place on; the file is opened anew at place 0.
-    fn read(&mut self, name: &str, at: u64, into: &mut [u8]) -> Option<usize>
-        ensures counts { self.new.faults ≡ self.old.faults }
-        ensures fits { IfSome result (λ n. n ≤ length into.old) }
+    /// Reads from a place of a file on.
+    fn read(&self, name: &str, at: u64, into: &mut [u8]) -> Option<usize>
+        ensures { IfSome result (λ n. n ≤ length into.old) }
     {
-        if at == 0 {
-            self.open = fs::open(self.rt, name).ok();
-        }
-        let file = self.open.as_ref()?;
+        let file = fs::open(self.rt, name).ok()?;
         file.read_at(into, at).ok()
     }
 }
@@ -140,6 +132,32 @@ mod tests {
         assert_eq!(rt; bytes.as_slice(), b"algorithm 1\n".as_slice());
         assert!(rt; read_whole(rt.alloc(), &mut shelf, File::Sensors, "absent.txt").is_err());
         assert_eq!(rt; shelf.faults.as_slice(), [0, 0, 1, 0, 0].as_slice());
+        Ok(())
+    }
+
+    #[test]
+    fn answers_the_piece_that_it_is_asked_for(rt: HostRuntime) -> Result<(), Fail> {
+        fs::write(&rt, "first.txt", "abcdef")?;
+        fs::write(&rt, "second.txt", "uvwxyz")?;
+        let mut shelf = FileShelf::new(&rt);
+        let mut piece = [0; 2];
+        assert_eq!(rt;
+            shelf.piece(File::Algorithm, "first.txt", 0, &mut piece),
+            Ok(2)
+        );
+        assert_eq!(rt; piece.as_slice(), b"ab".as_slice());
+        assert_eq!(rt;
+            shelf.piece(File::Sensors, "second.txt", 3, &mut piece),
+            Ok(2)
+        );
+        assert_eq!(rt; piece.as_slice(), b"xy".as_slice());
+        assert_eq!(rt;
+            shelf.piece(File::Algorithm, "first.txt", 4, &mut piece),
+            Ok(2)
+        );
+        assert_eq!(rt; piece.as_slice(), b"ef".as_slice());
+        fs::remove_file(&rt, "first.txt")?;
+        fs::remove_file(&rt, "second.txt")?;
         Ok(())
     }
 

@@ -3,6 +3,7 @@ pub mod Opened
 pub mod Openings
 pub mod Numbered
 pub mod Prologues
+pub mod Limits
 pub mod Jobs
 pub mod MoreDesks
 pub mod ZeroRows

@@ -20,3 +20,4 @@ pub use job::Job;
 pub use opening::{actuator_lens, opening_of, sensor_lens};
 pub use registers::Registers;
 pub use state::{State, run_list, try_step};
+pub use totals::{fewer_reactions_meet_no_limit, run_limit};

@@ -61,7 +61,7 @@ ReadsAlgorithm name old new (Err status) = (next : List Def → Vertex → Plan 
 
 -- what a text describes
 abbrev pub described : ArchiText → Described
-described text = record { archi = text.archi; durations = text.lines }
+described text = record { version = text.version; archi = text.archi; durations = text.lines }
 
 -- what a text describes, and how long the operations of this algorithm last by it
 pub record IsArchitecture (main : Vertex) (text : Bytes) (architecture : Architecture) : Type 0 where

@@ -17,7 +17,7 @@ with_more false b bs e h = let one : 1 + e ≡ suc e = omega arith in
     let two : 1 + e + 1 ≡ suc (e + 1) = omega arith in
     rw (two, one) (ap (with_byte b) h)
 
--- lines from the front: the bytes before the next line feed, and the lines of what is behind it
+-- lines from the front: the bytes before the next line feed, and the lines of what is after it
 pub lines_of-first : (b : ℕ) (bs : List ℕ) → lines_of (b ∷ bs)
     ≡ take (position_or_len is_feed (b ∷ bs)) (b ∷ bs) ∷ lines_of (drop (position_or_len is_feed (b ∷ bs) + 1) (b ∷ bs))
 lines_of-first b [] = with_end (is_feed b) b

@@ -1,10 +1,7 @@
 -- Lines of a text and words of a line, as lists.
-use Rattle.std.specs.Prelude.{◌≡◌, ℕ, Bool, not, ◌==◌, ◌||◌, ◌&&◌, nat_le, ◌<◌, ◌≤◌, List, [], ◌∷◌, length, take, Option, if◌then◌else◌, position, slice_range, None, Some, Result, Ok, Err, map, All}
+use Rattle.std.specs.Prelude.{ℕ, Bool, not, ◌==◌, ◌||◌, ◌&&◌, nat_le, ◌<◌, ◌≤◌, List, [], ◌∷◌, take, Option, if◌then◌else◌, position, slice_range}
 use Rattle.std.specs.List.{position_or_len}
-use Rattle.std.specs.Global.{Vec}
 use Rattle.text_lines.specs.declared.Span.{Span}
-use Rattle.text_lines.specs.declared.WordFault.{WordFault}
-use Rattle.text_lines.specs.declared.WordFault.TheVariants.{NotText, OutOfMemory}
 
 abbrev pub is_feed : ℕ → Bool
 is_feed b = b == 10
@@ -53,9 +50,3 @@ text_at line s = slice_range line s.from s.to
 -- the span lies in the line, and is not empty
 abbrev pub IsWithin : ℕ → Span → Type 0
 IsWithin n s = (s.from < s.to) × (s.to ≤ n)
-
--- what `words` answers
-abbrev pub Reads : List ℕ → Result (Vec Span) WordFault → Type 0
-Reads line (Ok v) = (foreign_place line ≡ None) × (map (text_at line) v.items ≡ words_of (code_of line)) × All (IsWithin (length line)) v.items
-Reads line (Err (NotText place)) = foreign_place line ≡ Some place
-Reads line (Err OutOfMemory) = Unit {0}

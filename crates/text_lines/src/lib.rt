@@ -1,13 +1,13 @@
-//! Lines of a text, and words of a line.
+//! Lines of a text, and words of a line: what the readers of algorithm and architecture texts begin with.
 //!
 //! Lines end at a line feed; the last line may lack one. Tab, carriage return and space are blanks.
-//! From `#` on a line is comment. This project's profile.
+//! From `#` on a line is comment. `line_end` finds the end of a line, `code` cuts off its comment,
+//! `foreign` finds a byte that may not stand there, and `spans` cuts it into words.
 #![tactic(auto)]
 
 ghost use Rattle.std.specs.Prelude.{◌≡◌, ℕ, ◌+◌, ◌<◌, ◌≤◌, length, drop, take, map, None, Some, MatchResult, IfOk, All, position};
 ghost use Rattle.std.specs.List.{position_or_len};
-ghost use Rattle.text_lines.specs.Text.{is_feed, is_blank, is_foreign, is_hash, code_of, foreign_place, words_of, text_at, IsWithin, Reads};
-ghost use Rattle.text_lines.specs.declared.WordFault.TheVariants.{OutOfMemory};
+ghost use Rattle.text_lines.specs.Text.{is_feed, is_blank, is_foreign, is_hash, code_of, foreign_place, words_of, text_at, IsWithin};
 
 use std::alloc::Global;
 use syn_base::OutOfMemory;
@@ -17,22 +17,6 @@ use syn_base::OutOfMemory;
 pub struct Span {
     pub from: usize,
     pub to: usize,
-}
-
-/// Why a line was not cut into words.
-#[derive(Clone, Copy, Debug, PartialEq, Eq)]
-pub enum WordFault {
-    /// The place in the line of the first byte that may not stand there.
-    NotText(usize),
-    OutOfMemory,
-}
-
-impl From<OutOfMemory> for WordFault {
-    ghost from_gives = { λ _ e. e ≡ OutOfMemory };
-
-    fn from(_want: OutOfMemory) -> Self {
-        WordFault::OutOfMemory
-    }
 }
 
 /// The place of the next line feed, or the end.
@@ -107,18 +91,6 @@ fn foreign_in(code: &[u8]) -> Option<usize>
     code.iter().position(|b| is_foreign_byte(*b))
 }
 
-/// The words of a line, up to its comment. NotText comes exactly where a byte before the comment may
-/// not stand there.
-pub fn words(alloc: Global, line: &[u8]) -> Result<Vec<Span>, WordFault>
-    ensures { Reads line.now result }
-{
-    let code = &line[..code_end(line)];
-    if let Some(place) = foreign_in(code) {
-        return Err(WordFault::NotText(place));
-    }
-    Ok(spans(alloc, code)?)
-}
-
 /// A line up to its comment.
 pub fn code(line: &[u8]) -> &[u8]
     ensures { result.now ≡ code_of line.now }
@@ -150,4 +122,20 @@ pub fn spans(alloc: Global, code: &[u8]) -> Result<Vec<Span>, OutOfMemory>
         at = to;
     }
     Ok(spans)
+}
+
+#[cfg(test)]
+mod tests {
+    use super::*;
+    use std::test::Fail;
+
+    #[test]
+    fn a_line_is_cut_into_words(rt: HostRuntime) -> Result<(), Fail> {
+        let line = b" ref\ts Sense\r# of speed\x01".as_slice();
+        assert_eq!(rt; foreign(line), None);
+        let spans = spans(rt.alloc(), code(line))?;
+        assert_eq!(rt; spans.len(), 3);
+        assert_eq!(rt; (spans[1].from, spans[1].to), (5, 6));
+        Ok(())
+    }
 }

@@ -13,6 +13,7 @@ use Rattle.level_meaning.specs.declared.frontier.Give.{Give}
 use Rattle.algo_tree.specs.Tree as tree
 use Rattle.algo_tree.specs.View.{vertices_of}
 use Rattle.algo_tree.specs.Well.{fork_names, join_names}
+use Rattle.path_text.proofs.Texts.{name_word}
 use Rattle.path_text.specs.Named.{IsPartNamed, AreNames, IsKindNamed, IsNamed, AllNamed, HasNames}
 use Rattle.algo_defs.specs.declared.definition.Def.{Def}
 use Rattle.algo_defs.specs.declared.definition.Body.{Body}
@@ -45,7 +46,7 @@ known_name ds read w d e = subst IsName (sym (named ds w d e)) (definition_by (�
 
 port_names_named : (ps : List Port) → Each (λ p. IsName p.name) ps → AreNames (map (λ p. p.name) ps)
 port_names_named [] h = tt
-port_names_named (p ∷ ps) h = (h.0, port_names_named ps h.1)
+port_names_named (p ∷ ps) h = (name_word p.name h.0, port_names_named ps h.1)
 
 -- a fork line of this name, if it is a fork line
 abbrev IsFeedNamed : Feed → Type 0
@@ -54,7 +55,7 @@ IsFeedNamed (feed.Diffuse k) = Unit {0}
 IsFeedNamed (feed.Iterate k y) = Unit {0}
 
 put_front : (f : Feed) (fs : List Feed) → IsFeedNamed f → AreNames (fork_names fs) → AreNames (fork_names (f ∷ fs))
-put_front (feed.Fork name k len) fs h names = (h, names)
+put_front (feed.Fork name k len) fs h names = (name_word name h, names)
 put_front (feed.Diffuse k) fs h names = names
 put_front (feed.Iterate k y) fs h names = names
 
@@ -92,7 +93,7 @@ module _ (inner own : Ports) where
       by (Fork p x) k rest = rest
       by (Diffuse p x) k rest = rest
       by (Iterate p x y q) k rest = rest
-      by (Join y q) k rest = (k.0, rest)
+      by (Join y q) k rest = (name_word q k.0, rest)
 
 module _ (ds : List Def) (n : ℕ) where
   -- what is made of definitions that are not too deep has names
@@ -107,7 +108,7 @@ module _ (ds : List Def) (n : ℕ) where
       → Each (λ r. IsName r.name) rs → AllNamed (vertices_of (references_from ds (vertex_within ds n) ins all edges s a rs))
   references_named ih ins all edges s a [] h names = tt
   references_named ih ins all edges s a (r ∷ rs) h names = (
-    ih (Named r.name) r.def h.0.0.0 (sources_to (ports_of ds) ins all edges (Some r.name) (ports_of ds r.def).ins) s a names.0 h.0.0.1 (omega (arith, h.0.1)),
+    ih (Named r.name) r.def h.0.0.0 (sources_to (ports_of ds) ins all edges (Some r.name) (ports_of ds r.def).ins) s a (name_word r.name names.0) h.0.0.1 (omega (arith, h.0.1)),
     references_named ih ins all edges (s + is_sensor (definition ds r.def)) (a + is_actuator (definition ds r.def)) rs h.1 names.1,
   )
 
@@ -136,7 +137,7 @@ named_of ds read acc n ih part w d ins s a (Some x) name is e le =
     let same : d ≡ x = cc in
     let body = named_body ds n ih (ports_of ds w) s a d.line d.body (acc.well_read w d e) (lower_lines ds acc (suc n) w d e le) in
     subst (λ (y : Def). IsNamed (vertex_by ds (vertex_within ds n) part w ins s a (Some y))) same
-    (record { part = name; definition = known_name ds read w d e; kind = body.0 }, body.1)
+    (record { part = name; definition = name_word w (known_name ds read w d e); kind = body.0 }, body.1)
 
 named_within : (ds : List Def) → AreWellRead ds → (acc : Accepted ds) (n : ℕ) → MakesNamed ds n
 named_within ds read acc zero part w d ins s a name e le = absurd (omega (arith, acc.ranked.positive w d e))

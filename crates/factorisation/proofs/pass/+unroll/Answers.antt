@@ -1,4 +1,5 @@
-use Rattle.std.proofs.Common.{◌≡◌, ◌<◌, ◌≤◌, length, get_or, rules, arith}
+use Rattle.std.proofs.Common.{◌≡◌, ◌<◌, ◌≤◌, length, get_or, map, ap, ◌∙◌, rules, arith}
+use Rattle.factorisation_laws.specs.Unrolled.{explodes}
 use Rattle.algo_tree.specs.View.{view}
 use Rattle.algo_tree.specs.Well.{IsWell}
 use Rattle.algo_tree.specs.declared.vertex.Vertex.{the_lemmas}
@@ -23,7 +24,8 @@ pub unroll_inside-add_copies-requires : goal.unroll_inside-add_copies-requires
 unroll_inside-add_copies-requires t c =
     let b = bounded c.args.vertex.now c.args.copies.count c.args.feeds.now c.args.gives.now c.requires.kind c.requires.well c.requires.small in
     let ends = b.ends in
-    (search (rules, the_lemmas), (b.one, (b.well, (b.forks, (b.bodies, omega (arith, ends, c.requires.begin))))))
+    let lines = ap (map (λ f. f.now)) c.deref-2.ensures.value ∙ c.in_ok-lines.ensures in
+    (search (rules, the_lemmas), (lines, (b.one, (b.well, (b.forks, (b.bodies, omega (arith, ends, c.requires.begin)))))))
 
 pub unroll_inside-add_implodes-requires : goal.unroll_inside-add_implodes-requires
 unroll_inside-add_implodes-requires t c =
@@ -32,7 +34,8 @@ unroll_inside-add_implodes-requires t c =
 
 pub unroll_inside-returns : goal.unroll_inside-returns
 unroll_inside-returns t c =
-    inside_made c.args.vertex.now c.args.copies.count c.args.copies.begin c.args.feeds.now c.args.gives.now _ _ _ _ _ c.requires.begin c.as_slice-definition.ensures c.as_slice.ensures c.in_ok-all.ensures c.in_ok-add_copies.ensures c.in_ok-add_implodes.ensures
+    inside_made c.args.vertex.now c.args.copies.count c.args.copies.begin c.args.feeds.now c.args.gives.now _ _ _ _ _ c.requires.begin c.as_slice-definition.ensures c.as_slice.ensures
+    (c.in_ok-all.ensures ∙ ap (explodes c.as_slice-definition.result.now c.args.copies.count) (ap (map (λ f. f.now)) c.deref.ensures.value ∙ c.in_ok-lines.ensures)) c.in_ok-add_copies.ensures c.in_ok-add_implodes.ensures
 
 pub unroll_repeat-as_graph-requires-clause-small : goal.unroll_repeat-as_graph-requires-clause-small
 unroll_repeat-as_graph-requires-clause-small t c =

@@ -11,5 +11,5 @@ returns c =
     let p = c.args.program.now in let g = c.args.flat.now in let a = c.args.archi.now in let o = c.args.order.now in
     Decides-at c.passes.result (is_order p g.vertices (sequences a) (length a.media) o)
     (c.passes.ensures
-    ∙ (λ i. is_order p (c.vertices.ensures.same i) (listed_are a c.operators.result.now c.media.result.now c.operators.ensures.same c.media.ensures.same i) (length (c.media.ensures.same i)) o))
+    ∙ (λ i. is_order p g.vertices (listed_are a c.operators.result.now c.media.result.now c.operators.ensures.same c.media.ensures.same i) (length (c.media.ensures.same i)) o))
     (decides_order p g (sequences a) (length a.media) o)

@@ -2,7 +2,7 @@ use Rattle.std.proofs.Common.{length, sym, ap, ◌∙◌}
 use Rattle.std.specs.Prelude.{Some, None}
 use Rattle.archi_graph.specs.Sequences.{sequences_of}
 use Rattle.order_check.specs.Sequenced.{ends_at, is_sequence}
-use Rattle.order_check.proofs.Passing.{range_passed}
+use Rattle.program_walks.proofs.Passing.{range_passed}
 use Rattle.order_check.proofs.sequencing.are_sequences.Goals as goal
 
 pub returns-in-None : goal.returns-in-None

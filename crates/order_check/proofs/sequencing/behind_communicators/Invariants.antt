@@ -1,6 +1,6 @@
 use Rattle.std.proofs.Common.{◌≡◌, drop}
 use Rattle.archi_graph.specs.Sequences.{communicators}
-use Rattle.order_check.specs.Checked.{passed}
+use Rattle.program_walks.specs.Walks.{passed}
 use Rattle.order_check.specs.Sequenced.{is_sequence}
 use Rattle.order_check.proofs.sequencing.behind_communicators.Given as goal
 

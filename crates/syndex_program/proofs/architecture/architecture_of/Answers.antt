@@ -22,10 +22,10 @@ returns-in_err-text c =
 pub returns-in_err-durations : goal.returns-in_err-durations
 returns-in_err-durations c =
     let p = err_from_is_err_and c.from_residual-in_err-durations.result c.from_residual-in_err-durations.ensures.1 in
-    rw (p.1, p.2) (by_durations c.args.tree.now c.args.text.now c.in_ok-text.text c.in-Ok.flat c.in_err-durations.field-0.0 c.in_ok-text.ensures c.in-Ok.ensures.same c.in_err-durations.ensures)
+    rw (p.1, p.2) (by_durations c.args.tree.now c.args.text.now c.in_ok-text.text c.in-Ok.flat c.in_err-durations.field-0.0 c.in_ok-text.ensures c.in-Ok.ensures.same c.in_err-durations.ensures.gives)
 
 pub returns : goal.returns
 returns c = record {
   says = c.in_ok-text.ensures;
-  lasts = subst (λ (g : Graph). durations_of g (described c.in_ok-text.text) ≡ Ok c.in_ok-durations.durations) c.in-Ok.ensures.same c.in_ok-durations.ensures;
+  lasts = subst (λ (g : Graph). durations_of g (described c.in_ok-text.text) ≡ Ok c.in_ok-durations.durations) c.in-Ok.ensures.same c.in_ok-durations.ensures.gives;
 }

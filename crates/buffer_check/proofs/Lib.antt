@@ -1,0 +1,4 @@
+pub mod Guarded
+pub mod Prologues
+mod Walked
+pub mod Written

@@ -1,0 +1,125 @@
+-- A worked algorithm, row by row: a switch with a repetition in its first case, whose fork lines stand in another order than the inputs
+-- of the body, a delay in its second and a switch in its last; and behind it a repetition in a repetition, of a switch with a delay in a case.
+use Rattle.std.proofs.Common.{◌≡◌, ℕ, ℤ, pos, List, [], ◌∷◌, ◌++◌, decimal, map, refl, codes}
+use Rattle.level_meaning.specs.declared.source.Source.{Source}
+use Rattle.level_meaning.specs.declared.source.Source.TheVariants.{Own, Of}
+use Rattle.level_meaning.specs.declared.part.Part.{Part}
+use Rattle.level_meaning.specs.declared.part.Part.TheVariants.{Named, Numbered, Port}
+use Rattle.level_meaning.specs.declared.frontier.Feed.{Feed}
+use Rattle.level_meaning.specs.declared.frontier.Feed.TheVariants.{Fork, Diffuse}
+use Rattle.level_meaning.specs.declared.frontier.Give.TheVariants.{Join}
+use Rattle.level_meaning.specs.Level.{Path}
+use Rattle.body_lang.specs.Expr.{Expr, index}
+use Rattle.algo_tree.specs.Tree.{Kind, sensor, actuator, delay, function, explode, implode, merge, graph, switch, repeat, Vertex, vertex, Vertices, no_vertices, and_vertex}
+use Rattle.inlining_laws.specs.Flat.{runs, gets, sets}
+use Rattle.flat_laws.specs.FlatOf.{flat_of}
+use Rattle.operation_table.specs.Table.{Condition, Row, row, table}
+use Rattle.operation_table.specs.Listed.{listed}
+
+abbrev of : Part → List ℕ → List Source → List ℕ → Kind → Vertices → Vertex
+of p d ins outs k us = vertex (record { part = p; definition = d; ins = ins; guards = []; outs = outs; kind = k }) us
+
+abbrev alone : Part → List ℕ → List Source → List ℕ → Kind → Vertex
+alone p d ins outs k = of p d ins outs k no_vertices
+
+abbrev only : Vertex → Vertices
+only u = and_vertex u no_vertices
+
+abbrev named : List ℕ → Part
+named x = Named x
+
+abbrev does : Kind
+does = function (index ∷ [])
+
+-- the lines are `fork q w`, `fork p v` and `join z z`
+abbrev added : Vertex
+added = of (Numbered 0) (codes "R") (Own 2 ∷ Own 1 ∷ []) (2 ∷ []) (repeat 2 (Fork (codes "p") 1 3 ∷ Fork (codes "q") 0 1 ∷ []) (Join (codes "z") 0 ∷ []))
+    (only (alone (Numbered 0) (codes "Add") [] (1 ∷ []) does))
+
+abbrev kept : Vertex
+kept = of (Numbered 1) (codes "Acc") (Own 1 ∷ Own 2 ∷ []) (2 ∷ []) (graph (Of 0 0 ∷ []))
+    (and_vertex (alone (named (codes "d")) (codes "Mem") (Of 1 0 ∷ []) (2 ∷ []) (delay ((pos 8 ∷ pos 9 ∷ []) ∷ [])))
+    (only (alone (named (codes "f")) (codes "Add") (Of 0 0 ∷ Own 0 ∷ []) (2 ∷ []) does)))
+
+abbrev chosen : Vertex
+chosen = of (Numbered 2) (codes "In") (Own 1 ∷ Own 2 ∷ []) (2 ∷ []) (switch (pos 9 ∷ []) (codes "u" ∷ []))
+    (and_vertex (alone (Numbered 0) (codes "Same") (Own 1 ∷ []) (2 ∷ []) does)
+    (only (alone (Numbered 1) (codes "Neg") (Own 1 ∷ []) (2 ∷ []) does)))
+
+abbrev outer : List ℤ
+outer = pos 4 ∷ pos 7 ∷ []
+
+abbrev switched : Vertex
+switched = of (named (codes "w")) (codes "Sw") (Of 0 0 ∷ Of 1 0 ∷ Of 2 0 ∷ []) (2 ∷ []) (switch outer (codes "y" ∷ []))
+    (and_vertex added (and_vertex kept (only chosen)))
+
+abbrev held : Vertex
+held = of (Numbered 0) (codes "K") [] (1 ∷ []) (switch (pos 5 ∷ []) (codes "v" ∷ []))
+    (and_vertex (of (Numbered 0) (codes "Hold") (Own 1 ∷ []) (1 ∷ []) (graph (Of 0 0 ∷ [])) (only (alone (named (codes "d")) (codes "Zero") (Own 0 ∷ []) (1 ∷ []) (delay ((pos 0 ∷ []) ∷ [])))))
+    (only (alone (Numbered 1) (codes "Same") (Own 1 ∷ []) (1 ∷ []) does)))
+
+abbrev nested : Vertex
+nested = of (named (codes "o")) (codes "Out") (Of 1 0 ∷ Of 2 0 ∷ []) (4 ∷ []) (repeat 2 (Diffuse 0 ∷ Fork (codes "x") 1 2 ∷ []) (Join (codes "y") 0 ∷ []))
+    (only (of (Numbered 0) (codes "Mid") [] (2 ∷ []) (repeat 1 (Diffuse 0 ∷ Fork (codes "x") 1 2 ∷ []) (Join (codes "y") 0 ∷ [])) (only held)))
+
+abbrev main : Vertex
+main = of (named (codes "main")) (codes "main") [] [] (graph [])
+    (and_vertex (alone (named (codes "s")) (codes "Sense") [] (1 ∷ []) (sensor 0))
+    (and_vertex switched (and_vertex nested (only (alone (named (codes "a")) (codes "Act") (Of 1 0 ∷ []) [] (actuator 0))))))
+
+abbrev when : List ℤ → ℕ → Condition
+when values c = record { values = values; case = c }
+
+abbrev w : Path
+w = Named (codes "w") ∷ []
+
+-- copy i of the outer repetition
+abbrev copied : ℕ → List Row
+copied i =
+    let o : Path = Named (codes "o") ∷ Numbered i ∷ [] in
+    row (o ++ Port (codes "x") ∷ []) (codes "Mid") [] (2 ∷ []) (runs explode)
+    ∷ row (o ++ Numbered 0 ∷ Numbered 0 ∷ Named (codes "d") ∷ []) (codes "Zero") (when (pos 5 ∷ []) 0 ∷ []) (1 ∷ []) (gets ((pos 0 ∷ []) ∷ []))
+    ∷ row (o ++ Numbered 0 ∷ Numbered 0 ∷ Named (codes "d") ∷ []) (codes "Zero") (when (pos 5 ∷ []) 0 ∷ []) [] sets
+    ∷ row (o ++ Numbered 0 ∷ Numbered 1 ∷ []) (codes "Same") (when (pos 5 ∷ []) 1 ∷ []) (1 ∷ []) (runs does)
+    ∷ row (o ++ Numbered 0 ∷ Port (codes "v") ∷ []) (codes "K") [] (1 ∷ []) (runs (merge (pos 5 ∷ [])))
+    ∷ row (o ++ Port (codes "y") ∷ []) (codes "Mid") [] (2 ∷ []) (runs implode)
+    ∷ []
+
+rows : table main ≡
+    row (Named (codes "s") ∷ []) (codes "Sense") [] (1 ∷ []) (runs (sensor 0))
+    ∷ row (w ++ Numbered 0 ∷ Port (codes "q") ∷ []) (codes "R") (when outer 0 ∷ []) (1 ∷ 1 ∷ []) (runs explode)
+    ∷ row (w ++ Numbered 0 ∷ Port (codes "p") ∷ []) (codes "R") (when outer 0 ∷ []) (3 ∷ 3 ∷ []) (runs explode)
+    ∷ row (w ++ Numbered 0 ∷ Numbered 0 ∷ []) (codes "Add") (when outer 0 ∷ []) (1 ∷ []) (runs does)
+    ∷ row (w ++ Numbered 0 ∷ Numbered 1 ∷ []) (codes "Add") (when outer 0 ∷ []) (1 ∷ []) (runs does)
+    ∷ row (w ++ Numbered 0 ∷ Port (codes "z") ∷ []) (codes "R") (when outer 0 ∷ []) (2 ∷ []) (runs implode)
+    ∷ row (w ++ Numbered 1 ∷ Named (codes "d") ∷ []) (codes "Mem") (when outer 1 ∷ []) (2 ∷ []) (gets ((pos 8 ∷ pos 9 ∷ []) ∷ []))
+    ∷ row (w ++ Numbered 1 ∷ Named (codes "d") ∷ []) (codes "Mem") (when outer 1 ∷ []) [] sets
+    ∷ row (w ++ Numbered 1 ∷ Named (codes "f") ∷ []) (codes "Add") (when outer 1 ∷ []) (2 ∷ []) (runs does)
+    ∷ row (w ++ Numbered 2 ∷ Numbered 0 ∷ []) (codes "Same") (when outer 2 ∷ when (pos 9 ∷ []) 0 ∷ []) (2 ∷ []) (runs does)
+    ∷ row (w ++ Numbered 2 ∷ Numbered 1 ∷ []) (codes "Neg") (when outer 2 ∷ when (pos 9 ∷ []) 1 ∷ []) (2 ∷ []) (runs does)
+    ∷ row (w ++ Numbered 2 ∷ Port (codes "u") ∷ []) (codes "In") (when outer 2 ∷ []) (2 ∷ []) (runs (merge (pos 9 ∷ [])))
+    ∷ row (w ++ Port (codes "y") ∷ []) (codes "Sw") [] (2 ∷ []) (runs (merge outer))
+    ∷ row (Named (codes "o") ∷ Port (codes "x") ∷ []) (codes "Out") [] (2 ∷ 2 ∷ []) (runs explode)
+    ∷ (copied 0 ++ (copied 1 ++ (row (Named (codes "o") ∷ Port (codes "y") ∷ []) (codes "Out") [] (4 ∷ []) (runs implode)
+    ∷ row (Named (codes "a") ∷ []) (codes "Act") [] [] (runs (actuator 0)) ∷ [])))
+rows = refl
+
+-- what the three passes make of it has these operations
+flattened : listed (flat_of main) ≡ table main
+flattened = refl
+
+-- names as texts
+abbrev alone_in_main : Vertex → Vertex
+alone_in_main u = of (named (codes "main")) (codes "main") [] [] (graph []) (only u)
+
+abbrev in_graph : Vertex
+in_graph = of (named (codes "g")) (codes "Acc") [] [] (graph [])
+    (and_vertex (alone (named (codes "d")) (codes "Mem") [] (2 ∷ []) (delay ((pos 8 ∷ pos 9 ∷ []) ∷ [])))
+    (only (alone (named (codes "f")) (codes "Add") [] (2 ∷ []) does)))
+
+names : map (λ (r : Row). r.name) (table (alone_in_main in_graph)) ≡ codes "g/d:get" ∷ codes "g/d:set" ∷ codes "g/f" ∷ []
+names = refl
+
+numbered_name : map (λ (r : Row). r.name) (table (alone_in_main (of (named (codes "c")) (codes "In") [] (2 ∷ []) (switch [] (codes "u" ∷ [])) (only (alone (Numbered 0) (codes "Same") [] (2 ∷ []) does)))))
+    ≡ (codes "c" ++ (codes "." ++ (decimal 0 ++ []) ++ [])) ∷ codes "c:u" ∷ []
+numbered_name = refl

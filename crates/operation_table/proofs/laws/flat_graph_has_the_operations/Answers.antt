@@ -1,0 +1,13 @@
+use Rattle.operation_table.proofs.Unrolling.{table-unroll}
+use Rattle.operation_table.proofs.Guarding.{table-guard}
+use Rattle.operation_table.proofs.Listing.{has-operations}
+use Rattle.operation_table.proofs.laws.flat_graph_has_the_operations.Goals as goal
+
+pub returns-clause-operations : goal.returns-clause-operations
+returns-clause-operations c = has-operations
+
+pub returns-clause-unrolled : goal.returns-clause-unrolled
+returns-clause-unrolled c = table-unroll
+
+pub returns-clause-guarded : goal.returns-clause-guarded
+returns-clause-guarded c = table-guard

@@ -1,0 +1,18 @@
+//! The law of the operations of a tree, the contract of a function that does nothing.
+ghost use Rattle.std.specs.Prelude.{◌≡◌};
+ghost use Rattle.algo_tree.specs.Tree.{Vertex};
+ghost use Rattle.algo_tree.specs.Valid.{IsTree};
+ghost use Rattle.conditioning_laws.specs.Guarded.{guard};
+ghost use Rattle.factorisation_laws.specs.NoRepeat.{HasNoRepeat};
+ghost use Rattle.factorisation_laws.specs.Unrolled.{unroll};
+ghost use Rattle.flat_laws.specs.FlatOf.{flat_of};
+ghost use Rattle.operation_table.specs.Listed.{HasOperations};
+ghost use Rattle.operation_table.specs.Table.{table};
+
+/// The flat graph of an algorithm has the operations of its tree and no others, in order. Unrolling its
+/// repetitions and putting its cases under guards keep them.
+pub fn flat_graph_has_the_operations()
+    ensures operations { (main : Vertex) → IsTree main → HasOperations main (flat_of main) }
+    ensures unrolled { (main : Vertex) → IsTree main → table (unroll main) ≡ table main }
+    ensures guarded { (main : Vertex) → IsTree main → HasNoRepeat main → table (guard main) ≡ table main }
+{}

@@ -1,9 +1,0 @@
-use Rattle.std.proofs.Common.{◌≡◌, ◌+◌, drop}
-use Rattle.std.specs.List.{list_any, position_or_len}
-use Rattle.executive_program.specs.declared.program.SeqCode.{SeqCode}
-use Rattle.executive_program.specs.Places.{calls}
-use Rattle.order_check.proofs.searches.caller_of.Given as goal
-
--- the sequences that are left decide
-abbrev pub invariant-loop-sequence : goal.invariant-loop-sequence
-invariant-loop-sequence l = l.sequence + position_or_len (λ (q : SeqCode). list_any (calls l.operation) q.turn) (drop l.sequence l.program.seqs) ≡ position_or_len (λ (q : SeqCode). list_any (calls l.operation) q.turn) l.program.seqs

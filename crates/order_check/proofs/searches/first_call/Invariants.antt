@@ -1,8 +1,0 @@
-use Rattle.std.proofs.Common.{◌≡◌, ◌+◌, drop}
-use Rattle.std.specs.List.{position_or_len}
-use Rattle.executive_program.specs.Places.{calls}
-use Rattle.order_check.proofs.searches.first_call.Given as goal
-
--- the instructions that are left decide
-abbrev pub invariant-loop-place : goal.invariant-loop-place
-invariant-loop-place l = l.place + position_or_len (calls l.operation) (drop l.place l.list) ≡ position_or_len (calls l.operation) l.list

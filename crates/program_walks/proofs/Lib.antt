@@ -1,0 +1,3 @@
+pub mod ListTests
+pub mod Passing
+pub mod Readings

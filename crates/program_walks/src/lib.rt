@@ -1,0 +1,19 @@
+//! Walks over programs: what an instruction is, reads and writes, where the instructions stand that write a
+//! buffer, call an operation or act on a pair of semaphores, and their places in a serial order. None takes
+//! memory. `buffer_check`, `value_check` and `order_check` are made of them.
+#![tactic(auto)]
+
+mod acts;
+mod instructions;
+mod parts;
+mod placing;
+mod searches;
+
+pub use acts::{Act, Stand, first_act, is_only};
+pub use instructions::{count_communications, is_communication, reads, signals_empty, writes};
+pub use parts::{depth_of, len_of, medium_of, operator_of, turn_of};
+pub use placing::{count_in, place_in};
+pub use searches::{
+    caller_of, communication_at, first_call, is_entry, is_on, output_at, transfers, waits_for,
+    writer_of, written_at,
+};

@@ -1,0 +1,8 @@
+//! The timing chart of a schedule: when each operation runs on its operator, and when each value is
+//! carried over a medium. `print_chart` appends it; the command `chart` writes it.
+#![tactic(auto)]
+
+mod chart;
+mod line;
+
+pub use chart::print_chart;

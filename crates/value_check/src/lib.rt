@@ -1,0 +1,12 @@
+//! Exact checks of the values of a program, each a part of what makes the program well formed by a serial order:
+//! each operation is called once on what carries its sources (`operations_are_called`), each transfer has its
+//! send, its receive and its waits in order (`transfers_are_right`), and receives what is sent
+//! (`transfers_keep_sources`). None takes memory. `order_check` asks them.
+#![tactic(auto)]
+
+mod calling;
+mod carrying;
+mod clauses;
+mod transferring;
+
+pub use clauses::{operations_are_called, transfers_are_right, transfers_keep_sources};
