@@ -1,5 +1,5 @@
 -- What comes into the ports of an owner comes by the edges into this owner.
-use Rattle.std.proofs.Common.{◌≡◌, Bool, true, false, ◌&&◌, List, [], ◌∷◌, map, Option, refl, ap, ap₂, ◌∙◌, sym, if◌then◌else◌}
+use Rattle.std.proofs.Common.{◌≡◌, Bool, true, false, ◌&&◌, List, [], ◌∷◌, map, Option, refl, ap, ap₂, if◌then◌else◌}
 use Rattle.std.specs.Str.{bytes_eq}
 use Rattle.body_lang.specs.declared.expression.Port.{Port}
 use Rattle.level_meaning.specs.declared.source.Source.{Source}

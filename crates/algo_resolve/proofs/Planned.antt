@@ -1,20 +1,16 @@
 -- What the plan of a definition has.
-use Rattle.std.proofs.Common.{◌≡◌, ◌≢◌, ℕ, zero, suc, ◌<◌, ℤ, List, [], ◌∷◌, length, get_or, map, Option, Some, refl, ap, sym, ◌∙◌, arith}
+use Rattle.std.proofs.Common.{◌≡◌, ◌≢◌, ℕ, zero, suc, ◌<◌, List, [], ◌∷◌, length, get_or, map, Some, refl, ap, sym, ◌∙◌, arith}
 use Rattle.std.specs.Prelude.{slice_get}
-use Rattle.body_lang.specs.declared.expression.Port.{Port}
-use Rattle.level_meaning.specs.declared.source.Source.{Source}
 use Rattle.algo_tree.specs.Tree as tree
 use Rattle.algo_defs.specs.declared.definition.Def.{Def}
 use Rattle.algo_defs.specs.declared.definition.Body.{Body}
 use Rattle.algo_defs.specs.declared.definition.Body.TheVariants.{Sensor, Actuator, Constant, Delay, Function, Graph, Switch, Repeat}
-use Rattle.algo_defs.specs.declared.definition.Reference.{Reference}
-use Rattle.algo_defs.specs.declared.definition.Edge.{Edge}
 use Rattle.algo_defs.specs.Words.{Bytes}
 use Rattle.algo_rules.specs.Links.{definition}
 use Rattle.algo_rules.specs.Ports.{ports_of}
 use Rattle.algo_rules.specs.Resolved.{Making, kind_by, vertex_within}
 use Rattle.algo_rules.specs.declared.ports.Ports.{Ports}
-use Rattle.algo_resolve.specs.Plans.{plan_of, plan_view, wires_by}
+use Rattle.algo_resolve.specs.Plans.{plan_of, plan_view}
 use Rattle.algo_resolve.specs.declared.plan.Plan.{Plan}
 use Rattle.algo_resolve.proofs.Placed.{same_name}
 
@@ -86,4 +82,10 @@ mapped_length f [] = refl
 mapped_length f (x ∷ xs) = ap suc (mapped_length f xs)
 
 pub beside_below : {A B : Type 0} (f : A → B) (ys : List B) (xs : List A) (k : ℕ) → ys ≡ map f xs → k < length xs → k < length ys
-beside_below f ys xs k h low = omega (arith, low, ap (λ (l : List B). length l) h, mapped_length f xs)
+beside_below {B = B} f ys xs k h low = omega (arith, low, ap (λ (l : List B). length l) h, mapped_length f xs)
+
+-- what stands at a place stands inside the list
+pub inside : {A : Type 0} (xs : List A) (i : ℕ) (x : A) → slice_get xs i ≡ Some x → i < length xs
+inside [] i x h = cc
+inside (y ∷ xs) zero x h = omega arith
+inside (y ∷ xs) (suc i) x h = omega (arith, inside xs i x h)

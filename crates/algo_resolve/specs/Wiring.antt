@@ -1,5 +1,5 @@
 -- The edges of a graph by the owner of the ports into which they lead.
-use Rattle.std.specs.Prelude.{Bool, List, [], ◌∷◌, Option, if◌then◌else◌}
+use Rattle.std.specs.Prelude.{List, [], ◌∷◌, Option, if◌then◌else◌}
 use Rattle.std.specs.Str.{bytes_eq}
 use Rattle.body_lang.specs.declared.expression.Port.{Port}
 use Rattle.level_meaning.specs.declared.source.Source.{Source}

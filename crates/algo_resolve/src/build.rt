@@ -171,6 +171,7 @@ fn build_copy(
 }
 
 /// The definitions that a switch names, and how many inputs it has behind the conditioning one.
+#[derive(Clone, Copy)]
 struct Cases<'a> {
     ins: usize,
     cases: &'a [Case],

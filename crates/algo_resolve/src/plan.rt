@@ -31,13 +31,13 @@ pub fn plans(alloc: Global, checked: &Checked) -> Result<Vec<Plan>, OutOfMemory>
 {
     let mut plans = Vec::new(alloc);
     for (place, def) in checked.defs.iter().enumerate() {
-        plans.push(plan(alloc, checked, place, def)?)?;
+        plans.push(plan_at(alloc, checked, place, def)?)?;
     }
     Ok(plans)
 }
 
 /// The plan of the definition at a place.
-fn plan(alloc: Global, checked: &Checked, place: usize, def: &Def) -> Result<Plan, OutOfMemory>
+fn plan_at(alloc: Global, checked: &Checked, place: usize, def: &Def) -> Result<Plan, OutOfMemory>
     requires ready { AreReady checked.now }
     requires there { slice_get checked.now.defs.now place ≡ Some def.now }
     ensures { IfOk result (λ p. plan_view p ≡ plan_of checked.now.defs.now def.now) }

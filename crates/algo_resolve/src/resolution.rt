@@ -15,7 +15,7 @@ use crate::builder::Builder;
 use crate::checked::Checked;
 use crate::lookup::copy_name;
 use crate::plan::plans;
-use crate::size::sizes;
+use crate::size::{entry, sizes};
 use algo_check::check_definitions;
 use algo_defs::{AlgoError, Def, Defs};
 use algo_links::links_of;
@@ -83,7 +83,7 @@ fn is_too_large(alloc: Global, checked: &Checked, place: usize) -> Result<bool, 
 {
     let sizes = sizes(alloc, checked)?;
     vertices_are_counted();
-    Ok(sizes[place] > MOST_VERTICES)
+    Ok(entry(&sizes, place) > MOST_VERTICES)
 }
 
 /// The vertex of the main graph, whose definition stands at this place.

@@ -82,7 +82,7 @@ fn total_at(sizes: &[u64], places: &[u32]) -> u64
 }
 
 /// The size at a place, 0 where there is none.
-fn entry(sizes: &[u64], place: usize) -> u64
+pub fn entry(sizes: &[u64], place: usize) -> u64
     ensures { result ≡ slice_index sizes.now place }
 {
     if place < sizes.len() { sizes[place] } else { 0 }

@@ -29,7 +29,6 @@ pub struct Graph<'a> {
 impl<'a> Graph<'a> {
     /// The sources of these ports of a reference, or of the graph itself. It goes once over the edges
     /// of the graph, and for each port over those into its owner alone.
-    #[tactic(auto, using(crate::proofs::Edges::sources_by_owner))]
     pub fn sources_to(
         &self,
         alloc: Global,

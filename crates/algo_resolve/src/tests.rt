@@ -5,7 +5,7 @@ use crate::resolve;
 use algo_defs::AlgoError;
 use algo_reader::read_algo;
 use algo_tree::Tree;
-use reading_laws::accepted_are_well_read;
+use reading_laws::{accepted_are_few, accepted_are_well_read};
 use std::alloc::Global;
 
 /// The tree of a text, or its first refusal.
@@ -14,10 +14,8 @@ fn resolved(alloc: Global, text: &[u8]) -> Result<Tree, AlgoError>
     requires { length text.now ≤ 1000 }
 {
     let defs = read_algo(alloc, text)?;
-    if defs.defs.as_slice().len() > 4_000_000_000 {
-        return Err(AlgoError::OutOfMemory);
-    }
     accepted_are_well_read();
+    accepted_are_few();
     resolve(alloc, &defs)
 }
 
@@ -111,54 +109,42 @@ fn refusals_are_told(rt: HostRuntime) {
     assert_eq!(rt; line(rt.alloc(), b"algorithm 1\ngraph main\nend\n"), 1000);
 }
 
-/// Each graph has four of the graph before it, and none has an operation: 21,845 vertices.
+/// Four repetitions of 64 copies, one inside the other, around a graph: more than 16 million vertices.
 #[test]
-fn trees_of_too_many_vertices_are_not_made(rt: HostRuntime) {
+fn copies_count_in_the_size_of_a_tree(rt: HostRuntime) {
     let text = b"algorithm 1
-graph a
+graph z
 end
-graph b
-ref p a
-ref q a
-ref r a
-ref s a
+repeat a 64 z
 end
-graph c
-ref p b
-ref q b
-ref r b
-ref s b
+repeat b 64 a
 end
-graph d
-ref p c
-ref q c
-ref r c
-ref s c
+repeat c 64 b
 end
-graph e
-ref p d
-ref q d
-ref r d
-ref s d
-end
-graph f
-ref p e
-ref q e
-ref r e
-ref s e
-end
-graph g
-ref p f
-ref q f
-ref r f
-ref s f
+repeat d 64 c
 end
 graph main
-ref p g
-ref q g
-ref r g
-ref s g
+ref r d
 end
 ";
     assert_eq!(rt; line(rt.alloc(), text), 2000);
+}
+
+/// Two repetitions of 64 copies make 4,161 vertices, main among them.
+#[test]
+fn trees_of_many_vertices_are_made(rt: HostRuntime) {
+    let text = b"algorithm 1
+graph z
+end
+repeat a 64 z
+end
+repeat b 64 a
+end
+graph main
+ref r b
+end
+";
+    let (operations, vertices) = counts(rt.alloc(), text);
+    assert_eq!(rt; operations, 0);
+    assert_eq!(rt; vertices, 1);
 }

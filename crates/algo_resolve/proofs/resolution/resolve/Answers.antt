@@ -21,14 +21,14 @@ tree-requires-clause-passed c = subst (λ (ds : List Def). refusal ds ≡ None) 
 
 pub returns-in-Ok-tree-clause-gives : goal.returns-in-Ok-tree-clause-gives
 returns-in-Ok-tree-clause-gives c =
-    given c.args.defs.now.defs c.in-Ok-tree.tree c.in_ok-table.ensures.checks (subst (λ (ds : List Def). c.in-Ok-tree.tree ≡ tree_of ds) c.as_slice.ensures c.in-Ok-tree.ensures)
+    given c.args.defs.now.defs c.in-Ok-tree.tree c.in_ok-table.ensures.checks (subst (λ (ds : List Def). c.in-Ok-tree.tree ≡ tree_of ds) c.as_slice.ensures c.in-Ok-tree.ensures.is)
 
 pub returns-in-Ok-tree-clause-named : goal.returns-in-Ok-tree-clause-named
 returns-in-Ok-tree-clause-named c =
-    let is : c.in-Ok-tree.tree ≡ tree_of c.args.defs.now.defs = subst (λ (ds : List Def). c.in-Ok-tree.tree ≡ tree_of ds) c.as_slice.ensures c.in-Ok-tree.ensures in
+    let is : c.in-Ok-tree.tree ≡ tree_of c.args.defs.now.defs = subst (λ (ds : List Def). c.in-Ok-tree.tree ≡ tree_of ds) c.as_slice.ensures c.in-Ok-tree.ensures.is in
     subst HasNames (sym is) (have_names c.args.defs.now.defs c.requires.read c.in_ok-table.ensures.checks)
 
 pub returns-in-Ok-tree-clause-bounded : goal.returns-in-Ok-tree-clause-bounded
 returns-in-Ok-tree-clause-bounded c =
-    let is : c.in-Ok-tree.tree ≡ tree_of c.args.defs.now.defs = subst (λ (ds : List Def). c.in-Ok-tree.tree ≡ tree_of ds) c.as_slice.ensures c.in-Ok-tree.ensures in
+    let is : c.in-Ok-tree.tree ≡ tree_of c.args.defs.now.defs = subst (λ (ds : List Def). c.in-Ok-tree.tree ≡ tree_of ds) c.as_slice.ensures c.in-Ok-tree.ensures.is in
     subst HasBounds (sym is) (have_bounds c.args.defs.now.defs c.requires.read c.in_ok-table.ensures.checks)

@@ -1,0 +1,126 @@
+use Rattle.std.proofs.Common.{◌≡◌, ◌+◌, ◌-◌, suc, ℕ, List, Some, get_or, sym, subst, ap, ◌∙◌, arith, rules}
+use Rattle.std.proofs.lemmas.Option.{slice_get-get_or}
+use Rattle.level_meaning.specs.declared.source.Source.{Source}
+use Rattle.level_meaning.specs.declared.part.Part.TheVariants.{Named}
+use Rattle.algo_defs.specs.declared.definition.Case.{Case}
+use Rattle.algo_rules.specs.Links.{definition}
+use Rattle.algo_rules.specs.Placed.{IsPlaced}
+use Rattle.algo_rules.specs.Ports.{ports_of}
+use Rattle.algo_rules.specs.Resolved.{is_actuator, is_sensor, sources_to, vertex_within}
+use Rattle.algo_tree.specs.View.{kind_view, view}
+use Rattle.algo_resolve.specs.declared.build.Seat.{Seat}
+use Rattle.algo_resolve.specs.declared.plan.Plan.{Plan}
+use Rattle.frontier_check.proofs.Places.{case_at, one_more, otherwise_at}
+use Rattle.algo_resolve.proofs.Placed.{def_at, place_at, place_there, ports_at}
+use Rattle.algo_resolve.proofs.Planned.{beside, plan_at, planned_kind}
+use Rattle.algo_resolve.proofs.Steps.{one_reference, vertex_step}
+use Rattle.algo_resolve.proofs.Told.{retold}
+use Rattle.algo_resolve.proofs.build.+build.Goals as goal
+
+pub build_cases-bounds-places-number : goal.build_cases-bounds-places-number
+build_cases-bounds-places-number t c =
+    let b = c.args.builder.now in omega (arith, one_more b.defs.now b.table.now c.args.names.now.otherwise.now c.args.names.now.cases.now c.args.places.now c.requires.placed)
+
+pub build_cases-build_vertex-requires : goal.build_cases-build_vertex-requires
+build_cases-build_vertex-requires t c =
+    let b = c.args.builder.now in
+    let k = c.case-item.result in
+    let there = case_at b.defs.now b.table.now c.args.names.now.otherwise.now c.args.names.now.cases.now c.args.places.now c.loop-number.number k c.requires.placed c.loop-number-test.true in
+    (search (rules), (c.requires.planned, subst (λ (x : Case). IsPlaced b.defs.now b.table.now x.def (get_or c.args.places.now c.loop-number.number 0)) (sym c.case-item.is) there))
+
+pub build_cases-bounds-places-last : goal.build_cases-bounds-places-last
+build_cases-bounds-places-last t c =
+    let b = c.args.builder.now in omega (arith, one_more b.defs.now b.table.now c.args.names.now.otherwise.now c.args.names.now.cases.now c.args.places.now c.requires.placed)
+
+pub build_cases-build_vertex-requires-2 : goal.build_cases-build_vertex-requires-2
+build_cases-build_vertex-requires-2 t c =
+    let b = c.args.builder.now in
+    (search (rules), (c.requires.planned, otherwise_at b.defs.now b.table.now c.args.names.now.otherwise.now c.args.names.now.cases.now c.args.places.now c.requires.placed))
+
+pub build_references-bounds-graph-at : goal.build_references-bounds-graph-at
+build_references-bounds-graph-at t c =
+    let b = c.args.builder.now in
+    let g = c.args.graph.now in place_there b.defs.now b.table.now g.references.now g.places.now c.requires.wired.placed c.loop-at.at c.loop-at-test.true
+
+pub build_references-build_vertex-requires : goal.build_references-build_vertex-requires
+build_references-build_vertex-requires t c =
+    let b = c.args.builder.now in
+    let g = c.args.graph.now in
+    let there = place_at b.defs.now b.table.now g.references.now g.places.now c.requires.wired.placed c.loop-at.at c.reference-item.result c.loop-at-test.true c.reference-item.is in
+    (search (rules), (c.requires.planned, there))
+
+pub build_references-bounds-builder-place : goal.build_references-bounds-builder-place
+build_references-bounds-builder-place t c =
+    let b = c.args.builder.now in
+    let g = c.args.graph.now in
+    let there = place_at b.defs.now b.table.now g.references.now g.places.now c.requires.wired.placed c.loop-at.at c.reference-item.result c.loop-at-test.true c.reference-item.is in
+    there.below
+
+pub build_references-loop-at-preserved : goal.build_references-loop-at-preserved
+build_references-loop-at-preserved t c =
+    let b = c.args.builder.now in
+    let g = c.args.graph.now in
+    let ds = b.defs.now in
+    let r = c.reference-item.result in
+    let l = c.loop-at in
+    let place = get_or g.places.now l.at 0 in
+    let there = place_at ds b.table.now g.references.now g.places.now c.requires.wired.placed l.at r c.loop-at-test.true c.reference-item.is in
+    let def = def_at ds b.table.now r.def place c.index-builder-place.result there in
+    let sensors : c.sensors_of.result ≡ is_sensor (definition ds r.def) = c.sensors_of.ensures.is ∙ ap is_sensor (sym def) in
+    let actuators : c.actuators_of.result ≡ is_actuator (definition ds r.def) = c.actuators_of.ensures.is ∙ ap is_actuator (sym def) in
+    let wire : c.as_slice.result.now ≡ sources_to (ports_of ds) g.ins.now g.references.now g.edges.now (Some r.name) (ports_of ds r.def).ins =
+    c.as_slice.ensures ∙ sym c.index-graph-at.is
+    ∙ beside (λ x. sources_to (ports_of ds) g.ins.now g.references.now g.edges.now (Some x.name) (ports_of ds x.def).ins) g.wires.now g.references.now l.at r c.index-graph-at.result
+    c.requires.wired.wires c.loop-at-test.true c.reference-item.is c.index-graph-at.is in
+    let made =
+    c.in_ok-build_vertex.ensures
+    ∙ ap (λ (s : Seat). vertex_within ds c.args.fuel s.part r.def s.ins s.sensor s.actuator) c.in_ok-seat.ensures
+    ∙ ap (λ (ws : List Source). vertex_within ds c.args.fuel (Named r.name) r.def ws l.sensors l.actuators) wire in
+    record {
+      so_far =
+          rw c.in_ok-push.ensures.items
+          (one_reference ds (vertex_within ds c.args.fuel) g.ins.now g.references.now g.edges.now g.references.now l.at r l.sensors l.actuators
+          (l.sensors + c.sensors_of.result) (l.actuators + c.actuators_of.result) l.inner.items c.in_ok-build_vertex.field-0 _
+          c.loop-at-test.true c.reference-item.is (ap (λ (k : ℕ). l.sensors + k) sensors) (ap (λ (k : ℕ). l.actuators + k) actuators)
+          made l.invariant.so_far);
+      few_sensors = omega (arith, c.sensors_of.ensures.one, l.invariant.few_sensors);
+      few_actuators = omega (arith, c.actuators_of.ensures.one, l.invariant.few_actuators);
+    }
+
+pub build_vertex-build_inner-requires : goal.build_vertex-build_inner-requires
+build_vertex-build_inner-requires t c =
+    let b = c.args.builder.now in
+    let ds = b.defs.now in
+    let d = get_or ds c.args.place c.index-builder-place.result in
+    let at = slice_get-get_or ds c.args.place c.index-builder-place.result c.requires.placed.below in
+    let plan = plan_at ds b.plans.now c.args.place d c.index-builder-place-2.result c.requires.planned.plans at c.index-builder-place-2.is in (
+      search (rules),
+      (
+        c.requires.planned,
+        (
+          c.requires.planned.ready.read c.args.place c.index-builder-place.result c.requires.placed.below,
+          (
+            c.places_of-places.ensures d at,
+            c.as_slice.ensures ∙ sym (ap (λ (p : Plan). p.wires) c.index-builder-place-2.is) ∙ ap (λ q. q.1) plan,
+          ),
+        ),
+      ),
+    )
+
+pub build_vertex-returns : goal.build_vertex-returns
+build_vertex-returns t c =
+    let b = c.args.builder.now in
+    let ds = b.defs.now in
+    let d = get_or ds c.args.place c.index-builder-place.result in
+    let at = slice_get-get_or ds c.args.place c.index-builder-place.result c.requires.placed.below in
+    let own = get_or b.table.now c.args.place c.index-builder-place-3.result in
+    let seat = c.args.seat in
+    let inner = c.args.fuel - 1 in
+    let fuel : c.args.fuel ≡ suc inner = omega (arith, c.if-fuel-eq0.false) in
+    let def = def_at ds b.table.now c.args.name.now c.args.place c.index-builder-place.result c.requires.placed in
+    let ports = ports_at ds b.table.now c.args.name.now c.args.place c.index-builder-place-3.result c.requires.placed in
+    let plan = plan_at ds b.plans.now c.args.place d c.index-builder-place-2.result c.requires.planned.plans at c.index-builder-place-2.is in
+    let kind = planned_kind ds (vertex_within ds inner) c.args.name.now d own _ def ports (sym (ap (λ (p : Plan). kind_view p.kind) c.index-builder-place-2.is) ∙ ap (λ q. q.0) plan) in
+    retold view c.assemble.result _ (vertex_within ds c.args.fuel seat.part c.args.name.now seat.ins seat.sensor seat.actuator)
+    (vertex_step ds c.args.fuel inner seat.part c.args.name.now seat.ins seat.sensor seat.actuator d own c.in_ok-kind.kind c.in_ok-inner.inner.items
+    fuel def ports (c.in_ok-kind.ensures ds (vertex_within ds inner) own kind) c.in_ok-inner.ensures) c.assemble.ensures

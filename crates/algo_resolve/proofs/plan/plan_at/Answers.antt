@@ -1,0 +1,36 @@
+use Rattle.std.proofs.Common.{◌≡◌, List, ℕ, ap, ap₂, sym, subst, ◌∙◌}
+use Rattle.std.proofs.lemmas.Option.{get_or_from_slice_get}
+use Rattle.level_meaning.specs.declared.source.Source.{Source}
+use Rattle.algo_tree.specs.Tree.{Kind}
+use Rattle.algo_links.specs.Linked.{named}
+use Rattle.algo_rules.specs.Placed.{ArePlaced}
+use Rattle.algo_rules.specs.Ports.{ports_of}
+use Rattle.algo_rules.specs.Resolved.{kind_by, vertex_within}
+use Rattle.algo_rules.specs.declared.ports.Ports.{Ports}
+use Rattle.algo_resolve.proofs.Placed.{places_stand}
+use Rattle.algo_resolve.proofs.Planned.{beside, inside}
+use Rattle.algo_resolve.proofs.plan.plan_at.Goals as goal
+
+pub kind-requires : goal.kind-requires
+kind-requires c =
+    let b = c.args.checked.now in
+    let d = c.args.def.now in
+    subst (λ (ps : List ℕ). ArePlaced b.defs.now b.table.now (named d.body) ps) (c.index-checked-place.is ∙ sym c.as_slice-places.ensures)
+    (places_stand b.defs.now b.links.now b.table.now c.requires.ready c.args.place d c.index-checked-place.result (inside b.defs.now c.args.place d c.requires.there) c.requires.there c.index-checked-place.is)
+
+pub wires-requires : goal.wires-requires
+wires-requires c =
+    let b = c.args.checked.now in
+    let d = c.args.def.now in
+    subst (λ (ps : List ℕ). ArePlaced b.defs.now b.table.now (named d.body) ps) (c.index-checked-place.is ∙ sym c.as_slice-places.ensures)
+    (places_stand b.defs.now b.links.now b.table.now c.requires.ready c.args.place d c.index-checked-place.result (inside b.defs.now c.args.place d c.requires.there) c.requires.there c.index-checked-place.is)
+
+pub returns : goal.returns
+returns c =
+    let b = c.args.checked.now in
+    let ds = b.defs.now in
+    let d = c.args.def.now in
+    let low = inside ds c.args.place d c.requires.there in
+    let here = sym (get_or_from_slice_get ds c.args.place d d c.requires.there) in
+    let own : c.index-checked-place-2.result ≡ ports_of ds d.name = beside (λ e. ports_of ds e.name) b.table.now ds c.args.place d c.index-checked-place-2.result c.requires.ready.ports low here c.index-checked-place-2.is in
+    ap₂ (λ (k : Kind) (ws : List (List Source)). (k, ws)) (c.in_ok-kind.ensures (vertex_within ds 0) ∙ ap (λ (p : Ports). kind_by ds (vertex_within ds 0) p 0 0 d.body) (sym c.index-checked-place-2.is ∙ own)) c.in_ok-wires.ensures

@@ -1,0 +1,23 @@
+use Rattle.std.proofs.Common.{◌≡◌, codes, sym, subst, ◌∙◌}
+use Rattle.algo_defs.specs.declared.definition.Def.{Def}
+use Rattle.algo_rules.specs.Placed.{IsPlaced}
+use Rattle.algo_rules.specs.Resolved.{tree_of, vertex_within}
+use Rattle.algo_tree.specs.View.{view}
+use Rattle.algo_resolve.proofs.Placed.{found_placed}
+use Rattle.algo_resolve.proofs.Told.{main_by, retold}
+use Rattle.algo_resolve.proofs.resolution.build_main.Goals as goal
+
+pub build_vertex-requires-clause-placed : goal.build_vertex-requires-clause-placed
+build_vertex-requires-clause-placed c =
+    let b = c.args.builder.now in
+    let there = found_placed b.defs.now b.table.now c.requires.planned.ready.ports (codes "main") c.args.place c.index-builder-place.result c.requires.below c.requires.main c.index-builder-place.is in
+    subst (λ (d : Def). IsPlaced b.defs.now b.table.now d.name c.args.place) c.index-builder-place.is there.1
+
+pub returns : goal.returns
+returns c =
+    let b = c.args.builder.now in
+    let ds = b.defs.now in
+    let there = found_placed ds b.table.now c.requires.planned.ready.ports (codes "main") c.args.place c.index-builder-place.result c.requires.below c.requires.main c.index-builder-place.is in
+    let named = subst (λ (d : Def). d.name ≡ codes "main") c.index-builder-place.is (sym there.0) in
+    retold view c.build_vertex.result _ (tree_of ds)
+    (main_by (vertex_within ds 8) c.in_ok-copy_name.field-0 _ c.new-2.result (c.in_ok-copy_name.ensures ∙ named) named (c.new-2.ensures ∙ c.new.ensures.items)) c.build_vertex.ensures
