@@ -1,6 +1,7 @@
 //! What the definitions of every accepted text keep, before any of them is linked to another.
 //!
-//! The law is the contract of a function that does nothing.
+//! The law `accepted_are_well_read` is the contract of a function that does nothing; whoever hands the
+//! definitions of a text to the resolver cites it. Worked texts are resolved in `proofs/`.
 #![tactic(auto)]
 
 ghost use Rattle.reading_laws.specs.Accepted.{AcceptedAreWellRead};
