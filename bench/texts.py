@@ -11,7 +11,7 @@ import subprocess
 import tempfile
 
 TOP = os.path.dirname(os.path.dirname(os.path.abspath(__file__)))
-USES = "algo_reader algo_print archi_reader algo_defs archi_defs archi_graph body_text body_lang text_lines syn_base"
+USES = "algo_reader algo_print archi_reader algo_text algo_defs archi_defs archi_graph body_text body_lang text_lines syn_base"
 CRATES = USES + " case_table name_table"
 MIB = 1024 * 1024
 PROGRAM = """//! Reads a text and prints its canonical text, and tells how long both took.

@@ -1,4 +1,5 @@
-//! The canonical text of an algorithm's definitions, which reads back as them.
+//! The canonical text of an algorithm's definitions: `print_algo` appends it, and the laws say that it reads
+//! back as the same definitions, the numbers of lines aside. The command `check` prints it.
 #![tactic(auto)]
 
 mod blocks;

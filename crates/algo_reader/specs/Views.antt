@@ -19,6 +19,10 @@ use Rattle.algo_reader.specs.declared.repetition.RepeatBlock.{RepeatBlock}
 use Rattle.algo_reader.specs.declared.reader.Reader.{Reader}
 use Rattle.algo_reader.specs.declared.reader.Kind.{Kind}
 use Rattle.algo_reader.specs.declared.reader.Kind.TheVariants as kinds
+use Rattle.algo_reader.specs.declared.reader.EndKind.{EndKind}
+use Rattle.algo_reader.specs.declared.reader.EndKind.TheVariants as ends
+use Rattle.algo_reader.specs.declared.reader.ValuesKind.{ValuesKind}
+use Rattle.algo_reader.specs.declared.reader.ValuesKind.TheVariants as values
 use Rattle.algo_reader.specs.declared.reader.Place.{Place}
 use Rattle.algo_reader.specs.declared.reader.Place.TheVariants as places
 
@@ -102,13 +106,13 @@ stage_for kinds.Function = in_function
 stage_for kinds.Graph = in_graph
 stage_for kinds.Switch = in_switch
 
-abbrev pub end_body : Bool → ℕ → Body
-end_body true = Sensor
-end_body false = Actuator
+abbrev pub end_body : EndKind → ℕ → Body
+end_body ends.Sensor = Sensor
+end_body ends.Actuator = Actuator
 
-abbrev pub values_body : Bool → List ℤ → Body
-values_body true = Constant
-values_body false = Delay
+abbrev pub values_body : ValuesKind → List ℤ → Body
+values_body values.Constant = Constant
+values_body values.Delay = Delay
 
 -- the ends of blocks
 abbrev pub function_end : Reading → ℕ → List Bytes → Result Reading AlgoError

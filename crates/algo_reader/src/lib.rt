@@ -1,4 +1,6 @@
-//! Reads the text of an algorithm, line by line, in time proportional to its size.
+//! Reads the text of an algorithm, line by line, in time proportional to its size: `read_algo` answers the
+//! definitions of a text or its first refusal, exactly as `algo_text` defines them. The commands of the
+//! program begin with it.
 #![tactic(auto)]
 
 mod fault;

@@ -29,6 +29,20 @@ pub enum Kind {
     Switch,
 }
 
+/// An end of the whole algorithm.
+#[derive(Clone, Copy, Drop)]
+pub enum EndKind {
+    Sensor,
+    Actuator,
+}
+
+/// A definition that is a list of values.
+#[derive(Clone, Copy, Drop)]
+pub enum ValuesKind {
+    Constant,
+    Delay,
+}
+
 /// Where the next line stands.
 #[derive(Drop)]
 pub enum Place {
@@ -59,23 +73,21 @@ fn open_block(alloc: Global, kind: Kind, name: Name, line: u32) -> Place
     }
 }
 
-fn end_body(sensor: bool, len: u32) -> Body
-    ensures { result ≡ end_body sensor len }
+fn end_body(kind: EndKind, len: u32) -> Body
+    ensures { result ≡ end_body kind len }
 {
-    if sensor {
-        Body::Sensor(len)
-    } else {
-        Body::Actuator(len)
+    match kind {
+        EndKind::Sensor => Body::Sensor(len),
+        EndKind::Actuator => Body::Actuator(len),
     }
 }
 
-fn values_body(constant: bool, values: Vec<i64>) -> Body
-    ensures { result ≡ values_body constant values.items }
+fn values_body(kind: ValuesKind, values: Vec<i64>) -> Body
+    ensures { result ≡ values_body kind values.items }
 {
-    if constant {
-        Body::Constant(Items::new(values))
-    } else {
-        Body::Delay(Items::new(values))
+    match kind {
+        ValuesKind::Constant => Body::Constant(Items::new(values)),
+        ValuesKind::Delay => Body::Delay(Items::new(values)),
     }
 }
 
@@ -113,11 +125,11 @@ impl<'a> Reader<'a> {
     fn end_line(
         &mut self,
         alloc: Global,
-        sensor: bool,
+        kind: EndKind,
         number: u32,
         words: &Words<'a>,
     ) -> Result<(), AlgoError>
-        ensures { Steps result (reading self.new) (end_line (end_body sensor) (reading self.old) number words.now) }
+        ensures { Steps result (reading self.new) (end_line (end_body kind) (reading self.old) number words.now) }
     {
         if words.len() != 3 {
             return Err(bad_line(number));
@@ -137,7 +149,7 @@ impl<'a> Reader<'a> {
         let def = Def {
             name,
             line: number,
-            body: end_body(sensor, len as u32),
+            body: end_body(kind, len as u32),
         };
         push(&mut self.defs, def)?;
         Ok(())
@@ -147,11 +159,11 @@ impl<'a> Reader<'a> {
     fn values_line(
         &mut self,
         alloc: Global,
-        constant: bool,
+        kind: ValuesKind,
         number: u32,
         words: &Words<'a>,
     ) -> Result<(), AlgoError>
-        ensures { Steps result (reading self.new) (values_line (values_body constant) (reading self.old) number words.now) }
+        ensures { Steps result (reading self.new) (values_line (values_body kind) (reading self.old) number words.now) }
     {
         if words.len() < 4 {
             return Err(bad_line(number));
@@ -172,7 +184,7 @@ impl<'a> Reader<'a> {
         let def = Def {
             name,
             line: number,
-            body: values_body(constant, values),
+            body: values_body(kind, values),
         };
         push(&mut self.defs, def)?;
         Ok(())
@@ -243,16 +255,16 @@ impl<'a> Reader<'a> {
         ensures { Steps result (reading self.new) (between_line (reading self.old) number words.now) }
     {
         if begins(words, b"sensor") {
-            return self.end_line(alloc, true, number, words);
+            return self.end_line(alloc, EndKind::Sensor, number, words);
         }
         if begins(words, b"actuator") {
-            return self.end_line(alloc, false, number, words);
+            return self.end_line(alloc, EndKind::Actuator, number, words);
         }
         if begins(words, b"constant") {
-            return self.values_line(alloc, true, number, words);
+            return self.values_line(alloc, ValuesKind::Constant, number, words);
         }
         if begins(words, b"delay") {
-            return self.values_line(alloc, false, number, words);
+            return self.values_line(alloc, ValuesKind::Delay, number, words);
         }
         if begins(words, b"function") {
             return self.opening_line(alloc, Kind::Function, number, words);

@@ -17,6 +17,7 @@ fn count(alloc: Global, text: &[u8]) -> Option<usize>
 
 #[test]
 fn a_text_is_read(rt: HostRuntime) {
-    let text = b"algorithm 1 # a text\r\nsensor s 1\nfunction f\nin a 1\nout o 1 = add(a[0],1)\nend";
+    let text =
+        b"algorithm 1 # a text\r\nsensor s 1\nfunction f\nin a 1\nout o 1 = add(a[0],1)\nend";
     assert_eq!(rt; count(rt.alloc(), text), Some(2));
 }

@@ -1,5 +1,5 @@
 -- What worked texts say.
-use Rattle.std.proofs.Common.{◌≡◌, refl, List, [], ◌∷◌, ◌++◌, pos, negsuc, Some, Result, Ok, Err, codes}
+use Rattle.std.proofs.Common.{◌≡◌, refl, List, [], ◌∷◌, ◌++◌, pos, negsuc, Some, Result, Ok, Err, codes, None}
 use Rattle.syn_base.specs.declared.arithmetic.Op.TheVariants.{Add}
 use Rattle.syn_base.specs.declared.limits.LimitKind.TheVariants.{PortLength, Copies}
 use Rattle.body_lang.specs.Expr.{literal, element, apply}
@@ -153,3 +153,41 @@ outer_twice = refl
 
 outer_again : read (chain (codes "repeat Chain 4 Cell") (codes "iterate v acc r t")) ≡ refused 5 (DuplicateName (codes "v"))
 outer_again = refl
+
+-- lines stand in the order of the parts of a block
+abbrev block : Bytes → List Bytes → Result (List Def) AlgoError
+block first ls = read (codes "algorithm 1" ∷ first ∷ ls)
+
+in_after_result : block (codes "function F") (codes "out y 1 = 1" ∷ codes "in x 1" ∷ []) ≡ refused 4 BadLine
+in_after_result = refl
+
+out_after_reference : block (codes "graph G") (codes "ref f F" ∷ codes "out y 1" ∷ []) ≡ refused 4 BadLine
+out_after_reference = refl
+
+reference_after_edge : block (codes "graph G") (codes "edge x y" ∷ codes "ref f F" ∷ []) ≡ refused 4 BadLine
+reference_after_edge = refl
+
+-- edges may stand without ports and references before them
+edges_alone : block (codes "graph G") (codes "edge x y" ∷ codes "edge f.x z" ∷ codes "end" ∷ []) ≡ Ok (record {
+  name = codes "G";
+  line = 2;
+  body =
+      Graph [] [] [] (record { from = record { owner = None; port = codes "x" }; to = record { owner = None; port = codes "y" }; line = 3 }
+      ∷ record { from = record { owner = Some (codes "f"); port = codes "x" }; to = record { owner = None; port = codes "z" }; line = 4 } ∷ []);
+} ∷ [])
+edges_alone = refl
+
+case_before_on : block (codes "switch S") (codes "case 0 F" ∷ []) ≡ refused 3 BadLine
+case_before_on = refl
+
+on_twice : block (codes "switch S") (codes "on c" ∷ codes "on d" ∷ []) ≡ refused 4 BadLine
+on_twice = refl
+
+out_after_case : block (codes "switch S") (codes "on c" ∷ codes "case 0 F" ∷ codes "out y 1" ∷ []) ≡ refused 5 BadLine
+out_after_case = refl
+
+case_after_otherwise : block (codes "switch S") (codes "on c" ∷ codes "otherwise F" ∷ codes "case 0 F" ∷ []) ≡ refused 5 BadLine
+case_after_otherwise = refl
+
+otherwise_twice : block (codes "switch S") (codes "on c" ∷ codes "otherwise F" ∷ codes "otherwise G" ∷ []) ≡ refused 5 BadLine
+otherwise_twice = refl

@@ -1,6 +1,7 @@
 //! Named cases, found by name.
 //!
-//! A `CaseTable` gives the place of a name, and `case_arms!` the case that stands at a place.
+//! A `CaseTable` gives the place of a name, and `case_arms!` the case that stands at a place. The words of
+//! expressions are found so.
 #![tactic(auto)]
 
 mod table;

@@ -1,4 +1,5 @@
-//! Names in first-seen order, each once, found by hash.
+//! Names in first-seen order, each once, found by hash: `Names` with `add` and `find`. The readers of texts
+//! and whoever looks up definitions by name use it.
 #![tactic(auto)]
 
 ghost use Rattle.std.specs.Prelude.{◌≡◌, not, OnErr, IfOk, List, ℕ, map, position, nat_eq, if◌then◌else◌, ◌++◌, ◌∷◌, []};

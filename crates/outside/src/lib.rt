@@ -1,5 +1,8 @@
 //! The outside world: files that are read piece by piece, sinks that bytes are put into, and a gate
 //! that is asked before a step; whole reads and writes over them.
+//!
+//! `read_whole`, `write_whole` and `write_pieces` work over any shelf and sink, and the top call of the
+//! program is generic over them. Those in memory serve tests; `real_edge` has the real ones.
 #![tactic(auto)]
 
 ghost use Rattle.std.specs.Prelude.{◌≡◌, ◌≤◌, ◌<◌, length, take, map, IfOk, OnErr, IfErr, IfSome, is_ok};

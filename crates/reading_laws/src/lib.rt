@@ -1,7 +1,7 @@
 //! What the definitions of every accepted text keep, before any of them is linked to another. Whoever reads a
 //! text and resolves its definitions has by these laws all that `resolve` asks for.
 //!
-//! Each law is the contract of a function that does nothing.
+//! Each law is the contract of a function that does nothing. Worked texts are resolved in `proofs/`.
 #![tactic(auto)]
 
 ghost use Rattle.reading_laws.specs.Accepted.{AcceptedAreWellRead};

@@ -1,6 +1,6 @@
 //! The real outside: files, standard output and standard error. None of them tells what it holds;
 //! each counts its faults. Nothing here is proved beyond that: what a file gives and what a terminal
-//! takes is trusted.
+//! takes is trusted. `main` makes a `FileShelf`, a `StdSink` and an `ErrSink`, and hands them to the program.
 #![tactic(auto)]
 
 ghost use Rattle.std.specs.Prelude.{◌≡◌, ◌≤◌, length, replicate, IfSome};
