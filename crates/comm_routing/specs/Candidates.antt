@@ -1,0 +1,78 @@
+-- Candidates by the tables, and the arrivals that are kept of them.
+use Rattle.std.specs.Prelude.{◌≡◌, ℕ, ◌+◌, ◌<◌, ◌≤◌, Bool, true, false, ◌&&◌, not, if◌then◌else◌, List, [], ◌∷◌, length, All, None, is_some, take, slice_get, slice_index_or}
+use Rattle.std.specs.List.{list_all}
+use Rattle.flat_graph.specs.declared.vertex.Source.{Source}
+use Rattle.flat_graph.specs.declared.vertex.Vertex.{Vertex}
+use Rattle.flat_graph.specs.Graph.{with_vertex}
+use Rattle.flat_graph.specs.Order.{depends_on}
+use Rattle.route_table.specs.Table.{route_in}
+use Rattle.comm_routing.specs.Board.{Board, FitsAll, HasWay, held_in, on_in, time_in}
+use Rattle.comm_routing.specs.Walk.{fetch_all, walk}
+use Rattle.comm_routing.specs.declared.reach.Walks.{Walks}
+use Rattle.comm_routing.specs.declared.candidates.Candidates.{Candidates}
+
+abbrev pub is_placed_in : Board → ℕ → Bool
+is_placed_in b v = is_some (slice_index_or b.places v None)
+
+-- it is not placed, and all that it depends on is
+abbrev pub is_free_in : Board → ℕ → Vertex → Bool
+is_free_in b v x = not (is_placed_in b v) && list_all (is_placed_in b) (depends_on x)
+
+abbrev pub is_candidate_in : List Vertex → Board → ℕ → Bool
+is_candidate_in vertices b v = with_vertex (slice_get vertices v) false (is_free_in b v)
+
+-- the places of those that are set, of which the first has this number
+abbrev pub places_from : ℕ → List Bool → List ℕ
+places_from v [] = []
+places_from v (flag ∷ flags) = if flag then v ∷ places_from (v + 1) flags else places_from (v + 1) flags
+
+-- the distinct sources of an operation
+abbrev pub reads_in : Walks → ℕ → List Source
+reads_in w v = slice_index_or w.reads.now v []
+
+-- the arrival of an operation on an operator, by the tables
+abbrev pub arrival_at : Walks → ℕ → ℕ → ℕ
+arrival_at w v p =
+    (fetch_all (time_in w.media.now w.board.now) (held_in w.board.now) (on_in w.board.now) (route_in w.routes.now) p (reads_in w v) (walk w.board.now.ends 0)).date
+
+-- the walks of an operation on an operator are there, and their dates fit
+pub record CanWalk (w : Walks) (v p : ℕ) : Type 0 where
+  pub ways : All (HasWay w.media.now w.board.now (route_in w.routes.now) w.routes.now.operators p) (reads_in w v)
+  pub fits : FitsAll w.media.now w.board.now (route_in w.routes.now) p (reads_in w v) (walk w.board.now.ends 0)
+
+abbrev pub CanArrive : Walks → ℕ → Type 0
+CanArrive w v = (p : ℕ) → p < w.operators → CanWalk w v p
+
+pub record HasWalks (w : Walks) : Type 0 where
+  pub operators : w.operators ≤ 16
+  pub routes : w.operators ≡ w.routes.now.operators
+  pub media : length w.media.now ≤ 16
+
+-- the arrivals of an operation, operator by operator
+abbrev pub AreArrivals : Walks → ℕ → List ℕ → Type 0
+AreArrivals w v row = (p : ℕ) → p < w.operators → slice_index_or row p 0 ≡ arrival_at w v p
+
+abbrev pub row_at : List (List ℕ) → ℕ → List ℕ
+row_at rows v = slice_index_or rows v []
+
+-- what is kept of so many operations
+pub record HasSize (operations : ℕ) (c : Candidates) : Type 0 where
+  pub flags : length c.flags.items ≡ operations
+  pub known : length c.known.items ≡ operations
+  pub ready : length c.ready.items ≡ operations
+  pub arrivals : length c.arrivals.items ≡ operations
+  pub count : c.count ≤ operations
+
+abbrev pub flag_at : Candidates → ℕ → Bool
+flag_at c v = slice_index_or c.flags.items v false
+
+abbrev pub ready_in : Candidates → List ℕ
+ready_in c = take c.count c.ready.items
+
+-- The candidates by the tables. The arrivals of those that were there stay, where they are kept, and the others' are found.
+pub record IsUpdated (vertices : List Vertex) (w : Walks) (keeps : Bool) (before after : Candidates) : Type 0 where
+  pub size : HasSize (length vertices) after
+  pub flags : (v : ℕ) → v < length vertices → flag_at after v ≡ is_candidate_in vertices w.board.now v
+  pub ready : ready_in after ≡ places_from 0 after.flags.items
+  pub found : (v : ℕ) → v < length vertices → flag_at after v ≡ true → (flag_at before v && keeps) ≡ false → AreArrivals w v (row_at after.arrivals.items v)
+  pub kept : (v : ℕ) → (flag_at before v && keeps) ≡ true → row_at after.arrivals.items v ≡ row_at before.arrivals.items v

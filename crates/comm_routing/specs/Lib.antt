@@ -1,0 +1,11 @@
+pub mod Task
+pub mod Placing
+pub mod Start
+pub mod Given
+pub mod Walk
+pub mod Board
+pub mod Tables
+pub mod Candidates
+pub mod Laws
+pub mod Progress
+pub mod Draft

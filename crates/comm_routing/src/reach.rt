@@ -1,0 +1,50 @@
+//! What arrivals are found by.
+ghost use Rattle.std.specs.Prelude.{◌≡◌, ℕ, ◌<◌, ◌≤◌, length, slice_index_or};
+ghost use Rattle.comm_routing.specs.Candidates.{AreArrivals, CanArrive, HasWalks, arrival_at};
+
+use crate::board::{Board, arrival};
+use archi_graph::Medium;
+use flat_graph::Source;
+use route_table::Routes;
+use syn_base::Items;
+
+/// The tables, the media with the routes over them, how many operators there are, and the distinct
+/// sources of each operation.
+#[derive(Clone, Copy)]
+pub(crate) struct Walks<'a> {
+    pub board: &'a Board,
+    pub media: &'a [Medium],
+    pub routes: &'a Routes,
+    pub operators: usize,
+    pub reads: &'a [Items<Source>],
+}
+
+/// The arrivals of an operation on each operator.
+pub(crate) fn arrivals(walks: &Walks, op: usize) -> [u64; 16]
+    requires walks { HasWalks walks.now }
+    requires operation { op < length walks.now.reads.now }
+    requires way { CanArrive walks.now op }
+    ensures { AreArrivals walks.now op result }
+{
+    let mut row = [0; 16];
+    for operator in 0..walks.operators {
+        row[operator] = arrival_on(walks, op, operator);
+    }
+    row
+}
+
+fn arrival_on(walks: &Walks, op: usize, operator: usize) -> u64
+    requires walks { HasWalks walks.now }
+    requires operation { op < length walks.now.reads.now }
+    requires operator { operator < walks.now.operators }
+    requires way { CanArrive walks.now op }
+    ensures { result ≡ arrival_at walks.now op operator }
+{
+    arrival(
+        walks.board,
+        walks.media,
+        walks.routes,
+        walks.reads[op].as_slice(),
+        operator as u32,
+    )
+}
