@@ -2,7 +2,7 @@
 """Times micro-steps of the core's `run_list` over a program for two operators with a bus, in runs of
 10,000 reactions, and prints how many are made a second, and the ratio to as many turns of a plain loop.
 
-What is timed is a test of `order_check` that is put into a copy of the repository, which is thrown away.
+What is timed is a test of `worked_programs` that is put into a copy of the repository, which is thrown away.
 The copy takes over what earlier checks kept; in a new clone everything below is proved first."""
 import os
 import shutil
@@ -10,7 +10,28 @@ import subprocess
 import tempfile
 
 TOP = os.path.dirname(os.path.dirname(os.path.abspath(__file__)))
-CRATES = "syn_base body_lang level_meaning flat_graph archi_graph consistent_cuts interleavings semaphore_core order_check"
+
+
+def needed(name):
+    """The crate and all below it, by the repository's list."""
+    below = {}
+    with open(os.path.join(TOP, "crates.txt"), encoding="utf-8") as it:
+        for line in it:
+            line = line.split("#")[0]
+            if ":" in line:
+                crate, rest = line.split(":", 1)
+                below[crate.split()[0]] = rest.split()
+    found = []
+    def add(crate):
+        if crate in below and crate not in found:
+            found.append(crate)
+            for other in below[crate]:
+                add(other)
+    add(name)
+    return found
+
+
+CRATES = needed("worked_programs")
 RUNS = 20
 # two prologues of one micro-step, and 10,000 reactions of 23
 STEPS = RUNS * (2 + 10_000 * 23)
@@ -54,6 +75,31 @@ fn timed(rt: &HostRuntime, alloc: Global, job: &Job, list: &[u32]) -> Result<(),
     Ok(())
 }
 
+/// 10,000 rows in which the one sensor gives 5.
+fn many(rt: &impl Abort, alloc: Global, flat: &Flat) -> Result<SensorRows, Fail>
+    ensures { IfOk result (λ rows. rows.lens ≡ sensor_lens flat.now.vertices) }
+{
+    let lens = sensor_lens(alloc, flat)?;
+    assert_eq!(rt; lens.as_slice(), [1].as_slice());
+    fives(SensorRows::new(alloc, lens.as_slice())?)
+}
+
+fn fives(mut rows: SensorRows) -> Result<SensorRows, Fail>
+    requires { sum rows.lens ≡ 1 }
+    ensures { IfOk result (λ all. all.lens ≡ rows.lens) }
+{
+    for _ in 0..10_000u32 {
+        rows.push(&[5])?;
+    }
+    Ok(rows)
+}
+
+const PROLOGUES: [u32; 2] = [1, 2];
+
+const REACTION: [u32; 23] = [
+    0, 0, 0, 0, 0, 1, 1, 1, 1, 1, 1, 3, 3, 3, 3, 3, 3, 2, 2, 2, 2, 2, 0,
+];
+
 fn list(alloc: Global) -> Result<Vec<u32>, Fail> {
     let mut list = Vec::from_slice(alloc, &PROLOGUES)?;
     for _ in 0..10_000 {
@@ -70,8 +116,7 @@ fn on_the_bus(
     archi: &Archi,
 ) -> Result<(), Fail> {
     let alloc = clock.alloc();
-    let values = vec![in alloc; 5; 10_000]?;
-    let rows = sensed(rt, alloc, flat, values.as_slice())?;
+    let rows = many(rt, alloc, flat)?;
     let opening = opening_of(alloc, flat)?;
     match job(rt, program, flat, archi, &rows, opening, &ORDER) {
         Ok(job) => timed(clock, alloc, &job, list(alloc)?.as_slice()),
@@ -82,7 +127,7 @@ fn on_the_bus(
 #[test]
 fn micro_steps_are_timed(rt: HostRuntime) -> Result<(), Fail> {
     let alloc = rt.alloc();
-    let program = program(alloc, sender(alloc)?)?;
+    let program = program(alloc, 1)?;
     let flat = graph_of_two(&rt, alloc)?;
     on_the_bus(&rt, &rt, &program, &flat, &two_operators(&rt, alloc)?)
 }
@@ -92,20 +137,32 @@ fn micro_steps_are_timed(rt: HostRuntime) -> Result<(), Fail> {
 def copy(room):
     """The crates that are needed, with what is kept of their checks."""
     shutil.copy(os.path.join(TOP, "HANDLES"), room)
-    for name in CRATES.split():
+    for name in CRATES:
         shutil.copytree(os.path.join(TOP, "crates", name), os.path.join(room, "crates", name))
     with open(os.path.join(TOP, "crates.txt"), encoding="utf-8") as it:
-        lines = [line for line in it if line.split(":")[0].split(" ")[0] in CRATES.split()]
+        lines = [line for line in it if line.split(":")[0].split(" ")[0] in CRATES]
     with open(os.path.join(room, "crates.txt"), "w", encoding="utf-8") as it:
         it.writelines(lines)
-    runs = os.path.join(room, "crates", "order_check", "src", "runs.rt")
-    with open(runs, "a", encoding="utf-8") as it:
-        it.write(TEST.replace("@RUNS@", str(RUNS)).replace("@STEPS@", str(STEPS)))
+    crate = os.path.join(room, "crates", "worked_programs")
+    runs = os.path.join(crate, "src", "two_operators.rt")
     with open(runs, encoding="utf-8") as it:
-        text = it.read().replace("use std::test::Fail;\n", "use std::test::Fail;\nuse std::time::Instant;\n")
+        text = it.read() + TEST.replace("@RUNS@", str(RUNS)).replace("@STEPS@", str(STEPS))
+    text = text.replace("use std::test::Fail;\n", "use std::test::Fail;\nuse std::time::Instant;\n", 1)
+    text = text.replace("sensor_lens, try_step", "run_list, sensor_lens, try_step", 1)
+    text = text.replace("IfOk}", "IfOk, sum}", 1)
     with open(runs, "w", encoding="utf-8") as it:
         it.write(text)
-    return os.path.join(room, "crates", "order_check")
+    for name, mark in (("fives", "loop"),):
+        folder = os.path.join(crate, "proofs", "two_operators", name)
+        os.makedirs(folder)
+        with open(os.path.join(folder, "Invariants.antt"), "w", encoding="utf-8") as it:
+            it.write(
+                "use Rattle.std.proofs.Common.{◌≡◌}\n"
+                f"use Rattle.worked_programs.proofs.two_operators.{name}.Given as goal\n\n"
+                f"abbrev pub invariant-{mark} : goal.invariant-{mark}\n"
+                f"invariant-{mark} l = l.rows.lens ≡ l.fn.rows.lens\n"
+            )
+    return crate
 
 
 def main():

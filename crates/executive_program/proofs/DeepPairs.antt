@@ -2,9 +2,9 @@
 use Rattle.std.proofs.Common.{◌≡◌, ℕ, zero, suc, ◌+◌, ◌*◌, ◌<◌, ◌≤◌, ◌⊎◌, inl, inr, Bool, true, false, cond, nat_eq, nat_lt, List, [], ◌∷◌, ◌++◌, length, Option, Some, None, refl, sym, ap, subst, arith, ◌∙◌, zero-add}
 use Rattle.std.specs.Prelude.{slice_get}
 use Rattle.std.specs.List.{sum_by}
-use Rattle.std.proofs.lemmas.Bool.{cases_eq, cases_lt, eq-eqb, ne_eqb, eqb-true, lt-ltb, le-ltb}
+use Rattle.std.proofs.lemmas.Bool.{cases_eq, cases_lt, eq-eqb, ne_eqb, eqb-true, lt-ltb}
 use Rattle.std.proofs.lemmas.List.Sums.{sum_by-cons}
-use Rattle.std.proofs.lemmas.Option.{slice_get_within, slice_get_past, slice_get-get_or}
+use Rattle.std.proofs.lemmas.Option.{slice_get_past, slice_get-get_or}
 use Rattle.archi_graph.specs.declared.medium.Seq.{Seq}
 use Rattle.flat_graph.specs.Graph.{Graph}
 use Rattle.interleavings.specs.Owners.{sum_below}
@@ -14,11 +14,11 @@ use Rattle.executive_program.specs.declared.program.SeqCode.{SeqCode}
 use Rattle.executive_program.specs.declared.program.Program.{Program}
 use Rattle.executive_program.specs.Blocks.{blocks, repeated}
 use Rattle.executive_program.specs.Instructions.{turn, turn_of, prologue, prologue_of, readers, Reader, depth_of, depth_at, pair_depth}
-use Rattle.executive_program.specs.Places.{takes_empty, takes_full, reader, reader_or, pair, places, opening_signals, signals_of, opening_of}
+use Rattle.executive_program.specs.Places.{takes_empty, takes_full, reader, reader_or, pair, places, opening_signals, signals_of}
 use Rattle.executive_program.specs.Sizes.{looks_at, looks_of, looks_in, is_last, opened_after, prologue_looks, turn_looks, deep_pairs}
 use Rattle.executive_program.specs.WellFormed.{IsOrder, IsOnly, NamesIn, Stands, writer_of}
-use Rattle.executive_program.proofs.Sums.{same_below, none_below, swapped, picked, summed, of_one, none_passes, one_passes}
-use Rattle.executive_program.proofs.MicroCounts.{by_place, sum_of_sums}
+use Rattle.executive_program.proofs.Sums.{same_below, none_below, swapped, picked, summed, none_passes, one_passes}
+use Rattle.executive_program.proofs.MicroCounts.{by_place}
 use Rattle.executive_program.proofs.Formed.{formed_has_places, pairs_are_readers}
 
 -- one where there are two or more

@@ -17,6 +17,6 @@ mod wires;
 pub use expand::{SeqSteps, buffer_depth, buffer_len, elements_in, micro_steps_of};
 pub use pairs::pair_depths;
 pub use program::{Buffer, Instr, Program, SeqCode};
-pub use sizes::{deep_pairs, plain_prologues, plain_turns, turn_micros};
+pub use sizes::{deep_pairs, plain_prologues, plain_turns, turn_micros, words};
 pub use steps::{MicroStep, OnLoad, OnStore, Place};
 pub use wires::wire_len;

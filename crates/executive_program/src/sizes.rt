@@ -3,10 +3,13 @@ ghost use Rattle.std.specs.Prelude.{◌≡◌, ℕ, ◌+◌, ◌-◌, ◌*◌, �
 ghost use Rattle.std.specs.List.{sum_by};
 ghost use Rattle.executive_program.specs.declared.program.Instr.{Instr};
 ghost use Rattle.executive_program.specs.Sizes.{deep_pairs, looks_at, looks_in, looks_of, opened_after, pair_depths, plain_in, plain_of, plain_prologues, plain_turns};
+ghost use Rattle.executive_program.specs.MicroSteps.{wire_len, words};
 ghost use Rattle.executive_program.specs.Steps.{all_turns};
+ghost use Rattle.interleavings.specs.Owners.{sum_below};
 
 use crate::expand::{buffer_len, depth_at, elements_in};
 use crate::program::{Instr, Program};
+use crate::wires::wire_len;
 
 /// The number of micro-steps of an instruction, where each take is one.
 fn plain_of(program: &Program, instr: &Instr) -> u128
@@ -170,4 +173,37 @@ pub fn deep_pairs(program: &Program) -> u128
         total = total.saturating_add(opened_often(code.prologue.as_slice()) as u128);
     }
     total
+}
+
+/// The number of elements of all buffers in all their places.
+fn buffer_words(program: &Program) -> u128
+    ensures value { result ≡ sum_by (λ x. x.depth * x.len) program.now.buffers }
+    ensures bound { result < 2 ^ 128 - 2 ^ 96 }
+{
+    let mut total: u128 = 0;
+    for buffer in program.buffers.as_slice() {
+        total += buffer.depth as u128 * buffer.len as u128;
+    }
+    total
+}
+
+/// The number of elements of the wires of so many media.
+fn wire_words(program: &Program, media: u32) -> u128
+    ensures value { result ≡ sum_below (wire_len program.now) media }
+    ensures bound { result ≤ media * 2 ^ 32 }
+{
+    let mut total: u128 = 0;
+    for medium in 0..media {
+        total += wire_len(program, medium) as u128;
+    }
+    total
+}
+
+/// How many words the table of a program has on so many media: the two semaphores of each pair, the turn of
+/// each medium, the elements of each buffer once for each of its places, and those of the wires.
+pub fn words(program: &Program, media: u32) -> u128
+    ensures { result ≡ words program.now media }
+{
+    let semaphores = 2 * program.pairs.as_slice().len() as u128;
+    semaphores + media as u128 + buffer_words(program) + wire_words(program, media)
 }

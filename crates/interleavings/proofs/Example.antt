@@ -223,6 +223,17 @@ store_in (suc zero) (suc (suc zero)) y i e = absurd cc
 store_in (suc zero) (suc (suc (suc l))) y i e = absurd cc
 store_in (suc (suc s)) l y i e = absurd cc
 
+lower_in : (s l x : ℕ) → slice_get (codes s).turn l ≡ Some (sub x) → ⊥
+lower_in zero zero x e = absurd cc
+lower_in zero (suc zero) x e = absurd cc
+lower_in zero (suc (suc zero)) x e = absurd cc
+lower_in zero (suc (suc (suc l))) x e = absurd cc
+lower_in (suc zero) zero x e = absurd cc
+lower_in (suc zero) (suc zero) x e = absurd cc
+lower_in (suc zero) (suc (suc zero)) x e = absurd cc
+lower_in (suc zero) (suc (suc (suc l))) x e = absurd cc
+lower_in (suc (suc s)) l x e = absurd cc
+
 Taken : ℕ → ℕ → ℕ → Type 0
 Taken s l x = (t : ℕ) × IsSemaphore example signaller x s l t
 
@@ -242,6 +253,7 @@ unfolding Taken
 joined = record {
   prologue = front_in;
   takes = λ s l x e. taken_at s l x (take_in s l x e);
+  lowers = λ s l x e. absurd (lower_in s l x e);
   waits = λ s l m i e. absurd (await_in s l m i true e);
   syncs = λ s l m i e. absurd (await_in s l m i false e);
 }

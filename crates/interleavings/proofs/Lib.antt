@@ -10,3 +10,4 @@ pub mod OneMore
 mod Example
 mod ExampleMedium
 pub mod Synchronized
+pub mod Rounds

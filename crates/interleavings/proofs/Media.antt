@@ -164,7 +164,7 @@ module _ {P : Type 0} (w : System P) (signaller : ℕ → Owner) (half : ℕ →
       half_in : half_of i < H
       half_in = let a = x.within i h in omega arith
 
-      event_is : store_event (j * p + i) ≡ event S (number_of (w.codes S) j (place_of i))
+      pub event_is : store_event (j * p + i) ≡ event S (number_of (w.codes S) j (place_of i))
       event_is = nth_at w p (stores y) (stores_access y) writer x.family j i h ∙ ap (event S) (nth_late (w.codes S) (place_of i) j)
 
       -- a store that was made came after its half's wait

@@ -1,5 +1,5 @@
 -- The totals of a pair of any depth.
-use Rattle.std.proofs.Common.{◌≡◌, ℕ, suc, ◌+◌, ◌*◌, ◌<◌, ◌≤◌, ◌⊎◌, Bool, length, Some, refl, ap, subst, inl, inr, ⊎_elim, arith, ◌∙◌}
+use Rattle.std.proofs.Common.{◌≡◌, ℕ, suc, ◌+◌, ◌-◌, ◌*◌, ◌<◌, ◌≤◌, ◌⊎◌, Bool, length, Some, refl, ap, subst, inl, inr, ⊎_elim, arith, ◌∙◌}
 use Rattle.std.specs.Prelude.{slice_get}
 use Rattle.std.proofs.lemmas.Bool.{cases_lt}
 use Rattle.std.proofs.lemmas.Option.{slice_get_within}
@@ -53,6 +53,16 @@ module _ {P : Type 0} (w : System P) (signaller : ℕ → Owner) (half : ℕ →
             let g : number_of (w.codes t) j asks < c t = omega arith in
             let f = k.made (event t (number_of (w.codes t) j asks)) (nth_of w (signaller x) j) g (needs_of j) in
             let z = (total_nth w (is_signal x) (signaller x) o.signalled c j).1 f in omega arith
+
+    -- what was seen is still there when it is taken
+    pub seen : (j : ℕ) → asks < takes → c t ≡ number_of (w.codes t) j takes → 1 ≤ total w (is_signal x) c - total w (is_take x) c
+    seen j l at =
+        let g : number_of (w.codes t) j asks < c t = omega arith in
+        let f = k.made (event t (number_of (w.codes t) j asks)) (nth_of w (signaller x) j) g (needs_of j) in
+        let z = (total_nth w (is_signal x) (signaller x) o.signalled c j).1 f in
+        let a = total_owned w (is_take x) (late t takes) o.taken c in
+        let b = ap (passes (is_take x) (w.codes t)) at in
+        let e = passes_at w (is_take x) t takes takes j o.taken (omega arith) in omega arith
 
   module _ (empty filled d writer reader wa wt ws ra rt rs first : ℕ) (o : IsPair w signaller empty filled d writer reader wa wt ws ra rt rs first) where
     site_of : Site

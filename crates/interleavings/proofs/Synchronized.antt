@@ -2,7 +2,7 @@
 use Rattle.std.proofs.Common.{◌≡◌, ℕ, zero, suc, ◌+◌, ◌-◌, ◌*◌, ◌<◌, ◌≤◌, true, false, List, [], ◌∷◌, length, Option, Some, None, refl, sym, ap, subst, inl, inr, ⊎_elim, arith, ◌∙◌, ℤ}
 use Rattle.std.specs.Prelude.{slice_get}
 use Rattle.std.proofs.lemmas.Option.{same_Some, slice_get_within}
-use Rattle.std.proofs.lemmas.Bool.{lt-ltb, le-ltb, cases_lt}
+use Rattle.std.proofs.lemmas.Bool.{lt-ltb, le-ltb, cases_lt, cases_eq}
 use Rattle.consistent_cuts.specs.Precedence.{Precedence, Event, event, IsMade, IsConsistent, IsReady}
 use Rattle.consistent_cuts.specs.Sites.{step_at, reaction_at, place_at, passes, number_of}
 use Rattle.consistent_cuts.proofs.Numbers.{reaction_number, number_split}
@@ -13,14 +13,15 @@ use Rattle.interleavings.specs.Owners.{Owner, nth_of}
 use Rattle.interleavings.specs.Media.{Half, needed, precedence}
 use Rattle.interleavings.specs.Pairs.{IsSemaphore, late}
 use Rattle.interleavings.specs.Order.{rank_by, IsOrdered}
+use Rattle.interleavings.specs.Fresh.{IsFresh}
 use Rattle.interleavings.specs.Sound.{IsSoundAt, IsSound, AreValues}
 use Rattle.interleavings.specs.Synchronized.{IsBinary, IsOwnLoad, IsPairLoad, IsFromWire, IsBufferStore, IsToWire, IsSynchronized}
-use Rattle.interleavings.specs.Laws.{Discipline, IsDisciplined, HasLaws, RunsAreTold, RunsAreFresh, RunsProgress, RunsGoOn}
+use Rattle.interleavings.specs.Laws.{Discipline, IsDisciplined, HasLaws, Finds, RunsAreTold, RunsAreFresh, RunsProgress, RunsGoOn, ReachedFind}
 use Rattle.interleavings.proofs.Totals.{total_nth, total_owned}
 use Rattle.interleavings.proofs.Told.{told_always}
 use Rattle.interleavings.proofs.Media.{sync_sound, own_sound, wire_load, wire_store}
-use Rattle.interleavings.proofs.Pairs.{passes_at, takes_le, at_most, buffer_load}
-use Rattle.interleavings.proofs.Progress.{enabled_at}
+use Rattle.interleavings.proofs.Pairs.{passes_at, takes_le, at_most, buffer_load, seen}
+use Rattle.interleavings.proofs.Progress.{enabled_at, finds_at, next_is}
 use Rattle.interleavings.proofs.Fresh.{fresh}
 use Rattle.interleavings.proofs.OneMore.{goes_on}
 use Rattle.interleavings.proofs.Serial.{serial, turn_inside}
@@ -99,7 +100,14 @@ module _ {P : Type 0} (w : System P) (signaller : ℕ → Owner) (half : ℕ →
       sound_at (take x) q e = let t = d.joined.takes s l x (inl q) in let b = binary_le x (d.binary s l x q) in
           (λ z. left_ready x t.0 t.1 (take x) e refl (omega arith), λ r. let z = ready_left x t.0 t.1 (take x) e refl r in omega arith)
       sound_at (see x) q e = let t = d.joined.takes s l x (inr q) in (left_ready x t.0 t.1 (see x) e refl, ready_left x t.0 t.1 (see x) e refl)
-      sound_at (sub x) q e = free e refl
+      sound_at (sub x) q e = (free e refl, let a = d.joined.lowers s l x q in seen w signaller half rank c k x s a.0 l a.1 j (earlier a.0 a.1) at)
+        where
+          earlier : (a : ℕ) → IsSemaphore w signaller x s a l → a < l
+          earlier a o = ⊎_elim (λ e. absurd (clash_at e)) (λ n. let b = o.before in omega arith) (cases_eq a l)
+            where
+              clash_at : a ≡ l → ⊥
+              clash_at e = ⊎_elim (λ u. absurd (let z : ◌≡◌ {A = Option Micro} (Some (take x)) (Some (sub x)) = sym u ∙ ap (λ (i : ℕ). slice_get (w.codes s).turn i) e ∙ q in cc))
+                  (λ u. absurd (let z : ◌≡◌ {A = Option Micro} (Some (see x)) (Some (sub x)) = sym u ∙ ap (λ (i : ℕ). slice_get (w.codes s).turn i) e ∙ q in cc)) o.asked
       sound_at (signal x) q e = let t = d.signalled s (c s) x e in (free e refl, takes_le w signaller half rank c k x t.0 t.1 t.2 t.3)
       sound_at (await m i true) q e = let t = d.joined.waits s l m i q in own_sound w signaller half rank m t.0 c k s l i j pending t.1 at inside e
       sound_at (await m i false) q e = let t = d.joined.syncs s l m i q in sync_sound w signaller half rank m t.0 c k s i pending e
@@ -141,6 +149,8 @@ laws {P} w signaller half spot steps front stored owned d o v = record {
   tells = λ list. (told' list).0;
   fresh = λ list. fresh w signaller half (rank_by w signaller half spot steps front) d (run w list).counts (told' list).1;
   goes_on = goes_on w stored owned (λ list. (told' list).0);
+  finds = λ c s m r n. subst (λ (u : ℕ → ℕ). next w u s ≡ Some m → Finds w stored owned u s m) r.1 (found_in (run w r.0).counts (told' r.0).1 s m) n;
+  reached_fresh = λ c r. subst (λ (u : ℕ → ℕ). IsFresh w u) r.1 (fresh w signaller half (rank_by w signaller half spot steps front) d (run w r.0).counts (told' r.0).1);
   progress = λ list s h l.
       let r = progress p (run w list).counts (serial w signaller half spot steps front o d.joined) (told' list).1 s h l in
       (r.0, r.1, subst (λ (z : State P). enabled w z r.0 ≡ true) (sym (told' list).0) (ready_enabled (run w list).counts r.0 (told' list).1 r.1 r.2));
@@ -151,6 +161,9 @@ laws {P} w signaller half spot steps front stored owned d o v = record {
 
     told' : (list : List ℕ) → (run w list ≡ told w stored owned (run w list).counts) × IsConsistent (precedence w signaller half (rank_by w signaller half spot steps front)) (run w list).counts
     told' list = told_always w (precedence w signaller half (rank_by w signaller half spot steps front)) stored owned (λ s. refl) (sound w signaller half (rank_by w signaller half spot steps front) d) v list
+
+    found_in : (c : ℕ → ℕ) → IsConsistent (precedence w signaller half (rank_by w signaller half spot steps front)) c → (s : ℕ) (m : Micro) → next w c s ≡ Some m → Finds w stored owned c s m
+    found_in c k s m n = let a = next_is w c s m n in finds_at w (precedence w signaller half (rank_by w signaller half spot steps front)) stored owned c s m (sound w signaller half (rank_by w signaller half spot steps front) d c s m k a.0 a.1 a.2)
 
     step_is : (c : ℕ → ℕ) (s : ℕ) → c s < full w s → (m : Micro) × (step_at (w.codes s) (c s) ≡ Some m)
     step_is c s l = ⊎_elim
@@ -180,3 +193,6 @@ runs_progress w d stored owned h = (have_laws w d stored owned h).progress
 
 pub runs_go_on : RunsGoOn
 runs_go_on w d stored owned h = (have_laws w d stored owned h).goes_on
+
+pub reached_find : ReachedFind
+reached_find w d stored owned h = (have_laws w d stored owned h).finds

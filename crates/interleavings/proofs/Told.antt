@@ -1,7 +1,7 @@
 -- Every run is what its counts tell.
 use Rattle.std.proofs.Common.{◌≡◌, ℕ, zero, suc, ◌+◌, ◌-◌, ◌%◌, ◌<◌, ◌≤◌, ◌⊎◌, Bool, true, false, cond, eqb, ltb, List, [], ◌∷◌, Option, Some, None, refl, sym, ap, subst, inl, inr, ⊎_elim, arith, ◌∙◌, eq-eqb, ne_eqb, add-one, ℤ}
 use Rattle.std.proofs.lemmas.Bool.{lt-ltb, le-ltb, cases_lt, cases_eq, eqb-true, leb-true}
-use Rattle.atomic_table.proofs.Lists.{one_turn}
+use Rattle.interleavings.proofs.Rounds.{one_turn}
 use Rattle.consistent_cuts.specs.Precedence.{Precedence, one_more, IsConsistent, IsReady}
 use Rattle.consistent_cuts.specs.Sites.{step_at, hit}
 use Rattle.consistent_cuts.proofs.Cuts.{one_more-same, one_more-other, IsConsistent-zero, IsConsistent-more}
@@ -22,13 +22,13 @@ put_by : {A : Type 0} (f g : ℕ → A) (i : ℕ) (a : A) → g i ≡ a → ((j 
 put_by f g i a h k = ext (put f i a) g (λ j. ⊎_elim (λ e. rw (eq-eqb j i e) (sym h ∙ ap g (sym e))) (λ e. rw (ne_eqb j i e) (sym (k j e))) (cases_eq j i))
 
 -- the place of round t holds it, as long as no later round used the place
-latest_is : {P : Type 0} (w : System P) (f : ℕ → ℤ) (d t n : ℕ) → t < n → n ≤ t + d → latest w f d n (t % d) ≡ f t
+pub latest_is : {P : Type 0} (w : System P) (f : ℕ → ℤ) (d t n : ℕ) → t < n → n ≤ t + d → latest w f d n (t % d) ≡ f t
 latest_is w f d t zero h k = absurd (omega arith)
 latest_is w f d t (suc n) h k = by (cases_eq n t) (λ l. latest_is w f d t n l)
   where
     by : (n ≡ t) ⊎ (n ≡ t → ⊥) → (t < n → n ≤ t + d → latest w f d n (t % d) ≡ f t) → latest w f d (suc n) (t % d) ≡ f t
     by (inl e) r = rw (eq-eqb (t % d) (n % d) (ap (λ (x : ℕ). x % d) (sym e))) (ap f e)
-    by (inr e) r = let ne : t % d ≡ n % d → ⊥ = λ q. e (sym (one_turn t n d (omega arith) (omega arith) q)) in
+    by (inr e) r = let ne : t % d ≡ n % d → ⊥ = λ q. e (one_turn t n d (omega arith) (omega arith) q) in
         rw (ne_eqb (t % d) (n % d) ne) (r (omega arith) (omega arith))
 
 module _ {P : Type 0} (w : System P) (p : Precedence) (same : (s : ℕ) → p.full s ≡ full w s) (d : IsSound w p)
@@ -94,7 +94,7 @@ module _ {P : Type 0} (w : System P) (p : Precedence) (same : (s : ℕ) → p.fu
     by_enabled (sub x) e o r q =
         let a = sems_less x e (one_at x x refl) (λ y n. none_at x y (λ z. n (sym z))) (λ y. refl) (sems c x - 1) refl in
         let t = turns_kept e (λ y. refl) in let f = eles_kept e (λ y. refl) in let g = own_same c s r in
-        (λ i. record { counts = one_more c s; semaphores = a i; turns = t i; elements = f i; own = g i }, o)
+        (λ i. record { counts = one_more c s; semaphores = a i; turns = t i; elements = f i; own = g i }, o.0)
     by_enabled (signal x) e o r q =
         let a : put (sems c) x (sems c x + 1) ≡ sems (one_more c s) = put_by _ _ x _
         (let b = more (is_signal x) e (one_at x x refl) in let f = kept (is_take x) e refl in let z = o.1 in omega arith)

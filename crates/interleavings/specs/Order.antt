@@ -2,7 +2,7 @@
 use Rattle.std.specs.Prelude.{◌≡◌, ℕ, ◌+◌, ◌*◌, ◌<◌, ◌≤◌, ◌⊎◌, Bool, true, false, cond, nat_lt, Some, slice_get, length}
 use Rattle.consistent_cuts.specs.Precedence.{Event}
 use Rattle.consistent_cuts.specs.Sites.{reaction_at, place_at}
-use Rattle.interleavings.specs.System.{System, Micro, take, see, signal, await}
+use Rattle.interleavings.specs.System.{System, Micro, take, see, sub, signal, await}
 use Rattle.interleavings.specs.Owners.{Owner}
 use Rattle.interleavings.specs.Media.{Half, IsMedium, IsOwnWait}
 use Rattle.interleavings.specs.Pairs.{IsSemaphore}
@@ -12,6 +12,8 @@ module _ {P : Type 0} (w : System P) (signaller : ℕ → Owner) (half : ℕ →
   pub record IsJoined : Type 0 where
     pub prologue : (s i : ℕ) (m : Micro) → slice_get (w.codes s).prologue i ≡ Some m → (x : ℕ) × (m ≡ signal x)
     pub takes : (s l x : ℕ) → (slice_get (w.codes s).turn l ≡ Some (take x)) ⊎ (slice_get (w.codes s).turn l ≡ Some (see x)) → (t : ℕ) × IsSemaphore w signaller x s l t
+    -- a lower stands behind the see that asked for it
+    pub lowers : (s l x : ℕ) → slice_get (w.codes s).turn l ≡ Some (sub x) → (a : ℕ) × IsSemaphore w signaller x s a l
     pub waits : (s l m i : ℕ) → slice_get (w.codes s).turn l ≡ Some (await m i true) → IsMedium w signaller half m × IsOwnWait w signaller half s l m i
     pub syncs : (s l m i : ℕ) → slice_get (w.codes s).turn l ≡ Some (await m i false) → IsMedium w signaller half m × (0 < i) × (i ≤ w.halves m)
 

@@ -12,7 +12,8 @@ module _ {P : Type 0} (w : System P) (p : Precedence) where
   abbrev pub IsSoundAt : (ℕ → ℕ) → ℕ → Micro → Type 0
   IsSoundAt c s (take x) = AgreesWith (IsReady p c s) (total w (is_signal x) c - total w (is_take x) c ≡ 1)
   IsSoundAt c s (see x) = AgreesWith (IsReady p c s) (1 ≤ total w (is_signal x) c - total w (is_take x) c)
-  IsSoundAt c s (sub x) = IsReady p c s
+  -- what was seen is still there
+  IsSoundAt c s (sub x) = IsReady p c s × (1 ≤ total w (is_signal x) c - total w (is_take x) c)
   IsSoundAt c s (signal x) = IsReady p c s × (total w (is_take x) c ≤ total w (is_signal x) c)
   IsSoundAt c s (await m i e) = AgreesWith (IsReady p c s) (turn_reached w e (total w (advances m) c) (half_number w s (c s) m i) ≡ true)
   IsSoundAt c s (advance m i) = IsReady p c s

@@ -6,14 +6,15 @@
 //! contracts of functions that do nothing.
 #![tactic(auto)]
 
-ghost use Rattle.interleavings.specs.Laws.{RunsAreTold, RunsAreFresh, RunsProgress, RunsGoOn};
+ghost use Rattle.interleavings.specs.Laws.{RunsAreTold, RunsAreFresh, RunsProgress, RunsGoOn, ReachedFind};
 
 /// Whatever the order, a run is a function of how far each sequence has come.
 pub fn every_run_is_told()
     ensures { RunsAreTold }
 {}
 
-/// No load finds an element of another round than its own.
+/// Every run is fresh: an element is stored again only after all its loads were made, and loaded only after its
+/// own round was stored.
 pub fn every_run_is_fresh()
     ensures { RunsAreFresh }
 {}
@@ -26,4 +27,10 @@ pub fn some_sequence_is_enabled()
 /// From reached counts, one more enabled step gives reached counts, which tell that step.
 pub fn one_more_step_goes_on()
     ensures { RunsGoOn }
+{}
+
+/// In what reached counts tell, a lower finds a signal, a load the value of its own round, and a store is of
+/// the next round of its element.
+pub fn each_step_finds_its_own()
+    ensures { ReachedFind }
 {}

@@ -39,14 +39,14 @@ module _ (j : JobData) where
   done_counts z s (Some (Load x then)) h = refl
   done_counts z s (Some (Store x what)) h = refl
 
-  step_counts : (z : Core) (s : ℕ) → is_enabled j z s ≡ true → (step j z s).counts ≡ counted z s
+  pub step_counts : (z : Core) (s : ℕ) → is_enabled j z s ≡ true → (step j z s).counts ≡ counted z s
   step_counts z s h = ap (λ (b : Bool). (cond b (done_by j z s (next j z s)) z).counts) h ∙ done_counts z s (next j z s) h
 
   module _ (f : IsFormed j) (l : laws_of_theory.HasLaws (system j) (stored_value j) (own_after j)) where
-    counts_are : (list : List ℕ) → (theory.run (system j) list).counts ≡ count (run j list)
+    pub counts_are : (list : List ℕ) → (theory.run (system j) list).counts ≡ count (run j list)
     counts_are list = sym (λ i s. (runs_agree j f list).counts s i)
 
-    tells : (list : List ℕ) → run j list ≡ told j (run j list).counts
+    pub tells : (list : List ℕ) → run j list ≡ told j (run j list).counts
     tells list = agreement_tells j f (run j list) (told j (run j list).counts) (theory.run (system j) list) (runs_agree j f list)
         (subst (λ (w : State Own). Agrees j (told j (run j list).counts) w) (sym (l.tells list ∙ ap (theory.told (system j) (stored_value j) (own_after j)) (counts_are list)))
         (told_agrees j f (run j list).counts (runs_agree j f list).counts_there))
@@ -69,6 +69,10 @@ module _ (j : JobData) where
 
     laws : HasLaws j
     laws = record { told = tells; fresh = fresh; progress = progress; goes_on = goes_on }
+
+-- the theory's laws at the system of a job
+pub theory_laws : (j : JobData) (d : Discipline) → IsDisciplined (system j) d (stored_value j) (own_after j) → laws_of_theory.HasLaws (system j) (stored_value j) (own_after j)
+theory_laws j d h = have_laws (system j) d (stored_value j) (own_after j) h
 
 pub laws_follow : (j : JobData) → IsFormed j → (d : Discipline) → IsDisciplined (system j) d (stored_value j) (own_after j) → HasLaws j
 laws_follow j f d h = laws j f (have_laws (system j) d (stored_value j) (own_after j) h)

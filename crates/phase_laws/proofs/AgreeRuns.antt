@@ -74,7 +74,7 @@ module _ (j : JobData) (f : IsFormed j) where
         m : IsMatched j.program j.media s
         m = steps_matched j f s
 
-    next_same : (z : Core) → Same (next j z s) (theory.next (system j) (count z) s)
+    pub next_same : (z : Core) → Same (next j z s) (theory.next (system j) (count z) s)
     next_same z = cond_same (nat_lt s (length j.program.seqs)) (nat_lt s (length j.program.seqs)) _ None _ None refl
         (cond_same (nat_lt (count z s) (full j s)) (nat_lt (count z s) (theory.full (system j) s)) _ None _ None (ap (nat_lt (count z s)) (full_same s)) (at_same (count z s)) tt) tt
 
@@ -231,7 +231,7 @@ module _ (j : JobData) (f : IsFormed j) where
       abbrev R : ℕ
       R = reaction_at (code j.program s) (count z s)
 
-      reactions_same : K ≡ R
+      pub reactions_same : K ≡ R
       reactions_same = reaction_same s (count z s)
 
       module _ (x : Place) (y i : ℕ) (lies : LiesAt j.program j.media x y i) where
@@ -241,7 +241,7 @@ module _ (j : JobData) (f : IsFormed j) where
         slot_is : slot_of j.program x K ≡ slot_at j.program j.media x p.at
         slot_is = ap (slot_of j.program x) reactions_same ∙ p.slot
 
-        element_is : element_of j z x K ≡ w.elements y (place_number (system j) s (count z s) y i)
+        pub element_is : element_of j z x K ≡ w.elements y (place_number (system j) s (count z s) y i)
         element_is = ap (λ (k : ℕ). element_at (slice_index_or z.elements (home_of j.program x) []) k) slot_is ∙ all_same x p.at p.inside ∙ (λ t. w.elements (sym p.word t) (sym p.number t))
 
         load_step : (then : OnLoad) → LoadsHere j.program j.media s then → step_at (steps j.program s) (count z s) ≡ Some (Load x then)

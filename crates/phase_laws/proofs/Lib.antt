@@ -37,5 +37,9 @@ pub mod AgreeTells
 pub mod AgreeTold
 pub mod AgreeLaws
 pub mod Together
-mod Finished
+mod Bounded
+mod Within
+mod Ended
+pub mod Reached
+mod Windows
 mod OneWord

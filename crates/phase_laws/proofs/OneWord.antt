@@ -6,7 +6,7 @@ use Rattle.executive_program.specs.declared.steps.MicroStep.{MicroStep}
 use Rattle.executive_program.specs.declared.steps.MicroStep.TheVariants.{Take, See, Lower, Signal, Await, Advance, Load, Store}
 use Rattle.executive_program.specs.Steps.{steps}
 use Rattle.semaphore_core.specs.Job.{JobData}
-use Rattle.semaphore_core.specs.Core.{Core, full, next, reaction, enabled_in, enabled_by, is_enabled, turn_reached}
+use Rattle.semaphore_core.specs.Core.{Core, full, next, reaction, enabled_in, enabled_by, turn_reached}
 use Rattle.phase_laws.specs.OneWord.{HaveSameWord, looked_at, looked_at_by, EnabledByOneWord}
 
 -- in one reaction

@@ -1,9 +1,9 @@
 -- A well-formed program is synchronized.
 use Rattle.std.proofs.Common.{◌≡◌, ℕ, ◌+◌, ◌*◌, ◌<◌, ◌≤◌, ◌⊎◌, length, Some, refl, sym, subst, inl, inr, ⊎_elim, arith, ◌∙◌}
 use Rattle.std.specs.Prelude.{slice_get}
-use Rattle.std.proofs.lemmas.Bool.{cases_lt, lt-ltb, le-ltb}
+use Rattle.std.proofs.lemmas.Bool.{cases_lt, lt-ltb, le-ltb, ne_eqb}
 use Rattle.consistent_cuts.specs.Sites.{step_at, place_at}
-use Rattle.interleavings.specs.System.{System, Micro, take as taken, see, signal, load, store}
+use Rattle.interleavings.specs.System.{System, Micro, take as taken, see, sub, signal, load, store}
 use Rattle.interleavings.specs.Owners.{Owner}
 use Rattle.interleavings.specs.Media.{Half}
 use Rattle.interleavings.specs.Pairs.{IsSemaphore}
@@ -20,7 +20,7 @@ use Rattle.phase_laws.specs.Discipline.{signaller, half}
 use Rattle.phase_laws.proofs.Places.{Origin, origin}
 use Rattle.phase_laws.proofs.Setting.{Parts, Conditions, system_of}
 use Rattle.phase_laws.proofs.From.{Takes, Signals}
-use Rattle.phase_laws.proofs.Pairs.{same_place, front_is, writer, asks_empty, takes_empty_at, fills, asks_full, takes_full_at, empties, Guards, empty_is, full_is, pair_is}
+use Rattle.phase_laws.proofs.Pairs.{same_place, front_is, take_place, writer, asks_empty, takes_empty_at, fills, asks_full, takes_full_at, empties, Guards, empty_is, full_is, pair_is}
 use Rattle.phase_laws.proofs.Buffers.{buffer_load, buffer_store}
 use Rattle.phase_laws.proofs.Wires.{own_wait, sync_wait, to_wire, from_wire}
 
@@ -66,6 +66,33 @@ module _ (p : Program) (w : Places) (c : Conditions p w) {P : Type 0} (reactions
   takes : (s l x : ℕ) → (slice_get (code p s).turn l ≡ Some (taken x)) ⊎ (slice_get (code p s).turn l ≡ Some (see x)) → Asked s l x
   takes s l x (inl e) = let r = origin p s l (taken x) e in let f = r.from in (asked s l x r.index f.0 r.instr r.stands (first_place s l (taken x) r f.1) f.3).1
   takes s l x (inr e) = let r = origin p s l (see x) e in let f = r.from in (asked s l x r.index f.0 r.instr r.stands (first_place s l (see x) r f.1) f.3).1
+
+  -- what stands second in an instruction that takes a semaphore of a deep pair lowers it
+  abbrev Lowered : ℕ → ℕ → ℕ → Type 0
+  Lowered s l x = (a : ℕ) × IsSemaphore W S x s a l
+
+  deep_take : (q : ℕ) → (pair_depth p q ≡ 1 → ⊥) → take_place p q ≡ 1
+  deep_take q n = rw (ne_eqb (pair_depth p q) 1 n) refl
+
+  lowered : (s l x a q : ℕ) (y : Instr) → Stands p s a y → l ≡ begins p s a + 1 → (pair_depth p q ≡ 1 → ⊥) → Takes y x q → Lowered s l x
+  lowered s l x a q y st at n (inl u) = let here = subst (λ (z : Instr). Stands p s a z) u.0 st in let k = c.holds.named s a (Suc0 q) here in let o = (c.holds.pairs q k).take_empty.only s a here in
+      let second = same_place p s _ a _ 1 (take_place p q) l at o.0 o.1 (sym (deep_take q n)) in (
+        asks_empty p w q,
+        subst (λ (z : ℕ). IsSemaphore W S z s (asks_empty p w q) l) (sym u.1)
+            (subst (λ (z : ℕ). IsSemaphore W S (2 * q) z (asks_empty p w q) l) (sym o.0)
+            (subst (λ (z : ℕ). IsSemaphore W S (2 * q) (writer w q) (asks_empty p w q) z) (let e : takes_empty_at p w q ≡ l = sym second in e) (empty_is p w c reactions own q k))),
+      )
+  lowered s l x a q y st at n (inr u) = let here = subst (λ (z : Instr). Stands p s a z) u.0 st in let k = c.holds.named s a (Suc1 q) here in let o = (c.holds.pairs q k).take_full.only s a here in
+      let second = same_place p s _ a _ 1 (take_place p q) l at o.0 o.1 (sym (deep_take q n)) in (
+        asks_full p w q,
+        subst (λ (z : ℕ). IsSemaphore W S z s (asks_full p w q) l) (sym u.1)
+            (subst (λ (z : ℕ). IsSemaphore W S (2 * q + 1) z (asks_full p w q) l) (sym o.0)
+            (subst (λ (z : ℕ). IsSemaphore W S (2 * q + 1) (w.pair q).reader (asks_full p w q) z) (let e : takes_full_at p w q ≡ l = sym second in e) (full_is p w c reactions own q k))),
+      )
+
+  lowers : (s l x : ℕ) → slice_get (code p s).turn l ≡ Some (sub x) → Lowered s l x
+  lowers s l x e = let r = origin p s l (sub x) e in let f = r.from in
+      lowered s l x r.index f.0 r.instr r.stands (let v = r.is in let z = f.1 in let g : l ≡ begins p s r.index + 1 = omega arith in g) f.2 f.3
 
   -- a take is of a pair whose buffer has one place
   binary : (s l x : ℕ) → slice_get (code p s).turn l ≡ Some (taken x) → V.IsBinary W S H x
@@ -132,6 +159,7 @@ module _ (p : Program) (w : Places) (c : Conditions p w) {P : Type 0} (reactions
   joined = record {
     prologue = λ s i m e. let f = front_is p w c reactions own s i m e in (2 * f.0, sym f.5);
     takes = takes;
+    lowers = lowers;
     waits = λ s l m i e. own_wait p w c reactions own s l m i e;
     syncs = λ s l m i e. sync_wait p w c reactions own s l m i e;
   }

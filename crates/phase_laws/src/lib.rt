@@ -13,7 +13,10 @@ ghost use Rattle.semaphore_core.specs.Core.{run, IsDone};
 ghost use Rattle.semaphore_core.specs.Laws.{HasLaws};
 ghost use Rattle.phase_laws.specs.Central.{AllTaken, JobsAreSupplied, JobsHaveLaws, RowsAreTaken};
 ghost use Rattle.phase_laws.specs.Discipline.{ProgramsAreDisciplined};
+ghost use Rattle.phase_laws.specs.Ended.{FullIsEnded, RunsEnd, RunsTakeRows};
 ghost use Rattle.phase_laws.specs.OneWord.{EnabledByOneWord};
+ghost use Rattle.phase_laws.specs.Reached.{OwnPartsAgree, ReachedHaveLaws};
+ghost use Rattle.phase_laws.specs.Windows.{WindowsMakeTheRun};
 ghost use Rattle.phase_laws.specs.Values.{SequencesComputeTheirValues};
 
 pub use fresh::run_fresh;
@@ -39,6 +42,42 @@ pub fn jobs_have_laws()
 /// When all is done each actuator has taken the flat graph's values, in every interleaving.
 pub fn rows_are_taken()
     ensures { RowsAreTaken }
+{}
+
+/// In every interleaving, when all is done the cells are those after all reactions, and the rows are what the
+/// actuators take.
+pub fn runs_end()
+    ensures { RunsEnd }
+{}
+
+/// In every state that a run reaches, row k of an actuator is what it takes in reaction k where its operation
+/// was computed more than k times, and zeros elsewhere.
+pub fn runs_take_rows()
+    ensures { RunsTakeRows }
+{}
+
+/// What full counts tell has the cells after all reactions, and what the actuators take in each.
+pub fn full_is_ended()
+    ensures { FullIsEnded }
+{}
+
+/// In reached counts: as many as the sequences, each at most its full count; no semaphore and no turn above
+/// the number of micro-steps made; fresh; a lower finds a signal, a load the value of its own round, and a
+/// store is of the next round of its element.
+pub fn reached_have_laws()
+    ensures { ReachedHaveLaws }
+{}
+
+/// The registers of a sequence, and the cells and rows of the operations that it calls, are the same in what
+/// any counts tell that agree on it.
+pub fn own_parts_agree()
+    ensures { OwnPartsAgree }
+{}
+
+/// Some reactions in succession, with the cells that the reactions before them leave, are a job of their own:
+/// it meets no limit where the whole one meets none, takes the same rows, and leaves the same cells.
+pub fn windows_make_the_run()
+    ensures { WindowsMakeTheRun }
 {}
 
 /// Whether a sequence is enabled depends on at most the one word that its next micro-step touches: the

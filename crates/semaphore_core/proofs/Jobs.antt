@@ -1,14 +1,9 @@
 -- What every job has: buffers with places, prologues of signals, few micro-steps, and lengths that fit.
-use Rattle.std.proofs.Common.{◌≡◌, ℕ, ◌-◌, ◌^◌, ◌<◌, ◌≤◌, ◌⊎◌, inl, inr, true, List, map, length, min, Option, Some, None, refl, sym, ap, subst, arith, ◌∙◌}
+use Rattle.std.proofs.Common.{◌≡◌, ℕ, ◌<◌, ◌≤◌, true, List, map, length, Option, Some, None, refl, sym, ap, subst, arith, ◌∙◌}
 use Rattle.std.specs.Prelude.{slice_get, slice_index_or}
-use Rattle.std.proofs.lemmas.Bool.{cases_lt, lt-ltb, le-ltb}
-use Rattle.std.proofs.lemmas.List.{length-map, length-replicate}
-use Rattle.std.proofs.lemmas.Option.{slice_get_within, none-some}
-use Rattle.syn_base.specs.declared.limits.LimitKind.{LimitKind}
-use Rattle.syn_base.specs.declared.limits.LimitKind.TheVariants.{Output, Total}
-use Rattle.syn_base.specs.declared.limits.LimitFault.{LimitFault}
-use Rattle.syn_base.specs.Limits.{bound_of}
-use Rattle.level_meaning.specs.Level.{Values, vector_at, zeros}
+use Rattle.std.proofs.lemmas.List.{length-map}
+use Rattle.std.proofs.lemmas.Option.{slice_get_within}
+use Rattle.level_meaning.specs.Level.{Values, vector_at}
 use Rattle.flat_graph.specs.Graph.{lens_of}
 use Rattle.flat_graph.specs.declared.vertex.Vertex.{Vertex}
 use Rattle.flat_graph.specs.declared.vertex.Kind.{Kind}
@@ -25,24 +20,15 @@ use Rattle.executive_program.specs.Places.{opening_of}
 use Rattle.executive_program.specs.Steps.{steps, steps_by, steps_in_list}
 use Rattle.semaphore_core.specs.Operation.{delay_of}
 use Rattle.semaphore_core.specs.AtOpening.{AreDesks}
-use Rattle.semaphore_core.specs.Job.{JobData, reactions, zero_rows, output_elements, total_steps, actuator_lens}
-use Rattle.semaphore_core.specs.IsJob.{IsJob, above}
-use Rattle.semaphore_core.specs.Held.{Kept, AreReady, NeedsReaction}
+use Rattle.semaphore_core.specs.Job.{JobData, reactions, total_steps, actuator_lens}
+use Rattle.semaphore_core.specs.IsJob.{IsJob}
+use Rattle.semaphore_core.specs.Held.{Kept, AreReady, HasRow, NeedsReaction}
 use Rattle.semaphore_core.proofs.Numbered.{actuator_at, sensor_at, delay_cell, no_delay}
+use Rattle.semaphore_core.proofs.Limits.{limits_kept}
 use Rattle.semaphore_core.proofs.Prologues.{opening_bare}
 use Rattle.archi_graph.specs.Sequences.{sequences}
 use Rattle.executive_program.specs.Instructions.{HasPlaces}
 use Rattle.executive_program.proofs.Formed.{formed_has_places}
-
-above_none : (which : LimitKind) (count : ℕ) (next : Option LimitFault) → above which count next ≡ None → (count ≤ bound_of which) × (next ≡ None)
-above_none which count next e = by (cases_lt (bound_of which) count)
-  where
-    fault : LimitFault
-    fault = record { which = which; count = count; bound = bound_of which }
-
-    by : (bound_of which < count) ⊎ (count ≤ bound_of which) → (count ≤ bound_of which) × (next ≡ None)
-    by (inl l) = let z : Some fault ≡ None = rw (lt-ltb (bound_of which) count l) at e in absurd (none-some fault (sym z))
-    by (inr l) = (l, rw (le-ltb (bound_of which) count l) at e)
 
 module _ (j : JobData) (job : IsJob j) where
   -- every buffer has a place
@@ -51,9 +37,7 @@ module _ (j : JobData) (job : IsJob j) where
 
   -- the micro-steps in all are few
   pub few_steps : total_steps j.program (reactions j) ≤ 20000000
-  few_steps =
-      let a = above_none Output (output_elements j.graph (reactions j)) (above Total (min (total_steps j.program (reactions j)) (2 ^ 128 - 1)) None) job.1.1.0 in
-      let b = (above_none Total (min (total_steps j.program (reactions j)) (2 ^ 128 - 1)) None a.1).0 in omega arith
+  few_steps = (limits_kept j.program j.graph (reactions j) job.1.1.0).1
 
   -- a prologue neither loads nor stores
   pub prologue_bare : (s l : ℕ) (m : MicroStep) → slice_get (steps j.program s).prologue l ≡ Some m → NeedsReaction m 0 0
@@ -65,16 +49,19 @@ module _ (j : JobData) (job : IsJob j) where
           let same : q.prologue ≡ opening_of j.program s = sym (ap prologue_of is) ∙ job.1.0.formed.1.prologues s (slice_get_within j.program.seqs s q is) in
           opening_bare j.program s (number_or 0 q.seq.medium) l m (subst (λ (xs : List Instr). slice_get (steps_in_list j.program (number_or 0 q.seq.medium) xs) l ≡ Some m) same e)
 
+  -- the rows of all actuators are laid out
+  pub rows_laid_out : is_flat j.graph ≡ true → (lens : List ℕ) → lens ≡ actuator_lens j.graph j.graph.vertices → (v : ℕ) → HasRow j lens v
+  rows_laid_out valid lens e v x a is k = subst (λ (l : List ℕ). (a < length l) × (slice_index_or l a 0 ≡ slice_index_or (lens_of j.graph.vertices x.ins) 0 0)) (sym e) (actuator_at j.graph valid v a x is k)
+
   -- the opening cells, rows of zeros, and a desk for each operation
-  pub opening_ready : (k : Kept) → is_flat j.graph ≡ true → k.cells ≡ j.opening → k.rows ≡ zero_rows j → k.lens ≡ actuator_lens j.graph j.graph.vertices → AreDesks j.graph (length j.graph.vertices) k.desks → AreReady j k
-  opening_ready k valid cells rows lens desks = record {
+  pub opening_ready : (k : Kept) → is_flat j.graph ≡ true → k.cells ≡ j.opening → length k.rows ≡ reactions j → AreDesks j.graph (length j.graph.vertices) k.desks → AreReady j k
+  opening_ready k valid cells rows desks = record {
     valid = valid;
     desks_there = desks.there;
     desk = desks.each;
     cells_fit = cells_fit;
     no_cell = λ v x is e. vertex_cell v x is ∙ no_delay j.graph valid v x is e;
-    rows_there = ap (λ (l : List Values). length l) rows ∙ length-replicate (reactions j) (map zeros (actuator_lens j.graph j.graph.vertices));
-    row_fits = λ v x a is e. subst (λ (l : List ℕ). (a < length l) × (slice_index_or l a 0 ≡ slice_index_or (lens_of j.graph.vertices x.ins) 0 0)) (sym lens) (actuator_at j.graph valid v a x is e);
+    rows_there = rows;
     sensor_fits = sensor_fits;
   }
     where

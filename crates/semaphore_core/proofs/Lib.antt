@@ -3,6 +3,8 @@ pub mod Opened
 pub mod Openings
 pub mod Numbered
 pub mod Prologues
+pub mod Limits
+pub mod Some
 pub mod Jobs
 pub mod MoreDesks
 pub mod ZeroRows

@@ -23,20 +23,20 @@ pub record Stands (n i : ℕ) (lens : List ℕ) (len : ℕ) : Type 0 where
   pub there : place < length lens
   pub same : slice_index_or lens place 0 ≡ len
 
-behind : (n i x : ℕ) (lens : List ℕ) (len : ℕ) → Stands (n + 1) i lens len → Stands n i (x ∷ lens) len
+pub behind : (n i x : ℕ) (lens : List ℕ) (len : ℕ) → Stands (n + 1) i lens len → Stands n i (x ∷ lens) len
 behind n i x lens len s = record { place = suc s.place; is = (let e = s.is in omega arith); there = (let e = s.there in omega arith); same = s.same }
 
 pub stands_first : (i : ℕ) (lens : List ℕ) (len : ℕ) → Stands 0 i lens len → (i < length lens) × (slice_index_or lens i 0 ≡ len)
 stands_first i lens len s = let e : i ≡ s.place = s.is ∙ zero-add s.place in ((let t = s.there in omega arith), ap (λ (k : ℕ). slice_index_or lens k 0) e ∙ s.same)
 
 -- every operation of the list fits its kind
-abbrev AllFit : Graph → List Vertex → Type 0
+abbrev pub AllFit : Graph → List Vertex → Type 0
 AllFit g xs = (v : ℕ) (x : Vertex) → slice_get xs v ≡ Some x → fits g.bodies x.kind (lens_of g.vertices x.ins) x.outs ≡ true
 
 pub all_fit : (g : Graph) → is_flat g ≡ true → AllFit g g.vertices
 all_fit g h v x e = fits_of g v x (vertex_valid g h v x e)
 
-actuator_one : (g : Graph) (x : Vertex) (a : ℕ) → x.kind ≡ Actuator a → fits g.bodies x.kind (lens_of g.vertices x.ins) x.outs ≡ true → lens_of g.vertices x.ins ≡ slice_index_or (lens_of g.vertices x.ins) 0 0 ∷ []
+pub actuator_one : (g : Graph) (x : Vertex) (a : ℕ) → x.kind ≡ Actuator a → fits g.bodies x.kind (lens_of g.vertices x.ins) x.outs ≡ true → lens_of g.vertices x.ins ≡ slice_index_or (lens_of g.vertices x.ins) 0 0 ∷ []
 actuator_one g x a k h = one_is (lens_of g.vertices x.ins) (and_parts (length (lens_of g.vertices x.ins) == 1) (length x.outs == 0) (subst (λ (q : Kind). fits g.bodies q (lens_of g.vertices x.ins) x.outs ≡ true) k h)).0
 
 actuator_place : (g : Graph) (n v a : ℕ) (xs : List Vertex) (x : Vertex) → AllFit g xs → actuators_from n (kinds_of xs) ≡ true → slice_get xs v ≡ Some x → x.kind ≡ Actuator a

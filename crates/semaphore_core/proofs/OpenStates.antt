@@ -17,7 +17,7 @@ use Rattle.semaphore_core.specs.Desk.{DeskLens}
 use Rattle.semaphore_core.specs.Job.{JobData}
 use Rattle.semaphore_core.specs.IsJob.{IsJob}
 use Rattle.semaphore_core.specs.Core.{Core, opening}
-use Rattle.semaphore_core.specs.Held.{Held, IsOpened, AreReady, Fits, highest}
+use Rattle.semaphore_core.specs.Held.{Held, IsOpened, AreReady, HasRow, Fits, highest}
 use Rattle.semaphore_core.specs.AtOpening.{room_of, all_registers}
 use Rattle.semaphore_core.proofs.Viewing.{values_of, rooms_of}
 use Rattle.semaphore_core.proofs.Jobs.{has_places, few_steps, prologue_bare}
@@ -59,12 +59,13 @@ module _ (j : JobData) (code : List SeqSteps) (are : AreSteps j.program code) wh
       by (Some q) is = highest_fits j.graph (expanded j.program q).turn l (slice_index_or (map (room_of j.graph) code) s 0) (let e = room_at s q is in omega arith)
 
   -- with desks, cells and rows that are ready
-  pub opening_open : IsJob j → (lens : List ℕ) (desks : List DeskLens) → AreReady j (record { cells = (opening j).cells; rows = (opening j).rows; lens = lens; desks = desks })
+  pub opening_open : IsJob j → (lens : List ℕ) (desks : List DeskLens) → ((v : ℕ) → HasRow j lens v) → AreReady j (record { cells = (opening j).cells; rows = (opening j).rows; lens = lens; desks = desks })
       → IsOpened j (record { core = opening j; steps = code; rooms = map (room_of j.graph) code; lens = lens; desks = desks })
-  opening_open job lens desks ready = record {
+  opening_open job lens desks rows ready = record {
     reached = ([], refl);
     places = has_places j job;
     ready = ready;
+    rows = rows;
     steps_are = are;
     counts_there = length-replicate (length j.program.seqs) 0;
     rooms_there = length-map code (room_of j.graph) ∙ ap (λ (l : List SeqSteps). length l) are ∙ length-map j.program.seqs (expanded j.program);
@@ -98,10 +99,10 @@ module _ (j : JobData) (p : Program) (same : p ≡ j.program) (code : List SeqSt
   registers_empty = ap values_of empty ∙ values_empty j.graph code ∙ ap (λ (n : ℕ). replicate n []) code_long
 
   -- a state with these parts is open
-  pub state_open : IsJob j → (core : Core) (lens : List ℕ) (desks : List DeskLens) → core ≡ opening j → AreReady j (record { cells = core.cells; rows = core.rows; lens = lens; desks = desks })
+  pub state_open : IsJob j → (core : Core) (lens : List ℕ) (desks : List DeskLens) → ((v : ℕ) → HasRow j lens v) → core ≡ opening j → AreReady j (record { cells = core.cells; rows = core.rows; lens = lens; desks = desks })
       → IsOpened j (record { core = core; steps = code; rooms = rooms_of regs; lens = lens; desks = desks })
-  state_open job core lens desks e ready = subst (λ (h : Held). IsOpened j h) (λ i. record { core = sym e i; steps = code; rooms = sym rooms i; lens = lens; desks = desks })
-      (opening_open j code steps_of_job job lens desks (subst (λ (z : Core). AreReady j (record { cells = z.cells; rows = z.rows; lens = lens; desks = desks })) e ready))
+  state_open job core lens desks laid_out e ready = subst (λ (h : Held). IsOpened j h) (λ i. record { core = sym e i; steps = code; rooms = sym rooms i; lens = lens; desks = desks })
+      (opening_open j code steps_of_job job lens desks laid_out (subst (λ (z : Core). AreReady j (record { cells = z.cells; rows = z.rows; lens = lens; desks = desks })) e ready))
     where
       rooms : rooms_of regs ≡ map (room_of j.graph) code
       rooms = ap rooms_of empty ∙ rooms_empty j.graph code

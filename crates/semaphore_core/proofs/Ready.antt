@@ -15,7 +15,7 @@ use Rattle.executive_program.specs.declared.steps.OnStore.TheVariants.{Give, Car
 use Rattle.semaphore_core.specs.Operation.{vectors_from, lens_in, conditions_in, inputs_in, delay_of, HasCell, cell_at, with_cell, rows_by}
 use Rattle.semaphore_core.specs.Registers.{Own, compute_by, absorb_by, after_by, gathered, with_registers}
 use Rattle.semaphore_core.specs.Job.{JobData}
-use Rattle.semaphore_core.specs.Held.{Kept, AreReady, with_kept}
+use Rattle.semaphore_core.specs.Held.{Kept, AreReady, HasRow, LoadHasRow, StoreHasRow, with_kept}
 use Rattle.semaphore_core.proofs.Operate.{cell_fits, kept_len}
 
 pub has_cell : (j : JobData) (k : Kept) → AreReady j k → (v : ℕ) (x : Vertex) → slice_get j.graph.vertices v ≡ Some x → HasCell k.cells (delay_of j.graph v x) (cell_len j.graph v)
@@ -59,7 +59,6 @@ module _ (j : JobData) (k : Kept) where
     cells_fit = λ v x d is e. (let f = (r.cells_fit v x d is e).0 in omega arith, l d ∙ (r.cells_fit v x d is e).1);
     no_cell = r.no_cell;
     rows_there = m ∙ r.rows_there;
-    row_fits = r.row_fits;
     sensor_fits = r.sensor_fits;
   }
 
@@ -88,3 +87,14 @@ module _ (j : JobData) (k : Kept) where
   after_ready (Give g more) n c r = same_lens c (after_by j.graph j.sensors (Give g more) n c) refl (λ d. refl) refl r
   after_ready (ComputeOut v more) n c r = let o = compute_by j.graph j.sensors v n [] c (slice_get j.graph.vertices v) in
       same_lens o (after_by j.graph j.sensors (ComputeOut v more) n c) refl (λ d. refl) refl (compute_ready v n [] c (slice_get j.graph.vertices v) refl r)
+
+-- where the rows of all actuators are laid out, any load and any store has its rows
+pub load_has_row : (j : JobData) (lens : List ℕ) → ((v : ℕ) → HasRow j lens v) → (then : OnLoad) → LoadHasRow j lens then
+load_has_row j lens h CarryIn = tt
+load_has_row j lens h (Gather r) = tt
+load_has_row j lens h (ComputeIn v r more) = h v
+
+pub store_has_row : (j : JobData) (lens : List ℕ) → ((v : ℕ) → HasRow j lens v) → (what : OnStore) → StoreHasRow j lens what
+store_has_row j lens h CarryOut = tt
+store_has_row j lens h (Give r more) = tt
+store_has_row j lens h (ComputeOut v more) = h v

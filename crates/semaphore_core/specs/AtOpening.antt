@@ -1,5 +1,6 @@
 -- What a state has when it is opened: a desk for each operation, and room for the registers of each sequence.
-use Rattle.std.specs.Prelude.{◌≡◌, ℕ, ◌+◌, max, List, [], map, length, Some, slice_get}
+use Rattle.std.specs.Prelude.{◌≡◌, ℕ, ◌+◌, max, Bool, cond, List, [], ◌∷◌, ◌++◌, map, length, Some, slice_get}
+use Rattle.semaphore_core.specs.Job.{actuator_len}
 use Rattle.flat_graph.specs.declared.vertex.Vertex.{Vertex}
 use Rattle.flat_graph.specs.Graph.{Graph}
 use Rattle.executive_program.specs.declared.expand.SeqSteps.{SeqSteps}
@@ -11,6 +12,11 @@ use Rattle.semaphore_core.specs.Held.{highest}
 pub record AreDesks (g : Graph) (n : ℕ) (desks : List DeskLens) : Type 0 where
   pub there : length desks ≡ n
   pub each : (v : ℕ) (x : Vertex) (d : DeskLens) → slice_get g.vertices v ≡ Some x → slice_get desks v ≡ Some d → IsDesk g v x d
+
+-- The lengths of the actuators' rows where they are laid out for some operations alone, by number: those of others have no element. The first of these operations has number v.
+abbrev pub lens_for : Graph → (ℕ → Bool) → ℕ → List Vertex → List ℕ
+lens_for g mine v [] = []
+lens_for g mine v (x ∷ xs) = map (λ l. cond (mine v) l 0) (actuator_len g x x.kind) ++ lens_for g mine (v + 1) xs
 
 -- numbers begin at 0, so that there is one register more than the highest number that the sequence uses
 abbrev pub room_of : Graph → SeqSteps → ℕ

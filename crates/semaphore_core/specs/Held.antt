@@ -4,7 +4,7 @@ use Rattle.interleavings.specs.Owners.{sum_below}
 use Rattle.executive_program.specs.declared.steps.OnLoad.{OnLoad}
 use Rattle.executive_program.specs.declared.steps.OnLoad.TheVariants.{Gather, Carry as CarryIn, Compute as ComputeIn}
 use Rattle.executive_program.specs.declared.steps.OnStore.{OnStore}
-use Rattle.executive_program.specs.declared.steps.OnStore.TheVariants.{Compute as ComputeOut}
+use Rattle.executive_program.specs.declared.steps.OnStore.TheVariants.{Give, Carry as CarryOut, Compute as ComputeOut}
 use Rattle.executive_program.specs.declared.steps.MicroStep.{MicroStep}
 use Rattle.executive_program.specs.declared.steps.MicroStep.TheVariants.{Signal, Advance, Load, Store}
 use Rattle.executive_program.specs.declared.expand.SeqSteps.{SeqSteps}
@@ -55,7 +55,7 @@ emitted j what k r kept = emit_by j.graph j.sensors what k (own_of r kept)
 abbrev pub left : JobData → OnStore → ℕ → RegisterFile → Kept → Own
 left j what k r kept = after_by j.graph j.sensors what k (own_of r kept)
 
--- Operations can be computed: each has its desk, and what it keeps, senses and takes has the lengths of its kind.
+-- Operations can be computed: each has its desk, and what it keeps and senses has the lengths of its kind.
 pub record AreReady (j : JobData) (k : Kept) : Type 0 where
   pub valid : is_flat j.graph ≡ true
   pub desks_there : length k.desks ≡ length j.graph.vertices
@@ -63,8 +63,22 @@ pub record AreReady (j : JobData) (k : Kept) : Type 0 where
   pub cells_fit : (v : ℕ) (x : Vertex) (c : ℕ) → slice_get j.graph.vertices v ≡ Some x → delay_of j.graph v x ≡ Some c → (c < length k.cells) × (length (vector_at k.cells c) ≡ cell_len j.graph v)
   pub no_cell : (v : ℕ) (x : Vertex) → slice_get j.graph.vertices v ≡ Some x → delay_of j.graph v x ≡ None → cell_len j.graph v ≡ 0
   pub rows_there : length k.rows ≡ reactions j
-  pub row_fits : (v : ℕ) (x : Vertex) (a : ℕ) → slice_get j.graph.vertices v ≡ Some x → x.kind ≡ Actuator a → (a < length k.lens) × (slice_index_or k.lens a 0 ≡ slice_index_or (lens_of j.graph.vertices x.ins) 0 0)
   pub sensor_fits : (v : ℕ) (x : Vertex) (i : ℕ) → slice_get j.graph.vertices v ≡ Some x → x.kind ≡ Sensor i → (i < length j.lens) × (slice_index_or j.lens i 0 ≡ seen_len j.graph v)
+
+-- Where operation v is an actuator, its rows are laid out in their length, among rows of these lengths. Rows may be laid out for some operations alone.
+abbrev pub HasRow : JobData → List ℕ → ℕ → Type 0
+HasRow j lens v = (x : Vertex) (a : ℕ) → slice_get j.graph.vertices v ≡ Some x → x.kind ≡ Actuator a → (a < length lens) × (slice_index_or lens a 0 ≡ slice_index_or (lens_of j.graph.vertices x.ins) 0 0)
+
+-- the operation that a load or a store computes has its rows
+abbrev pub LoadHasRow : JobData → List ℕ → OnLoad → Type 0
+LoadHasRow j lens CarryIn = Unit {0}
+LoadHasRow j lens (Gather r) = Unit {0}
+LoadHasRow j lens (ComputeIn v r more) = HasRow j lens v
+
+abbrev pub StoreHasRow : JobData → List ℕ → OnStore → Type 0
+StoreHasRow j lens (ComputeOut v more) = HasRow j lens v
+StoreHasRow j lens CarryOut = Unit {0}
+StoreHasRow j lens (Give r more) = Unit {0}
 
 pub record Held : Type 0 where
   pub core : Core
@@ -129,6 +143,7 @@ module _ (j : JobData) where
     pub reached : IsReached j h.core
     pub places : HasPlaces j.program
     pub ready : AreReady j (kept_of h)
+    pub rows : (v : ℕ) → HasRow j h.lens v
     pub steps_are : AreSteps j.program h.steps
     pub counts_there : length h.core.counts ≡ length j.program.seqs
     pub rooms_there : length h.rooms ≡ length j.program.seqs

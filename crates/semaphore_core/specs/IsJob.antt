@@ -31,9 +31,17 @@ pub record FitTogether (a : Architecture) (j : JobData) : Type 0 where
 abbrev pub above : LimitKind → ℕ → Option LimitFault → Option LimitFault
 above which count next = cond (nat_lt (bound_of which) count) (Some (record { which = which; count = count; bound = bound_of which })) next
 
--- The limit that refuses a job: the elements that the actuators take, then the micro-steps in all. A number that the count's type does not hold is its last value.
+-- The limit that refuses so many reactions of a program: the elements that the actuators take, then the micro-steps in all. A number that the count's type does not hold is its last value.
+abbrev pub limit_in : Program → Graph → ℕ → Option LimitFault
+limit_in p g n = above Output (output_elements g n) (above Total (min (total_steps p n) (2 ^ 128 - 1)) None)
+
+-- the limit that refuses a job
 abbrev pub limit_of : JobData → Option LimitFault
-limit_of j = above Output (output_elements j.graph (reactions j)) (above Total (min (total_steps j.program (reactions j)) (2 ^ 128 - 1)) None)
+limit_of j = limit_in j.program j.graph (reactions j)
+
+-- what meets no limit meets none over fewer reactions
+abbrev pub FewerMeetNone : Type 0
+FewerMeetNone = (p : Program) (g : Graph) (m n : ℕ) → m ≤ n → limit_in p g n ≡ None → limit_in p g m ≡ None
 
 -- what every job keeps; that each reaction has vectors of the sensors' lengths is kept by the rows
 abbrev pub IsJobOn : Architecture → JobData → Type 0

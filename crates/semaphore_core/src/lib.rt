@@ -1,5 +1,12 @@
-//! The core of the generated executive: programs of instructions, their micro-steps, states, and one
-//! step. There is no thread here: a state is a plain value.
+//! The core of the generated executive: jobs, states of a run, and one atomic micro-step of a state. There is
+//! no thread here: a state is a plain value.
+//!
+//! `Job::new` takes a well-formed program with what it runs on, and `run_limit` tells its limits alone;
+//! `State::new` opens a state, `try_step` and `run_list` step it. The laws of runs, the steps on shared words
+//! and the top call stand on this crate. For steps on other words than a state's own there are the parts of a
+//! step: `next_in` and `reaction_at` find the next micro-step of a sequence, `home` and `slot` where an element
+//! lies, and `Operations` with `Registers` are what a sequence has of its own, which `absorb` and `emit`
+//! change; its rows can be laid out for some operations alone.
 #![tactic(auto)]
 
 mod answer;
@@ -17,6 +24,11 @@ mod words;
 
 pub use answer::StepAnswer;
 pub use job::Job;
-pub use opening::{actuator_lens, opening_of, sensor_lens};
+pub use laying::small;
+pub use opening::{actuator_lens, opening_of, sensor_lens, words_of, zero_elements};
+pub use operations::Operations;
 pub use registers::Registers;
-pub use state::{State, run_list, try_step};
+pub use rooms::all_registers;
+pub use state::{State, home, run_list, slot, try_step};
+pub use totals::{fewer_reactions_meet_no_limit, run_limit};
+pub use words::{next_in, reaction_at, turn_reached};

@@ -1,9 +1,10 @@
 //! What a state holds when it is opened: zeros, the opening cells, and room for registers.
-ghost use Rattle.std.specs.Prelude.{◌≡◌, ◌+◌, ◌*◌, ◌<◌, ◌≤◌, ◌++◌, ◌∷◌, [], length, map, max, replicate, pos, take, IfOk, OnOk, slice_index_or};
+ghost use Rattle.std.specs.Prelude.{◌≡◌, ◌+◌, ◌*◌, ◌<◌, ◌≤◌, ◌++◌, ◌∷◌, [], length, map, max, replicate, pos, take, IfOk, OnOk, slice_index_or, cond, false};
 ghost use Rattle.std.specs.List.{range_with_len};
 ghost use Rattle.level_meaning.specs.Level.{zeros};
 ghost use Rattle.flat_graph.specs.Graph.{len_of as source_len, lens_of};
 ghost use Rattle.flat_graph.specs.Meaning.{initial_cell, initial_cells};
+ghost use Rattle.semaphore_core.specs.AtOpening.{lens_for};
 ghost use Rattle.semaphore_core.specs.Job.{actuator_len, actuator_lens};
 ghost use Rattle.flat_graph.specs.Laws.{sensor_len, sensor_lens};
 ghost use Rattle.executive_program.specs.MicroSteps.{wire_len};
@@ -132,6 +133,65 @@ pub fn actuator_lens(alloc: Global, flat: &Flat) -> Result<Items<u32>, OutOfMemo
     let mut lens = Vec::new(alloc);
     for x in flat.vertices() {
         push_actuator(flat, x, &mut lens)?;
+    }
+    Ok(Items::new(lens))
+}
+
+/// So many lengths of 0.
+fn push_empty(count: usize, lens: &mut Vec<u32>) -> Result<(), OutOfMemory>
+    ensures { OnOk result (lens.new.items ≡ lens.old.items ++ replicate count 0) }
+{
+    for _ in 0..count {
+        lens.push(0)?;
+    }
+    Ok(())
+}
+
+/// The lengths of some sources, or so many lengths of 0.
+fn push_lens_if(
+    flat: &Flat,
+    sources: &[Source],
+    mine: bool,
+    lens: &mut Vec<u32>,
+) -> Result<(), OutOfMemory>
+    ensures { OnOk result (lens.new.items ≡ lens.old.items ++ map (λ l. cond mine l 0) (lens_of flat.now.vertices sources.now)) }
+{
+    if mine {
+        push_lens(flat, sources, lens)
+    } else {
+        push_empty(sources.len(), lens)
+    }
+}
+
+/// The length of the row of an operation, where it is an actuator: 0 where its rows are not laid out.
+fn push_row_len(flat: &Flat, x: &Vertex, mine: bool, lens: &mut Vec<u32>) -> Result<(), OutOfMemory>
+    ensures { OnOk result (lens.new.items ≡ lens.old.items ++ map (λ l. cond mine l 0) (actuator_len flat.now x.now x.now.kind)) }
+{
+    match &x.kind {
+        Kind::Actuator(_) => push_lens_if(flat, x.ins.as_slice(), mine, lens),
+        _ => Ok(()),
+    }
+}
+
+fn is_mine(mine: &[bool], vertex: usize) -> bool
+    ensures { result ≡ slice_index_or mine.now vertex false }
+{
+    if vertex < mine.len() {
+        mine[vertex]
+    } else {
+        false
+    }
+}
+
+/// The lengths of the actuators' rows where they are laid out for these operations alone.
+pub fn row_lens(alloc: Global, flat: &Flat, mine: &[bool]) -> Result<Items<u32>, OutOfMemory>
+    ensures { IfOk result (λ s. s ≡ lens_for flat.now (λ v. slice_index_or mine.now v false) 0 flat.now.vertices) }
+{
+    let mut lens = Vec::new(alloc);
+    let mut number = 0;
+    for x in flat.vertices() {
+        push_row_len(flat, x, is_mine(mine, number), &mut lens)?;
+        number += 1;
     }
     Ok(Items::new(lens))
 }

@@ -1,5 +1,7 @@
 //! What operations keep and take: the delays' cells and the actuators' rows.
-ghost use Rattle.std.specs.Prelude.{◌≡◌, ℕ, true, ◌+◌, ◌<◌, ◌≤◌, ◌++◌, length, map, take, drop, slice_get, slice_index_or, slice_set, Some, None, [], IfSome, IfOk};
+ghost use Rattle.std.specs.Prelude.{◌≡◌, ℕ, true, ◌+◌, ◌<◌, ◌≤◌, ◌++◌, length, map, take, drop, slice_get, slice_index_or, slice_set, Some, None, [], IfSome, IfOk, false, replicate};
+ghost use Rattle.level_meaning.specs.Level.{zeros};
+ghost use Rattle.semaphore_core.specs.AtOpening.{lens_for};
 ghost use Rattle.level_meaning.specs.Level.{vector_at};
 ghost use Rattle.flat_graph.specs.declared.vertex.Kind.TheVariants.{Actuator, Sensor};
 ghost use Rattle.flat_graph.specs.Graph.{lens_of};
@@ -10,12 +12,12 @@ ghost use Rattle.semaphore_core.specs.Desk.{IsDesk, lens_of_desk};
 ghost use Rattle.semaphore_core.specs.Job.{zero_rows};
 ghost use Rattle.semaphore_core.specs.Registers.{compute_by};
 ghost use Rattle.semaphore_core.specs.Rows.{with_vector, TakesRow};
-ghost use Rattle.semaphore_core.specs.Held.{AreReady, outputs_len, computed, top_load, top_store, absorbed, emitted, left, with_values, with_kept};
+ghost use Rattle.semaphore_core.specs.Held.{AreReady, HasRow, LoadHasRow, StoreHasRow, outputs_len, computed, top_load, top_store, absorbed, emitted, left, with_values, with_kept};
 
 use crate::desk::Desk;
 use crate::job::Job;
 use crate::laying::desks_of;
-use crate::opening::{actuator_lens, copy_of, zero_rows};
+use crate::opening::{actuator_lens, copy_of, row_lens, zero_rows};
 use crate::registers::Registers;
 use executive_program::{OnLoad, OnStore};
 use flat_graph::{Flat, Kind, Vertex};
@@ -121,8 +123,27 @@ impl Operations {
         ensures cells { IfOk result (λ k. k.cells ≡ job.now.opening) }
         ensures rows { IfOk result (λ k. k.rows ≡ zero_rows job.now) }
         ensures ready { IfOk result (λ k. AreReady job.now k) }
+        ensures laid_out { IfOk result (λ k. (v : ℕ) → HasRow job.now k.lens v) }
     {
         let lens = actuator_lens(alloc, job.flat())?;
+        Ok(Operations {
+            cells: copy_of(alloc, job.opening())?,
+            rows: zero_rows(alloc, lens.as_slice(), job.reactions())?,
+            desks: desks_of(alloc, job.flat())?,
+        })
+    }
+
+    /// The operations of a job before any is made, with rows laid out for some of them alone: `mine` says
+    /// which, by their number. Only these may be computed then, where they are actuators. The cells and the
+    /// desks are those of all.
+    pub fn for_some(alloc: Global, job: &Job, mine: &[bool]) -> Result<Operations, OutOfMemory>
+        ensures cells { IfOk result (λ k. k.cells ≡ job.now.opening) }
+        ensures lens { IfOk result (λ k. k.lens ≡ lens_for job.now.graph (λ v. slice_index_or mine.now v false) 0 job.now.graph.vertices) }
+        ensures rows { IfOk result (λ k. k.rows ≡ replicate (length job.now.sensors) (map zeros k.lens)) }
+        ensures ready { IfOk result (λ k. AreReady job.now k) }
+        ensures laid_out { IfOk result (λ k. (v : ℕ) → slice_index_or mine.now v false ≡ true → HasRow job.now k.lens v) }
+    {
+        let lens = row_lens(alloc, job.flat(), mine)?;
         Ok(Operations {
             cells: copy_of(alloc, job.opening())?,
             rows: zero_rows(alloc, lens.as_slice(), job.reactions())?,
@@ -147,6 +168,7 @@ impl Operations {
         registers: &mut Registers,
     )
         requires ready { AreReady job.now self.old }
+        requires row { LoadHasRow job.now self.old.lens then }
         requires reaction { reaction < length job.now.sensors }
         requires room { top_load job.now.graph then < registers.old.room }
         ensures registers { registers.new ≡ with_values registers.old (absorbed job.now then reaction registers.old self.old value) }
@@ -176,6 +198,7 @@ impl Operations {
         registers: &mut Registers,
     ) -> i64
         requires ready { AreReady job.now self.old }
+        requires row { StoreHasRow job.now self.old.lens what }
         requires reaction { reaction < length job.now.sensors }
         requires room { top_store job.now.graph what < registers.old.room }
         ensures value { result ≡ emitted job.now what reaction registers.old self.old }
@@ -206,6 +229,7 @@ impl Operations {
     /// Computes an operation on what the registers hold, which then hold its outputs.
     fn compute(&mut self, job: &Job, vertex: u32, reaction: u64, registers: &mut Registers)
         requires ready { AreReady job.now self.old }
+        requires row { HasRow job.now self.old.lens vertex }
         requires reaction { reaction < length job.now.sensors }
         requires room { outputs_len job.now.graph vertex < registers.old.room }
         ensures registers { registers.new ≡ with_values registers.old (computed job.now vertex reaction registers.old self.old) }

@@ -1,7 +1,7 @@
 //! The state of a run, and one micro-step of it.
 ghost use Rattle.std.specs.Prelude.{◌≡◌, ℕ, ◌+◌, ◌*◌, ◌%◌, ◌^◌, ◌<◌, ◌≤◌, length, slice_index_or, slice_set, slice_get, Some, IsTrue, IfOk, cond, pos, map};
 ghost use Rattle.semaphore_core.specs.Core.{count, counted, done_in, next, reaction, step, run_from, enabled_in, is_enabled, load_by, store_by, with_element, home_of, slot_of, opening};
-ghost use Rattle.semaphore_core.specs.Held.{AreReady, IsOpened, FitsWord, NeedsReaction, answer, kept_of, top, top_load, top_store};
+ghost use Rattle.semaphore_core.specs.Held.{AreReady, HasRow, IsOpened, FitsWord, NeedsReaction, answer, kept_of, top, top_load, top_store};
 ghost use Rattle.executive_program.specs.Instructions.{HasPlaces, depth_of};
 
 use crate::answer::StepAnswer;
@@ -55,7 +55,7 @@ impl Model for State {
 }
 
 /// The list of elements that holds a place.
-fn home(program: &Program, place: Place) -> usize
+pub fn home(program: &Program, place: Place) -> usize
     ensures { result ≡ home_of program.now place }
 {
     match place {
@@ -78,7 +78,7 @@ fn turn_of(program: &Program, buffer: u32, reaction: u64) -> u32
 }
 
 /// The place of an element in its list in a reaction.
-fn slot(program: &Program, place: Place, reaction: u64) -> usize
+pub fn slot(program: &Program, place: Place, reaction: u64) -> usize
     requires { HasPlaces program.now }
     ensures { result ≡ slot_of program.now place reaction }
 {
@@ -137,6 +137,7 @@ impl State {
     fn load(&mut self, job: &Job, seq: usize, reaction: u64, place: Place, then: OnLoad)
         requires places { HasPlaces job.now.program }
         requires ready { AreReady job.now (kept_of self.old) }
+        requires rows { (v : ℕ) → HasRow job.now self.old.lens v }
         requires reaction { reaction < length job.now.sensors }
         requires counted { (seq < length self.old.core.counts) × (count self.old.core seq + 1 < 2 ^ 64) }
         requires room { (seq < length self.old.rooms) × (top_load job.now.graph then < slice_index_or self.old.rooms seq 0) }
@@ -155,6 +156,7 @@ impl State {
     fn store(&mut self, job: &Job, seq: usize, reaction: u64, place: Place, what: OnStore)
         requires places { HasPlaces job.now.program }
         requires ready { AreReady job.now (kept_of self.old) }
+        requires rows { (v : ℕ) → HasRow job.now self.old.lens v }
         requires reaction { reaction < length job.now.sensors }
         requires counted { (seq < length self.old.core.counts) × (count self.old.core seq + 1 < 2 ^ 64) }
         requires room { (seq < length self.old.rooms) × (top_store job.now.graph what < slice_index_or self.old.rooms seq 0) }
@@ -204,6 +206,7 @@ impl State {
     fn make(&mut self, job: &Job, seq: usize, reaction: u64, step: MicroStep)
         requires places { HasPlaces job.now.program }
         requires ready { AreReady job.now (kept_of self.old) }
+        requires rows { (v : ℕ) → HasRow job.now self.old.lens v }
         requires reaction { NeedsReaction step reaction (length job.now.sensors) }
         requires counted { (seq < length self.old.core.counts) × (count self.old.core seq + 1 < 2 ^ 64) }
         requires room { (seq < length self.old.rooms) × (top job.now.graph step < slice_index_or self.old.rooms seq 0) }

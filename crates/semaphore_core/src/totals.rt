@@ -1,17 +1,20 @@
 //! The two numbers that bound a job: elements that its actuators take, and micro-steps in all. Nothing
 //! is laid out to count them.
-ghost use Rattle.std.specs.Prelude.{◌≡◌, ◌-◌, ◌*◌, ◌^◌, ◌<◌, ◌≤◌, length, min, None};
+ghost use Rattle.std.specs.Prelude.{◌≡◌, ◌-◌, ◌*◌, ◌^◌, ◌<◌, ◌≤◌, length, min, None, Some, IfOk, IfErr};
+ghost use Rattle.archi_graph.specs.Sequences.{sequences};
+ghost use Rattle.executive_program.specs.WellFormed.{IsWellFormed};
 ghost use Rattle.std.specs.List.{sum_by};
 ghost use Rattle.flat_graph.specs.Graph.{len_of as source_len};
 ghost use Rattle.semaphore_core.specs.Job.{output_elements, total_steps};
 ghost use Rattle.syn_base.specs.declared.limits.LimitKind.TheVariants.{Output, Total};
-ghost use Rattle.semaphore_core.specs.IsJob.{above};
+ghost use Rattle.semaphore_core.specs.IsJob.{above, limit_in, FewerMeetNone};
 ghost use Rattle.semaphore_core.specs.Totals.{taken_by, CountsLooks};
 
 use crate::opening::source_len;
+use archi_graph::Archi;
 use executive_program::{Program, deep_pairs, plain_prologues, plain_turns};
 use flat_graph::{Flat, Kind, Source, Vertex};
-use syn_base::{LimitFault, LimitKind};
+use syn_base::{LimitFault, LimitKind, SensorRows};
 
 /// The number of elements of some sources.
 fn source_elements(flat: &Flat, sources: &[Source]) -> u128
@@ -90,10 +93,40 @@ fn above(which: LimitKind, count: u128) -> Option<LimitFault>
 pub fn limit_fault(program: &Program, flat: &Flat, reactions: usize) -> Option<LimitFault>
     requires looks { CountsLooks program.now }
     requires few { reactions ≤ 10000 }
-    ensures { result ≡ above Output (output_elements flat.now reactions) (above Total (min (total_steps program.now reactions) (2 ^ 128 - 1)) None) }
+    ensures { result ≡ limit_in program.now flat.now reactions }
 {
     match above(LimitKind::Output, output_elements(flat, reactions)) {
         Some(fault) => Some(fault),
         None => above(LimitKind::Total, total_steps(program, reactions)),
     }
 }
+
+/// The micro-steps of the one job over all these rows, or the limit that refuses it: `Output` where
+/// reactions times the actuators' elements are above 2,000,000, and else `Total` where the micro-steps are
+/// above 20,000,000. Both tell the exact number; of micro-steps at most the last value of its type. It asks
+/// for a program that is well formed for the flat graph and the architecture, and takes no memory.
+pub fn run_limit(
+    program: &Program,
+    flat: &Flat,
+    archi: &Archi,
+    rows: &SensorRows,
+) -> Result<u64, LimitFault>
+    requires formed { IsWellFormed program.now flat.now (sequences archi.now) (length archi.now.media) }
+    requires few { length rows.now.reactions ≤ 10000 }
+    ensures total { IfOk result (λ steps. steps ≡ total_steps program.now (length rows.now.reactions)) }
+    ensures within { IfOk result (λ steps. limit_in program.now flat.now (length rows.now.reactions) ≡ None) }
+    ensures limit { IfErr result (λ fault. limit_in program.now flat.now (length rows.now.reactions) ≡ Some fault) }
+{
+    let reactions = rows.count();
+    let _ = archi.media();
+    match limit_fault(program, flat, reactions) {
+        Some(fault) => Err(fault),
+        None => Ok(total_steps(program, reactions) as u64),
+    }
+}
+
+/// A program that meets no limit over so many reactions meets none over fewer, as in each of its windows. It
+/// does nothing.
+pub fn fewer_reactions_meet_no_limit()
+    ensures { FewerMeetNone }
+{}

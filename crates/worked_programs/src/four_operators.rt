@@ -191,7 +191,7 @@ fn second_receiver(alloc: Global, hasty: bool) -> Result<SeqCode, Fail> {
 }
 
 fn buffers(alloc: Global) -> Result<Items<Buffer>, Fail> {
-    let all = [on(0), on(1), on(2), on(3), on(1), on(1)];
+    let all = [on(0, 1), on(1, 1), on(2, 1), on(3, 1), on(1, 1), on(1, 1)];
     Ok(Items::new(Vec::from_slice(alloc, &all)?))
 }
 

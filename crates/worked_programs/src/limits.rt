@@ -7,7 +7,8 @@ use archi_graph::Archi;
 use body_lang::Expr;
 use executive_program::{Buffer, Instr, Program};
 use flat_graph::{Flat, Kind, Vertex};
-use semaphore_core::{opening_of, sensor_lens};
+use order_check::is_order;
+use semaphore_core::{opening_of, run_limit, sensor_lens};
 use std::alloc::Global;
 use std::process::Abort;
 use std::test::Fail;
@@ -66,16 +67,12 @@ fn refusal(
 ) -> Result<Option<LimitFault>, Fail> {
     let rows = zeros(rt, alloc, flat)?;
     let archi = one_operator(rt, alloc)?;
-    Ok(job(
-        rt,
-        program,
-        flat,
-        &archi,
-        &rows,
-        opening_of(alloc, flat)?,
-        order,
-    )
-    .err())
+    let opening = opening_of(alloc, flat)?;
+    let refused = job(rt, program, flat, &archi, &rows, opening, order).err();
+    assert!(rt; is_order(program, flat, &archi, order));
+    assert!(rt; rows.count() <= 10_000);
+    assert_eq!(rt; run_limit(program, flat, &archi, &rows).err(), refused);
+    Ok(refused)
 }
 
 fn actuator(alloc: Global, name: &[u8], number: u32) -> Result<Vertex, Fail> {

@@ -5,13 +5,12 @@ ghost use Rattle.flat_graph.specs.Laws.{sensor_lens};
 ghost use Rattle.semaphore_core.specs.Held.{IsOpened};
 
 use crate::two_operators::{
-    archi, call, code, first_element, flat, job, make, of, on, sum, vertex,
+    archi, call, code, first_element, flat, job, make, of, on, opening, sum, vertex,
 };
 use archi_graph::{Archi, Medium};
 use body_lang::Expr;
 use executive_program::{Instr, Program, SeqCode};
 use flat_graph::{Flat, Kind, Vertex};
-use progress_laws::first_enabled;
 use semaphore_core::{Job, State, StepAnswer, opening_of, sensor_lens, try_step};
 use std::alloc::Global;
 use std::process::Abort;
@@ -72,12 +71,12 @@ fn first(alloc: Global) -> Result<SeqCode, Fail> {
 }
 
 /// Sends the sensor's buffer over a medium to an operator.
-fn sender(alloc: Global, medium: u32, to: u32) -> Result<SeqCode, Fail> {
+fn sender(alloc: Global, medium: u32, to: u32, depth: u32) -> Result<SeqCode, Fail> {
     let mut turn = Vec::new(alloc);
     turn.push(Instr::Suc1(medium))?;
     turn.push(Instr::Send { buffer: 0, to })?;
     turn.push(Instr::Pre0(medium))?;
-    let prologue = vec![in alloc; Instr::Pre0(medium)]?;
+    let prologue = opening(alloc, medium, depth)?;
     Ok(code(0, Some(medium), prologue, turn))
 }
 
@@ -100,36 +99,44 @@ fn reader(
     pair: u32,
     function: Instr,
     actuator: Instr,
+    depth: u32,
 ) -> Result<SeqCode, Fail> {
     let mut turn = Vec::new(alloc);
     turn.push(Instr::Suc1(pair))?;
     turn.push(function)?;
     turn.push(Instr::Pre0(pair))?;
     turn.push(actuator)?;
-    let prologue = vec![in alloc; Instr::Pre0(pair)]?;
+    let prologue = opening(alloc, pair, depth)?;
     Ok(code(operator, None, prologue, turn))
 }
 
-fn sequences(alloc: Global) -> Result<Vec<SeqCode>, Fail> {
+fn sequences(alloc: Global, depth: u32) -> Result<Vec<SeqCode>, Fail> {
     let mut all = Vec::new(alloc);
     all.push(first(alloc)?)?;
-    all.push(sender(alloc, 0, 1)?)?;
-    all.push(sender(alloc, 1, 2)?)?;
+    all.push(sender(alloc, 0, 1, depth)?)?;
+    all.push(sender(alloc, 1, 2, depth)?)?;
     let (g, b) = (call(alloc, 2, &[1], &[3])?, call(alloc, 5, &[3], &[])?);
-    all.push(reader(alloc, 1, 2, g, b)?)?;
+    all.push(reader(alloc, 1, 2, g, b, depth)?)?;
     all.push(receiver(alloc, 1, 0, 2)?)?;
     let (h, c) = (call(alloc, 3, &[2], &[4])?, call(alloc, 6, &[4], &[])?);
-    all.push(reader(alloc, 2, 3, h, c)?)?;
+    all.push(reader(alloc, 2, 3, h, c, depth)?)?;
     all.push(receiver(alloc, 2, 1, 3)?)?;
     Ok(all)
 }
 
-fn program(alloc: Global) -> Result<Program, Fail> {
-    let buffers = [on(0), on(1), on(2), on(1), on(2), on(0)];
+fn program(alloc: Global, depth: u32) -> Result<Program, Fail> {
+    let buffers = [
+        on(0, depth),
+        on(1, depth),
+        on(2, depth),
+        on(1, 1),
+        on(2, 1),
+        on(0, 1),
+    ];
     Ok(Program {
         buffers: Items::new(Vec::from_slice(alloc, &buffers)?),
         pairs: Items::new(Vec::from_slice(alloc, &[0, 0, 1, 2])?),
-        seqs: Items::new(sequences(alloc)?),
+        seqs: Items::new(sequences(alloc, depth)?),
     })
 }
 
@@ -152,23 +159,33 @@ fn wait(rt: &impl Abort, job: &Job, state: &mut State)
     assert_eq!(rt; try_step(job, state, 0), StepAnswer::NotYet);
 }
 
-/// When both communicators have signalled, the computation makes one reaction and no more. When one of
-/// them has sent, it takes that one's signal and waits for the other's, which is the first sequence that
-/// can go on then: the one that has sent waits for the computation.
-fn run_ahead(rt: &impl Abort, alloc: Global, job: &Job) -> Result<(), Fail> {
+/// Micro-steps of the first operator's sequences in one reaction, and of a take.
+#[derive(Clone, Copy)]
+struct Ahead {
+    depth: u32,
+    computation: u32,
+    communicator: u32,
+    take: u32,
+}
+
+/// When both communicators have signalled, the computation makes as many reactions as its buffer has places,
+/// and no more. When one of them has sent, it takes that one's signal and waits for the other's, which is the
+/// first sequence that can go on then: the one that has sent waits for the computation.
+fn run_ahead(rt: &impl Abort, alloc: Global, job: &Job, ahead: Ahead) -> Result<(), Fail> {
     let mut state = State::new(alloc, job)?;
-    make_all(rt, job, &mut state, 1, 1);
-    make_all(rt, job, &mut state, 2, 1);
-    make_all(rt, job, &mut state, 0, 8);
+    make_all(rt, job, &mut state, 1, ahead.depth);
+    make_all(rt, job, &mut state, 2, ahead.depth);
+    for _ in 0..ahead.depth {
+        make_all(rt, job, &mut state, 0, ahead.computation);
+    }
     wait(rt, job, &mut state);
-    make_all(rt, job, &mut state, 1, 6);
-    make_all(rt, job, &mut state, 0, 1);
+    make_all(rt, job, &mut state, 1, ahead.communicator);
+    make_all(rt, job, &mut state, 0, ahead.take);
     wait(rt, job, &mut state);
-    assert_eq!(rt; first_enabled(job, &state), Some(2));
     Ok(())
 }
 
-/// Rows in which the one sensor gives 5 and 7.
+/// Rows in which the one sensor gives 5, 7 and 9.
 fn sensed(rt: &impl Abort, alloc: Global, flat: &Flat) -> Result<SensorRows, Fail>
     ensures { IfOk result (λ rows. rows.lens ≡ sensor_lens flat.now.vertices) }
 {
@@ -177,6 +194,7 @@ fn sensed(rt: &impl Abort, alloc: Global, flat: &Flat) -> Result<SensorRows, Fai
     let mut rows = SensorRows::new(alloc, lens.as_slice())?;
     rows.push(&[5])?;
     rows.push(&[7])?;
+    rows.push(&[9])?;
     Ok(rows)
 }
 
@@ -186,20 +204,48 @@ fn run(
     program: &Program,
     flat: &Flat,
     archi: &Archi,
+    ahead: Ahead,
 ) -> Result<(), Fail> {
     let rows = sensed(rt, alloc, flat)?;
     let opening = opening_of(alloc, flat)?;
     match job(rt, program, flat, archi, &rows, opening, &ORDER) {
-        Ok(job) => run_ahead(rt, alloc, &job),
+        Ok(job) => run_ahead(rt, alloc, &job, ahead),
         Err(_) => panic!(rt; "a limit"),
     }
 }
 
-#[test]
-fn a_sequence_goes_on_where_the_first_one_waits(rt: HostRuntime) -> Result<(), Fail> {
-    let alloc = rt.alloc();
+fn run_all(rt: &impl Abort, alloc: Global, ahead: Ahead) -> Result<(), Fail> {
     let one_more = sum(alloc, first_element(alloc, 0)?, Expr::Lit(1))?;
-    let flat = flat(&rt, vertices(alloc)?, vec![in alloc; one_more]?);
-    let archi = archi(&rt, operators(alloc)?, media(alloc)?);
-    run(&rt, alloc, &program(alloc)?, &flat, &archi)
+    let flat = flat(rt, vertices(alloc)?, vec![in alloc; one_more]?);
+    let archi = archi(rt, operators(alloc)?, media(alloc)?);
+    run(
+        rt,
+        alloc,
+        &program(alloc, ahead.depth)?,
+        &flat,
+        &archi,
+        ahead,
+    )
+}
+
+#[test]
+fn a_computation_runs_one_reaction_ahead(rt: HostRuntime) -> Result<(), Fail> {
+    let ahead = Ahead {
+        depth: 1,
+        computation: 8,
+        communicator: 6,
+        take: 1,
+    };
+    run_all(&rt, rt.alloc(), ahead)
+}
+
+#[test]
+fn with_two_places_it_runs_two_reactions_ahead(rt: HostRuntime) -> Result<(), Fail> {
+    let ahead = Ahead {
+        depth: 2,
+        computation: 10,
+        communicator: 7,
+        take: 2,
+    };
+    run_all(&rt, rt.alloc(), ahead)
 }

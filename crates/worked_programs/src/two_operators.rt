@@ -97,12 +97,22 @@ pub(crate) fn code(
     }
 }
 
-pub(crate) fn on(operator: u32) -> Buffer {
+/// A buffer of one element in so many places.
+pub(crate) fn on(operator: u32, depth: u32) -> Buffer {
     Buffer {
         operator,
         len: 1,
-        depth: 1,
+        depth,
     }
+}
+
+/// The prologue that tells so many times that the buffer of a pair is empty.
+pub(crate) fn opening(alloc: Global, pair: u32, depth: u32) -> Result<Vec<Instr>, Fail> {
+    let mut prologue = Vec::new(alloc);
+    for _ in 0..depth {
+        prologue.push(Instr::Pre0(pair))?;
+    }
+    Ok(prologue)
 }
 
 /// A job by a serial order.
@@ -153,21 +163,21 @@ fn first_computation(alloc: Global) -> Result<SeqCode, Fail> {
     Ok(code(0, None, Vec::new(alloc), turn))
 }
 
-fn sender(alloc: Global) -> Result<SeqCode, Fail> {
+fn sender(alloc: Global, depth: u32) -> Result<SeqCode, Fail> {
     let mut turn = Vec::new(alloc);
     turn.push(Instr::Suc1(0))?;
     turn.push(Instr::Send { buffer: 0, to: 1 })?;
     turn.push(Instr::Pre0(0))?;
-    Ok(code(0, Some(0), vec![in alloc; Instr::Pre0(0)]?, turn))
+    Ok(code(0, Some(0), opening(alloc, 0, depth)?, turn))
 }
 
-fn second_computation(alloc: Global) -> Result<SeqCode, Fail> {
+fn second_computation(alloc: Global, depth: u32) -> Result<SeqCode, Fail> {
     let mut turn = Vec::new(alloc);
     turn.push(Instr::Suc1(1))?;
     turn.push(call(alloc, 2, &[2], &[3])?)?;
     turn.push(Instr::Pre0(1))?;
     turn.push(call(alloc, 4, &[3], &[])?)?;
-    Ok(code(1, None, vec![in alloc; Instr::Pre0(1)]?, turn))
+    Ok(code(1, None, opening(alloc, 1, depth)?, turn))
 }
 
 fn receiver(alloc: Global) -> Result<SeqCode, Fail> {
@@ -178,14 +188,18 @@ fn receiver(alloc: Global) -> Result<SeqCode, Fail> {
     Ok(code(1, Some(0), Vec::new(alloc), turn))
 }
 
-fn program(alloc: Global) -> Result<Program, Fail> {
+/// The program, with buffers of so many places where pairs guard them.
+fn program(alloc: Global, depth: u32) -> Result<Program, Fail> {
     let mut seqs = Vec::new(alloc);
     seqs.push(first_computation(alloc)?)?;
-    seqs.push(sender(alloc)?)?;
-    seqs.push(second_computation(alloc)?)?;
+    seqs.push(sender(alloc, depth)?)?;
+    seqs.push(second_computation(alloc, depth)?)?;
     seqs.push(receiver(alloc)?)?;
     Ok(Program {
-        buffers: Items::new(Vec::from_slice(alloc, &[on(0), on(0), on(1), on(1)])?),
+        buffers: Items::new(Vec::from_slice(
+            alloc,
+            &[on(0, depth), on(0, 1), on(1, depth), on(1, 1)],
+        )?),
         pairs: Items::new(Vec::from_slice(alloc, &[0, 1])?),
         seqs: Items::new(seqs),
     })
@@ -228,8 +242,8 @@ fn greatest_list(rt: &impl Abort, alloc: Global, job: &Job) -> Result<Vec<u32>, 
     Ok(list)
 }
 
-fn the_greatest_first(rt: &impl Abort, alloc: Global, job: &Job) -> Result<(), Fail> {
-    assert_eq!(rt; steps_in_all(job), 71);
+fn the_greatest_first(rt: &impl Abort, alloc: Global, job: &Job, steps: u64) -> Result<(), Fail> {
+    assert_eq!(rt; steps_in_all(job), steps);
     let list = greatest_list(rt, alloc, job)?;
     let state = run_fresh(alloc, job, list.as_slice())?;
     assert_eq!(rt; first_enabled(job, &state), None);
@@ -256,11 +270,12 @@ fn run(
     program: &Program,
     flat: &Flat,
     archi: &Archi,
+    steps: u64,
 ) -> Result<(), Fail> {
     let rows = sensed(rt, alloc, flat)?;
     let opening = opening_of(alloc, flat)?;
     match job(rt, program, flat, archi, &rows, opening, &ORDER) {
-        Ok(job) => the_greatest_first(rt, alloc, &job),
+        Ok(job) => the_greatest_first(rt, alloc, &job, steps),
         Err(_) => panic!(rt; "a limit"),
     }
 }
@@ -276,15 +291,19 @@ fn graph_of_two(rt: &impl Abort, alloc: Global) -> Result<Flat, Fail> {
     Ok(flat(rt, vertices(alloc)?, vec![in alloc; one_more]?))
 }
 
+/// Three reactions of the program, with buffers of so many places, have so many micro-steps in all.
+fn run_all(rt: &impl Abort, alloc: Global, depth: u32, steps: u64) -> Result<(), Fail> {
+    let flat = graph_of_two(rt, alloc)?;
+    let archi = two_operators(rt, alloc)?;
+    run(rt, alloc, &program(alloc, depth)?, &flat, &archi, steps)
+}
+
 #[test]
 fn no_sequence_is_enabled_at_the_end(rt: HostRuntime) -> Result<(), Fail> {
-    let alloc = rt.alloc();
-    let flat = graph_of_two(&rt, alloc)?;
-    run(
-        &rt,
-        alloc,
-        &program(alloc)?,
-        &flat,
-        &two_operators(&rt, alloc)?,
-    )
+    run_all(&rt, rt.alloc(), 1, 71)
+}
+
+#[test]
+fn buffers_of_two_places_take_the_same(rt: HostRuntime) -> Result<(), Fail> {
+    run_all(&rt, rt.alloc(), 2, 85)
 }

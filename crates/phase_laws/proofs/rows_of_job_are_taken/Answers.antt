@@ -3,7 +3,7 @@ use Rattle.std.proofs.Common.{◌≡◌, true, subst}
 use Rattle.flat_graph.specs.Graph.{Graph}
 use Rattle.flat_graph.specs.Valid.{is_flat}
 use Rattle.phase_laws.proofs.Together.{jobs_are_supplied}
-use Rattle.phase_laws.proofs.Finished.{rows_are_taken}
+use Rattle.phase_laws.proofs.Ended.{rows_are_taken}
 use Rattle.phase_laws.proofs.rows_of_job_are_taken.Goals as goal
 
 pub returns : goal.returns

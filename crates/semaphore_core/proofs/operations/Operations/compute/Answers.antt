@@ -12,7 +12,7 @@ use Rattle.flat_graph.specs.Graph.{Graph}
 use Rattle.flat_graph.proofs.ReadLens.{vertex_there}
 use Rattle.semaphore_core.specs.Desk.{DeskLens, lens_of_desk}
 use Rattle.semaphore_core.specs.Registers.{compute_by}
-use Rattle.semaphore_core.specs.Held.{Kept, AreReady, own_of, with_kept, with_values}
+use Rattle.semaphore_core.specs.Held.{Kept, AreReady, HasRow, own_of, with_kept, with_values}
 use Rattle.semaphore_core.proofs.Operate.{is_there}
 use Rattle.semaphore_core.proofs.Ready.{has_cell}
 use Rattle.semaphore_core.proofs.operations.Operations.compute.Goals as goal
@@ -47,8 +47,8 @@ operate-requires-clause-sensor c =
 pub operate-requires-clause-actuator : goal.operate-requires-clause-actuator
 operate-requires-clause-actuator c =
     let is : slice_get c.args.job.now.graph.vertices c.args.vertex ≡ Some c.index-vertices-vertex.result = found c.vertices-vertices.result.now c.flat.result.now c.args.job.now.graph c.args.vertex c.index-vertices-vertex.result c.vertices-vertices.ensures.same c.flat.ensures c.if-vertex-vertices.true c.index-vertices-vertex.is in
-    λ a e. (let r : AreReady c.args.job.now (record { cells = map (λ v. v.items) c.self.inside.cells.items; rows = c.self.inside.rows.reactions; lens = c.self.inside.rows.lens; desks = map lens_of_desk c.self.inside.desks.items }) = subst (AreReady c.args.job.now) (sym c.self.view_is) c.requires.ready in
-    r.row_fits c.args.vertex c.index-vertices-vertex.result a is e)
+    λ a e. (let r : HasRow c.args.job.now c.self.inside.rows.lens c.args.vertex = subst (λ (k : Kept). HasRow c.args.job.now k.lens c.args.vertex) (sym c.self.view_is) c.requires.row in
+    r c.index-vertices-vertex.result a is e)
 
 pub returns-else-vertex-vertices-clause-registers : goal.returns-else-vertex-vertices-clause-registers
 returns-else-vertex-vertices-clause-registers c =

@@ -38,4 +38,4 @@ returns-clause-core c = core_is c
 pub returns-clause-opened : goal.returns-clause-opened
 returns-clause-opened c = state_open c.args.job.now c.program-program.result.now c.program-program.ensures.same c.in_ok-steps.steps.items c.in_ok-steps.ensures c.in_ok-registers.registers.items (files_are c) c.program-program.ensures.job
     (core_of c.in_ok-words_of.field-0.items c.in_ok-words_of-2.field-0.items c.in_ok-words_of-3.field-0.items c.in_ok-zero_elements.field-0.items c.in_ok-registers.registers.items c.in_ok-new.field-0)
-    c.in_ok-new.field-0.lens c.in_ok-new.field-0.desks (core_is c) c.in_ok-new.ensures.ready
+    c.in_ok-new.field-0.lens c.in_ok-new.field-0.desks c.in_ok-new.ensures.laid_out (core_is c) c.in_ok-new.ensures.ready
