@@ -1,5 +1,5 @@
 use Rattle.archi_graph.proofs.Flags.{after_one_hop}
-use Rattle.archi_reader.proofs.joined.reached.Goals as goal
+use Rattle.archi_graph.proofs.joined.reached.Goals as goal
 
 pub loop-hops-preserved : goal.loop-hops-preserved
 loop-hops-preserved c =
