@@ -27,7 +27,6 @@ mod level;
 mod names;
 mod numbers;
 mod operation;
-mod order;
 mod pass;
 mod wires;
 
