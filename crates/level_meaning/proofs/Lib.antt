@@ -1,3 +1,4 @@
 pub mod Fuel
 pub mod InOrder
 pub mod CyclesLemmas
+pub mod Reaching

@@ -221,7 +221,7 @@ merged values ins = vector_at ins (suc (selected values (vector_at ins 0)))
 abbrev pub delay_output : State → Vector
 delay_output st = slice_index_or (st []) 0 []
 
--- and then drops it, and keeps its input behind the others
+-- and then drops it, and keeps its input after the others
 abbrev pub delay_next : State → Values → State
 delay_next st ins [] = drop 1 (st []) ++ vector_at ins 0 ∷ []
 delay_next st ins (p ∷ q) = st (p ∷ q)

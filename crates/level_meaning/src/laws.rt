@@ -1,5 +1,5 @@
 //! Laws of one level, each the contract of a function that does nothing.
-ghost use Rattle.std.specs.Prelude.{◌≡◌, ℕ, ◌<◌, List, length};
+ghost use Rattle.std.specs.Prelude.{◌≡◌, ◌↔◌, ℕ, ◌<◌, List, length};
 ghost use Rattle.level_meaning.specs.Level.{Values, State, Node, out};
 ghost use Rattle.level_meaning.specs.Order.{IsAcyclic, IsInOrder, FuelIsEnough, MeetsLevel};
 ghost use Rattle.level_meaning.specs.Cycles.{AllInRange, ReachesNoneItself};
@@ -16,9 +16,10 @@ pub fn one_table()
         → (r : ℕ) → r < length cs → out cs row st ins (length cs) r ≡ expected r }
 {}
 
-/// Where no node reaches itself, the level has no cycle.
+/// A level has no cycle exactly where each node that is asked for is there, and no node reaches
+/// itself.
 pub fn no_cycle_by_reaching()
-    ensures { (cs : List Node) → AllInRange cs → ReachesNoneItself cs → IsAcyclic cs }
+    ensures { (cs : List Node) → IsAcyclic cs ↔ (AllInRange cs × ReachesNoneItself cs) }
 {}
 
 /// A level in which all that a node asks for stands earlier has no cycle.

@@ -1,5 +1,10 @@
 //! What one level of an algorithm does in a reaction, from what its nodes do: the meaning that a
 //! resolved tree and a flat graph share.
+//!
+//! `Part`, `Source`, `Guard`, `Feed` and `Give` are the parts of both. The laws say when the values
+//! of a level are determined: more fuel changes none (`enough_fuel`), one table has them
+//! (`one_table`), and a level has no cycle exactly where no node reaches itself
+//! (`no_cycle_by_reaching`).
 #![tactic(auto)]
 
 mod frontier;

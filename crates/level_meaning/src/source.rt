@@ -12,7 +12,7 @@ pub enum Source {
 }
 
 /// The condition that a conditioning input selects a case. The value of `source` selects the first
-/// case with that value, or the one behind the last (`otherwise`).
+/// case with that value, or the one after the last (`otherwise`).
 #[derive(Drop)]
 pub struct Guard {
     pub source: Source,
