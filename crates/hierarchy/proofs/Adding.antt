@@ -18,8 +18,8 @@ use Rattle.inlining_laws.specs.Flat.{Operation, runs, gets, sets}
 use Rattle.inlining_laws.specs.Inlined.{wire, wirings, wire_guard, operation_of, inlined_by, inlined, inlined_all, inlined_level, operations}
 use Rattle.inlining_laws.specs.Plain.{IsKindPlain, IsPlain, AllPlain}
 use Rattle.path_text.specs.Named.{IsLabelNamed, IsNamed, AllNamed}
-use Rattle.sync_meaning.specs.Sound.{nodes_of}
-use Rattle.sync_meaning.proofs.Index.{nodes_view}
+use Rattle.level_order.specs.Order.{nodes_of}
+use Rattle.level_order.proofs.Nodes.{nodes_view}
 use Rattle.hierarchy.specs.Linked.{AreFound, GuardsFound, AllLinked}
 use Rattle.hierarchy.proofs.Linking.{linked_main, linked_anywhere}
 use Rattle.hierarchy.specs.Built.{IsRun, Built, Adds}

@@ -18,10 +18,9 @@ use Rattle.algo_tree.proofs.Views.{view_out}
 use Rattle.inlining_laws.specs.Inlined.{nowhere, with_wiring, wire_source, wire, gives_by, wiring, wirings}
 use Rattle.inlining_laws.proofs.Mapped.{none_past}
 use Rattle.inlining_laws.proofs.Wires.{matched, wire_fix}
-use Rattle.sync_meaning.specs.Store.{is_among, MayRun, IsOrder}
-use Rattle.sync_meaning.specs.Sound.{nodes_of}
-use Rattle.sync_meaning.proofs.Among.{eqb_cases, among_other}
-use Rattle.sync_meaning.proofs.Index.{nodes_view, node_at, length-nodes_of}
+use Rattle.level_order.specs.Order.{is_among, MayRun, IsOrder, nodes_of}
+use Rattle.level_order.proofs.Nodes.{nodes_view, node_at, length-nodes_of}
+use Rattle.level_order.proofs.Among.{eqb_cases, among_other}
 use Rattle.hierarchy.specs.Numbers.{first_numbers}
 use Rattle.hierarchy.specs.Wires.{output_led, with_led, led_out, led, Leads}
 use Rattle.hierarchy.specs.declared.wires.Led.{Led}

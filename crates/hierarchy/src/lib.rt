@@ -6,7 +6,6 @@ mod level;
 mod names;
 mod numbers;
 mod operation;
-mod order;
 mod pass;
 mod wires;
 

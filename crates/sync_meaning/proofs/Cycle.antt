@@ -13,12 +13,14 @@ use Rattle.algo_tree.specs.declared.vertex.Vertex.{Vertex as Declared, out-Verte
 use Rattle.algo_tree.specs.declared.vertex.Kind as declared
 use Rattle.algo_tree.specs.declared.vertex.Kind.TheVariants.{Sensor, Actuator, Constant, Delay, Function, Explode, Implode, Merge, Graph, Switch, Repeat}
 use Rattle.sync_meaning.specs.declared.store.Store.{Store, out-Store}
-use Rattle.sync_meaning.specs.Store.{Fits, lengths, MayRun, IsOrder}
-use Rattle.sync_meaning.specs.Sound.{IsSound, AreSound, IsAlone, nodes_of}
+use Rattle.level_order.specs.Order.{MayRun, IsOrder, nodes_of}
+use Rattle.level_order.proofs.Nodes.{length-nodes_of}
+use Rattle.sync_meaning.specs.Store.{Fits, lengths}
+use Rattle.sync_meaning.specs.Sound.{IsSound, AreSound, IsAlone}
 use Rattle.sync_meaning.specs.Run.{InRun, RunsAt, NodeReacts, CaseReacts, given, in_lengths, is_delay}
 use Rattle.sync_meaning.proofs.Nodes.{not_delay}
 use Rattle.sync_meaning.proofs.Stores.{view_out, label_is}
-use Rattle.sync_meaning.proofs.Index.{guards_at, sound_at, outs_at, length-nodes_of}
+use Rattle.sync_meaning.proofs.Index.{guards_at, sound_at, outs_at}
 use Rattle.sync_meaning.proofs.Steps.{run_step, may_run_there}
 
 pub alone_by : (K : declared.Kind) → ((s : List Source) → K ≡ Graph s → ⊥) → ((v : List ℤ) (n : List (List ℕ)) → K ≡ Switch v n → ⊥) → ((n : ℕ) (f : List Feed) (g : List Give) → K ≡ Repeat n f g → ⊥) → IsAlone K

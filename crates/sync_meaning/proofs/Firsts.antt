@@ -20,14 +20,15 @@ use Rattle.algo_tree.specs.declared.vertex.Kind as declared
 use Rattle.algo_tree.specs.declared.vertex.Kind.TheVariants.{Sensor, Actuator, Constant, Delay, Function, Explode, Implode, Merge, Graph, Switch, Repeat}
 use Rattle.sync_meaning.specs.declared.store.Store.{Store, roll-Store}
 use Rattle.sync_meaning.specs.declared.store.Store.TheOpen.{Store-F}
-use Rattle.sync_meaning.specs.Store.{Fits, FitsKind, AllFit, CopiesFit, IsOrder, state_of, state_in, state_of_copies, copy_state, lengths, kept_here, kept_inside, kept_at}
-use Rattle.sync_meaning.specs.Sound.{nodes_of}
+use Rattle.level_order.specs.Order.{IsOrder, nodes_of}
+use Rattle.level_order.proofs.Nodes.{nodes_view}
+use Rattle.sync_meaning.specs.Store.{Fits, FitsKind, AllFit, CopiesFit, state_of, state_in, state_of_copies, copy_state, lengths, kept_here, kept_inside, kept_at}
 use Rattle.sync_meaning.specs.Run.{in_lengths}
 use Rattle.sync_meaning.specs.First.{IsFirst, AreFirst, AreCopies}
 use Rattle.sync_meaning.proofs.Stores.{view_out, label_is, state_out, state-roll, fits-roll}
 use Rattle.sync_meaning.proofs.Nodes.{lengths-zeros}
 use Rattle.sync_meaning.proofs.Levels.{next_in}
-use Rattle.sync_meaning.proofs.Index.{nodes_view, fits_in}
+use Rattle.sync_meaning.proofs.Index.{fits_in}
 use Rattle.sync_meaning.proofs.Graphs.{zip_from_index}
 
 pub row_next : (table : List Values) (x : Values) (os : List (List ℕ)) (o : List ℕ) → map lengths table ≡ os → x ≡ map zeros o → map lengths (table ++ x ∷ []) ≡ os ++ o ∷ []

@@ -16,12 +16,14 @@ use Rattle.algo_tree.specs.declared.vertex.Vertex.{Vertex as Declared, out-Verte
 use Rattle.algo_tree.specs.declared.vertex.Kind.TheVariants.{Graph}
 use Rattle.sync_meaning.specs.declared.store.Store.{Store, out-Store, roll-Store}
 use Rattle.sync_meaning.specs.declared.store.Store.TheOpen.{Store-F}
-use Rattle.sync_meaning.specs.Store.{Fits, FitsKind, AllFit, CopiesFit, IsOrder, state_of, lengths}
-use Rattle.sync_meaning.specs.Sound.{IsSound, AreSound, SensorsFit, nodes_of}
+use Rattle.level_order.specs.Order.{IsOrder, nodes_of}
+use Rattle.level_order.proofs.Nodes.{nodes_view}
+use Rattle.sync_meaning.specs.Store.{Fits, FitsKind, AllFit, CopiesFit, state_of, lengths}
+use Rattle.sync_meaning.specs.Sound.{IsSound, AreSound, SensorsFit}
 use Rattle.sync_meaning.specs.Run.{Reacts, LevelReacts, given, level_state, level_look}
 use Rattle.sync_meaning.proofs.Stores.{view_out, state_out, state-roll, fits-roll}
 use Rattle.sync_meaning.proofs.Levels.{next_in, not_found}
-use Rattle.sync_meaning.proofs.Index.{nodes_view, fits_count}
+use Rattle.sync_meaning.proofs.Index.{fits_count}
 use Rattle.sync_meaning.proofs.Steps.{state_below}
 
 pub zip_from_index : (R : Vertex → Store → Type 0) (us : List Declared) (ks : List Store) → length ks ≡ length us

@@ -3,13 +3,11 @@ pub mod Functions
 pub mod Stores
 pub mod Nodes
 pub mod Levels
-pub mod Among
 pub mod Index
 pub mod Steps
 pub mod Graphs
 pub mod Switches
 pub mod Cycle
-pub mod Rounds
 pub mod Firsts
 pub mod Simulating
 pub mod Appends

@@ -25,7 +25,7 @@ use Rattle.sync_meaning.specs.Run.{Reacts, CopiesReact, CopiesAllFit, copies_sta
 use Rattle.sync_meaning.proofs.Lists.{length-map}
 use Rattle.sync_meaning.proofs.Stores.{view_out, state_out, state-roll, fits-roll}
 use Rattle.sync_meaning.proofs.Nodes.{with_ins, state-ins, fits-ins}
-use Rattle.sync_meaning.proofs.Among.{eqb_cases}
+use Rattle.level_order.proofs.Among.{eqb_cases}
 use Rattle.sync_meaning.proofs.Steps.{lengths_kept, some_slice}
 use Rattle.sync_meaning.proofs.Firsts.{one_inner, repeat_one, inner_well, node_does, some_at}
 

@@ -25,11 +25,11 @@ use Rattle.body_lang.specs.declared.inputs.Ins.{Ins}
 use Rattle.sync_meaning.specs.declared.store.Store.{Store, out-Store, roll-Store, out-roll-Store}
 use Rattle.sync_meaning.specs.declared.store.Store.TheOpen.{Store-F}
 use Rattle.sync_meaning.specs.Store.{Fits, state_of}
-use Rattle.sync_meaning.specs.Sound.{nodes_of}
+use Rattle.level_order.specs.Order.{nodes_of}
+use Rattle.level_order.proofs.Nodes.{nodes_view}
 use Rattle.sync_meaning.specs.Run.{LevelReacts, level_state}
 use Rattle.sync_meaning.specs.Simulated.{MainReacts}
 use Rattle.sync_meaning.proofs.Stores.{view_out, label_is}
-use Rattle.sync_meaning.proofs.Index.{nodes_view}
 use Rattle.sync_meaning.proofs.Graphs.{graph_outs, graph_state, reacts-graph}
 use Rattle.sync_meaning.proofs.Cycle.{fit_lens}
 pub use Rattle.sync_meaning.proofs.Typing.{typed_lengths}

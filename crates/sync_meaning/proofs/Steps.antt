@@ -16,13 +16,14 @@ use Rattle.algo_tree.specs.Typed.{label_of, outs_of}
 use Rattle.algo_tree.specs.View.{view, vertices_view}
 use Rattle.algo_tree.specs.declared.vertex.Vertex.{Vertex as Declared}
 use Rattle.sync_meaning.specs.declared.store.Store.{Store}
-use Rattle.sync_meaning.specs.Store.{AllFit, state_of, lengths, is_among, MayRun}
-use Rattle.sync_meaning.specs.Sound.{nodes_of}
+use Rattle.level_order.specs.Order.{is_among, MayRun, nodes_of}
+use Rattle.level_order.proofs.Nodes.{slice_get-at, node_at, length-nodes_of}
+use Rattle.sync_meaning.specs.Store.{AllFit, state_of, lengths}
 use Rattle.sync_meaning.specs.Run.{InRun, KeptAt, Runs, RunsAt, Advances, AllAdvance, LevelReacts, is_delay, next_but_delay, given, level_state, level_out, level_look, in_lengths}
 use Rattle.sync_meaning.proofs.Lists.{length-map}
 use Rattle.sync_meaning.proofs.Levels.{state_at}
-use Rattle.sync_meaning.proofs.Among.{eqb_cases, among_end, among_other}
-use Rattle.sync_meaning.proofs.Index.{slice_get-at, node_at, length-nodes_of, fits_count, fits_at, fits_in, outs_at}
+use Rattle.level_order.proofs.Among.{eqb_cases, among_end, among_other}
+use Rattle.sync_meaning.proofs.Index.{fits_count, fits_at, fits_in, outs_at}
 
 -- what is kept next, with all that is asked for there
 same_next_by : (K : Kind) (done : ℕ → Bool) (f g : Source → Vector) → Agree done f g → (gs : List Guard) (ss : List Source) (next : Values → State) (st : State)

@@ -17,13 +17,15 @@ use Rattle.algo_tree.specs.declared.vertex.Kind.TheVariants.{Switch}
 use Rattle.sync_meaning.specs.declared.store.Store.{Store, out-Store, roll-Store}
 use Rattle.sync_meaning.specs.declared.store.Store.TheOpen.{Store-F}
 use Rattle.sync_meaning.specs.Store.{Fits, FitsKind, AllFit, CopiesFit, state_of, state_in, lengths}
-use Rattle.sync_meaning.specs.Sound.{IsSound, AreSound, SensorsFit, nodes_of}
+use Rattle.level_order.specs.Order.{nodes_of}
+use Rattle.level_order.proofs.Nodes.{nodes_view, node_at, length-nodes_of, slice_get-at}
+use Rattle.sync_meaning.specs.Sound.{IsSound, AreSound, SensorsFit}
 use Rattle.sync_meaning.specs.Run.{Reacts, CaseReacts, selected_at, level_state, in_lengths}
 use Rattle.sync_meaning.proofs.Lists.{length-map}
 use Rattle.sync_meaning.proofs.Stores.{view_out, state_out, state-roll, fits-roll}
 use Rattle.sync_meaning.proofs.Levels.{state_at, state_set}
-use Rattle.sync_meaning.proofs.Among.{eqb_cases}
-use Rattle.sync_meaning.proofs.Index.{nodes_view, node_at, length-nodes_of, slice_get-at, fits_count, fits_at, fits_in, outs_at, length-outs_of}
+use Rattle.level_order.proofs.Among.{eqb_cases}
+use Rattle.sync_meaning.proofs.Index.{fits_count, fits_at, fits_in, outs_at, length-outs_of}
 use Rattle.sync_meaning.proofs.Steps.{node_part, some_slice}
 
 pub give_at : (outs : List ℕ) (os : List (List ℕ)) (r : ℕ) → AllGive outs os → r < length os → get_or os r [] ≡ outs

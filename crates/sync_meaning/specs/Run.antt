@@ -10,8 +10,8 @@ use Rattle.algo_tree.specs.Typed.{label_of, source_length, fed_length}
 use Rattle.algo_tree.specs.View.{view, vertices_view}
 use Rattle.algo_tree.specs.declared.vertex.Vertex.{Vertex as Declared}
 use Rattle.sync_meaning.specs.declared.store.Store.{Store, out-Store}
-use Rattle.sync_meaning.specs.Store.{Fits, AllFit, state_of, state_in, copy_state, lengths, is_among}
-use Rattle.sync_meaning.specs.Sound.{nodes_of}
+use Rattle.level_order.specs.Order.{is_among, nodes_of}
+use Rattle.sync_meaning.specs.Store.{Fits, AllFit, state_of, state_in, copy_state, lengths}
 
 -- the sensors' vectors of a reaction
 abbrev pub row_of : Reactions → ℕ → Values

@@ -1,12 +1,8 @@
 -- What a reaction of a vertex asks of it.
-use Rattle.std.specs.Prelude.{◌≡◌, ℕ, ◌<◌, Bool, false, List, [], ◌∷◌, map, length, slice_index_or}
-use Rattle.level_meaning.specs.Level.{Node}
+use Rattle.std.specs.Prelude.{◌≡◌, ℕ, ◌<◌, List, [], ◌∷◌, length, slice_index_or}
 use Rattle.algo_tree.specs.Tree.{Kind, sensor, Vertex, vertex, Vertices, no_vertices, and_vertex}
-use Rattle.algo_tree.specs.Meaning.{node}
 use Rattle.algo_tree.specs.Well.{IsWell, AllWell}
 use Rattle.algo_tree.specs.Typed.{IsTyped, AllTyped}
-use Rattle.algo_tree.specs.View.{view}
-use Rattle.algo_tree.specs.declared.vertex.Vertex.{Vertex as Declared}
 use Rattle.algo_tree.specs.declared.vertex.Kind as declared
 use Rattle.algo_tree.specs.declared.vertex.Kind.TheVariants.{Graph, Switch, Repeat}
 
@@ -35,17 +31,9 @@ pub record AreSound (sensors own : List ℕ) (outs : List (List ℕ)) (us : Vert
   pub typed : AllTyped own outs us
   pub sensors_fit : AllSensorsFit sensors us
 
--- the level of several declared vertices
-abbrev pub nodes_of : List Declared → List Node
-nodes_of us = map node (map view us)
-
 -- a vertex with nothing inside
 abbrev pub IsAlone : declared.Kind → Type 0
 IsAlone (Graph sources) = ⊥
 IsAlone (Switch values names) = ⊥
 IsAlone (Repeat n feeds gives) = ⊥
 IsAlone _ = Unit {0}
-
--- whether node r is done, by flags
-abbrev pub is_done : List Bool → ℕ → Bool
-is_done done r = slice_index_or done r false

@@ -1,9 +1,9 @@
 -- What a store beside a vertex stands for, and when it fits the vertex.
-use Rattle.std.specs.Prelude.{◌≡◌, ℕ, ◌<◌, List, [], ◌∷◌, ◌==◌, ◌||◌, length, map, take, replicate, Bool, true, false, if◌then◌else◌, Option, Some, None, slice_get, slice_index_or}
+use Rattle.std.specs.Prelude.{◌≡◌, ℕ, List, [], ◌∷◌, length, map, replicate, if◌then◌else◌, Option, Some, None, slice_get, slice_index_or}
 use Rattle.level_meaning.specs.declared.part.Part.{Part}
 use Rattle.level_meaning.specs.declared.part.Part.TheVariants.{Named, Numbered, Port}
-use Rattle.level_meaning.specs.Level.{Vector, State, Node, same_part, with_node}
-use Rattle.level_meaning.specs.Order.{is_ready}
+use Rattle.level_meaning.specs.Level.{Vector, State, same_part}
+use Rattle.level_order.specs.Order.{IsOrder}
 use Rattle.algo_tree.specs.Tree.{Kind, delay, graph, switch, repeat, Vertex, vertex, Vertices, no_vertices, and_vertex}
 use Rattle.algo_tree.specs.Meaning.{nodes}
 use Rattle.algo_tree.specs.Typed.{label_of, outs_of, source_length, fed_length}
@@ -45,20 +45,6 @@ abbrev mutual
   pub state_of_copies : Vertices → List Store → Part → State
   state_of_copies no_vertices ks p q = []
   state_of_copies (and_vertex u us) ks p q = copy_state (λ k. state_of u k q) ks p
-
-abbrev pub is_among : List ℕ → ℕ → Bool
-is_among [] r = false
-is_among (x ∷ xs) r = (x == r) || is_among xs r
-
--- node r has not run yet, and all that it asks for has
-pub record MayRun (cs : List Node) (before : List ℕ) (r : ℕ) : Type 0 where
-  pub is_new : is_among before r ≡ false
-  pub ready : with_node (slice_get cs r) false (is_ready (is_among before)) ≡ true
-
--- an order in which each node of a level runs once, after all that it asks for
-pub record IsOrder (cs : List Node) (order : List ℕ) : Type 0 where
-  pub each : (i : ℕ) → i < length order → MayRun cs (take i order) (slice_index_or order i 0)
-  pub all : (r : ℕ) → r < length cs → is_among order r ≡ true
 
 abbrev pub lengths : List Vector → List ℕ
 lengths vs = map length vs

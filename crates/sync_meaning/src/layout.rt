@@ -10,11 +10,11 @@ ghost use Rattle.sync_meaning.specs.declared.store.Store.{Store};
 ghost use Rattle.sync_meaning.specs.First.{IsFirst, AreFirst, AreCopies};
 
 use crate::lengths::length_of;
-use crate::order::find_order;
 use crate::store::Store;
 use algo_tree::{Kind, Vertex};
 use body_lang::Ins;
 use level_meaning::{Feed, Source};
+use level_order::find_order;
 use std::alloc::Global;
 use syn_base::OutOfMemory;
 

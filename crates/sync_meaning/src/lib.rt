@@ -1,11 +1,13 @@
 //! The simulator: the synchronous meaning of an algorithm, reaction by reaction.
+//!
+//! `simulate` lays out all values of a tree once, with an order for each level (`level_order`), and
+//! writes them over in each reaction. `syndex_program` calls it for `sim`.
 #![tactic(auto)]
 
 mod frontier;
 mod layout;
 mod leaf;
 mod lengths;
-mod order;
 mod react;
 mod simulator;
 mod store;

@@ -7,8 +7,9 @@ ghost use Rattle.algo_tree.specs.declared.vertex.Vertex.{out-Vertex};
 ghost use Rattle.algo_tree.specs.View.{view, vertices_view};
 ghost use Rattle.algo_tree.specs.Typed.{outs_of, label_of, source_length, AreLengths, AreGuardsTyped, IsTyped, AllTyped, AllGive, AllFed, fed_length};
 ghost use Rattle.sync_meaning.specs.declared.store.Store.{out-Store};
-ghost use Rattle.sync_meaning.specs.Store.{Fits, AllFit, IsOrder, lengths};
-ghost use Rattle.sync_meaning.specs.Sound.{IsSound, AreSound, nodes_of, IsAlone};
+ghost use Rattle.level_order.specs.Order.{IsOrder, nodes_of};
+ghost use Rattle.sync_meaning.specs.Store.{Fits, AllFit, lengths};
+ghost use Rattle.sync_meaning.specs.Sound.{IsSound, AreSound, IsAlone};
 ghost use Rattle.sync_meaning.specs.Run.{Reacts, NodeReacts, RunsAt, LevelReacts, CaseReacts, Advances, AllAdvance, CopiesReact, CopiesAllFit, row_of, given, in_lengths, selected_at};
 
 use crate::frontier::{feed, write_gives};

@@ -1,10 +1,11 @@
 //! The synchronous meaning of an algorithm, reaction by reaction.
-ghost use Rattle.std.specs.Prelude.{◌≡◌, ◌<◌, ◌++◌, [], length, map, IfOk, OnOk};
+ghost use Rattle.std.specs.Prelude.{◌≡◌, ◌<◌, ◌++◌, [], length, map, IfOk, OnOk, IsErr};
 ghost use Rattle.level_meaning.specs.Level.{source_value, all_joined};
 ghost use Rattle.algo_tree.specs.View.{view, vertices_view};
 ghost use Rattle.algo_tree.specs.Meaning.{actuator_values, input_value};
 ghost use Rattle.algo_tree.specs.Typed.{label_of, source_length, AreLengths, AllTyped};
 ghost use Rattle.algo_tree.specs.Ends.{sensor_lengths};
+ghost use Rattle.algo_tree.specs.Size.{vertices_made};
 ghost use Rattle.algo_tree.specs.Valid.{HasNoPorts};
 ghost use Rattle.sync_meaning.specs.Store.{Fits, lengths};
 ghost use Rattle.sync_meaning.specs.Sound.{IsSound};
@@ -15,7 +16,7 @@ use crate::layout::new_store;
 use crate::react::run_level;
 use crate::store::Store;
 use crate::values::value_of;
-use algo_tree::{Kind, Tree, Vertex};
+use algo_tree::{Kind, MOST_VERTICES, Tree, Vertex, count_vertices};
 use body_lang::Ins;
 use level_meaning::Source;
 use std::alloc::Global;
@@ -78,8 +79,23 @@ fn actuator_row(
 }
 
 /// What the actuators take in each reaction, over these rows of the sensors. The rows have the
-/// lengths of the tree's sensors. After the first reaction it takes memory for the answer alone.
+/// lengths of the tree's sensors. A tree of more vertices than `MOST_VERTICES`, each copy of a body
+/// counted, is answered by `OutOfMemory` before anything is laid out. What is laid out is in
+/// proportion to these vertices and their edges, each reaction takes time for each vertex that is
+/// active, and after the first one it takes memory for the answer alone.
 pub fn simulate(alloc: Global, tree: &Tree, rows: &SensorRows) -> Result<ActRows, OutOfMemory>
+    requires { rows.now.lens ≡ sensor_lengths tree.now }
+    ensures taken { IfOk result (λ taken. taken ≡ simulated tree.now rows.now) }
+    ensures large { MOST_VERTICES < vertices_made tree.now → IsErr result }
+{
+    if count_vertices(tree.main()) > MOST_VERTICES {
+        return Err(OutOfMemory);
+    }
+    react_to_all(alloc, tree, rows)
+}
+
+/// What the actuators take in each reaction.
+fn react_to_all(alloc: Global, tree: &Tree, rows: &SensorRows) -> Result<ActRows, OutOfMemory>
     requires { rows.now.lens ≡ sensor_lengths tree.now }
     ensures { IfOk result (λ taken. taken ≡ simulated tree.now rows.now) }
 {

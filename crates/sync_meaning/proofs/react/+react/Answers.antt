@@ -11,7 +11,8 @@ use Rattle.sync_meaning.specs.Store.{Fits, AllFit, lengths}
 use Rattle.sync_meaning.specs.Sound.{IsSound, AreSound}
 use Rattle.sync_meaning.specs.Run.{row_of, given, in_lengths, selected_at, InRun, AllAdvance}
 use Rattle.sync_meaning.proofs.Nodes.{active, runs-other, runs_at, with_ins}
-use Rattle.sync_meaning.proofs.Index.{fits_count, fits_at, fits_in, guards_at, sound_at, outs_at, length-nodes_of, length-outs_of}
+use Rattle.level_order.proofs.Nodes.{length-nodes_of}
+use Rattle.sync_meaning.proofs.Index.{fits_count, fits_at, fits_in, guards_at, sound_at, outs_at, length-outs_of}
 use Rattle.sync_meaning.proofs.Steps.{run_none, level_reacts}
 use Rattle.sync_meaning.proofs.Graphs.{graph_sound, graph_level, graph_order, graph_table, graph_fit, reacts-graph}
 use Rattle.sync_meaning.proofs.Switches.{switch_sound, switch_conditioned, switch_gives, switch_count, switch_fit, reacts-switch, give_at}

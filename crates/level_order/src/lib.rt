@@ -1,0 +1,10 @@
+//! The order in which the vertices of a level run: each after all that its outputs ask for.
+//!
+//! `find_order` finds it. The simulator (`sync_meaning`) runs a level in this order, and
+//! `hierarchy` follows the edges of a level in it.
+#![tactic(auto)]
+
+mod order;
+mod proposal;
+
+pub use order::find_order;
