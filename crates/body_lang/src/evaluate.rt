@@ -1,5 +1,5 @@
 //! The value of an expression, and the outputs of a function.
-ghost use Rattle.std.specs.Prelude.{◌≡◌, ◌<◌, ◌↔◌, IsTrue, length, map, pos, slice_index_or, All};
+ghost use Rattle.std.specs.Prelude.{◌≡◌, ◌<◌, ◌↔◌, IsTrue, IfSome, length, map, pos, slice_index_or, All};
 ghost use Rattle.syn_base.specs.Arithmetic.{wrapped};
 ghost use Rattle.body_lang.specs.Expr.{view, value_of, vector_at, element_at, total, PortsBelow};
 
@@ -16,14 +16,59 @@ pub fn value(e: &Expr, ins: &Ins, j: u32) -> i64
     match e {
         Expr::Lit(v) => *v,
         Expr::Index => i64::from(j),
-        Expr::Elem(port, at) => element(ins.vector(*port as usize), value(at, ins, j)),
+        Expr::Elem(port, at) => {
+            let at = match plain(at, ins, j) {
+                Some(at) => at,
+                None => value(at, ins, j),
+            };
+            element(ins.vector(*port as usize), at)
+        }
         Expr::SumOf(port) => sum(ins.vector(*port as usize)),
         Expr::Neg(a) => apply(Op::Neg, value(a, ins, j), 0),
-        Expr::Apply(op, a, b) => apply(*op, value(a, ins, j), value(b, ins, j)),
+        Expr::Apply(op, a, b) => {
+            let left = match simple(a, ins, j) {
+                Some(left) => left,
+                None => value(a, ins, j),
+            };
+            let right = match simple(b, ins, j) {
+                Some(right) => right,
+                None => value(b, ins, j),
+            };
+            apply(*op, left, right)
+        }
         Expr::Select(condition, a, b) => {
             let chosen = if value(condition, ins, j) == 0 { b } else { a };
             value(chosen, ins, j)
         }
+    }
+}
+
+/// The value of a number and of `j`: half of what stands in most expressions, and no call is made
+/// for it. The vectors are those that the clause speaks of.
+#[inline(always)]
+fn plain(e: &Expr, ins: &Ins, j: u32) -> Option<i64>
+    ensures { IfSome result (λ x. x ≡ value_of (view e.now) ins.now j) }
+{
+    let _clause = ins;
+    match e {
+        Expr::Lit(v) => Some(*v),
+        Expr::Index => Some(i64::from(j)),
+        _ => None,
+    }
+}
+
+/// The value of a number, of `j`, and of an element at such a place.
+#[inline(always)]
+fn simple(e: &Expr, ins: &Ins, j: u32) -> Option<i64>
+    requires { PortsBelow (length ins.now) (view e.now) }
+    ensures { IfSome result (λ x. x ≡ value_of (view e.now) ins.now j) }
+{
+    match e {
+        Expr::Elem(port, at) => match plain(at, ins, j) {
+            Some(at) => Some(element(ins.vector(*port as usize), at)),
+            None => None,
+        },
+        _ => plain(e, ins, j),
     }
 }
 

@@ -3,14 +3,15 @@ ghost use Rattle.std.specs.Prelude.{◌≡◌, ◌+◌, ◌<◌, ◌≤◌, ◌+
 ghost use Rattle.syn_base.specs.Rows.{with_value};
 ghost use Rattle.body_lang.specs.Expr.{vector_at, zeros};
 
+use crate::layout::Layout;
 use std::alloc::{AllocError, Global};
 use std::marker::Model;
-use syn_base::{OutOfMemory, Shape};
+use syn_base::OutOfMemory;
 
 /// A vector for each port, of lengths that do not change. Contracts see the list of the vectors.
 #[derive(Drop)]
 pub struct Ins {
-    shape: Shape,
+    shape: Layout,
     elements: Vec<i64>,
 }
 
@@ -31,7 +32,7 @@ impl Ins {
     pub fn new(alloc: Global, lens: &[u32]) -> Result<Ins, OutOfMemory>
         ensures { IfOk result (λ s. s ≡ map zeros lens.now) }
     {
-        let shape = Shape::new(alloc, lens)?;
+        let shape = Layout::new(alloc, lens)?;
         let elements = all_zeros(alloc, shape.width())?;
         Ok(Ins { shape, elements })
     }
@@ -40,7 +41,7 @@ impl Ins {
     pub fn count(&self) -> usize
         ensures { result ≡ length self.now }
     {
-        self.shape.lens().len()
+        self.shape.count()
     }
 
     /// The vector of a port.

@@ -9,6 +9,7 @@ mod body;
 mod evaluate;
 mod expression;
 mod inputs;
+mod layout;
 #[cfg(test)]
 mod tests;
 
