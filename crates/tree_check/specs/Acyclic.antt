@@ -8,7 +8,7 @@ use Rattle.level_meaning.specs.Order.{is_ready}
 abbrev pub one_more : List Bool → List Node → List Bool
 one_more flags cs = map (is_ready (λ q. slice_index_or flags q false)) cs
 
--- the flags after so many rounds, none set at the start
+-- the flags after that many rounds, none set at the start
 abbrev pub flags_after : List Node → ℕ → List Bool
 flags_after cs zero = []
 flags_after cs (suc k) = one_more (flags_after cs k) cs
