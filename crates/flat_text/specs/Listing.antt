@@ -31,14 +31,14 @@ abbrev pub guard_text : Guard → Bytes
 guard_text g = source_text g.source ++ (codes "?" ++ decimal g.case)
 
 -- a comma before each
-abbrev pub each_behind : List Bytes → Bytes
-each_behind [] = []
-each_behind (w ∷ ws) = (codes "," ++ w) ++ each_behind ws
+abbrev pub each_after_comma : List Bytes → Bytes
+each_after_comma [] = []
+each_after_comma (w ∷ ws) = (codes "," ++ w) ++ each_after_comma ws
 
 -- joined by commas, and `-` for none
 abbrev pub listed : List Bytes → Bytes
 listed [] = codes "-"
-listed (w ∷ ws) = w ++ each_behind ws
+listed (w ∷ ws) = w ++ each_after_comma ws
 
 -- number, name, kind and definition
 abbrev pub vertex_head : ℕ → Vertex → Bytes

@@ -1,7 +1,7 @@
 //! Lists in a line, joined by commas.
 ghost use Rattle.std.specs.Prelude.{◌≡◌, ◌++◌, ℕ, List, OnOk, map};
 ghost use Rattle.std.specs.Fmt.{decimal};
-ghost use Rattle.flat_text.specs.Listing.{each_behind, guard_text, listed, source_text};
+ghost use Rattle.flat_text.specs.Listing.{each_after_comma, guard_text, listed, source_text};
 
 use flat_graph::{Guard, Source};
 use grown_text::{append, append_count};
@@ -53,14 +53,14 @@ pub fn append_list<T: Entry>(out: &mut Vec<u8>, entries: &[T]) -> Result<(), Out
         None => append(out, b"-"),
         Some((first, others)) => {
             first.append_to(out)?;
-            append_each_behind(out, others)
+            append_each_after_comma(out, others)
         }
     }
 }
 
-/// Appends each entry behind a comma.
-fn append_each_behind<T: Entry>(out: &mut Vec<u8>, entries: &[T]) -> Result<(), OutOfMemory>
-    ensures { OnOk result (out.new.items ≡ out.old.items ++ each_behind (map T.shown entries.now)) }
+/// Appends each entry after a comma.
+fn append_each_after_comma<T: Entry>(out: &mut Vec<u8>, entries: &[T]) -> Result<(), OutOfMemory>
+    ensures { OnOk result (out.new.items ≡ out.old.items ++ each_after_comma (map T.shown entries.now)) }
 {
     for entry in entries {
         append(out, b",")?;

@@ -1,23 +1,26 @@
-//! Texts that grow at their end.
+//! Texts that grow at their end: bytes and counts are appended, and after want of memory a text is
+//! as it was before the call. `act_text` and `flat_text` write their lines with it.
 #![tactic(auto)]
 
-ghost use Rattle.std.specs.Prelude.{◌≡◌, ◌++◌, OnOk};
+ghost use Rattle.std.specs.Prelude.{◌≡◌, ◌++◌, OnOk, OnErr};
 ghost use Rattle.std.specs.Fmt.{decimal};
 
 use itoa::Buffer;
 use syn_base::OutOfMemory;
 
-/// Appends bytes.
+/// Appends bytes. After want of memory the text is as before.
 pub fn append(out: &mut Vec<u8>, bytes: &[u8]) -> Result<(), OutOfMemory>
-    ensures { OnOk result (out.new.items ≡ out.old.items ++ bytes.now) }
+    ensures text { OnOk result (out.new.items ≡ out.old.items ++ bytes.now) }
+    ensures err { OnErr result (out.new.items ≡ out.old.items) }
 {
     out.extend_from_slice(bytes)?;
     Ok(())
 }
 
-/// Appends the decimal of a count.
+/// Appends the decimal of a count. After want of memory the text is as before.
 pub fn append_count(out: &mut Vec<u8>, count: usize) -> Result<(), OutOfMemory>
-    ensures { OnOk result (out.new.items ≡ out.old.items ++ decimal count) }
+    ensures text { OnOk result (out.new.items ≡ out.old.items ++ decimal count) }
+    ensures err { OnErr result (out.new.items ≡ out.old.items) }
 {
     let mut buffer = Buffer::new();
     append(out, buffer.format(count).as_bytes())
