@@ -1,4 +1,6 @@
 //! The text of what the actuators take.
+//!
+//! `acts_text` has a line for each reaction and actuator; `syndex_program` writes it for `sim`.
 #![tactic(auto)]
 
 mod names;
