@@ -1,18 +1,29 @@
 #!/usr/bin/env python3
-"""Times `syndex sim` over growing sensor tables of the largest simple algorithm that the bound on the
-output allows, and prints the ratios of the times, so that the growth shows on a noisy machine."""
+"""Times `syndex sim` beside a plain program (`bench/plain/sim.c`, built here by `cc -O2`) that does the same, and prints the
+ratios of the times, so that they show on a noisy machine:
+
+- 2,048 operations, a chain of functions in graphs, over 10,000 reactions, with references declared in the order of the
+  chain and in reverse;
+- 64 functions of 64 elements each over 10,000 reactions;
+- growing sensor tables of the largest simple algorithm that the bound on the output allows, where each line also has its
+  ratio to the line before.
+
+Times are those of the processor, the least of several runs."""
 import os
+import resource
 import subprocess
 import tempfile
-import time
+
+from flat import algorithm as chain
 
 TOP = os.path.dirname(os.path.dirname(os.path.abspath(__file__)))
 PROGRAM = os.path.join(TOP, "syndex")
-REFERENCES, LENGTH, RUNS = 3, 64, 5
+RUNS, LENGTH, REFERENCES = 5, 64, 3
 REACTIONS = [100, 1_000, 10_000]
 
 
-def algorithm():
+def wires():
+    """Sensors that are joined to actuators."""
     lines = ["algorithm 1", f"sensor Sense {LENGTH}", f"actuator Act {LENGTH}", "graph main"]
     lines += [f"ref s{i} Sense" for i in range(REFERENCES)]
     lines += [f"ref a{i} Act" for i in range(REFERENCES)]
@@ -20,37 +31,67 @@ def algorithm():
     return "\n".join(lines + ["end", ""])
 
 
-def table(reactions):
-    header = ["k"] + [f"s{i}.{j}" for i in range(REFERENCES) for j in range(LENGTH)]
-    width = REFERENCES * LENGTH
-    rows = ([str(k)] + [str((k * 7 + j * 13) % 199 - 99) for j in range(width)] for k in range(reactions))
-    return "\n".join(",".join(row) for row in [header, *rows]) + "\n"
+def vectors():
+    """A chain of functions over vectors of 64 elements, and the first element of the last."""
+    lines = ["algorithm 1", "sensor S 1", "actuator A 1"]
+    lines += ["function Spread", "in x 1", f"out y {LENGTH} = add(x[0],j)", "end"]
+    lines += ["function Mix", f"in x {LENGTH}", f"out y {LENGTH} = sub(mul(3,x[j]),x[sub(63,j)])", "end"]
+    lines += ["function First", f"in x {LENGTH}", "out y 1 = x[0]", "end"]
+    lines += ["graph main", "ref s S", "ref f Spread", "ref l First", "ref a A"]
+    lines += [f"ref m{i} Mix" for i in range(60)]
+    lines += ["edge s.o f.x", "edge f.y m0.x"] + [f"edge m{i}.y m{i + 1}.x" for i in range(59)]
+    return "\n".join(lines + ["edge m59.y l.x", "edge l.y a.i", "end", ""])
+
+
+def table(names, reactions):
+    rows = ([str(k)] + [str((k * 7 + j * 13) % 199 - 99) for j in range(len(names))] for k in range(reactions))
+    return "\n".join(",".join(row) for row in [["k", *names], *rows]) + "\n"
 
 
 def seconds(words):
-    best = None
+    """The least processor time of several runs, and what they wrote."""
+    best, said = None, None
     for _ in range(RUNS):
-        start = time.perf_counter()
-        subprocess.run(words, check=True, stdout=subprocess.DEVNULL)
-        took = time.perf_counter() - start
+        before = resource.getrusage(resource.RUSAGE_CHILDREN)
+        said = subprocess.run(words, check=True, stdout=subprocess.PIPE).stdout
+        after = resource.getrusage(resource.RUSAGE_CHILDREN)
+        took = after.ru_utime - before.ru_utime + after.ru_stime - before.ru_stime
         best = took if best is None else min(best, took)
-    return best
+    return best, said
+
+
+def written(room, name, text):
+    file = os.path.join(room, name)
+    with open(file, "w", encoding="ascii") as it:
+        it.write(text)
+    return file
+
+
+def told(what, plain, files, before=None):
+    took, said = seconds([PROGRAM, "sim", *files])
+    other, same = seconds([plain, *files])
+    assert said == same, "the plain program says something else"
+    ratio = "" if before is None else f", {took / before:.2f} times the line before"
+    print(f"{what}: {took:.3f} s, {took / other:.2f} times the plain program's {other:.3f} s{ratio}")
+    return took
 
 
 def main():
     with tempfile.TemporaryDirectory() as room:
-        text = os.path.join(room, "algorithm.txt")
-        with open(text, "w", encoding="ascii") as it:
-            it.write(algorithm())
-        before = None
+        plain = os.path.join(room, "plain")
+        subprocess.run(["cc", "-O2", "-o", plain, os.path.join(TOP, "bench", "plain", "sim.c")], check=True)
+        rows = written(room, "one.csv", table(["s.0"], REACTIONS[-1]))
+        for backwards in [False, True]:
+            text = written(room, "chain.txt", chain(2_048, backwards))
+            order = "in reverse" if backwards else "in order"
+            told(f"2,048 operations {order}, {REACTIONS[-1]} reactions", plain, [text, rows])
+        text = written(room, "vectors.txt", vectors())
+        told(f"62 functions of {LENGTH} elements, {REACTIONS[-1]} reactions", plain, [text, rows])
+        text = written(room, "wires.txt", wires())
+        names, before = [f"s{i}.{j}" for i in range(REFERENCES) for j in range(LENGTH)], None
         for reactions in REACTIONS:
-            rows = os.path.join(room, f"{reactions}.csv")
-            with open(rows, "w", encoding="ascii") as it:
-                it.write(table(reactions))
-            took = seconds([PROGRAM, "sim", text, rows])
-            ratio = "" if before is None else f", {took / before:.2f} times the line before"
-            print(f"{reactions} reactions: {took:.3f} s{ratio}")
-            before = took
+            rows = written(room, "wide.csv", table(names, reactions))
+            before = told(f"{REFERENCES * LENGTH} elements through, {reactions} reactions", plain, [text, rows], before)
 
 
 if __name__ == "__main__":
