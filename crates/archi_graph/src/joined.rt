@@ -1,7 +1,7 @@
 //! Which operators hops over the media join.
 ghost use Rattle.std.specs.Prelude.{◌≡◌, ℕ, ◌<◌, ◌≤◌, ◌||◌, ◌&&◌, All, false, nat_eq, slice_index_or};
 ghost use Rattle.std.specs.List.{list_all, list_any};
-ghost use Rattle.archi_graph.specs.Archi.{are_joined, stands_at};
+ghost use Rattle.archi_graph.specs.Archi.{are_joined, reached_within, stands_at};
 ghost use Rattle.archi_graph.specs.Routes.{AreOperators};
 
 use crate::medium::Medium;
@@ -15,12 +15,21 @@ pub fn are_joined(operators: usize, media: &[Medium]) -> bool
     requires known { AreOperators 16 media.now }
     ensures { result ≡ are_joined operators media.now }
 {
+    let reached = reached(operators, media);
+    are_all_set(&reached[..operators])
+}
+
+/// A flag for each of 16 operators: whether at most so many hops lead to it from operator 0.
+pub fn reached(hops: usize, media: &[Medium]) -> [bool; 16]
+    requires { AreOperators 16 media.now }
+    ensures { (o : ℕ) → o < 16 → slice_index_or result o false ≡ reached_within media.now hops o }
+{
     let mut reached: Flags = [false; 16];
     reached[0] = true;
-    for _hops in 0..operators {
+    for _hops in 0..hops {
         reached = one_hop_further(&reached, media);
     }
-    are_all_set(&reached[..operators])
+    reached
 }
 
 fn are_all_set(flags: &[bool]) -> bool

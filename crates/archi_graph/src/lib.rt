@@ -12,6 +12,7 @@ mod sequences;
 mod valid;
 
 pub use archi::Archi;
+pub use joined::reached;
 pub use laws::routes_are_found;
 pub use medium::{Hop, Medium, Seq};
 pub use valid::is_archi;

@@ -5,7 +5,7 @@ ghost use Rattle.algo_tree.specs.Counted.{operations};
 ghost use Rattle.algo_tree.specs.View.{view, vertices_view};
 ghost use Rattle.path_text.specs.Named.{HasNames};
 ghost use Rattle.pass_laws.specs.SameMeaning.{KeepsMeaning};
-ghost use Rattle.factorisation_laws.specs.NoRepeat.{HasNoRepeat};
+ghost use Rattle.pass_laws.specs.NoRepeat.{HasNoRepeat};
 ghost use Rattle.conditioning_laws.specs.Guarded.{guard as guarded_tree, guarded};
 ghost use Rattle.conditioning_laws.specs.NoCase.{HasNoCase};
 ghost use Rattle.conditioning.specs.Listed.{cases_listed};

@@ -19,7 +19,7 @@ use Rattle.conditioning_laws.specs.Guarded.{guard_for, merge_of, merges, merge_s
 use Rattle.level_meaning.proofs.Fuel.{unique}
 use Rattle.level_meaning.proofs.InOrder.{acyclic-in_order}
 use Rattle.pass_laws.proofs.Segments.{OrderFrom, in_order-from, order-append, before_below}
-use Rattle.factorisation_laws.proofs.Unrolled.{append_left, append_right, map_below, at_below, mapped, map_map, none_past}
+use Rattle.pass_laws.proofs.Lists.{append_left, append_right, map_below, at_below, mapped, map_map, none_past}
 use Rattle.conditioning_laws.proofs.Parts.{same_itself, same_means}
 use Rattle.conditioning_laws.proofs.Guards.{Follows, Under, hold-append, AllStill, at_found, still_found, graph-still}
 

@@ -14,9 +14,9 @@ use Rattle.algo_tree.specs.Well.{IsEmpty, IsKindWell, IsWell, AllWell, IsOwn, Ar
 use Rattle.algo_tree.specs.Valid.{IsTree}
 use Rattle.pass_laws.specs.SameMeaning.{KeepsMeaning}
 use Rattle.pass_laws.proofs.Segments.{asked_or}
-use Rattle.factorisation_laws.specs.NoRepeat.{IsNoRepeat, HasNoRepeat, AllNoRepeat}
-use Rattle.factorisation_laws.specs.Unrolled.{with_kind}
-use Rattle.factorisation_laws.proofs.Unrolled.{append_right}
+use Rattle.pass_laws.specs.NoRepeat.{IsNoRepeat, HasNoRepeat, AllNoRepeat}
+use Rattle.pass_laws.specs.Relabelled.{with_kind}
+use Rattle.pass_laws.proofs.Lists.{append_right}
 use Rattle.conditioning_laws.specs.Guarded.{shift, shift_guard, guard_sources, own_guards, guard_for, merges, merge_sources, switch_inside, operation_under, graph_under, guarded_by, guarded, guarded_all, guarded_cases, guard}
 use Rattle.conditioning_laws.proofs.Guards.{Follows, Under, AllUnder, hold-append, own-hold, graph-still, idle-still, first-same, graph_next-same, graph_outputs-same, level-follows}
 use Rattle.conditioning_laws.proofs.Cases.{IsFed, CasesUnder, cases_level, switch-idle, switch_outputs-same, switch_next-same, cases_level-acyclic, switch_first-same}

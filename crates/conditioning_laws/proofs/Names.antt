@@ -1,19 +1,20 @@
 -- Guarding makes vertices of names alone: where names stood, names stand.
 use Rattle.std.proofs.Common.{ℤ, ℕ, suc, List, [], ◌∷◌, ◌++◌, length, sym, subst}
 use Rattle.std.specs.Prelude.{IsTrue}
+use Rattle.syn_base.specs.Name.{is_name}
 use Rattle.level_meaning.specs.declared.source.Guard.{Guard}
 use Rattle.algo_tree.specs.Tree.{Label, Kind, sensor, actuator, constant, delay, function, explode, implode, merge, graph, switch, repeat, Vertex, vertex, Vertices, no_vertices, and_vertex}
 use Rattle.algo_tree.specs.Code.{count_of, join}
 use Rattle.algo_tree.specs.Valid.{IsTree}
-use Rattle.path_text.specs.Named.{is_word, AreNames, IsLabelNamed, IsNamed, AllNamed, HasNames}
-use Rattle.factorisation_laws.specs.Unrolled.{with_kind}
+use Rattle.path_text.specs.Named.{AreNames, IsLabelNamed, IsNamed, AllNamed, HasNames}
+use Rattle.pass_laws.specs.Relabelled.{with_kind}
 use Rattle.conditioning_laws.specs.Guarded.{own_guards, guard_for, merges, guarded_by, guarded, guarded_all, guarded_cases, guard}
 
 named-joined : (us vs : Vertices) → AllNamed us → AllNamed vs → AllNamed (join us vs)
 named-joined no_vertices vs h k = k
 named-joined (and_vertex u us) vs h k = (h.0, named-joined us vs h.1 k)
 
-named-merges : (d : List ℕ) (gs : List Guard) (m : ℕ) (values : List ℤ) (k : ℕ) (lens : List ℕ) (q : ℕ) (names : List (List ℕ)) → IsTrue (is_word d) → AreNames names → AllNamed (merges d gs m values k lens q names)
+named-merges : (d : List ℕ) (gs : List Guard) (m : ℕ) (values : List ℤ) (k : ℕ) (lens : List ℕ) (q : ℕ) (names : List (List ℕ)) → IsTrue (is_name d) → AreNames names → AllNamed (merges d gs m values k lens q names)
 named-merges d gs m values k lens q [] h each = tt
 named-merges d gs m values k lens q (x ∷ names) h each = ((record { part = each.0; definition = h; kind = tt }, tt), named-merges d gs m values k lens (suc q) names h each.1)
 

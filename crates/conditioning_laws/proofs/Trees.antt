@@ -5,7 +5,7 @@ use Rattle.algo_tree.specs.Meaning.{vertices_in}
 use Rattle.algo_tree.specs.Typed.{label_of, IsTyped}
 use Rattle.algo_tree.specs.Ends.{NoneInside, AreEndsNumbered}
 use Rattle.algo_tree.specs.Valid.{IsTree}
-use Rattle.factorisation_laws.specs.NoRepeat.{HasNoRepeat}
+use Rattle.pass_laws.specs.NoRepeat.{HasNoRepeat}
 use Rattle.conditioning_laws.specs.Guarded.{shift, graph_under, guarded_by, guarded_all, guarded_cases, guard}
 use Rattle.conditioning_laws.proofs.Wellness.{well-guarded}
 use Rattle.conditioning_laws.proofs.Typing.{lens_under, typed-guarded}

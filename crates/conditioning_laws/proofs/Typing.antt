@@ -10,29 +10,18 @@ use Rattle.algo_tree.specs.Tree.{Label, Kind, sensor, actuator, constant, delay,
 use Rattle.algo_tree.specs.Code.{count_of, join}
 use Rattle.algo_tree.specs.Well.{IsOwn, AreOwn, OwnGuards, AreCases, IsKindWell, IsWell, AllWell}
 use Rattle.algo_tree.specs.Typed.{IsLength, AreLengths, label_of, outs_of, source_length, AreGuardsTyped, AllGive, IsTyped, AllTyped}
-use Rattle.factorisation_laws.specs.NoRepeat.{IsNoRepeat, HasNoRepeat, AllNoRepeat}
-use Rattle.factorisation_laws.specs.Unrolled.{with_kind}
-use Rattle.factorisation_laws.proofs.Unrolled.{append_left, append_right, map_map, map_below, at_below, long_below}
+use Rattle.pass_laws.specs.NoRepeat.{IsNoRepeat, HasNoRepeat, AllNoRepeat}
+use Rattle.pass_laws.specs.Relabelled.{with_kind}
+use Rattle.pass_laws.proofs.Lists.{append_left, append_right, map_map, map_below, at_below, long_below}
 use Rattle.conditioning_laws.specs.Guarded.{shift, shift_guard, guard_sources, own_guards, guard_for, merges, merge_sources, switch_inside, guarded_by, guarded, guarded_all, guarded_cases}
 use Rattle.conditioning_laws.proofs.Guard.{count-nodes}
+use Rattle.pass_laws.proofs.Lists.{same_below, lengths-replicate}
 
 -- a list of lengths as its elements
 each_of : (xs : List ℕ) (n : ℕ) → n ≡ length xs → xs ≡ map (λ q. get_or xs q 0) (numbers_below n)
 each_of xs n e =
     let f = λ (q : ℕ). get_or xs q 0 in
     same_number_lists xs (map f (numbers_below n)) (sym e ∙ sym (long_below n f)) (λ i lt. sym (at_below n f i 0 (omega (arith, e, lt))))
-
-lengths-replicate : (n len : ℕ) → IsLength len → AreLengths (replicate n len)
-lengths-replicate zero len h = tt
-lengths-replicate (suc n) len h = (h, lengths-replicate n len h)
-
-same_below : (n x : ℕ) → map (λ i. x) (numbers_below n) ≡ replicate n x
-same_below zero x = refl
-same_below (suc n) x = map-append (λ i. x) (numbers_below n) (n ∷ []) ∙ ap (λ xs. xs ++ x ∷ []) (same_below n x) ∙ one_more n
-  where
-    one_more : (m : ℕ) → replicate m x ++ x ∷ [] ≡ replicate (suc m) x
-    one_more zero = refl
-    one_more (suc m) = ap (λ xs. x ∷ xs) (one_more m)
 
 lengths-append : (xs ys : List ℕ) → AreLengths xs → AreLengths ys → AreLengths (xs ++ ys)
 lengths-append [] ys h k = k

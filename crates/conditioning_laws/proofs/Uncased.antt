@@ -3,7 +3,7 @@ use Rattle.std.proofs.Common.{ℤ, ℕ, suc, List, [], ◌∷◌, ◌++◌, leng
 use Rattle.level_meaning.specs.declared.source.Guard.{Guard}
 use Rattle.algo_tree.specs.Tree.{Label, Kind, sensor, actuator, constant, delay, function, explode, implode, merge, graph, switch, repeat, Vertex, vertex, Vertices, no_vertices, and_vertex}
 use Rattle.algo_tree.specs.Code.{count_of, join}
-use Rattle.factorisation_laws.specs.NoRepeat.{IsNoRepeat, HasNoRepeat, AllNoRepeat}
+use Rattle.pass_laws.specs.NoRepeat.{IsNoRepeat, HasNoRepeat, AllNoRepeat}
 use Rattle.conditioning_laws.specs.Guarded.{own_guards, guard_for, merges, guarded_by, guarded, guarded_all, guarded_cases}
 use Rattle.conditioning_laws.specs.NoCase.{HasNoCase, AllNoCase}
 

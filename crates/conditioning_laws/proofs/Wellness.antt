@@ -13,9 +13,9 @@ use Rattle.algo_tree.specs.Tree.{Label, Kind, sensor, actuator, constant, delay,
 use Rattle.algo_tree.specs.Code.{count_of, join}
 use Rattle.algo_tree.specs.Meaning.{asked_by, node, nodes}
 use Rattle.algo_tree.specs.Well.{IsNewName, AreDistinctNames, IsNumberedPart, AreNumbered, IsOwn, OwnGuards, AreCases, IsKindWell, IsWell, AllWell}
-use Rattle.factorisation_laws.specs.NoRepeat.{IsNoRepeat, HasNoRepeat, AllNoRepeat}
-use Rattle.factorisation_laws.specs.Unrolled.{with_kind}
-use Rattle.factorisation_laws.proofs.Wellness.{AllApart, distinct-append}
+use Rattle.pass_laws.specs.NoRepeat.{IsNoRepeat, HasNoRepeat, AllNoRepeat}
+use Rattle.pass_laws.specs.Relabelled.{with_kind}
+use Rattle.pass_laws.proofs.Parts.{AllApart, distinct-append}
 use Rattle.conditioning_laws.specs.Guarded.{shift, shift_guard, guard_sources, own_guards, guard_for, merges, merge_sources, switch_inside, operation_under, graph_under, guarded_by, guarded, guarded_all, guarded_cases}
 use Rattle.conditioning_laws.proofs.Guards.{AllUnder}
 use Rattle.conditioning_laws.proofs.Cases.{CasesUnder, cases_level-acyclic}

@@ -6,7 +6,7 @@ ghost use Rattle.algo_tree.specs.Valid.{IsTree};
 ghost use Rattle.algo_tree.specs.Counted.{operations};
 ghost use Rattle.path_text.specs.Named.{HasNames};
 ghost use Rattle.pass_laws.specs.SameMeaning.{KeepsMeaning};
-ghost use Rattle.factorisation_laws.specs.NoRepeat.{HasNoRepeat};
+ghost use Rattle.pass_laws.specs.NoRepeat.{HasNoRepeat};
 ghost use Rattle.conditioning_laws.specs.Guarded.{guard, guarded};
 ghost use Rattle.conditioning_laws.specs.NoCase.{HasNoCase};
 ghost use Rattle.conditioning_laws.specs.Carries.{Carries};

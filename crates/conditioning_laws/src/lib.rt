@@ -1,4 +1,5 @@
-//! What putting cases under guards makes of a tree, and that it keeps the meaning.
+//! What putting cases under guards makes of a tree (`Guarded.guard`), and that it keeps the meaning,
+//! validity and names. Each operation carries the guards around it. `conditioning` makes this tree.
 #![tactic(auto)]
 
 mod laws;

@@ -1,4 +1,5 @@
 -- The micro-steps of a program with what each does beside: where the element lies that it loads or stores, and what it does with the registers.
+-- They are a table of their own beside that of `MicroSteps`: the theory names an access of an element by its number among the accesses of one reaction, which the core has no use for, and forgets registers, which the core needs. That both have the same micro-steps is a law of `phase_laws`.
 use Rattle.std.specs.Prelude.{ℕ, ◌+◌, ◌-◌, ◌*◌, true, false, cond, nat_eq, nat_lt, List, [], ◌∷◌, ◌++◌, length, Option, Some, None, slice_get, take as take_list}
 use Rattle.std.specs.List.{count_by}
 use Rattle.interleavings.specs.Owners.{sum_below}

@@ -1,4 +1,3 @@
 pub mod Placing
-pub mod Capped
 pub mod Unrolling
 pub mod Sizes

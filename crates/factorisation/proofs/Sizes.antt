@@ -13,7 +13,7 @@ use Rattle.factorisation_laws.specs.Lines.{in_line_order}
 use Rattle.factorisation_laws.proofs.Lines.{many-lines}
 use Rattle.factorisation_laws.specs.Unrolled.{explodes, copy, implodes, begin, unrolled_inside, unrolled_at, unroll, unroll_all}
 use Rattle.factorisation_laws.proofs.Unroll.{IsRepeatable, can_unroll, repeatable-unrolled}
-use Rattle.factorisation.specs.Size.{size, size_all, made_by, vertices_made, vertices_made_in}
+use Rattle.algo_tree.specs.Size.{size, size_all, made_by, vertices_made, vertices_made_in}
 
 sized-append : (xs ys : List Vertex) → size_all (vertices_of (xs ++ ys)) ≡ size_all (vertices_of xs) + size_all (vertices_of ys)
 sized-append [] ys = omega arith

@@ -18,8 +18,9 @@ use Rattle.algo_tree.specs.declared.vertex.Kind as declared
 use Rattle.algo_tree.specs.declared.vertex.Kind.TheVariants.{Repeat}
 use Rattle.algo_tree.proofs.Views.{view_out}
 use Rattle.factorisation_laws.specs.Lines.{in_line_order}
-use Rattle.factorisation_laws.specs.Unrolled.{explodes, copy, copies, implodes, give_sources, unrolled_inside, with_kind, unrolled_at, unroll, unroll_all}
-use Rattle.factorisation.specs.Size.{made_by, vertices_made, vertices_made_in}
+use Rattle.pass_laws.specs.Relabelled.{with_kind}
+use Rattle.factorisation_laws.specs.Unrolled.{explodes, copy, copies, implodes, give_sources, unrolled_inside, unrolled_at, unroll, unroll_all}
+use Rattle.algo_tree.specs.Size.{made_by, vertices_made, vertices_made_in}
 
 abbrev pub inner_of : Declared → List Declared
 inner_of u = (out-Vertex u).inner.items
@@ -40,12 +41,12 @@ pub record IsBounded (u : Declared) (n : ℕ) (feeds : List Feed) (gives : List 
   pub some : 0 < n
   pub one : IsOne (vertices_view (inner_of u))
   pub well : AllWell (vertices_view (inner_of u))
-  pub forks : length (fork_names feeds) ≤ 20000
-  pub joins : length (join_names gives) ≤ 20000
-  pub bodies : vertices_made_in (vertices_view (inner_of u)) ≤ 20000
-  pub ends : length (fork_names feeds) + n ≤ 40000
+  pub forks : length (fork_names feeds) ≤ 262144
+  pub joins : length (join_names gives) ≤ 262144
+  pub bodies : vertices_made_in (vertices_view (inner_of u)) ≤ 262144
+  pub ends : length (fork_names feeds) + n ≤ 262144
 
-pub bounded : (u : Declared) (n : ℕ) (feeds : List Feed) (gives : List Give) → (out-Vertex u).kind ≡ Repeat n feeds gives → IsWell (view u) → vertices_made (view u) ≤ 20000 → IsBounded u n feeds gives
+pub bounded : (u : Declared) (n : ℕ) (feeds : List Feed) (gives : List Give) → (out-Vertex u).kind ≡ Repeat n feeds gives → IsWell (view u) → vertices_made (view u) ≤ 262144 → IsBounded u n feeds gives
 bounded u n feeds gives is well small =
     let m = vertices_made_in (vertices_view (inner_of u)) in
     let size : vertices_made (view u) ≡ suc (length (fork_names feeds) + n * m + length (join_names gives)) = made_out u ∙ ap (λ k. made_by (kind_view k) m) is in
@@ -71,7 +72,7 @@ made_more : (k : declared.Kind) (m : ℕ) → ((n : ℕ) (f : List Feed) (o : Li
 made_more (Repeat n feeds gives) m not = absurd (not n feeds gives refl)
 made_more _ m not = refl
 
-pub inner_bounded : (u : Declared) → ((n : ℕ) (f : List Feed) (o : List Give) → (out-Vertex u).kind ≡ Repeat n f o → ⊥) → vertices_made (view u) ≤ 20000 → vertices_made_in (vertices_view (inner_of u)) ≤ 20000
+pub inner_bounded : (u : Declared) → ((n : ℕ) (f : List Feed) (o : List Give) → (out-Vertex u).kind ≡ Repeat n f o → ⊥) → vertices_made (view u) ≤ 262144 → vertices_made_in (vertices_view (inner_of u)) ≤ 262144
 inner_bounded u not small = let size = made_out u ∙ made_more (out-Vertex u).kind (vertices_made_in (vertices_view (inner_of u))) not in omega (arith, size, small)
 
 pub inner_well : (u : Declared) → IsWell (view u) → AllWell (vertices_view (inner_of u))

@@ -6,7 +6,7 @@ ghost use Rattle.algo_tree.specs.Well.{fork_names, join_names};
 ghost use Rattle.factorisation_laws.specs.Unrolled.{made as vertex_made, explode_of, implode_of, explodes as exploded, implodes as imploded, copy_sources, give_sources as sources_given};
 
 use crate::lines::place_of;
-use algo_tree::{Kind, Vertex};
+use algo_tree::{Kind, MOST_VERTICES, Vertex};
 use level_meaning::{Feed, Give, Part, Source};
 use std::alloc::Global;
 use syn_base::{Items, OutOfMemory};
@@ -86,7 +86,7 @@ pub fn explodes(
 
 /// The number of fork lines: the number of the first copy.
 pub fn begin_of(feeds: &[Feed]) -> u32
-    requires { length (fork_names feeds.now) ≤ 20000 }
+    requires { length (fork_names feeds.now) ≤ MOST_VERTICES }
     ensures { result ≡ length (fork_names feeds.now) }
 {
     let mut count = 0;
@@ -101,7 +101,7 @@ pub fn begin_of(feeds: &[Feed]) -> u32
 /// The source of an iterated input of copy `i`: the outer input for copy 0, and the body's output for
 /// the copies behind it.
 fn iterated(copies: Copies, i: u32, input: u32, output: u32) -> Source
-    requires { copies.begin + i ≤ 40000 }
+    requires { copies.begin + i ≤ MOST_VERTICES }
     ensures { result ≡ (if i == 0 then Source.Own input else Source.Of (copies.begin + (i - 1)) output) }
 {
     if i == 0 {
@@ -119,8 +119,8 @@ pub fn copy_ins(
     feeds: &[Feed],
     lines: &[&Feed],
 ) -> Result<Vec<Source>, OutOfMemory>
-    requires few { length (fork_names (map (λ f. f.now) lines.now)) ≤ 20000 }
-    requires small { copies.begin + i ≤ 40000 }
+    requires few { length (fork_names (map (λ f. f.now) lines.now)) ≤ MOST_VERTICES }
+    requires small { copies.begin + i ≤ MOST_VERTICES }
     ensures { IfOk result (λ ins. ins.items ≡ copy_sources copies.begin i (map (λ f. f.now) lines.now) feeds.now) }
 {
     let mut all = Vec::new(alloc);
@@ -136,7 +136,7 @@ pub fn copy_ins(
 
 /// Output `output` of each of the copies, in order.
 fn outputs_of(alloc: Global, copies: Copies, output: u32) -> Result<Vec<Source>, OutOfMemory>
-    requires { copies.begin + copies.count ≤ 40000 }
+    requires { copies.begin + copies.count ≤ MOST_VERTICES }
     ensures { IfOk result (λ ins. ins.items ≡ map (λ i. Source.Of (copies.begin + i) output) (numbers_below copies.count)) }
 {
     let mut ins = Vec::new(alloc);
@@ -155,7 +155,7 @@ fn implode(
     output: u32,
     len: u32,
 ) -> Result<Vertex, OutOfMemory>
-    requires { copies.begin + copies.count ≤ 40000 }
+    requires { copies.begin + copies.count ≤ MOST_VERTICES }
     ensures { IfOk result (λ u. view u ≡ implode_of definition.now copies.begin copies.count name.now output len) }
 {
     let ins = outputs_of(alloc, copies, output)?;
@@ -178,7 +178,7 @@ pub fn add_implodes(
     gives: &[Give],
     all: &mut Vec<Vertex>,
 ) -> Result<(), OutOfMemory>
-    requires { copies.begin + copies.count ≤ 40000 }
+    requires { copies.begin + copies.count ≤ MOST_VERTICES }
     ensures { OnOk result (map view all.new.items ≡ map view all.old.items ++ imploded definition.now copies.begin copies.count outs.now 0 gives.now) }
 {
     let mut place = 0;
@@ -200,8 +200,8 @@ pub fn give_sources(
     gives: &[Give],
 ) -> Result<Vec<Source>, OutOfMemory>
     requires some { 0 < copies.count }
-    requires few { length (join_names gives.now) ≤ 20000 }
-    requires small { copies.begin + copies.count ≤ 40000 }
+    requires few { length (join_names gives.now) ≤ MOST_VERTICES }
+    requires small { copies.begin + copies.count ≤ MOST_VERTICES }
     ensures { IfOk result (λ sources. sources.items ≡ sources_given copies.begin copies.count 0 gives.now) }
 {
     let mut all = Vec::new(alloc);

@@ -9,39 +9,33 @@ ghost use Rattle.algo_tree.specs.View.{view, vertices_view};
 ghost use Rattle.algo_tree.specs.Well.{fork_names, join_names, IsOne, IsWell, AllWell};
 ghost use Rattle.path_text.specs.Named.{HasNames};
 ghost use Rattle.pass_laws.specs.SameMeaning.{KeepsMeaning};
-ghost use Rattle.factorisation_laws.specs.NoRepeat.{HasNoRepeat};
+ghost use Rattle.pass_laws.specs.NoRepeat.{HasNoRepeat};
 ghost use Rattle.factorisation_laws.specs.Lines.{in_line_order as ordered};
 ghost use Rattle.factorisation_laws.specs.Unrolled.{copies as copied, unroll as unrolled, unroll_all, unrolled_inside};
-ghost use Rattle.factorisation.specs.Size.{size, vertices_made, vertices_made_in};
+ghost use Rattle.algo_tree.specs.Size.{size, vertices_made, vertices_made_in};
 
 use crate::frontier::{Copies, add_implodes, begin_of, explodes};
 use crate::lines::in_line_order;
-use crate::size::count_made;
 use crate::vertices::{as_copy, as_graph, with_inside};
-use algo_tree::{Kind, Tree, Vertex};
+use algo_tree::{Kind, MOST_VERTICES, Tree, Vertex, count_vertices};
 use level_meaning::{Feed, Give};
 use std::alloc::Global;
 use syn_base::OutOfMemory;
 
-/// The most vertices of an unrolled tree. Those that hold one of 2,048 operations, each within at most
-/// eight, are fewer; so where definitions are nested to depth 8 a tree beyond this is made of copies
-/// without an operation.
-const MOST: u64 = 20_000;
-
 /// The tree without repetitions, of the same meaning: each is replaced by a graph of its copies, with
 /// an explode for each fork line before them and an implode for each join line behind them. Where
-/// the tree would have more than 20,000 vertices the answer is want of memory, before any of it is
-/// taken.
+/// the tree would have more than `MOST_VERTICES` vertices the answer is want of memory, before any of it
+/// is taken.
 pub fn unroll(alloc: Global, tree: &Tree) -> Result<Tree, OutOfMemory>
     ensures same { IfOk result (λ t. t ≡ unrolled tree.now) }
     ensures kept { IfOk result (λ t. KeepsMeaning tree.now t) }
     ensures flat { IfOk result (λ t. HasNoRepeat t) }
     ensures count { IfOk result (λ t. operations t ≡ operations tree.now) }
     ensures names { HasNames tree.now → IfOk result (λ t. HasNames t) }
-    ensures large { 20000 < size (unrolled tree.now) → IsErr result }
+    ensures large { MOST_VERTICES < size (unrolled tree.now) → IsErr result }
 {
     let main = tree.main();
-    if count_made(main) > MOST {
+    if count_vertices(main) > MOST_VERTICES {
         return Err(OutOfMemory);
     }
     Ok(Tree::new(unroll_vertex(alloc, main)?))
@@ -51,7 +45,7 @@ pub fn unroll(alloc: Global, tree: &Tree) -> Result<Tree, OutOfMemory>
 #[cycle(unroll)]
 fn unroll_vertex(alloc: Global, vertex: &Vertex) -> Result<Vertex, OutOfMemory>
     requires well { IsWell (view vertex.now) }
-    requires small { vertices_made (view vertex.now) ≤ 20000 }
+    requires small { vertices_made (view vertex.now) ≤ MOST_VERTICES }
     ensures { IfOk result (λ u. view u ≡ unrolled (view vertex.now)) }
 {
     match &vertex.kind {
@@ -69,7 +63,7 @@ fn unroll_vertex(alloc: Global, vertex: &Vertex) -> Result<Vertex, OutOfMemory>
 #[cycle(unroll)]
 fn unroll_each(alloc: Global, vertices: &Vec<Vertex>) -> Result<Vec<Vertex>, OutOfMemory>
     requires well { AllWell (vertices_view vertices.now.items) }
-    requires small { vertices_made_in (vertices_view vertices.now.items) ≤ 20000 }
+    requires small { vertices_made_in (vertices_view vertices.now.items) ≤ MOST_VERTICES }
     ensures { IfOk result (λ us. map view us.items ≡ map (λ v. unrolled (view v)) vertices.now.items) }
 {
     let mut all = Vec::new(alloc);
@@ -90,7 +84,7 @@ fn unroll_repeat(
 ) -> Result<Vertex, OutOfMemory>
     requires kind { (out-Vertex vertex.now).kind ≡ Kind.Repeat count feeds.now gives.now }
     requires well { IsWell (view vertex.now) }
-    requires small { vertices_made (view vertex.now) ≤ 20000 }
+    requires small { vertices_made (view vertex.now) ≤ MOST_VERTICES }
     ensures { IfOk result (λ u. view u ≡ unrolled (view vertex.now)) }
 {
     let copies = Copies {
@@ -113,7 +107,7 @@ fn unroll_inside(
     requires begin { copies.begin ≡ length (fork_names feeds.now) }
     requires kind { (out-Vertex vertex.now).kind ≡ Kind.Repeat copies.count feeds.now gives.now }
     requires well { IsWell (view vertex.now) }
-    requires small { vertices_made (view vertex.now) ≤ 20000 }
+    requires small { vertices_made (view vertex.now) ≤ MOST_VERTICES }
     ensures { IfOk result (λ us. map view us.items ≡ unrolled_inside (label_of (view vertex.now)).definition copies.count feeds.now gives.now (label_of (view vertex.now)).outs (unroll_all (vertices_in (view vertex.now)))) }
 {
     let definition = vertex.definition.as_slice();
@@ -144,9 +138,9 @@ fn add_copies(
     requires lines { map (λ f. f.now) lines.now ≡ ordered feeds.now }
     requires one { IsOne (vertices_view inner.now.items) }
     requires well { AllWell (vertices_view inner.now.items) }
-    requires few { length (fork_names feeds.now) ≤ 20000 }
-    requires bodies { vertices_made_in (vertices_view inner.now.items) ≤ 20000 }
-    requires small { copies.begin + copies.count ≤ 40000 }
+    requires few { length (fork_names feeds.now) ≤ MOST_VERTICES }
+    requires bodies { vertices_made_in (vertices_view inner.now.items) ≤ MOST_VERTICES }
+    requires small { copies.begin + copies.count ≤ MOST_VERTICES }
     ensures { OnOk result (map view all.new.items ≡ map view all.old.items ++ copied copies.begin feeds.now copies.count (unroll_all (vertices_view inner.now.items))) }
 {
     add_copies_of(alloc, &inner[0], copies, feeds, lines, all)
@@ -164,9 +158,9 @@ fn add_copies_of(
 ) -> Result<(), OutOfMemory>
     requires lines { map (λ f. f.now) lines.now ≡ ordered feeds.now }
     requires well { IsWell (view body.now) }
-    requires few { length (fork_names feeds.now) ≤ 20000 }
-    requires bodies { vertices_made (view body.now) ≤ 20000 }
-    requires small { copies.begin + copies.count ≤ 40000 }
+    requires few { length (fork_names feeds.now) ≤ MOST_VERTICES }
+    requires bodies { vertices_made (view body.now) ≤ MOST_VERTICES }
+    requires small { copies.begin + copies.count ≤ MOST_VERTICES }
     ensures { OnOk result (map view all.new.items ≡ map view all.old.items ++ copied copies.begin feeds.now copies.count (and_vertex (unrolled (view body.now)) no_vertices)) }
 {
     for i in 0..copies.count {

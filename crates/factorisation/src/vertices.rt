@@ -7,10 +7,11 @@ ghost use Rattle.algo_tree.specs.Typed.{label_of};
 ghost use Rattle.algo_tree.specs.View.{kind_view, label_view, view, vertices_view};
 ghost use Rattle.algo_tree.specs.Well.{fork_names, join_names};
 ghost use Rattle.factorisation_laws.specs.Lines.{in_line_order};
-ghost use Rattle.factorisation_laws.specs.Unrolled.{copy, give_sources as sources_given, with_kind};
+ghost use Rattle.pass_laws.specs.Relabelled.{with_kind};
+ghost use Rattle.factorisation_laws.specs.Unrolled.{copy, give_sources as sources_given};
 
 use crate::frontier::{Copies, copy_ins, give_sources};
-use algo_tree::{Kind, Vertex};
+use algo_tree::{Kind, MOST_VERTICES, Vertex};
 use level_meaning::{Feed, Give, Part};
 use std::alloc::Global;
 use syn_base::{Items, OutOfMemory};
@@ -62,8 +63,8 @@ pub fn as_graph(
     inner: Vec<Vertex>,
 ) -> Result<Vertex, OutOfMemory>
     requires some { 0 < copies.count }
-    requires few { length (join_names gives.now) ≤ 20000 }
-    requires small { copies.begin + copies.count ≤ 40000 }
+    requires few { length (join_names gives.now) ≤ MOST_VERTICES }
+    requires small { copies.begin + copies.count ≤ MOST_VERTICES }
     ensures { IfOk result (λ u. view u ≡ plain_vertex (with_kind (label_view (out-Vertex vertex.now)) (graph (sources_given copies.begin copies.count 0 gives.now))) (vertices_view inner.items)) }
 {
     let sources = give_sources(alloc, copies, gives)?;
@@ -80,8 +81,8 @@ pub fn as_copy(
     lines: &[&Feed],
 ) -> Result<Vertex, OutOfMemory>
     requires lines { map (λ f. f.now) lines.now ≡ in_line_order feeds.now }
-    requires few { length (fork_names feeds.now) ≤ 20000 }
-    requires small { copies.begin + i ≤ 40000 }
+    requires few { length (fork_names feeds.now) ≤ MOST_VERTICES }
+    requires small { copies.begin + i ≤ MOST_VERTICES }
     ensures { IfOk result (λ u. view u ≡ copy copies.begin feeds.now (label_of (view body)) (vertices_in (view body)) i) }
 {
     let ins = copy_ins(alloc, copies, i, feeds, lines)?;

@@ -2,7 +2,8 @@
 use Rattle.std.proofs.Common.{◌≡◌, ◌∷◌, refl, ap, ap₂}
 use Rattle.algo_tree.specs.Tree.{Label, Kind, sensor, actuator, constant, delay, function, explode, implode, merge, graph, switch, repeat, Vertex, vertex, Vertices, no_vertices, and_vertex}
 use Rattle.algo_tree.specs.Typed.{label_of, outs_of}
-use Rattle.factorisation_laws.specs.Unrolled.{give_sources, begin, with_kind, unrolled_at, unroll, unroll_all}
+use Rattle.pass_laws.specs.Relabelled.{with_kind}
+use Rattle.factorisation_laws.specs.Unrolled.{give_sources, begin, unrolled_at, unroll, unroll_all}
 
 abbrev pub unrolled_kind : Kind → Kind
 unrolled_kind (repeat n feeds gives) = graph (give_sources (begin feeds) n 0 gives)

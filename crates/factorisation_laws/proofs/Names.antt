@@ -1,6 +1,7 @@
 -- Unrolling makes vertices of names alone: where names stood, names stand.
 use Rattle.std.proofs.Common.{◌≡◌, ℕ, suc, List, [], ◌∷◌, ◌++◌, map, sym, subst}
 use Rattle.std.specs.Prelude.{IsTrue}
+use Rattle.syn_base.specs.Name.{is_name}
 use Rattle.level_meaning.specs.declared.source.Source.{Source}
 use Rattle.level_meaning.specs.declared.frontier.Feed.{Feed}
 use Rattle.level_meaning.specs.declared.frontier.Feed.TheVariants.{Fork, Diffuse, Iterate}
@@ -14,22 +15,23 @@ use Rattle.algo_tree.specs.Well.{fork_names, join_names}
 use Rattle.path_text.specs.Named.{is_word, AreNames, IsKindNamed, IsLabelNamed, IsNamed, AllNamed, HasNames}
 use Rattle.factorisation_laws.specs.Lines.{in_line_order}
 use Rattle.factorisation_laws.proofs.Lines.{names-lines}
-use Rattle.factorisation_laws.specs.Unrolled.{made, explodes, copy, copies, implodes, begin, with_kind, unrolled_at, unroll, unroll_all}
+use Rattle.pass_laws.specs.Relabelled.{with_kind}
+use Rattle.factorisation_laws.specs.Unrolled.{made, explodes, copy, copies, implodes, begin, unrolled_at, unroll, unroll_all}
 
 named-append : (xs ys : List Vertex) → AllNamed (vertices_of xs) → AllNamed (vertices_of ys) → AllNamed (vertices_of (xs ++ ys))
 named-append [] ys h g = g
 named-append (x ∷ xs) ys h g = (h.0, named-append xs ys h.1 g)
 
-named-made : (d x : List ℕ) (ins : List Source) (outs : List ℕ) (k : Kind) → IsKindNamed k → IsTrue (is_word d) → IsTrue (is_word x) → IsNamed (made d x ins outs k)
+named-made : (d x : List ℕ) (ins : List Source) (outs : List ℕ) (k : Kind) → IsKindNamed k → IsTrue (is_name d) → IsTrue (is_word x) → IsNamed (made d x ins outs k)
 named-made d x ins outs k kind definition name = (record { part = name; definition = definition; kind = kind }, tt)
 
-named-explodes : (d : List ℕ) (n : ℕ) (fs : List Feed) → IsTrue (is_word d) → AreNames (fork_names fs) → AllNamed (vertices_of (explodes d n fs))
+named-explodes : (d : List ℕ) (n : ℕ) (fs : List Feed) → IsTrue (is_name d) → AreNames (fork_names fs) → AllNamed (vertices_of (explodes d n fs))
 named-explodes d n [] h names = tt
 named-explodes d n (Fork name k len ∷ fs) h names = (named-made d name _ _ explode tt h names.0, named-explodes d n fs h names.1)
 named-explodes d n (Diffuse k ∷ fs) h names = named-explodes d n fs h names
 named-explodes d n (Iterate k y ∷ fs) h names = named-explodes d n fs h names
 
-named-implodes : (d : List ℕ) (c n : ℕ) (os : List ℕ) (j : ℕ) (gs : List Give) → IsTrue (is_word d) → AreNames (join_names gs) → AllNamed (vertices_of (implodes d c n os j gs))
+named-implodes : (d : List ℕ) (c n : ℕ) (os : List ℕ) (j : ℕ) (gs : List Give) → IsTrue (is_name d) → AreNames (join_names gs) → AllNamed (vertices_of (implodes d c n os j gs))
 named-implodes d c n os j [] h names = tt
 named-implodes d c n os j (Join name y ∷ gs) h names = (named-made d name _ _ implode tt h names.0, named-implodes d c n os (suc j) gs h names.1)
 named-implodes d c n os j (Last y ∷ gs) h names = named-implodes d c n os (suc j) gs h names

@@ -15,22 +15,20 @@ use Rattle.algo_tree.specs.Tree.{Label, Kind, sensor, actuator, constant, delay,
 use Rattle.algo_tree.specs.View.{vertices_of}
 use Rattle.algo_tree.specs.Well.{IsOne, IsWell, AllWell}
 use Rattle.algo_tree.specs.Typed.{IsLength, AreLengths, label_of, outs_of, source_length, IsFed, AllFed, fed_length, given_length, IsKindTyped, IsTyped, AllTyped, IsBodyTyped, AreGuardsTyped}
-use Rattle.factorisation_laws.specs.Unrolled.{explodes, copy_sources, copy, implodes, give_sources, begin, unrolled_inside, with_kind, unrolled_at, unroll, unroll_all}
+use Rattle.pass_laws.specs.Relabelled.{with_kind}
+use Rattle.factorisation_laws.specs.Unrolled.{explodes, copy_sources, copy, implodes, give_sources, begin, unrolled_inside, unrolled_at, unroll, unroll_all}
 use Rattle.factorisation_laws.specs.Lines.{in_line_order, fork_place}
 use Rattle.factorisation_laws.proofs.Lines.{AllLines, all-lines, AreApart, apart-lines, IsLine, lines-are, many-lines, forked, long-forked, place-below, at-place}
-use Rattle.factorisation_laws.proofs.Unrolled.{append_left, append_right, map_map, map_below}
+use Rattle.pass_laws.proofs.Lists.{append_left, append_right, map_map, map_below}
 use Rattle.factorisation_laws.proofs.Unroll.{IsRepeatable, can_unroll, repeatable-unrolled}
 use Rattle.factorisation_laws.proofs.Labels.{label-unroll, outs-unroll}
+use Rattle.pass_laws.proofs.Lists.{same_below, lengths-replicate}
 
 -- lengths
 length_at : (ns : List ℕ) (k : ℕ) → AreLengths ns → 0 < get_or ns k 0 → IsLength (get_or ns k 0)
 length_at [] k h some = absurd (omega arith)
 length_at (n ∷ ns) zero h some = h.0
 length_at (n ∷ ns) (suc k) h some = length_at ns k h.1 some
-
-lengths-replicate : (n len : ℕ) → IsLength len → AreLengths (replicate n len)
-lengths-replicate zero len h = tt
-lengths-replicate (suc n) len h = (h, lengths-replicate n len h)
 
 one_part : (n len : ℕ) → 0 < n → IsLength (n * len) → IsLength len
 one_part n zero some h = absurd (let e : n * 0 ≡ 0 = omega arith in let one = h.0 in omega (arith, e, one))
@@ -41,14 +39,6 @@ one_part n (suc len) some h =
 
 sum-replicate : (n len : ℕ) → sum (replicate n len) ≡ n * len
 sum-replicate n len = sum_by-replicate (λ x. x) n len
-
-same_below : {A : Type 0} (n : ℕ) (x : A) → map (λ i. x) (numbers_below n) ≡ replicate n x
-same_below zero x = refl
-same_below (suc n) x = map-append (λ i. x) (numbers_below n) (n ∷ []) ∙ ap (λ xs. xs ++ x ∷ []) (same_below n x) ∙ one_more n
-  where
-    one_more : (m : ℕ) → replicate m x ++ x ∷ [] ≡ replicate (suc m) x
-    one_more zero = refl
-    one_more (suc m) = ap (λ xs. x ∷ xs) (one_more m)
 
 -- the vertices of a level, segment by segment
 outs-append : (xs ys : List Vertex) → outs_of (vertices_of (xs ++ ys)) ≡ outs_of (vertices_of xs) ++ outs_of (vertices_of ys)

@@ -9,7 +9,7 @@ use Rattle.algo_tree.specs.Tree.{Label, Kind, sensor, actuator, constant, delay,
 use Rattle.algo_tree.specs.View.{vertices_of}
 use Rattle.factorisation_laws.specs.Lines.{in_line_order}
 use Rattle.factorisation_laws.specs.Unrolled.{explodes, copy, copies, implodes, begin, unrolled_at, unroll, unroll_all}
-use Rattle.factorisation_laws.specs.NoRepeat.{HasNoRepeat, AllNoRepeat}
+use Rattle.pass_laws.specs.NoRepeat.{HasNoRepeat, AllNoRepeat}
 
 no-append : (xs ys : List Vertex) → AllNoRepeat (vertices_of xs) → AllNoRepeat (vertices_of ys) → AllNoRepeat (vertices_of (xs ++ ys))
 no-append [] ys h g = g

@@ -14,10 +14,12 @@ use Rattle.algo_tree.specs.Valid.{IsTree}
 use Rattle.pass_laws.specs.SameMeaning.{KeepsMeaning}
 use Rattle.pass_laws.proofs.Passes.{keeps_meaning}
 use Rattle.pass_laws.proofs.Views.{nodes-vertices_of}
-use Rattle.factorisation_laws.specs.Unrolled.{explodes, copy, implodes, give_sources, begin, unrolled_inside, with_kind, unrolled_at, unroll, unroll_all}
+use Rattle.pass_laws.specs.Relabelled.{with_kind}
+use Rattle.factorisation_laws.specs.Unrolled.{explodes, copy, implodes, give_sources, begin, unrolled_inside, unrolled_at, unroll, unroll_all}
 use Rattle.factorisation_laws.specs.Lines.{in_line_order}
 use Rattle.factorisation_laws.proofs.Lines.{AreApart, apart-of}
-use Rattle.factorisation_laws.proofs.Unrolled.{level, level_acyclic, unrolled_outputs, unrolled_next, unrolled_initial, map_map}
+use Rattle.pass_laws.proofs.Lists.{map_map}
+use Rattle.factorisation_laws.proofs.Unrolled.{level, level_acyclic, unrolled_outputs, unrolled_next, unrolled_initial}
 
 -- what unrolling asks for: a copy at least, one body, and fork lines of distinct names
 abbrev pub IsRepeatable : Kind → Vertices → Type 0

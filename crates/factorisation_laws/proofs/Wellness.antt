@@ -21,19 +21,7 @@ use Rattle.factorisation_laws.proofs.Lines.{new-left, new-right, names-right, di
 use Rattle.factorisation_laws.specs.Unrolled.{explodes, copy, implodes, begin, unrolled_at, unroll, unroll_all}
 use Rattle.factorisation_laws.proofs.Unrolled.{level, level_acyclic, kid}
 use Rattle.factorisation_laws.proofs.Unroll.{nodes-unroll, nodes-unrolled, one-unrolled}
-
--- distinct parts, segment by segment
-apart-append : (p : Part) (xs ys : List Node) → IsApart p xs → IsApart p ys → IsApart p (xs ++ ys)
-apart-append p [] ys h k = k
-apart-append p (x ∷ xs) ys h k = (h.0, apart-append p xs ys h.1 k)
-
-abbrev pub AllApart : List Node → List Node → Type 0
-AllApart [] ys = Unit {0}
-AllApart (x ∷ xs) ys = IsApart x.part ys × AllApart xs ys
-
-pub distinct-append : (xs ys : List Node) → HasDistinctParts xs → HasDistinctParts ys → AllApart xs ys → HasDistinctParts (xs ++ ys)
-distinct-append [] ys h k a = k
-distinct-append (x ∷ xs) ys h k a = (apart-append x.part xs ys h.0 a.0, distinct-append xs ys h.1 k a.1)
+use Rattle.pass_laws.proofs.Parts.{AllApart, apart-append, distinct-append}
 
 names-left : (xs ys : List (List ℕ)) → AreDistinctNames (xs ++ ys) → AreDistinctNames xs
 names-left [] ys h = tt

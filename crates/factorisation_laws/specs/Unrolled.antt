@@ -13,6 +13,7 @@ use Rattle.level_meaning.specs.Level.{numbers_below}
 use Rattle.algo_tree.specs.Tree.{Label, Kind, explode, implode, graph, repeat, Vertex, vertex, Vertices, no_vertices, and_vertex}
 use Rattle.algo_tree.specs.View.{vertices_of}
 use Rattle.algo_tree.specs.Well.{fork_names}
+use Rattle.pass_laws.specs.Relabelled.{with_kind}
 use Rattle.factorisation_laws.specs.Lines.{in_line_order, fork_place}
 
 -- A vertex that flattening makes for a port of a repetition. It has the repetition's definition, no guard, and nothing inside.
@@ -72,9 +73,6 @@ begin feeds = length (fork_names feeds)
 abbrev pub unrolled_inside : List ℕ → ℕ → List Feed → List Give → List ℕ → Vertices → List Vertex
 unrolled_inside d n feeds gives outs us =
     explodes d n (in_line_order feeds) ++ (copies (begin feeds) feeds n us ++ implodes d (begin feeds) n outs 0 gives)
-
-abbrev pub with_kind : Label → Kind → Label
-with_kind l k = record { part = l.part; definition = l.definition; ins = l.ins; guards = l.guards; outs = l.outs; kind = k }
 
 -- a vertex of this kind, whose inside has no repetition
 abbrev pub unrolled_at : Label → Kind → Vertices → Vertex

@@ -6,7 +6,7 @@ ghost use Rattle.algo_tree.specs.Counted.{operations};
 ghost use Rattle.path_text.specs.Named.{HasNames};
 ghost use Rattle.pass_laws.specs.SameMeaning.{KeepsMeaning};
 ghost use Rattle.factorisation_laws.specs.Unrolled.{unroll};
-ghost use Rattle.factorisation_laws.specs.NoRepeat.{HasNoRepeat};
+ghost use Rattle.pass_laws.specs.NoRepeat.{HasNoRepeat};
 
 /// The tree of an algorithm with each repetition unrolled keeps the meaning, and repeats nothing.
 pub fn unroll_keeps()

@@ -1,4 +1,5 @@
-//! What unrolling a tree is, and that it keeps the meaning.
+//! What unrolling a tree is (`Unrolled.unroll`), and that it keeps the meaning, validity and names. The
+//! explodes of a repetition stand in the order of its lines (`Lines`). `factorisation` makes this tree.
 #![tactic(auto)]
 
 mod laws;

@@ -1,6 +1,6 @@
 -- The tests of bodies and sums, in the forms that the code has.
 use Rattle.std.proofs.Common.{◌≡◌, ℕ, ◌<◌, Bool, true, false, ◌&&◌, ◌==◌, List, map, length, refl, sym, arith}
-use Rattle.std.specs.Prelude.{Some, IsTrue, sum, ◌↔◌, nat_lt}
+use Rattle.std.specs.Prelude.{nat_le, Some, IsTrue, sum, ◌↔◌, nat_lt}
 use Rattle.std.specs.List.{list_all, sum_by}
 use Rattle.std.proofs.lemmas.Bool.{and_parts, and_from, ltb-true, lt-ltb, eqb-true, false≢true}
 use Rattle.std.proofs.lemmas.List.{length-map}
@@ -14,8 +14,8 @@ pub sum_map : {X : Type 0} (f : X → ℕ) (xs : List X) → sum (map f xs) ≡ 
 sum_map f xs = sum-map f xs
 
 pub is_body_by : (ins outs : ℕ) (es : List declared.Expr)
-    → is_body ins outs (Some (map view es)) ≡ ((length es == outs) && list_all (λ e. ports_below ins (view e)) es)
-is_body_by ins outs es = λ i. (length-map es view i == outs) && list_all-map (ports_below ins) view es i
+    → is_body ins outs (Some (map view es)) ≡ (nat_le 1 outs && ((length es == outs) && list_all (λ e. ports_below ins (view e)) es))
+is_body_by ins outs es = λ i. nat_le 1 outs && ((length-map es view i == outs) && list_all-map (ports_below ins) view es i)
 
 pub ports_are_below : (n : ℕ) (e : Expr) → ports_below n e ≡ true → PortsBelow n e
 ports_are_below n (literal v) h = tt

@@ -1,6 +1,6 @@
 -- What the fit of an operation says of the vectors that it reads, of which the first are its inputs.
 use Rattle.std.proofs.Common.{◌≡◌, ℕ, zero, suc, ◌+◌, ◌<◌, ◌≤◌, true, ◌&&◌, ◌==◌, List, [], ◌∷◌, map, length, take, refl, sym, ap, subst, arith, ◌∙◌}
-use Rattle.std.specs.Prelude.{slice_get, slice_index_or, Option, Some, ℤ, pos, All, nat_lt, if◌then◌else◌}
+use Rattle.std.specs.Prelude.{nat_le, slice_get, slice_index_or, Option, Some, ℤ, pos, All, nat_lt, if◌then◌else◌}
 use Rattle.std.specs.List.{list_all}
 use Rattle.std.specs.Ordering.{int_eq}
 use Rattle.std.proofs.lemmas.Bool.{and_parts, false≢true, ltb-true, eqb-true}
@@ -80,7 +80,9 @@ module _ (bodies : List (List Expr)) (b : ℕ) (body : List Expr) (vs : Values) 
       (subst (λ (o : Option (List Expr)). is_body (length (take n (map length vs))) outs o ≡ true) (body_at bodies b body (body_there bodies b (length (take n (map length vs))) outs h) is) h)
 
   ports_fit : list_all (ports_below n) body ≡ true
-  ports_fit = (and_parts (length body == outs) (list_all (ports_below n) body) fits_body).1
+  ports_fit =
+      let each = (and_parts (nat_le 1 outs) ((length body == outs) && list_all (ports_below n) body) fits_body).1 in
+      (and_parts (length body == outs) (list_all (ports_below n) body) each).1
 
   pub ports_all : (es : List declared.Expr) → map view es ≡ body → All (λ e. PortsBelow (length vs) (view e)) es
   ports_all es are k d l =

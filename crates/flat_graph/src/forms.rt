@@ -40,7 +40,7 @@ fn is_function(bodies: &[Body], body: u32, ins: usize, outs: usize) -> bool
 fn is_body(body: &[Expr], ins: usize, outs: usize) -> bool
     ensures { result ≡ is_body ins outs (Some (map view body.now)) }
 {
-    body.len() == outs && are_expressions(body, ins)
+    outs > 0 && (body.len() == outs && are_expressions(body, ins))
 }
 
 fn are_expressions(body: &[Expr], ins: usize) -> bool

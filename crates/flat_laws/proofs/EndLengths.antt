@@ -19,7 +19,7 @@ use Rattle.inlining_laws.specs.Flat.{Operation, Task, runs, gets, sets}
 use Rattle.inlining_laws.specs.Inlined.{wire, wirings, operations}
 use Rattle.inlining_laws.specs.Plain.{IsPlain}
 use Rattle.inlining_laws.proofs.Inlinable.{IsKindInlinable, CanInline, can_inline}
-use Rattle.inlining_laws.proofs.Mapped.{map_map}
+use Rattle.pass_laws.proofs.Lists.{map_map}
 use Rattle.flat_laws.specs.EndLengths.{actuator_len, actuator_lens, HasEndLengths}
 use Rattle.flat_laws.specs.Stands.{task_of, operation_at, AllStand, Stands}
 use Rattle.flat_laws.proofs.Ends.{IsNoEndTask, told_in, told_of, main_wire, told-main}

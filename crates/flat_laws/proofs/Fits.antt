@@ -13,7 +13,7 @@ use Rattle.inlining_laws.specs.Flat.{Operation, Task, runs, gets, sets, is_get}
 use Rattle.inlining_laws.specs.Inlined.{wire, wirings, wire_guard, operation_of, inlined_by, inlined, inlined_all, operations}
 use Rattle.inlining_laws.specs.Plain.{IsPlain}
 use Rattle.inlining_laws.proofs.Inlinable.{IsKindInlinable, CanInline, AllCanInline, can_inline}
-use Rattle.inlining_laws.proofs.Mapped.{map_map}
+use Rattle.pass_laws.proofs.Lists.{map_map}
 use Rattle.inlining_laws.proofs.Wires.{long-inlined}
 use Rattle.flat_laws.proofs.Lengths.{same_map, Outs, outs-left, outs-right, at_same, Measures, measures-all}
 

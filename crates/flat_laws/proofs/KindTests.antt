@@ -17,7 +17,7 @@ use Rattle.flat_graph.specs.Graph.{len_of, lens_of}
 use Rattle.flat_graph.specs.Meaning.{level_source, level_guard}
 use Rattle.flat_graph.specs.Valid.{is_len, is_guard, ports_below, is_body, is_only, is_merge, fits}
 use Rattle.inlining_laws.specs.Flat.{Operation}
-use Rattle.inlining_laws.proofs.Mapped.{map_map}
+use Rattle.pass_laws.proofs.Lists.{map_map}
 use Rattle.flat_laws.specs.Stands.{task_of}
 use Rattle.flat_laws.proofs.Fits.{IsTaskFit}
 use Rattle.flat_laws.proofs.Bounds.{IsTaskBounded}
@@ -60,10 +60,11 @@ all_ports-pass : (n : ℕ) (es : List Expr) → AllPortsBelow n es → list_all 
 all_ports-pass n [] h = refl
 all_ports-pass n (e ∷ es) h = and_from (ports_below n e) (list_all (ports_below n) es) (ports-pass n e h.0) (all_ports-pass n es h.1)
 
--- a body that has an output is there
+-- a body with an output is there
 body-pass : (bodies : List (List Expr)) (b n m : ℕ) → length (slice_index_or bodies b []) ≡ m → 1 ≤ m → AllPortsBelow n (slice_index_or bodies b []) → is_body n m (slice_get bodies b) ≡ true
 body-pass [] b n m e some h = absurd (omega (arith, e, some))
-body-pass (es ∷ bodies) zero n m e some h = and_from (length es == m) (list_all (ports_below n) es) (eq-eqb (length es) m e) (all_ports-pass n es h)
+body-pass (es ∷ bodies) zero n m e some h =
+    and_from (nat_le 1 m) ((length es == m) && list_all (ports_below n) es) (le-leb 1 m some) (and_from (length es == m) (list_all (ports_below n) es) (eq-eqb (length es) m e) (all_ports-pass n es h))
 body-pass (es ∷ bodies) (suc b) n m e some h = body-pass bodies b n m e some h
 
 pub only-pass : (n : ℕ) (ns : List ℕ) → ns ≡ n ∷ [] → is_only n ns ≡ true

@@ -1,5 +1,5 @@
 -- Why a valid flat graph asks for bounds: a tree of one function of n outputs has a graph that stands for it, and this graph is
--- not valid where n is 0, since the body may be missing, or 65.
+-- not valid where n is 0 or 65, even where the body is there.
 use Rattle.std.proofs.Common.{◌≡◌, ℕ, zero, suc, pos, true, false, List, [], ◌∷◌, replicate, None, refl, sym, ◌∙◌, codes, arith}
 use Rattle.std.proofs.lemmas.List.{length-replicate}
 use Rattle.body_lang.specs.Expr.{Expr, literal}
@@ -62,10 +62,10 @@ module _ (n : ℕ) where
   named : HasNames main
   named = ((record { part = refl; definition = refl; kind = tt }, tt), tt)
 
-stands_none : Stands (graph 0 []) (operations (main 0))
+stands_none : Stands (graph 0 ([] ∷ [])) (operations (main 0))
 stands_none = (record { same = refl; name = refl; twin = refl }, tt)
 
-not_flat_none : is_flat (graph 0 []) ≡ false
+not_flat_none : is_flat (graph 0 ([] ∷ [])) ≡ false
 not_flat_none = refl
 
 stands_many : Stands (graph 65 (body 65 ∷ [])) (operations (main 65))

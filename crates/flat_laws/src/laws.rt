@@ -13,7 +13,7 @@ ghost use Rattle.inlining_laws.specs.Inlined.{operations};
 ghost use Rattle.inlining_laws.specs.Plain.{IsPlain};
 ghost use Rattle.path_text.specs.Bounded.{HasBounds};
 ghost use Rattle.path_text.specs.Named.{HasNames};
-ghost use Rattle.factorisation_laws.specs.NoRepeat.{HasNoRepeat};
+ghost use Rattle.pass_laws.specs.NoRepeat.{HasNoRepeat};
 ghost use Rattle.factorisation_laws.specs.Unrolled.{unroll};
 ghost use Rattle.flat_laws.specs.EndLengths.{HasEndLengths};
 ghost use Rattle.flat_laws.specs.Stands.{Stands, KeepsGraph};

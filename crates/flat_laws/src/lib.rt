@@ -1,4 +1,6 @@
-//! The product's flat graph beside the flat list of a tree, and that it keeps the meaning.
+//! The product's flat graph beside the flat list of a tree: `FlatOf.flat_of`, the flat graph of a tree, which
+//! keeps its meaning (`KeepsGraph`), is valid, and has sensors and actuators of the same lengths;
+//! `flattened_is_flat` has all of it. `hierarchy` makes this graph.
 #![tactic(auto)]
 
 mod laws;

@@ -16,7 +16,7 @@ use Rattle.algo_tree.specs.declared.vertex.Vertex.{Vertex as Declared, out-Verte
 use Rattle.algo_tree.specs.declared.vertex.Kind.TheVariants.{Graph}
 use Rattle.algo_tree.proofs.Views.{view_out}
 use Rattle.inlining_laws.specs.Inlined.{nowhere, with_wiring, wire_source, wire, gives_by, wiring, wirings}
-use Rattle.inlining_laws.proofs.Mapped.{none_past}
+use Rattle.pass_laws.proofs.Lists.{none_past}
 use Rattle.inlining_laws.proofs.Wires.{matched, wire_fix}
 use Rattle.level_order.specs.Order.{is_among, MayRun, IsOrder, nodes_of}
 use Rattle.level_order.proofs.Nodes.{nodes_view, node_at, length-nodes_of}

@@ -7,7 +7,7 @@ use Rattle.algo_tree.specs.Tree.{Label}
 use Rattle.flat_graph.specs.declared.vertex.Kind.{Kind}
 use Rattle.flat_graph.specs.declared.vertex.Kind.TheVariants.{Function}
 use Rattle.flat_graph.specs.declared.vertex.Vertex.{Vertex}
-use Rattle.flat_graph.specs.Graph.{Graph, bodies_view}
+use Rattle.flat_graph.specs.Graph.{Graph}
 use Rattle.flat_graph.specs.Meaning.{level_source, level_guard}
 use Rattle.inlining_laws.specs.Flat.{Operation}
 use Rattle.inlining_laws.specs.Inlined.{wire_guard}
@@ -16,7 +16,7 @@ use Rattle.flat_laws.specs.Stands.{Stands}
 use Rattle.hierarchy.specs.declared.operation.Inlined.{Inlined}
 
 abbrev pub graph_of : Inlined → Graph
-graph_of all = record { vertices = all.vertices.items; bodies = bodies_view all.bodies.items }
+graph_of all = record { vertices = all.vertices.items; bodies = all.bodies.items }
 
 -- the body of a function is one of n
 abbrev pub IsBodyThere : ℕ → Kind → Type 0

@@ -1,4 +1,25 @@
-//! The hierarchy taken away: from the tree of an algorithm to its flat graph.
+//! The hierarchy taken away: `flatten`, from the tree of an algorithm to its flat graph.
+//!
+//! What flattening is, and what is proved of it, in the order in which a reader wants it:
+//!
+//! - The flat graph of a tree is a function of it, `flat_laws` `FlatOf.flat_of`: repetitions are unrolled
+//!   (`factorisation_laws` `Unrolled.unroll`), cases are put under guards (`conditioning_laws`
+//!   `Guarded.guard`), graphs are inlined (`inlining_laws` `Inlined.operations`), and the operations are
+//!   numbered in order.
+//! - Which operations these are, without any pass: `operation_table` `Table.table`, unit by unit over the
+//!   tree. The law `operation_table::flat_graph_has_the_operations` says that the flat graph has exactly
+//!   these, each with the guards of the cases around it.
+//! - The theorem: `KeepsGraph`, the same values at the actuators and the same cells of the delays
+//!   in each reaction; from `KeepsMeaning` for the first two passes (`unroll_keeps`, `guard_keeps`),
+//!   `KeepsFlat` for the third (`inline_keeps`) and `stands_keeps` for the numbering; together
+//!   `flat_laws::flattened_is_flat`.
+//! - Validity: each pass makes a valid tree again (`unroll_keeps_valid`, `guard_keeps_valid`), and the flat
+//!   graph is valid (`stands_is_flat`); `flattened_is_flat` also has its number of operations and the
+//!   lengths of its sensors and actuators.
+//! - The code: `factorisation::unroll`, `conditioning::guard` and, here, `inline`; `flatten` calls the three,
+//!   and its contract says all of the above of what it answers.
+//!
+//! `syndex_program` calls `flatten` for each command that needs the flat graph.
 #![tactic(auto)]
 
 mod inlining;
@@ -11,6 +32,3 @@ mod wires;
 
 pub use inlining::{Inlined, inline};
 pub use pass::flatten;
-
-#[cfg(test)]
-mod tests;

@@ -1,11 +1,9 @@
 //! Operations, one by one.
 ghost use Rattle.std.specs.Prelude.{◌≡◌, ◌+◌, ◌++◌, ◌∷◌, [], IsTrue, IfOk, OnOk, length, map};
-ghost use Rattle.body_lang.specs.Expr.{view as expression};
 ghost use Rattle.syn_base.specs.Name.{is_name};
 ghost use Rattle.level_meaning.specs.Level.{Path};
 ghost use Rattle.algo_tree.specs.declared.vertex.Vertex.{out-Vertex};
 ghost use Rattle.algo_tree.specs.View.{kind_view, label_view};
-ghost use Rattle.flat_graph.specs.Graph.{bodies_view};
 ghost use Rattle.flat_graph.specs.Meaning.{level_guard, level_source};
 ghost use Rattle.inlining_laws.specs.Flat.{gets, runs, sets};
 ghost use Rattle.inlining_laws.specs.Inlined.{operation_of, wire_guard};
@@ -20,18 +18,18 @@ use crate::names::glued;
 use crate::numbers::number;
 use crate::wires::{Level, follow};
 use algo_tree::{Kind, Vertex};
-use body_lang::Expr;
+use body_lang::Body;
 use flat_graph::{Guard as Condition, Kind as Task, Source as Output, Vertex as Operation};
 use level_meaning::{Guard, Source};
 use std::alloc::Global;
 use syn_base::{Items, Name, NameFault, OutOfMemory};
-use tree_copy::{copy_expression, copy_lens, copy_numbers};
+use tree_copy::{copy_lens, copy_numbers};
 
 /// Operations and the bodies of their functions, as they are so far.
 #[derive(Drop)]
 pub struct Inlined {
     pub vertices: Vec<Operation>,
-    pub bodies: Vec<Items<Expr>>,
+    pub bodies: Vec<Body>,
 }
 
 /// What an operation is beside the guards and the definition of its vertex.
@@ -175,40 +173,29 @@ pub fn add_delay(
     Ok(())
 }
 
-/// A body with these expressions.
-fn body(alloc: Global, outs: &[Expr]) -> Result<Items<Expr>, OutOfMemory>
-    ensures { IfOk result (λ es. map expression es ≡ map expression outs.now) }
-{
-    let mut copies = Vec::new(alloc);
-    for out in outs {
-        copies.push(copy_expression(alloc, out)?)?;
-    }
-    Ok(Items::new(copies))
-}
-
-/// Adds the body of a function, and answers its number.
-fn add_body(alloc: Global, outs: &[Expr], bodies: &mut Vec<Items<Expr>>) -> Result<u32, OutOfMemory>
+/// Adds the body of a function, shared with the tree, and answers its number.
+fn add_body(body: &Body, bodies: &mut Vec<Body>) -> Result<u32, OutOfMemory>
     ensures number { IfOk result (λ b. b ≡ length bodies.old.items) }
-    ensures added { OnOk result (bodies_view bodies.new.items ≡ bodies_view bodies.old.items ++ map expression outs.now ∷ []) }
+    ensures added { OnOk result (bodies.new.items ≡ bodies.old.items ++ body.now ∷ []) }
 {
     let number = number(bodies.len())?;
-    bodies.push(body(alloc, outs)?)?;
+    bodies.push(body.share()?)?;
     Ok(number)
 }
 
 /// What the operation of a vertex of this kind is. The body of a function is added to the others.
-fn task(alloc: Global, kind: &Kind, bodies: &mut Vec<Items<Expr>>) -> Result<Task, OutOfMemory>
+fn task(alloc: Global, kind: &Kind, bodies: &mut Vec<Body>) -> Result<Task, OutOfMemory>
     requires { IsRun (kind_view kind.now) }
-    ensures task { IfOk result (λ t. task_of (bodies_view bodies.new.items) t ≡ runs (kind_view kind.now)) }
+    ensures task { IfOk result (λ t. task_of bodies.new.items t ≡ runs (kind_view kind.now)) }
     ensures numbered { IfOk result (λ t. IsNumbered (length bodies.old.items) t) }
     ensures many { IfOk result (λ t. length (body_added (kind_view kind.now)) ≡ bodies_in t) }
-    ensures added { OnOk result (bodies_view bodies.new.items ≡ bodies_view bodies.old.items ++ body_added (kind_view kind.now)) }
+    ensures added { OnOk result (bodies.new.items ≡ bodies.old.items ++ body_added (kind_view kind.now)) }
 {
     Ok(match kind {
         Kind::Sensor(number) => Task::Sensor(*number),
         Kind::Actuator(number) => Task::Actuator(*number),
         Kind::Constant(values) => Task::Constant(copy_numbers(alloc, values.as_slice())?),
-        Kind::Function(outs) => Task::Function(add_body(alloc, outs.as_slice(), bodies)?),
+        Kind::Function(body) => Task::Function(add_body(body, bodies)?),
         Kind::Explode => Task::Explode,
         Kind::Implode => Task::Implode,
         Kind::Merge(values) => Task::Merge(copy_numbers(alloc, values.as_slice())?),

@@ -1,10 +1,12 @@
 //! The passes of flattening, one after another.
 ghost use Rattle.std.specs.Prelude.{◌≡◌, IfOk, length};
 ghost use Rattle.algo_tree.specs.Counted.{operations as count};
+ghost use Rattle.flat_laws.specs.EndLengths.{HasEndLengths};
 ghost use Rattle.flat_laws.specs.FlatOf.{flat_of};
 ghost use Rattle.flat_laws.specs.Stands.{KeepsGraph, Stands};
 ghost use Rattle.conditioning_laws.specs.Guarded.{guard as guarded};
 ghost use Rattle.inlining_laws.specs.Inlined.{operations};
+ghost use Rattle.operation_table.specs.Listed.{HasOperations};
 ghost use Rattle.path_text.specs.Bounded.{HasBounds};
 ghost use Rattle.path_text.specs.Named.{HasNames};
 ghost use Rattle.factorisation_laws.specs.Unrolled.{unroll as unrolled};
@@ -18,8 +20,10 @@ use std::alloc::Global;
 use syn_base::OutOfMemory;
 
 /// The flat graph of an algorithm: its repetitions are unrolled, its cases are put under guards, and
-/// its graphs are taken apart. It stands for the operations of the tree in order, and keeps its
-/// meaning: the actuators take the same values in each reaction, and each delay keeps the same.
+/// its graphs are taken apart. It keeps the meaning: the actuators take the same values in each
+/// reaction, and each delay keeps the same. Its operations are those of the tree and no others, unit by
+/// unit in order (`HasOperations`): each operation and merge has a guard for each case around it, outer
+/// first, and no other guard. Its sensors and actuators have the lengths of the tree's.
 pub fn flatten(alloc: Global, tree: &Tree) -> Result<Flat, OutOfMemory>
     requires names { HasNames tree.now }
     requires bounds { HasBounds tree.now }
@@ -27,6 +31,8 @@ pub fn flatten(alloc: Global, tree: &Tree) -> Result<Flat, OutOfMemory>
     ensures stands { IfOk result (λ g. Stands g (operations (guarded (unrolled tree.now)))) }
     ensures kept { IfOk result (λ g. KeepsGraph tree.now g (operations (guarded (unrolled tree.now)))) }
     ensures count { IfOk result (λ g. length g.vertices ≡ count tree.now) }
+    ensures operations { IfOk result (λ g. HasOperations tree.now g) }
+    ensures lengths { IfOk result (λ g. HasEndLengths tree.now g) }
 {
     // By this call the proof knows that the tree is valid.
     let _main = tree.main();

@@ -15,7 +15,7 @@ use Rattle.inlining_laws.specs.Flat.{Operation, Task, runs, gets, sets, same_pat
 use Rattle.inlining_laws.specs.Inlined.{nowhere, wire, wirings, operation_of, inlined_by, inlined, inlined_all, inlined_level}
 use Rattle.algo_tree.specs.Counted.{operations as count}
 use Rattle.inlining_laws.proofs.Inlinable.{with_kind, IsKindInlinable, CanInline, AllCanInline}
-use Rattle.inlining_laws.proofs.Mapped.{map_map}
+use Rattle.pass_laws.proofs.Lists.{map_map}
 use Rattle.inlining_laws.proofs.Parts.{same_itself, same_means}
 use Rattle.level_meaning.specs.Order.{IsAcyclic}
 use Rattle.inlining_laws.proofs.Wires.{long-inlined, Meets, meets-left, meets-right, hold-wired, own_wired, Reads, reads-all}

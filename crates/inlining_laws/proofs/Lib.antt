@@ -1,4 +1,3 @@
-pub mod Mapped
 pub mod Inlinable
 pub mod Parts
 pub mod Wires

@@ -13,7 +13,7 @@ use Rattle.inlining_laws.specs.Inlined.{nowhere, Wiring, with_wiring, wire_sourc
 use Rattle.algo_tree.specs.Counted.{operations as count, operations_in as count_all, operations_by as count_by}
 use Rattle.inlining_laws.proofs.Inlinable.{with_kind, IsKindInlinable, CanInline, AllCanInline}
 use Rattle.level_meaning.proofs.Fuel.{Agree, same_outputs, and-left, and-right}
-use Rattle.inlining_laws.proofs.Mapped.{map_map, none_past}
+use Rattle.pass_laws.proofs.Lists.{map_map, none_past}
 
 -- the equation of each vertex, port by port, has one solution
 module _ (cs : List Node) (row : Values) (st : State) (ins : Values) (look : Source → Vector) (own : (k : ℕ) → look (Own k) ≡ vector_at ins k)

@@ -1,4 +1,6 @@
-//! The flat list of the operations of a tree, and that it keeps the meaning.
+//! The flat list of the operations of a tree without repetitions and cases (`Inlined.operations`), its
+//! meaning (`Flat`), and that this is the meaning of the tree. `flat_laws` makes of the list the product's
+//! flat graph.
 #![tactic(auto)]
 
 mod laws;

@@ -9,7 +9,7 @@ use Rattle.algo_tree.specs.Code.{count_of, join}
 use Rattle.algo_tree.specs.Typed.{label_of}
 use Rattle.algo_tree.specs.Valid.{IsTree}
 use Rattle.algo_tree.specs.Well.{IsKindWell, IsWell, AllWell}
-use Rattle.factorisation_laws.specs.NoRepeat.{IsNoRepeat, HasNoRepeat, AllNoRepeat}
+use Rattle.pass_laws.specs.NoRepeat.{IsNoRepeat, HasNoRepeat, AllNoRepeat}
 use Rattle.conditioning_laws.specs.Guarded.{shift_guard, own_guards, guard_for, merges, guarded_by, guarded, guarded_all, guarded_cases, guard}
 use Rattle.inlining_laws.specs.Flat.{runs}
 use Rattle.operation_table.specs.Table.{Condition, Row, row, port, merge_rows, rows_by, condition_of, inside, conditions_of, unit_rows, graph_rows, case_rows, copy_rows, table}

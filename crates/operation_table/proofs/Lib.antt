@@ -4,3 +4,4 @@ pub mod Guarding
 pub mod Inlining
 pub mod Listing
 mod Worked
+mod WorkedText

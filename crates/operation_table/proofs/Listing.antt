@@ -6,7 +6,7 @@ use Rattle.level_meaning.specs.declared.source.Guard.{Guard}
 use Rattle.algo_tree.specs.Tree as tree
 use Rattle.algo_tree.specs.Valid.{IsTree}
 use Rattle.factorisation_laws.specs.Unrolled.{unroll}
-use Rattle.factorisation_laws.proofs.Unrolled.{append_right}
+use Rattle.pass_laws.proofs.Lists.{append_right}
 use Rattle.factorisation_laws.proofs.Unrepeated.{no-unroll}
 use Rattle.factorisation_laws.proofs.Trees.{tree-unroll}
 use Rattle.conditioning_laws.specs.Guarded.{guard}
@@ -66,7 +66,7 @@ same-rows before v (op ∷ ops) h =
     let own = body_of op.task in
     let whole : before ++ (own ++ bodies_of ops) ≡ (before ++ own) ++ bodies_of ops = sym (append_assoc before own (bodies_of ops)) in
     ap₂ (λ r rs. r ∷ rs) (same-row before (bodies_of ops) v op h.0) (
-      ap₂ (λ bs b. map (vertex_row bs) (vertices_from (suc v) b ops)) whole (sym (length-append before own)) ∙ same-rows (before ++ own) (suc v) ops h.1
+    ap₂ (λ bs b. map (vertex_row bs) (vertices_from (suc v) b ops)) whole (sym (length-append before own)) ∙ same-rows (before ++ own) (suc v) ops h.1
     )
 
 pub has-operations : (main : tree.Vertex) → IsTree main → HasOperations main (flat_of main)

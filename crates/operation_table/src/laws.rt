@@ -3,7 +3,7 @@ ghost use Rattle.std.specs.Prelude.{◌≡◌};
 ghost use Rattle.algo_tree.specs.Tree.{Vertex};
 ghost use Rattle.algo_tree.specs.Valid.{IsTree};
 ghost use Rattle.conditioning_laws.specs.Guarded.{guard};
-ghost use Rattle.factorisation_laws.specs.NoRepeat.{HasNoRepeat};
+ghost use Rattle.pass_laws.specs.NoRepeat.{HasNoRepeat};
 ghost use Rattle.factorisation_laws.specs.Unrolled.{unroll};
 ghost use Rattle.flat_laws.specs.FlatOf.{flat_of};
 ghost use Rattle.operation_table.specs.Listed.{HasOperations};

@@ -1,1 +1,3 @@
 pub mod SameMeaning
+pub mod NoRepeat
+pub mod Relabelled

@@ -1,4 +1,7 @@
-//! What every pass of flattening keeps: the meaning of the algorithm, and the kept values path by path.
+//! What every pass of flattening keeps: the meaning of the algorithm, and the kept values path by path
+//! (`KeepsMeaning`). And what the laws of several passes share: trees without repetitions, vertices of
+//! which the kind alone is changed, lists and the parts of a level. `factorisation_laws`,
+//! `conditioning_laws` and `inlining_laws` stand on it.
 #![tactic(auto)]
 
 mod laws;

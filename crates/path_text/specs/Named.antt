@@ -1,7 +1,7 @@
 -- Names where names stand: what the texts of paths, and the definitions of operations, are made of.
 use Rattle.std.specs.Prelude.{◌≡◌, ℕ, Bool, ◌&&◌, IsTrue, List, [], ◌∷◌}
 use Rattle.std.specs.List.{list_all}
-use Rattle.syn_base.specs.Name.{is_name_byte, begins_name}
+use Rattle.syn_base.specs.Name.{is_name_byte, begins_name, is_name}
 use Rattle.level_meaning.specs.declared.part.Part.{Part}
 use Rattle.level_meaning.specs.declared.part.Part.TheVariants.{Named, Numbered, Port}
 use Rattle.level_meaning.specs.Level.{Path}
@@ -33,9 +33,10 @@ IsKindNamed (switch values names) = AreNames names
 IsKindNamed (repeat n feeds gives) = AreNames (fork_names feeds) × AreNames (join_names gives)
 IsKindNamed _ = Unit {0}
 
+-- a definition has a name of a text, since it is one of a text
 pub record IsLabelNamed (l : Label) : Type 0 where
   pub part : IsPartNamed l.part
-  pub definition : IsTrue (is_word l.definition)
+  pub definition : IsTrue (is_name l.definition)
   pub kind : IsKindNamed l.kind
 
 abbrev mutual

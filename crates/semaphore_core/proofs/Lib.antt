@@ -1,4 +1,5 @@
 pub mod Viewing
+pub mod Standing
 pub mod Opened
 pub mod Openings
 pub mod Numbered

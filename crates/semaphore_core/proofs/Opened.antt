@@ -1,25 +1,21 @@
 -- A state that was opened for a job stays one with each micro-step that is made.
-use Rattle.std.proofs.Common.{◌≡◌, ◌≢◌, ℕ, zero, suc, ◌+◌, ◌-◌, ◌*◌, ◌^◌, ◌<◌, ◌≤◌, ◌⊎◌, inl, inr, ⊎_elim, Bool, true, false, cond, ltb, List, [], ◌∷◌, length, get_or, Option, Some, None, refl, sym, ap, subst, arith, ◌∙◌}
-use Rattle.std.specs.Prelude.{slice_get, slice_set}
-use Rattle.std.specs.Option.{option_map}
+use Rattle.std.proofs.Common.{◌≡◌, ◌≢◌, ℕ, zero, suc, ◌+◌, ◌-◌, ◌*◌, ◌^◌, ◌<◌, ◌≤◌, ◌⊎◌, inl, inr, ⊎_elim, List, length, get_or, Some, None, refl, sym, ap, subst, arith, ◌∙◌}
+use Rattle.std.specs.Prelude.{slice_set}
 use Rattle.std.proofs.lemmas.Bool.{cases_eq, cases_lt, lt-ltb, le-ltb}
-use Rattle.std.proofs.lemmas.List.{length-set, length-map, get_or-set_same, get_or-set_other, get_or_past}
-use Rattle.std.proofs.lemmas.Option.{slice_get_read, slice_get-map, same_Some, none-some}
-use Rattle.std.proofs.lemmas.Nat.{mod_below, div_below}
+use Rattle.std.proofs.lemmas.List.{length-set, get_or-set_same, get_or-set_other, get_or_past}
 use Rattle.std.proofs.Math.Nat.{mul-add}
-use Rattle.consistent_cuts.specs.Sites.{Code, step_at, place_at}
 use Rattle.interleavings.specs.Owners.{sum_below}
-use Rattle.executive_program.specs.declared.program.SeqCode.{SeqCode}
 use Rattle.executive_program.specs.declared.steps.MicroStep.{MicroStep}
 use Rattle.executive_program.specs.declared.steps.MicroStep.TheVariants.{Take, See, Lower, Signal, Await, Advance, Load, Store}
 use Rattle.executive_program.specs.declared.expand.SeqSteps.{SeqSteps}
-use Rattle.executive_program.specs.Expanded.{expanded, code_of, next_in}
-use Rattle.executive_program.specs.Steps.{steps, steps_by}
+use Rattle.executive_program.specs.Expanded.{next_in}
+use Rattle.executive_program.specs.Steps.{steps}
 use Rattle.semaphore_core.specs.Job.{JobData, reactions, total_steps}
 use Rattle.semaphore_core.specs.Core.{Core, count, counted, full, next, reaction, done_in, own, element_of, IsReached}
 use Rattle.semaphore_core.specs.Held.{Held, IsOpened, AreReady, Fits, FitsWord, NeedsReaction, made, answer, kept_of}
 use Rattle.semaphore_core.specs.declared.answer.StepAnswer.TheVariants.{Finished}
 use Rattle.semaphore_core.proofs.Ready.{absorb_ready, after_ready}
+use Rattle.semaphore_core.proofs.Standing.{next_at, laid_out, not_past, fits_at, needs_at, none_left}
 
 pub sum_le : (f g : ℕ → ℕ) (n : ℕ) → ((i : ℕ) → f i ≤ g i) → sum_below f n ≤ sum_below g n
 sum_le f g zero h = omega arith
@@ -57,81 +53,29 @@ module _ (j : JobData) where
     pub in_counts : s < length h.core.counts
     in_counts = let c = o.counts_there in omega arith
 
-    -- the micro-steps that were laid out for s are those of the program
-    pub code_at : (x : SeqSteps) → x ≡ get_or h.steps s x → steps j.program s ≡ code_of x
-    code_at x e = by (slice_get j.program.seqs s) refl
-      where
-        len : length h.steps ≡ length j.program.seqs
-        len = ap (λ (l : List SeqSteps). length l) o.steps_are ∙ length-map j.program.seqs (expanded j.program)
+    abbrev N : ℕ
+    N = count h.core s
 
-        found : slice_get h.steps s ≡ Some x
-        found = slice_get_read h.steps (length h.steps) s x refl (omega (arith, len)) e
-
-        mapped : option_map (expanded j.program) (slice_get j.program.seqs s) ≡ Some x
-        mapped = sym (slice_get-map (expanded j.program) j.program.seqs s) ∙ ap (λ (l : List SeqSteps). slice_get l s) (sym o.steps_are) ∙ found
-
-        by : (q : Option SeqCode) → slice_get j.program.seqs s ≡ q → steps j.program s ≡ code_of x
-        by None q = let z : option_map (expanded j.program) None ≡ Some x = ap (option_map (expanded j.program)) (sym q) ∙ mapped in absurd cc
-        by (Some c) q = ap (steps_by j.program) q ∙ ap code_of (same_Some (expanded j.program c) x (ap (option_map (expanded j.program)) (sym q) ∙ mapped))
+    next_same : next j h.core s ≡ next_at j s N
+    next_same = rw (lt-ltb s (length j.program.seqs) there) refl
 
     -- the next micro-step of s
     pub next_is : (x : SeqSteps) (n : ℕ) → x ≡ get_or h.steps s x → n ≡ count h.core s → next_in (reactions j) x n ≡ next j h.core s
-    next_is x n e c = rw (lt-ltb s (length j.program.seqs) there) ((λ i. next_in (reactions j) x (c i)) ∙ ap (λ (q : Code MicroStep). cond (ltb (count h.core s) (length q.prologue + reactions j * length q.turn)) (step_at q (count h.core s)) None) (sym (code_at x e)))
+    next_is x n e c = (λ i. next_in (reactions j) x (c i)) ∙ laid_out j s N h.steps o.steps_are there x e ∙ sym next_same
 
     module _ (m : MicroStep) (is_next : next j h.core s ≡ Some m) where
-      inner : cond (ltb (count h.core s) (full j s)) (step_at (steps j.program s) (count h.core s)) None ≡ Some m
-      inner = let e = is_next in rw (lt-ltb s (length j.program.seqs) there) at e
+      here : next_at j s N ≡ Some m
+      here = sym next_same ∙ is_next
 
       pub pending : count h.core s < full j s
-      pending = by (cases_lt (count h.core s) (full j s))
-        where
-          by : (count h.core s < full j s) ⊎ (full j s ≤ count h.core s) → count h.core s < full j s
-          by (inl l) = l
-          by (inr l) = let e = inner in let z : None ≡ Some m = rw (le-ltb (count h.core s) (full j s) l) at e in absurd cc
-
-      stands : step_at (steps j.program s) (count h.core s) ≡ Some m
-      stands = let e = inner in rw (lt-ltb (count h.core s) (full j s) pending) at e
+      pending = not_past j s N m here
 
       pub room : Fits j.graph (get_or h.rooms s 0) (Some m)
-      room = subst (Fits j.graph (get_or h.rooms s 0)) stands (by (ltb (count h.core s) (length (steps j.program s).prologue)))
-        where
-          by : (b : Bool) → Fits j.graph (get_or h.rooms s 0) (cond b (slice_get (steps j.program s).prologue (count h.core s)) (slice_get (steps j.program s).turn (place_at (steps j.program s) (count h.core s))))
-          by true = o.in_prologue s (count h.core s)
-          by false = o.in_turn s (place_at (steps j.program s) (count h.core s))
+      room = fits_at j s N m here j.graph (get_or h.rooms s 0) (o.in_prologue s) (o.in_turn s)
 
       -- a load or a store is made within the reactions
       pub needs : NeedsReaction m (reaction j h.core s) (reactions j)
-      needs = by (cases_lt (count h.core s) (length C.prologue))
-        where
-          C : Code MicroStep
-          C = steps j.program s
-
-          never : (m : MicroStep) (k n : ℕ) → NeedsReaction m 0 0 → NeedsReaction m k n
-          never (Take x) k n q = tt
-          never (See x) k n q = tt
-          never (Lower x) k n q = tt
-          never (Signal x) k n q = tt
-          never (Await a i l e) k n q = tt
-          never (Advance a) k n q = tt
-          never (Load x then) k n q = absurd (omega (arith, q))
-          never (Store x what) k n q = absurd (omega (arith, q))
-
-          within : (m : MicroStep) (k n : ℕ) → k < n → NeedsReaction m k n
-          within (Take x) k n q = tt
-          within (See x) k n q = tt
-          within (Lower x) k n q = tt
-          within (Signal x) k n q = tt
-          within (Await a i l e) k n q = tt
-          within (Advance a) k n q = tt
-          within (Load x then) k n q = q
-          within (Store x what) k n q = q
-
-          by : (count h.core s < length C.prologue) ⊎ (length C.prologue ≤ count h.core s) → NeedsReaction m (reaction j h.core s) (reactions j)
-          by (inl f) = never m (reaction j h.core s) (reactions j) (o.bare s (count h.core s) m (let q = stands in rw (lt-ltb (count h.core s) (length C.prologue) f) at q))
-          by (inr f) = within m (reaction j h.core s) (reactions j) (div_below (count h.core s - length C.prologue) (length C.turn) (reactions j) some (let e = pending in omega arith))
-            where
-              some : 0 < length C.turn
-              some = ⊎_elim (λ d. d) (λ d. let z : length C.turn ≡ 0 = omega arith in let y : reactions j * length C.turn ≡ reactions j * 0 = ap (λ (n : ℕ). reactions j * n) z in let e = pending in absurd (omega arith)) (cases_lt 0 (length C.turn))
+      needs = needs_at j s N m here (o.bare s)
 
       pub word : FitsWord h.core m
       word = by m
@@ -224,33 +168,8 @@ module _ (j : JobData) where
 
     -- a sequence that has no next micro-step has made all
     module _ (none : next j h.core s ≡ None) where
-      abbrev C : Code MicroStep
-      C = steps j.program s
-
-      there_is : (xs : List MicroStep) (i : ℕ) → i < length xs → slice_get xs i ≡ None → ⊥
-      there_is xs i l e = let f = slice_get_past_or xs i l in absurd (none-some f.0 (sym e ∙ f.1))
-        where
-          slice_get_past_or : (xs : List MicroStep) (i : ℕ) → i < length xs → (x : MicroStep) × (slice_get xs i ≡ Some x)
-          slice_get_past_or [] i l = absurd (omega arith)
-          slice_get_past_or (x ∷ xs) zero l = (x, refl)
-          slice_get_past_or (x ∷ xs) (suc i) l = slice_get_past_or xs i (omega arith)
-
-      steps_on : count h.core s < full j s → step_at C (count h.core s) ≡ None → ⊥
-      steps_on l e = by (cases_lt (count h.core s) (length C.prologue))
-        where
-          by : (count h.core s < length C.prologue) ⊎ (length C.prologue ≤ count h.core s) → ⊥
-          by (inl f) = there_is C.prologue (count h.core s) f (let q = e in rw (lt-ltb (count h.core s) (length C.prologue) f) at q)
-          by (inr f) = there_is C.turn (place_at C (count h.core s)) (mod_below (count h.core s - length C.prologue) (length C.turn) some) (let q = e in rw (le-ltb (count h.core s) (length C.prologue) f) at q)
-            where
-              some : 0 < length C.turn
-              some = ⊎_elim (λ d. d) (λ d. let z : length C.turn ≡ 0 = omega arith in let y : reactions j * length C.turn ≡ reactions j * 0 = ap (λ (n : ℕ). reactions j * n) z in absurd (omega arith)) (cases_lt 0 (length C.turn))
-
       pub all_made : full j s ≤ count h.core s
-      all_made = by (cases_lt (count h.core s) (full j s))
-        where
-          by : (count h.core s < full j s) ⊎ (full j s ≤ count h.core s) → full j s ≤ count h.core s
-          by (inl l) = let e = none in absurd (steps_on l (rw (lt-ltb s (length j.program.seqs) there, lt-ltb (count h.core s) (full j s) l) at e))
-          by (inr l) = l
+      all_made = none_left j s N (sym next_same ∙ none)
 
       pub is_finished : answer j h.core s ≡ Finished
       is_finished = rw (le-ltb (count h.core s) (full j s) all_made) refl

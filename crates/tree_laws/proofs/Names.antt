@@ -137,7 +137,7 @@ named_of ds read acc n ih part w d ins s a (Some x) name is e le =
     let same : d ≡ x = cc in
     let body = named_body ds n ih (ports_of ds w) s a d.line d.body (acc.well_read w d e) (lower_lines ds acc (suc n) w d e le) in
     subst (λ (y : Def). IsNamed (vertex_by ds (vertex_within ds n) part w ins s a (Some y))) same
-    (record { part = name; definition = name_word w (known_name ds read w d e); kind = body.0 }, body.1)
+    (record { part = name; definition = known_name ds read w d e; kind = body.0 }, body.1)
 
 named_within : (ds : List Def) → AreWellRead ds → (acc : Accepted ds) (n : ℕ) → MakesNamed ds n
 named_within ds read acc zero part w d ins s a name e le = absurd (omega (arith, acc.ranked.positive w d e))

@@ -4,7 +4,7 @@ use Rattle.algo_tree.specs.Valid.{IsTree}
 use Rattle.algo_tree.specs.View.{view}
 use Rattle.path_text.specs.Named.{HasNames}
 use Rattle.pass_laws.specs.SameMeaning.{KeepsMeaning}
-use Rattle.factorisation_laws.specs.NoRepeat.{HasNoRepeat}
+use Rattle.pass_laws.specs.NoRepeat.{HasNoRepeat}
 use Rattle.conditioning_laws.specs.Guarded.{guard as guarded_tree}
 use Rattle.conditioning_laws.specs.NoCase.{HasNoCase}
 use Rattle.conditioning_laws.proofs.Guard.{guard_main-keeps}

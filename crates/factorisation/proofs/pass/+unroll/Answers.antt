@@ -3,7 +3,7 @@ use Rattle.factorisation_laws.specs.Unrolled.{explodes}
 use Rattle.algo_tree.specs.View.{view}
 use Rattle.algo_tree.specs.Well.{IsWell}
 use Rattle.algo_tree.specs.declared.vertex.Vertex.{the_lemmas}
-use Rattle.factorisation.specs.Size.{vertices_made}
+use Rattle.algo_tree.specs.Size.{vertices_made}
 use Rattle.factorisation.proofs.Unrolling.{bounded, well_at, made_at, inside_made, plain_answered}
 use Rattle.factorisation.proofs.pass.+unroll.Goals as goal
 
@@ -17,7 +17,7 @@ unroll_each-unroll_vertex-requires t c =
     let lt : i < length us = rw items at c.loop-vertex-test.true in
     let well : IsWell (view u) = rw at (well_at us i u c.requires.well lt) in
     let below = made_at us i u lt in
-    let small : vertices_made (view u) ≤ 20000 = rw at (omega (arith, below, c.requires.small)) in
+    let small : vertices_made (view u) ≤ 262144 = rw at (omega (arith, below, c.requires.small)) in
     (search (rules, the_lemmas), (well, small))
 
 pub unroll_inside-add_copies-requires : goal.unroll_inside-add_copies-requires

@@ -4,14 +4,14 @@ use Rattle.algo_tree.specs.Valid.{IsTree}
 use Rattle.algo_tree.specs.View.{view}
 use Rattle.path_text.specs.Named.{HasNames}
 use Rattle.pass_laws.specs.SameMeaning.{KeepsMeaning}
-use Rattle.factorisation_laws.specs.NoRepeat.{HasNoRepeat}
+use Rattle.pass_laws.specs.NoRepeat.{HasNoRepeat}
 use Rattle.factorisation_laws.specs.Unrolled.{unroll as unrolled}
 use Rattle.factorisation_laws.proofs.Unroll.{unroll_main-keeps}
 use Rattle.factorisation_laws.proofs.Unrepeated.{no-unroll}
 use Rattle.factorisation_laws.proofs.Names.{names-unroll}
 use Rattle.factorisation_laws.proofs.Counting.{counted-unroll}
 use Rattle.factorisation_laws.proofs.Trees.{tree-unroll}
-use Rattle.factorisation.specs.Size.{size, vertices_made}
+use Rattle.algo_tree.specs.Size.{size, vertices_made}
 use Rattle.factorisation.proofs.Sizes.{sized-unroll}
 use Rattle.factorisation.proofs.pass.unroll.Goals as goal
 
@@ -38,7 +38,7 @@ returns-clause-count c =
 pub returns-clause-large : goal.returns-clause-large
 returns-clause-large c large =
     let made : vertices_made (view c.main-main.result.now) ≡ size (unrolled c.args.tree.now) = ap vertices_made c.main-main.ensures.same ∙ sym (sized-unroll c.args.tree.now c.main-main.ensures.valid.well) in
-    absurd (omega (arith, made, large, c.count_made.ensures, c.if-count_made-gt-MOST.false))
+    absurd (omega (arith, made, large, c.count_vertices.ensures, c.if-count_vertices-gt-MOST_VERTICES.false))
 
 pub returns-clause-names : goal.returns-clause-names
 returns-clause-names c names =

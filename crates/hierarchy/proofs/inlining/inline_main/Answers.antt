@@ -1,7 +1,6 @@
 use Rattle.std.proofs.Common.{[], length, ap, sym, subst}
 use Rattle.algo_tree.proofs.Views.{view_out}
 use Rattle.inlining_laws.specs.Inlined.{operations}
-use Rattle.flat_graph.specs.Graph.{bodies_view}
 use Rattle.flat_laws.specs.Stands.{Stands}
 use Rattle.hierarchy.specs.Built.{graph_of}
 use Rattle.hierarchy.proofs.Adding.{main_well, main_linked}
@@ -21,10 +20,10 @@ add_level-requires-clause-linked c = main_linked c.args.main.now c.requires.tree
 pub returns-clause-stands : goal.returns-clause-stands
 returns-clause-stands c =
     let none = graph_of record { vertices = c.new.result; bodies = c.new-2.result } in
-    let built = c.in_ok-add_level.ensures.added (λ q. q) prefixes_main [] (none_built none c.new.ensures.items (ap bodies_view c.new-2.ensures.items)) in
+    let built = c.in_ok-add_level.ensures.added (λ q. q) prefixes_main [] (none_built none c.new.ensures.items c.new-2.ensures.items) in
     subst (λ u. Stands (graph_of c.add_level.new.all) (operations u)) (sym (view_out c.args.main.now)) built.stands
 
 pub returns-clause-order : goal.returns-clause-order
 returns-clause-order c =
     let none = graph_of record { vertices = c.new.result; bodies = c.new-2.result } in
-    (c.in_ok-add_level.ensures.added (λ q. q) prefixes_main [] (none_built none c.new.ensures.items (ap bodies_view c.new-2.ensures.items))).order
+    (c.in_ok-add_level.ensures.added (λ q. q) prefixes_main [] (none_built none c.new.ensures.items c.new-2.ensures.items)).order

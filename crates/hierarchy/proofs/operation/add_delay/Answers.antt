@@ -2,7 +2,6 @@ use Rattle.std.proofs.Common.{◌≡◌, suc, ◌++◌, ◌∷◌, [], length, r
 use Rattle.algo_tree.specs.View.{label_view}
 use Rattle.algo_tree.specs.declared.vertex.Vertex.{out-Vertex}
 use Rattle.flat_graph.specs.declared.vertex.Kind.TheVariants.{Get}
-use Rattle.flat_graph.specs.Graph.{bodies_view}
 use Rattle.hierarchy.specs.Built.{IsOperation, graph_of}
 use Rattle.hierarchy.specs.Wires.{led}
 use Rattle.hierarchy.proofs.Building.{delay_added}
@@ -22,6 +21,6 @@ returns-clause-added c =
     let set : c.in_ok-set.set ≡ suc (length old.vertices.items) = omega (arith, one, count, long) in
     let gives : IsOperation w l [] l.outs x = subst (λ outs. IsOperation w l [] outs x) c.as_slice.ensures c.in_ok-operation.ensures.is in
     let takes : IsOperation w l l.ins [] y = subst (λ ins. IsOperation w l ins [] y) c.as_slice-2.ensures c.in_ok-operation-2.ensures.is in
-    delay_added (graph_of old) (record { vertices = c.push-2.new.self.items; bodies = bodies_view old.bodies.items }) w l c.args.values.now x y c.args.path.now
+    delay_added (graph_of old) (record { vertices = c.push-2.new.self.items; bodies = old.bodies.items }) w l c.args.values.now x y c.args.path.now
     c.in_ok-glued.field-0.items c.in_ok-glued-2.field-0.items c.in_ok-get.get c.in_ok-set.set (c.in_ok-push-2.ensures.items ∙ ap (λ xs. xs ++ y ∷ []) c.in_ok-push.ensures.items) refl get set c.in_ok-glued.ensures c.in_ok-glued-2.ensures
     gives c.in_ok-operation.ensures.name (c.in_ok-operation.ensures.task ∙ ap Get c.in_ok-copy_numbers.ensures) c.in_ok-operation.ensures.twin takes c.in_ok-operation-2.ensures.name c.in_ok-operation-2.ensures.task c.in_ok-operation-2.ensures.twin

@@ -1,10 +1,6 @@
-use Rattle.std.proofs.Common.{length, map, sym, subst}
-use Rattle.std.proofs.lemmas.List.{length-map}
-use Rattle.body_lang.specs.Expr.{view}
+use Rattle.std.proofs.Common.{length, subst}
 use Rattle.algo_tree.specs.View.{kind_view, label_view}
 use Rattle.algo_tree.specs.declared.vertex.Vertex.{out-Vertex}
-use Rattle.flat_graph.specs.Graph.{bodies_view}
-use Rattle.flat_laws.specs.Numbering.{IsNumbered}
 use Rattle.hierarchy.specs.Built.{Brings, IsOperation, body_added, graph_of}
 use Rattle.hierarchy.specs.Wires.{led}
 use Rattle.hierarchy.proofs.Building.{run_added}
@@ -20,8 +16,7 @@ returns-clause-added c =
     let bodies = c.task.new.bodies.items in
     let is : IsOperation w l l.ins l.outs x =
     subst (λ ins. IsOperation w l ins l.outs x) c.as_slice.ensures (subst (λ outs. IsOperation w l c.as_slice.result.now outs x) c.as_slice-2.ensures c.in_ok-operation.ensures.is) in
-    let before = c.args.all.now.bodies.items in
-    let brings : Brings (length (bodies_view before)) (length (body_added kind)) task =
-    record { numbered = subst (λ n. IsNumbered n task) (sym (length-map before (map view))) c.in_ok-task.ensures.numbered; many = c.in_ok-task.ensures.many } in
-    run_added (graph_of c.args.all.now) (record { vertices = c.push.new.self.items; bodies = bodies_view bodies }) w l x c.args.path.items kind task (body_added kind)
+    let brings : Brings (length c.args.all.now.bodies.items) (length (body_added kind)) task =
+    record { numbered = c.in_ok-task.ensures.numbered; many = c.in_ok-task.ensures.many } in
+    run_added (graph_of c.args.all.now) (record { vertices = c.push.new.self.items; bodies = bodies }) w l x c.args.path.items kind task (body_added kind)
     c.in_ok-push.ensures.items c.in_ok-task.ensures.added is c.in_ok-operation.ensures.name c.in_ok-operation.ensures.task c.in_ok-operation.ensures.twin c.in_ok-task.ensures.task brings

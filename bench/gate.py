@@ -1,0 +1,193 @@
+#!/usr/bin/env python3
+"""The processor time of the gate, crate by crate: for its proof, its tests and its must-fail edits.
+
+    bench/gate.py ci            runs `rt ci` and measures it: while it runs, the time of each process of the prover is looked at
+                                every half second, and booked on the crate and the kind of work that its words name.
+                                A process's last half second is not seen.
+    bench/gate.py parts [NAME..] measures the parts themselves, one crate at a time, in a copy of the repository: the tests from nothing,
+                                the proof from nothing, the edits. Crates below those named are proved first, unmeasured.
+                                What earlier checks kept is not used for the crates named.
+
+Both print a line a crate in minutes of a processor, the greatest first, and the sums. The log of `rt ci` has no times itself."""
+import os
+import shutil
+import subprocess
+import sys
+import tempfile
+import time
+
+TOP = os.path.dirname(os.path.dirname(os.path.abspath(__file__)))
+TICK = os.sysconf("SC_CLK_TCK")
+KINDS = ("proof", "tests", "edits")
+
+
+def crates():
+    """The libraries of the repository that each crate stands on, by crates.txt."""
+    rows = {}
+    with open(f"{TOP}/crates.txt", encoding="utf-8") as it:
+        for line in it:
+            name, colon, below = line.partition("#")[0].partition(":")
+            if colon:
+                rows[name.split()[0]] = below.split()
+    return {name: [it for it in below if it in rows] for name, below in rows.items()}
+
+
+def lowest_first(rows, names):
+    """These crates and all below them, each after those that it stands on."""
+    found = []
+
+    def add(name):
+        if name not in found:
+            for it in rows[name]:
+                add(it)
+            found.append(name)
+
+    for name in names:
+        add(name)
+    return found
+
+
+class Table:
+    """Seconds of a processor by crate and kind of work."""
+
+    def __init__(self):
+        self.seconds = {}
+
+    def add(self, name, kind, seconds):
+        row = self.seconds.setdefault(name, dict.fromkeys(KINDS, 0.0))
+        row[kind] += seconds
+
+    def show(self):
+        print(f"{'crate':24}{'proof':>8}{'tests':>8}{'edits':>8}{'all':>8}  minutes of a processor")
+        for name, row in sorted(self.seconds.items(), key=lambda it: -sum(it[1].values())):
+            self.line(name, [row[kind] for kind in KINDS])
+        self.line("all", [sum(row[kind] for row in self.seconds.values()) for kind in KINDS])
+
+    def line(self, name, seconds):
+        print(f"{name:24}" + "".join(f"{it / 60:8.1f}" for it in [*seconds, sum(seconds)]), flush=True)
+
+
+def work_of(words, folder):
+    """The crate and the kind of work of a process of the prover, by its words and its folder; None for any other process."""
+    if len(words) < 4 or os.path.basename(words[0]) != "rattle" or "--crate-name" not in words[:-1]:
+        return None
+    name = words[words.index("--crate-name") + 1]
+    if os.path.basename(folder).startswith("rt-edit-"):
+        return name, "edits"
+    return name, "tests" if "--test" in words else "proof"
+
+
+def seen(parent):
+    """The seconds so far of each process below this one, with its start, words and folder."""
+    stats = {}
+    for number in filter(str.isdigit, os.listdir("/proc")):
+        try:
+            with open(f"/proc/{number}/stat", encoding="utf-8", errors="replace") as it:
+                fields = it.read().rpartition(") ")[2].split()
+            stats[int(number)] = (int(fields[1]), fields[19], (int(fields[11]) + int(fields[12])) / TICK)
+        except OSError:
+            pass
+    below, more = set(), {parent}
+    while more:
+        below |= more
+        more = {it for it, (above, _, _) in stats.items() if above in more} - below
+    for number in below & set(stats):
+        try:
+            with open(f"/proc/{number}/cmdline", "rb") as it:
+                words = it.read().decode(errors="replace").split("\0")
+            yield number, stats[number], words, os.readlink(f"/proc/{number}/cwd")
+        except OSError:
+            pass
+
+
+def watch(process):
+    """Books the time of the prover's processes below this one until it ends."""
+    latest = {}
+    while process.poll() is None:
+        for number, (_, start, seconds), words, folder in seen(process.pid):
+            work = work_of(words, folder)
+            if work:
+                latest[number, start] = work, seconds
+        time.sleep(0.5)
+    table = Table()
+    for (name, kind), seconds in latest.values():
+        table.add(name, kind, seconds)
+    return table
+
+
+def measure_ci():
+    """Runs the gate with its own output, and prints the table."""
+    start = time.monotonic()
+    with subprocess.Popen(["rt", "ci"], cwd=TOP, stdin=subprocess.DEVNULL) as process:
+        table = watch(process)
+    table.show()
+    print(f"{(time.monotonic() - start) / 60:.1f} minutes in all; rt ci ended with status {process.returncode}")
+    return process.returncode
+
+
+def spent(words, folder):
+    """Runs a command and answers its status and the seconds of a processor that it and all that it waited for took."""
+    process = subprocess.Popen(words, cwd=folder, stdin=subprocess.DEVNULL, stdout=subprocess.DEVNULL, stderr=subprocess.DEVNULL)
+    _, status, usage = os.wait4(process.pid, 0)
+    process.returncode = os.waitstatus_to_exitcode(status)
+    return process.returncode, usage.ru_utime + usage.ru_stime
+
+
+def has_tests(folder):
+    for at, _, files in os.walk(f"{folder}/src"):
+        for file in files:
+            with open(f"{at}/{file}", encoding="utf-8") as it:
+                if "#[test]" in it.read():
+                    return True
+    return False
+
+
+def measure_parts(names):
+    """Measures the parts of each crate in a copy, which is thrown away, and prints the table."""
+    rows = crates()
+    table, wanted = Table(), names or list(rows)
+    with tempfile.TemporaryDirectory(prefix="gate-") as room:
+        top = f"{room}/top"
+        shutil.copytree(TOP, top, ignore=shutil.ignore_patterns(".git", "out"), symlinks=True)
+        os.mkdir(f"{top}/.git")
+        for name in lowest_first(rows, wanted):
+            folder = f"{top}/crates/{name}"
+            if name not in wanted:
+                if os.path.isdir(f"{TOP}/crates/{name}/out/rlib"):
+                    shutil.copytree(f"{TOP}/crates/{name}/out/rlib", f"{folder}/out/rlib")
+                spent(["rt", "lib", "--jobs", "1"], folder)
+                continue
+            measure(table, name, folder, top)
+            table.line(name, [table.seconds[name][kind] for kind in KINDS])
+    print()
+    table.show()
+    return 0
+
+
+def measure(table, name, folder, top):
+    """Measures the parts of one crate whose libraries are proved."""
+    parts = {"proof": (["rt", "check", "--jobs", "1"], folder)}
+    if has_tests(folder):
+        parts = {"tests": (["rt", "check", "--test", "--jobs", "1"], folder), **parts}
+    if os.path.isdir(f"{folder}/must-fail"):
+        parts["edits"] = (["rt", "must-fail", name], top)
+    for kind, (words, at) in parts.items():
+        if kind != "edits":
+            shutil.rmtree(f"{folder}/out", ignore_errors=True)
+        status, seconds = spent(words, at)
+        table.add(name, kind, seconds)
+        if status:
+            print(f"{name}: {' '.join(words)} ended with status {status}", file=sys.stderr)
+
+
+def main(words):
+    if words == ["ci"]:
+        return measure_ci()
+    if words[:1] == ["parts"] and all(it in crates() for it in words[1:]):
+        return measure_parts(words[1:])
+    print(__doc__, file=sys.stderr)
+    return 2
+
+
+if __name__ == "__main__":
+    sys.exit(main(sys.argv[1:]))

@@ -1,0 +1,8 @@
+mod Rows
+pub mod Greedy
+pub mod Lists
+pub mod Meaning
+pub mod Rounds
+pub mod Running
+pub mod Tasks
+pub mod Whole

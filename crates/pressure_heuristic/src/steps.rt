@@ -1,0 +1,64 @@
+//! Adequation: the pressure run from its first decision to its last.
+ghost use Rattle.std.specs.Prelude.{◌≡◌, ◌≤◌, [], IfOk, IsTrue, length};
+ghost use Rattle.durations.specs.Table.{entry_in};
+ghost use Rattle.schedule.specs.Valid.{is_valid};
+ghost use Rattle.comm_routing.specs.Draft.{FitsTable, task_of};
+ghost use Rattle.pressure_heuristic.specs.Adequation.{IsPressureRun};
+ghost use Rattle.pressure_heuristic.specs.Choosing.{IsGuide};
+ghost use Rattle.pressure_heuristic.specs.Pressure.{pressure_run};
+
+use crate::choice::decide;
+use crate::tails::all_tails;
+use archi_graph::Archi;
+use comm_routing::Draft;
+use durations::Durations;
+use flat_graph::Flat;
+use route_table::routes_of;
+use schedule::Schedule;
+use std::alloc::Global;
+use syn_base::OutOfMemory;
+
+/// The schedule of a flat graph on an architecture by greedy choice: in each step the candidate of
+/// greatest pressure is placed on its operator of least pressure, ties to the lower number. The
+/// durations are those of the flat graph and the architecture, in which a set half may stand wherever
+/// its get half may. The schedule is valid, so every operation is placed.
+pub fn adequation(
+    alloc: Global,
+    flat: &Flat,
+    archi: &Archi,
+    durations: &Durations,
+) -> Result<Schedule, OutOfMemory>
+    requires { FitsTable flat.now archi.now durations.now }
+    ensures run { IfOk result (λ s. IsPressureRun flat.now archi.now durations.now s) }
+    ensures valid { IfOk result (λ s. IsTrue (is_valid flat.now archi.now (entry_in durations.now) s)) }
+{
+    let _operators = archi.operators();
+    let operations = durations.operations();
+    let vertices = flat.vertices();
+    let tails = all_tails(alloc, vertices, durations)?;
+    let routes = routes_of(alloc, archi)?;
+    let draft = Draft::new(alloc, flat, archi, durations, &routes)?;
+    run(draft, durations, &tails, operations)
+}
+
+/// Makes so many decisions, or fewer where none is left.
+fn run(
+    draft: Draft,
+    durations: &Durations,
+    tails: &[u64],
+    operations: usize,
+) -> Result<Schedule, OutOfMemory>
+    requires guide { IsGuide draft durations.now tails.now }
+    requires first { draft.decisions ≡ [] }
+    requires all { operations ≡ length draft.graph.vertices }
+    ensures { IfOk result (λ s. s ≡ pressure_run (task_of draft.entry)) }
+{
+    let mut draft = draft;
+    for _decision in 0..operations {
+        match decide(&draft, durations, tails) {
+            Some(next) => draft.place(next.op, next.operator)?,
+            None => return Ok(draft.finish()),
+        }
+    }
+    Ok(draft.finish())
+}

@@ -1,0 +1,106 @@
+//! One call of the program, and what the transcript has of it.
+
+use crate::conditions::Conditions;
+use crate::file::{File, bytes_of};
+use outside::{GateFree, ShelfMem, SinkMem};
+use std::alloc::{AllocError, Global};
+use std::io;
+use std::io::Write;
+use std::rt::Files;
+use std::sync::Wait;
+use std::thread::Threads;
+use syn_base::Items;
+use syndex_program::syndex;
+
+/// Calls the program with these words, and writes the call and its answers into the transcript.
+pub fn call<R: Files + Print + AllocGlobal + Threads + Wait + Sync>(
+    rt: &R,
+    files: &[File],
+    words: &str,
+    holds: &Conditions,
+) -> io::Result<()> {
+    println!(rt; "$ {words}")?;
+    let alloc = rt.alloc();
+    let given = words_of(alloc, words)?;
+    let mut shelf = shelf_for(rt, files, &given, &holds.shelf_fails)?;
+    let mut out = holds.out.sink(alloc)?;
+    let mut err = holds.err.sink(alloc)?;
+    let status = syndex(rt, alloc, &given, &mut shelf, &mut out, &mut err, &GateFree);
+    write_output(rt, files, holds, out.bytes())?;
+    write_line(rt, err.bytes())?;
+    println!(rt; "= {}", status.number())?;
+    if holds.counts {
+        write_counts(rt, &shelf, &out)?;
+    }
+    Ok(())
+}
+
+/// The words of a call. `''` is the empty word.
+fn words_of(alloc: Global, words: &str) -> Result<Vec<String>, AllocError> {
+    let mut given = Vec::new(alloc);
+    for word in words.split_whitespace() {
+        let word = if word == "''" { "" } else { word };
+        given.push(String::from_str(alloc, word)?)?;
+    }
+    Ok(given)
+}
+
+/// A shelf with the files that the words name.
+fn shelf_for<R: Files + AllocGlobal>(
+    rt: &R,
+    files: &[File],
+    words: &[String],
+    fails: &[u64],
+) -> io::Result<ShelfMem> {
+    let mut held = Vec::new(rt.alloc());
+    for word in words {
+        if let Some(bytes) = bytes_of(rt, files, word.as_str())? {
+            let name = Vec::from_slice(rt.alloc(), word.as_bytes())?;
+            held.push((Items::new(name), Items::new(bytes)))?;
+        }
+    }
+    let fails = Vec::from_slice(rt.alloc(), fails)?;
+    Ok(ShelfMem::new(Items::new(held), Items::new(fails)))
+}
+
+/// Writes the output, or the name of the file that holds it.
+fn write_output<R: Files + Print + AllocGlobal>(
+    rt: &R,
+    files: &[File],
+    holds: &Conditions,
+    output: &[u8],
+) -> io::Result<()> {
+    if let Some(name) = &holds.output {
+        if let Some(wanted) = bytes_of(rt, files, name.as_str())? {
+            if wanted.as_slice() == output {
+                return println!(rt; "({name})");
+            }
+        }
+    }
+    write_ended(rt, output)
+}
+
+/// Writes what stands on the error stream after `! `, where anything does.
+fn write_line(rt: &impl Print, line: &[u8]) -> io::Result<()> {
+    if line.is_empty() {
+        return Ok(());
+    }
+    print!(rt; "! ")?;
+    write_ended(rt, line)
+}
+
+/// Writes bytes as they are, and `\c` with a line feed where they end with none.
+fn write_ended(rt: &impl Print, bytes: &[u8]) -> io::Result<()> {
+    io::writer(rt).write_all(bytes)?;
+    match bytes.last() {
+        None | Some(b'\n') => Ok(()),
+        Some(_) => println!(rt; "\\c"),
+    }
+}
+
+/// Writes how many calls were made on the shelf and on the output.
+fn write_counts(rt: &impl Print, shelf: &ShelfMem, out: &SinkMem) -> io::Result<()> {
+    let shelf = shelf.calls;
+    let out = out.calls();
+    println!(rt; "calls: shelf {shelf}, out {out}")
+}

@@ -1,0 +1,70 @@
+//! What holds for the next call.
+
+use crate::script::Condition;
+use outside::SinkMem;
+use std::alloc::{AllocError, Global};
+
+/// The most bytes of an output, where a script says nothing else.
+const ROOM: usize = 1_048_576;
+
+/// What is said of a sink.
+#[derive(Drop)]
+pub struct SinkSays {
+    fails: Vec<u64>,
+    takes: usize,
+    holds: usize,
+}
+
+impl SinkSays {
+    fn new(alloc: Global) -> SinkSays {
+        SinkSays {
+            fails: Vec::new(alloc),
+            takes: ROOM,
+            holds: ROOM,
+        }
+    }
+
+    /// A sink of which this is said. It takes a byte a call at least.
+    pub fn sink(&self, alloc: Global) -> Result<SinkMem, AllocError> {
+        let fails = Vec::from_slice(alloc, &self.fails)?;
+        SinkMem::new(alloc, self.holds, self.takes.max(1), fails).map_err(|_| AllocError)
+    }
+}
+
+/// What is said of the next call.
+#[derive(Drop)]
+pub struct Conditions {
+    pub shelf_fails: Vec<u64>,
+    pub out: SinkSays,
+    pub err: SinkSays,
+    pub output: Option<String>,
+    pub counts: bool,
+}
+
+impl Conditions {
+    /// Nothing fails, and nothing is held against a file.
+    pub fn new(alloc: Global) -> Conditions {
+        Conditions {
+            shelf_fails: Vec::new(alloc),
+            out: SinkSays::new(alloc),
+            err: SinkSays::new(alloc),
+            output: None,
+            counts: false,
+        }
+    }
+
+    /// One thing more.
+    pub fn add(&mut self, alloc: Global, condition: Condition<'_>) -> Result<(), AllocError> {
+        match condition {
+            Condition::ShelfFails(call) => self.shelf_fails.push(call)?,
+            Condition::OutFails(call) => self.out.fails.push(call)?,
+            Condition::OutTakes(most) => self.out.takes = most,
+            Condition::OutHolds(room) => self.out.holds = room,
+            Condition::ErrFails(call) => self.err.fails.push(call)?,
+            Condition::ErrTakes(most) => self.err.takes = most,
+            Condition::Count => self.counts = true,
+            Condition::Output(name) => self.output = Some(String::from_str(alloc, name)?),
+        }
+        Ok(())
+    }
+}

@@ -1,0 +1,122 @@
+//! The lines of a script.
+
+/// What a line of a script asks for. NAME is a word; TEXT is the rest of the line, with the escapes
+/// of `file`.
+#[derive(Clone, Copy)]
+pub enum Line<'a> {
+    /// An empty line, or a comment after `#`: it goes into the transcript.
+    Comment,
+    /// `$ WORDS`: a call of the program with these words, of which the first is its own name.
+    Call(&'a str),
+    /// `file NAME`: the lines up to the next such one write this file, in place of an earlier one.
+    File(&'a str),
+    /// What is written to that file.
+    Edit(Edit<'a>),
+    /// What holds for the next call.
+    Condition(Condition<'a>),
+    /// Any other line: it goes into the transcript after a question mark.
+    Unknown,
+}
+
+/// What is written to the newest file.
+#[derive(Clone, Copy)]
+pub enum Edit<'a> {
+    /// `| TEXT`: one more line.
+    Text(&'a str),
+    /// `copy NAME`: all bytes of another file.
+    Copy(&'a str),
+    /// `times COUNT TEXT`: as many lines, with their numbers from 0 in the place of `%`.
+    Times(u64, &'a str),
+    /// `line NUMBER TEXT`: this text in place of that line, counted from 1.
+    Line(u64, &'a str),
+    /// `pad SIZE`: as many `#` as bring the file to this size.
+    Pad(usize),
+}
+
+/// What holds for the next call alone. Calls of the outside are counted from 0.
+#[derive(Clone, Copy)]
+pub enum Condition<'a> {
+    /// `shelf fails N`: call N on the shelf fails.
+    ShelfFails(u64),
+    /// `out fails N`: call N on the output fails.
+    OutFails(u64),
+    /// `out takes N`: a call on the output takes at most N bytes.
+    OutTakes(usize),
+    /// `out holds N`: there is room for N bytes of output.
+    OutHolds(usize),
+    /// `err fails N`: call N on the error stream fails.
+    ErrFails(u64),
+    /// `err takes N`: a call on the error stream takes at most N bytes.
+    ErrTakes(usize),
+    /// `count calls`: the numbers of calls on the shelf and on the output are told.
+    Count,
+    /// `output NAME`: where the output is what this file holds, its name stands in the transcript.
+    Output(&'a str),
+}
+
+/// What a line asks for.
+pub fn line_of(line: &str) -> Line<'_> {
+    if line.is_empty() || line.starts_with('#') {
+        return Line::Comment;
+    }
+    let (word, rest) = line.split_once(' ').unwrap_or((line, ""));
+    match word {
+        "$" => Line::Call(rest),
+        "file" => Line::File(rest),
+        _ => {
+            if let Some(edit) = edit_of(word, rest) {
+                return Line::Edit(edit);
+            }
+            condition_of(word, rest).map_or(Line::Unknown, Line::Condition)
+        }
+    }
+}
+
+/// What is written to the newest file, by the first word of a line and its rest.
+fn edit_of<'a>(word: &str, rest: &'a str) -> Option<Edit<'a>> {
+    match word {
+        "|" => Some(Edit::Text(rest)),
+        "copy" => Some(Edit::Copy(rest)),
+        "pad" => Some(Edit::Pad(rest.parse::<usize>().ok()?)),
+        "times" => {
+            let (count, text) = counted(rest)?;
+            Some(Edit::Times(count, text))
+        }
+        "line" => {
+            let (number, text) = counted(rest)?;
+            Some(Edit::Line(number, text))
+        }
+        _ => None,
+    }
+}
+
+/// A number and the text after it.
+fn counted(rest: &str) -> Option<(u64, &str)> {
+    let (number, text) = rest.split_once(' ')?;
+    Some((number.parse::<u64>().ok()?, text))
+}
+
+/// What holds for the next call, by the first word of a line and its rest.
+fn condition_of<'a>(word: &str, rest: &'a str) -> Option<Condition<'a>> {
+    match word {
+        "output" => Some(Condition::Output(rest)),
+        "count" => Some(Condition::Count),
+        _ => {
+            let (verb, number) = rest.split_once(' ')?;
+            limit_of(word, verb, number.parse::<u64>().ok()?)
+        }
+    }
+}
+
+/// What holds of the calls on one part of the outside.
+fn limit_of<'a>(part: &str, verb: &str, number: u64) -> Option<Condition<'a>> {
+    match (part, verb) {
+        ("shelf", "fails") => Some(Condition::ShelfFails(number)),
+        ("out", "fails") => Some(Condition::OutFails(number)),
+        ("out", "takes") => Some(Condition::OutTakes(number as usize)),
+        ("out", "holds") => Some(Condition::OutHolds(number as usize)),
+        ("err", "fails") => Some(Condition::ErrFails(number)),
+        ("err", "takes") => Some(Condition::ErrTakes(number as usize)),
+        _ => None,
+    }
+}
