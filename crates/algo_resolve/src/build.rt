@@ -170,7 +170,7 @@ fn build_copy(
     Ok(inner)
 }
 
-/// The definitions that a switch names, and how many inputs it has behind the conditioning one.
+/// The definitions that a switch names, and how many inputs it has after the conditioning one.
 #[derive(Clone, Copy)]
 struct Cases<'a> {
     ins: usize,
@@ -216,7 +216,7 @@ fn inner_seat(number: u32, ins: Items<Source>) -> Seat
     }
 }
 
-/// Where the case of this number stands: it takes the inputs behind the conditioning one.
+/// Where the case of this number stands: it takes the inputs after the conditioning one.
 fn case_seat(alloc: Global, number: usize, ins: usize) -> Result<Seat, OutOfMemory>
     ensures { IfOk result (λ s. s ≡ record { part = Numbered number; ins = owns 1 ins; sensor = 0; actuator = 0 }) }
 {
@@ -256,7 +256,7 @@ fn build_references(
     Ok(inner)
 }
 
-/// Where a reference stands, behind so many sensors and actuators.
+/// Where a reference stands, after this many sensors and actuators.
 fn reference_seat(
     alloc: Global,
     reference: &Reference,
@@ -296,7 +296,7 @@ fn actuators_of(def: &Def) -> u32
     }
 }
 
-/// So many own inputs, from a first on, as sources.
+/// This many own inputs, from a first one on, as sources.
 fn own_inputs(alloc: Global, first: u32, count: usize) -> Result<Items<Source>, OutOfMemory>
     ensures { IfOk result (λ sources. sources ≡ owns first count) }
 {

@@ -44,7 +44,7 @@ pub fn reference_number(references: &[Reference], name: &Name) -> usize
     references.len()
 }
 
-/// A number of a port, a reference or a case as a tree has it. No text has 2^32 of them: so many
+/// A number of a port, a reference or a case as a tree has it. No text has 2^32 of them: more
 /// would be want of memory.
 pub fn small(number: usize) -> Result<u32, OutOfMemory>
     ensures { IfOk result (λ n. n ≡ number) }

@@ -1,4 +1,5 @@
-//! Copies of what a tree is made of, each in memory of its own.
+//! Copies of what a tree is made of, each in memory of its own but for the body of a function, which is
+//! shared. Resolving and the passes of flattening make vertices from them.
 #![tactic(auto)]
 
 mod kind;
