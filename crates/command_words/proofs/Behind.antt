@@ -1,4 +1,4 @@
--- A word more is a word behind those before.
+-- A word more is a word after those before.
 use Rattle.std.proofs.Common.{◌≡◌, refl, sym, ap, List, [], ◌∷◌, ◌++◌, Option, Some, None, append_assoc}
 use Rattle.command_words.specs.Command.{Bytes, Arguments, with_plain, with_workers}
 

@@ -138,7 +138,7 @@ module _ (program : Text) (ws : List Text) (u : AreTexts ws) where
       by (walk.accepted a b c n k t m) =
           accepted (codes "run") a (Some b) (Some c) n _ (at_run.faults program ws ∙ k) (at_run.rows program ws) t (whole ∙ m)
 
-  -- the words behind the program's name begin with another word than this name
+  -- the words after the program's name begin with another word than this name
   named_or : (name word : Text) → Exact (program ∷ name ∷ ws) → (bytes_eq name word ≡ false → Exact (program ∷ word ∷ ws)) → Exact (program ∷ word ∷ ws)
   named_or name word here other =
       elim (two_ways (bytes_eq name word)) [

@@ -1,4 +1,4 @@
--- The words behind a name, as clap reads them.
+-- The words after a name, as clap reads them.
 use Rattle.std.proofs.Common.{◌≡◌, List, [], ◌∷◌, Bool, true, false, Option, Some, None, refl, codes}
 use Rattle.clap.specs.Walk.{Held, Row, nothing_held, arg_by_index, to_positional}
 use Rattle.clap.specs.Simple.{Shape, App, built_leaf, inherited, with_leaf_noted, marked_built}

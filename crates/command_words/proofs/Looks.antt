@@ -21,7 +21,7 @@ plain_short [] h = refl
 plain_short (x ∷ []) h = elim (two_ways (x == 45)) [ inl e ↦ rw e refl | inr e ↦ rw e refl ]
 plain_short (x ∷ y ∷ rest) h = rw h refl
 
--- a dashed word is long, or short with something behind the hyphen
+-- a dashed word is long, or short with something after the hyphen
 pub data Dashed (w : Text) : Type 0 where
   long : (p : Text × Option Text) → long_of w ≡ Some p → Dashed w
   short : (x : ℕ) (rest : Text) → w ≡ 45 ∷ x ∷ rest → long_of w ≡ None → short_of w ≡ Some (x ∷ rest) → Dashed w
@@ -43,7 +43,7 @@ some_chars : (cs : List ℕ) (x : ℕ) (rest : Text) → encode_utf8_all cs ≡ 
 some_chars [] x rest e = cc
 some_chars (d ∷ ds) x rest e = (d, ds, refl)
 
--- text behind a hyphen has a first character
+-- text after a hyphen has a first character
 pub first_char : (x : ℕ) (rest : Text) → IsUtf8 (45 ∷ x ∷ rest) → (c : ℕ) × (cs : List ℕ) × (chars (x ∷ rest) ≡ c ∷ cs)
 first_char x rest u =
     let v : IsUtf8 (x ∷ rest) = IsUtf8-drop (45 ∷ x ∷ rest) 1 u (IsCharBoundary-after_ascii (45 ∷ x ∷ rest) 0 u (omega arith) (lit< tt)) in

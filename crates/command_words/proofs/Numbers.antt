@@ -5,7 +5,7 @@ use Rattle.syn_base.specs.Name.{is_digit}
 use Rattle.syn_base.specs.Integer.{number_after}
 use Rattle.command_words.specs.Command.{Bytes, number_up_to}
 
--- the number behind n that these bytes write, where it is from 1 to this one
+-- the number after n that these bytes write, where it is from 1 to this one
 abbrev pub read_on : ℕ → ℕ → Bytes → Option ℕ
 read_on most n bs = if list_all is_digit bs && nat_le 1 (number_after n bs) && nat_le (number_after n bs) most then Some (number_after n bs) else None
 

@@ -77,6 +77,6 @@ is_given (x ∷ y ∷ []) p l n =
     ]
 is_given (x ∷ y ∷ z ∷ zs) p l n = named_so x y z zs p l n
 
--- what is joined to the option stands behind it
+-- what is joined to the option stands after it
 pub joined_is : (w : Text) → is_joined w ≡ true → w ≡ codes "--workers=" ++ drop 10 w
 joined_is w j = sym (take-append-drop 10 w) ∙ ap (λ (f : Text). f ++ drop 10 w) ((bytes_eq-Decides (take 10 w) (codes "--workers=")).0 j)

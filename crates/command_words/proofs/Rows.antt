@@ -1,4 +1,4 @@
--- Rows that are put behind others, one for each argument.
+-- Rows that are put after others, one for each argument.
 use Rattle.std.proofs.Common.{◌≡◌, ◌∙◌, List, [], ◌∷◌, ◌++◌, true, false, Option, Some, None, inl, inr, refl, sym, ap}
 use Rattle.std.specs.Prelude.{find, is_some, option_map}
 use Rattle.std.specs.Option.{option_or}

@@ -1,4 +1,4 @@
--- clap reads the words behind `run` as the definition does.
+-- clap reads the words after `run` as the definition does.
 use Rattle.std.proofs.Common.{◌≡◌, ◌∙◌, ℕ, suc, List, [], ◌∷◌, ◌++◌, Bool, true, false, Option, Some, None, inl, inr, refl, sym, subst, ap, codes, length, drop, arith, nat_le}
 use Rattle.std.proofs.lemmas.Bool.Decides.{nat_tests}
 use Rattle.std.specs.Prelude.{slice_get}
@@ -185,7 +185,7 @@ module _ (h : Held) (rs : List Row) (us : List Text) (t : Bool) (x : Text) (xs :
   plain_taken (a ∷ b ∷ c ∷ []) k turn moves = fate_not _ x xs _ (subst IsRefused (sym turn) (none_takes h)) (fourth_none a b c x us rest)
   plain_taken (a ∷ b ∷ c ∷ d ∷ ds) k turn moves = absurd k.few
 
--- behind `--` each word is plain
+-- after `--` each word is plain
 ended : (ws : List Text) (h : Held) (rs : List Row) (ps us : List Text) → Stands h rs → Holds rs ps us → Fate (at h (pos ps) true) ws (behind (given ps us) (Some (given ws [])))
 ended [] h rs ps us s k = at_end h rs ps us true s k
 ended (x ∷ xs) h rs ps us s k =
@@ -323,6 +323,6 @@ reads false [] u w rs ps us b k = subst (λ (v : Walk). Fate v [] (behind (given
 reads false (x ∷ xs) u w rs ps us b k =
     subst (λ (v : Walk). Fate v (x ∷ xs) (behind (given ps us) (arguments_of true false (x ∷ xs)))) (sym b.1) (free_word x xs u.0 (reads false xs u.1) (reads true xs u.1) b.0 rs b.2 ps us k)
 
--- the words behind `run`
+-- the words after `run`
 pub run_read : (ws : List Text) → AreTexts ws → Fate (at nothing_held 1 false) ws (behind (given [] []) (arguments_of true false ws))
 run_read ws u = reads false ws u (at nothing_held 1 false) [] [] [] (nothing_held, refl, stands_bare []) holds_nothing

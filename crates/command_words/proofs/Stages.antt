@@ -75,7 +75,7 @@ pub record Takes (s : Shape) (h : Held) (p : ℕ) (next : Text → Held) : Type 
   pub goes : (x : Text) (t : Bool) → to_positional s.rules (arg_by_index s.rules p) x (at h p t) h ≡ at (next x) (suc p) t
 
 module _ (s : Shape) (h : Held) (p : ℕ) (f : List Text → Option (List Row)) (free : NoOptions s) (unskipped : h.skip ≡ 0) (ends : (t : Bool) → Fits s (at h p t) [] (f [])) where
-  -- a positional stands at this place, and what is behind it is read as g says
+  -- a positional stands at this place, and what is after it is read as g says
   pub stage : (next : Text → Held) (g : Text → List Text → Option (List Row)) → Takes s h p next → ((x : Text) (us : List Text) → f (x ∷ us) ≡ g x us) → ((x : Text) → Reads s (next x) (suc p) (g x)) → Reads s h p f
   stage next g k eq r true [] u = ends true
   stage next g k eq r false [] u = ends false

@@ -67,7 +67,7 @@ module _ (name : Text) (s : Shape) (n : IsNamed name s) where
   rows_found : (program : Text) (ws : List Text) → subcommand_of the_app (program ∷ name ∷ ws) ≡ Some (name, rows_of_walk s (at nothing_held 1 false) ws)
   rows_found program ws = ap (λ (v : Walk). entered (built the_app) v.stopped) (whole_walk ws) ∙ n.found ws
 
--- what clap makes of words behind a name
+-- what clap makes of words after a name
 pub record Behaves (name : Text) (s : Shape) : Type 0 where
   pub faults : (program : Text) (ws : List Text) → fault_of the_app (program ∷ name ∷ ws) ≡ faults_of s (at nothing_held 1 false) ws
   pub rows : (program : Text) (ws : List Text) → subcommand_of the_app (program ∷ name ∷ ws) ≡ Some (name, rows_of_walk s (at nothing_held 1 false) ws)

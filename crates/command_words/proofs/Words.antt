@@ -36,7 +36,7 @@ workers ws = codes "run" ∷ a ∷ h ∷ s ∷ ws
 runs : (of (workers []) ≡ Some (run a h s None)) × (of (codes "run" ∷ a ∷ h ∷ []) ≡ None)
 runs = (refl, refl)
 
--- in both forms, anywhere behind the command, with leading zeros
+-- in both forms, anywhere after the command, with leading zeros
 given : (of (workers (codes "--workers" ∷ codes "80" ∷ [])) ≡ Some (run a h s (Some 80)))
     × (of (workers (codes "--workers=04" ∷ [])) ≡ Some (run a h s (Some 4)))
     × (of (codes "run" ∷ codes "--workers" ∷ codes "1" ∷ a ∷ h ∷ s ∷ []) ≡ Some (run a h s (Some 1)))
@@ -53,7 +53,7 @@ twice = (refl, refl)
 elsewhere : (of (codes "sim" ∷ a ∷ s ∷ codes "--workers=1" ∷ []) ≡ None) × (of (codes "--workers=1" ∷ codes "run" ∷ a ∷ h ∷ s ∷ []) ≡ None)
 elsewhere = (refl, refl)
 
--- behind `--` each word is plain, a second `--` too; before the command there is none
+-- after `--` each word is plain, a second `--` too; before the command there is none
 ended : (of (codes "run" ∷ a ∷ codes "--" ∷ codes "--workers" ∷ codes "--" ∷ []) ≡ Some (run a (codes "--workers") (codes "--") None)) × (of (codes "--" ∷ codes "sim" ∷ a ∷ s ∷ []) ≡ None)
 ended = (refl, refl)
 

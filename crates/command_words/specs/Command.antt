@@ -26,7 +26,7 @@ abbrev pub number_up_to : ℕ → Bytes → Option ℕ
 number_up_to most w =
     if nat_le 1 (length w) && list_all is_digit w && nat_le 1 (number_of w) && nat_le (number_of w) most then Some (number_of w) else None
 
--- the plain arguments behind the command, and what is given as workers
+-- the plain arguments after the command, and what is given as workers
 pub record Arguments : Type 0 where
   pub plain : List Bytes
   pub workers : List Bytes
@@ -48,7 +48,7 @@ is_option (b ∷ c ∷ w) = b == 45
 abbrev pub is_joined : Bytes → Bool
 is_joined w = bytes_eq (take 10 w) (codes "--workers=")
 
--- Words behind the command, one of which may be awaited as a number of workers. `--` ends the options. Workers may be given where the command takes them; no other word may begin with `-`.
+-- Words after the command, one of which may be awaited as a number of workers. `--` ends the options. Workers may be given where the command takes them; no other word may begin with `-`.
 abbrev pub arguments_of : (takes awaited : Bool) → List Bytes → Option Arguments
 arguments_of takes true [] = None
 arguments_of takes false [] = Some (record { plain = []; workers = [] })

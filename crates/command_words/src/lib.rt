@@ -1,4 +1,5 @@
-//! The commands of the program, and which one the words of the command line are: `specs/Command`.
+//! The commands of the program, and which one the words of the command line are: `command_of`, which the
+//! program calls first. The table of commands stands in `specs/Command`.
 #![tactic(auto)]
 
 ghost use Rattle.std.specs.Prelude.{◌≡◌, IfOk, Some, map, option_map};

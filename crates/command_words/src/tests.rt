@@ -3,7 +3,7 @@ use crate::{Command, command_of};
 use std::alloc::Global;
 use std::test::Fail;
 
-/// Whether the words behind the program's name are this command.
+/// Whether the words after the program's name are this command.
 fn is(alloc: Global, words: &[&str], wanted: Option<Command<'_>>) -> Result<bool, Fail> {
     let mut given = Vec::new(alloc);
     given.push(String::from_str(alloc, "syndex")?)?;
