@@ -1,12 +1,11 @@
 -- Choices, one element more.
-use Rattle.std.proofs.Common.{◌≡◌, ℕ, zero, suc, ◌+◌, ◌-◌, ◌<◌, ◌≤◌, Bool, true, false, cond, ◌&&◌, not, List, [], ◌∷◌, map, length, drop, get_or, Option, Some, None, refl, sym, ap, subst, arith, ◌∙◌, drop-cons}
-use Rattle.std.specs.Prelude.{nat_lt, slice_index_or}
-use Rattle.std.specs.List.{filter, list_all, range_with_len}
+use Rattle.std.proofs.Common.{◌≡◌, ℕ, zero, suc, ◌+◌, ◌-◌, ◌<◌, ◌≤◌, Bool, true, false, cond, List, [], ◌∷◌, length, drop, get_or, Option, Some, None, refl, sym, ap, subst, arith, ◌∙◌, drop-cons}
+use Rattle.std.specs.Prelude.{nat_lt}
+use Rattle.std.specs.List.{filter, range_with_len}
 use Rattle.std.specs.Cmp.Derive.{both_true}
-use Rattle.std.proofs.lemmas.Bool.{and_parts}
 use Rattle.schedule.specs.Acts.{Act}
 use Rattle.comm_routing.specs.Task.{Task}
-use Rattle.comm_routing.specs.Placing.{decision, is_candidate, is_placed, may_place, may_stand}
+use Rattle.comm_routing.specs.Placing.{decision, is_candidate, may_stand}
 use Rattle.pressure_heuristic.specs.Choice.{first_least, first_greatest, lower, higher}
 use Rattle.pressure_heuristic.specs.Pressure.{candidates, operators, operations, best_operator, pressure, urgency, urgency_on, next, with_some}
 use Rattle.pressure_heuristic.specs.Choosing.{IsLeastStand, IsChoice, IsGreatestChoice, IsNext, operator_of_stand, pressure_of, lower_stand, higher_choice, next_of}

@@ -5,4 +5,5 @@ pub mod Meaning
 pub mod Rounds
 pub mod Running
 pub mod Tasks
+pub mod Unique
 pub mod Whole

@@ -1,16 +1,15 @@
 -- Tails, round by round.
-use Rattle.std.proofs.Common.{◌≡◌, ℕ, zero, suc, ◌+◌, ◌-◌, ◌*◌, ◌<◌, ◌≤◌, Bool, true, false, cond, nat_eq, List, [], ◌∷◌, ◌++◌, map, max, length, Option, Some, None, refl, sym, ap, subst, arith, ◌∙◌, inl, inr}
+use Rattle.std.proofs.Common.{◌≡◌, ℕ, zero, suc, ◌+◌, ◌<◌, ◌≤◌, Bool, true, false, cond, nat_eq, List, [], ◌∷◌, ◌++◌, map, max, length, Option, Some, None, refl, sym, ap, arith, ◌∙◌}
 use Rattle.std.specs.Prelude.{slice_get, slice_index_or}
 use Rattle.std.specs.List.{filter, list_any, range_with_len}
-use Rattle.std.proofs.lemmas.Bool.{cases_lt}
 use Rattle.std.proofs.lemmas.List.Elements.{filter-append}
 use Rattle.flat_graph.specs.declared.vertex.Vertex.{Vertex}
 use Rattle.flat_graph.specs.Graph.{with_vertex}
 use Rattle.flat_graph.specs.Order.{depends_on}
 use Rattle.durations.specs.Table.{Table, least_of, lesser, row_in, entry_in}
-use Rattle.comm_routing.specs.Placing.{greatest, ticks_in, needs}
+use Rattle.comm_routing.specs.Placing.{greatest, ticks_in}
 use Rattle.comm_routing.specs.Task.{Task}
-use Rattle.pressure_heuristic.specs.Pressure.{least, tail_within, dependents, operations, operators}
+use Rattle.pressure_heuristic.specs.Pressure.{least, tail_within, dependents}
 use Rattle.pressure_heuristic.specs.Tails.{least_in, needs_in, so_far, tails_in, raised}
 
 range_last : (a n : ℕ) → range_with_len a (n + 1) ≡ range_with_len a n ++ (a + n) ∷ []

@@ -1,13 +1,15 @@
 -- The run, one decision more; what guides it; and that its answer is valid.
-use Rattle.std.proofs.Common.{◌≡◌, ℕ, zero, suc, ◌+◌, ◌-◌, ◌*◌, ◌<◌, ◌≤◌, Bool, true, false, cond, List, [], ◌∷◌, ◌++◌, length, max, Option, Some, None, Ok, Err, refl, sym, ap, subst, arith, ◌∙◌, inl, inr}
+use Rattle.std.proofs.Common.{◌≡◌, ℕ, zero, suc, ◌<◌, ◌≤◌, Bool, true, false, cond, List, [], ◌∷◌, ◌++◌, length, max, Option, Some, None, Ok, Err, refl, sym, ap, subst, arith, ◌∙◌, inl, inr}
 use Rattle.std.specs.Prelude.{All, IfOk, IsTrue, Result, nat_eq, slice_index_or}
 use Rattle.std.specs.List.{list_any}
 use Rattle.std.proofs.lemmas.Bool.{cases_lt}
 use Rattle.flat_graph.specs.declared.vertex.Vertex.{Vertex}
 use Rattle.flat_graph.specs.Graph.{Graph}
 use Rattle.archi_graph.specs.Archi.{Architecture}
-use Rattle.route_table.specs.Table.{RouteTable}
-use Rattle.durations.specs.Table.{Table, IsRow, row_in, entry_in}
+use Rattle.route_table.specs.Table.{RouteTable, IsTableOf}
+use Rattle.pressure_heuristic.specs.Tasks.{task}
+use Rattle.pressure_heuristic.proofs.Unique.{one_table}
+use Rattle.durations.specs.Table.{Table, IsRow, entry_in}
 use Rattle.syn_base.specs.declared.memory.OutOfMemory.{OutOfMemory}
 use Rattle.schedule.specs.declared.decision.Decision.{Decision}
 use Rattle.schedule.specs.declared.decision.Schedule.{Schedule}
@@ -100,3 +102,9 @@ dates_low old new needs date bound size is low d v = elim (cases_lt v (length ol
   | inl l ↦ (let e = is v l in let r = raised_low needs v date (slice_index_or old v 0) bound d (low v) in omega arith)
   | inr m ↦ (let e = past_zero new v (omega arith) in omega arith)
 ]
+
+-- the table of routes does not matter, since there is one
+pub run_of_any : (g : Graph) (a : Architecture) (r : RouteTable) (table : Table) (d : Drafted) → d ≡ record { graph = g; archi = a; routes = r; durations = table; decisions = [] } → IsTableOf a r
+    → (answer : Result Schedule OutOfMemory) → IfOk answer (λ s. s ≡ pressure_run (task_of d)) → IfOk answer (λ s. (x : RouteTable) → IsTableOf a x → s ≡ pressure_run (task g a x table))
+run_of_any g a r table d is routes (Ok s) h = λ x y. h ∙ ap (λ (e : Drafted). pressure_run (task_of e)) is ∙ ap (λ (z : RouteTable). pressure_run (task g a z table)) (one_table a r x routes y)
+run_of_any g a r table d is routes (Err x) h = h

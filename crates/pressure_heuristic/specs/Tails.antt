@@ -1,5 +1,5 @@
 -- Tails by operations and their table of durations, round by round.
-use Rattle.std.specs.Prelude.{ℕ, zero, suc, ◌+◌, Bool, List, [], map, length, max, if◌then◌else◌, nat_eq, slice_get}
+use Rattle.std.specs.Prelude.{ℕ, zero, suc, ◌+◌, List, [], map, length, max, if◌then◌else◌, nat_eq, slice_get}
 use Rattle.std.specs.List.{filter, list_any, range_with_len}
 use Rattle.flat_graph.specs.declared.vertex.Vertex.{Vertex}
 use Rattle.flat_graph.specs.Graph.{with_vertex}

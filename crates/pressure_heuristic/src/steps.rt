@@ -3,7 +3,7 @@ ghost use Rattle.std.specs.Prelude.{◌≡◌, ◌≤◌, [], IfOk, IsTrue, leng
 ghost use Rattle.durations.specs.Table.{entry_in};
 ghost use Rattle.schedule.specs.Valid.{is_valid};
 ghost use Rattle.comm_routing.specs.Draft.{FitsTable, task_of};
-ghost use Rattle.pressure_heuristic.specs.Adequation.{IsPressureRun};
+ghost use Rattle.pressure_heuristic.specs.Adequation.{IsPressureRun, IsRunOfAny};
 ghost use Rattle.pressure_heuristic.specs.Choosing.{IsGuide};
 ghost use Rattle.pressure_heuristic.specs.Pressure.{pressure_run};
 
@@ -30,6 +30,7 @@ pub fn adequation(
 ) -> Result<Schedule, OutOfMemory>
     requires { FitsTable flat.now archi.now durations.now }
     ensures run { IfOk result (λ s. IsPressureRun flat.now archi.now durations.now s) }
+    ensures any { IfOk result (λ s. IsRunOfAny flat.now archi.now durations.now s) }
     ensures valid { IfOk result (λ s. IsTrue (is_valid flat.now archi.now (entry_in durations.now) s)) }
 {
     let _operators = archi.operators();

@@ -1,4 +1,4 @@
-use Rattle.std.proofs.Common.{◌-◌, arith, drop, length, subst, sym}
+use Rattle.std.proofs.Common.{◌-◌, arith, drop, subst, sym}
 use Rattle.std.specs.Prelude.{Some}
 use Rattle.schedule.specs.Acts.{acts_of}
 use Rattle.comm_routing.specs.Draft.{task_of}

@@ -1,7 +1,7 @@
 use Rattle.std.proofs.Common.{List, ℕ, subst, sym}
 use Rattle.comm_routing.proofs.Sites.{site_of}
 use Rattle.pressure_heuristic.specs.Choosing.{IsGuide}
-use Rattle.pressure_heuristic.proofs.Running.{guide_of, valid_run}
+use Rattle.pressure_heuristic.proofs.Running.{guide_of, run_of_any, valid_run}
 use Rattle.pressure_heuristic.proofs.steps.adequation.Goals as goal
 
 pub run-requires-clause-guide : goal.run-requires-clause-guide
@@ -15,3 +15,7 @@ returns-clause-valid c =
     valid_run c.args.flat.now c.args.archi.now c.in_ok-routes.routes c.args.durations.now c.in_ok-draft.draft c.in_ok-draft.ensures
     (site_of c.args.flat.now c.args.archi.now c.in_ok-routes.routes c.args.durations.now c.vertices-vertices.ensures.valid c.operators-operators.ensures.valid c.in_ok-routes.ensures c.requires c.operations-operations.ensures.valid)
     c.run.result c.run.ensures
+
+pub returns-clause-any : goal.returns-clause-any
+returns-clause-any c =
+    run_of_any c.args.flat.now c.args.archi.now c.in_ok-routes.routes c.args.durations.now c.in_ok-draft.draft c.in_ok-draft.ensures c.in_ok-routes.ensures c.run.result c.run.ensures

@@ -1,5 +1,5 @@
 use Rattle.std.proofs.Common.{◌≡◌, ◌-◌, []}
-use Rattle.comm_routing.specs.Draft.{Drafted, task_of}
+use Rattle.comm_routing.specs.Draft.{task_of}
 use Rattle.pressure_heuristic.specs.Choosing.{IsGuide}
 use Rattle.pressure_heuristic.specs.Pressure.{run_after}
 use Rattle.pressure_heuristic.proofs.steps.run.Given as goal

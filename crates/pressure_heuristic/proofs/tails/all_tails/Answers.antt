@@ -1,6 +1,6 @@
 use Rattle.std.proofs.Common.{◌≡◌, ℕ, suc, ◌+◌, ◌-◌, ◌<◌, List, ap, arith, length, sym, ◌∙◌}
 use Rattle.std.specs.Prelude.{slice_index_or}
-use Rattle.pressure_heuristic.specs.Tails.{so_far, tails_in}
+use Rattle.pressure_heuristic.specs.Tails.{tails_in}
 use Rattle.pressure_heuristic.proofs.Rounds.{settled, so_far_same}
 use Rattle.pressure_heuristic.proofs.tails.all_tails.Goals as goal
 

@@ -1,4 +1,4 @@
-use Rattle.std.proofs.Common.{◌+◌, ◌*◌, ap, arith, length, refl, sym, ◌∙◌}
+use Rattle.std.proofs.Common.{◌+◌, ◌*◌, ap, arith, sym, ◌∙◌}
 use Rattle.std.specs.Prelude.{slice_index_or}
 use Rattle.flat_graph.specs.Order.{depends_on}
 use Rattle.comm_routing.specs.Placing.{ticks_in}
