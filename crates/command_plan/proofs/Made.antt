@@ -1,10 +1,10 @@
 -- From what a plan may make to what it makes where the files are told.
 use Rattle.std.proofs.lemmas.Bool.Decides.{nat_tests}
 use Rattle.std.specs.Prelude.{if◌then◌else◌, nat_lt, option_and_then}
-use Rattle.std.proofs.Common.{◌≡◌, ℕ, ◌≤◌, ◌<◌, ◌∙◌, length, Result, Ok, Err, Option, Some, None, IfSome, inl, inr, refl, sym, true, false, subst, arith}
+use Rattle.std.proofs.Common.{◌≡◌, ℕ, ◌≤◌, ◌<◌, ◌∙◌, length, Result, Ok, Err, Option, Some, None, IfSome, inl, inr, refl, sym, true, false, subst, ap, arith}
 use Rattle.outside.specs.Bytes.{Bytes}
 use Rattle.outside.specs.Faults.{Rose}
-use Rattle.outside.specs.Shelf.{Held, file_bound}
+use Rattle.outside.specs.Shelf.{Held, Stays, file_bound}
 use Rattle.outside.specs.declared.file.File.{File}
 use Rattle.command_plan.specs.Plan.{Plan, give, refuse, read, outcome, ReadsOnly}
 use Rattle.command_plan.specs.Ending.{Ending, done, refused, unread, unwritten, no_memory}
@@ -35,12 +35,12 @@ module _ {R : Type 0} where
   made_on names old new plan plan' _ h (fault_found file name e rose) = fault_found file name e rose
   made_on names old new plan plan' _ h wanting = wanting
 
-  given_text : (names : File → Option Bytes) (old new : Held) (bytes : Bytes) (made : Result Bytes (Ending R)) → Gives (Ok bytes) made → Made names old new (give bytes) made
-  given_text names old new bytes made (inl e) = subst (λ r. Made names old new (give bytes) r) (sym e) (text_made bytes (λ o p. same_some _ _ p))
+  given_text : (names : File → Option Bytes) (old new : Held) (bytes : Bytes) (made : Result Bytes (Ending R)) → Gives old new (Ok bytes) made → Made names old new (give bytes) made
+  given_text names old new bytes made (inl e) = subst (λ r. Made names old new (give bytes) r) (sym e.0) (text_made bytes (λ o p. same_some _ _ p))
   given_text names old new bytes made (inr e) = subst (λ r. Made names old new (give bytes) r) (sym e) wanting
 
-  given_refusal : (names : File → Option Bytes) (old new : Held) (r : R) (made : Result Bytes (Ending R)) → Gives (Err (refused r)) made → Made names old new (refuse r) made
-  given_refusal names old new r made (inl e) = subst (λ x. Made names old new (refuse r) x) (sym e) (refusal_made r (λ o p. same_some _ _ p))
+  given_refusal : (names : File → Option Bytes) (old new : Held) (r : R) (made : Result Bytes (Ending R)) → Gives old new (Err (refused r)) made → Made names old new (refuse r) made
+  given_refusal names old new r made (inl e) = subst (λ x. Made names old new (refuse r) x) (sym e.0) (refusal_made r (λ o p. same_some _ _ p))
   given_refusal names old new r made (inr e) = subst (λ x. Made names old new (refuse r) x) (sym e) wanting
 
   -- a file that is told and read is short
@@ -65,10 +65,36 @@ module _ {R : Type 0} where
   unread_made names old new file name long next done e h = absurd h
   unread_made names old new file name long next unwritten e h = absurd h
 
+  alike : (f g : Bytes → Option (Result Bytes R)) → ((b : Bytes) → f b ≡ g b) → (o : Option Bytes) → option_and_then f o ≡ option_and_then g o
+  alike f g h None = refl
+  alike f g h (Some b) = h b
+
+  abbrev answered : R → (Bytes → Option (Result Bytes R)) → Bytes → Option (Result Bytes R)
+  answered long next b = if nat_lt file_bound (length b) then Some (Err long) else next b
+
+  -- where the same is told, a plan has the same outcome
+  same_outcome : (told told' : Bytes → Option Bytes) → ((name : Bytes) → told' name ≡ told name) → (plan : Plan R) → outcome told' plan ≡ outcome told plan
+  same_outcome told told' same (give text) = refl
+  same_outcome told told' same (refuse r) = refl
+  same_outcome told told' same (read file name long next) =
+      ap (λ (o : Option Bytes). option_and_then (answered long (λ b. outcome told' (next b))) o) (same name)
+      ∙ alike (answered long (λ b. outcome told' (next b))) (answered long (λ b. outcome told (next b)))
+      (λ b. ap (λ (o : Option (Result Bytes R)). if nat_lt file_bound (length b) then Some (Err long) else o) (same_outcome told told' same (next b))) (told name)
+
+  -- what was made later was made from before
+  made_before : (names : File → Option Bytes) (old between new : Held) (plan : Plan R) (made : Result Bytes (Ending R)) → Stays old between
+      → Made names between new plan made → Made names old new plan made
+  made_before names old between new plan _ s (text_made bytes e) = text_made bytes (λ o p. e o (same_outcome old.told between.told s.told plan ∙ p))
+  made_before names old between new plan _ s (refusal_made r e) = refusal_made r (λ o p. e o (same_outcome old.told between.told s.told plan ∙ p))
+  made_before names old between new plan _ s (fault_found file name e rose) =
+      let up : old.faults file name ≤ between.faults file name = s.faults file name in
+      fault_found file name e (omega arith)
+  made_before names old between new plan _ s wanting = wanting
+
   pub made_of : (names : File → Option Bytes) (old new : Held) (plan : Plan R) (made : Result Bytes (Ending R)) → ReadsOnly names plan → Makes old new plan made → Made names old new plan made
   made_of names old new (give bytes) made only (gives g) = given_text names old new bytes made g
   made_of names old new (refuse r) made only (refuses g) = given_refusal names old new r made g
   made_of names old new (read file name long next) _ only (not_read {ending = s} f) = unread_made names old new file name long next s only.0 f
-  made_of names old new (read file name long next) made only (was_read bytes is m) =
-      made_on names old new (next bytes) (read file name long next) made (λ o e. read_on (λ b. outcome old.told (next b)) long (old.told name) bytes o is.0 is.1 e)
-      (made_of names old new (next bytes) made (only.1 bytes) m)
+  made_of names old new (read file name long next) made only (was_read between bytes is m) =
+      made_on names old new (next bytes) (read file name long next) made (λ o e. read_on (λ b. outcome old.told (next b)) long (old.told name) bytes o is.0.0 is.0.1 e)
+      (made_before names old between new (next bytes) made is.1 (made_of names between new (next bytes) made (only.1 bytes) m))

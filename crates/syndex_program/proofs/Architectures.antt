@@ -1,7 +1,7 @@
 -- Reading an architecture, part by part.
 use Rattle.std.proofs.Common.{◌≡◌, List, Result, Ok, Err, refl, subst}
 use Rattle.outside.specs.Bytes.{Bytes}
-use Rattle.outside.specs.Shelf.{Held, Stays}
+use Rattle.outside.specs.Shelf.{Held}
 use Rattle.algo_tree.specs.Tree.{Vertex}
 use Rattle.archi_defs.specs.Text.{Described, description_of}
 use Rattle.archi_defs.specs.declared.text.ArchiText.{ArchiText}
@@ -15,49 +15,48 @@ use Rattle.flat_laws.specs.FlatOf.{flat_of}
 use Rattle.command_plan.specs.Plan.{Plan, after}
 use Rattle.command_plan.specs.Ending.{Ending}
 use Rattle.command_plan.specs.Run.{Makes, was_read}
-use Rattle.command_plan.proofs.Makes.{after_err, after_ok, makes_before, memory}
+use Rattle.command_plan.proofs.Makes.{after_err, after_ok, memory}
 use Rattle.command_status.specs.Status.{Refusal, ending_of, of_architecture, status_of_architecture}
 use Rattle.syndex_program.specs.Plans.{architecture_plan}
 use Rattle.syndex_program.specs.Reads.{IsArchitecture, IsArchitectureRefused, MakesArchitecture, ReadsArchitecture, described, describes_none, lasts_none}
 use Rattle.syndex_program.specs.declared.architecture.Architecture.{Architecture}
 
-module _ {X : Type 0} (old new : Held) (answer : Result X ArchiError) (next : X → Plan Refusal) where
+module _ {X : Type 0} (held : Held) (answer : Result X ArchiError) (next : X → Plan Refusal) where
   -- a text or its durations are refused
-  by_error : (e : ArchiError) → answer ≡ Err e → Makes old new (after of_architecture answer next) (Err (ending_of (status_of_architecture e)))
-  by_error (error.Refused fault) is = after_err old new of_architecture answer next (error.Refused fault) is
-  by_error (error.Limit fault) is = after_err old new of_architecture answer next (error.Limit fault) is
-  by_error error.OutOfMemory is = memory old new (after of_architecture answer next)
+  by_error : (e : ArchiError) → answer ≡ Err e → Makes held held (after of_architecture answer next) (Err (ending_of (status_of_architecture e)))
+  by_error (error.Refused fault) is = after_err held of_architecture answer next (error.Refused fault) is
+  by_error (error.Limit fault) is = after_err held of_architecture answer next (error.Limit fault) is
+  by_error error.OutOfMemory is = memory held held (after of_architecture answer next)
 
-module _ (old new : Held) (main : Vertex) (text : Bytes) (next : Described → Table → Plan Refusal) where
+module _ (main : Vertex) (text : Bytes) (next : Described → Table → Plan Refusal) where
   abbrev durations_behind : Described → Plan Refusal
   durations_behind d = after of_architecture (durations_of (flat_of main) d) (next d)
 
   abbrev behind : Plan Refusal
   behind = after of_architecture (description_of text) durations_behind
 
-  is_refused : (e : ArchiError) → IsArchitectureRefused main text e → Makes old new behind (Err (ending_of (status_of_architecture e)))
-  is_refused e (describes_none is) = by_error old new (description_of text) durations_behind e is
-  is_refused e (lasts_none d says is) =
-      after_ok old new of_architecture (description_of text) durations_behind (Err (ending_of (status_of_architecture e))) d says
-      (by_error old new (durations_of (flat_of main) d) (next d) e is)
+  is_refused : (held : Held) (e : ArchiError) → IsArchitectureRefused main text e → Makes held held behind (Err (ending_of (status_of_architecture e)))
+  is_refused held e (describes_none is) = by_error held (description_of text) durations_behind e is
+  is_refused held e (lasts_none d says is) =
+      after_ok held held of_architecture (description_of text) durations_behind (Err (ending_of (status_of_architecture e))) d says
+      (by_error held (durations_of (flat_of main) d) (next d) e is)
 
-  pub refused_so : (e : ArchiError) → MakesArchitecture main text (Err e) → Makes old new behind (Err (ending_of (status_of_architecture e)))
-  refused_so (error.Refused fault) h = is_refused (error.Refused fault) h
-  refused_so (error.Limit fault) h = is_refused (error.Limit fault) h
-  refused_so error.OutOfMemory h = memory old new behind
+  pub refused_so : (held : Held) (e : ArchiError) → MakesArchitecture main text (Err e) → Makes held held behind (Err (ending_of (status_of_architecture e)))
+  refused_so held (error.Refused fault) h = is_refused held (error.Refused fault) h
+  refused_so held (error.Limit fault) h = is_refused held (error.Limit fault) h
+  refused_so held error.OutOfMemory h = memory held held behind
 
-  described_so : (architecture : Architecture) (made : Result Bytes (Ending Refusal)) → IsArchitecture main text architecture
+  described_so : (old new : Held) (architecture : Architecture) (made : Result Bytes (Ending Refusal)) → IsArchitecture main text architecture
       → Makes old new (next (described architecture.text) architecture.durations) made → Makes old new behind made
-  described_so architecture made is m =
+  described_so old new architecture made is m =
       let d = described architecture.text in
       after_ok old new of_architecture (description_of text) durations_behind made d is.says
       (after_ok old new of_architecture (durations_of (flat_of main) d) (next d) made architecture.durations is.lasts m)
 
 -- an architecture was read, and then the plan went on with it
-pub went_on : (main : Vertex) (name : Bytes) (a b c : Held) (architecture : Architecture) (next : Described → Table → Plan Refusal) (made : Result Bytes (Ending Refusal)) → Stays a b
+pub went_on : (main : Vertex) (name : Bytes) (a b c : Held) (architecture : Architecture) (next : Described → Table → Plan Refusal) (made : Result Bytes (Ending Refusal))
     → ReadsArchitecture main name a b (Ok architecture) → Makes b c (next (described architecture.text) architecture.durations) made → Makes a c (architecture_plan name main next) made
-went_on main name a b c architecture next made stays (text, read, is) m =
-    was_read text read (described_so a c main text next architecture made is (makes_before a b c (next (described architecture.text) architecture.durations) made stays m))
+went_on main name a b c architecture next made (text, read, is) m = was_read b text read (described_so main text next b c architecture made is m)
 
 -- a text is refused
 pub by_text : (main : Vertex) (text : Bytes) (e : ArchiError) → reader.Fails e (description_of text) → MakesArchitecture main text (Err e)

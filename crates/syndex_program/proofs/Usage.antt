@@ -47,12 +47,12 @@ fails_otherwise r file name too_long old new unwritten never fails so = absurd f
 
 -- what a plan does not say it does not make
 never_made : (r : Refusal) (old new : Held) (plan : Plan Refusal) (made : Result Bytes (Ending Refusal)) → NeverSays r plan → Makes old new plan made → made ≡ Err (refused r) → ⊥
-never_made r old new (give text) made never (gives (inl is)) so = cc
+never_made r old new (give text) made never (gives (inl (is, _))) so = cc
 never_made r old new (give text) made never (gives (inr is)) so = cc
-never_made r old new (refuse x) made never (refuses (inl is)) so = let same : x ≡ r = cc in never same
+never_made r old new (refuse x) made never (refuses (inl (is, _))) so = let same : x ≡ r = cc in never same
 never_made r old new (refuse x) made never (refuses (inr is)) so = cc
 never_made r old new (read file name too_long next) _ never (not_read {ending = e} fails) so = let same : e ≡ refused r = cc in fails_otherwise r file name too_long old new e never.0 fails same
-never_made r old new (read file name too_long next) made never (was_read bytes is makes) so = never_made r old new (next bytes) made (never.1 bytes) makes so
+never_made r old new (read file name too_long next) made never (was_read between bytes is makes) so = never_made r between new (next bytes) made (never.1 bytes) makes so
 
 after_never : {X E : Type 0} (r : Refusal) (refusal : E → Refusal) (answer : Result X E) (next : X → Plan Refusal) → ((e : E) → refusal e ≢ r) → ((x : X) → NeverSays r (next x)) → NeverSays r (after refusal answer next)
 after_never r refusal (Ok x) next never rest = rest x

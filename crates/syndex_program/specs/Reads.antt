@@ -2,7 +2,8 @@
 use Rattle.std.specs.Prelude.{◌≡◌, ◌*◌, ℕ, length, List, sum, None, Result, Ok, Err, Vec}
 use Rattle.csv.specs.Reading.{default_config, records, strip_bom}
 use Rattle.outside.specs.Bytes.{Bytes}
-use Rattle.outside.specs.Shelf.{Held, IsRead}
+use Rattle.outside.specs.Shelf.{Held}
+use Rattle.outside.specs.declared.file.File.TheVariants as file
 use Rattle.syn_base.specs.Rows.{Reactions}
 use Rattle.algo_defs.specs.declared.definition.Def.{Def}
 use Rattle.algo_defs.specs.declared.fault.AlgoError.{AlgoError}
@@ -21,7 +22,7 @@ use Rattle.path_text.specs.Bounded.{HasBounds}
 use Rattle.algo_tree.specs.Ends.{sensor_lengths, actuator_lengths}
 use Rattle.sensor_table.specs.SensorTable.{rows_of}
 use Rattle.command_plan.specs.Plan.{Plan, after}
-use Rattle.command_plan.specs.Run.{Makes}
+use Rattle.command_plan.specs.Run.{Makes, WasRead}
 use Rattle.command_plan.specs.Ending.{Ending}
 use Rattle.command_status.specs.Status.{Refusal, ending_of, of_sensors}
 use Rattle.command_status.specs.declared.status.Status.{Status}
@@ -56,7 +57,7 @@ MakesAlgorithm text (Err error.OutOfMemory) = Unit {0}
 
 -- the file has a text of this algorithm; or carrying on from it ends so, whatever follows
 abbrev pub ReadsAlgorithm : Bytes → Held → Held → Result Algorithm Status → Type 0
-ReadsAlgorithm name old new (Ok algorithm) = (text : Bytes) × IsRead name old text × IsAlgorithm text algorithm
+ReadsAlgorithm name old new (Ok algorithm) = (text : Bytes) × WasRead file.Algorithm name old new text × IsAlgorithm text algorithm
 ReadsAlgorithm name old new (Err status) = (next : List Def → Vertex → Plan Refusal) → Makes old new (algorithm_plan name next) (Err (ending_of status))
 
 -- what a text describes
@@ -82,7 +83,7 @@ MakesArchitecture main text (Err archi_error.OutOfMemory) = Unit {0}
 
 -- the file has a text of this architecture; or carrying on from it ends so, whatever follows
 abbrev pub ReadsArchitecture : Vertex → Bytes → Held → Held → Result Architecture Status → Type 0
-ReadsArchitecture main name old new (Ok architecture) = (text : Bytes) × IsRead name old text × IsArchitecture main text architecture
+ReadsArchitecture main name old new (Ok architecture) = (text : Bytes) × WasRead file.Architecture name old new text × IsArchitecture main text architecture
 ReadsArchitecture main name old new (Err status) =
     (next : Described → Table → Plan Refusal) → Makes old new (architecture_plan name main next) (Err (ending_of status))
 
@@ -91,4 +92,4 @@ abbrev pub ReadsRows : Vertex → Bytes → Result Reactions Status → Type 0
 ReadsRows main table (Ok rows) =
     (rows_of main (records default_config (strip_bom table)) ≡ Ok rows) × (rows.lens ≡ sensor_lengths main) × (excess (length rows.reactions * sum (actuator_lengths main)) ≡ None)
 ReadsRows main table (Err status) =
-    (old new : Held) → Makes old new (after of_sensors (rows_of main (records default_config (strip_bom table))) (rows_plan main)) (Err (ending_of status))
+    (held : Held) → Makes held held (after of_sensors (rows_of main (records default_config (strip_bom table))) (rows_plan main)) (Err (ending_of status))

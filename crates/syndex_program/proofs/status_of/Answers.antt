@@ -29,7 +29,7 @@ returns-in-Ok-None-clause-replies g c =
     let given = command_of (map string_bytes c.args.words.now) in
     let none = rw c.in-Ok-None.field-0-is at c.in-Ok-None.ensures in
     record {
-      answers = answers_to given None held held sunk sunk (refused usage) none (Err (refused usage), refuses (inl refl), (refl, refl));
+      answers = answers_to given None held held sunk sunk (refused usage) none (Err (refused usage), refuses (inl (refl, λ file name. refl)), (refl, refl));
       usage = λ so. sym none;
     }
 

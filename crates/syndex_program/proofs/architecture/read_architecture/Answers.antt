@@ -19,4 +19,4 @@ returns-in_err-architecture_of-clause-reads g c =
     let p = err_from_is_err_and c.from_residual-in_err-architecture_of.result c.from_residual-in_err-architecture_of.ensures.1 in
     let h = subst (λ (t : Bytes). MakesArchitecture main t (Err c.in_err-architecture_of.field-0.0)) c.deref.ensures.value c.in_err-architecture_of.ensures in
     rw (p.1, p.2)
-    (λ next. was_read c.in_ok-text.text.items c.in_ok-text.ensures.read (refused_so (H c.args.shelf.now) (H c.read_file.new.shelf) main c.in_ok-text.text.items next c.in_err-architecture_of.field-0.0 h))
+    (λ next. was_read (H c.read_file.new.shelf) c.in_ok-text.text.items c.in_ok-text.ensures.read (refused_so main c.in_ok-text.text.items next (H c.read_file.new.shelf) c.in_err-architecture_of.field-0.0 h))

@@ -1,12 +1,11 @@
-use Rattle.std.proofs.Common.{ap, inl}
+use Rattle.std.proofs.Common.{ap}
 use Rattle.std.specs.Prelude.{List, Ok}
 use Rattle.std.proofs.lemmas.Result.{err_from_is_err_and}
 use Rattle.outside.specs.Bytes.{Bytes}
 use Rattle.algo_defs.specs.declared.definition.Def.{Def}
 use Rattle.algo_tree.specs.Tree.{Vertex}
 use Rattle.command_plan.specs.Plan.{give}
-use Rattle.command_plan.specs.Run.{gives}
-use Rattle.command_plan.proofs.Makes.{memory}
+use Rattle.command_plan.proofs.Makes.{gave, memory}
 use Rattle.flat_laws.specs.FlatOf.{flat_of}
 use Rattle.flat_text.specs.Listing.{listing}
 use Rattle.syndex_program.specs.Plans.{flat_plan}
@@ -23,5 +22,5 @@ pub returns-clause-makes : goal.returns-clause-makes
 returns-clause-makes g c =
     let H = g.S.Shelf.held in
     went_on c.args.algorithm.now (H c.args.shelf.now) (H c.read_algorithm.new.shelf) (H c.read_algorithm.new.shelf) c.in_ok-algorithm.algorithm
-    (λ (defs : List Def) (main : Vertex). give (listing (flat_of main))) _ c.in_ok-algorithm.ensures.stays c.in_ok-algorithm.ensures.reads
-    (gives (inl (ap (λ (x : Bytes). Ok x) c.in_ok-listed.ensures)))
+    (λ (defs : List Def) (main : Vertex). give (listing (flat_of main))) _ c.in_ok-algorithm.ensures.reads
+    (gave (H c.read_algorithm.new.shelf) _ _ (ap (λ (x : Bytes). Ok x) c.in_ok-listed.ensures))

@@ -16,20 +16,20 @@ pub returns-in_err-rows : goal.returns-in_err-rows
 returns-in_err-rows c =
     let main = c.args.tree.now in
     let p = err_from_is_err_and c.from_residual.result c.from_residual.ensures.1 in
-    rw (p.1, p.2) (λ old new. table_refused old new (rows_of main (records default_config (strip_bom c.args.table.now))) (rows_plan main) c.in_err-rows.field-0.0 c.in_err-rows.ensures)
+    rw (p.1, p.2) (λ held. table_refused held (rows_of main (records default_config (strip_bom c.args.table.now))) (rows_plan main) c.in_err-rows.field-0.0 c.in_err-rows.ensures)
 
 pub returns-in_err-width : goal.returns-in_err-width
 returns-in_err-width c =
     let main = c.args.tree.now in
     let p = err_from_is_err_and c.from_residual-in_err-width.result c.from_residual-in_err-width.ensures.1 in
-    rw (p.1, p.2) (λ old new. memory old new (after of_sensors (rows_of main (records default_config (strip_bom c.args.table.now))) (rows_plan main)))
+    rw (p.1, p.2) (λ held. memory held held (after of_sensors (rows_of main (records default_config (strip_bom c.args.table.now))) (rows_plan main)))
 
 pub returns-in-Some : goal.returns-in-Some
-returns-in-Some c = λ old new.
+returns-in-Some c = λ held.
     let main = c.args.tree.now in
     let rows = c.in_ok-rows.rows in
     let counted : c.count.result * c.in_ok-width.width ≡ length rows.reactions * sum (actuator_lengths main) =
     ap (λ (n : ℕ). n * c.in_ok-width.width) c.count.ensures ∙ ap (λ (n : ℕ). length rows.reactions * n) c.in_ok-width.ensures in
     let over : excess (length rows.reactions * sum (actuator_lengths main)) ≡ Some c.in-Some.limit = sym (ap excess counted) ∙ sym c.excess.ensures ∙ c.in-Some.is in
-    after_ok old new of_sensors (rows_of main (records default_config (strip_bom c.args.table.now))) (rows_plan main) (Err (refused (above c.in-Some.limit))) rows c.in_ok-rows.ensures
-    (is_above old new (excess (length rows.reactions * sum (actuator_lengths main))) c.in-Some.limit _ over)
+    after_ok held held of_sensors (rows_of main (records default_config (strip_bom c.args.table.now))) (rows_plan main) (Err (refused (above c.in-Some.limit))) rows c.in_ok-rows.ensures
+    (is_above held (excess (length rows.reactions * sum (actuator_lengths main))) c.in-Some.limit _ over)

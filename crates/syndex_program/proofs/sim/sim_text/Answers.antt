@@ -10,4 +10,4 @@ pub returns-clause-makes : goal.returns-clause-makes
 returns-clause-makes g c =
     let H = g.S.Shelf.held in
     went_on c.args.algorithm.now (H c.args.shelf.now) (H c.read_algorithm.new.shelf) (H c.text_over.new.shelf) c.in_ok-algorithm.algorithm
-    (λ (defs : List Def) (main : Vertex). table_plan main c.args.sensors.now) (bytes_in c.text_over.result) c.in_ok-algorithm.ensures.stays c.in_ok-algorithm.ensures.reads c.text_over.ensures.makes
+    (λ (defs : List Def) (main : Vertex). table_plan main c.args.sensors.now) (bytes_in c.text_over.result) c.in_ok-algorithm.ensures.reads c.text_over.ensures.makes
