@@ -18,7 +18,7 @@ abbrev pub GivesList : {A : Type 0} → Result (Vec A) SensorError → Result (L
 GivesList (Ok xs) defined = defined ≡ Ok xs.items
 GivesList (Err e) defined = Fails e defined
 
--- a row was put behind those that were there
+-- a row was put after those that were there
 abbrev pub Pushes : Result Row SensorError → Reactions → Reactions → Result (Unit {0}) SensorError → Type 0
 Pushes defined old new (Ok _) = (row : Row) × (defined ≡ Ok row) × (new ≡ record old { reactions = old.reactions ++ row ∷ [] })
 Pushes defined old new (Err e) = Fails e defined

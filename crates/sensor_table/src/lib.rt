@@ -1,4 +1,5 @@
-//! The table of the sensors: its text read with `csv`, and the rows that it gives.
+//! The table of the sensors: `read_sensors` reads its text with `csv` and answers the rows that it gives for
+//! the sensors of a tree, or its first refusal. The command `sim` begins with it.
 #![tactic(auto)]
 
 mod fault;

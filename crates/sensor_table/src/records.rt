@@ -34,7 +34,7 @@ pub fn next_record(
     }
 }
 
-/// The field in this column, which is empty behind the last one.
+/// The field in this column, which is empty after the last one.
 pub fn field_at(fields: &ByteRecord, column: usize) -> &[u8]
     ensures { result.now ≡ slice_index_or (fields_of fields.now) column [] }
 {

@@ -14,7 +14,7 @@ use csv::{ByteRecord, ByteRecordsIntoIter};
 use std::alloc::Global;
 use syn_base::{LimitFault, LimitKind, SensorRows, read_int};
 
-/// The rows of the records that are left, for sensors of these lengths and a header of so many columns.
+/// The rows of the records that are left, for sensors of these lengths and a header of this many columns.
 pub fn read_rows(
     alloc: Global,
     lens: &[u32],
@@ -62,7 +62,7 @@ fn above_bound() -> SensorError
     })
 }
 
-/// The values of a reaction, behind its number.
+/// The values of a reaction, after its number.
 fn read_row(
     alloc: Global,
     columns: usize,
@@ -96,7 +96,7 @@ fn is_index(reaction: usize, field: &[u8]) -> bool
     }
 }
 
-/// The numbers of the fields behind the first one.
+/// The numbers of the fields after the first one.
 fn read_values(alloc: Global, row: u64, fields: &ByteRecord) -> Result<Vec<i64>, SensorError>
     ensures { GivesList result (with_error (refused row) (numbers_from 1 (drop 1 (fields_of fields.now)))) }
 {

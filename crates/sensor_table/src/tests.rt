@@ -1,4 +1,4 @@
-//! Worked tables.
+//! One table that is read, and one that is refused. Others stand in the transcripts of the program.
 ghost use Rattle.std.specs.Prelude.{◌≡◌};
 ghost use Rattle.algo_tree.specs.View.{view};
 
@@ -8,7 +8,7 @@ use level_meaning::Part;
 use std::alloc::{AllocError, Global};
 use std::process::Abort;
 use std::test::Fail;
-use syn_base::{Items, LimitFault, LimitKind, print_int};
+use syn_base::Items;
 use tree_check::is_tree;
 
 fn vertex(
@@ -45,15 +45,6 @@ fn tree_of(rt: &impl Abort, alloc: Global, main: Vertex) -> Tree {
     Tree::new(main)
 }
 
-fn refused(row: u64, cause: SensorCause) -> Option<SensorError> {
-    Some(SensorError::Refused(SensorFault { row, cause }))
-}
-
-/// Why this table is refused.
-fn error_of(alloc: Global, tree: &Tree, table: &[u8]) -> Option<SensorError> {
-    read_sensors(alloc, table, tree).err()
-}
-
 #[test]
 fn gives_a_row_for_each_reaction(rt: HostRuntime) -> Result<(), Fail> {
     let tree = tree_of(&rt, rt.alloc(), sensing(rt.alloc(), 1)?);
@@ -67,75 +58,13 @@ fn gives_a_row_for_each_reaction(rt: HostRuntime) -> Result<(), Fail> {
 }
 
 #[test]
-fn reads_quotes_and_other_ends_of_lines(rt: HostRuntime) -> Result<(), Fail> {
-    let tree = tree_of(&rt, rt.alloc(), sensing(rt.alloc(), 1)?);
-    let rows = read_sensors(rt.alloc(), b"k,s.0\r\n0,\"5\"\r\n1,-1\r\n", &tree)?;
-    assert_eq!(rt; rows.lens(), [1].as_slice());
-    assert_eq!(rt; rows.count(), 2);
-    assert_eq!(rt; rows.vector(0, 0), [5].as_slice());
-    assert_eq!(rt; rows.vector(1, 0), [-1].as_slice());
-    Ok(())
-}
-
-#[test]
 fn tells_the_first_refusal(rt: HostRuntime) -> Result<(), Fail> {
-    let tables: [(&[u8], u64, SensorCause); 7] = [
-        (b"", 0, SensorCause::BadHeader),
-        (b"k,t.0\n0,5\n", 0, SensorCause::BadHeader),
-        (b"k\n0\n", 0, SensorCause::BadHeader),
-        (b"k,s.0\n1,5\n", 1, SensorCause::BadIndex),
-        (b"k,s.0\n1,x\n", 1, SensorCause::BadIndex),
-        (b"k,s.0\n0,x\n", 1, SensorCause::BadNumber(1)),
-        (b"k,s.0\n0, 5\n", 1, SensorCause::BadNumber(1)),
-    ];
     let tree = tree_of(&rt, rt.alloc(), sensing(rt.alloc(), 1)?);
-    for (table, row, cause) in tables {
-        assert_eq!(rt; error_of(rt.alloc(), &tree, table), refused(row, cause));
-    }
-    Ok(())
-}
-
-#[test]
-fn counts_the_fields_first(rt: HostRuntime) -> Result<(), Fail> {
-    let cause = SensorCause::BadCount {
-        found: 2,
-        wanted: 3,
-    };
-    let tree = tree_of(&rt, rt.alloc(), sensing(rt.alloc(), 2)?);
-    for table in [
-        b"k,s.0,s.1\n0,1,2\n1,3".as_slice(),
-        b"k,s.0,s.1\n0,1,2\nx,y\n".as_slice(),
-    ] {
-        assert_eq!(rt; error_of(rt.alloc(), &tree, table), refused(2, cause));
-    }
-    Ok(())
-}
-
-#[test]
-fn has_one_column_without_sensors(rt: HostRuntime) -> Result<(), Fail> {
-    let tree = tree_of(&rt, rt.alloc(), main_of(rt.alloc(), Vec::new(rt.alloc()))?);
-    assert_eq!(rt; read_sensors(rt.alloc(), b"k\n0\n01\n", &tree)?.count(), 2);
-    Ok(())
-}
-
-#[test]
-fn bounds_the_reactions(rt: HostRuntime) -> Result<(), Fail> {
-    let limit = LimitFault {
-        which: LimitKind::Reactions,
-        count: 10_001,
-        bound: 10_000,
-    };
-    let tree = tree_of(&rt, rt.alloc(), main_of(rt.alloc(), Vec::new(rt.alloc()))?);
-    let mut table = Vec::from_slice(rt.alloc(), b"k\n")?;
-    for k in 0..10_000i64 {
-        print_int(k, &mut table)?;
-        table.push(b'\n')?;
-    }
-    assert_eq!(rt; error_of(rt.alloc(), &tree, &table), None);
-    table.extend_from_slice(b"x,y\n")?;
+    let error = read_sensors(rt.alloc(), b"k,s.0\n0, 5\n", &tree).err();
+    let cause = SensorCause::BadNumber(1);
     assert_eq!(rt;
-        error_of(rt.alloc(), &tree, &table),
-        Some(SensorError::Limit(limit))
+        error,
+        Some(SensorError::Refused(SensorFault { row: 1, cause }))
     );
     Ok(())
 }
