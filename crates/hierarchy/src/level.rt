@@ -11,8 +11,8 @@ ghost use Rattle.hierarchy.specs.Wires.{led, Leads};
 use crate::numbers::first_numbers;
 use crate::wires::{Led, Level, follow_all};
 use algo_tree::{Kind, Vertex};
-use level_order::find_order;
 use level_meaning::Source;
+use level_order::find_order;
 use std::alloc::Global;
 use syn_base::{Items, OutOfMemory};
 
