@@ -35,7 +35,7 @@ abbrev medium : ℕ → Bool → List ℕ → Medium
 medium c multi stands = record { name = c ∷ []; multi = multi; fixed = 1; per = 1; stands = stands }
 
 abbrev archi : List (List ℕ) → List Medium → Architecture
-archi operators media = record { operators = operators; media = media }
+archi operators media = record { operators = operators; media = media; depth = 1 }
 
 abbrev entry : List (List (Option ℕ)) → ℕ → ℕ → Option ℕ
 entry rows v o = slice_index_or (slice_index_or rows v []) o None

@@ -114,6 +114,7 @@ fn text(rt: &impl Abort, alloc: Global) -> Result<ArchiText, Fail>
     let lines = lines(alloc)?;
     assert!(rt; are_durations(archi.operators().len(), &lines));
     Ok(ArchiText {
+        version: 1,
         archi,
         lines: Items::new(lines),
     })
