@@ -5,5 +5,6 @@ pub mod Meaning
 pub mod Rounds
 pub mod Running
 pub mod Tasks
+pub mod Tight
 pub mod Unique
 pub mod Whole

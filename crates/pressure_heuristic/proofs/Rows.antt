@@ -18,6 +18,7 @@ use Rattle.schedule.specs.declared.decision.Transfer.{Transfer}
 use Rattle.schedule.specs.declared.decision.Decision.{Decision}
 use Rattle.schedule.specs.declared.decision.Schedule.{Schedule}
 use Rattle.schedule.specs.Acts.{Act, acts_of}
+use Rattle.schedule.specs.Tight.{is_tight}
 use Rattle.schedule.specs.Valid.{is_valid}
 use Rattle.timing_chart.specs.Chart.{chart_lines}
 use Rattle.comm_routing.specs.Task.{Task}
@@ -99,6 +100,16 @@ bus_task = task bus_graph bus_archi two_routes bus_ticks
 bus_run : pressure_run bus_task ≡ bus_schedule 3 13
 bus_run = refl
 
+bus_tight : (is_tight bus_graph (bus_schedule 3 13) ≡ true) × (is_tight bus_graph (bus_schedule 4 14) ≡ false)
+bus_tight = (refl, refl)
+
+-- with the second function at 4 to 14, and what reads it after that, it is valid, but not tight
+abbrev bus_late : Schedule
+bus_late = schedule (placed 0 0 0 1 [] ∷ placed 1 0 1 11 [] ∷ placed 2 1 4 14 (carried 0 0 0 1 1 3 ∷ []) ∷ placed 4 1 14 15 [] ∷ placed 3 0 11 12 [] ∷ [])
+
+bus_late_waits : (is_valid bus_graph bus_archi bus_ticks bus_late ≡ true) × (is_tight bus_graph bus_late ≡ false)
+bus_late_waits = (refl, refl)
+
 -- after the sensor and the first function
 abbrev bus_begun : List Act
 bus_begun = acts_of (placed 0 0 0 1 [] ∷ placed 1 0 1 11 [] ∷ [])
@@ -115,6 +126,9 @@ relay_schedule = schedule (placed 0 0 0 1 [] ∷ placed 1 2 5 6 (carried 0 0 0 1
 
 relay_run : pressure_run (task plain_graph relay_archi (([] ∷ (over 0 1 ∷ []) ∷ (over 0 1 ∷ over 1 2 ∷ []) ∷ []) ∷ []) (entry ((Some 1 ∷ None ∷ None ∷ []) ∷ (None ∷ None ∷ Some 1 ∷ []) ∷ []))) ≡ relay_schedule
 relay_run = refl
+
+relay_tight : is_tight plain_graph relay_schedule ≡ true
+relay_tight = refl
 
 -- Two transfers over a medium of four operators.
 abbrev multi_graph : Graph
@@ -137,6 +151,9 @@ bus_routes from to = over 0 to ∷ []
 
 multi_run : pressure_run (record { graph = multi_graph; archi = multi_archi; route = bus_routes; ticks = multi_ticks }) ≡ multi_schedule
 multi_run = refl
+
+multi_tight : is_tight multi_graph multi_schedule ≡ true
+multi_tight = refl
 
 -- A speed controller: a delay, cases and a merge.
 abbrev operation : ℕ → Kind → List Guard → List Source → List ℕ → Option ℕ → Vertex
@@ -179,6 +196,9 @@ speed_task = task speed_graph speed_archi two_routes speed_ticks
 
 speed_run : pressure_run speed_task ≡ speed_schedule
 speed_run = refl
+
+speed_tight : is_tight speed_graph speed_schedule ≡ true
+speed_tight = refl
 
 speed_tails : tail speed_task 0 ≡ 17
 speed_tails = refl

@@ -1,5 +1,5 @@
 //! The pressure run: a schedule by greedy choice. `adequation` computes it for a flat graph on an
-//! architecture, and its schedule is valid; the commands that need a schedule call it.
+//! architecture, and its schedule is valid and tight; the commands that need a schedule call it.
 #![tactic(auto)]
 
 mod choice;
@@ -8,8 +8,8 @@ mod steps;
 mod tails;
 
 pub use laws::{
-    choices_are_first, runs_are_chosen, runs_are_valid, tables_fit, tails_are_greatest,
-    tasks_are_given,
+    choices_are_first, runs_are_chosen, runs_are_tight, runs_are_valid, tables_fit,
+    tails_are_greatest, tasks_are_given,
 };
 pub use steps::adequation;
 

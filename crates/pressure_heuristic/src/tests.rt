@@ -6,7 +6,7 @@ ghost use Rattle.comm_routing.specs.Draft.{FitsTable};
 use crate::adequation;
 use archi_defs::{ArchiText, DurationLine};
 use archi_graph::{Archi, Medium, is_archi};
-use body_lang::Expr;
+use body_lang::{Body, Expr};
 use comm_routing::Draft;
 use durations::{Durations, durations_of};
 use flat_graph::{Flat, Kind, Source, Vertex, is_flat};
@@ -53,7 +53,7 @@ fn vertices(alloc: Global) -> Result<Vec<Vertex>, Fail> {
 
 fn flat(rt: &impl Abort, alloc: Global) -> Result<Flat, Fail> {
     let vertices = vertices(alloc)?;
-    let body = Items::new(vec![in alloc; Expr::Lit(1)]?);
+    let body = Body::new(alloc, vec![in alloc; Expr::Lit(1)]?)?;
     let bodies = vec![in alloc; body]?;
     assert!(rt; is_flat(&vertices, &bodies));
     Ok(Flat::new(vertices, bodies))

@@ -8,4 +8,5 @@ pub mod Lengths
 pub mod Lined
 pub mod Lining
 pub mod Starts
+pub mod Tight
 pub mod Worked

@@ -1,4 +1,4 @@
--- Validity computed on worked schedules: one that is valid, and each condition broken alone.
+-- Validity and tightness computed on worked schedules: one that is valid and tight, and each condition broken alone.
 use Rattle.std.proofs.Common.{◌≡◌, ℕ, Bool, true, false, List, [], ◌∷◌, ◌++◌, Option, Some, None, refl, pos}
 use Rattle.std.specs.Prelude.{slice_index_or}
 use Rattle.flat_graph.specs.declared.vertex.Source.{Source}
@@ -11,6 +11,7 @@ use Rattle.schedule.specs.declared.decision.Transfer.{Transfer}
 use Rattle.schedule.specs.declared.decision.Decision.{Decision}
 use Rattle.schedule.specs.declared.decision.Schedule.{Schedule}
 use Rattle.schedule.specs.Acts.{length_of}
+use Rattle.schedule.specs.Tight.{is_tight}
 use Rattle.schedule.specs.Valid.{is_valid}
 
 abbrev source : ℕ → Source
@@ -60,6 +61,24 @@ length_with_transfers = refl
 
 later_than_needed : valid (sensors ++ (placed 2 1 7 10 (carried 0 2 4 ∷ carried 1 5 7 ∷ []) ∷ [])) ≡ true
 later_than_needed = refl
+
+-- Of valid schedules those are tight in which nothing waits longer than it has to: here a second transfer, and then the function, start a tick late.
+tight_as_it_is : is_tight sum_of_two (schedule (sensors ++ (placed 2 1 5 8 (carried 0 1 3 ∷ carried 1 3 5 ∷ []) ∷ []))) ≡ true
+tight_as_it_is = refl
+
+a_late_transfer : is_tight sum_of_two (schedule (sensors ++ (placed 2 1 6 9 (carried 0 1 3 ∷ carried 1 4 6 ∷ []) ∷ []))) ≡ false
+a_late_transfer = refl
+
+a_late_operation : is_tight sum_of_two (schedule (sensors ++ (placed 2 1 6 9 (carried 0 1 3 ∷ carried 1 3 5 ∷ []) ∷ []))) ≡ false
+a_late_operation = refl
+
+-- too early is not tight either
+an_early_operation : is_tight sum_of_two (schedule (sensors ++ (placed 2 1 4 7 (carried 0 1 3 ∷ carried 1 3 5 ∷ []) ∷ []))) ≡ false
+an_early_operation = refl
+
+-- a line goes by its last act, though an act before it may end later
+the_last_of_a_line : is_tight sum_of_two (schedule (placed 0 0 0 9 [] ∷ placed 1 0 9 4 [] ∷ placed 0 0 4 5 [] ∷ [])) ≡ true
+the_last_of_a_line = refl
 
 an_operation_twice : valid (sensors ++ (placed 2 1 5 8 (carried 0 1 3 ∷ carried 1 3 5 ∷ []) ∷ placed 2 1 8 11 [] ∷ [])) ≡ false
 an_operation_twice = refl

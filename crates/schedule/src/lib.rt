@@ -6,9 +6,11 @@
 
 mod check;
 mod decision;
+mod laws;
 mod line;
 mod setting;
 mod window;
 
 pub use check::is_valid;
 pub use decision::{Decision, Schedule, Transfer};
+pub use laws::tight_act_by_act;

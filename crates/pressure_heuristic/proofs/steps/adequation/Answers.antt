@@ -2,6 +2,7 @@ use Rattle.std.proofs.Common.{List, ℕ, subst, sym}
 use Rattle.comm_routing.proofs.Sites.{site_of}
 use Rattle.pressure_heuristic.specs.Choosing.{IsGuide}
 use Rattle.pressure_heuristic.proofs.Running.{guide_of, run_of_any, valid_run}
+use Rattle.pressure_heuristic.proofs.Tight.{tight_run}
 use Rattle.pressure_heuristic.proofs.steps.adequation.Goals as goal
 
 pub run-requires-clause-guide : goal.run-requires-clause-guide
@@ -13,6 +14,12 @@ run-requires-clause-guide c =
 pub returns-clause-valid : goal.returns-clause-valid
 returns-clause-valid c =
     valid_run c.args.flat.now c.args.archi.now c.in_ok-routes.routes c.args.durations.now c.in_ok-draft.draft c.in_ok-draft.ensures
+    (site_of c.args.flat.now c.args.archi.now c.in_ok-routes.routes c.args.durations.now c.vertices-vertices.ensures.valid c.operators-operators.ensures.valid c.in_ok-routes.ensures c.requires c.operations-operations.ensures.valid)
+    c.run.result c.run.ensures
+
+pub returns-clause-tight : goal.returns-clause-tight
+returns-clause-tight c =
+    tight_run c.args.flat.now c.args.archi.now c.in_ok-routes.routes c.args.durations.now c.in_ok-draft.draft c.in_ok-draft.ensures
     (site_of c.args.flat.now c.args.archi.now c.in_ok-routes.routes c.args.durations.now c.vertices-vertices.ensures.valid c.operators-operators.ensures.valid c.in_ok-routes.ensures c.requires c.operations-operations.ensures.valid)
     c.run.result c.run.ensures
 

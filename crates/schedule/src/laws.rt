@@ -1,0 +1,9 @@
+//! What holds of tight schedules.
+ghost use Rattle.schedule.specs.Tight.{TightActByAct};
+
+/// A schedule is tight exactly where each act starts at the greatest end of the act before it in its line
+/// and of those before it that make what it reads.
+#[tactic(auto, using(crate::proofs::Tight::tight_act_by_act))]
+pub fn tight_act_by_act()
+    ensures { TightActByAct }
+{}
