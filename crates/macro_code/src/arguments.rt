@@ -1,0 +1,97 @@
+//! Lines of a macro, and lists that are joined by commas.
+ghost use Rattle.std.specs.Prelude.{◌≡◌, ◌++◌, ◌∷◌, [], OnOk, codes, map};
+ghost use Rattle.std.specs.Fmt.{decimal};
+ghost use Rattle.macro_code.specs.Macros.{word_of};
+ghost use Rattle.macro_code.specs.Text.{buffer_name, each_after_comma, joined, line, word_line};
+
+use crate::macros::Macro;
+use grown_text::{append, append_count};
+use syn_base::OutOfMemory;
+
+/// Appends the line of a macro without arguments.
+pub fn append_word_line(out: &mut Vec<u8>, name: Macro) -> Result<(), OutOfMemory>
+    ensures { OnOk result (out.new.items ≡ out.old.items ++ word_line name) }
+{
+    append(out, name.word().as_bytes())?;
+    append(out, b"\n")
+}
+
+/// Appends the name of a macro, and the parenthesis that opens its arguments.
+pub fn append_opening(out: &mut Vec<u8>, name: Macro) -> Result<(), OutOfMemory>
+    ensures { OnOk result (out.new.items ≡ out.old.items ++ (word_of name ++ codes "(")) }
+{
+    append(out, name.word().as_bytes())?;
+    append(out, b"(")
+}
+
+/// Appends the line of a macro with one argument.
+pub fn append_line(out: &mut Vec<u8>, name: Macro, argument: &[u8]) -> Result<(), OutOfMemory>
+    ensures { OnOk result (out.new.items ≡ out.old.items ++ line name (argument.now ∷ [])) }
+{
+    append_opening(out, name)?;
+    append(out, argument)?;
+    append(out, b")\n")
+}
+
+/// Appends the line of a macro with a number as its argument.
+pub fn append_number_line(out: &mut Vec<u8>, name: Macro, number: u32) -> Result<(), OutOfMemory>
+    ensures { OnOk result (out.new.items ≡ out.old.items ++ line name (decimal number ∷ [])) }
+{
+    append_opening(out, name)?;
+    append_count(out, number as usize)?;
+    append(out, b")\n")
+}
+
+/// Appends the name of a buffer.
+pub fn append_buffer(out: &mut Vec<u8>, buffer: usize) -> Result<(), OutOfMemory>
+    ensures { OnOk result (out.new.items ≡ out.old.items ++ buffer_name buffer) }
+{
+    append(out, b"b")?;
+    append_count(out, buffer)
+}
+
+/// Appends the names of these buffers, joined by commas.
+pub fn append_buffers(out: &mut Vec<u8>, buffers: &[u32]) -> Result<(), OutOfMemory>
+    ensures { OnOk result (out.new.items ≡ out.old.items ++ joined (map buffer_name buffers.now)) }
+{
+    match buffers.split_first() {
+        None => Ok(()),
+        Some((first, others)) => {
+            append_buffer(out, *first as usize)?;
+            append_more_buffers(out, others)
+        }
+    }
+}
+
+fn append_more_buffers(out: &mut Vec<u8>, buffers: &[u32]) -> Result<(), OutOfMemory>
+    ensures { OnOk result (out.new.items ≡ out.old.items ++ each_after_comma (map buffer_name buffers.now)) }
+{
+    for buffer in buffers {
+        append(out, b",")?;
+        append_buffer(out, *buffer as usize)?;
+    }
+    Ok(())
+}
+
+/// Appends these numbers, joined by commas.
+pub fn append_numbers(out: &mut Vec<u8>, numbers: &[usize]) -> Result<(), OutOfMemory>
+    ensures { OnOk result (out.new.items ≡ out.old.items ++ joined (map decimal numbers.now)) }
+{
+    match numbers.split_first() {
+        None => Ok(()),
+        Some((first, others)) => {
+            append_count(out, *first)?;
+            append_more_numbers(out, others)
+        }
+    }
+}
+
+fn append_more_numbers(out: &mut Vec<u8>, numbers: &[usize]) -> Result<(), OutOfMemory>
+    ensures { OnOk result (out.new.items ≡ out.old.items ++ each_after_comma (map decimal numbers.now)) }
+{
+    for number in numbers {
+        append(out, b",")?;
+        append_count(out, *number)?;
+    }
+    Ok(())
+}

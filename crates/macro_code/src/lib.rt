@@ -1,0 +1,13 @@
+//! The macro-code: the text of the executive that each processor runs. `print_code` appends it; the
+//! command `code` writes it.
+#![tactic(auto)]
+
+mod arguments;
+mod code;
+mod instruction;
+mod macros;
+mod named;
+mod processor;
+
+pub use code::print_code;
+pub use macros::Macro;
