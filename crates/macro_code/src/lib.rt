@@ -1,5 +1,4 @@
-//! The macro-code: the text of the executive that each processor runs. `print_code` appends it; the
-//! command `code` writes it.
+//! The macro-code: the text of the executive that each processor runs. `print_code` appends it.
 #![tactic(auto)]
 
 mod arguments;
