@@ -1,4 +1,5 @@
-//! The macro-code: the text of the executive that each processor runs. `print_code` appends it.
+//! The macro-code: the text of the executive that each processor runs. `print_code` appends it, and
+//! `Macro` has the names of the macros. It is what the command `code` is to write.
 #![tactic(auto)]
 
 mod arguments;

@@ -1,3 +1,4 @@
 pub mod InTurn
 pub mod Serial
 pub mod Built
+pub mod Guarded
