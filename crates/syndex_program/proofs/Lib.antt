@@ -3,3 +3,5 @@ pub mod Steps
 pub mod Replies
 pub mod Usage
 pub mod Architectures
+pub mod LeastRoutes
+mod RouteRows

@@ -50,7 +50,14 @@ reads_only (Some (sim a s)) =
     )
 reads_only (Some (flat a)) =
     (refl, λ text. after_reads (names_of (Some (flat a))) of_algorithm (definitions_of text) _ (λ defs. after_reads (names_of (Some (flat a))) of_algorithm (resolution_of defs) _ (λ main. tt)))
-reads_only (Some (chart a h)) = tt
+reads_only (Some (chart a h)) =
+    let names = names_of (Some (chart a h)) in (
+      refl,
+      λ text. after_reads names of_algorithm (definitions_of text) _ (λ defs. after_reads names of_algorithm (resolution_of defs) _ (λ main. (
+        refl,
+        λ described. after_reads names of_architecture (description_of described) _ (λ d. after_reads names of_architecture (durations_of (flat_of main) d) _ (λ durations. tt)),
+      ))),
+    )
 reads_only (Some (code a h)) = tt
 reads_only (Some (run a h s workers)) = tt
 reads_only (Some (load n)) = tt

@@ -30,7 +30,7 @@ use Rattle.archi_defs.specs.declared.fault.ArchiError.TheVariants as archi_error
 use Rattle.durations.specs.Table.{Table, durations_of}
 use Rattle.flat_laws.specs.FlatOf.{flat_of}
 use Rattle.flat_text.specs.Listing.{listing}
-use Rattle.syndex_program.specs.Plans.{algorithm_plan, architecture_plan, both_texts, excess, plan_for, rows_plan, sim_output, table_plan, unless}
+use Rattle.syndex_program.specs.Plans.{algorithm_plan, architecture_plan, both_texts, chart_of, excess, plan_for, rows_plan, sim_output, table_plan, unless}
 
 -- a refusal that a plan does not have
 abbrev NeverSays : Refusal → Plan Refusal → Type 0
@@ -110,7 +110,8 @@ never_for (check a (Some h)) =
     algorithm_never a (λ defs main. architecture_plan h main (λ (d : Described) (t : Table). give (both_texts defs d))) (λ defs main. architecture_never main h (λ (d : Described) (t : Table). give (both_texts defs d)) (λ d t. tt))
 never_for (sim a s) = algorithm_never a (λ defs main. table_plan main s) (λ defs main. table_never main s)
 never_for (flat a) = algorithm_never a (λ defs main. give (listing (flat_of main))) (λ defs main. tt)
-never_for (chart a h) = not_built_never
+never_for (chart a h) =
+    algorithm_never a (λ defs main. architecture_plan h main (λ (d : Described) (t : Table). give (chart_of (flat_of main) d t))) (λ defs main. architecture_never main h (λ (d : Described) (t : Table). give (chart_of (flat_of main) d t)) (λ d t. tt))
 never_for (code a h) = not_built_never
 never_for (run a h s workers) = not_built_never
 never_for (load n) = not_built_never

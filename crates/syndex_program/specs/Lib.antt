@@ -1,3 +1,4 @@
 pub mod Plans
+pub mod Routes
 pub mod Replies
 pub mod Reads

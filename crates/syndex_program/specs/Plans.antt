@@ -18,8 +18,12 @@ use Rattle.algo_tree.specs.Tree.{Vertex}
 use Rattle.archi_defs.specs.Text.{Described, description_of}
 use Rattle.archi_reader.specs.Canonical as architecture
 use Rattle.durations.specs.Table.{Table, durations_of}
+use Rattle.flat_graph.specs.Graph.{Graph}
 use Rattle.flat_laws.specs.FlatOf.{flat_of}
 use Rattle.flat_text.specs.Listing.{listing}
+use Rattle.pressure_heuristic.specs.Pressure.{pressure_run}
+use Rattle.pressure_heuristic.specs.Tasks.{task}
+use Rattle.timing_chart.specs.Chart as timing
 use Rattle.algo_tree.specs.Ends.{actuator_lengths}
 use Rattle.algo_tree.specs.Meaning.{act_row}
 use Rattle.sensor_table.specs.SensorTable.{rows_of}
@@ -28,6 +32,7 @@ use Rattle.act_text.specs.Text.{output_text}
 use Rattle.command_plan.specs.Plan.{Plan, give, refuse, read, after}
 use Rattle.command_status.specs.Status.{Refusal, above, not_built, of_algorithm, of_architecture, of_sensors, usage}
 use Rattle.command_words.specs.Command.{Command, check, sim, flat, chart, code, run, load}
+use Rattle.syndex_program.specs.Routes.{table_of}
 
 -- read a file, or refuse it where it is too long
 abbrev pub read_file : File → Bytes → (Bytes → Plan Refusal) → Plan Refusal
@@ -55,6 +60,13 @@ check_plan a (Some h) = algorithm_plan a (λ defs main. architecture_plan h main
 -- the listing of the flat graph
 abbrev pub flat_plan : Bytes → Plan Refusal
 flat_plan a = algorithm_plan a (λ defs main. give (listing (flat_of main)))
+
+-- the timing chart of the pressure run over the least routes
+abbrev pub chart_of : Graph → Described → Table → Bytes
+chart_of g d durations = timing.chart g d.archi (pressure_run (task g d.archi (table_of d.archi) durations))
+
+abbrev pub chart_plan : Bytes → Bytes → Plan Refusal
+chart_plan a h = algorithm_plan a (λ defs main. architecture_plan h main (λ d durations. give (chart_of (flat_of main) d durations)))
 
 -- more elements than an output may have
 abbrev pub excess : ℕ → Option LimitFault
@@ -87,7 +99,7 @@ abbrev pub plan_for : Command → Plan Refusal
 plan_for (check a h) = check_plan a h
 plan_for (sim a s) = sim_plan a s
 plan_for (flat a) = flat_plan a
-plan_for (chart a h) = refuse not_built
+plan_for (chart a h) = chart_plan a h
 plan_for (code a h) = refuse not_built
 plan_for (run a h s workers) = refuse not_built
 plan_for (load n) = refuse not_built

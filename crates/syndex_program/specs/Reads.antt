@@ -64,9 +64,10 @@ ReadsAlgorithm name old new (Err status) = (next : List Def → Vertex → Plan 
 abbrev pub described : ArchiText → Described
 described text = record { version = text.version; archi = text.archi; durations = text.lines }
 
--- what a text describes, and how long the operations of this algorithm last by it
+-- what a text describes, the flat graph of this algorithm, and how long its operations last by the text
 pub record IsArchitecture (main : Vertex) (text : Bytes) (architecture : Architecture) : Type 0 where
   pub says : description_of text ≡ Ok (described architecture.text)
+  pub flattens : architecture.flat ≡ flat_of main
   pub lasts : durations_of (flat_of main) (described architecture.text) ≡ Ok architecture.durations
 
 -- the first refusal of a text, by itself or for an operation without a duration

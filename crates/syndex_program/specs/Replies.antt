@@ -43,7 +43,7 @@ abbrev pub is_built : Command → Bool
 is_built (check a h) = true
 is_built (sim a s) = true
 is_built (flat a) = true
-is_built (chart a h) = false
+is_built (chart a h) = true
 is_built (code a h) = false
 is_built (run a h s workers) = false
 is_built (load n) = false

@@ -1,4 +1,4 @@
-//! The architecture of a file: its text, and how long the operations of an algorithm last by it.
+//! The architecture of a file: its text, and how long the flat operations of an algorithm last by it.
 ghost use Rattle.std.specs.Prelude.{◌≤◌, length};
 ghost use Rattle.outside.specs.Shelf.{Stays, file_bound};
 ghost use Rattle.path_text.specs.Bounded.{HasBounds};
@@ -11,14 +11,17 @@ use archi_defs::{ArchiError, ArchiText};
 use archi_reader::read_archi;
 use command_status::Status;
 use durations::{Durations, accepted_are_durations, durations_of};
+use flat_graph::Flat;
 use hierarchy::flatten;
 use outside::{File, Shelf};
 use std::alloc::Global;
 
-/// What a text describes, and how long each flat operation of an algorithm lasts by it.
+/// What a text describes, the flat graph of an algorithm, and how long each of its operations lasts by
+/// the text.
 #[derive(Drop)]
 pub struct Architecture {
     pub text: ArchiText,
+    pub flat: Flat,
     pub durations: Durations,
 }
 
@@ -51,5 +54,9 @@ fn architecture_of(alloc: Global, text: &[u8], tree: &Tree) -> Result<Architectu
         return Err(ArchiError::OutOfMemory);
     };
     let durations = durations_of(alloc, &flat, &text)?;
-    Ok(Architecture { text, durations })
+    Ok(Architecture {
+        text,
+        flat,
+        durations,
+    })
 }

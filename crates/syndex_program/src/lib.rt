@@ -14,6 +14,7 @@ ghost use Rattle.syndex_program.specs.Plans.{plan_of, plan_for};
 ghost use Rattle.syndex_program.specs.Reads.{bytes_in};
 ghost use Rattle.syndex_program.specs.Replies.{Replies, LeavesUnread};
 
+use chart::chart_text;
 use check::check_texts;
 use command_status::say;
 use command_words::{Command, command_of};
@@ -26,6 +27,7 @@ use std::thread::Threads;
 
 mod algorithm;
 mod architecture;
+mod chart;
 mod check;
 mod files;
 mod flat;
@@ -33,6 +35,7 @@ mod sim;
 #[cfg(test)]
 mod tests;
 
+pub use chart::routes_are_least;
 pub use command_status::Status;
 
 /// Every command that starts no thread. It answers how the command of the words ended, and writes
@@ -124,7 +127,10 @@ fn text_of<S: Shelf>(alloc: Global, command: &Command, shelf: &mut S) -> Result<
         } => check_texts(alloc, shelf, algorithm, *architecture),
         Command::Sim { algorithm, sensors } => sim_text(alloc, shelf, algorithm, sensors),
         Command::Flat { algorithm } => listing_text(alloc, shelf, algorithm),
-        Command::Chart { .. } => Err(Status::NotBuilt),
+        Command::Chart {
+            algorithm,
+            architecture,
+        } => chart_text(alloc, shelf, algorithm, architecture),
         Command::Code { .. } => Err(Status::NotBuilt),
         Command::Run { .. } => Err(Status::NotBuilt),
         Command::Load(_) => Err(Status::NotBuilt),

@@ -6,7 +6,7 @@ pub returns-in-Flat-clause-makes : goal.returns-in-Flat-clause-makes
 returns-in-Flat-clause-makes g c = rw c.in-Flat.is c.listing_text.ensures.makes
 
 pub returns-in-Chart-clause-makes : goal.returns-in-Chart-clause-makes
-returns-in-Chart-clause-makes g c = rw c.in-Chart.is (refuses (inl (refl, λ file name. refl)))
+returns-in-Chart-clause-makes g c = rw c.in-Chart.is c.chart_text.ensures.makes
 
 pub returns-in-Code-clause-makes : goal.returns-in-Code-clause-makes
 returns-in-Code-clause-makes g c = rw c.in-Code.is (refuses (inl (refl, λ file name. refl)))

@@ -27,5 +27,6 @@ returns-in_err-durations c =
 pub returns : goal.returns
 returns c = record {
   says = c.in_ok-text.ensures;
+  flattens = c.in-Ok.ensures.same;
   lasts = subst (λ (g : Graph). durations_of g (described c.in_ok-text.text) ≡ Ok c.in_ok-durations.durations) c.in-Ok.ensures.same c.in_ok-durations.ensures.gives;
 }

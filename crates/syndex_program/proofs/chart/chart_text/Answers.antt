@@ -1,0 +1,53 @@
+use Rattle.std.proofs.Common.{◌≡◌, ◌∙◌, ap, subst, sym}
+use Rattle.std.specs.Prelude.{List, Ok, Err}
+use Rattle.std.proofs.lemmas.Result.{err_from_is_err_and}
+use Rattle.outside.specs.Bytes.{Bytes}
+use Rattle.algo_defs.specs.declared.definition.Def.{Def}
+use Rattle.algo_tree.specs.Tree.{Vertex}
+use Rattle.archi_defs.specs.Text.{Described}
+use Rattle.durations.specs.Table.{Table, durations_of}
+use Rattle.flat_graph.specs.Graph.{Graph}
+use Rattle.flat_laws.specs.FlatOf.{flat_of}
+use Rattle.command_plan.specs.Plan.{give}
+use Rattle.command_plan.proofs.Makes.{gave, memory}
+use Rattle.command_status.specs.Status.{ending_of}
+use Rattle.syndex_program.specs.Plans.{architecture_plan, chart_of, chart_plan}
+use Rattle.syndex_program.specs.Reads.{described}
+use Rattle.syndex_program.proofs.Architectures as architecture
+use Rattle.syndex_program.proofs.Steps.{went_on}
+use Rattle.syndex_program.proofs.chart.chart_text.Goals as goal
+
+pub charted-requires : goal.charted-requires
+charted-requires g c =
+    let given = c.in_ok-architecture.architecture in
+    let is = c.in_ok-architecture.ensures.reads.2 in
+    subst (λ (f : Graph). durations_of f (described given.text) ≡ Ok given.durations) (sym is.flattens) is.lasts
+
+pub returns-in_err-architecture-clause-makes : goal.returns-in_err-architecture-clause-makes
+returns-in_err-architecture-clause-makes g c =
+    let H = g.S.Shelf.held in
+    let p = err_from_is_err_and c.from_residual-in_err-architecture.result c.from_residual-in_err-architecture.ensures.1 in
+    rw (p.1, p.2) (
+    went_on c.args.algorithm.now (H c.args.shelf.now) (H c.read_algorithm.new.shelf) (H c.read_architecture.new.shelf) c.in_ok-algorithm.algorithm
+    (λ (defs : List Def) (main : Vertex). architecture_plan c.args.architecture.now main (λ (d : Described) (t : Table). give (chart_of (flat_of main) d t))) (Err (ending_of c.in_err-architecture.field-0.0))
+    c.in_ok-algorithm.ensures.reads (c.in_err-architecture.ensures.reads _)
+    )
+
+pub returns-in_err-charted-clause-makes : goal.returns-in_err-charted-clause-makes
+returns-in_err-charted-clause-makes g c =
+    let H = g.S.Shelf.held in
+    let p = err_from_is_err_and c.from_residual-in_err-charted.result c.from_residual-in_err-charted.ensures.1 in
+    rw (p.1, p.2) (memory (H c.args.shelf.now) (H c.read_architecture.new.shelf) (chart_plan c.args.algorithm.now c.args.architecture.now))
+
+pub returns-clause-makes : goal.returns-clause-makes
+returns-clause-makes g c =
+    let H = g.S.Shelf.held in
+    let algorithm = c.in_ok-algorithm.algorithm in
+    let given = c.in_ok-architecture.architecture in
+    let is = c.in_ok-architecture.ensures.reads.2 in
+    let d = described given.text in
+    went_on c.args.algorithm.now (H c.args.shelf.now) (H c.read_algorithm.new.shelf) (H c.read_architecture.new.shelf) algorithm
+    (λ (defs : List Def) (main : Vertex). architecture_plan c.args.architecture.now main (λ (d : Described) (t : Table). give (chart_of (flat_of main) d t))) _ c.in_ok-algorithm.ensures.reads
+    (architecture.went_on algorithm.tree c.args.architecture.now (H c.read_algorithm.new.shelf) (H c.read_architecture.new.shelf) (H c.read_architecture.new.shelf) given
+    (λ (d : Described) (t : Table). give (chart_of (flat_of algorithm.tree) d t)) _ c.in_ok-architecture.ensures.reads
+    (gave (H c.read_architecture.new.shelf) _ _ (ap (λ (x : Bytes). Ok x) (c.in_ok-charted.ensures ∙ ap (λ (f : Graph). chart_of f d given.durations) is.flattens))))
