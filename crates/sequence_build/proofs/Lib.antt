@@ -1,0 +1,9 @@
+pub mod Places
+pub mod Sequencing
+pub mod Noting
+pub mod Adding
+pub mod Deepening
+pub mod Reading
+pub mod Silent
+pub mod Pairing
+pub mod Guarding
