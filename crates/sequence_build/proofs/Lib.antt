@@ -7,3 +7,6 @@ pub mod Reading
 pub mod Silent
 pub mod Pairing
 pub mod Guarding
+pub mod Numbering
+pub mod Covering
+pub mod Assembling

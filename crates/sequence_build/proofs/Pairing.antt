@@ -1,5 +1,5 @@
 -- The pairs that are found are the readers of the program, each with the places of its first read, its last read and its write.
-use Rattle.std.proofs.Common.{◌≡◌, ℕ, zero, suc, ◌+◌, ◌<◌, ◌≤◌, ◌⊎◌, Bool, true, false, ◌&&◌, ◌||◌, not, cond, nat_eq, List, [], ◌∷◌, ◌++◌, length, map, take, drop, Option, Some, None, refl, sym, ap, subst, inl, inr, arith, ◌∙◌, eq-eqb}
+use Rattle.std.proofs.Common.{◌≡◌, ℕ, zero, suc, ◌+◌, ◌<◌, ◌≤◌, ◌⊎◌, Bool, true, false, ◌&&◌, ◌||◌, not, cond, nat_eq, List, [], ◌∷◌, ◌++◌, length, map, take, drop, Option, Some, None, refl, sym, ap, subst, inl, inr, arith, ◌∙◌, eq-eqb, Vec, Global}
 use Rattle.std.specs.Prelude.{slice_get, is_some}
 use Rattle.std.specs.List.{list_any}
 use Rattle.std.proofs.lemmas.Bool.{false≢true, eqb-true, ne_eqb, cases_Bool, and_parts}
@@ -15,8 +15,8 @@ use Rattle.sequence_build_laws.proofs.Lists.{any_at, any_of}
 use Rattle.sequence_build.specs.declared.uses.Use.{Use}
 use Rattle.sequence_build.specs.declared.uses.Place.{Place}
 use Rattle.sequence_build.specs.declared.pairs.Pair.{Pair}
-use Rattle.sequence_build.specs.Uses.{use_of, place_of, uses_by, write_by, first_from, last_from}
-use Rattle.sequence_build.specs.Pairs.{is_in, pairs_with, pairs_at, plain_pairs, reader_of}
+use Rattle.sequence_build.specs.Uses.{use_of, place_of, uses_at, write_at, uses_by, write_by, first_from, last_from}
+use Rattle.sequence_build.specs.Pairs.{is_in, pairs_with, pairs_below, pairs_at, plain_pairs, reader_of}
 use Rattle.sequence_build.specs.Around.{is_at}
 use Rattle.sequence_build.proofs.Places.{use_in}
 use Rattle.sequence_build.proofs.Sequencing.{all_uses, uses_from_none, Found, write_found, write_there}
@@ -167,3 +167,11 @@ module _ (p : Program) where
         ∙ blocks-same (λ b. map reader_of (pairs_at p b)) (readers_from 0 p.seqs) (length p.buffers) (λ b l.
             ap (λ (us : List Use). map reader_of (pairs_with b (write_by (writes b) 0 p.seqs None) us)) (uses_from_none (reads b) p.seqs)
             ∙ readers_same b 0 (write_by (writes b) 0 p.seqs None) p.seqs (λ i q e. ap (is_in (write_by (writes b) 0 p.seqs None)) (let z : 0 + i ≡ i = omega arith in z) ∙ writer_is b i q e))
+
+-- the pairs of tables that say what each buffer's uses are
+pub below_is : (p : Program) (uses : List (Vec Use Global)) (writers : List (Option Place)) (n : ℕ) → n ≡ length p.buffers
+    → ((b : ℕ) → b < length p.buffers → uses_at uses b ≡ uses_by (reads b) 0 p.seqs []) → ((b : ℕ) → b < length p.buffers → write_at writers b ≡ write_by (writes b) 0 p.seqs None)
+    → pairs_below uses writers n ≡ plain_pairs p
+below_is p uses writers n e h k =
+    ap (pairs_below uses writers) e
+    ∙ blocks-same (λ b. pairs_with b (write_at writers b) (uses_at uses b)) (pairs_at p) (length p.buffers) (λ b l. λ i. pairs_with b (k b l i) (h b l i))

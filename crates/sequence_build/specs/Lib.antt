@@ -1,4 +1,5 @@
 pub mod Limit
+pub mod Program
 pub mod Numbers
 pub mod Made
 pub mod Plain

@@ -1,5 +1,5 @@
 -- A table of the numbers of copies. Each operation has at most 64 outputs, and there are at most 2,048 operations and 16 operators.
-use Rattle.std.specs.Prelude.{◌≡◌, ℕ, ◌+◌, ◌*◌, Bool, true, ◌&&◌, cond, nat_lt, List, Some, slice_get, slice_index_or}
+use Rattle.std.specs.Prelude.{◌≡◌, ℕ, ◌+◌, ◌*◌, ◌<◌, Bool, ◌&&◌, cond, nat_lt, List, Some, slice_get, slice_index_or}
 use Rattle.schedule.specs.Acts.{Copy}
 
 -- the table has a place for the copy
@@ -14,6 +14,11 @@ place c = cond (covers c) ((c.source.vertex * 64 + c.source.port) * 16 + c.opera
 abbrev pub number_in : List ℕ → ℕ → Copy → ℕ
 number_in table count c = slice_index_or table (place c) count
 
--- the table has a place for each of these copies
-abbrev pub AreCovered : List Copy → Type 0
-AreCovered copies = (k : ℕ) (c : Copy) → slice_get copies k ≡ Some c → covers c ≡ true
+-- the copy is of an output of one of so many operations
+pub record IsCovered (operations : ℕ) (c : Copy) : Type 0 where
+  pub vertex : c.source.vertex < operations
+  pub port : c.source.port < 64
+  pub operator : c.operator < 16
+
+abbrev pub AreCovered : ℕ → List Copy → Type 0
+AreCovered operations copies = (k : ℕ) (c : Copy) → slice_get copies k ≡ Some c → IsCovered operations c

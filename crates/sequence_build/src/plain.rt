@@ -43,7 +43,7 @@ pub fn plain_program(
     archi: &Archi,
     schedule: &Schedule,
 ) -> Result<Program, OutOfMemory>
-    requires { AreCovered (copies flat.now archi.now schedule.now) }
+    requires { AreCovered (length flat.now.vertices) (copies flat.now archi.now schedule.now) }
     ensures { IfOk result (λ p. p ≡ plain_program flat.now archi.now schedule.now) }
 {
     let decisions = schedule.decisions.as_slice();
