@@ -1,0 +1,12 @@
+pub mod Joined
+pub mod Views
+pub mod Keeps
+pub mod Shapes
+pub mod Further
+pub mod Allowed
+pub mod Moving
+pub mod Running
+pub mod Parting
+pub mod Opening
+pub mod Ending
+mod Rows
