@@ -1,9 +1,10 @@
 -- The words of a table that has ended.
-use Rattle.std.proofs.Common.{◌≡◌, ℕ, zero, suc, ◌+◌, ◌<◌, List, [], ◌∷◌, length, get_or, refl, sym, ap, arith, ◌∙◌}
+use Rattle.std.proofs.Common.{◌≡◌, ℕ, zero, suc, ◌+◌, ◌<◌, List, [], ◌∷◌, length, get_or, refl, sym, ap, subst, arith, ◌∙◌}
 use mathlib.Core.Option.{some, some-injective, some-ne-none}
 use lib.ListN.{get_elem?}
 use Rattle.atomic_table.specs.Table.{Final, Seen}
 use Rattle.semaphore_core.specs.Job.{JobData}
+use Rattle.semaphore_core.specs.Core.{AreReached}
 use Rattle.semaphore_core.specs.Told.{told}
 use Rattle.word_rule.specs.declared.view.View.{View}
 use Rattle.word_rule.specs.Words.{table_of, table_len}
@@ -20,9 +21,9 @@ same_lists [] (y ∷ ys) l h = absurd (omega arith)
 same_lists (x ∷ xs) [] l h = absurd (omega arith)
 same_lists (x ∷ xs) (y ∷ ys) l h = λ i. h 0 (omega arith) i ∷ same_lists xs ys (omega arith) (λ s q. h (suc s) (omega arith)) i
 
--- with a seat that drives every sequence, the words are those that its counts tell
-pub words_at_end : (j : JobData) (id : ℕ) (v : View) (counts ws : List ℕ) (xs : List (Unit {0})) → RunsOnWords j → HoldsCounts j v counts → Final (Seen (Tells j) id v) ws xs → ws ≡ table_of (told j counts)
-words_at_end j id v counts ws xs g h (t, ((c, b), at), w, homes, rest) = sym w ∙ b.words ∙ ap (λ (cs : List ℕ). table_of (told j cs)) same
+-- with a seat that drives every sequence, the words are those that its counts tell, which are reached
+pub words_at_end : (j : JobData) (id : ℕ) (v : View) (counts ws : List ℕ) (xs : List (Unit {0})) → RunsOnWords j → HoldsCounts j v counts → Final (Seen (Tells j) id v) ws xs → (ws ≡ table_of (told j counts)) × AreReached j counts
+words_at_end j id v counts ws xs g h (t, ((c, b), at), w, homes, rest) = (sym w ∙ b.words ∙ ap (λ (cs : List ℕ). table_of (told j cs)) same, subst (AreReached j) same b.are_told.reached)
   where
     long : length c ≡ length j.program.seqs
     long = (shaped j g c b.are_told).counts

@@ -51,7 +51,7 @@ module _ (j : JobData) (g : RunsOnWords j) (counts : List ℕ) (c : AreTold j co
       on_here : enabled_in Now (reaction j Now s) m ≡ true
       on_here = ap (λ (k : ℕ). enabled_in Now k m) reaction_is ∙ on
 
-      goes : GoesOn j counts s
+      pub goes : GoesOn j counts s
       goes = g.laws.goes_on counts s c.reached (ap (enabled_by j Now s) next_is ∙ on_here)
 
       pub tells : told j (one_more j counts s) ≡ done_in j Now s r m

@@ -6,7 +6,8 @@ pub mod Further
 pub mod Allowed
 pub mod Moving
 pub mod Running
-pub mod Parting
+pub mod Splitting
+pub mod Seats
 pub mod Opening
 pub mod Ending
 mod Rows

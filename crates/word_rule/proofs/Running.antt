@@ -1,5 +1,5 @@
 -- What the steps on a table need holds of every job: lengths, bounds, and that what a micro-step names is there.
-use Rattle.std.proofs.Common.{◌≡◌, ℕ, zero, suc, ◌+◌, ◌*◌, ◌%◌, ◌^◌, ◌<◌, ◌≤◌, ◌⊎◌, inl, inr, Bool, true, false, cond, List, length, get_or, Option, Some, None, refl, ap, subst, arith, ◌∙◌, ℤ, pos, suc-mul, mul-le-mul_right}
+use Rattle.std.proofs.Common.{◌≡◌, ℕ, zero, suc, ◌+◌, ◌*◌, ◌%◌, ◌^◌, ◌<◌, ◌≤◌, ◌⊎◌, inl, inr, Bool, true, false, cond, List, [], length, get_or, Option, Some, None, refl, ap, subst, arith, ◌∙◌, ℤ, pos, suc-mul, mul-le-mul_right}
 use Rattle.std.specs.Prelude.{slice_get, nat_lt}
 use Rattle.std.proofs.lemmas.Bool.{cases_eq, cases_lt}
 use Rattle.std.proofs.lemmas.List.{length-map, length-replicate, get_or-map}
@@ -117,6 +117,7 @@ module _ (j : JobData) (f : IsFormed j) (supplied : IsSupplied j) (job : IsJob j
 
   runs : RunsOnWords j
   runs = record {
+    supplied = supplied;
     formed = f;
     places = has_places j job;
     laws = have_laws j supplied;

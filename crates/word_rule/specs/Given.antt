@@ -12,6 +12,7 @@ use Rattle.semaphore_core.specs.Told.{told, stored_value, own_after}
 use Rattle.interleavings.specs.Sound.{AreValues}
 use Rattle.phase_laws.specs.Agrees.{IsFormed}
 use Rattle.phase_laws.specs.Reached.{ReachedLaws}
+use Rattle.phase_laws.specs.Values.{IsSupplied}
 use Rattle.semaphore_core.specs.Core.{Core, run, full, home_of, slot_of, turn_reached, own, AreReached}
 use Rattle.executive_program.specs.Instructions.{HasPlaces}
 use Rattle.executive_program.specs.Steps.{steps}
@@ -54,6 +55,7 @@ module _ (j : JobData) where
   IsThere (Store x what) = IsHere x
 
   pub record RunsOnWords : Type 0 where
+    pub supplied : IsSupplied j
     pub formed : IsFormed j
     pub places : HasPlaces j.program
     pub laws : HasLaws j

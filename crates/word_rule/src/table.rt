@@ -1,6 +1,7 @@
 //! The table of a job and its seats: how a table begins, and how it ends.
 ghost use Rattle.std.specs.Prelude.{◌≡◌, ◌<◌, ◌+◌, ℕ, [], length, slice_index_or, replicate, IfOk};
 ghost use Rattle.std.specs.Mem.Slots.{slots_items, slots_len, IsFull};
+ghost use Rattle.semaphore_core.specs.Core.{AreReached};
 ghost use Rattle.semaphore_core.specs.Told.{told};
 ghost use Rattle.word_rule.specs.Given.{RunsOnWords};
 ghost use Rattle.word_rule.specs.Steps.{HoldsCounts};
@@ -96,12 +97,13 @@ impl<'a> WordTable<'a> {
     }
 
     /// Ends the table with a seat that drives every sequence, and leaves its words, without the spare one,
-    /// in place of these. It takes no memory.
+    /// in place of these: they are what its counts tell, which are reached. It takes no memory.
     pub fn close(self, seat: WordSeat<'a>, counts: &[u64], words: &mut Vec<u64>)
         requires seat { seat.table ≡ self.table }
         requires all { HoldsCounts self.key seat.view counts.now }
         requires room { length words.old.items + 1 ≡ table_len self.key }
-        ensures { words.new.items ≡ words_of (told self.entry.key counts.now) }
+        ensures words { words.new.items ≡ words_of (told self.entry.key counts.now) }
+        ensures reached { AreReached self.entry.key counts.now }
     {
         let WordTable { table } = self;
         let WordSeat { seat } = seat;

@@ -1,5 +1,5 @@
 -- What fabrics and drivers keep in their fields.
-use Rattle.std.specs.Prelude.{◌≡◌, ℕ, ◌+◌, ◌<◌, ◌≤◌, ◌%◌, Bool, true, false, List, [], ◌∷◌, map, length, Some, slice_get, slice_index_or, slice_set, replicate, ℤ}
+use Rattle.std.specs.Prelude.{◌≡◌, ℕ, ◌+◌, ◌<◌, ◌≤◌, ◌%◌, ◌^◌, Bool, true, false, List, [], map, length, Some, slice_get, slice_index_or, slice_set, ℤ}
 use Rattle.level_meaning.specs.Level.{Values, vector_at}
 use Rattle.flat_graph.specs.declared.vertex.Vertex.{Vertex}
 use Rattle.flat_graph.specs.declared.vertex.Kind.TheVariants.{Actuator}
@@ -103,13 +103,13 @@ pub record IsWoven (f : Woven) : Type 0 where
   pub turns : f.turns ≡ turn_word f.job.now 0
   pub starts_there : length f.starts.items ≡ length (element_lens f.job.now)
   pub starts : (h : ℕ) → h < length f.starts.items → slice_index_or f.starts.items h 0 ≡ elements_start f.job.now h
-  pub words_few : table_len f.job.now < 18446744073709551616
+  pub words_few : table_len f.job.now < 2 ^ 64
   pub laid : AreLaid f.job.now f.remains
 
 -- how both are seen
-abbrev pub look_of : View → Look
-look_of Spent = record { number = 0; word = 0; found = 0 }
-look_of (Holds k) = record { number = k.looks; word = k.word; found = k.found }
+abbrev pub last_look : View → Look
+last_look Spent = record { number = 0; word = 0; found = 0 }
+last_look (Holds k) = record { number = k.looks; word = k.word; found = k.found }
 
 abbrev pub woven_view : Woven → FabricData
 woven_view f = record { table = f.table.table; job = f.job.now; groups = f.groups }
@@ -119,7 +119,7 @@ share_view d = record {
   fabric = record { table = d.seat.table; job = d.job.now; groups = d.groups };
   group = d.group;
   counts = d.counts.items;
-  look = look_of d.seat.view;
+  look = last_look d.seat.view;
   registers = values_of d;
   cells = d.operations.cells;
   rows = d.operations.rows;

@@ -7,6 +7,7 @@ use crate::answer::MicroAnswer;
 use crate::share::Share;
 use crate::woven::Woven;
 use std::marker::Model;
+use word_rule::job_runs_on_words;
 
 /// The words of a job, shared by its drivers. Contracts see which table it is, its job, and the number of
 /// groups in which the sequences are driven.
@@ -105,6 +106,6 @@ impl<'a> Driver<'a> {
     pub fn is_told(&self)
         ensures { IsTold self.now }
     {
-        let _ = &self.share.group;
+        job_runs_on_words(self.share.job);
     }
 }

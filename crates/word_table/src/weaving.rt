@@ -11,9 +11,8 @@ use crate::owners::{called_in, callers_of, cell_owners};
 use crate::remains::Remains;
 use crate::share::Share;
 use crate::woven::Woven;
-use semaphore_core::{
-    Job, Operations, SeqSteps, all_registers, micro_steps_of, small, words_of, zero_elements,
-};
+use executive_program::micro_steps_of;
+use semaphore_core::{Job, Operations, all_registers, small, words_of, zero_elements};
 use std::alloc::Global;
 use syn_base::{Items, OutOfMemory};
 use word_rule::{WordSeat, WordTable, job_runs_on_words};
