@@ -1,4 +1,4 @@
-use Rattle.std.proofs.Common.{◌≡◌, ◌∙◌, ◌+◌, ℕ, List, length, Option, Some, sym, ap, subst}
+use Rattle.std.proofs.Common.{◌∙◌, length, Some, sym, ap, subst}
 use Rattle.word_rule.specs.Table.{SeatData, TableData}
 use Rattle.word_table.proofs.Gathering.{AreGathered, last_part, last_short, last_below, last_fits, last_table, last_gathered}
 use Rattle.word_table.proofs.closing.gather_all.Goals as goal

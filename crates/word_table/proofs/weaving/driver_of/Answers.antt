@@ -1,9 +1,7 @@
-use Rattle.std.proofs.Common.{refl, ap, sym, subst, ◌∙◌, ℕ, List, length, map, false}
+use Rattle.std.proofs.Common.{refl, ap, ◌∙◌, ℕ, List, length, map}
 use Rattle.std.specs.Prelude.{replicate, nat_eq, ◌%◌}
-use Rattle.flat_graph.specs.Graph.{Graph}
 use Rattle.executive_program.specs.declared.program.SeqCode.{SeqCode}
 use Rattle.executive_program.specs.declared.program.Program.{Program}
-use Rattle.executive_program.specs.declared.expand.SeqSteps.{SeqSteps}
 use Rattle.semaphore_core.specs.AtOpening.{all_registers}
 use Rattle.word_table.proofs.Beginning.{begins_by}
 use Rattle.word_table.proofs.weaving.driver_of.Goals as goal

@@ -1,4 +1,4 @@
-use Rattle.std.proofs.Common.{◌≡◌, ◌∙◌, ap}
+use Rattle.std.proofs.Common.{◌∙◌, ap}
 use Rattle.word_rule.specs.Driven.{Driven}
 use Rattle.word_rule.specs.Table.{TableData}
 use Rattle.word_table.proofs.Finishing.{seat_whole, driven_whole, closed_whole, ended_whole}
