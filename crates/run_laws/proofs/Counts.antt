@@ -1,7 +1,7 @@
 -- What is driven after jobs.
 use Rattle.std.proofs.Common.{◌≡◌, ℕ, ◌+◌, ◌≤◌, min, List, [], ◌∷◌, sum, refl, arith, ◌∙◌}
 use Rattle.phase_laws.specs.Ended.{full_counts}
-use Rattle.run_laws.specs.Driven.{last_number, driven_by}
+use Rattle.word_rule.specs.Driven.{last_number, driven_by}
 use Rattle.run_laws.specs.Drives.{NumbersRise, LastIsKept, steps_of_all}
 
 pub numbers_rise : NumbersRise

@@ -4,7 +4,8 @@ use Rattle.semaphore_core.specs.Job.{JobData}
 use Rattle.semaphore_core.specs.Told.{told}
 use Rattle.phase_laws.specs.Ended.{full_counts}
 use Rattle.command_plan.specs.Stage.{after_jobs}
-use Rattle.run_laws.specs.Driven.{Driven, last_number, words_of, driven_by}
+use Rattle.word_rule.specs.Driven.{Driven, last_number, driven_by}
+use Rattle.word_rule.specs.Words.{words_of}
 
 -- their micro-steps
 abbrev pub steps_of_all : List JobData → ℕ

@@ -9,7 +9,7 @@ ghost use Rattle.command_status.specs.Status.{ending_of};
 ghost use Rattle.command_words.specs.Command.{command_of};
 ghost use Rattle.command_words.specs.View.{view_of};
 ghost use Rattle.outside.specs.Shelf.{Stays};
-ghost use Rattle.run_laws.specs.Driven.{Driven, driven_by};
+ghost use Rattle.word_rule.specs.Driven.{Driven, driven_by};
 ghost use Rattle.syndex_program.specs.Reads.{text_in};
 ghost use Rattle.syndex_program.specs.Replies.{RepliesTo};
 ghost use Rattle.syndex_program.specs.Unread.{LeavesUnread};

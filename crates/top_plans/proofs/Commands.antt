@@ -9,7 +9,7 @@ use Rattle.command_plan.specs.Ending.{Ending, done, unwritten}
 use Rattle.command_plan.specs.Answers.{Answers, IsOnce, RunsNone}
 use Rattle.command_status.specs.Status.{Refusal}
 use Rattle.command_words.specs.Command.{Command, check, sim, flat, chart, code, run, load}
-use Rattle.run_laws.specs.Driven.{Driven, driven_by}
+use Rattle.word_rule.specs.Driven.{Driven, driven_by}
 use Rattle.top_plans.specs.Names.{names_for, names_of}
 use Rattle.top_plans.specs.Given.{Given, written, printed, summed, stages}
 use Rattle.top_plans.specs.Plans.{plan_for, plan_of}

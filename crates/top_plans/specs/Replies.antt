@@ -11,7 +11,7 @@ use Rattle.command_plan.specs.Run.{Ran}
 use Rattle.command_plan.specs.Answers.{Answers}
 use Rattle.command_status.specs.Status.{Refusal, usage}
 use Rattle.command_words.specs.Command.{Command}
-use Rattle.run_laws.specs.Driven.{Driven, driven_by}
+use Rattle.word_rule.specs.Driven.{Driven, driven_by}
 use Rattle.run_laws.specs.Windows.{window_jobs}
 use Rattle.top_plans.specs.Names.{names_of}
 use Rattle.top_plans.specs.Given.{Given, printed, Execution, one_job, output_of, stages}
