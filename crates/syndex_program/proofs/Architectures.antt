@@ -12,27 +12,28 @@ use Rattle.durations.specs.Given as durations
 use Rattle.durations.specs.Table.{Table, durations_of}
 use Rattle.flat_graph.specs.Graph.{Graph}
 use Rattle.flat_laws.specs.FlatOf.{flat_of}
-use Rattle.command_plan.specs.Plan.{Plan, after}
+use Rattle.command_plan.specs.Plan.{after}
 use Rattle.command_plan.specs.Ending.{Ending}
 use Rattle.command_plan.specs.Run.{Makes, was_read}
 use Rattle.command_plan.proofs.Makes.{after_err, after_ok, memory}
 use Rattle.command_status.specs.Status.{Refusal, ending_of, of_architecture, status_of_architecture}
-use Rattle.syndex_program.specs.Plans.{architecture_plan}
+use Rattle.top_plans.specs.Given.{Given}
+use Rattle.top_plans.specs.Plans.{Made, architecture_plan}
 use Rattle.syndex_program.specs.Reads.{IsArchitecture, IsArchitectureRefused, MakesArchitecture, ReadsArchitecture, described, describes_none, lasts_none}
 use Rattle.syndex_program.specs.declared.architecture.Architecture.{Architecture}
 
-module _ {X : Type 0} (held : Held) (answer : Result X ArchiError) (next : X → Plan Refusal) where
+module _ {X : Type 0} (held : Held) (answer : Result X ArchiError) (next : X → Made) where
   -- a text or its durations are refused
   by_error : (e : ArchiError) → answer ≡ Err e → Makes held held (after of_architecture answer next) (Err (ending_of (status_of_architecture e)))
   by_error (error.Refused fault) is = after_err held of_architecture answer next (error.Refused fault) is
   by_error (error.Limit fault) is = after_err held of_architecture answer next (error.Limit fault) is
   by_error error.OutOfMemory is = memory held held (after of_architecture answer next)
 
-module _ (main : Vertex) (text : Bytes) (next : Described → Table → Plan Refusal) where
-  abbrev durations_behind : Described → Plan Refusal
+module _ (main : Vertex) (text : Bytes) (next : Described → Table → Made) where
+  abbrev durations_behind : Described → Made
   durations_behind d = after of_architecture (durations_of (flat_of main) d) (next d)
 
-  abbrev behind : Plan Refusal
+  abbrev behind : Made
   behind = after of_architecture (description_of text) durations_behind
 
   is_refused : (held : Held) (e : ArchiError) → IsArchitectureRefused main text e → Makes held held behind (Err (ending_of (status_of_architecture e)))
@@ -46,7 +47,7 @@ module _ (main : Vertex) (text : Bytes) (next : Described → Table → Plan Ref
   refused_so held (error.Limit fault) h = is_refused held (error.Limit fault) h
   refused_so held error.OutOfMemory h = memory held held behind
 
-  described_so : (old new : Held) (architecture : Architecture) (made : Result Bytes (Ending Refusal)) → IsArchitecture main text architecture
+  described_so : (old new : Held) (architecture : Architecture) (made : Result Given (Ending Refusal)) → IsArchitecture main text architecture
       → Makes old new (next (described architecture.text) architecture.durations) made → Makes old new behind made
   described_so old new architecture made is m =
       let d = described architecture.text in
@@ -54,7 +55,7 @@ module _ (main : Vertex) (text : Bytes) (next : Described → Table → Plan Ref
       (after_ok old new of_architecture (durations_of (flat_of main) d) (next d) made architecture.durations is.lasts m)
 
 -- an architecture was read, and then the plan went on with it
-pub went_on : (main : Vertex) (name : Bytes) (a b c : Held) (architecture : Architecture) (next : Described → Table → Plan Refusal) (made : Result Bytes (Ending Refusal))
+pub went_on : (main : Vertex) (name : Bytes) (a b c : Held) (architecture : Architecture) (next : Described → Table → Made) (made : Result Given (Ending Refusal))
     → ReadsArchitecture main name a b (Ok architecture) → Makes b c (next (described architecture.text) architecture.durations) made → Makes a c (architecture_plan name main next) made
 went_on main name a b c architecture next made (text, read, is) m = was_read b text read (described_so main text next b c architecture made is m)
 

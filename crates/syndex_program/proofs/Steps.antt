@@ -13,24 +13,25 @@ use Rattle.sensor_table.specs.Answers as table
 use Rattle.sensor_table.specs.declared.fault.SensorError.{SensorError}
 use Rattle.sensor_table.specs.declared.fault.SensorError.TheVariants as sensors
 use Rattle.syn_base.specs.declared.limits.LimitFault.{LimitFault}
-use Rattle.command_plan.specs.Plan.{Plan, after}
+use Rattle.command_plan.specs.Plan.{after}
 use Rattle.command_plan.specs.Ending.{Ending, refused}
 use Rattle.command_plan.specs.Run.{Makes, refuses, was_read}
 use Rattle.command_plan.proofs.Makes.{after_err, after_ok, memory}
 use Rattle.command_status.specs.Status.{Refusal, above, ending_of, of_algorithm, of_sensors, status_of_algorithm, status_of_sensors}
-use Rattle.syndex_program.specs.Plans.{algorithm_plan, unless}
+use Rattle.top_plans.specs.Given.{Given}
+use Rattle.top_plans.specs.Plans.{Made, algorithm_plan, table_plan, unless}
 use Rattle.syndex_program.specs.Reads.{IsAlgorithm, IsRefused, MakesAlgorithm, ReadsAlgorithm, resolves_none, says_none}
 use Rattle.syndex_program.specs.declared.algorithm.Algorithm.{Algorithm}
 
-module _ {X : Type 0} (held : Held) (answer : Result X AlgoError) (next : X → Plan Refusal) where
+module _ {X : Type 0} (held : Held) (answer : Result X AlgoError) (next : X → Made) where
   -- an algorithm's text or its definitions are refused
   by_error : (e : AlgoError) → answer ≡ Err e → Makes held held (after of_algorithm answer next) (Err (ending_of (status_of_algorithm e)))
   by_error (error.Refused fault) is = after_err held of_algorithm answer next (error.Refused fault) is
   by_error (error.Limit fault) is = after_err held of_algorithm answer next (error.Limit fault) is
   by_error error.OutOfMemory is = memory held held (after of_algorithm answer next)
 
-module _ (text : Bytes) (next : List Def → Vertex → Plan Refusal) where
-  abbrev behind : Plan Refusal
+module _ (text : Bytes) (next : List Def → Vertex → Made) where
+  abbrev behind : Made
   behind = after of_algorithm (definitions_of text) (λ defs. after of_algorithm (resolution_of defs) (next defs))
 
   is_refused : (held : Held) (e : AlgoError) → IsRefused text e → Makes held held behind (Err (ending_of (status_of_algorithm e)))
@@ -44,18 +45,18 @@ module _ (text : Bytes) (next : List Def → Vertex → Plan Refusal) where
   refused_so held (error.Limit fault) h = is_refused held (error.Limit fault) h
   refused_so held error.OutOfMemory h = memory held held behind
 
-  pub resolved_so : (old new : Held) (algorithm : Algorithm) (made : Result Bytes (Ending Refusal)) → IsAlgorithm text algorithm → Makes old new (next algorithm.defs.defs algorithm.tree) made → Makes old new behind made
+  pub resolved_so : (old new : Held) (algorithm : Algorithm) (made : Result Given (Ending Refusal)) → IsAlgorithm text algorithm → Makes old new (next algorithm.defs.defs algorithm.tree) made → Makes old new behind made
   resolved_so old new algorithm made is m =
       after_ok old new of_algorithm (definitions_of text) (λ ds. after of_algorithm (resolution_of ds) (next ds)) made algorithm.defs.defs is.says
       (after_ok old new of_algorithm (resolution_of algorithm.defs.defs) (next algorithm.defs.defs) made algorithm.tree is.resolves m)
 
 -- an algorithm was read, and then the plan went on with it
-pub went_on : (name : Bytes) (a b c : Held) (algorithm : Algorithm) (next : List Def → Vertex → Plan Refusal) (made : Result Bytes (Ending Refusal))
+pub went_on : (name : Bytes) (a b c : Held) (algorithm : Algorithm) (next : List Def → Vertex → Made) (made : Result Given (Ending Refusal))
     → ReadsAlgorithm name a b (Ok algorithm) → Makes b c (next algorithm.defs.defs algorithm.tree) made → Makes a c (algorithm_plan name next) made
 went_on name a b c algorithm next made (text, read, is) m = was_read b text read (resolved_so text next b c algorithm made is m)
 
 -- a table is refused, or memory ran out
-pub table_refused : {X : Type 0} (held : Held) (answer : Result X SensorError) (next : X → Plan Refusal) (e : SensorError) → table.Fails e answer
+pub table_refused : {X : Type 0} (held : Held) (answer : Result X SensorError) (next : X → Made) (e : SensorError) → table.Fails e answer
     → Makes held held (after of_sensors answer next) (Err (ending_of (status_of_sensors e)))
 table_refused held answer next (sensors.Refused fault) (inl is) = after_err held of_sensors answer next (sensors.Refused fault) is
 table_refused held answer next (sensors.Limit fault) (inl is) = after_err held of_sensors answer next (sensors.Limit fault) is
@@ -64,10 +65,10 @@ table_refused held answer next (sensors.Refused fault) (inr wants) = cc
 table_refused held answer next (sensors.Limit fault) (inr wants) = cc
 
 -- more than there may be
-pub is_above : (held : Held) (o : Option LimitFault) (fault : LimitFault) (next : Plan Refusal) → o ≡ Some fault → Makes held held (unless o next) (Err (refused (above fault)))
+pub is_above : (held : Held) (o : Option LimitFault) (fault : LimitFault) (next : Made) → o ≡ Some fault → Makes held held (unless o next) (Err (refused (above fault)))
 is_above held o fault next is = subst (λ (x : Option LimitFault). Makes held held (unless x next) (Err (refused (above fault)))) (sym is) (refuses (inl (refl, λ file name. refl)))
 
-pub is_within : (old new : Held) (o : Option LimitFault) (next : Plan Refusal) (made : Result Bytes (Ending Refusal)) → o ≡ None → Makes old new next made → Makes old new (unless o next) made
+pub is_within : (old new : Held) (o : Option LimitFault) (next : Made) (made : Result Given (Ending Refusal)) → o ≡ None → Makes old new next made → Makes old new (unless o next) made
 is_within old new o next made is m = subst (λ (x : Option LimitFault). Makes old new (unless x next) made) (sym is) m
 
 -- the definitions of a text are refused

@@ -1,4 +1,4 @@
-pub mod Plans
-pub mod Routes
-pub mod Replies
 pub mod Reads
+pub mod Builds
+pub mod Replies
+pub mod Unread

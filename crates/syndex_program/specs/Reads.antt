@@ -1,5 +1,5 @@
 -- What the parts of a command answer.
-use Rattle.std.specs.Prelude.{◌≡◌, ◌*◌, ℕ, length, List, sum, None, Result, Ok, Err, Vec}
+use Rattle.std.specs.Prelude.{◌≡◌, ℕ, List, Result, Ok, Err, Vec}
 use Rattle.csv.specs.Reading.{default_config, records, strip_bom}
 use Rattle.outside.specs.Bytes.{Bytes}
 use Rattle.outside.specs.Shelf.{Held}
@@ -19,22 +19,22 @@ use Rattle.durations.specs.Table.{Table, durations_of}
 use Rattle.flat_laws.specs.FlatOf.{flat_of}
 use Rattle.path_text.specs.Named.{HasNames}
 use Rattle.path_text.specs.Bounded.{HasBounds}
-use Rattle.algo_tree.specs.Ends.{sensor_lengths, actuator_lengths}
+use Rattle.algo_tree.specs.Ends.{sensor_lengths}
 use Rattle.sensor_table.specs.SensorTable.{rows_of}
-use Rattle.command_plan.specs.Plan.{Plan, after}
 use Rattle.command_plan.specs.Run.{Makes, WasRead}
 use Rattle.command_plan.specs.Ending.{Ending}
-use Rattle.command_status.specs.Status.{Refusal, ending_of, of_sensors}
+use Rattle.command_status.specs.Status.{Refusal, ending_of}
 use Rattle.command_status.specs.declared.status.Status.{Status}
-use Rattle.syndex_program.specs.Plans.{algorithm_plan, architecture_plan, excess, rows_plan}
+use Rattle.top_plans.specs.Given.{Given, written}
+use Rattle.top_plans.specs.Plans.{Made, algorithm_plan, architecture_plan, table_plan}
 use Rattle.syndex_program.specs.declared.algorithm.Algorithm.{Algorithm}
 use Rattle.syndex_program.specs.declared.architecture.Architecture.{Architecture}
 
 module _ {A : Type 0} where
-  -- the bytes of a text, or the ending that its status stands for
-  abbrev pub bytes_in : Result (Vec ℕ A) Status → Result Bytes (Ending Refusal)
-  bytes_in (Ok text) = Ok text.items
-  bytes_in (Err status) = Err (ending_of status)
+  -- a text that is to be written, or the ending that its status stands for
+  abbrev pub text_in : Result (Vec ℕ A) Status → Result Given (Ending Refusal)
+  text_in (Ok text) = Ok (written text.items)
+  text_in (Err status) = Err (ending_of status)
 
 -- the definitions of a text, and what they resolve to
 pub record IsAlgorithm (text : Bytes) (algorithm : Algorithm) : Type 0 where
@@ -58,7 +58,7 @@ MakesAlgorithm text (Err error.OutOfMemory) = Unit {0}
 -- the file has a text of this algorithm; or carrying on from it ends so, whatever follows
 abbrev pub ReadsAlgorithm : Bytes → Held → Held → Result Algorithm Status → Type 0
 ReadsAlgorithm name old new (Ok algorithm) = (text : Bytes) × WasRead file.Algorithm name old new text × IsAlgorithm text algorithm
-ReadsAlgorithm name old new (Err status) = (next : List Def → Vertex → Plan Refusal) → Makes old new (algorithm_plan name next) (Err (ending_of status))
+ReadsAlgorithm name old new (Err status) = (next : List Def → Vertex → Made) → Makes old new (algorithm_plan name next) (Err (ending_of status))
 
 -- what a text describes
 abbrev pub described : ArchiText → Described
@@ -86,11 +86,10 @@ MakesArchitecture main text (Err archi_error.OutOfMemory) = Unit {0}
 abbrev pub ReadsArchitecture : Vertex → Bytes → Held → Held → Result Architecture Status → Type 0
 ReadsArchitecture main name old new (Ok architecture) = (text : Bytes) × WasRead file.Architecture name old new text × IsArchitecture main text architecture
 ReadsArchitecture main name old new (Err status) =
-    (next : Described → Table → Plan Refusal) → Makes old new (architecture_plan name main next) (Err (ending_of status))
+    (next : Described → Table → Made) → Makes old new (architecture_plan name main next) (Err (ending_of status))
 
--- a table has these rows, and the output over them is within its bound; or carrying on from it ends so
-abbrev pub ReadsRows : Vertex → Bytes → Result Reactions Status → Type 0
-ReadsRows main table (Ok rows) =
-    (rows_of main (records default_config (strip_bom table)) ≡ Ok rows) × (rows.lens ≡ sensor_lengths main) × (excess (length rows.reactions * sum (actuator_lengths main)) ≡ None)
-ReadsRows main table (Err status) =
-    (held : Held) → Makes held held (after of_sensors (rows_of main (records default_config (strip_bom table))) (rows_plan main)) (Err (ending_of status))
+-- the file has a table of these rows for this algorithm; or carrying on from it ends so, whatever follows
+abbrev pub ReadsTable : Vertex → Bytes → Held → Held → Result Reactions Status → Type 0
+ReadsTable main name old new (Ok rows) =
+    (table : Bytes) × WasRead file.Sensors name old new table × (rows_of main (records default_config (strip_bom table)) ≡ Ok rows) × (rows.lens ≡ sensor_lengths main)
+ReadsTable main name old new (Err status) = (next : Reactions → Made) → Makes old new (table_plan main name next) (Err (ending_of status))

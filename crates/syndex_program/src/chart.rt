@@ -3,15 +3,14 @@ ghost use Rattle.std.specs.Prelude.{◌≡◌, IfOk, Ok};
 ghost use Rattle.command_plan.specs.Run.{Makes};
 ghost use Rattle.durations.specs.Table.{durations_of};
 ghost use Rattle.outside.specs.Shelf.{Stays};
-ghost use Rattle.syndex_program.specs.Plans.{chart_of, chart_plan};
-ghost use Rattle.syndex_program.specs.Reads.{bytes_in, described};
-ghost use Rattle.syndex_program.specs.Routes.{RoutesAreLeast};
+ghost use Rattle.syndex_program.specs.Reads.{described, text_in};
+ghost use Rattle.top_plans.specs.Plans.{chart_of, chart_plan};
 
 use crate::algorithm::read_algorithm;
 use crate::architecture::{Architecture, read_architecture};
+use crate::program::scheduled;
 use command_status::Status;
 use outside::Shelf;
-use pressure_heuristic::{adequation, tables_fit};
 use std::alloc::Global;
 use syn_base::OutOfMemory;
 use timing_chart::print_chart;
@@ -24,7 +23,7 @@ pub fn chart_text<S: Shelf>(
     architecture: &str,
 ) -> Result<Vec<u8>, Status>
     ensures stays { Stays (S.held shelf.old) (S.held shelf.new) }
-    ensures makes { Makes (S.held shelf.old) (S.held shelf.new) (chart_plan algorithm.now architecture.now) (bytes_in result) }
+    ensures makes { Makes (S.held shelf.old) (S.held shelf.new) (chart_plan algorithm.now architecture.now) (text_in result) }
 {
     let algorithm = read_algorithm(alloc, shelf, algorithm)?;
     let architecture = read_architecture(alloc, shelf, architecture, &algorithm.tree)?;
@@ -36,18 +35,14 @@ fn charted(alloc: Global, architecture: &Architecture) -> Result<Vec<u8>, OutOfM
     requires { durations_of architecture.now.flat (described architecture.now.text) ≡ Ok architecture.now.durations }
     ensures { IfOk result (λ text. text.items ≡ chart_of architecture.now.flat (described architecture.now.text) architecture.now.durations) }
 {
-    let flat = &architecture.flat;
-    let archi = &architecture.text.archi;
-    let _operators = archi.operators();
-    tables_fit();
-    routes_are_least();
-    let schedule = adequation(alloc, flat, archi, &architecture.durations)?;
+    let schedule = scheduled(alloc, architecture)?;
     let mut text = Vec::new(alloc);
-    print_chart(alloc, flat, archi, &schedule, &mut text)?;
+    print_chart(
+        alloc,
+        &architecture.flat,
+        &architecture.text.archi,
+        &schedule,
+        &mut text,
+    )?;
     Ok(text)
 }
-
-/// The routes that a chart is defined by are the least ones of the architecture.
-pub fn routes_are_least()
-    ensures { RoutesAreLeast }
-{}

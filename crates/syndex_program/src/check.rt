@@ -3,8 +3,8 @@ ghost use Rattle.std.specs.Prelude.{◌≡◌, ◌++◌, IfOk, None, Some, codes
 ghost use Rattle.algo_print.specs.Canonical.{canonical_text, ArePrintable};
 ghost use Rattle.command_plan.specs.Run.{Makes};
 ghost use Rattle.outside.specs.Shelf.{Stays};
-ghost use Rattle.syndex_program.specs.Plans.{both_texts, check_plan};
-ghost use Rattle.syndex_program.specs.Reads.{bytes_in, described};
+ghost use Rattle.syndex_program.specs.Reads.{described, text_in};
+ghost use Rattle.top_plans.specs.Plans.{both_texts, check_plan};
 
 use crate::algorithm::read_algorithm;
 use crate::architecture::read_architecture;
@@ -26,7 +26,7 @@ pub fn check_texts<S: Shelf>(
     architecture: Option<&str>,
 ) -> Result<Vec<u8>, Status>
     ensures stays { Stays (S.held shelf.old) (S.held shelf.new) }
-    ensures makes { Makes (S.held shelf.old) (S.held shelf.new) (check_plan algorithm.now (option_map (λ name. name.now) architecture.entry)) (bytes_in result) }
+    ensures makes { Makes (S.held shelf.old) (S.held shelf.new) (check_plan algorithm.now (option_map (λ name. name.now) architecture.entry)) (text_in result) }
 {
     match architecture {
         None => check_text(alloc, shelf, algorithm),
@@ -37,7 +37,7 @@ pub fn check_texts<S: Shelf>(
 /// The canonical text of an algorithm, or why there is none.
 fn check_text<S: Shelf>(alloc: Global, shelf: &mut S, algorithm: &str) -> Result<Vec<u8>, Status>
     ensures stays { Stays (S.held shelf.old) (S.held shelf.new) }
-    ensures makes { Makes (S.held shelf.old) (S.held shelf.new) (check_plan algorithm.now None) (bytes_in result) }
+    ensures makes { Makes (S.held shelf.old) (S.held shelf.new) (check_plan algorithm.now None) (text_in result) }
 {
     let algorithm = read_algorithm(alloc, shelf, algorithm)?;
     canonical_text_reads_back();
@@ -52,7 +52,7 @@ fn check_both<S: Shelf>(
     architecture: &str,
 ) -> Result<Vec<u8>, Status>
     ensures stays { Stays (S.held shelf.old) (S.held shelf.new) }
-    ensures makes { Makes (S.held shelf.old) (S.held shelf.new) (check_plan algorithm.now (Some architecture.now)) (bytes_in result) }
+    ensures makes { Makes (S.held shelf.old) (S.held shelf.new) (check_plan algorithm.now (Some architecture.now)) (text_in result) }
 {
     let algorithm = read_algorithm(alloc, shelf, algorithm)?;
     let architecture = read_architecture(alloc, shelf, architecture, &algorithm.tree)?;

@@ -6,8 +6,8 @@ ghost use Rattle.flat_text.specs.Listing.{listing};
 ghost use Rattle.outside.specs.Shelf.{Stays};
 ghost use Rattle.path_text.specs.Bounded.{HasBounds};
 ghost use Rattle.path_text.specs.Named.{HasNames};
-ghost use Rattle.syndex_program.specs.Plans.{flat_plan};
-ghost use Rattle.syndex_program.specs.Reads.{bytes_in};
+ghost use Rattle.syndex_program.specs.Reads.{text_in};
+ghost use Rattle.top_plans.specs.Plans.{flat_plan};
 
 use crate::algorithm::read_algorithm;
 use algo_tree::Tree;
@@ -25,7 +25,7 @@ pub fn listing_text<S: Shelf>(
     algorithm: &str,
 ) -> Result<Vec<u8>, Status>
     ensures stays { Stays (S.held shelf.old) (S.held shelf.new) }
-    ensures makes { Makes (S.held shelf.old) (S.held shelf.new) (flat_plan algorithm.now) (bytes_in result) }
+    ensures makes { Makes (S.held shelf.old) (S.held shelf.new) (flat_plan algorithm.now) (text_in result) }
 {
     let algorithm = read_algorithm(alloc, shelf, algorithm)?;
     Ok(listed(alloc, &algorithm.tree)?)

@@ -6,16 +6,19 @@ ghost use Rattle.std.specs.String.{string_bytes};
 ghost use Rattle.command_plan.specs.Run.{Ends, Makes, Ran};
 ghost use Rattle.command_status.specs.Lines.{line_of, Said};
 ghost use Rattle.command_status.specs.Status.{ending_of};
-ghost use Rattle.command_status.specs.declared.status.Status.TheVariants.{Usage as WrongWords};
 ghost use Rattle.command_words.specs.Command.{command_of};
 ghost use Rattle.command_words.specs.View.{view_of};
 ghost use Rattle.outside.specs.Shelf.{Stays};
-ghost use Rattle.syndex_program.specs.Plans.{plan_of, plan_for};
-ghost use Rattle.syndex_program.specs.Reads.{bytes_in};
-ghost use Rattle.syndex_program.specs.Replies.{Replies, LeavesUnread};
+ghost use Rattle.run_laws.specs.Driven.{Driven, driven_by};
+ghost use Rattle.syndex_program.specs.Reads.{text_in};
+ghost use Rattle.syndex_program.specs.Replies.{RepliesTo};
+ghost use Rattle.syndex_program.specs.Unread.{LeavesUnread};
+ghost use Rattle.top_plans.specs.Given.{stages};
+ghost use Rattle.top_plans.specs.Plans.{plan_for};
 
 use chart::chart_text;
 use check::check_texts;
+use code::code_text;
 use command_status::say;
 use command_words::{Command, command_of};
 use flat::listing_text;
@@ -29,13 +32,15 @@ mod algorithm;
 mod architecture;
 mod chart;
 mod check;
+mod code;
 mod files;
 mod flat;
+mod program;
 mod sim;
+mod table;
 #[cfg(test)]
 mod tests;
 
-pub use chart::routes_are_least;
 pub use command_status::Status;
 
 /// Every command that starts no thread. It answers how the command of the words ended, and writes
@@ -48,7 +53,7 @@ pub fn plain_command<S: Shelf, K: Sink, E: Sink>(
     out: &mut K,
     err: &mut E,
 ) -> Option<Status>
-    ensures replies { IsSomeAnd result (Replies (map string_bytes words.now) (S.held shelf.old) (S.held shelf.new) (K.sunk out.old) (K.sunk out.new)) }
+    ensures replies { IsSomeAnd result (RepliesTo (map string_bytes words.now) (S.held shelf.old) (S.held shelf.new) (K.sunk out.old) (K.sunk out.new)) }
     ensures line { IfSome result (λ status. Said (line_of status) (E.sunk err.old) (E.sunk err.new)) }
     ensures stays { Stays (S.held shelf.old) (S.held shelf.new) }
     ensures unread { LeavesUnread (command_of (map string_bytes words.now)) (S.held shelf.old) (S.held shelf.new) }
@@ -70,7 +75,7 @@ pub fn syndex<R: Threads + Wait + Sync, S: Shelf, K: Sink, E: Sink, G: Gate>(
     err: &mut E,
     _gate: &G,
 ) -> Status
-    ensures replies { Replies (map string_bytes words.now) (S.held shelf.old) (S.held shelf.new) (K.sunk out.old) (K.sunk out.new) result }
+    ensures replies { RepliesTo (map string_bytes words.now) (S.held shelf.old) (S.held shelf.new) (K.sunk out.old) (K.sunk out.new) result }
     ensures line { Said (line_of result) (E.sunk err.old) (E.sunk err.new) }
     ensures stays { Stays (S.held shelf.old) (S.held shelf.new) }
     ensures unread { LeavesUnread (command_of (map string_bytes words.now)) (S.held shelf.old) (S.held shelf.new) }
@@ -88,7 +93,7 @@ fn status_of<S: Shelf, K: Sink>(
     shelf: &mut S,
     out: &mut K,
 ) -> Status
-    ensures replies { Replies (map string_bytes words.now) (S.held shelf.old) (S.held shelf.new) (K.sunk out.old) (K.sunk out.new) result }
+    ensures replies { RepliesTo (map string_bytes words.now) (S.held shelf.old) (S.held shelf.new) (K.sunk out.old) (K.sunk out.new) result }
     ensures stays { Stays (S.held shelf.old) (S.held shelf.new) }
     ensures unread { LeavesUnread (command_of (map string_bytes words.now)) (S.held shelf.old) (S.held shelf.new) }
 {
@@ -106,7 +111,8 @@ fn status_for<S: Shelf, K: Sink>(
     shelf: &mut S,
     out: &mut K,
 ) -> Status
-    ensures ran { Ran (plan_for (view_of command.now)) (S.held shelf.old) (S.held shelf.new) (K.sunk out.old) (K.sunk out.new) (ending_of result) }
+    ensures ran { (driven : Driven) → Ran driven_by stages (plan_for (view_of command.now)) (S.held shelf.old) (S.held shelf.new)
+        (K.sunk out.old) (K.sunk out.new) driven driven (ending_of result) }
     ensures stays { Stays (S.held shelf.old) (S.held shelf.new) }
     ensures unread { LeavesUnread (Some (view_of command.now)) (S.held shelf.old) (S.held shelf.new) }
 {
@@ -116,7 +122,7 @@ fn status_for<S: Shelf, K: Sink>(
 
 /// The text that a command writes, or why there is none.
 fn text_of<S: Shelf>(alloc: Global, command: &Command, shelf: &mut S) -> Result<Vec<u8>, Status>
-    ensures makes { Makes (S.held shelf.old) (S.held shelf.new) (plan_for (view_of command.now)) (bytes_in result) }
+    ensures makes { Makes (S.held shelf.old) (S.held shelf.new) (plan_for (view_of command.now)) (text_in result) }
     ensures stays { Stays (S.held shelf.old) (S.held shelf.new) }
     ensures unread { LeavesUnread (Some (view_of command.now)) (S.held shelf.old) (S.held shelf.new) }
 {
@@ -131,7 +137,10 @@ fn text_of<S: Shelf>(alloc: Global, command: &Command, shelf: &mut S) -> Result<
             algorithm,
             architecture,
         } => chart_text(alloc, shelf, algorithm, architecture),
-        Command::Code { .. } => Err(Status::NotBuilt),
+        Command::Code {
+            algorithm,
+            architecture,
+        } => code_text(alloc, shelf, algorithm, architecture),
         Command::Run { .. } => Err(Status::NotBuilt),
         Command::Load(_) => Err(Status::NotBuilt),
     }
@@ -139,7 +148,7 @@ fn text_of<S: Shelf>(alloc: Global, command: &Command, shelf: &mut S) -> Result<
 
 /// Writes the text that was made, or answers why there is none.
 fn write_text<K: Sink>(out: &mut K, made: Result<Vec<u8>, Status>) -> Status
-    ensures { Ends (bytes_in made) (K.sunk out.old) (K.sunk out.new) (ending_of result) }
+    ensures { (driven : Driven) → Ends driven_by stages (text_in made) (K.sunk out.old) (K.sunk out.new) driven driven (ending_of result) }
 {
     match made {
         Err(refused) => refused,

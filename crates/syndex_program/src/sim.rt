@@ -2,17 +2,17 @@
 ghost use Rattle.std.specs.Prelude.{◌≡◌, ◌*◌, sum, IfOk};
 ghost use Rattle.algo_tree.specs.Ends.{sensor_lengths, actuator_lengths};
 ghost use Rattle.command_plan.specs.Run.{Makes};
-ghost use Rattle.outside.specs.Shelf.{Stays};
-ghost use Rattle.syndex_program.specs.Plans.{excess, sim_output, sim_plan, table_plan};
-ghost use Rattle.syndex_program.specs.Reads.{bytes_in, ReadsRows};
+ghost use Rattle.outside.specs.Shelf.{Held, Stays};
+ghost use Rattle.syndex_program.specs.Reads.{text_in};
+ghost use Rattle.top_plans.specs.Given.{output_of};
+ghost use Rattle.top_plans.specs.Plans.{excess, rows_plan, sim_plan};
 
 use crate::algorithm::read_algorithm;
-use crate::files::read_file;
+use crate::table::read_table;
 use act_text::acts_text;
 use algo_tree::Tree;
 use command_status::Status;
-use outside::{File, Shelf};
-use sensor_table::read_sensors;
+use outside::Shelf;
 use std::alloc::Global;
 use syn_base::{LimitFault, LimitKind, OutOfMemory, SensorRows, Shape};
 use sync_meaning::simulate;
@@ -25,36 +25,22 @@ pub fn sim_text<S: Shelf>(
     sensors: &str,
 ) -> Result<Vec<u8>, Status>
     ensures stays { Stays (S.held shelf.old) (S.held shelf.new) }
-    ensures makes { Makes (S.held shelf.old) (S.held shelf.new) (sim_plan algorithm.now sensors.now) (bytes_in result) }
+    ensures makes { Makes (S.held shelf.old) (S.held shelf.new) (sim_plan algorithm.now sensors.now) (text_in result) }
 {
     let algorithm = read_algorithm(alloc, shelf, algorithm)?;
-    text_over(alloc, shelf, &algorithm.tree, sensors)
+    let rows = read_table(alloc, shelf, sensors, &algorithm.tree)?;
+    text_over(alloc, &algorithm.tree, &rows)
 }
 
-/// The text of what the actuators of this algorithm take, or why there is none.
-fn text_over<S: Shelf>(
-    alloc: Global,
-    shelf: &mut S,
-    tree: &Tree,
-    sensors: &str,
-) -> Result<Vec<u8>, Status>
-    ensures stays { Stays (S.held shelf.old) (S.held shelf.new) }
-    ensures makes { Makes (S.held shelf.old) (S.held shelf.new) (table_plan tree.now sensors.now) (bytes_in result) }
+/// The text of what the actuators take over these rows, where it is within its bound.
+fn text_over(alloc: Global, tree: &Tree, rows: &SensorRows) -> Result<Vec<u8>, Status>
+    requires { rows.now.lens ≡ sensor_lengths tree.now }
+    ensures { (held : Held) → Makes held held (rows_plan tree.now rows.now) (text_in result) }
 {
-    let table = read_file(alloc, shelf, File::Sensors, sensors)?;
-    let rows = read_rows(alloc, tree, &table)?;
-    Ok(simulated(alloc, tree, &rows)?)
-}
-
-/// The rows of a table for this algorithm, where the output over them is within its bound.
-fn read_rows(alloc: Global, tree: &Tree, table: &[u8]) -> Result<SensorRows, Status>
-    ensures { ReadsRows tree.now table.now result }
-{
-    let rows = read_sensors(alloc, table, tree)?;
     let width = output_width(alloc, tree)?;
     match excess(rows.count(), width) {
         Some(limit) => Err(Status::Limit(limit)),
-        None => Ok(rows),
+        None => Ok(simulated(alloc, tree, rows)?),
     }
 }
 
@@ -88,7 +74,7 @@ fn excess(reactions: usize, width: usize) -> Option<LimitFault>
 /// The text of what the actuators take over these rows.
 fn simulated(alloc: Global, tree: &Tree, rows: &SensorRows) -> Result<Vec<u8>, OutOfMemory>
     requires { rows.now.lens ≡ sensor_lengths tree.now }
-    ensures { IfOk result (λ text. text.items ≡ sim_output tree.now rows.now.reactions) }
+    ensures { IfOk result (λ text. text.items ≡ output_of tree.now rows.now.reactions) }
 {
     let acts = simulate(alloc, tree, rows)?;
     acts_text(alloc, tree, &acts)

@@ -9,7 +9,7 @@ pub returns-in-Chart-clause-makes : goal.returns-in-Chart-clause-makes
 returns-in-Chart-clause-makes g c = rw c.in-Chart.is c.chart_text.ensures.makes
 
 pub returns-in-Code-clause-makes : goal.returns-in-Code-clause-makes
-returns-in-Code-clause-makes g c = rw c.in-Code.is (refuses (inl (refl, λ file name. refl)))
+returns-in-Code-clause-makes g c = rw c.in-Code.is c.code_text.ensures.makes
 
 pub returns-in-Run-clause-makes : goal.returns-in-Run-clause-makes
 returns-in-Run-clause-makes g c = rw c.in-Run.is (refuses (inl (refl, λ file name. refl)))

@@ -11,7 +11,8 @@ use Rattle.flat_laws.specs.FlatOf.{flat_of}
 use Rattle.command_plan.specs.Plan.{give}
 use Rattle.command_plan.proofs.Makes.{gave, memory}
 use Rattle.command_status.specs.Status.{ending_of}
-use Rattle.syndex_program.specs.Plans.{architecture_plan, chart_of, chart_plan}
+use Rattle.top_plans.specs.Given.{written}
+use Rattle.top_plans.specs.Plans.{architecture_plan, chart_of, chart_plan}
 use Rattle.syndex_program.specs.Reads.{described}
 use Rattle.syndex_program.proofs.Architectures as architecture
 use Rattle.syndex_program.proofs.Steps.{went_on}
@@ -29,7 +30,7 @@ returns-in_err-architecture-clause-makes g c =
     let p = err_from_is_err_and c.from_residual-in_err-architecture.result c.from_residual-in_err-architecture.ensures.1 in
     rw (p.1, p.2) (
     went_on c.args.algorithm.now (H c.args.shelf.now) (H c.read_algorithm.new.shelf) (H c.read_architecture.new.shelf) c.in_ok-algorithm.algorithm
-    (λ (defs : List Def) (main : Vertex). architecture_plan c.args.architecture.now main (λ (d : Described) (t : Table). give (chart_of (flat_of main) d t))) (Err (ending_of c.in_err-architecture.field-0.0))
+    (λ (defs : List Def) (main : Vertex). architecture_plan c.args.architecture.now main (λ (d : Described) (t : Table). give (written (chart_of (flat_of main) d t)))) (Err (ending_of c.in_err-architecture.field-0.0))
     c.in_ok-algorithm.ensures.reads (c.in_err-architecture.ensures.reads _)
     )
 
@@ -47,7 +48,7 @@ returns-clause-makes g c =
     let is = c.in_ok-architecture.ensures.reads.2 in
     let d = described given.text in
     went_on c.args.algorithm.now (H c.args.shelf.now) (H c.read_algorithm.new.shelf) (H c.read_architecture.new.shelf) algorithm
-    (λ (defs : List Def) (main : Vertex). architecture_plan c.args.architecture.now main (λ (d : Described) (t : Table). give (chart_of (flat_of main) d t))) _ c.in_ok-algorithm.ensures.reads
+    (λ (defs : List Def) (main : Vertex). architecture_plan c.args.architecture.now main (λ (d : Described) (t : Table). give (written (chart_of (flat_of main) d t)))) _ c.in_ok-algorithm.ensures.reads
     (architecture.went_on algorithm.tree c.args.architecture.now (H c.read_algorithm.new.shelf) (H c.read_architecture.new.shelf) (H c.read_architecture.new.shelf) given
-    (λ (d : Described) (t : Table). give (chart_of (flat_of algorithm.tree) d t)) _ c.in_ok-architecture.ensures.reads
-    (gave (H c.read_architecture.new.shelf) _ _ (ap (λ (x : Bytes). Ok x) (c.in_ok-charted.ensures ∙ ap (λ (f : Graph). chart_of f d given.durations) is.flattens))))
+    (λ (d : Described) (t : Table). give (written (chart_of (flat_of algorithm.tree) d t))) _ c.in_ok-architecture.ensures.reads
+    (gave (H c.read_architecture.new.shelf) _ _ (ap (λ (x : Bytes). Ok (written x)) (c.in_ok-charted.ensures ∙ ap (λ (f : Graph). chart_of f d given.durations) is.flattens))))

@@ -7,7 +7,8 @@ use Rattle.algo_print.specs.Canonical.{canonical_text}
 use Rattle.algo_tree.specs.Tree.{Vertex}
 use Rattle.command_plan.specs.Plan.{give}
 use Rattle.command_plan.proofs.Makes.{gave, memory}
-use Rattle.syndex_program.specs.Plans.{check_plan}
+use Rattle.top_plans.specs.Given.{written}
+use Rattle.top_plans.specs.Plans.{check_plan}
 use Rattle.syndex_program.proofs.Steps.{went_on}
 use Rattle.syndex_program.proofs.check.check_text.Goals as goal
 
@@ -21,5 +22,5 @@ pub returns-clause-makes : goal.returns-clause-makes
 returns-clause-makes g c =
     let H = g.S.Shelf.held in
     went_on c.args.algorithm.now (H c.args.shelf.now) (H c.read_algorithm.new.shelf) (H c.read_algorithm.new.shelf) c.in_ok-algorithm.algorithm
-    (λ (defs : List Def) (main : Vertex). give (canonical_text defs)) _ c.in_ok-algorithm.ensures.reads
-    (gave (H c.read_algorithm.new.shelf) _ _ (ap (λ (x : Bytes). Ok x) c.in_ok-printed.ensures))
+    (λ (defs : List Def) (main : Vertex). give (written (canonical_text defs))) _ c.in_ok-algorithm.ensures.reads
+    (gave (H c.read_algorithm.new.shelf) _ _ (ap (λ (x : Bytes). Ok (written x)) c.in_ok-printed.ensures))

@@ -8,8 +8,9 @@ use Rattle.command_plan.specs.Plan.{give}
 use Rattle.command_plan.proofs.Makes.{gave, memory}
 use Rattle.flat_laws.specs.FlatOf.{flat_of}
 use Rattle.flat_text.specs.Listing.{listing}
-use Rattle.syndex_program.specs.Plans.{flat_plan}
 use Rattle.syndex_program.proofs.Steps.{went_on}
+use Rattle.top_plans.specs.Given.{written}
+use Rattle.top_plans.specs.Plans.{flat_plan}
 use Rattle.syndex_program.proofs.flat.listing_text.Goals as goal
 
 pub returns-in_err-listed-clause-makes : goal.returns-in_err-listed-clause-makes
@@ -22,5 +23,5 @@ pub returns-clause-makes : goal.returns-clause-makes
 returns-clause-makes g c =
     let H = g.S.Shelf.held in
     went_on c.args.algorithm.now (H c.args.shelf.now) (H c.read_algorithm.new.shelf) (H c.read_algorithm.new.shelf) c.in_ok-algorithm.algorithm
-    (λ (defs : List Def) (main : Vertex). give (listing (flat_of main))) _ c.in_ok-algorithm.ensures.reads
-    (gave (H c.read_algorithm.new.shelf) _ _ (ap (λ (x : Bytes). Ok x) c.in_ok-listed.ensures))
+    (λ (defs : List Def) (main : Vertex). give (written (listing (flat_of main)))) _ c.in_ok-algorithm.ensures.reads
+    (gave (H c.read_algorithm.new.shelf) _ _ (ap (λ (x : Bytes). Ok (written x)) c.in_ok-listed.ensures))

@@ -14,7 +14,7 @@ use Rattle.route_table.specs.Table.{RouteTable, IsTableOf, level_in, route_in}
 use Rattle.route_table.proofs.Joined.{all_joined, facts, route_on}
 use Rattle.route_table.proofs.Order.{less_not, less_self, less_turned, longer_is_not_less, not_less_is_no_shorter}
 use Rattle.route_table.proofs.Picks.{some_and, some_with, stands_of}
-use Rattle.syndex_program.specs.Routes.{hops_over, hops_from, stay, routes_within, lesser, least_among, or_no_hop, least_route, routes_from, table_of, RoutesAreLeast}
+use Rattle.route_laws.specs.Routes.{hops_over, hops_from, stay, routes_within, lesser, least_among, or_no_hop, least_route, routes_from, table_of, RoutesAreLeast}
 
 -- an element of a list
 abbrev IsIn : {A : Type 0} → List A → A → Type 0

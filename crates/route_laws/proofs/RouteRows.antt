@@ -2,7 +2,7 @@
 use Rattle.std.proofs.Common.{◌≡◌, ℕ, false, List, [], ◌∷◌, refl}
 use Rattle.archi_graph.specs.declared.medium.Medium.{Medium}
 use Rattle.archi_graph.specs.declared.medium.Hop.{Hop}
-use Rattle.syndex_program.specs.Routes.{least_route, table_of}
+use Rattle.route_laws.specs.Routes.{least_route, table_of}
 
 abbrev over : ℕ → ℕ → Hop
 over m to = record { medium = m; to = to }

@@ -1,0 +1,5 @@
+pub mod Single
+pub mod Stands
+pub mod Definitions
+pub mod Architectures
+pub mod Tables

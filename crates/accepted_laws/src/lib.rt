@@ -1,0 +1,40 @@
+//! What the texts that are accepted make, each law the contract of a function that does nothing: the
+//! definitions of an algorithm have a flat graph that is valid and means the same, a described
+//! architecture is one, and the rows of a sensor table have the vectors of the algorithm's sensors. Whoever
+//! says what an accepted command makes, over texts that are only told and not read, stands on them.
+#![tactic(auto)]
+
+ghost use Rattle.accepted_laws.specs.Accepted.{AcceptedHaveFlat, DescribedAreArchitectures, TablesFit};
+ghost use Rattle.accepted_laws.specs.Flat.{FlatOfStands, FlatTakesTheSame, TreesHaveFlat};
+
+/// The flat graph that is defined for a tree stands for the tree's flat list, where each delay keeps one
+/// value.
+pub fn flat_of_stands()
+    ensures { FlatOfStands }
+{}
+
+/// So it is valid, and its actuators take what the tree's take.
+pub fn trees_have_flat()
+    ensures { TreesHaveFlat }
+{}
+
+/// Whatever flat graph stands for a tree: opened with the initial values of its delays, over all rows and in
+/// each reaction its actuators take what the tree's take.
+pub fn flat_takes_the_same()
+    ensures { FlatTakesTheSame }
+{}
+
+/// The definitions of an accepted text resolve to a tree whose flat graph is valid and means the same.
+pub fn accepted_have_flat()
+    ensures { AcceptedHaveFlat }
+{}
+
+/// What an accepted text describes is an architecture, with 1 to 4 places.
+pub fn described_are_architectures()
+    ensures { DescribedAreArchitectures }
+{}
+
+/// The rows of an accepted table have the vectors of the algorithm's sensors.
+pub fn tables_fit()
+    ensures { TablesFit }
+{}

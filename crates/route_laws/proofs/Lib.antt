@@ -1,0 +1,2 @@
+pub mod LeastRoutes
+mod RouteRows

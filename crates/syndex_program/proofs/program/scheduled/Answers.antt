@@ -1,0 +1,6 @@
+use Rattle.syndex_program.specs.Reads.{described}
+use Rattle.route_laws.specs.Routes.{table_of}
+use Rattle.syndex_program.proofs.program.scheduled.Goals as goal
+
+pub adequation-requires : goal.adequation-requires
+adequation-requires c = c.tables_fit.ensures c.args.architecture.now.flat (described c.args.architecture.now.text) c.args.architecture.now.durations c.requires

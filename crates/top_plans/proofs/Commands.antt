@@ -1,0 +1,82 @@
+-- What each command reads and gives.
+use Rattle.std.proofs.Common.{◌≡◌, ℕ, Bool, true, false, length, Option, Some, None, Result, Ok, Err, refl, subst, arith}
+use Rattle.std.specs.Prelude.{◌⊎◌, if◌then◌else◌, nat_lt, option_and_then}
+use Rattle.outside.specs.Bytes.{Bytes}
+use Rattle.outside.specs.Shelf.{Held, file_bound}
+use Rattle.outside.specs.Sink.{Sunk}
+use Rattle.command_plan.specs.Plan.{Plan, give, refuse, read, outcome, ReadsOnly, GivesOnly}
+use Rattle.command_plan.specs.Ending.{Ending, done, unwritten}
+use Rattle.command_plan.specs.Answers.{Answers, IsOnce, RunsNone}
+use Rattle.command_status.specs.Status.{Refusal}
+use Rattle.command_words.specs.Command.{Command, check, sim, flat, chart, code, run, load}
+use Rattle.run_laws.specs.Driven.{Driven, driven_by}
+use Rattle.top_plans.specs.Names.{names_for, names_of}
+use Rattle.top_plans.specs.Given.{Given, written, printed, summed, stages}
+use Rattle.top_plans.specs.Plans.{plan_for, plan_of}
+use Rattle.top_plans.proofs.Walk.{Leaf, walk}
+
+-- each file is read under the name that the words give it
+pub reads_only : (command : Option Command) → ReadsOnly (names_of command) (plan_of command)
+reads_only None = tt
+reads_only (Some command) = walk (ReadsOnly (names_for command)) (λ r n. tt) command (λ file name next e h. (e, h)) (λ a l. tt)
+
+-- all that a command may give is a leaf of it
+pub gives_leaves : (P : Given → Type 0) (command : Command) → ((a : Given) → Leaf command a → P a) → GivesOnly P (plan_for command)
+gives_leaves P command h = walk (GivesOnly P) (λ r n. tt) command (λ file name next e k. k) h
+
+once_leaf : (command : Command) (a : Given) → Leaf command a → IsOnce stages a × RunsNone stages a
+once_leaf command (written t) l = (omega arith, refl)
+once_leaf (check a h) (printed t e) l = absurd l
+once_leaf (check a h) (summed e t) l = absurd l
+once_leaf (sim a h) (printed t e) l = absurd l
+once_leaf (sim a h) (summed e t) l = absurd l
+once_leaf (flat a) (printed t e) l = absurd l
+once_leaf (flat a) (summed e t) l = absurd l
+once_leaf (chart a h) (printed t e) l = absurd l
+once_leaf (chart a h) (summed e t) l = absurd l
+once_leaf (code a h) (printed t e) l = absurd l
+once_leaf (code a h) (summed e t) l = absurd l
+once_leaf (run a h s w) (printed t e) l = absurd l
+once_leaf (run a h s w) (summed e t) l = absurd l
+once_leaf (load n) (printed t e) l = absurd l
+once_leaf (load n) (summed e t) l = absurd l
+
+-- all is written by one call, and no job is run
+gives_once : (command : Option Command) → GivesOnly (IsOnce stages) (plan_of command)
+gives_once None = tt
+gives_once (Some command) = gives_leaves (IsOnce stages) command (λ a l. (once_leaf command a l).0)
+
+pub keeps_plain : (command : Option Command) (held held' : Held) (sunk sunk' : Sunk) (driven driven' : Driven) (ending : Ending Refusal)
+    → Answers driven_by stages (plan_of command) (names_of command) held held' sunk sunk' driven driven' ending → (ending ≡ done) ⊎ (ending ≡ unwritten) ⊎ (sunk' ≡ sunk)
+keeps_plain command held held' sunk sunk' driven driven' ending answers = answers.once (gives_once command)
+
+module _ {R A : Type 0} where
+  abbrev made : A → Option (Result A R)
+  made a = Some (Ok a)
+
+  abbrev stopped : R → Option (Result A R)
+  stopped r = Some (Err r)
+
+  same_given : (b a : A) → made b ≡ made a → b ≡ a
+  same_given b a e = cc
+
+  not_given : (r : R) (a : A) → stopped r ≡ made a → ⊥
+  not_given r a e = cc
+
+  none_given : (a : A) → None ≡ made a → ⊥
+  none_given a e = cc
+
+-- what a plan gives where the files are told is something that it may give
+pub told_gives : {R A : Type 0} (P : A → Type 0) (told : Bytes → Option Bytes) (plan : Plan R A) (a : A) → GivesOnly P plan → outcome told plan ≡ Some (Ok a) → P a
+told_gives P told (give b) a h e = subst P (same_given b a e) h
+told_gives P told (refuse r) a h e = absurd (not_given r a e)
+told_gives {R = R} {A = A} P told (read file name long next) a h e = by (told name) e (λ b q. told_gives P told (next b) a (h b) q)
+  where
+    deeper : (b : Bytes) (t : Bool) → (if t then Some (Err long) else outcome told (next b)) ≡ Some (Ok a) → (outcome told (next b) ≡ Some (Ok a) → P a) → P a
+    deeper b true q r = absurd (not_given long a q)
+    deeper b false q r = r q
+
+    by : (o : Option Bytes) → option_and_then (λ bytes. if nat_lt file_bound (length bytes) then Some (Err long) else outcome told (next bytes)) o ≡ Some (Ok a)
+        → ((b : Bytes) → outcome told (next b) ≡ Some (Ok a) → P a) → P a
+    by None q r = absurd (none_given a q)
+    by (Some b) q r = deeper b (nat_lt file_bound (length b)) q (r b)

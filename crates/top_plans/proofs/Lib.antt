@@ -1,0 +1,7 @@
+pub mod Schedules
+pub mod Walk
+pub mod Commands
+pub mod True
+pub mod Written
+pub mod Usage
+mod Worked

@@ -1,0 +1,121 @@
+-- What is accepted runs true.
+use Rattle.std.proofs.Common.{◌≡◌, ℕ, zero, suc, cond, List, [], ◌∷◌, ◌++◌, length, map, None, refl, sym, ap, subst, ◌∙◌, add-one, zero-add}
+use Rattle.std.specs.Prelude.{nat_lt, slice_index_or}
+use Rattle.std.specs.List.{range_with_len}
+use Rattle.std.proofs.lemmas.List.{map-append}
+use Rattle.std.proofs.lemmas.List.FromFn.{map-range_with_len_more}
+use Rattle.level_meaning.specs.Level.{Values, vector_at, zeros, numbers_below}
+use Rattle.algo_tree.specs.Meaning.{act_row}
+use Rattle.archi_graph.specs.Archi.{Architecture as Archi}
+use Rattle.archi_graph.specs.Sequences.{sequences}
+use Rattle.durations.specs.Table.{entry_in}
+use Rattle.flat_graph.specs.Meaning.{initial_cells, flat_act_row}
+use Rattle.flat_graph.specs.Graph.{lens_of}
+use Rattle.flat_laws.specs.FlatOf.{flat_of}
+use Rattle.sequence_build_laws.specs.Built.{order_of}
+use Rattle.sequence_build_laws.proofs.Whole.{built_are_well_formed}
+use Rattle.executive_program.specs.declared.program.Program.{Program}
+use Rattle.executive_program.specs.WellFormed.{IsWellFormed}
+use Rattle.semaphore_core.specs.Core.{run, count}
+use Rattle.semaphore_core.specs.Told.{done_in}
+use Rattle.phase_laws.specs.Values.{IsSupplied}
+use Rattle.phase_laws.proofs.Together.{have_laws}
+use Rattle.phase_laws.proofs.Ended.{runs_end, runs_take_rows}
+use Rattle.phase_laws.proofs.Windows.{windows_make}
+use Rattle.accepted_laws.specs.Flat.{HasFlat}
+use Rattle.accepted_laws.proofs.Definitions.{accepted_have_flat}
+use Rattle.accepted_laws.proofs.Architectures.{described_are}
+use Rattle.accepted_laws.proofs.Tables.{tables_fit}
+use Rattle.command_plan.specs.Plan.{GivesOnly}
+use Rattle.command_words.specs.Command.{Command, check, sim, flat, chart, code, run as runs, load}
+use Rattle.top_plans.specs.Given.{Given, written, printed, summed, Execution, one_job}
+use Rattle.top_plans.specs.Plans.{plan_for, run_plan, load_plan, schedule_of, program_by}
+use Rattle.top_plans.specs.Meaning.{RunsTrue, MakesTrue, AcceptedRunTrue, LoadsRunTrue}
+use Rattle.top_plans.proofs.Schedules.{schedules_are_valid}
+use Rattle.top_plans.proofs.Walk.{IsAccepted, Leaf, RunLeaf, LoadLeaf, walk_run, walk_load}
+use Rattle.top_plans.proofs.Commands.{gives_leaves, told_gives}
+
+same_numbers : {A : Type 0} (f : ℕ → A) (n : ℕ) → map f (range_with_len 0 n) ≡ map f (numbers_below n)
+same_numbers f zero = refl
+same_numbers f (suc n) = ap (λ m. map f (range_with_len 0 m)) (sym (add-one n)) ∙ map-range_with_len_more f 0 n n (zero-add n) ∙ ap (λ xs. xs ++ f n ∷ []) (same_numbers f n) ∙ sym (map-append f (numbers_below n) (n ∷ []))
+
+same_map : {A B : Type 0} (f g : A → B) → ((x : A) → f x ≡ g x) → (xs : List A) → map f xs ≡ map g xs
+same_map f g h [] = refl
+same_map f g h (x ∷ xs) = λ i. h x i ∷ same_map f g h xs i
+
+module _ (e : Execution) (a : IsAccepted e) where
+  has : HasFlat e.main
+  has = accepted_have_flat a.text a.defs e.main a.says a.resolves
+
+  abbrev IsFormed : Archi → Program → Type 0
+  IsFormed b p = IsWellFormed p (flat_of e.main) (sequences b) (length b.media)
+
+  built_formed : IsFormed a.described.archi (program_by (flat_of e.main) a.described.archi a.durations)
+  built_formed =
+      let d = a.described in
+      let g = flat_of e.main in
+      let archi = described_are a.lines d a.describes in
+      let s = schedule_of g d.archi a.durations in (
+        order_of g d.archi s,
+        built_are_well_formed g d.archi (entry_in a.durations) s has.valid archi.0 archi.1 (schedules_are_valid g a.lines d a.durations has.valid a.describes a.lasts),
+      )
+
+  formed : IsFormed e.architecture e.program
+  formed = subst (λ b. IsFormed b e.program) (sym a.stands) (subst (IsFormed a.described.archi) (sym a.built) built_formed)
+
+  supplied : IsSupplied (one_job e)
+  supplied = let rows = tables_fit e.main a.table e.rows a.tells in record {
+    seqs = sequences e.architecture;
+    order = formed.0;
+    formed = formed.1;
+    valid = has.valid;
+    opened = refl;
+    sensed = λ k l. rows.1 k l ∙ rows.0 ∙ sym has.lengths.sensors;
+  }
+
+  pub runs_true : RunsTrue e
+  runs_true = record {
+    limit = a.limit;
+    laws = have_laws (one_job e) supplied;
+    rows = λ list v n k x is q l. runs_take_rows (one_job e) supplied list v n k x is q l
+        ∙ ap (λ (w : Values). cond (nat_lt k (done_in (one_job e) (count (run (one_job e) list)) v)) (vector_at w n) (zeros (slice_index_or (lens_of (flat_of e.main).vertices x.ins) 0 0))) (has.taken e.rows.reactions k);
+    ended = λ list d. (runs_end (one_job e) supplied list d).rows ∙ same_numbers (flat_act_row (flat_of e.main) e.rows.reactions (initial_cells (flat_of e.main).vertices)) (length e.rows.reactions)
+        ∙ same_map (flat_act_row (flat_of e.main) e.rows.reactions (initial_cells (flat_of e.main).vertices)) (act_row e.main e.rows.reactions) (has.taken e.rows.reactions) (numbers_below (length e.rows.reactions));
+    windows = λ from count l. windows_make (one_job e) supplied from count l;
+  }
+
+run_leaf : (g : Given) → RunLeaf g → MakesTrue g
+run_leaf (written t) l = absurd l
+run_leaf (printed t e) l = runs_true e l
+run_leaf (summed e t) l = absurd l
+
+load_leaf : (g : Given) → LoadLeaf g → MakesTrue g
+load_leaf (written t) l = absurd l
+load_leaf (printed t e) l = absurd l
+load_leaf (summed e t) l = runs_true e l
+
+pub runs_are_true : AcceptedRunTrue
+runs_are_true a h s told g e = told_gives MakesTrue told (run_plan a h s) g (walk_run (GivesOnly MakesTrue) (λ r n. tt) a h s None (λ file name next q k. k) run_leaf) e
+
+pub loads_are_true : LoadsRunTrue
+loads_are_true a h s told g e = told_gives MakesTrue told (load_plan a h s) g (walk_load (GivesOnly MakesTrue) (λ r n. tt) a h s load_leaf) e
+
+true_leaf : (command : Command) (g : Given) → Leaf command g → MakesTrue g
+true_leaf command (written t) l = tt
+true_leaf (check a h) (printed t e) l = absurd l
+true_leaf (check a h) (summed e t) l = absurd l
+true_leaf (sim a h) (printed t e) l = absurd l
+true_leaf (sim a h) (summed e t) l = absurd l
+true_leaf (flat a) (printed t e) l = absurd l
+true_leaf (flat a) (summed e t) l = absurd l
+true_leaf (chart a h) (printed t e) l = absurd l
+true_leaf (chart a h) (summed e t) l = absurd l
+true_leaf (code a h) (printed t e) l = absurd l
+true_leaf (code a h) (summed e t) l = absurd l
+true_leaf (runs a h s w) (printed t e) l = absurd l
+true_leaf (runs a h s w) (summed e t) l = absurd l
+true_leaf (load n) (printed t e) l = absurd l
+true_leaf (load n) (summed e t) l = absurd l
+
+pub commands_true : (command : Command) → GivesOnly MakesTrue (plan_for command)
+commands_true command = gives_leaves MakesTrue command (true_leaf command)

@@ -1,0 +1,114 @@
+-- What was carried out of the plan of the words replies; no command ends with Usage.
+use Rattle.std.proofs.Common.{◌≡◌, Option, Some, None, Result, Ok, Err, inl, inr, refl, sym, ap, subst, ◌∙◌}
+use Rattle.std.specs.Prelude.{IsOkAnd}
+use Rattle.outside.specs.Bytes.{Bytes}
+use Rattle.outside.specs.Shelf.{Held}
+use Rattle.outside.specs.Sink.{Sunk, Appends, AppendsPrefix}
+use Rattle.command_plan.specs.Plan.{Plan, give, refuse, read, outcome}
+use Rattle.command_plan.specs.Stage.{text_of, jobs_of, after_jobs, RunsSome}
+use Rattle.command_plan.specs.Ending.{Ending, done, refused, unread, unwritten, no_memory}
+use Rattle.command_plan.specs.Run.{FailsToRead, Makes, gives, refuses, not_read, was_read, Ends, Ran}
+use Rattle.command_plan.proofs.Meaning.{answers_of}
+use Rattle.command_plan.proofs.Stages.{not_refused}
+use Rattle.command_status.specs.Status.{Refusal, usage}
+use Rattle.command_words.specs.Command.{Command}
+use Rattle.run_laws.specs.Driven.{Driven, new_driven, driven_by}
+use Rattle.top_plans.specs.Names.{names_of}
+use Rattle.top_plans.specs.Given.{Given, printed, stages}
+use Rattle.top_plans.specs.Plans.{plan_for, plan_of}
+use Rattle.top_plans.specs.Meaning.{MakesTrue}
+use Rattle.top_plans.specs.Replies.{CommandsReply, PlainCommandsReply, DoneRuns}
+use Rattle.top_plans.proofs.Written.{windows_write, windows_run}
+use Rattle.top_plans.proofs.Walk.{walk}
+use Rattle.top_plans.proofs.Commands.{reads_only, keeps_plain, told_gives}
+use Rattle.top_plans.proofs.True.{commands_true}
+
+-- no refusal of the plan is this one
+abbrev Never : {R A : Type 0} → R → Plan R A → Type 0
+Never u (give a) = Unit {0}
+Never u (refuse r) = ¬ (r ≡ u)
+Never u (read file name long next) = ¬ (long ≡ u) × ((bytes : Bytes) → Never u (next bytes))
+
+same_refused : {R : Type 0} (a b : R) → refused a ≡ refused b → a ≡ b
+same_refused a b e = cc
+
+module _ {R A : Type 0} where
+  abbrev stop : Ending R → Result A (Ending R)
+  stop e = Err e
+
+  same_stop : (a b : Ending R) → stop a ≡ stop b → a ≡ b
+  same_stop a b e = cc
+
+  no_stop : (a : A) (b : Ending R) → Ok a ≡ stop b → ⊥
+  no_stop a b e = cc
+
+  never_made : (u : R) (old new : Held) (plan : Plan R A) (made : Result A (Ending R)) → Never u plan → Makes old new plan made → made ≡ Err (refused u) → ⊥
+  never_made u old new (give a) made n (gives (inl g)) e = no_stop a (refused u) (sym g.0 ∙ e)
+  never_made u old new (give a) made n (gives (inr g)) e = let q = same_stop no_memory (refused u) (sym g ∙ e) in cc
+  never_made u old new (refuse r) made n (refuses (inl g)) e = n (same_refused r u (same_stop (refused r) (refused u) (sym g.0 ∙ e)))
+  never_made u old new (refuse r) made n (refuses (inr g)) e = let q = same_stop no_memory (refused u) (sym g ∙ e) in cc
+  never_made u old new (read file name long next) _ n (not_read {ending = s} f) e = by s f (same_stop s (refused u) e)
+    where
+      by : (s : Ending R) → FailsToRead file name long old new s → s ≡ refused u → ⊥
+      by (refused r) f q = n.0 (sym f.0 ∙ same_refused r u q)
+      by (unread x) f q = cc
+      by done f q = f
+      by unwritten f q = f
+      by no_memory f q = cc
+  never_made u old new (read file name long next) made n (was_read between bytes is m) e = never_made u between new (next bytes) made (n.1 bytes) m e
+
+never : (command : Command) → Never usage (plan_for command)
+never command = walk (Never usage) (λ r n. n) command (λ file name next e h. ((λ q. cc), h)) (λ a l. tt)
+
+not_usage : (command : Command) (held held' : Held) (sunk sunk' : Sunk) (d d' : Driven) (ending : Ending Refusal)
+    → Ran driven_by stages (plan_for command) held held' sunk sunk' d d' ending → ending ≡ refused usage → ⊥
+not_usage command held held' sunk sunk' d d' ending (Ok a, m, w) e = by ending e w
+  where
+    by : (ending : Ending Refusal) → ending ≡ refused usage → Ends driven_by stages (Ok a) sunk sunk' d d' ending → ⊥
+    by (refused r) e w = not_refused driven_by Refusal (stages a) sunk sunk' d d' r w
+    by done e w = cc
+    by (unread f) e w = cc
+    by unwritten e w = cc
+    by no_memory e w = cc
+not_usage command held held' sunk sunk' d d' ending (Err s, m, w) e = never_made usage held held' (plan_for command) (Err s) (never command) m (λ i. Err ((sym w.0 ∙ e) i))
+
+true_of : (command : Option Command) (told : Bytes → Option Bytes) (a : Given) → outcome told (plan_of command) ≡ Some (Ok a) → MakesTrue a
+true_of None told a e = absurd (let q = e in cc)
+true_of (Some command) told a e = told_gives MakesTrue told (plan_for command) a (commands_true command) e
+
+usage_of : (command : Option Command) (held held' : Held) (sunk sunk' : Sunk) (d d' : Driven) (ending : Ending Refusal)
+    → Ran driven_by stages (plan_of command) held held' sunk sunk' d d' ending → ending ≡ refused usage → command ≡ None
+usage_of None held held' sunk sunk' d d' ending r e = refl
+usage_of (Some command) held held' sunk sunk' d d' ending r e = absurd (not_usage command held held' sunk sunk' d d' ending r e)
+
+pub commands_reply : CommandsReply
+commands_reply command held held' sunk sunk' d d' ending r = record {
+  answers = answers_of driven_by stages (plan_of command) (names_of command) held held' sunk sunk' d d' ending (reads_only command) r;
+  usage = usage_of command held held' sunk sunk' d d' ending r;
+  true_runs = true_of command held.told;
+}
+
+first : {A B : Type 0} (o : Result A B) (P Q : A → Type 0) → IsOkAnd o (λ a. P a × Q a) → IsOkAnd o P
+first (Ok a) P Q h = h.0
+first (Err r) P Q h = h
+
+pub plain_commands_reply : PlainCommandsReply
+plain_commands_reply command held held' sunk sunk' ending ran =
+    let answers = (commands_reply command held held' sunk sunk' new_driven new_driven ending (ran new_driven)).answers in
+    record {
+      replies = λ d. commands_reply command held held' sunk sunk' d d ending (ran d);
+      done_means = λ e o p. first o (λ a. Appends sunk sunk' (text_of (stages a))) (λ a. new_driven ≡ after_jobs driven_by (jobs_of (stages a)) new_driven) (answers.done_means e o p);
+      unwritten_means = λ e. (
+        (answers.unwritten_means e).0,
+        λ o p. first o (λ a. AppendsPrefix sunk sunk' (text_of (stages a))) (λ a. RunsSome driven_by (jobs_of (stages a)) new_driven new_driven) ((answers.unwritten_means e).1 o p),
+      );
+      nothing = keeps_plain command held held' sunk sunk' new_driven new_driven ending answers;
+    }
+
+pub done_runs : DoneRuns
+done_runs command held held' sunk sunk' d d' text e replies o =
+    let all = replies.answers.done_means refl (Ok (printed text e)) o in
+    record {
+      output = subst (λ t. Appends sunk sunk' t) (windows_write text e).0 all.0;
+      ran = all.1 ∙ ap (λ js. after_jobs driven_by js d) (windows_run text e).0;
+    }

@@ -1,0 +1,160 @@
+-- Along the plan of a command: whatever refusals have, and reads where what follows has it, and what is given.
+use Rattle.std.proofs.Common.{◌≡◌, ℕ, List, length, Option, Some, None, Result, Ok, Err, refl}
+use Rattle.csv.specs.Reading.{default_config, records, strip_bom}
+use Rattle.outside.specs.Bytes.{Bytes}
+use Rattle.outside.specs.declared.file.File.{File}
+use Rattle.outside.specs.declared.file.File.TheVariants.{Algorithm, Architecture, Sensors}
+use Rattle.syn_base.specs.Rows.{Reactions}
+use Rattle.syn_base.specs.declared.limits.LimitFault.{LimitFault}
+use Rattle.algo_defs.specs.declared.definition.Def.{Def}
+use Rattle.algo_text.specs.Text.{definitions_of}
+use Rattle.algo_defs.specs.declared.fault.AlgoError.{AlgoError}
+use Rattle.algo_defs.specs.declared.fault.AlgoError.TheVariants as algorithm
+use Rattle.archi_defs.specs.declared.fault.ArchiError.{ArchiError}
+use Rattle.archi_defs.specs.declared.fault.ArchiError.TheVariants as architecture
+use Rattle.sensor_table.specs.declared.fault.SensorError.{SensorError}
+use Rattle.sensor_table.specs.declared.fault.SensorError.TheVariants as sensors
+use Rattle.algo_rules.specs.Resolved.{resolution_of}
+use Rattle.algo_tree.specs.Tree.{Vertex}
+use Rattle.archi_graph.specs.Archi.{Architecture as Archi}
+use Rattle.archi_defs.specs.Text.{Described, description_of}
+use Rattle.durations.specs.Table.{Table, durations_of}
+use Rattle.flat_graph.specs.Graph.{Graph}
+use Rattle.flat_laws.specs.FlatOf.{flat_of}
+use Rattle.sensor_table.specs.SensorTable.{rows_of}
+use Rattle.executive_program.specs.declared.program.Program.{Program}
+use Rattle.macro_code.specs.Text.{macro_code}
+use Rattle.sequence_build.specs.Limit.{program_limit}
+use Rattle.semaphore_core.specs.IsJob.{limit_of}
+use Rattle.command_plan.specs.Plan.{give, refuse, after}
+use Rattle.command_status.specs.Status.{Refusal, above, of_algorithm, of_architecture, of_sensors, not_built, usage}
+use Rattle.command_words.specs.Command.{Command, check, sim, flat, chart, code, run, load}
+use Rattle.top_plans.specs.Names.{names_for}
+use Rattle.top_plans.specs.Given.{Given, written, printed, summed, Execution, one_job}
+use Rattle.top_plans.specs.Plans.{Made, read_file, unless, algorithm_in, architecture_in, table_in, program_plan, program_by, rows_plan, excess, execution, execution_plan, head, summary, run_plan, load_plan, plan_for}
+
+-- all that was accepted on the way to an execution
+pub record IsAccepted (e : Execution) : Type 0 where
+  pub text : Bytes
+  pub defs : List Def
+  pub says : definitions_of text ≡ Ok defs
+  pub resolves : resolution_of defs ≡ Ok e.main
+  pub lines : Bytes
+  pub described : Described
+  pub describes : description_of lines ≡ Ok described
+  pub stands : e.architecture ≡ described.archi
+  pub durations : Table
+  pub lasts : durations_of (flat_of e.main) described ≡ Ok durations
+  pub built : e.program ≡ program_by (flat_of e.main) described.archi durations
+  pub table : List (List (List ℕ))
+  pub tells : rows_of e.main table ≡ Ok e.rows
+  pub limit : limit_of (one_job e) ≡ None
+
+-- what a command may come to give
+abbrev pub Leaf : Command → Given → Type 0
+Leaf (check a h) (written t) = Unit {0}
+Leaf (sim a s) (written t) = Unit {0}
+Leaf (flat a) (written t) = Unit {0}
+Leaf (chart a h) (written t) = Unit {0}
+Leaf (code a h) (written t) = Unit {0}
+Leaf _ _ = ⊥
+
+abbrev pub RunLeaf : Given → Type 0
+RunLeaf (printed t e) = IsAccepted e
+RunLeaf _ = ⊥
+
+abbrev pub LoadLeaf : Given → Type 0
+LoadLeaf (summed e t) = IsAccepted e
+LoadLeaf _ = ⊥
+
+-- no part refuses as words that are no command
+algorithm_not : (e : AlgoError) → ¬ (of_algorithm e ≡ usage)
+algorithm_not (algorithm.Refused fault) q = cc
+algorithm_not (algorithm.Limit fault) q = cc
+algorithm_not algorithm.OutOfMemory q = cc
+
+architecture_not : (e : ArchiError) → ¬ (of_architecture e ≡ usage)
+architecture_not (architecture.Refused fault) q = cc
+architecture_not (architecture.Limit fault) q = cc
+architecture_not architecture.OutOfMemory q = cc
+
+sensors_not : (e : SensorError) → ¬ (of_sensors e ≡ usage)
+sensors_not (sensors.Refused fault) q = cc
+sensors_not (sensors.Limit fault) q = cc
+sensors_not sensors.OutOfMemory q = cc
+
+-- a property of plans that refusals have
+module _ (Q : Made → Type 0) (refused : (r : Refusal) → ¬ (r ≡ usage) → Q (refuse r)) where
+  after_so : {X E : Type 0} (refusal : E → Refusal) → ((e : E) → ¬ (refusal e ≡ usage)) → (answer : Result X E) (next : X → Made) → ((x : X) → answer ≡ Ok x → Q (next x)) → Q (after refusal answer next)
+  after_so refusal not_usage (Ok x) next h = h x refl
+  after_so refusal not_usage (Err e) next h = refused (refusal e) (not_usage e)
+
+  unless_within : (o : Option LimitFault) (next : Made) → (o ≡ None → Q next) → Q (unless o next)
+  unless_within (Some f) next h = refused (above f) (λ q. cc)
+  unless_within None next h = h refl
+
+  algorithm_so : (text : Bytes) (next : List Def → Vertex → Made) → ((defs : List Def) (main : Vertex) → definitions_of text ≡ Ok defs → resolution_of defs ≡ Ok main → Q (next defs main)) → Q (algorithm_in text next)
+  algorithm_so text next h = after_so of_algorithm algorithm_not (definitions_of text) (λ defs. after of_algorithm (resolution_of defs) (next defs)) (λ defs p. after_so of_algorithm algorithm_not (resolution_of defs) (next defs) (λ main q. h defs main p q))
+
+  architecture_so : (text : Bytes) (main : Vertex) (next : Described → Table → Made) → ((d : Described) (t : Table) → description_of text ≡ Ok d → durations_of (flat_of main) d ≡ Ok t → Q (next d t))
+      → Q (architecture_in text main next)
+  architecture_so text main next h = after_so of_architecture architecture_not (description_of text) (λ d. after of_architecture (durations_of (flat_of main) d) (next d))
+      (λ d p. after_so of_architecture architecture_not (durations_of (flat_of main) d) (next d) (λ t q. h d t p q))
+
+  table_so : (main : Vertex) (table : Bytes) (next : Reactions → Made) → ((rows : Reactions) → rows_of main (records default_config (strip_bom table)) ≡ Ok rows → Q (next rows)) → Q (table_in main table next)
+  table_so main table next h = after_so of_sensors sensors_not (rows_of main (records default_config (strip_bom table))) next h
+
+  rows_so : (main : Vertex) (rows : Reactions) → ((t : Bytes) → Q (give (written t))) → Q (rows_plan main rows)
+  rows_so main rows h = unless_within (excess _) _ (λ n. h _)
+
+  program_so : (g : Graph) (a : Archi) (t : Table) (next : Program → Made) → Q (next (program_by g a t)) → Q (program_plan g a t next)
+  program_so g a t next h = unless_within (program_limit (program_by g a t) (length a.media)) (next (program_by g a t)) (λ n. h)
+
+  -- an execution of the program that the pressure run gives
+  execution_so : (text : Bytes) (defs : List Def) (main : Vertex) (lines : Bytes) (d : Described) (t : Table) (table : Bytes) (rows : Reactions) (what : Execution → Given)
+      → definitions_of text ≡ Ok defs → resolution_of defs ≡ Ok main → description_of lines ≡ Ok d → durations_of (flat_of main) d ≡ Ok t → rows_of main (records default_config (strip_bom table)) ≡ Ok rows
+      → ((e : Execution) → IsAccepted e → Q (give (what e))) → Q (program_plan (flat_of main) d.archi t (λ p. execution_plan (execution main d.archi p rows) what))
+  execution_so text defs main lines d t table rows what says resolves describes lasts tells h =
+      let e = execution main d.archi (program_by (flat_of main) d.archi t) rows in
+      program_so (flat_of main) d.archi t (λ p. execution_plan (execution main d.archi p rows) what) (unless_within (limit_of (one_job e)) (give (what e)) (λ n. h e (record {
+        text = text;
+        defs = defs;
+        says = says;
+        resolves = resolves;
+        lines = lines;
+        described = d;
+        describes = describes;
+        stands = refl;
+        durations = t;
+        lasts = lasts;
+        built = refl;
+        table = records default_config (strip_bom table);
+        tells = tells;
+        limit = n;
+      })))
+
+  -- a load
+  pub walk_load : (a h s : Bytes) → ((g : Given) → LoadLeaf g → Q (give g)) → Q (load_plan a h s)
+  walk_load a h s gives = algorithm_so a _ (λ defs main p q. architecture_so h main _ (λ d t u v. table_so main s _ (λ rows r.
+      execution_so a defs main h d t s rows (λ e. summed e (summary e)) p q u v r (λ e is. gives (summed e (summary e)) is))))
+
+  abbrev Reads : (File → Option Bytes) → Type 0
+  Reads names = (file : File) (name : Bytes) (next : Bytes → Made) → names file ≡ Some name → ((bytes : Bytes) → Q (next bytes)) → Q (read_file file name next)
+
+  -- a run
+  pub walk_run : (a h s : Bytes) (workers : Option ℕ) → Reads (names_for (run a h s workers)) → ((g : Given) → RunLeaf g → Q (give g)) → Q (run_plan a h s)
+  walk_run a h s workers reads gives = reads Algorithm a _ refl (λ text. algorithm_so text _ (λ defs main p q. reads Architecture h _ refl (λ lines. architecture_so lines main _ (λ d t u v.
+      reads Sensors s _ refl (λ table. table_so main table _ (λ rows r.
+      execution_so text defs main lines d t table rows (λ e. printed (head e) e) p q u v r (λ e is. gives (printed (head e) e) is)))))))
+
+  -- the plan of each command
+  pub walk : (command : Command) → Reads (names_for command) → ((g : Given) → Leaf command g → Q (give g)) → Q (plan_for command)
+  walk (check a None) reads gives = reads Algorithm a _ refl (λ text. algorithm_so text _ (λ defs main p q. gives _ tt))
+  walk (check a (Some h)) reads gives = reads Algorithm a _ refl (λ text. algorithm_so text _ (λ defs main p q. reads Architecture h _ refl (λ lines. architecture_so lines main _ (λ d t u v. gives _ tt))))
+  walk (sim a s) reads gives = reads Algorithm a _ refl (λ text. algorithm_so text _ (λ defs main p q. reads Sensors s _ refl (λ table. table_so main table _ (λ rows r. rows_so main rows (λ t. gives (written t) tt)))))
+  walk (flat a) reads gives = reads Algorithm a _ refl (λ text. algorithm_so text _ (λ defs main p q. gives _ tt))
+  walk (chart a h) reads gives = reads Algorithm a _ refl (λ text. algorithm_so text _ (λ defs main p q. reads Architecture h _ refl (λ lines. architecture_so lines main _ (λ d t u v. gives _ tt))))
+  walk (code a h) reads gives = reads Algorithm a _ refl (λ text. algorithm_so text _ (λ defs main p q. reads Architecture h _ refl (λ lines. architecture_so lines main _ (λ d t u v.
+      program_so (flat_of main) d.archi t (λ p. give (written (macro_code p (flat_of main) d.archi))) (gives _ tt)))))
+  walk (run a h s workers) reads gives = refused not_built (λ q. cc)
+  walk (load n) reads gives = refused not_built (λ q. cc)

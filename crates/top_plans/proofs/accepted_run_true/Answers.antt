@@ -1,0 +1,5 @@
+use Rattle.top_plans.proofs.True.{runs_are_true}
+use Rattle.top_plans.proofs.accepted_run_true.Goals as goal
+
+pub returns : goal.returns
+returns c = runs_are_true

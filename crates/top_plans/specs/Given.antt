@@ -1,0 +1,58 @@
+-- What an accepted command makes, and the stages in which it is made.
+use Rattle.std.specs.Prelude.{ℕ, List, [], ◌∷◌, map, length}
+use Rattle.outside.specs.Bytes.{Bytes}
+use Rattle.syn_base.specs.Rows.{Reactions}
+use Rattle.level_meaning.specs.Level.{Values, numbers_below}
+use Rattle.algo_tree.specs.Tree.{Vertex}
+use Rattle.algo_tree.specs.Meaning.{act_row}
+use Rattle.archi_graph.specs.Archi.{Architecture}
+use Rattle.flat_graph.specs.Meaning.{initial_cells}
+use Rattle.flat_laws.specs.FlatOf.{flat_of}
+use Rattle.executive_program.specs.declared.program.Program.{Program}
+use Rattle.semaphore_core.specs.Job.{JobData}
+use Rattle.semaphore_core.specs.IsJob.{job_of}
+use Rattle.act_text.specs.Names.{actuator_names}
+use Rattle.act_text.specs.Text.{output_text}
+use Rattle.command_plan.specs.Stage.{Stage}
+use Rattle.phase_laws.specs.Windows.{window_job}
+use Rattle.run_laws.specs.Windows.{starts, reactions_from, window_jobs, window_text}
+
+-- a program that is executed on an architecture, for an algorithm, over rows of its sensors
+pub record Execution : Type 0 where
+  pub main : Vertex
+  pub architecture : Architecture
+  pub program : Program
+  pub rows : Reactions
+
+-- its one job over all rows, from the initial values of the delays
+abbrev pub one_job : Execution → JobData
+one_job e = job_of e.program (flat_of e.main) e.architecture e.rows (initial_cells (flat_of e.main).vertices)
+
+-- what the actuators of an algorithm take in each reaction, and its text
+abbrev pub acts_of : Vertex → List Values → List Values
+acts_of main rows = map (act_row main rows) (numbers_below (length rows))
+
+abbrev pub output_of : Vertex → List Values → Bytes
+output_of main rows = output_text (actuator_names main) (acts_of main rows)
+
+-- What is to be made: a text by itself; a text, and after it what a program that is executed gives; or a text for which a program is executed.
+pub data Given : Type 0 where
+  written : Bytes → Given
+  printed : Bytes → Execution → Given
+  summed : Execution → Bytes → Given
+
+-- the window that begins with reaction s: its job, and then its lines
+abbrev pub window_stage : Execution → ℕ → Stage JobData
+window_stage e s = record {
+  jobs = window_job (one_job e) s (reactions_from (length e.rows.reactions) s) ∷ [];
+  text = window_text (actuator_names e.main) (acts_of e.main e.rows.reactions) s;
+}
+
+abbrev pub window_stages : Execution → List (Stage JobData)
+window_stages e = map (window_stage e) (starts (length e.rows.reactions))
+
+-- a text by itself is written by one call; windows are written one after another
+abbrev pub stages : Given → List (Stage JobData)
+stages (written text) = record { jobs = []; text = text } ∷ []
+stages (printed text e) = record { jobs = []; text = text } ∷ window_stages e
+stages (summed e text) = record { jobs = window_jobs (one_job e); text = text } ∷ []

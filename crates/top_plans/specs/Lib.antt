@@ -1,0 +1,5 @@
+pub mod Names
+pub mod Given
+pub mod Plans
+pub mod Meaning
+pub mod Replies

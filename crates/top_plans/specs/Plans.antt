@@ -1,0 +1,176 @@
+-- The plan of each command: which files it reads, in which order it is refused, and what it makes.
+use Rattle.std.specs.Prelude.{◌*◌, ◌++◌, ℕ, ℤ, nat_lt, List, [], ◌∷◌, length, sum, if◌then◌else◌, Option, Some, None, codes}
+use Rattle.std.specs.Fmt.{decimal, signed_decimal}
+use Rattle.std.specs.List.{flat_map}
+use Rattle.csv.specs.Reading.{default_config, records, strip_bom}
+use Rattle.outside.specs.Bytes.{Bytes, joined}
+use Rattle.outside.specs.Shelf.{file_limit}
+use Rattle.outside.specs.declared.file.File.{File}
+use Rattle.outside.specs.declared.file.File.TheVariants.{Algorithm, Architecture, Sensors}
+use Rattle.syn_base.specs.Arithmetic.{wrapped}
+use Rattle.syn_base.specs.Limits.{bound_of}
+use Rattle.syn_base.specs.Rows.{Reactions}
+use Rattle.syn_base.specs.declared.limits.LimitFault.{LimitFault}
+use Rattle.syn_base.specs.declared.limits.LimitKind.TheVariants.{Output}
+use Rattle.level_meaning.specs.Level.{Values, all_joined}
+use Rattle.body_lang.specs.Expr.{total}
+use Rattle.algo_defs.specs.declared.definition.Def.{Def}
+use Rattle.algo_text.specs.Text.{definitions_of}
+use Rattle.algo_rules.specs.Resolved.{resolution_of}
+use Rattle.algo_print.specs.Canonical.{canonical_text}
+use Rattle.algo_tree.specs.Tree.{Vertex}
+use Rattle.algo_tree.specs.Ends.{actuator_lengths}
+use Rattle.archi_defs.specs.Text.{Described, description_of}
+use Rattle.archi_reader.specs.Canonical as architecture
+use Rattle.archi_graph.specs.Archi.{Architecture as Archi}
+use Rattle.archi_graph.specs.Sequences.{sequences}
+use Rattle.durations.specs.Table.{Table, durations_of}
+use Rattle.flat_graph.specs.Graph.{Graph}
+use Rattle.flat_laws.specs.FlatOf.{flat_of}
+use Rattle.flat_text.specs.Listing.{listing}
+use Rattle.pressure_heuristic.specs.Pressure.{pressure_run}
+use Rattle.pressure_heuristic.specs.Tasks.{task}
+use Rattle.route_laws.specs.Routes.{table_of}
+use Rattle.schedule.specs.declared.decision.Schedule.{Schedule}
+use Rattle.timing_chart.specs.Chart as timing
+use Rattle.executive_program.specs.declared.program.Program.{Program}
+use Rattle.sequence_build_laws.specs.Built.{program_of}
+use Rattle.sequence_build.specs.Limit.{program_limit}
+use Rattle.semaphore_core.specs.Job.{total_steps}
+use Rattle.semaphore_core.specs.IsJob.{limit_of}
+use Rattle.macro_code.specs.Text.{macro_code}
+use Rattle.sensor_table.specs.SensorTable.{rows_of}
+use Rattle.command_plan.specs.Plan.{Plan, give, refuse, read, after}
+use Rattle.command_status.specs.Status.{Refusal, above, not_built, of_algorithm, of_architecture, of_sensors, usage}
+use Rattle.command_words.specs.Command.{Command, check, sim, flat, chart, code, run, load}
+use Rattle.top_plans.specs.Given.{Given, written, printed, summed, Execution, one_job, acts_of, output_of}
+
+abbrev pub Made : Type 0
+Made = Plan Refusal Given
+
+-- read a file, or refuse it where it is too long
+abbrev pub read_file : File → Bytes → (Bytes → Made) → Made
+read_file file name next = read file name (above file_limit) next
+
+-- go on where there is no limit fault
+abbrev pub unless : Option LimitFault → Made → Made
+unless (Some fault) next = refuse (above fault)
+unless None next = next
+
+-- what a text says of an algorithm, and then what its definitions resolve to
+abbrev pub algorithm_in : Bytes → (List Def → Vertex → Made) → Made
+algorithm_in text next = after of_algorithm (definitions_of text) (λ defs. after of_algorithm (resolution_of defs) (next defs))
+
+-- what a text says of an architecture, and then the durations of the algorithm's operations
+abbrev pub architecture_in : Bytes → Vertex → (Described → Table → Made) → Made
+architecture_in text main next = after of_architecture (description_of text) (λ d. after of_architecture (durations_of (flat_of main) d) (next d))
+
+-- the rows of a table
+abbrev pub table_in : Vertex → Bytes → (Reactions → Made) → Made
+table_in main table next = after of_sensors (rows_of main (records default_config (strip_bom table))) next
+
+-- the same of files
+abbrev pub algorithm_plan : Bytes → (List Def → Vertex → Made) → Made
+algorithm_plan a next = read_file Algorithm a (λ text. algorithm_in text next)
+
+abbrev pub architecture_plan : Bytes → Vertex → (Described → Table → Made) → Made
+architecture_plan h main next = read_file Architecture h (λ text. architecture_in text main next)
+
+abbrev pub table_plan : Vertex → Bytes → (Reactions → Made) → Made
+table_plan main s next = read_file Sensors s (λ table. table_in main table next)
+
+-- both canonical texts, with an empty line between them
+abbrev pub both_texts : List Def → Described → Bytes
+both_texts defs d = canonical_text defs ++ (codes "\n" ++ architecture.canonical_text d)
+
+-- the canonical text of the algorithm, and that of an architecture beside it
+abbrev pub check_plan : Bytes → Option Bytes → Made
+check_plan a None = algorithm_plan a (λ defs main. give (written (canonical_text defs)))
+check_plan a (Some h) = algorithm_plan a (λ defs main. architecture_plan h main (λ d t. give (written (both_texts defs d))))
+
+-- the listing of the flat graph
+abbrev pub flat_plan : Bytes → Made
+flat_plan a = algorithm_plan a (λ defs main. give (written (listing (flat_of main))))
+
+-- more elements than an output may have
+abbrev pub excess : ℕ → Option LimitFault
+excess count = if nat_lt (bound_of Output) count then Some (record { which = Output; count = count; bound = bound_of Output }) else None
+
+-- what the actuators take, where it is within its bound
+abbrev pub rows_plan : Vertex → Reactions → Made
+rows_plan main rows = unless (excess (length rows.reactions * sum (actuator_lengths main))) (give (written (output_of main rows.reactions)))
+
+abbrev pub sim_plan : Bytes → Bytes → Made
+sim_plan a s = algorithm_plan a (λ defs main. table_plan main s (rows_plan main))
+
+-- the schedule of the pressure run over the least routes, and its chart
+abbrev pub schedule_of : Graph → Archi → Table → Schedule
+schedule_of g a t = pressure_run (task g a (table_of a) t)
+
+abbrev pub chart_of : Graph → Described → Table → Bytes
+chart_of g d t = timing.chart g d.archi (schedule_of g d.archi t)
+
+abbrev pub chart_plan : Bytes → Bytes → Made
+chart_plan a h = algorithm_plan a (λ defs main. architecture_plan h main (λ d t. give (written (chart_of (flat_of main) d t))))
+
+-- the program of that schedule, within its limits
+abbrev pub program_by : Graph → Archi → Table → Program
+program_by g a t = program_of g a (schedule_of g a t)
+
+abbrev pub program_plan : Graph → Archi → Table → (Program → Made) → Made
+program_plan g a t next = unless (program_limit (program_by g a t) (length a.media)) (next (program_by g a t))
+
+-- its macro-code
+abbrev pub macro_plan : Graph → Archi → Table → Made
+macro_plan g a t = program_plan g a t (λ p. give (written (macro_code p g a)))
+
+abbrev pub code_plan : Bytes → Bytes → Made
+code_plan a h = algorithm_plan a (λ defs main. architecture_plan h main (λ d t. macro_plan (flat_of main) d.archi t))
+
+-- a program that is executed over these rows, within the limits of the one job over all of them
+abbrev pub execution : Vertex → Archi → Program → Reactions → Execution
+execution main a p rows = record { main = main; architecture = a; program = p; rows = rows }
+
+abbrev pub execution_plan : Execution → (Execution → Given) → Made
+execution_plan e what = unless (limit_of (one_job e)) (give (what e))
+
+-- the macro-code and an empty line
+abbrev pub head : Execution → Bytes
+head e = macro_code e.program (flat_of e.main) e.architecture ++ codes "\n"
+
+-- The rows come before the limits of the program, and these before the limits of the run.
+abbrev pub run_plan : Bytes → Bytes → Bytes → Made
+run_plan a h s = algorithm_plan a (λ defs main. architecture_plan h main (λ d t. table_plan main s (λ rows.
+    program_plan (flat_of main) d.archi t (λ p. execution_plan (execution main d.archi p rows) (λ e. printed (head e) e)))))
+
+-- the sum of all that is put out, brought back modulo 2^64
+abbrev pub sum_of : List Values → ℤ
+sum_of acts = wrapped (total (flat_map all_joined acts))
+
+-- the numbers of operations, sequences and micro-steps, and that sum
+abbrev pub summary : Execution → Bytes
+summary e = joined (
+  codes "operations " ∷ decimal (length (flat_of e.main).vertices)
+      ∷ codes "\nsequences " ∷ decimal (length (sequences e.architecture))
+      ∷ codes "\nsteps " ∷ decimal (total_steps e.program (length e.rows.reactions))
+      ∷ codes "\nsum " ∷ signed_decimal (sum_of (acts_of e.main e.rows.reactions)) ∷ codes "\n" ∷ []
+)
+
+-- The texts of an algorithm, an architecture and a table are carried out as they stand; no file is read.
+abbrev pub load_plan : (a h s : Bytes) → Made
+load_plan a h s = algorithm_in a (λ defs main. architecture_in h main (λ d t. table_in main s (λ rows.
+    program_plan (flat_of main) d.archi t (λ p. execution_plan (execution main d.archi p rows) (λ e. summed e (summary e))))))
+
+abbrev pub plan_for : Command → Made
+plan_for (check a h) = check_plan a h
+plan_for (sim a s) = sim_plan a s
+plan_for (flat a) = flat_plan a
+plan_for (chart a h) = chart_plan a h
+plan_for (code a h) = code_plan a h
+plan_for (run a h s workers) = refuse not_built
+plan_for (load n) = refuse not_built
+
+-- the plan of the words
+abbrev pub plan_of : Option Command → Made
+plan_of None = refuse usage
+plan_of (Some command) = plan_for command

@@ -1,0 +1,46 @@
+//! The plans of all commands, and the laws of what they make: what each command reads, in which order it is
+//! refused, and what it makes, over the definitions of all the parts. `syndex_program` carries the plans out.
+//! Each law is the contract of a function that does nothing.
+#![tactic(auto)]
+
+ghost use Rattle.top_plans.specs.Meaning.{AcceptedRunTrue, LoadsRunTrue, WindowsAreRun, WindowsWriteTheOutput};
+ghost use Rattle.top_plans.specs.Replies.{CommandsReply, DoneRuns, PlainCommandsReply};
+
+/// The text that is written in windows is the whole output.
+pub fn windows_write_the_output()
+    ensures { WindowsWriteTheOutput }
+{}
+
+/// The jobs that are run are the windows of the one job over all rows.
+pub fn windows_are_run()
+    ensures { WindowsAreRun }
+{}
+
+/// Whatever a run makes that is accepted runs true: in every interleaving each state is what its counts tell
+/// and is fresh, some sequence is enabled until all is done, and each row that is taken is what the
+/// algorithm's actuators take.
+pub fn accepted_run_true()
+    ensures { AcceptedRunTrue }
+{}
+
+/// So does what a load makes of its texts.
+pub fn loads_run_true()
+    ensures { LoadsRunTrue }
+{}
+
+/// What was carried out of the plan of the words replies.
+pub fn commands_reply()
+    ensures { CommandsReply }
+{}
+
+/// What was carried out of it without driving anything replies plainly: nothing is driven, and with any
+/// ending but done and a fault of the output nothing is appended.
+pub fn plain_commands_reply()
+    ensures { PlainCommandsReply }
+{}
+
+/// Done of a run: the text before it and the whole output were appended, and the windows of the one job over
+/// all rows were run.
+pub fn done_runs()
+    ensures { DoneRuns }
+{}
