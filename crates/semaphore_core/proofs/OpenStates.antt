@@ -44,14 +44,14 @@ module _ (j : JobData) (code : List SeqSteps) (are : AreSteps j.program code) wh
   room_at s q is = get_or_from_slice_get (map (room_of j.graph) code) s (room_of j.graph (expanded j.program q)) 0
       (slice_get-map (room_of j.graph) code s ∙ ap (option_map (room_of j.graph)) (code_at s ∙ ap (option_map (expanded j.program)) is))
 
-  prologue_fits : (s l : ℕ) → Fits j.graph (slice_index_or (map (room_of j.graph) code) s 0) (slice_get (steps j.program s).prologue l)
+  pub prologue_fits : (s l : ℕ) → Fits j.graph (slice_index_or (map (room_of j.graph) code) s 0) (slice_get (steps j.program s).prologue l)
   prologue_fits s l = by (slice_get j.program.seqs s) refl
     where
       by : (o : Option SeqCode) → slice_get j.program.seqs s ≡ o → Fits j.graph (slice_index_or (map (room_of j.graph) code) s 0) (slice_get (steps_by j.program o).prologue l)
       by None is = tt
       by (Some q) is = highest_fits j.graph (expanded j.program q).prologue l (slice_index_or (map (room_of j.graph) code) s 0) (let e = room_at s q is in omega arith)
 
-  turn_fits : (s l : ℕ) → Fits j.graph (slice_index_or (map (room_of j.graph) code) s 0) (slice_get (steps j.program s).turn l)
+  pub turn_fits : (s l : ℕ) → Fits j.graph (slice_index_or (map (room_of j.graph) code) s 0) (slice_get (steps j.program s).turn l)
   turn_fits s l = by (slice_get j.program.seqs s) refl
     where
       by : (o : Option SeqCode) → slice_get j.program.seqs s ≡ o → Fits j.graph (slice_index_or (map (room_of j.graph) code) s 0) (slice_get (steps_by j.program o).turn l)

@@ -6,7 +6,8 @@
 //! and the top call stand on this crate. For steps on other words than a state's own there are the parts of a
 //! step: `next_in` and `reaction_at` find the next micro-step of a sequence, `home` and `slot` where an element
 //! lies, and `Operations` with `Registers` are what a sequence has of its own, which `absorb` and `emit`
-//! change; its rows can be laid out for some operations alone.
+//! change; its rows can be laid out for some operations alone. `into_parts` hands its cells and rows out, and
+//! `put_row` puts rows together.
 #![tactic(auto)]
 
 mod answer;
@@ -26,7 +27,7 @@ pub use answer::StepAnswer;
 pub use job::Job;
 pub use laying::small;
 pub use opening::{actuator_lens, opening_of, sensor_lens, words_of, zero_elements};
-pub use operations::Operations;
+pub use operations::{Operations, put_row};
 pub use registers::Registers;
 pub use rooms::all_registers;
 pub use state::{State, home, run_list, slot, try_step};

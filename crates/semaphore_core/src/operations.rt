@@ -44,8 +44,8 @@ fn fire_on(desk: &mut Desk, flat: &Flat, vertex: u32, cells: &mut Vec<Vec<i64>>,
     }
 }
 
-/// Puts a vector in the place of that of an actuator in a reaction.
-fn put_row(rows: &mut ActRows, reaction: usize, actuator: usize, vector: &[i64])
+/// Puts a vector in the place of that of an actuator in a reaction. It takes no memory.
+pub fn put_row(rows: &mut ActRows, reaction: usize, actuator: usize, vector: &[i64])
     requires reaction { reaction < length rows.old.reactions }
     requires actuator { actuator < length rows.old.lens }
     requires len { length vector.now ≡ slice_index_or rows.old.lens actuator 0 }
@@ -156,6 +156,14 @@ impl Operations {
         ensures { result.now ≡ record { lens = self.now.lens; reactions = self.now.rows } }
     {
         &self.rows
+    }
+
+    /// The cells of the delays and the rows of the actuators, handed out. It takes no memory.
+    pub fn into_parts(self) -> (Vec<Vec<i64>>, ActRows)
+        ensures cells { map (λ c. c.items) result.0.items ≡ self.cells }
+        ensures rows { result.1 ≡ record { lens = self.lens; reactions = self.rows } }
+    {
+        (self.cells, self.rows)
     }
 
     /// What a load does with an element.

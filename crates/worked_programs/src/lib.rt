@@ -12,3 +12,5 @@ mod refused;
 mod three_operators;
 #[cfg(test)]
 mod two_operators;
+#[cfg(test)]
+mod words;

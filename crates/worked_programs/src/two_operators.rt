@@ -5,6 +5,7 @@ ghost use Rattle.flat_graph.specs.Meaning.{initial_cells};
 ghost use Rattle.flat_graph.specs.Laws.{sensor_lens};
 ghost use Rattle.semaphore_core.specs.Held.{IsOpened};
 
+use crate::words::{End, by_one, by_two};
 use archi_graph::{Archi, Medium, Seq, is_archi};
 use body_lang::{Body, Expr};
 use executive_program::{Buffer, Instr, Program, SeqCode};
@@ -271,11 +272,16 @@ fn run(
     flat: &Flat,
     archi: &Archi,
     steps: u64,
+    end: &End,
 ) -> Result<(), Fail> {
     let rows = sensed(rt, alloc, flat)?;
     let opening = opening_of(alloc, flat)?;
     match job(rt, program, flat, archi, &rows, opening, &ORDER) {
-        Ok(job) => the_greatest_first(rt, alloc, &job, steps),
+        Ok(job) => {
+            the_greatest_first(rt, alloc, &job, steps)?;
+            by_two(rt, alloc, &job, end)?;
+            by_one(rt, alloc, &job, end)
+        }
         Err(_) => panic!(rt; "a limit"),
     }
 }
@@ -292,18 +298,26 @@ fn graph_of_two(rt: &impl Abort, alloc: Global) -> Result<Flat, Fail> {
 }
 
 /// Three reactions of the program, with buffers of so many places, have so many micro-steps in all.
-fn run_all(rt: &impl Abort, alloc: Global, depth: u32, steps: u64) -> Result<(), Fail> {
+fn run_all(rt: &impl Abort, alloc: Global, depth: u32, steps: u64, end: &End) -> Result<(), Fail> {
     let flat = graph_of_two(rt, alloc)?;
     let archi = two_operators(rt, alloc)?;
-    run(rt, alloc, &program(alloc, depth)?, &flat, &archi, steps)
+    run(rt, alloc, &program(alloc, depth)?, &flat, &archi, steps, end)
 }
 
 #[test]
 fn no_sequence_is_enabled_at_the_end(rt: HostRuntime) -> Result<(), Fail> {
-    run_all(&rt, rt.alloc(), 1, 71)
+    let end = End {
+        counts: &[18, 19, 16, 18],
+        words: &[1, 0, 1, 0, 6, 0, 1, 0, 1, 0],
+    };
+    run_all(&rt, rt.alloc(), 1, 71, &end)
 }
 
 #[test]
 fn buffers_of_two_places_take_the_same(rt: HostRuntime) -> Result<(), Fail> {
-    run_all(&rt, rt.alloc(), 2, 85)
+    let end = End {
+        counts: &[21, 23, 20, 21],
+        words: &[2, 0, 2, 0, 6, 0, u64::MAX, 1, 0, u64::MAX, 1, 0],
+    };
+    run_all(&rt, rt.alloc(), 2, 85, &end)
 }

@@ -1,0 +1,123 @@
+-- What a driver has is told, and a driver of every sequence knows all counts.
+use Rattle.std.proofs.Common.{◌≡◌, ℕ, ◌%◌, ◌<◌, ◌≤◌, Bool, true, false, cond, List, length, get_or, Option, Some, None, refl, sym, ap, subst, arith, ◌∙◌}
+use Rattle.std.proofs.lemmas.Bool.{lt-ltb, le-ltb}
+use Rattle.executive_program.specs.declared.steps.MicroStep.{MicroStep}
+use Rattle.atomic_table.specs.Seated.{TableId}
+use Rattle.consistent_cuts.specs.Sites.{step_at, reaction_at}
+use Rattle.executive_program.specs.Steps.{steps}
+use Rattle.semaphore_core.specs.Job.{JobData}
+use Rattle.semaphore_core.specs.Core.{Core, run, full, next, reaction, enabled_in, AreReached}
+use Rattle.semaphore_core.specs.Told.{told}
+use Rattle.phase_laws.specs.Agrees.{caller}
+use Rattle.word_rule.specs.declared.view.Knowledge.{Knowledge}
+use Rattle.word_rule.specs.Given.{RunsOnWords}
+use Rattle.word_rule.specs.Views.{count_in}
+use Rattle.word_rule.specs.Words.{word_at, table_of}
+use Rattle.word_rule.proofs.Ending.{same_lists}
+use Rattle.word_table.specs.declared.answer.MicroAnswer.{MicroAnswer}
+use Rattle.word_table.specs.declared.answer.MicroAnswer.TheVariants.{Stepped, NotYet, Finished}
+use Rattle.word_table.specs.declared.share.Share.{Share}
+use Rattle.word_table.specs.declared.woven.Woven.{Woven}
+use Rattle.word_table.specs.Answers.{Answers, AnswersAlone, HasNext, answer_by, answer_in}
+use Rattle.word_table.specs.Driver.{FabricData, DriverData, Drives, AgreeWith, InSome, IsTold}
+use Rattle.word_table.specs.Share.{IsDriver, IsShare, IsWoven, IsOf, Reaches, values_of, share_view, woven_view}
+use Rattle.word_table.proofs.Own.{told_is, IsOwnOf}
+
+-- the registers, cells and rows of a driver
+pub is_told : (d : Share) → IsShare d → RunsOnWords d.job.now → IsTold (share_view d)
+is_told d (k, i) g counts a = record {
+  registers = λ s q. let r = i.all s q.there q.grouped in own.same_registers s r.0 r.1;
+  cells = λ v n x is e q. let r = i.all (caller d.job.now v) q.there q.grouped in own.same_cells (caller d.job.now v) r.0 v n x r.1 is e refl;
+  rows = λ v b n x is e q. let r = i.all (caller d.job.now v) q.there q.grouped in own.same_rows (caller d.job.now v) r.0 v b n x r.1 is e refl;
+}
+  where
+    own : IsOwnOf d.job.now k (values_of d) d.operations.cells d.operations.rows (told d.job.now counts)
+    own = told_is d.job.now g.formed g.values k (values_of d) d.operations.cells d.operations.rows i.there i.own counts a.many
+        (λ s n c. a.agree s (record { there = i.there s n c; grouped = i.only s n c }) ∙ i.counted s n c)
+
+-- a driver of a fabric, and its own share
+pub own_share : (f : Woven) (d : Share) → IsOf f d → IsShare d
+own_share f d (k, i) = (k, subst (λ (j : JobData). IsDriver j d.seat.table k d) (sym i.of_job) (subst (λ (t : TableId). IsDriver f.job.now t k d) (sym i.of_table) i))
+
+pub of_views : (f : Woven) (d : Share) → (share_view d).fabric ≡ woven_view f → IsShare d → IsOf f d
+of_views f d e (k, i) = (k, subst (λ (t : TableId). IsDriver f.job.now t k d) (ap (λ (w : FabricData). w.table) e) (subst (λ (j : JobData). IsDriver j d.seat.table k d) (ap (λ (w : FabricData). w.job) e) i))
+
+pub told_of : (f : Woven) (d : Share) → IsWoven f → IsOf f d → IsTold (share_view d)
+told_of f d is o = is_told d (own_share f d o) (subst RunsOnWords (sym o.1.of_job) is.runs)
+
+-- A driver that drives every sequence.
+module _ (d : DriverData) (many : length d.counts ≡ length d.fabric.job.program.seqs) (all : (s : ℕ) → s < length d.fabric.job.program.seqs → Drives d s) where
+  abbrev J : JobData
+  J = d.fabric.job
+
+  -- what agrees with its counts are its counts
+  same : (counts : List ℕ) → AgreeWith d counts → counts ≡ d.counts
+  same counts a = same_lists counts d.counts (a.many ∙ sym many) (λ s l. a.agree s (all s (let q = a.many in omega (arith, l, q))))
+
+  known : (P : Core → Type 0) → InSome d P → P (told d.fabric.job d.counts)
+  known P (counts, r, a, p) = subst (λ (c : List ℕ). P (told J c)) (same counts a) p
+
+  abbrev Z : Core
+  Z = told J d.counts
+
+  -- the next micro-step, in what its counts tell
+  next_is : (s r : ℕ) (m : MicroStep) → s < length J.program.seqs → HasNext d s r m → next J Z s ≡ Some m
+  next_is s r m l h = let o = h.more in rw (lt-ltb s (length J.program.seqs) l, lt-ltb (get_or d.counts s 0) (full J s) o) h.next
+
+  step_answer : (s r : ℕ) (m : MicroStep) (b : Bool) → s < length J.program.seqs → HasNext d s r m → enabled_in Z r m ≡ b → cond b Stepped NotYet ≡ answer_in J Z s
+  step_answer s r m b l h e = ap (λ (c : Bool). cond c Stepped NotYet) (sym (ap (λ (k : ℕ). enabled_in Z k m) h.in_reaction ∙ e)) ∙ ap (answer_by J Z s) (sym (next_is s r m l h))
+
+  pub alone : (new : DriverData) (s : ℕ) (answer : MicroAnswer) → s < length d.fabric.job.program.seqs → AreReached d.fabric.job d.counts → AreReached d.fabric.job new.counts → Answers d new s answer → AnswersAlone d new s answer
+  alone new s Finished l was now (e, q) = record {
+    was_reached = was;
+    is_reached = now;
+    is = ap (answer_by J Z s) (sym done);
+  }
+    where
+      done : next J Z s ≡ None
+      done = rw (lt-ltb s (length J.program.seqs) l, le-ltb (get_or d.counts s 0) (full J s) (omega (arith, e))) refl
+  alone new s Stepped l was now (r, m, h, st) = record { was_reached = was; is_reached = now; is = step_answer s r m true l h (known (λ z. enabled_in z r m ≡ true) st.enabled) }
+  alone new s NotYet l was now (r, m, h, st) = record { was_reached = was; is_reached = now; is = step_answer s r m false l h (known (λ z. (st.found ≡ get_or (table_of z) (word_at J r m) 0) × (enabled_in z r m ≡ false)) st.stood).1 }
+
+-- its counts are reached
+pub counts_reached : (j : JobData) → RunsOnWords j → (d : Share) (k : Knowledge) → IsDriver j d.seat.table k d → ((s : ℕ) → s < length j.program.seqs → s % d.groups ≡ d.group) → AreReached j d.counts.items
+counts_reached j g d k i all = subst (AreReached j) same r.reached
+  where
+    r : Reaches j k
+    r = i.reaches
+
+    many : length r.counts ≡ length j.program.seqs
+    many = sym (ap (length {A = ℕ}) r.reached.1) ∙ (g.shaped r.reached.0).counts
+
+    same : r.counts ≡ d.counts.items
+    same = same_lists r.counts d.counts.items (many ∙ sym i.counts_there)
+        (λ s l. let c = i.all s (let q = many in omega (arith, l, q)) (all s (let q = many in omega (arith, l, q))) in r.agree s c.0 c.1 ∙ sym (i.counted s c.0 c.1))
+
+-- A driver of the one group of a fabric.
+pub alone_answers : (f : Woven) (d e : Share) (s : ℕ) (answer : MicroAnswer) → IsWoven f → IsOf f d → IsOf f e → d.groups ≡ 1 → s % d.groups ≡ d.group → e.groups ≡ d.groups → e.group ≡ d.group → s < length f.job.now.program.seqs
+    → Answers (share_view d) (share_view e) s answer → AnswersAlone (share_view d) (share_view e) s answer
+alone_answers f d e s answer is od oe one mine gs g l a = alone (share_view d) many (λ t q. record { there = q; grouped = every t }) e' s answer there was now a
+  where
+    e' : DriverData
+    e' = share_view e
+
+    job : d.job.now ≡ f.job.now
+    job = od.1.of_job
+
+    many : length d.counts.items ≡ length d.job.now.program.seqs
+    many = od.1.counts_there ∙ ap (λ (j : JobData). length j.program.seqs) (sym job)
+
+    there : s < length d.job.now.program.seqs
+    there = subst (λ (j : JobData). s < length j.program.seqs) (sym job) l
+
+    every : (t : ℕ) → t % d.groups ≡ d.group
+    every t = ap (λ (n : ℕ). t % n) one ∙ (let z : t % 1 ≡ s % 1 = omega arith in z) ∙ ap (λ (n : ℕ). s % n) (sym one) ∙ mine
+
+    every_new : (t : ℕ) → t % e.groups ≡ e.group
+    every_new t = ap (λ (n : ℕ). t % n) gs ∙ every t ∙ sym g
+
+    was : AreReached d.job.now d.counts.items
+    was = subst (λ (j : JobData). AreReached j d.counts.items) (sym job) (counts_reached f.job.now is.runs d od.0 (subst (λ (t : TableId). IsDriver f.job.now t od.0 d) (sym od.1.of_table) od.1) (λ t q. every t))
+
+    now : AreReached d.job.now e.counts.items
+    now = subst (λ (j : JobData). AreReached j e.counts.items) (sym job) (counts_reached f.job.now is.runs e oe.0 (subst (λ (t : TableId). IsDriver f.job.now t oe.0 e) (sym oe.1.of_table) oe.1) (λ t q. every_new t))

@@ -1,0 +1,110 @@
+-- The end of a fabric, driver by driver from the last group on.
+use Rattle.std.specs.Prelude.{◌≡◌, ℕ, ◌+◌, ◌<◌, ◌≤◌, ◌%◌, Option, Some, None, List, [], length, map, slice_get, slice_index_or, ℤ}
+use Rattle.atomic_table.specs.Seated.{TableId}
+use Rattle.syn_base.specs.Rows.{Reactions}
+use Rattle.level_meaning.specs.Level.{Values, vector_at}
+use Rattle.flat_graph.specs.declared.vertex.Vertex.{Vertex}
+use Rattle.flat_graph.specs.declared.vertex.Kind.TheVariants.{Actuator}
+use Rattle.semaphore_core.specs.Job.{JobData, reactions, actuator_lens}
+use Rattle.semaphore_core.specs.Held.{HasRow}
+use Rattle.semaphore_core.specs.Operation.{delay_of}
+use Rattle.semaphore_core.specs.Told.{own_after}
+use Rattle.phase_laws.specs.Agrees.{caller, row_at}
+use Rattle.word_rule.specs.declared.view.View.{View}
+use Rattle.word_rule.specs.Table.{SeatData}
+use Rattle.word_rule.specs.Steps.{with_seat}
+use Rattle.word_rule.specs.Views.{count_by}
+use Rattle.word_rule.specs.Words.{table_len}
+use Rattle.word_table.specs.declared.remains.Remains.{Remains}
+use Rattle.word_table.specs.declared.share.Share.{Share}
+use Rattle.word_table.specs.declared.woven.Woven.{Woven}
+use Rattle.word_table.specs.Owners.{owners}
+
+-- the counts of a group's sequences are the others' now
+pub record TakesCounts (old new others : List ℕ) (groups group : ℕ) : Type 0 where
+  pub many : length new ≡ length old
+  pub here : (s : ℕ) → s < length old → s % groups ≡ group → slice_index_or new s 0 ≡ slice_index_or others s 0
+  pub else : (s : ℕ) → (s % groups ≡ group → ⊥) → slice_index_or new s 0 ≡ slice_index_or old s 0
+
+-- the cells of a group's delays are the others' now
+pub record TakesCells (old new others : Values) (owners : List ℕ) (groups group : ℕ) : Type 0 where
+  pub many : length new ≡ length old
+  pub here : (d s : ℕ) → d < length old → slice_get owners d ≡ Some s → s % groups ≡ group → vector_at new d ≡ vector_at others d
+  pub else : (d s : ℕ) → slice_get owners d ≡ Some s → (s % groups ≡ group → ⊥) → vector_at new d ≡ vector_at old d
+
+-- rows have as many vectors as there are lengths
+abbrev pub AreWide : Reactions → Type 0
+AreWide r = (k : ℕ) → k < length r.reactions → length (slice_index_or r.reactions k []) ≡ length r.lens
+
+-- the rows of one actuator are the others' now
+pub record TakesRow (old new others : Reactions) (a : ℕ) : Type 0 where
+  pub lens : new.lens ≡ old.lens
+  pub many : length new.reactions ≡ length old.reactions
+  pub wide : AreWide new
+  pub here : (k : ℕ) → row_at new.reactions k a ≡ row_at others.reactions k a
+  pub else : (k b : ℕ) → (b ≡ a → ⊥) → row_at new.reactions k b ≡ row_at old.reactions k b
+
+-- the rows of a group's actuators are the others' now
+pub record TakesRows (j : JobData) (old new others : Reactions) (callers : List ℕ) (groups group : ℕ) : Type 0 where
+  pub lens : new.lens ≡ old.lens
+  pub many : length new.reactions ≡ length old.reactions
+  pub wide : AreWide new
+  pub here : (v a k : ℕ) (x : Vertex) → slice_get j.graph.vertices v ≡ Some x → x.kind ≡ Actuator a → slice_index_or callers v 0 % groups ≡ group → row_at new.reactions k a ≡ row_at others.reactions k a
+  pub else : (v a k : ℕ) (x : Vertex) → slice_get j.graph.vertices v ≡ Some x → x.kind ≡ Actuator a → (slice_index_or callers v 0 % groups ≡ group → ⊥) → row_at new.reactions k a ≡ row_at old.reactions k a
+
+-- the share is one of the job whose remains these are
+pub record FitsTo (d : Share) (r : Remains) : Type 0 where
+  pub counts_there : length r.counts.items ≡ length d.job.now.program.seqs
+  pub cells_there : length r.cells.items ≡ length d.job.now.opening
+  pub rows_there : length r.rows.reactions ≡ reactions d.job.now
+  pub laid : (v : ℕ) → HasRow d.job.now r.rows.lens v
+  pub wide : AreWide r.rows
+  pub callers_there : length r.callers.items ≡ length d.job.now.graph.vertices
+  pub callers : (v : ℕ) → v < length d.job.now.graph.vertices → slice_index_or r.callers.items v 0 ≡ caller d.job.now v
+
+-- what the share has of its own is taken over
+pub record Gathers (d : Share) (old new : Remains) : Type 0 where
+  pub counts : TakesCounts old.counts.items new.counts.items d.counts.items d.groups d.group
+  pub cells : TakesCells old.cells.items new.cells.items d.operations.cells old.cell_owners.items d.groups d.group
+  pub rows : TakesRows d.job.now old.rows new.rows (record { lens = d.operations.lens; reactions = d.operations.rows }) old.callers.items d.groups d.group
+  pub words : new.words ≡ old.words
+  pub callers : new.callers ≡ old.callers
+  pub owners : new.cell_owners ≡ old.cell_owners
+
+-- All that belongs to the groups from m on is gathered: their counts, and the cells and rows after as many micro-steps.
+pub record IsGathered (j : JobData) (groups m : ℕ) (counts : List ℕ) (r : Remains) : Type 0 where
+  pub counts_there : length r.counts.items ≡ length j.program.seqs
+  pub words_there : length r.words.items + 1 ≡ table_len j
+  pub cells_there : length r.cells.items ≡ length j.opening
+  pub lens : r.rows.lens ≡ actuator_lens j.graph j.graph.vertices
+  pub rows_there : length r.rows.reactions ≡ reactions j
+  pub wide : AreWide r.rows
+  pub callers_there : length r.callers.items ≡ length j.graph.vertices
+  pub callers : (v : ℕ) → v < length j.graph.vertices → slice_index_or r.callers.items v 0 ≡ caller j v
+  pub cell_owners : r.cell_owners.items ≡ owners r.callers.items j.graph.vertices
+  pub made : (s : ℕ) → s < length j.program.seqs → m ≤ s % groups → slice_index_or r.counts.items s 0 ≡ slice_index_or counts s 0
+  pub cells : (v d : ℕ) (x : Vertex) → slice_get j.graph.vertices v ≡ Some x → delay_of j.graph v x ≡ Some d → m ≤ caller j v % groups
+      → vector_at r.cells.items d ≡ vector_at (own_after j (caller j v) (slice_index_or counts (caller j v) 0)).cells d
+  pub rows : (v a k : ℕ) (x : Vertex) → slice_get j.graph.vertices v ≡ Some x → x.kind ≡ Actuator a → m ≤ caller j v % groups
+      → row_at r.rows.reactions k a ≡ row_at (own_after j (caller j v) (slice_index_or counts (caller j v) 0)).rows k a
+
+-- the view drives the sequences of the groups from m on, with these counts, and no other
+pub record HoldsFrom (j : JobData) (groups m : ℕ) (v : View) (counts : List ℕ) : Type 0 where
+  pub inside : (s : ℕ) → s < length j.program.seqs → m ≤ s % groups → count_by v s ≡ Some (slice_index_or counts s 0)
+  pub none_else : (s n : ℕ) → count_by v s ≡ Some n → m ≤ s % groups
+
+-- the same of a seat of this table; without a seat no group is gathered
+abbrev pub SeatHolds : JobData → TableId → ℕ → ℕ → Option SeatData → List ℕ → Type 0
+SeatHolds j table groups m None counts = m ≡ groups
+SeatHolds j table groups m (Some s) counts = (s.table ≡ table) × HoldsFrom j groups m s.view counts
+
+-- the second seat, which takes over what the first one drives, if there is one
+abbrev pub seat_with : Option SeatData → SeatData → SeatData
+seat_with None other = other
+seat_with (Some s) other = with_seat s other
+
+-- the table, the job and the groups are the same
+pub record IsSameFabric (old new : Woven) : Type 0 where
+  pub table : new.table ≡ old.table
+  pub job : new.job ≡ old.job
+  pub groups : new.groups ≡ old.groups

@@ -1,0 +1,8 @@
+pub mod Driver
+pub mod Answers
+pub mod Closed
+pub mod Owners
+pub mod Files
+pub mod Share
+pub mod Weaving
+pub mod Ends

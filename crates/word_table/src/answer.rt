@@ -1,0 +1,12 @@
+//! What a try of a sequence answers.
+
+/// What a try of a sequence answers.
+#[derive(Clone, Copy, Debug, PartialEq, Eq)]
+pub enum MicroAnswer {
+    /// Its next micro-step is made.
+    Stepped,
+    /// The word that its next micro-step needs was not ready.
+    NotYet,
+    /// It has made all its micro-steps.
+    Finished,
+}

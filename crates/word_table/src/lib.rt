@@ -1,0 +1,25 @@
+//! The core on atomic words: a fabric is the table of a job, and its drivers make its micro-steps, each by one
+//! atomic step on one word. Whoever has threads gives each a driver.
+//!
+//! `weave` makes a fabric with its drivers; `Fabric::try_micro` tries a sequence of a driver, which takes no
+//! memory and waits for nobody; `Fabric::close` ends a fabric with all its drivers, and leaves a `Closed` with
+//! the rows of the actuators and the cells of the delays. `Driven` keeps how many micro-steps were made on
+//! closed tables, and the counts and the words of the last one. `executive_run` drives fabrics by threads.
+#![tactic(auto)]
+
+mod answer;
+mod closed;
+mod closing;
+mod driven;
+mod fabric;
+mod owners;
+mod remains;
+mod share;
+mod weaving;
+mod woven;
+
+pub use answer::MicroAnswer;
+pub use closed::Closed;
+pub use driven::Driven;
+pub use fabric::{Driver, Fabric};
+pub use weaving::weave;

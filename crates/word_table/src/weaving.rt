@@ -1,0 +1,185 @@
+//! A fabric and its drivers, when they are made.
+ghost use Rattle.std.specs.Prelude.{◌≡◌, ◌<◌, ◌≤◌, ◌+◌, length, map, IfOk};
+ghost use Rattle.word_rule.specs.Views.{first_view};
+ghost use Rattle.word_rule.specs.Words.{table_len};
+ghost use Rattle.word_table.specs.Driver.{AreDrivers, AreNew};
+ghost use Rattle.word_table.specs.Share.{AreLaid, IsWoven, woven_view};
+ghost use Rattle.word_table.specs.Weaving.{DrivesGroup, IsLeft, IsGroup, IsFirst, AreFirst, starts_from, end_from};
+
+use crate::fabric::{Driver, Fabric};
+use crate::owners::{called_in, callers_of, cell_owners};
+use crate::remains::Remains;
+use crate::share::Share;
+use crate::woven::Woven;
+use executive_program::micro_steps_of;
+use semaphore_core::{Job, Operations, all_registers, small, words_of, zero_elements};
+use std::alloc::Global;
+use syn_base::{Items, OutOfMemory};
+use word_rule::{WordSeat, WordTable, job_runs_on_words};
+
+/// What is laid out for the end of a table of so many words and the spare one.
+fn remains_of(alloc: Global, job: &Job, len: usize) -> Result<Remains, OutOfMemory>
+    requires { len ≡ table_len job.now }
+    ensures { IfOk result (λ r. AreLaid job.now r) }
+{
+    let vertices = job.flat().vertices();
+    let (cells, rows) = Operations::new(alloc, job)?.into_parts();
+    let callers = callers_of(alloc, job.program(), vertices.len())?;
+    let cell_owners = cell_owners(alloc, vertices, callers.as_slice())?;
+    Ok(Remains {
+        counts: words_of(alloc, 0, job.program().seqs.as_slice().len())?,
+        words: words_of(alloc, 0, len - 1)?,
+        cells: items_of(alloc, cells)?,
+        rows,
+        callers,
+        cell_owners,
+    })
+}
+
+/// These lists, each as one that contracts see by its elements.
+fn items_of(alloc: Global, lists: Vec<Vec<i64>>) -> Result<Vec<Items<i64>>, OutOfMemory>
+    ensures { IfOk result (λ r. r.items ≡ map (λ l. l.items) lists.items) }
+{
+    let mut all = Vec::new(alloc);
+    for list in lists {
+        all.push(Items::new(list))?;
+    }
+    Ok(all)
+}
+
+/// Where each list of elements begins, the first at this word, and where the last one ends.
+fn starts_of(
+    alloc: Global,
+    elements: &[Items<i64>],
+    first: usize,
+) -> Result<(Vec<usize>, usize), OutOfMemory>
+    ensures starts { IfOk result (λ t. t.0.items ≡ starts_from first elements.now) }
+    ensures end { IfOk result (λ t. t.1 ≡ end_from first elements.now) }
+{
+    let mut starts = Vec::new(alloc);
+    let mut next = first;
+    for list in elements {
+        starts.push(next)?;
+        match next.checked_add(list.as_slice().len()) {
+            Some(after) => next = after,
+            None => return Err(OutOfMemory),
+        }
+    }
+    Ok((starts, next))
+}
+
+/// The table of a job with its micro-steps laid out, and a seat for all of its sequences.
+fn woven_of<'a>(
+    alloc: Global,
+    job: &'a Job<'a>,
+    groups: u32,
+) -> Result<(Woven<'a>, WordSeat<'a>), OutOfMemory>
+    requires { 0 < groups }
+    ensures woven { IfOk result (λ t. IsWoven t.0 × (t.0.job.now ≡ job.now) × (t.0.groups ≡ groups)) }
+    ensures seat { IfOk result (λ t. t.1 ≡ record { table = t.0.table.table; view = first_view job.now }) }
+{
+    job_runs_on_words(job);
+    let program = job.program();
+    let steps = micro_steps_of(alloc, program)?;
+    let elements = zero_elements(alloc, program, small(job.media())?)?;
+    let turns = 1 + 2 * program.pairs.as_slice().len();
+    let Some(first) = turns.checked_add(job.media()) else {
+        return Err(OutOfMemory);
+    };
+    let (starts, len) = starts_of(alloc, elements.as_slice(), first)?;
+    let words = words_of(alloc, 0, len)?;
+    let remains = remains_of(alloc, job, len)?;
+    let (table, seat) = WordTable::open(alloc, job, words.as_slice())?;
+    let woven = Woven {
+        table,
+        job,
+        groups,
+        steps,
+        turns,
+        starts,
+        remains,
+    };
+    Ok((woven, seat))
+}
+
+/// A driver of a group with this seat, whose sequences have made no micro-step.
+fn driver_of<'a>(
+    alloc: Global,
+    woven: &Woven<'a>,
+    seat: WordSeat<'a>,
+    group: u32,
+) -> Result<Share<'a>, OutOfMemory>
+    requires woven { IsWoven woven.now }
+    requires view { DrivesGroup woven.now.job.now woven.now.groups group seat.view }
+    ensures { IfOk result (λ d. IsGroup woven.now seat.entry group d) }
+{
+    let job = woven.job;
+    let called = called_in(alloc, woven.remains.callers.as_slice(), woven.groups, group)?;
+    let sequences = job.program().seqs.as_slice().len();
+    let counts = words_of(alloc, 0, sequences)?;
+    let registers = all_registers(alloc, job.flat(), woven.steps.as_slice())?;
+    let operations = Operations::for_some(alloc, job, called.as_slice())?;
+    Ok(Share {
+        seat,
+        job,
+        groups: woven.groups,
+        group,
+        counts,
+        registers,
+        operations,
+    })
+}
+
+/// The driver of a group, whose sequences are split off from those that are left.
+fn group_of<'a>(
+    alloc: Global,
+    woven: &Woven<'a>,
+    seat: &mut WordSeat<'a>,
+    group: u32,
+) -> Result<Driver<'a>, OutOfMemory>
+    requires woven { IsWoven woven.now }
+    requires seat { seat.old.table ≡ woven.now.table.table }
+    requires left { IsLeft woven.now.job.now woven.now.groups group seat.old.view }
+    ensures driver { IfOk result (λ d. IsFirst (woven_view woven.now) group d) }
+    ensures seat { seat.new.table ≡ seat.old.table }
+    ensures left { IsLeft woven.now.job.now woven.now.groups (group + 1) seat.new.view }
+{
+    let mine = woven.table.split(seat, woven.groups, group);
+    let share = driver_of(alloc, woven, mine, group)?;
+    Ok(Driver { share })
+}
+
+/// A driver for each group of sequences.
+fn drivers_of<'a>(
+    alloc: Global,
+    woven: &Woven<'a>,
+    seat: &mut WordSeat<'a>,
+) -> Result<Vec<Driver<'a>>, OutOfMemory>
+    requires woven { IsWoven woven.now }
+    requires seat { seat.old ≡ record { table = woven.now.table.table; view = first_view woven.now.job.now } }
+    ensures { IfOk result (λ ds. AreFirst (woven_view woven.now) 0 ds.items × (length ds.items ≡ woven.now.groups)) }
+{
+    let mut drivers = Vec::new(alloc);
+    for group in 0..woven.groups {
+        drivers.push(group_of(alloc, woven, seat, group)?)?;
+    }
+    Ok(drivers)
+}
+
+/// A table for a job, and its drivers. Driver g drives the sequences whose number leaves g when it is
+/// divided by the number of groups. Both borrow the job. All memory that the drivers and the end of the
+/// fabric need is taken here.
+pub fn weave<'a>(
+    alloc: Global,
+    job: &'a Job<'a>,
+    groups: u32,
+) -> Result<(Fabric<'a>, Vec<Driver<'a>>), OutOfMemory>
+    requires { (1 ≤ groups) × (groups ≤ 80) }
+    ensures fabric { IfOk result (λ t. (t.0.job ≡ job.now) × (t.0.groups ≡ groups)) }
+    ensures drivers { IfOk result (λ t. AreDrivers t.0 t.1.items) }
+    ensures new { IfOk result (λ t. AreNew t.1.items) }
+{
+    let (woven, mut seat) = woven_of(alloc, job, groups)?;
+    let drivers = drivers_of(alloc, &woven, &mut seat)?;
+    Ok((Fabric { woven }, drivers))
+}
