@@ -1,3 +1,4 @@
 pub mod Made
+pub mod Stages
 pub mod Meaning
 pub mod Makes

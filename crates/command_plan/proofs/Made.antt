@@ -6,14 +6,14 @@ use Rattle.outside.specs.Bytes.{Bytes}
 use Rattle.outside.specs.Faults.{Rose}
 use Rattle.outside.specs.Shelf.{Held, Stays, file_bound}
 use Rattle.outside.specs.declared.file.File.{File}
-use Rattle.command_plan.specs.Plan.{Plan, give, refuse, read, outcome, ReadsOnly}
+use Rattle.command_plan.specs.Plan.{Plan, give, refuse, read, outcome, ReadsOnly, GivesOnly}
 use Rattle.command_plan.specs.Ending.{Ending, done, refused, unread, unwritten, no_memory}
 use Rattle.command_plan.specs.Run.{Gives, FailsToRead, Makes, gives, refuses, not_read, was_read}
 
 -- what was made is what is defined, or a file's count rose, or memory ran out
-pub data Made {R : Type 0} (names : File → Option Bytes) (old new : Held) (plan : Plan R) : Result Bytes (Ending R) → Type 0 where
-  text_made : (bytes : Bytes) → ((o : Result Bytes R) → outcome old.told plan ≡ Some o → o ≡ Ok bytes) → Made names old new plan (Ok bytes)
-  refusal_made : (r : R) → ((o : Result Bytes R) → outcome old.told plan ≡ Some o → o ≡ Err r) → Made names old new plan (Err (refused r))
+pub data Made {R A : Type 0} (names : File → Option Bytes) (old new : Held) (plan : Plan R A) : Result A (Ending R) → Type 0 where
+  thing_made : (a : A) → ((o : Result A R) → outcome old.told plan ≡ Some o → o ≡ Ok a) → Made names old new plan (Ok a)
+  refusal_made : (r : R) → ((o : Result A R) → outcome old.told plan ≡ Some o → o ≡ Err r) → Made names old new plan (Err (refused r))
   fault_found : (file : File) (name : Bytes) → names file ≡ Some name → Rose (old.faults file name) (new.faults file name) → Made names old new plan (Err (unread file))
   wanting : Made names old new plan (Err no_memory)
 
@@ -26,37 +26,37 @@ not_above n x y h = let t : nat_lt file_bound n ≡ false = grind (arith, nat_te
 is_above : {X : Type 0} (n : ℕ) (x y : X) → file_bound < n → (if nat_lt file_bound n then x else y) ≡ x
 is_above n x y h = let t : nat_lt file_bound n ≡ true = grind (arith, nat_tests) in rw t refl
 
-module _ {R : Type 0} where
+module _ {R A : Type 0} where
   -- the same, of a plan that goes on from one whose told outcome is its own
-  made_on : (names : File → Option Bytes) (old new : Held) (plan plan' : Plan R) (made : Result Bytes (Ending R))
-      → ((o : Result Bytes R) → outcome old.told plan' ≡ Some o → outcome old.told plan ≡ Some o) → Made names old new plan made → Made names old new plan' made
-  made_on names old new plan plan' _ h (text_made bytes e) = text_made bytes (λ o p. e o (h o p))
+  made_on : (names : File → Option Bytes) (old new : Held) (plan plan' : Plan R A) (made : Result A (Ending R))
+      → ((o : Result A R) → outcome old.told plan' ≡ Some o → outcome old.told plan ≡ Some o) → Made names old new plan made → Made names old new plan' made
+  made_on names old new plan plan' _ h (thing_made a e) = thing_made a (λ o p. e o (h o p))
   made_on names old new plan plan' _ h (refusal_made r e) = refusal_made r (λ o p. e o (h o p))
   made_on names old new plan plan' _ h (fault_found file name e rose) = fault_found file name e rose
   made_on names old new plan plan' _ h wanting = wanting
 
-  given_text : (names : File → Option Bytes) (old new : Held) (bytes : Bytes) (made : Result Bytes (Ending R)) → Gives old new (Ok bytes) made → Made names old new (give bytes) made
-  given_text names old new bytes made (inl e) = subst (λ r. Made names old new (give bytes) r) (sym e.0) (text_made bytes (λ o p. same_some _ _ p))
-  given_text names old new bytes made (inr e) = subst (λ r. Made names old new (give bytes) r) (sym e) wanting
+  given_thing : (names : File → Option Bytes) (old new : Held) (a : A) (made : Result A (Ending R)) → Gives old new (Ok a) made → Made names old new (give a) made
+  given_thing names old new a made (inl e) = subst (λ r. Made names old new (give a) r) (sym e.0) (thing_made a (λ o p. same_some _ _ p))
+  given_thing names old new a made (inr e) = subst (λ r. Made names old new (give a) r) (sym e) wanting
 
-  given_refusal : (names : File → Option Bytes) (old new : Held) (r : R) (made : Result Bytes (Ending R)) → Gives old new (Err (refused r)) made → Made names old new (refuse r) made
+  given_refusal : (names : File → Option Bytes) (old new : Held) (r : R) (made : Result A (Ending R)) → Gives old new (Err (refused r)) made → Made names old new (refuse r) made
   given_refusal names old new r made (inl e) = subst (λ x. Made names old new (refuse r) x) (sym e.0) (refusal_made r (λ o p. same_some _ _ p))
   given_refusal names old new r made (inr e) = subst (λ x. Made names old new (refuse r) x) (sym e) wanting
 
   -- a file that is told and read is short
-  read_on : (next : Bytes → Option (Result Bytes R)) (refusal : R) (told : Option Bytes) (bytes : Bytes) (o : Result Bytes R) → length bytes ≤ file_bound → IfSome told (λ b. bytes ≡ b)
+  read_on : (next : Bytes → Option (Result A R)) (refusal : R) (told : Option Bytes) (bytes : Bytes) (o : Result A R) → length bytes ≤ file_bound → IfSome told (λ b. bytes ≡ b)
       → option_and_then (λ b. if nat_lt file_bound (length b) then Some (Err refusal) else next b) told ≡ Some o → next bytes ≡ Some o
   read_on next refusal None bytes o short h e = cc
   read_on next refusal (Some b) bytes o short h e =
       let l : length b ≤ file_bound = subst (λ (x : Bytes). length x ≤ file_bound) h short in
       subst (λ (x : Bytes). next x ≡ Some o) (sym h) (sym (not_above (length b) (Some (Err refusal)) (next b) l) ∙ e)
 
-  above_bound : (next : Bytes → Option (Result Bytes R)) (refusal : R) (told : Option Bytes) (o : Result Bytes R) → IfSome told (λ b. file_bound < length b)
+  above_bound : (next : Bytes → Option (Result A R)) (refusal : R) (told : Option Bytes) (o : Result A R) → IfSome told (λ b. file_bound < length b)
       → option_and_then (λ b. if nat_lt file_bound (length b) then Some (Err refusal) else next b) told ≡ Some o → o ≡ Err refusal
   above_bound next refusal None o h e = cc
   above_bound next refusal (Some b) o h e = same_some _ _ (sym (is_above (length b) (Some (Err refusal)) (next b) h) ∙ e)
 
-  unread_made : (names : File → Option Bytes) (old new : Held) (file : File) (name : Bytes) (long : R) (next : Bytes → Plan R) (ending : Ending R) → names file ≡ Some name
+  unread_made : (names : File → Option Bytes) (old new : Held) (file : File) (name : Bytes) (long : R) (next : Bytes → Plan R A) (ending : Ending R) → names file ≡ Some name
       → FailsToRead file name long old new ending → Made names old new (read file name long next) (Err ending)
   unread_made names old new file name long next (unread f) e h = subst (λ x. Made names old new (read file name long next) (Err (unread x))) (sym h.0) (fault_found file name e h.1)
   unread_made names old new file name long next (refused r) e h = subst (λ x. Made names old new (read file name long next) (Err (refused x))) (sym h.0)
@@ -65,36 +65,45 @@ module _ {R : Type 0} where
   unread_made names old new file name long next done e h = absurd h
   unread_made names old new file name long next unwritten e h = absurd h
 
-  alike : (f g : Bytes → Option (Result Bytes R)) → ((b : Bytes) → f b ≡ g b) → (o : Option Bytes) → option_and_then f o ≡ option_and_then g o
+  alike : (f g : Bytes → Option (Result A R)) → ((b : Bytes) → f b ≡ g b) → (o : Option Bytes) → option_and_then f o ≡ option_and_then g o
   alike f g h None = refl
   alike f g h (Some b) = h b
 
-  abbrev answered : R → (Bytes → Option (Result Bytes R)) → Bytes → Option (Result Bytes R)
+  abbrev answered : R → (Bytes → Option (Result A R)) → Bytes → Option (Result A R)
   answered long next b = if nat_lt file_bound (length b) then Some (Err long) else next b
 
   -- where the same is told, a plan has the same outcome
-  same_outcome : (told told' : Bytes → Option Bytes) → ((name : Bytes) → told' name ≡ told name) → (plan : Plan R) → outcome told' plan ≡ outcome told plan
-  same_outcome told told' same (give text) = refl
+  same_outcome : (told told' : Bytes → Option Bytes) → ((name : Bytes) → told' name ≡ told name) → (plan : Plan R A) → outcome told' plan ≡ outcome told plan
+  same_outcome told told' same (give a) = refl
   same_outcome told told' same (refuse r) = refl
   same_outcome told told' same (read file name long next) =
       ap (λ (o : Option Bytes). option_and_then (answered long (λ b. outcome told' (next b))) o) (same name)
       ∙ alike (answered long (λ b. outcome told' (next b))) (answered long (λ b. outcome told (next b)))
-      (λ b. ap (λ (o : Option (Result Bytes R)). if nat_lt file_bound (length b) then Some (Err long) else o) (same_outcome told told' same (next b))) (told name)
+      (λ b. ap (λ (o : Option (Result A R)). if nat_lt file_bound (length b) then Some (Err long) else o) (same_outcome told told' same (next b))) (told name)
 
   -- what was made later was made from before
-  made_before : (names : File → Option Bytes) (old between new : Held) (plan : Plan R) (made : Result Bytes (Ending R)) → Stays old between
+  made_before : (names : File → Option Bytes) (old between new : Held) (plan : Plan R A) (made : Result A (Ending R)) → Stays old between
       → Made names between new plan made → Made names old new plan made
-  made_before names old between new plan _ s (text_made bytes e) = text_made bytes (λ o p. e o (same_outcome old.told between.told s.told plan ∙ p))
+  made_before names old between new plan _ s (thing_made a e) = thing_made a (λ o p. e o (same_outcome old.told between.told s.told plan ∙ p))
   made_before names old between new plan _ s (refusal_made r e) = refusal_made r (λ o p. e o (same_outcome old.told between.told s.told plan ∙ p))
   made_before names old between new plan _ s (fault_found file name e rose) =
       let up : old.faults file name ≤ between.faults file name = s.faults file name in
       fault_found file name e (omega arith)
   made_before names old between new plan _ s wanting = wanting
 
-  pub made_of : (names : File → Option Bytes) (old new : Held) (plan : Plan R) (made : Result Bytes (Ending R)) → ReadsOnly names plan → Makes old new plan made → Made names old new plan made
-  made_of names old new (give bytes) made only (gives g) = given_text names old new bytes made g
+  pub made_of : (names : File → Option Bytes) (old new : Held) (plan : Plan R A) (made : Result A (Ending R)) → ReadsOnly names plan → Makes old new plan made → Made names old new plan made
+  made_of names old new (give a) made only (gives g) = given_thing names old new a made g
   made_of names old new (refuse r) made only (refuses g) = given_refusal names old new r made g
   made_of names old new (read file name long next) _ only (not_read {ending = s} f) = unread_made names old new file name long next s only.0 f
   made_of names old new (read file name long next) made only (was_read between bytes is m) =
       made_on names old new (next bytes) (read file name long next) made (λ o e. read_on (λ b. outcome old.told (next b)) long (old.told name) bytes o is.0.0 is.0.1 e)
       (made_before names old between new (next bytes) made is.1 (made_of names between new (next bytes) made (only.1 bytes) m))
+
+-- what was given is something that the plan may give
+pub only_made : {R A : Type 0} (old new : Held) (P : A → Type 0) (plan : Plan R A) (made : Result A (Ending R)) (a : A) → made ≡ Ok a → GivesOnly P plan → Makes old new plan made → P a
+only_made old new P (give b) made a e h (gives (inl g)) = let same : b ≡ a = let q : Ok b ≡ Ok a = sym g.0 ∙ e in cc in subst P same h
+only_made old new P (give b) made a e h (gives (inr g)) = let q : Err no_memory ≡ Ok a = sym g ∙ e in cc
+only_made old new P (refuse r) made a e h (refuses (inl g)) = let q : Err (refused r) ≡ Ok a = sym g.0 ∙ e in cc
+only_made old new P (refuse r) made a e h (refuses (inr g)) = let q : Err no_memory ≡ Ok a = sym g ∙ e in cc
+only_made old new P (read file name long next) _ a e h (not_read {ending = s} f) = let q : Err s ≡ Ok a = e in cc
+only_made old new P (read file name long next) made a e h (was_read between bytes is m) = only_made between new P (next bytes) made a e (h bytes) m

@@ -1,11 +1,12 @@
 -- What an ending means.
-use Rattle.std.specs.Prelude.{◌≡◌, ◌⊎◌, Option, Some, Result, Ok, Err, IsOkAnd, IsSomeAnd}
+use Rattle.std.specs.Prelude.{◌≡◌, ◌≤◌, ◌⊎◌, List, [], length, Option, Some, Result, Ok, Err, IsOkAnd, IsSomeAnd}
 use Rattle.outside.specs.Bytes.{Bytes}
 use Rattle.outside.specs.Faults.{Rose}
 use Rattle.outside.specs.Shelf.{Held}
 use Rattle.outside.specs.Sink.{Sunk, Appends, AppendsPrefix}
 use Rattle.outside.specs.declared.file.File.{File}
-use Rattle.command_plan.specs.Plan.{Plan, outcome}
+use Rattle.command_plan.specs.Plan.{Plan, outcome, ReadsOnly, GivesOnly}
+use Rattle.command_plan.specs.Stage.{Stage, text_of, jobs_of, after_jobs, AppendsSome, RunsSome}
 use Rattle.command_plan.specs.Ending.{Ending, done, refused, unread, unwritten, no_memory}
 use Rattle.command_plan.specs.Run.{Ran}
 
@@ -13,24 +14,51 @@ use Rattle.command_plan.specs.Run.{Ran}
 abbrev pub NoFault : (File → Option Bytes) → Held → Held → Type 0
 NoFault names held held' = (file : File) (name : Bytes) → names file ≡ Some name → ¬ Rose (held.faults file name) (held'.faults file name)
 
--- what an ending means, where the shelf went from held to held' and the output from sunk to sunk'
-pub record Answers {R : Type 0} (plan : Plan R) (names : File → Option Bytes) (held held' : Held) (sunk sunk' : Sunk) (ending : Ending R) : Type 0 where
-  -- the plan was carried out, over the bytes that were read, told or not
-  pub ran : Ran plan held held' sunk sunk' ending
-  -- done: the text that is defined was appended
-  pub done_means : ending ≡ done → (o : Result Bytes R) → outcome held.told plan ≡ Some o → IsOkAnd o (λ text. Appends sunk sunk' text)
-  -- a refusal is the first one
-  pub refused_means : (refusal : R) → ending ≡ refused refusal → (o : Result Bytes R) → outcome held.told plan ≡ Some o → o ≡ Err refusal
-  -- a file was not read: its count rose under the name that the words give it
-  pub unread_means : (file : File) → ending ≡ unread file → IsSomeAnd (names file) (λ name. Rose (held.faults file name) (held'.faults file name))
-  -- not all was written: the output's count rose, and a prefix of the defined text was appended
-  pub unwritten_means : ending ≡ unwritten → Rose sunk.faults sunk'.faults
-      × ((o : Result Bytes R) → outcome held.told plan ≡ Some o → IsOkAnd o (λ text. AppendsPrefix sunk sunk' text))
-  -- nothing is appended with any other ending
-  pub nothing : (ending ≡ done) ⊎ (ending ≡ unwritten) ⊎ (sunk' ≡ sunk)
-  -- where the first refusal is told and no file's count rose, it is answered, or memory ran out
-  pub refuses : (refusal : R) → outcome held.told plan ≡ Some (Err refusal) → NoFault names held held'
-      → (ending ≡ refused refusal) ⊎ (ending ≡ no_memory)
-  -- where all is accepted and no count rose, the command is done, or memory ran out
-  pub complete : (text : Bytes) → outcome held.told plan ≡ Some (Ok text) → NoFault names held held' → ¬ Rose sunk.faults sunk'.faults
-      → (ending ≡ done) ⊎ (ending ≡ no_memory)
+module _ {A J : Type 0} (stages : A → List (Stage J)) where
+  -- it is written by one call, and no job is run for it
+  abbrev pub IsOnce : A → Type 0
+  IsOnce a = length (stages a) ≤ 1
+
+  abbrev pub RunsNone : A → Type 0
+  RunsNone a = jobs_of (stages a) ≡ []
+
+module _ {R A J D : Type 0} (leaves : J → D → D) (stages : A → List (Stage J)) where
+  -- what an ending means, where the shelf went from held to held', the output from sunk to sunk', and what is driven from driven to driven'
+  pub record Answers (plan : Plan R A) (names : File → Option Bytes) (held held' : Held) (sunk sunk' : Sunk) (driven driven' : D) (ending : Ending R) : Type 0 where
+    -- the plan was carried out, over the bytes that were read, told or not
+    pub ran : Ran leaves stages plan held held' sunk sunk' driven driven' ending
+    -- done: the text that is defined was appended, and all jobs were run
+    pub done_means : ending ≡ done → (o : Result A R) → outcome held.told plan ≡ Some o
+        → IsOkAnd o (λ a. Appends sunk sunk' (text_of (stages a)) × (driven' ≡ after_jobs leaves (jobs_of (stages a)) driven))
+    -- a refusal is the first one
+    pub refused_means : (refusal : R) → ending ≡ refused refusal → (o : Result A R) → outcome held.told plan ≡ Some o → o ≡ Err refusal
+    -- a file was not read: its count rose under the name that the words give it
+    pub unread_means : (file : File) → ending ≡ unread file → IsSomeAnd (names file) (λ name. Rose (held.faults file name) (held'.faults file name))
+    -- not all was written: the output's count rose, and a prefix of the defined text was appended
+    pub unwritten_means : ending ≡ unwritten → Rose sunk.faults sunk'.faults
+        × ((o : Result A R) → outcome held.told plan ≡ Some o → IsOkAnd o (λ a. AppendsPrefix sunk sunk' (text_of (stages a)) × RunsSome leaves (jobs_of (stages a)) driven driven'))
+    -- memory ran out: before anything was written and any job was run, or between two stages
+    pub wanting_means : ending ≡ no_memory → ((sunk' ≡ sunk) × (driven' ≡ driven))
+        ⊎ ((o : Result A R) → outcome held.told plan ≡ Some o → IsOkAnd o (λ a. AppendsSome (stages a) sunk sunk' × RunsSome leaves (jobs_of (stages a)) driven driven'))
+    -- nothing is appended and no job is run with any other ending
+    pub nothing : (ending ≡ done) ⊎ (ending ≡ unwritten) ⊎ (ending ≡ no_memory) ⊎ ((sunk' ≡ sunk) × (driven' ≡ driven))
+    -- nor with want of memory, where all is written by one call
+    pub once : GivesOnly (IsOnce stages) plan → (ending ≡ done) ⊎ (ending ≡ unwritten) ⊎ (sunk' ≡ sunk)
+    -- nothing is driven where there are no jobs
+    pub idle : GivesOnly (RunsNone stages) plan → driven' ≡ driven
+    -- where the first refusal is told and no file's count rose, it is answered, or memory ran out
+    pub refuses : (refusal : R) → outcome held.told plan ≡ Some (Err refusal) → NoFault names held held'
+        → (ending ≡ refused refusal) ⊎ (ending ≡ no_memory)
+    -- where all is accepted and no count rose, the command is done, or memory ran out
+    pub complete : (a : A) → outcome held.told plan ≡ Some (Ok a) → NoFault names held held' → ¬ Rose sunk.faults sunk'.faults
+        → (ending ≡ done) ⊎ (ending ≡ no_memory)
+
+-- the texts of some first stages are a prefix of the whole text
+abbrev pub SomeAreAPrefix : Type 0 → Type 0
+SomeAreAPrefix J = (stages : List (Stage J)) (old new : Sunk) → AppendsSome stages old new → AppendsPrefix old new (text_of stages)
+
+-- A plan that reads each file under the name that the words give it, and was carried out, answers.
+abbrev pub PlansAnswer : (R A J D : Type 0) → Type 0
+PlansAnswer R A J D = (leaves : J → D → D) (stages : A → List (Stage J)) (plan : Plan R A) (names : File → Option Bytes)
+    (held held' : Held) (sunk sunk' : Sunk) (driven driven' : D) (ending : Ending R) → ReadsOnly names plan
+    → Ran leaves stages plan held held' sunk sunk' driven driven' ending → Answers leaves stages plan names held held' sunk sunk' driven driven' ending

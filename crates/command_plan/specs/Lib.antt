@@ -1,4 +1,5 @@
 pub mod Plan
 pub mod Ending
+pub mod Stage
 pub mod Run
 pub mod Answers

@@ -1,11 +1,12 @@
 -- What carrying out a plan may do, whether or not the files are told.
-use Rattle.std.specs.Prelude.{◌≡◌, ◌<◌, ◌⊎◌, length, Result, Ok, Err, IfSome, true, false}
+use Rattle.std.specs.Prelude.{◌≡◌, ◌<◌, ◌⊎◌, List, [], ◌∷◌, length, Result, Ok, Err, IfSome, false}
 use Rattle.outside.specs.Bytes.{Bytes}
 use Rattle.outside.specs.Faults.{Rose}
 use Rattle.outside.specs.Shelf.{Held, IsRead, OthersStay, Stays, file_bound}
-use Rattle.outside.specs.Sink.{Sunk, Wrote}
+use Rattle.outside.specs.Sink.{Sunk, Appends, Wrote}
 use Rattle.outside.specs.declared.file.File.{File}
 use Rattle.command_plan.specs.Plan.{Plan, give, refuse, read}
+use Rattle.command_plan.specs.Stage.{Stage, after_jobs, RunsSome}
 use Rattle.command_plan.specs.Ending.{Ending, done, refused, unread, unwritten, no_memory}
 
 -- no count of faults changed
@@ -13,7 +14,7 @@ abbrev pub SameFaults : Held → Held → Type 0
 SameFaults old new = (file : File) (name : Bytes) → new.faults file name ≡ old.faults file name
 
 -- this answer, and no count changed; or want of memory in its place
-abbrev pub Gives : {R : Type 0} → Held → Held → Result Bytes (Ending R) → Result Bytes (Ending R) → Type 0
+abbrev pub Gives : {R A : Type 0} → Held → Held → Result A (Ending R) → Result A (Ending R) → Type 0
 Gives old new answer made = ((made ≡ answer) × SameFaults old new) ⊎ (made ≡ Err no_memory)
 
 -- these bytes of a file were read, and no other file was asked for
@@ -28,27 +29,35 @@ FailsToRead file name too_long old new (refused refusal) =
 FailsToRead file name too_long old new no_memory = Unit {0}
 FailsToRead file name too_long old new _ = ⊥
 
--- What the plan may make of a shelf that goes from old to new: the text, or why there is none. Each file is asked for in its turn
--- alone, so the counts of a file whose turn does not come stay as they are, unless memory runs out.
-pub data Makes {R : Type 0} : Held → Held → Plan R → Result Bytes (Ending R) → Type 0 where
-  gives : {old new : Held} {text : Bytes} {made : Result Bytes (Ending R)} → Gives old new (Ok text) made → Makes old new (give text) made
-  refuses : {old new : Held} {refusal : R} {made : Result Bytes (Ending R)} → Gives old new (Err (refused refusal)) made → Makes old new (refuse refusal) made
-  not_read : {old new : Held} {file : File} {name : Bytes} {too_long : R} {next : Bytes → Plan R} {ending : Ending R}
+-- What the plan may give of a shelf that goes from old to new: what is to be made, or why there is nothing. Each file is asked for in its
+-- turn alone, so the counts of a file whose turn does not come stay as they are, unless memory runs out.
+pub data Makes {R A : Type 0} : Held → Held → Plan R A → Result A (Ending R) → Type 0 where
+  gives : {old new : Held} {a : A} {made : Result A (Ending R)} → Gives old new (Ok a) made → Makes old new (give a) made
+  refuses : {old new : Held} {refusal : R} {made : Result A (Ending R)} → Gives old new (Err (refused refusal)) made → Makes old new (refuse refusal) made
+  not_read : {old new : Held} {file : File} {name : Bytes} {too_long : R} {next : Bytes → Plan R A} {ending : Ending R}
       → FailsToRead file name too_long old new ending → Makes old new (read file name too_long next) (Err ending)
-  was_read : {old new : Held} {file : File} {name : Bytes} {too_long : R} {next : Bytes → Plan R} {made : Result Bytes (Ending R)} (between : Held) (bytes : Bytes)
+  was_read : {old new : Held} {file : File} {name : Bytes} {too_long : R} {next : Bytes → Plan R A} {made : Result A (Ending R)} (between : Held) (bytes : Bytes)
       → WasRead file name old between bytes → Makes between new (next bytes) made → Makes old new (read file name too_long next) made
 
--- the text was written whole, or in part and the sink's count rose
-abbrev pub Writes : {R : Type 0} → Bytes → Sunk → Sunk → Ending R → Type 0
-Writes text old new done = Wrote old new text true
-Writes text old new unwritten = Wrote old new text false
-Writes text old new _ = ⊥
+module _ {R J D : Type 0} (leaves : J → D → D) where
+  -- It stopped at this stage: memory ran out before its text was written, or not all of the text was written and the sink's count rose.
+  abbrev pub Stops : Stage J → Sunk → Sunk → D → D → Ending R → Type 0
+  Stops stage sunk sunk' d d' no_memory = (sunk' ≡ sunk) × RunsSome leaves stage.jobs d d'
+  Stops stage sunk sunk' d d' unwritten = Wrote sunk sunk' stage.text false × (d' ≡ after_jobs leaves stage.jobs d)
+  Stops stage sunk sunk' d d' _ = ⊥
 
--- what was made is written; where there is no text, that is the ending and nothing is written
-abbrev pub Ends : {R : Type 0} → Result Bytes (Ending R) → Sunk → Sunk → Ending R → Type 0
-Ends (Ok text) old new ending = Writes text old new ending
-Ends (Err stop) old new ending = (ending ≡ stop) × (new ≡ old)
+  -- the stages were performed, one after another: the jobs of each were run to their ends, and then its text was appended
+  abbrev pub Performs : List (Stage J) → Sunk → Sunk → D → D → Ending R → Type 0
+  Performs [] sunk sunk' d d' ending = (ending ≡ done) × (sunk' ≡ sunk) × (d' ≡ d)
+  Performs (stage ∷ stages) sunk sunk' d d' ending =
+      Stops stage sunk sunk' d d' ending ⊎ ((mid : Sunk) × Appends sunk mid stage.text × Performs stages mid sunk' (after_jobs leaves stage.jobs d) d' ending)
 
--- the plan was carried out: something was made, and then written
-abbrev pub Ran : {R : Type 0} → Plan R → Held → Held → Sunk → Sunk → Ending R → Type 0
-Ran {R} plan held held' sunk sunk' ending = (made : Result Bytes (Ending R)) × Makes held held' plan made × Ends made sunk sunk' ending
+  module _ {A : Type 0} (stages : A → List (Stage J)) where
+    -- what was given is performed; where nothing was, that is the ending, nothing is written and no job is run
+    abbrev pub Ends : Result A (Ending R) → Sunk → Sunk → D → D → Ending R → Type 0
+    Ends (Ok a) sunk sunk' d d' ending = Performs (stages a) sunk sunk' d d' ending
+    Ends (Err stop) sunk sunk' d d' ending = (ending ≡ stop) × (sunk' ≡ sunk) × (d' ≡ d)
+
+    -- the plan was carried out: something was given, and then performed
+    abbrev pub Ran : Plan R A → Held → Held → Sunk → Sunk → D → D → Ending R → Type 0
+    Ran plan held held' sunk sunk' d d' ending = (made : Result A (Ending R)) × Makes held held' plan made × Ends made sunk sunk' d d' ending

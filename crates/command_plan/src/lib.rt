@@ -1,27 +1,24 @@
 //! A command as a plan, and what each of its endings means.
 //!
-//! A plan says which file a command reads next, under which name, and in the end the text that it
-//! writes or its first refusal. It is generic in the refusals. Carrying a plan out makes a text or
-//! says why there is none, and then writes the text. What the endings then mean is proved here once
-//! for all plans, so a command need only show that it carries its own plan out.
+//! A plan says which file a command reads next, under which name, and in the end what is to be made or
+//! its first refusal. What is to be made is a list of stages: jobs that are run to their ends, and then
+//! a text that is written by one call. A command that only writes has one stage and no job. What the
+//! endings mean is proved here once for all plans, so that a command need only show that it carries its
+//! own plan out. The top call (`syndex_program`) and the loop over windows stand on it.
 #![tactic(auto)]
 
-ghost use Rattle.std.specs.Prelude.{Option};
-ghost use Rattle.outside.specs.Bytes.{Bytes};
-ghost use Rattle.outside.specs.Shelf.{Held};
-ghost use Rattle.outside.specs.Sink.{Sunk};
-ghost use Rattle.outside.specs.declared.file.File.{File};
-ghost use Rattle.command_plan.specs.Plan.{Plan, ReadsOnly};
-ghost use Rattle.command_plan.specs.Ending.{Ending};
-ghost use Rattle.command_plan.specs.Run.{Ran};
-ghost use Rattle.command_plan.specs.Answers.{Answers};
+ghost use Rattle.command_plan.specs.Answers.{PlansAnswer, SomeAreAPrefix};
 
 /// The law of plans: where a plan reads each file under the name that the words give it and was
-/// carried out, its ending means what it says. Done means that the defined text was appended, each
-/// other ending comes only for its cause and in the plan's order, only a prefix is appended after a
-/// fault of the output, and where all is accepted and nothing fails the command is done, unless
-/// memory ran out.
-pub fn plans_answer<R>()
-    ensures { (plan : Plan R) (names : File → Option Bytes) (held held' : Held) (sunk sunk' : Sunk) (ending : Ending R)
-        → ReadsOnly names plan → Ran plan held held' sunk sunk' ending → Answers plan names held held' sunk sunk' ending }
+/// carried out, its ending means what it says. Done means that the defined text was appended and all
+/// jobs were run, each other ending comes only for its cause and in the plan's order, only a prefix is
+/// appended after a fault of the output, and where all is accepted and nothing fails the command is
+/// done, unless memory ran out.
+pub fn plans_answer<R, A, J, D>()
+    ensures { PlansAnswer R A J D }
+{}
+
+/// What stands on the output where memory ran out between two stages is a prefix of the whole text.
+pub fn some_are_a_prefix<J>()
+    ensures { SomeAreAPrefix J }
 {}
