@@ -144,3 +144,23 @@ module _ (p : Program) (role : Role) (n : ℕ) where
   lone_is s = same_tests (lone s (marks_of p role n)) (is_only p (test_of role n) s (first_place s))
       (λ h. ap (is_only p (test_of role n) s) (sym (lone_at s h)) ∙ to_only (marks_of p role n) s refl h)
       (λ h. to_lone (marks_of p role n) s (first_place s) refl h)
+
+  -- where one instruction alone is such, the first place is its place
+  pub record FirstIs (s a : ℕ) : Type 0 where
+    pub first : Mark
+    pub others : List Mark
+    pub is : marks_of p role n ≡ first ∷ others
+    pub sequence : first.sequence ≡ s
+    pub at : first.at ≡ a
+
+  pub only_first : (s a : ℕ) → is_only p (test_of role n) s a ≡ true → FirstIs s a
+  only_first s a h = by (marks_of p role n) refl (ap (list_all (here s a)) refl ∙ stands_are (λ t b. nat_eq t s && nat_eq b a) n p role ∙ parts.1) (to_lone (marks_of p role n) s a refl h)
+    where
+      parts : (passes (test_of role n) (slice_get (turn p s) a) ≡ true) × (every p (λ t b y. implies (test_of role n y) (nat_eq t s && nat_eq b a)) ≡ true)
+      parts = and_parts (passes (test_of role n) (slice_get (turn p s) a)) (every p (λ t b y. implies (test_of role n y) (nat_eq t s && nat_eq b a))) h
+
+      by : (ms : List Mark) → marks_of p role n ≡ ms → list_all (here s a) (marks_of p role n) ≡ true → lone s (marks_of p role n) ≡ true → FirstIs s a
+      by [] e l k = absurd (false≢true (ap (lone s) (sym e) ∙ k))
+      by (m ∷ ms) e l k =
+          let one = and_parts (nat_eq m.sequence s) (nat_eq m.at a) (and_parts (here s a m) (list_all (here s a) ms) (ap (list_all (here s a)) (sym e) ∙ l)).0 in
+          record { first = m; others = ms; is = e; sequence = eqb-true m.sequence s one.0; at = eqb-true m.at a one.1 }

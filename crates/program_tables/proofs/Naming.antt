@@ -14,7 +14,7 @@ use Rattle.program_walks.specs.Walks.{all_at, every, implies}
 use Rattle.program_tables.specs.declared.roles.Role.{Role}
 use Rattle.program_tables.specs.Marks.{named, names, marks_at, marks_in, marks_from, marks_of}
 
-abbrev of_number : ℕ → Mark → Bool
+abbrev pub of_number : ℕ → Mark → Bool
 of_number n m = nat_eq m.number n
 
 module _ (f : ℕ → ℕ → ℕ → Bool) (n : ℕ) where
@@ -104,7 +104,7 @@ module _ (role : Role) (n : ℕ) where
   abbrev pub port_in : List Instr → ℕ
   port_in xs = position_or_len (λ c. nat_eq c n) (named_in role (slice_get xs (position_or_len (names role n) xs)))
 
-  first_in : (s a : ℕ) (xs : List Instr) → IsFirst (filter (of_number n) (marks_in role s a xs)) (list_any (names role n) xs) s (a + position_or_len (names role n) xs) (port_in xs)
+  pub first_in : (s a : ℕ) (xs : List Instr) → IsFirst (filter (of_number n) (marks_in role s a xs)) (list_any (names role n) xs) s (a + position_or_len (names role n) xs) (port_in xs)
   first_in s a [] = refl
   first_in s a (x ∷ xs) = first_here (first_in s (a + 1) xs)
     where
