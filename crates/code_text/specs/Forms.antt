@@ -1,8 +1,7 @@
 -- The forms of a line of macro-code, and of its arguments.
 use Rattle.std.specs.Prelude.{ℕ, ◌+◌, ◌-◌, Bool, true, false, not, ◌&&◌, ◌||◌, ◌==◌, if◌then◌else◌, nat_le, List, [], ◌∷◌, take, drop, length, Option, Some, None, Result, Ok, Err, ℤ, pos, negsuc, codes}
-use Rattle.std.specs.List.{list_any, position_or_len}
+use Rattle.std.specs.List.{list_any, position_or_len, slice_split}
 use Rattle.std.specs.Str.{bytes_eq}
-use Rattle.text_lines.specs.Text.{with_byte}
 use Rattle.syn_base.specs.Name.{is_name}
 use Rattle.syn_base.specs.Integer.{integer_of}
 use Rattle.syn_base.specs.declared.integer.NumFault.{NumFault}
@@ -101,15 +100,10 @@ found_in (m ∷ ms) name = if bytes_eq name (word_of m) then Some m else found_i
 unfoldable pub macro_of : Bytes → Option Macro
 macro_of name = found_in macros name
 
--- what commas separate
-abbrev pub pieces : Bytes → List Bytes
-pieces [] = [] ∷ []
-pieces (b ∷ bs) = if is_comma b then [] ∷ pieces bs else with_byte b (pieces bs)
-
--- nothing is no argument
+-- what commas separate; nothing is no argument
 abbrev pub arguments_of : Bytes → List Bytes
 arguments_of [] = []
-arguments_of (b ∷ bs) = pieces (b ∷ bs)
+arguments_of (b ∷ bs) = slice_split is_comma (b ∷ bs)
 
 abbrev pub natural : Result ℤ NumFault → Option ℕ
 natural (Ok (pos n)) = Some n

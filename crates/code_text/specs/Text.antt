@@ -75,14 +75,26 @@ refused line cause = Err (Refused (record { line = line; cause = cause }))
 abbrev pub above : {A : Type 0} → LimitKind → ℕ → Result A CodeError
 above which count = Err (Limit (record { which = which; count = count; bound = bound_of which }))
 
--- what there is, or the refusal where there is nothing
-abbrev pub with_some : {A B : Type 0} → Option A → Result B CodeError → (A → Result B CodeError) → Result B CodeError
-with_some (Some x) missing go = go x
-with_some None missing go = missing
-
 abbrev pub and_then : {A B : Type 0} → Result A CodeError → (A → Result B CodeError) → Result B CodeError
 and_then (Ok x) go = go x
 and_then (Err e) go = Err e
+
+-- What there is. Where there is nothing, the form of an argument is wrong, the line has no form, or a name is unknown.
+abbrev pub argument : {A : Type 0} → ℕ → Option A → Result A CodeError
+argument n None = refused n BadArgument
+argument n (Some x) = Ok x
+
+abbrev pub known : {A : Type 0} → ℕ → Bytes → Option A → Result A CodeError
+known n w None = refused n (UnknownName w)
+known n w (Some x) = Ok x
+
+abbrev pub known_macro : ℕ → Bytes → Option Macro → Result Macro CodeError
+known_macro n w None = refused n (UnknownMacro w)
+known_macro n w (Some m) = Ok m
+
+abbrev pub formed : ℕ → Option Form → Result Form CodeError
+formed n None = refused n BadLine
+formed n (Some f) = Ok f
 
 -- The arguments of a line: none where it has no parentheses. A line without parentheses, with one argument, with two.
 abbrev pub Arguments : Type 0
@@ -98,15 +110,24 @@ one_of (Some []) = None
 one_of (Some (w ∷ [])) = Some w
 one_of (Some (w ∷ v ∷ ws)) = None
 
-abbrev pub with_one : {A : Type 0} → ℕ → Arguments → (Bytes → Result A CodeError) → Result A CodeError
-with_one n arguments go = with_some (one_of arguments) (refused n BadArgument) go
+pub record Two : Type 0 where
+  pub first : Bytes
+  pub second : Bytes
 
-abbrev pub with_two : {A : Type 0} → ℕ → Arguments → (Bytes → Bytes → Result A CodeError) → Result A CodeError
-with_two n None go = refused n BadArgument
-with_two n (Some []) go = refused n BadArgument
-with_two n (Some (w ∷ [])) go = refused n BadArgument
-with_two n (Some (w ∷ v ∷ [])) go = go w v
-with_two n (Some (w ∷ v ∷ u ∷ ws)) go = refused n BadArgument
+abbrev pub two_of : Arguments → Option Two
+two_of None = None
+two_of (Some []) = None
+two_of (Some (w ∷ [])) = None
+two_of (Some (w ∷ v ∷ [])) = Some (record { first = w; second = v })
+two_of (Some (w ∷ v ∷ u ∷ ws)) = None
+
+-- a word that is a name
+abbrev pub named : Bytes → Option Bytes
+named w = if is_name w then Some w else None
+
+-- one argument, which is a name
+abbrev pub name_of : ℕ → Arguments → Result Bytes CodeError
+name_of n arguments = and_then (argument n (one_of arguments)) (λ w. argument n (named w))
 
 abbrev pub place_in : List Bytes → Bytes → Option ℕ
 place_in names w = position (bytes_eq w) names
@@ -127,10 +148,14 @@ abbrev pub is_known : List ℕ → Option ℕ → Bool
 is_known here None = false
 is_known here (Some n) = is_among here n
 
--- the first of these words whose buffer is not declared here is told
-abbrev pub all_known : {A : Type 0} → ℕ → List ℕ → List Bytes → Result A CodeError → Result A CodeError
-all_known n here [] go = go
-all_known n here (w ∷ ws) go = if is_known here (buffer_in w) then all_known n here ws go else refused n (UnknownName w)
+-- the first of these words whose buffer is not declared here
+abbrev pub first_unknown : List ℕ → List Bytes → Option Bytes
+first_unknown here [] = None
+first_unknown here (w ∷ ws) = if is_known here (buffer_in w) then first_unknown here ws else Some w
+
+abbrev pub unless_unknown : {A : Type 0} → ℕ → Option Bytes → Result A CodeError → Result A CodeError
+unless_unknown n None go = go
+unless_unknown n (Some w) go = refused n (UnknownName w)
 
 -- Where a line may stand.
 abbrev pub is_outside : Stage → Bool
@@ -214,11 +239,14 @@ numbered line number = record { number = number; line = line }
 abbrev pub with_pairs : Reading → ℕ → List ℕ → Reading
 with_pairs r n qs = record r { stage = Declared; pairs = r.pairs ++ map (numbered n) qs; owners = r.owners ++ map (λ _. operator_here r) qs; pairs_here = qs }
 
+abbrev pub ascending : ℕ → List ℕ → Result (List ℕ) CodeError
+ascending n qs = if ascends_from 0 qs then Ok qs else refused n BadArgument
+
+abbrev pub pairs_of : ℕ → Arguments → Result (List ℕ) CodeError
+pairs_of n arguments = and_then (argument n arguments) (λ ws. and_then (argument n (each_in number_in ws)) (λ qs. ascending n qs))
+
 abbrev pub semaphores_line : Reading → ℕ → Arguments → Result Reading CodeError
-semaphores_line r n arguments =
-    with_some arguments (refused n BadArgument) (λ ws.
-    with_some (each_in number_in ws) (refused n BadArgument) (λ qs.
-    if ascends_from 0 qs then Ok (with_pairs r n qs) else refused n BadArgument))
+semaphores_line r n arguments = and_then (pairs_of n arguments) (λ qs. Ok (with_pairs r n qs))
 
 -- alloc_(bN,LEN) and alloc_(bN,LEN,PLACES)
 abbrev pub with_buffer : Reading → ℕ → Declaration → Reading
@@ -228,11 +256,14 @@ with_buffer r n d = record r {
   buffers_here = r.buffers_here ++ d.number ∷ [];
 }
 
+abbrev pub declaration_of : Reading → ℕ → Arguments → Result Declaration CodeError
+declaration_of r n arguments =
+    and_then (argument n arguments) (λ ws.
+    and_then (argument n (declaration_in ws)) (λ d.
+    if follows (last_of r.buffers_here) d.number then Ok d else refused n BadArgument))
+
 abbrev pub alloc_line : Reading → ℕ → Arguments → Result Reading CodeError
-alloc_line r n arguments =
-    with_some arguments (refused n BadArgument) (λ ws.
-    with_some (declaration_in ws) (refused n BadArgument) (λ d.
-    if follows (last_of r.buffers_here) d.number then Ok (with_buffer r n d) else refused n BadArgument))
+alloc_line r n arguments = and_then (declaration_of r n arguments) (λ d. Ok (with_buffer r n d))
 
 -- main_
 abbrev pub main_line : Reading → ℕ → Arguments → Result Reading CodeError
@@ -253,69 +284,102 @@ abbrev pub end_main_line : Reading → ℕ → Arguments → Result Reading Code
 end_main_line r n arguments = without n arguments (Ok (record r { stage = Outside; seqs = r.seqs ++ (code_here r ∷ r.threads) }))
 
 -- Suc0_(q) and its like
+abbrev pub pair_of : Reading → ℕ → Arguments → Result ℕ CodeError
+pair_of r n arguments =
+    and_then (argument n (one_of arguments)) (λ w.
+    and_then (argument n (number_in w)) (λ q.
+    if is_among r.pairs_here q then Ok q else refused n (UnknownName w)))
+
 abbrev pub pair_line : Reading → ℕ → (ℕ → Instr) → Arguments → Result Reading CodeError
-pair_line r n make arguments =
-    with_one n arguments (λ w.
-    with_some (number_in w) (refused n BadArgument) (λ q.
-    if is_among r.pairs_here q then Ok (with_instr r (make q)) else refused n (UnknownName w)))
+pair_line r n make arguments = and_then (pair_of r n arguments) (λ q. Ok (with_instr r (make q)))
+
+-- a buffer of this processor
+abbrev pub buffer_here : Reading → ℕ → Bytes → ℕ → Result ℕ CodeError
+buffer_here r n w b = if is_among r.buffers_here b then Ok b else refused n (UnknownName w)
+
+-- a medium by its name and its number
+pub record Joined : Type 0 where
+  pub word : Bytes
+  pub medium : ℕ
+
+-- a buffer and the operator to which it goes or from which it comes, and two operators
+pub record Moved : Type 0 where
+  pub buffer : ℕ
+  pub operator : ℕ
+
+pub record Ends : Type 0 where
+  pub from : ℕ
+  pub to : ℕ
 
 module _ (a : Architecture) where
   abbrev pub medium_names : List Bytes
   medium_names = map (λ m. m.name) a.media
 
-  abbrev pub with_operator : {A : Type 0} → ℕ → Bytes → (ℕ → Result A CodeError) → Result A CodeError
-  with_operator n w go = with_some (place_in a.operators w) (refused n (UnknownName w)) go
+  abbrev pub operator_of : ℕ → Bytes → Result ℕ CodeError
+  operator_of n w = known n w (place_in a.operators w)
 
   -- processor_(OPERATOR)
+  abbrev pub processor_of : Reading → ℕ → Arguments → Result ℕ CodeError
+  processor_of r n arguments =
+      and_then (name_of n arguments) (λ w.
+      and_then (operator_of n w) (λ o.
+      if follows r.operator o then Ok o else refused n BadArgument))
+
   abbrev pub at_processor : Reading → ℕ → Reading
   at_processor r o = record r { stage = Named; operator = Some o; pairs_here = []; buffers_here = []; media = []; threads = [] }
 
   abbrev pub processor_line : Reading → ℕ → Arguments → Result Reading CodeError
-  processor_line r n arguments =
-      with_one n arguments (λ w.
-      if not (is_name w) then refused n BadArgument else
-      with_operator n w (λ o.
-      if follows r.operator o then Ok (at_processor r o) else refused n BadArgument))
+  processor_line r n arguments = and_then (processor_of r n arguments) (λ o. Ok (at_processor r o))
 
-  -- A medium that is above the last one of these. Where it is not there, the name is unknown.
-  abbrev pub with_medium : {A : Type 0} → ℕ → List ℕ → Arguments → (Bytes → ℕ → Result A CodeError) → Result A CodeError
-  with_medium n media arguments go =
-      with_one n arguments (λ w.
-      if not (is_name w) then refused n BadArgument else
-      with_some (place_in medium_names w) (refused n (UnknownName w)) (λ m.
-      if follows (last_of media) m then go w m else refused n BadArgument))
+  -- a medium that is above the last one of these
+  abbrev pub medium_of : ℕ → List ℕ → Arguments → Result Joined CodeError
+  medium_of n media arguments =
+      and_then (name_of n arguments) (λ w.
+      and_then (known n w (place_in medium_names w)) (λ m.
+      if follows (last_of media) m then Ok (record { word = w; medium = m }) else refused n BadArgument))
 
   -- thread_(MEDIUM)
+  abbrev pub at_thread : Reading → ℕ → Reading
+  at_thread r m = record r { stage = Prologue; media = r.media ++ m ∷ []; medium = Some m; prologue = []; turn = [] }
+
   abbrev pub thread_line : Reading → ℕ → Arguments → Result Reading CodeError
-  thread_line r n arguments =
-      with_medium n r.media arguments (λ w m. Ok (record r { stage = Prologue; media = r.media ++ m ∷ []; medium = Some m; prologue = []; turn = [] }))
+  thread_line r n arguments = and_then (medium_of n r.media arguments) (λ j. Ok (at_thread r j.medium))
 
   -- spawn_thread_(MEDIUM) and wait_endthread_(MEDIUM), of a thread of this processor
+  abbrev pub thread_of : Reading → ℕ → List ℕ → Arguments → Result ℕ CodeError
+  thread_of r n media arguments =
+      and_then (medium_of n media arguments) (λ j.
+      if is_among r.media j.medium then Ok j.medium else refused n (UnknownName j.word))
+
   abbrev pub spawn_line : Reading → ℕ → Arguments → Result Reading CodeError
-  spawn_line r n arguments =
-      with_medium n r.spawned arguments (λ w m.
-      if is_among r.media m then Ok (record r { spawned = r.spawned ++ m ∷ [] }) else refused n (UnknownName w))
+  spawn_line r n arguments = and_then (thread_of r n r.spawned arguments) (λ m. Ok (record r { spawned = r.spawned ++ m ∷ [] }))
 
   abbrev pub wait_line : Reading → ℕ → Arguments → Result Reading CodeError
-  wait_line r n arguments =
-      with_medium n r.awaited arguments (λ w m.
-      if is_among r.media m then Ok (record r { awaited = r.awaited ++ m ∷ [] }) else refused n (UnknownName w))
+  wait_line r n arguments = and_then (thread_of r n r.awaited arguments) (λ m. Ok (record r { awaited = r.awaited ++ m ∷ [] }))
 
   -- send_(bN,TO) and recv_(bN,FROM)
+  abbrev pub moved_of : Reading → ℕ → Arguments → Result Moved CodeError
+  moved_of r n arguments =
+      and_then (argument n (two_of arguments)) (λ t.
+      and_then (argument n (buffer_in t.first)) (λ b.
+      and_then (argument n (named t.second)) (λ _.
+      and_then (buffer_here r n t.first b) (λ _.
+      and_then (operator_of n t.second) (λ o. Ok (record { buffer = b; operator = o }))))))
+
   abbrev pub transfer_line : Reading → ℕ → (ℕ → ℕ → Instr) → Arguments → Result Reading CodeError
-  transfer_line r n make arguments =
-      with_two n arguments (λ w v.
-      with_some (buffer_in w) (refused n BadArgument) (λ b.
-      if not (is_name v) then refused n BadArgument else
-      if not (is_among r.buffers_here b) then refused n (UnknownName w) else
-      with_operator n v (λ o. Ok (with_instr r (make b o)))))
+  transfer_line r n make arguments = and_then (moved_of r n arguments) (λ t. Ok (with_instr r (make t.buffer t.operator)))
 
   -- sync_(FROM,TO)
+  abbrev pub ends_of : ℕ → Arguments → Result Ends CodeError
+  ends_of n arguments =
+      and_then (argument n (two_of arguments)) (λ t.
+      and_then (argument n (named t.first)) (λ _.
+      and_then (argument n (named t.second)) (λ _.
+      and_then (operator_of n t.first) (λ from.
+      and_then (operator_of n t.second) (λ to. Ok (record { from = from; to = to }))))))
+
   abbrev pub sync_line : Reading → ℕ → Arguments → Result Reading CodeError
-  sync_line r n arguments =
-      with_two n arguments (λ w v.
-      if not (is_name w) || not (is_name v) then refused n BadArgument else
-      with_operator n w (λ from. with_operator n v (λ to. Ok (with_instr r (instr.Sync from to)))))
+  sync_line r n arguments = and_then (ends_of n arguments) (λ e. Ok (with_instr r (instr.Sync e.from e.to)))
 
   abbrev pub macro_line : Reading → ℕ → Arguments → Macro → Result Reading CodeError
   macro_line r n arguments Processor = processor_line r n arguments
@@ -338,24 +402,29 @@ module _ (a : Architecture) where
   macro_line r n arguments Sync = sync_line r n arguments
 
   -- A macro that stands where it may not is told before its arguments, and an unknown one wherever it stands.
+  abbrev pub placed_line : Reading → ℕ → Arguments → Macro → Result Reading CodeError
+  placed_line r n arguments m = if may_stand r m then macro_line r n arguments m else refused n BadLine
+
   abbrev pub named_line : Reading → ℕ → Bytes → Arguments → Result Reading CodeError
-  named_line r n name arguments =
-      with_some (macro_of name) (refused n (UnknownMacro name)) (λ m.
-      if may_stand r m then macro_line r n arguments m else refused n BadLine)
+  named_line r n name arguments = and_then (known_macro n name (macro_of name)) (placed_line r n arguments)
 
 module _ (g : Graph) where
   abbrev pub operation_names : List Bytes
   operation_names = map (λ x. x.name) g.vertices
 
   -- op OPERATION(INS;OUTS)
-  abbrev pub op_line : Reading → ℕ → Bytes → List Bytes → List Bytes → Result Reading CodeError
-  op_line r n operation ins outs =
-      with_some (each_in buffer_in ins) (refused n BadArgument) (λ is.
-      with_some (each_in buffer_in outs) (refused n BadArgument) (λ os.
-      with_some (place_in operation_names operation) (refused n (UnknownName operation)) (λ v.
-      all_known n r.buffers_here ins
-      (all_known n r.buffers_here outs
-      (Ok (with_instr r (instr.Call v is os)))))))
+  abbrev pub call_of : Reading → ℕ → Bytes → List Bytes → List Bytes → Result Instr CodeError
+  call_of r n operation ins outs =
+      and_then (argument n (each_in buffer_in ins)) (λ is.
+      and_then (argument n (each_in buffer_in outs)) (λ os.
+      and_then (known n operation (place_in operation_names operation)) (λ v.
+      unless_unknown n (first_unknown r.buffers_here ins)
+      (unless_unknown n (first_unknown r.buffers_here outs)
+      (Ok (instr.Call v is os))))))
+
+  abbrev pub call_line : Reading → ℕ → Bytes → List Bytes → List Bytes → Result Reading CodeError
+  call_line r n operation ins outs =
+      if takes_instr r then and_then (call_of r n operation ins outs) (λ x. Ok (with_instr r x)) else refused n BadLine
 
 -- of so many declarations, the line of the first that has a number of so many or more, or one that stands before it
 abbrev pub place_of : ℕ → List Numbered → Option ℕ
@@ -431,14 +500,14 @@ module _ (g : Graph) (a : Architecture) where
   abbrev pub line_of : Reading → ℕ → Form → Result Reading CodeError
   line_of r n (bare name) = named_line a r n name None
   line_of r n (listed name list) = named_line a r n name (Some (arguments_of list))
-  line_of r n (call operation ins outs) = if takes_instr r then op_line g r n operation (arguments_of ins) (arguments_of outs) else refused n BadLine
+  line_of r n (call operation ins outs) = call_line g r n operation (arguments_of ins) (arguments_of outs)
 
   -- a line without words says nothing
   abbrev pub line_by : Reading → ℕ → Bytes → Option ℕ → Result Reading CodeError
   line_by r n line (Some place) = refused n BadLine
   line_by r n line None =
       if nat_eq (length (words_of (code_of line))) 0 then Ok r else
-      with_some (form_of (words_of (code_of line))) (refused n BadLine) (line_of r n)
+      and_then (formed n (form_of (words_of (code_of line)))) (line_of r n)
 
   abbrev pub next_line : Reading → ℕ → Bytes → Result Reading CodeError
   next_line r n line = line_by r n line (foreign_place line)
