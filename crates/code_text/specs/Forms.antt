@@ -81,11 +81,15 @@ operation_form operation rest = if has_bytes operation && is_unmarked operation 
 abbrev pub call_form : Bytes → Option Form
 call_form w = if list_any is_open w then operation_form (before is_open w) (after is_open w) else None
 
+-- op and OPERATION(INS;OUTS)
+abbrev pub op_form : Bytes → Bytes → Option Form
+op_form o w = if bytes_eq o (codes "op") then call_form w else None
+
 -- the form of a line with these words
 abbrev pub form_of : List Bytes → Option Form
 form_of [] = None
 form_of (w ∷ []) = word_form w
-form_of (o ∷ w ∷ []) = if bytes_eq o (codes "op") then call_form w else None
+form_of (o ∷ w ∷ []) = op_form o w
 form_of (o ∷ w ∷ v ∷ ws) = None
 
 -- The macros, each once.

@@ -1,5 +1,5 @@
 -- What a text of macro-code says: its program, or its first refusal. Lines are numbered from 1.
-use Rattle.std.specs.Prelude.{ℕ, ◌+◌, ◌-◌, ◌*◌, max, cond, Bool, true, false, not, ◌&&◌, ◌||◌, nat_eq, nat_le, nat_lt, List, [], ◌∷◌, ◌++◌, length, map, position, slice_get, slice_index_or, Option, Some, None, is_some, Result, Ok, Err, if◌then◌else◌}
+use Rattle.std.specs.Prelude.{ℕ, ◌+◌, ◌-◌, ◌*◌, max, min, cond, Bool, true, false, not, ◌&&◌, ◌||◌, nat_eq, nat_le, nat_lt, List, [], ◌∷◌, ◌++◌, length, map, position, slice_get, slice_index_or, Option, Some, None, is_some, is_none, Result, Ok, Err, if◌then◌else◌}
 use Rattle.std.specs.List.{list_any, range_with_len, sum_by}
 use Rattle.std.specs.Str.{bytes_eq}
 use Rattle.interleavings.specs.Owners.{sum_below}
@@ -25,6 +25,7 @@ use Rattle.code_text.specs.declared.fault.CodeError.TheVariants.{Refused, Limit}
 use Rattle.code_text.specs.declared.fault.CodeCause.{CodeCause}
 use Rattle.code_text.specs.declared.fault.CodeCause.TheVariants.{BadLine, UnknownMacro, BadArgument, UnknownName}
 use Rattle.code_text.specs.declared.numbered.Numbered.{Numbered}
+use Rattle.code_text.specs.declared.numbered.Size.{Size}
 use Rattle.code_text.specs.declared.stage.Stage.{Stage}
 use Rattle.code_text.specs.declared.stage.Stage.TheVariants.{Outside, Named, Declared, Threaded, Prologue, Turn, Ended}
 use Rattle.code_text.specs.Forms.{Bytes, Form, bare, listed, call, form_of, macro_of, arguments_of, number_in, buffer_in, each_in, Declaration, declaration_in}
@@ -37,7 +38,7 @@ pub record Reading : Type 0 where
   pub pairs : List Numbered
   pub owners : List ℕ
   pub buffers : List Numbered
-  pub sizes : List Buffer
+  pub sizes : List Size
   pub seqs : List SeqCode
   pub pairs_here : List ℕ
   pub buffers_here : List ℕ
@@ -101,8 +102,7 @@ abbrev pub Arguments : Type 0
 Arguments = Option (List Bytes)
 
 abbrev pub without : {A : Type 0} → ℕ → Arguments → Result A CodeError → Result A CodeError
-without n None go = go
-without n (Some ws) go = refused n BadArgument
+without n arguments go = if is_none arguments then go else refused n BadArgument
 
 abbrev pub one_of : Arguments → Option Bytes
 one_of None = None
@@ -256,18 +256,19 @@ with_buffer r n d = record r {
   buffers_here = r.buffers_here ++ d.number ∷ [];
 }
 
-abbrev pub declaration_of : Reading → ℕ → Arguments → Result Declaration CodeError
-declaration_of r n arguments =
+-- above those that are declared here
+abbrev pub declaration_of : ℕ → List ℕ → Arguments → Result Declaration CodeError
+declaration_of n here arguments =
     and_then (argument n arguments) (λ ws.
     and_then (argument n (declaration_in ws)) (λ d.
-    if follows (last_of r.buffers_here) d.number then Ok d else refused n BadArgument))
+    if follows (last_of here) d.number then Ok d else refused n BadArgument))
 
 abbrev pub alloc_line : Reading → ℕ → Arguments → Result Reading CodeError
-alloc_line r n arguments = and_then (declaration_of r n arguments) (λ d. Ok (with_buffer r n d))
+alloc_line r n arguments = and_then (declaration_of n r.buffers_here arguments) (λ d. Ok (with_buffer r n d))
 
 -- main_
 abbrev pub main_line : Reading → ℕ → Arguments → Result Reading CodeError
-main_line r n arguments = without n arguments (Ok (record r { stage = Prologue; medium = None; prologue = []; turn = []; spawned = []; awaited = [] }))
+main_line r n arguments = without n arguments (Ok (record r { stage = Prologue; medium = None; spawned = []; awaited = [] }))
 
 -- loop_, endloop_, endthread_ and endmain_
 abbrev pub loop_line : Reading → ℕ → Arguments → Result Reading CodeError
@@ -277,25 +278,25 @@ abbrev pub end_loop_line : Reading → ℕ → Arguments → Result Reading Code
 end_loop_line r n arguments = without n arguments (Ok (record r { stage = Ended }))
 
 abbrev pub end_thread_line : Reading → ℕ → Arguments → Result Reading CodeError
-end_thread_line r n arguments = without n arguments (Ok (record r { stage = Threaded; threads = r.threads ++ code_here r ∷ [] }))
+end_thread_line r n arguments = without n arguments (Ok (record r { stage = Threaded; threads = r.threads ++ code_here r ∷ []; prologue = []; turn = [] }))
 
 -- of a processor the main part comes first, and then the threads
 abbrev pub end_main_line : Reading → ℕ → Arguments → Result Reading CodeError
-end_main_line r n arguments = without n arguments (Ok (record r { stage = Outside; seqs = r.seqs ++ (code_here r ∷ r.threads) }))
+end_main_line r n arguments = without n arguments (Ok (record r { stage = Outside; seqs = r.seqs ++ (code_here r ∷ r.threads); threads = []; prologue = []; turn = [] }))
 
--- Suc0_(q) and its like
-abbrev pub pair_of : Reading → ℕ → Arguments → Result ℕ CodeError
-pair_of r n arguments =
+-- Suc0_(q) and its like, of a pair that is declared here
+abbrev pub pair_of : ℕ → List ℕ → Arguments → Result ℕ CodeError
+pair_of n here arguments =
     and_then (argument n (one_of arguments)) (λ w.
     and_then (argument n (number_in w)) (λ q.
-    if is_among r.pairs_here q then Ok q else refused n (UnknownName w)))
+    if is_among here q then Ok q else refused n (UnknownName w)))
 
 abbrev pub pair_line : Reading → ℕ → (ℕ → Instr) → Arguments → Result Reading CodeError
-pair_line r n make arguments = and_then (pair_of r n arguments) (λ q. Ok (with_instr r (make q)))
+pair_line r n make arguments = and_then (pair_of n r.pairs_here arguments) (λ q. Ok (with_instr r (make q)))
 
--- a buffer of this processor
-abbrev pub buffer_here : Reading → ℕ → Bytes → ℕ → Result ℕ CodeError
-buffer_here r n w b = if is_among r.buffers_here b then Ok b else refused n (UnknownName w)
+-- a buffer that is declared here
+abbrev pub declared_buffer : ℕ → List ℕ → Bytes → ℕ → Result ℕ CodeError
+declared_buffer n here w b = if is_among here b then Ok b else refused n (UnknownName w)
 
 -- a medium by its name and its number
 pub record Joined : Type 0 where
@@ -318,18 +319,18 @@ module _ (a : Architecture) where
   abbrev pub operator_of : ℕ → Bytes → Result ℕ CodeError
   operator_of n w = known n w (place_in a.operators w)
 
-  -- processor_(OPERATOR)
-  abbrev pub processor_of : Reading → ℕ → Arguments → Result ℕ CodeError
-  processor_of r n arguments =
+  -- processor_(OPERATOR), above the last one
+  abbrev pub processor_of : ℕ → Option ℕ → Arguments → Result ℕ CodeError
+  processor_of n last arguments =
       and_then (name_of n arguments) (λ w.
       and_then (operator_of n w) (λ o.
-      if follows r.operator o then Ok o else refused n BadArgument))
+      if follows last o then Ok o else refused n BadArgument))
 
   abbrev pub at_processor : Reading → ℕ → Reading
-  at_processor r o = record r { stage = Named; operator = Some o; pairs_here = []; buffers_here = []; media = []; threads = [] }
+  at_processor r o = record r { stage = Named; operator = Some o; pairs_here = []; buffers_here = []; media = [] }
 
   abbrev pub processor_line : Reading → ℕ → Arguments → Result Reading CodeError
-  processor_line r n arguments = and_then (processor_of r n arguments) (λ o. Ok (at_processor r o))
+  processor_line r n arguments = and_then (processor_of n r.operator arguments) (λ o. Ok (at_processor r o))
 
   -- a medium that is above the last one of these
   abbrev pub medium_of : ℕ → List ℕ → Arguments → Result Joined CodeError
@@ -340,34 +341,34 @@ module _ (a : Architecture) where
 
   -- thread_(MEDIUM)
   abbrev pub at_thread : Reading → ℕ → Reading
-  at_thread r m = record r { stage = Prologue; media = r.media ++ m ∷ []; medium = Some m; prologue = []; turn = [] }
+  at_thread r m = record r { stage = Prologue; media = r.media ++ m ∷ []; medium = Some m }
 
   abbrev pub thread_line : Reading → ℕ → Arguments → Result Reading CodeError
   thread_line r n arguments = and_then (medium_of n r.media arguments) (λ j. Ok (at_thread r j.medium))
 
-  -- spawn_thread_(MEDIUM) and wait_endthread_(MEDIUM), of a thread of this processor
-  abbrev pub thread_of : Reading → ℕ → List ℕ → Arguments → Result ℕ CodeError
-  thread_of r n media arguments =
+  -- spawn_thread_(MEDIUM) and wait_endthread_(MEDIUM): a medium that is above the last one of these, and at which the processor has a thread
+  abbrev pub thread_of : ℕ → List ℕ → List ℕ → Arguments → Result ℕ CodeError
+  thread_of n threads media arguments =
       and_then (medium_of n media arguments) (λ j.
-      if is_among r.media j.medium then Ok j.medium else refused n (UnknownName j.word))
+      if is_among threads j.medium then Ok j.medium else refused n (UnknownName j.word))
 
   abbrev pub spawn_line : Reading → ℕ → Arguments → Result Reading CodeError
-  spawn_line r n arguments = and_then (thread_of r n r.spawned arguments) (λ m. Ok (record r { spawned = r.spawned ++ m ∷ [] }))
+  spawn_line r n arguments = and_then (thread_of n r.media r.spawned arguments) (λ m. Ok (record r { spawned = r.spawned ++ m ∷ [] }))
 
   abbrev pub wait_line : Reading → ℕ → Arguments → Result Reading CodeError
-  wait_line r n arguments = and_then (thread_of r n r.awaited arguments) (λ m. Ok (record r { awaited = r.awaited ++ m ∷ [] }))
+  wait_line r n arguments = and_then (thread_of n r.media r.awaited arguments) (λ m. Ok (record r { awaited = r.awaited ++ m ∷ [] }))
 
   -- send_(bN,TO) and recv_(bN,FROM)
-  abbrev pub moved_of : Reading → ℕ → Arguments → Result Moved CodeError
-  moved_of r n arguments =
+  abbrev pub moved_of : ℕ → List ℕ → Arguments → Result Moved CodeError
+  moved_of n here arguments =
       and_then (argument n (two_of arguments)) (λ t.
       and_then (argument n (buffer_in t.first)) (λ b.
       and_then (argument n (named t.second)) (λ _.
-      and_then (buffer_here r n t.first b) (λ _.
+      and_then (declared_buffer n here t.first b) (λ _.
       and_then (operator_of n t.second) (λ o. Ok (record { buffer = b; operator = o }))))))
 
   abbrev pub transfer_line : Reading → ℕ → (ℕ → ℕ → Instr) → Arguments → Result Reading CodeError
-  transfer_line r n make arguments = and_then (moved_of r n arguments) (λ t. Ok (with_instr r (make t.buffer t.operator)))
+  transfer_line r n make arguments = and_then (moved_of n r.buffers_here arguments) (λ t. Ok (with_instr r (make t.buffer t.operator)))
 
   -- sync_(FROM,TO)
   abbrev pub ends_of : ℕ → Arguments → Result Ends CodeError
@@ -408,28 +409,34 @@ module _ (a : Architecture) where
   abbrev pub named_line : Reading → ℕ → Bytes → Arguments → Result Reading CodeError
   named_line r n name arguments = and_then (known_macro n name (macro_of name)) (placed_line r n arguments)
 
-module _ (g : Graph) where
-  abbrev pub operation_names : List Bytes
-  operation_names = map (λ x. x.name) g.vertices
+abbrev pub operation_names : Graph → List Bytes
+operation_names g = map (λ x. x.name) g.vertices
 
+-- Where the operations have these names.
+module _ (operations : List Bytes) where
   -- op OPERATION(INS;OUTS)
-  abbrev pub call_of : Reading → ℕ → Bytes → List Bytes → List Bytes → Result Instr CodeError
-  call_of r n operation ins outs =
+  abbrev pub call_of : ℕ → List ℕ → Bytes → List Bytes → List Bytes → Result Instr CodeError
+  call_of n here operation ins outs =
       and_then (argument n (each_in buffer_in ins)) (λ is.
       and_then (argument n (each_in buffer_in outs)) (λ os.
-      and_then (known n operation (place_in operation_names operation)) (λ v.
-      unless_unknown n (first_unknown r.buffers_here ins)
-      (unless_unknown n (first_unknown r.buffers_here outs)
+      and_then (known n operation (place_in operations operation)) (λ v.
+      unless_unknown n (first_unknown here ins)
+      (unless_unknown n (first_unknown here outs)
       (Ok (instr.Call v is os))))))
 
   abbrev pub call_line : Reading → ℕ → Bytes → List Bytes → List Bytes → Result Reading CodeError
   call_line r n operation ins outs =
-      if takes_instr r then and_then (call_of r n operation ins outs) (λ x. Ok (with_instr r x)) else refused n BadLine
+      if takes_instr r then and_then (call_of n r.buffers_here operation ins outs) (λ x. Ok (with_instr r x)) else refused n BadLine
+
+-- the place at which a number is declared, where the first of these declarations has this place
+abbrev pub place_from : ℕ → ℕ → List Numbered → Option ℕ
+place_from number place [] = None
+place_from number place (d ∷ ds) = if nat_eq d.number number then Some place else place_from number (place + 1) ds
+
+abbrev pub place_of : ℕ → List Numbered → Option ℕ
+place_of number ds = place_from number 0 ds
 
 -- of so many declarations, the line of the first that has a number of so many or more, or one that stands before it
-abbrev pub place_of : ℕ → List Numbered → Option ℕ
-place_of number ds = position (λ d. nat_eq d.number number) ds
-
 abbrev pub first_wrong : ℕ → List Numbered → List Numbered → Option ℕ
 first_wrong count before [] = None
 first_wrong count before (d ∷ ds) =
@@ -442,18 +449,21 @@ misnumbered ds = first_wrong (length ds) [] ds
 abbrev pub earlier : Option ℕ → Option ℕ → Option ℕ
 earlier None m = m
 earlier (Some n) None = Some n
-earlier (Some n) (Some m) = if nat_lt n m then Some n else Some m
+earlier (Some n) (Some m) = Some (min n m)
 
 -- the buffer and the operator of the pair that were declared with a number
-abbrev pub no_buffer : Buffer
-no_buffer = record { operator = 0; len = 0; depth = 0 }
+abbrev pub no_size : Size
+no_size = record { operator = 0; len = 0; depth = 0 }
+
+abbrev pub sized : Size → Buffer
+sized s = record { operator = s.operator; len = s.len; depth = s.depth }
 
 abbrev pub at_place : {A : Type 0} → List A → A → Option ℕ → A
 at_place xs missing None = missing
 at_place xs missing (Some k) = slice_index_or xs k missing
 
 abbrev pub buffer_of : Reading → ℕ → Buffer
-buffer_of r b = at_place r.sizes no_buffer (place_of b r.buffers)
+buffer_of r b = sized (at_place r.sizes no_size (place_of b r.buffers))
 
 abbrev pub owner_of : Reading → ℕ → ℕ
 owner_of r q = at_place r.owners 0 (place_of q r.pairs)
@@ -482,11 +492,11 @@ abbrev pub words : Program → ℕ → ℕ
 words p media = 2 * length p.pairs + media + sum_by (λ x. x.depth * x.len) p.buffers + sum_below (wire_len p) media
 
 -- first the limit on words, then that on the micro-steps of the loops in one reaction
+abbrev pub within_steps : Program → Result Program CodeError
+within_steps p = if nat_lt (bound_of MicroSteps) (all_turns p) then above MicroSteps (all_turns p) else Ok p
+
 abbrev pub limited : ℕ → Program → Result Program CodeError
-limited media p =
-    if nat_lt (bound_of Words) (words p media) then above Words (words p media) else
-    if nat_lt (bound_of MicroSteps) (all_turns p) then above MicroSteps (all_turns p) else
-    Ok p
+limited media p = if nat_lt (bound_of Words) (words p media) then above Words (words p media) else within_steps p
 
 abbrev pub counted : ℕ → Reading → Option ℕ → Result Program CodeError
 counted media r (Some line) = refused line BadArgument
@@ -496,18 +506,21 @@ counted media r None = limited media (program_of r)
 abbrev pub whole : ℕ → Reading → ℕ → Result Program CodeError
 whole media r n = if is_outside r.stage then counted media r (earlier (misnumbered r.pairs) (misnumbered r.buffers)) else refused n BadLine
 
-module _ (g : Graph) (a : Architecture) where
+module _ (operations : List Bytes) (a : Architecture) where
   abbrev pub line_of : Reading → ℕ → Form → Result Reading CodeError
   line_of r n (bare name) = named_line a r n name None
   line_of r n (listed name list) = named_line a r n name (Some (arguments_of list))
-  line_of r n (call operation ins outs) = call_line g r n operation (arguments_of ins) (arguments_of outs)
+  line_of r n (call operation ins outs) = call_line operations r n operation (arguments_of ins) (arguments_of outs)
+
+  -- a line with these words
+  abbrev pub words_line : Reading → ℕ → List Bytes → Result Reading CodeError
+  words_line r n ws = and_then (formed n (form_of ws)) (line_of r n)
 
   -- a line without words says nothing
   abbrev pub line_by : Reading → ℕ → Bytes → Option ℕ → Result Reading CodeError
   line_by r n line (Some place) = refused n BadLine
   line_by r n line None =
-      if nat_eq (length (words_of (code_of line))) 0 then Ok r else
-      and_then (formed n (form_of (words_of (code_of line)))) (line_of r n)
+      if nat_eq (length (words_of (code_of line))) 0 then Ok r else words_line r n (words_of (code_of line))
 
   abbrev pub next_line : Reading → ℕ → Bytes → Result Reading CodeError
   next_line r n line = line_by r n line (foreign_place line)
@@ -518,4 +531,4 @@ module _ (g : Graph) (a : Architecture) where
 
 -- what the bytes of a text say
 abbrev pub program_in : Bytes → Graph → Architecture → Result Program CodeError
-program_in text g a = rest_of g a start 1 (lines_of text)
+program_in text g a = rest_of (operation_names g) a start 1 (lines_of text)

@@ -1,6 +1,7 @@
 //! Why a text of macro-code is refused.
+use std::alloc::{AllocError, AllocFailed};
 use std::fmt;
-use syn_base::{Items, LimitFault};
+use syn_base::{Items, LimitFault, OutOfMemory};
 use thiserror::Error;
 
 /// The causes of a refusal, with what a message prints after the cause.
@@ -40,5 +41,38 @@ pub enum CodeError {
 impl fmt::Debug for CodeError {
     fn fmt<W: fmt::Write>(&self, f: &mut fmt::Formatter<W>) -> fmt::Result {
         fmt::Display::fmt(self, f)
+    }
+}
+
+impl From<OutOfMemory> for CodeError {
+    ghost use Rattle.std.specs.Prelude.{◌≡◌};
+    ghost use Rattle.code_text.specs.declared.fault.CodeError.TheVariants.{OutOfMemory};
+
+    ghost from_gives = { λ _ e. e ≡ OutOfMemory };
+
+    fn from(_want: OutOfMemory) -> CodeError {
+        CodeError::OutOfMemory
+    }
+}
+
+impl From<AllocError> for CodeError {
+    ghost use Rattle.std.specs.Prelude.{◌≡◌};
+    ghost use Rattle.code_text.specs.declared.fault.CodeError.TheVariants.{OutOfMemory};
+
+    ghost from_gives = { λ _ e. e ≡ OutOfMemory };
+
+    fn from(_error: AllocError) -> CodeError {
+        CodeError::OutOfMemory
+    }
+}
+
+impl<T: Drop> From<AllocFailed<T>> for CodeError {
+    ghost use Rattle.std.specs.Prelude.{◌≡◌};
+    ghost use Rattle.code_text.specs.declared.fault.CodeError.TheVariants.{OutOfMemory};
+
+    ghost from_gives = { λ _ e. e ≡ OutOfMemory };
+
+    fn from(_failed: AllocFailed<T>) -> CodeError {
+        CodeError::OutOfMemory
     }
 }
