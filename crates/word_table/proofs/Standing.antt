@@ -28,10 +28,10 @@ module _ (f : Woven) (d : Share) (s : ℕ) (is : IsWoven f) (o : IsOf f d) (ther
   abbrev J : JobData
   J = f.job.now
 
-  driver : IsDriver J f.table.table o.0 d
+  abbrev driver : IsDriver J f.table.table o.0 d
   driver = o.1
 
-  count : ℕ
+  abbrev count : ℕ
   count = (driver.all s there drives).0
 
   driven : count_in o.0.driven s ≡ Some count

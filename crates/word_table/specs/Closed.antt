@@ -1,5 +1,5 @@
 -- What is left of a fabric that was closed.
-use Rattle.std.specs.Prelude.{◌≡◌, List, map}
+use Rattle.std.specs.Prelude.{◌≡◌, ℕ, List}
 use Rattle.syn_base.specs.Rows.{Reactions}
 use Rattle.level_meaning.specs.Level.{Values}
 use Rattle.semaphore_core.specs.Job.{JobData, actuator_lens}

@@ -42,5 +42,5 @@ returns-clause-of c = let q = c.requires in let a = c.args in let l = c.load-fou
 
 pub returns-clause-made : goal.returns-clause-made
 returns-clause-made c = let q = c.requires in let a = c.args in let l = c.load-found.ensures in
-    free_steps a.self.now a.share.now a.next q.woven q.can _ (record { table = ap (λ s. s.table) l.seat; job = refl; groups = refl; group = refl }) (ap (λ s. s.view) l.seat) c.count_up.ensures (loads_freely a.place a.then a.next.step q.kind)
+    free_steps a.self.now a.share.now a.next q.woven q.can (record a.share.now { seat = c.load-found.new.seat; counts = c.count_up.new.counts; registers = c.absorb.new.registers; operations = c.absorb.new.operations }) (record { table = ap (λ s. s.table) l.seat; job = refl; groups = refl; group = refl }) (ap (λ s. s.view) l.seat) c.count_up.ensures (loads_freely a.place a.then a.next.step q.kind)
     (finds_told a.self.now a.share.now a.next q.woven q.can c.load-found.result l.found)
