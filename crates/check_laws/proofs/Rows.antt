@@ -77,7 +77,7 @@ abbrev medium : ℕ → Bool → List ℕ → Medium
 medium c multi stands = record { name = c ∷ []; multi = multi; fixed = 1; per = 1; stands = stands }
 
 abbrev archi : List (List ℕ) → List Medium → Architecture
-archi operators media = record { operators = operators; media = media }
+archi operators media = record { operators = operators; media = media; depth = 1 }
 
 abbrev bus_graph : Graph
 bus_graph = record {

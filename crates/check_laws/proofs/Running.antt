@@ -9,7 +9,7 @@ use Rattle.executive_program.specs.declared.program.Instr.{Instr}
 use Rattle.executive_program.specs.declared.program.Program.{Program}
 use Rattle.executive_program.specs.Instructions.{turn}
 use Rattle.executive_program.specs.WellFormed.{Stands, place_in, FollowsLoops}
-use Rattle.semaphore_core.proofs.Opened.{sum_le, sum_more}
+use Rattle.check_laws.proofs.Sums.{sum_le, sum_more}
 use Rattle.sequence_build_laws.proofs.Lists.{get_some, from_append, tally, counts_tally, tally-append, tally_grows, take_next}
 use Rattle.sequence_build_laws.proofs.Loops.{code_there}
 use Rattle.check_laws.specs.Run.{Place, made, awaited, Keeps, is_past, may_go, is_ready, next, step_with, run_from, run, left_from, stuck, IsRun}
