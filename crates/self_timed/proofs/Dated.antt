@@ -1,6 +1,6 @@
 -- What is given of a schedule, its program and the ticks makes the dates of reaction after reaction right.
 use Rattle.std.proofs.Common.{◌≡◌, ℕ, zero, suc, ◌+◌, ◌^◌, ◌<◌, ◌≤◌, Bool, true, false, not, cond, List, [], ◌∷◌, ◌++◌, length, take, Option, Some, None, refl, sym, ap, subst, arith, ◌∙◌}
-use Rattle.std.specs.Prelude.{slice_get, slice_index_or, nat_le, All, IsTrue}
+use Rattle.std.specs.Prelude.{slice_get, slice_index_or, nat_le, All}
 use Rattle.std.specs.List.{list_any, count_by}
 use Rattle.std.proofs.lemmas.Bool.{and_parts, leb-true, not-true}
 use Rattle.std.proofs.lemmas.List.{take_all, get_or_default}
@@ -13,7 +13,7 @@ use Rattle.durations.specs.Table.{entry_in}
 use Rattle.schedule.specs.declared.decision.Schedule.{Schedule}
 use Rattle.schedule.specs.declared.decision.Decision.{Decision}
 use Rattle.schedule.specs.Acts.{Act, carry, run, acts, acts_of, Copy, same_copy, read_by, made_by}
-use Rattle.schedule.specs.Tight.{same_line, reads_from, is_tight}
+use Rattle.schedule.specs.Tight.{same_line, reads_from}
 use Rattle.executive_program.specs.declared.program.Buffer.{Buffer}
 use Rattle.executive_program.specs.declared.program.Program.{Program}
 use Rattle.executive_program.specs.Instructions.{number_or, depth_in}
@@ -23,7 +23,7 @@ use Rattle.schedule.proofs.Copies.{few_outputs}
 use Rattle.sequence_build_laws.proofs.Lists.{any_of, get_some, tally, tally_grows, counts_tally}
 use Rattle.sequence_build_laws.proofs.Works.{copy_is, of_run}
 use Rattle.self_timed_laws.specs.Dates.{AreDates, has_reader}
-use Rattle.self_timed_laws.specs.Entries.{stated, is_transfer, entry_at, entry_of, row_in, lasting, AreWithin, IsFirstStated}
+use Rattle.self_timed_laws.specs.Entries.{stated, is_transfer, entry_at, entry_of, row_in, lasting, AreWithin}
 use Rattle.self_timed_laws.proofs.Solution.{are_dates}
 use Rattle.self_timed_laws.proofs.InTime.{none_longer}
 use Rattle.self_timed_laws.proofs.Entered.{is_entry, one}
@@ -37,7 +37,7 @@ use Rattle.self_timed.specs.Depths.{deepest}
 use Rattle.self_timed.specs.Laid.{HasFewOutputs, IsDecided, started, after_all}
 use Rattle.self_timed.specs.Lines.{IsLine}
 use Rattle.self_timed.specs.Running.{Running, AreSized, FitSteps, IsLong, IsSized, after_steps, at_start, freed_in, span}
-use Rattle.self_timed.specs.Told.{AreDatesOf, EndInTime, IsValidForSome, StartAsStated, entries_of, end_at, start_at, span_at}
+use Rattle.self_timed.specs.Told.{AreDatesOf, EndInTime, IsValidForSome, StartsAsStated, entries_of, end_at, start_at, span_at}
 use Rattle.self_timed.proofs.Deepest.{deepest_one, deepest_above, deepest_below}
 use Rattle.self_timed.proofs.Held.{all_from, decided, lined}
 use Rattle.self_timed.proofs.Laying.{AreStepsOf, are_steps, entries_are}
@@ -234,7 +234,7 @@ module _ (g : Graph) (a : Architecture) (s : Schedule) (program : Program) (actu
         let w = ap (λ (p : Span). p.end) z in
         omega arith
 
-    pub told_first : IsFirstStated g.vertices (acts s) actual → IsTrue (is_tight g s) → StartAsStated g s rows
+    pub told_first : StartsAsStated g s actual rows
     told_first first tight i x h e =
         let c = count in
         let f = (first_reaction_is_stated a.depth g a (entry_in asked.valid.durations) s (lasting g.vertices (acts s) actual) (end_at a.depth g s actual) at_least asked.valid.valid first are).0 tight i x e in

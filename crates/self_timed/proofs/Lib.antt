@@ -11,3 +11,4 @@ pub mod Reacting
 pub mod Following
 pub mod Deepest
 pub mod Dated
+pub mod WorkedDates

@@ -2,10 +2,12 @@
 use Rattle.std.specs.Prelude.{◌≡◌, ℕ, ◌+◌, ◌*◌, ◌<◌, ◌≤◌, List, [], ◌∷◌, ◌++◌, length, map, replicate, Some, All, slice_get, slice_index_or, slice_set}
 use Rattle.flat_graph.specs.declared.vertex.Vertex.{Vertex}
 use Rattle.flat_graph.specs.declared.vertex.Guard.{Guard}
+use Rattle.flat_graph.specs.declared.vertex.Source.{Source}
 use Rattle.schedule.specs.declared.decision.Transfer.{Transfer}
 use Rattle.schedule.specs.declared.decision.Decision.{Decision}
-use Rattle.schedule.specs.Acts.{Act, carry, run, Copy, copy, read_by, made_by}
+use Rattle.schedule.specs.Acts.{Act, carry, run, acts_of, Copy, copy, outputs_from, read_by, made_by}
 use Rattle.self_timed.specs.declared.layout.Step.{Step}
+use Rattle.self_timed.specs.declared.line.Line.{Line}
 use Rattle.self_timed.specs.Lines.{line_of}
 
 -- The acts so far: the entry of the next transfer, the entry of the act that made each copy, and the steps.
@@ -70,10 +72,52 @@ after_all l (x ∷ xs) = after_all (after l x) xs
 abbrev pub HasFewOutputs : Vertex → Type 0
 HasFewOutputs x = length x.outs ≤ 64
 
+-- the acts of these decisions
+abbrev pub laid_out : List Vertex → List Decision → Laid
+laid_out vertices decisions = after_all (started vertices) (acts_of decisions)
+
+-- transfers, or a decision, and then the rest
+abbrev pub with_transfers : List Transfer → List Act → List Act
+with_transfers transfers rest = map carry transfers ++ rest
+
+abbrev pub with_decision : Decision → List Act → List Act
+with_decision d rest = map carry d.transfers ++ (run d ∷ rest)
+
+-- after these acts it is the second one, whatever comes after them
+abbrev pub Follows : Laid → (List Act → List Act) → Laid → Type 0
+Follows l these m = (rest : List Act) → after_all l (these rest) ≡ after_all m rest
+
+-- with one more step, and with makers that are noted
+abbrev pub with_step : Laid → ℕ → Line → List ℕ → Laid
+with_step l entry line sources = record l { steps = l.steps ++ record { entry = entry; line = line; sources = sources } ∷ [] }
+
+abbrev pub with_note : Laid → Copy → ℕ → Laid
+with_note l c entry = record l { makers = with_maker l.makers c entry }
+
+abbrev pub with_outputs : Laid → ℕ → ℕ → List ℕ → Laid
+with_outputs l op operator outs = record l { makers = with_makers l.makers (map (copy operator) (outputs_from op 0 outs)) op }
+
+-- the makers of what guards and inputs read on an operator
+abbrev pub guard_makers : List (List ℕ) → ℕ → List Guard → List ℕ
+guard_makers makers operator guards = map (λ (g : Guard). maker_in makers (copy operator g.source)) guards
+
+abbrev pub input_makers : List (List ℕ) → ℕ → List Source → List ℕ
+input_makers makers operator inputs = map (λ (x : Source). maker_in makers (copy operator x)) inputs
+
+abbrev pub makers_of : List (List ℕ) → ℕ → Vertex → List ℕ
+makers_of makers operator x = guard_makers makers operator x.guards ++ input_makers makers operator x.ins
+
 -- the copy has a place
 pub record HasPlace (makers : List (List ℕ)) (c : Copy) : Type 0 where
   pub row : c.source.vertex < length makers
   pub place : place c < length (row_at makers c.source.vertex)
+
+-- what these guards, or these inputs, read on an operator has places
+abbrev pub HaveGuardPlaces : List (List ℕ) → ℕ → List Guard → Type 0
+HaveGuardPlaces makers operator guards = All (λ (g : Guard). HasPlace makers (copy operator g.source)) guards
+
+abbrev pub HavePlaces : List (List ℕ) → ℕ → List Source → Type 0
+HavePlaces makers operator inputs = All (λ (x : Source). HasPlace makers (copy operator x)) inputs
 
 -- the operation has a row for so many outputs
 pub record HasRow (makers : List (List ℕ)) (v outs : ℕ) : Type 0 where

@@ -66,6 +66,14 @@ module _ (freed ticks : List ℕ) where
   FitSteps [] r = Unit {0}
   FitSteps (st ∷ sts) r = (ended_in st r < 2 ^ 64) × FitSteps sts (after_step st r)
 
+-- One reaction of the plan, from the last ends of lines, where these reactions are past.
+module _ (p : Plan) (depth : ℕ) (past : List (List Span)) (ticks : List ℕ) (ends : Ends) where
+  abbrev pub reaction_after : Running
+  reaction_after = after_steps (freed_in p depth past) ticks p.steps.items (at_start p ends)
+
+  abbrev pub FitsReaction : Type 0
+  FitsReaction = FitSteps (freed_in p depth past) ticks p.steps.items (at_start p ends)
+
 -- entries and lines are there
 pub record IsSized (entries : ℕ) (st : Step) : Type 0 where
   pub entry : st.entry < entries

@@ -6,9 +6,10 @@ use Rattle.archi_graph.specs.Archi.{Architecture}
 use Rattle.durations.specs.Table.{Table, IsRow, entry_in}
 use Rattle.schedule.specs.declared.decision.Schedule.{Schedule}
 use Rattle.schedule.specs.Acts.{Act, acts, start_of, end_of, length_of}
+use Rattle.schedule.specs.Tight.{is_tight}
 use Rattle.schedule.specs.Valid.{is_valid}
 use Rattle.self_timed_laws.specs.Dates.{dates, start_by}
-use Rattle.self_timed_laws.specs.Entries.{is_transfer, entry_of, lasting}
+use Rattle.self_timed_laws.specs.Entries.{is_transfer, entry_of, lasting, IsFirstStated}
 use Rattle.self_timed.specs.declared.dates.Span.{Span}
 use Rattle.self_timed.specs.Running.{span, span_in}
 
@@ -21,6 +22,10 @@ span_at reactions k e = span_in (reaction_at reactions k) e
 -- how many entries a schedule has: operations and transfers
 abbrev pub entries_of : Graph → Schedule → ℕ
 entries_of g s = length g.vertices + count_by is_transfer (acts s)
+
+-- each reaction has ticks for so many entries
+abbrev pub HaveEntries : ℕ → List (List ℕ) → Type 0
+HaveEntries entries ticks = All (λ (row : List ℕ). length row ≡ entries) ticks
 
 -- valid for some durations, none of which is above 1,000,000,000
 pub record IsValidForSome (g : Graph) (a : Architecture) (s : Schedule) : Type 0 where
@@ -48,5 +53,9 @@ module _ (g : Graph) (s : Schedule) (reactions : List (List Span)) where
   EndInTime = (k i : ℕ) (x : Act) → k < length reactions → slice_get (acts s) i ≡ Some x → (span_at reactions k (entry_of g.vertices (acts s) i)).end ≤ k * length_of s + end_of x
 
   -- the first reaction has the schedule's dates
-  abbrev pub StartAsStated : Type 0
-  StartAsStated = (i : ℕ) (x : Act) → 0 < length reactions → slice_get (acts s) i ≡ Some x → span_at reactions 0 (entry_of g.vertices (acts s) i) ≡ span (start_of x) (end_of x)
+  abbrev pub IsChart : Type 0
+  IsChart = (i : ℕ) (x : Act) → 0 < length reactions → slice_get (acts s) i ≡ Some x → span_at reactions 0 (entry_of g.vertices (acts s) i) ≡ span (start_of x) (end_of x)
+
+-- where each entry of the first reaction lasts as stated, and the schedule is tight, that reaction has the schedule's dates
+abbrev pub StartsAsStated : Graph → Schedule → List (List ℕ) → List (List Span) → Type 0
+StartsAsStated g s ticks reactions = IsFirstStated g.vertices (acts s) ticks → IsTrue (is_tight g s) → IsChart g s reactions

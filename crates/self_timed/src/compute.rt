@@ -1,11 +1,10 @@
 //! The dates of all reactions.
-ghost use Rattle.std.specs.Prelude.{◌≡◌, ◌≤◌, All, IfOk, IsTrue, length};
+ghost use Rattle.std.specs.Prelude.{◌≡◌, ◌≤◌, IfOk, length};
 ghost use Rattle.schedule.specs.Acts.{acts};
-ghost use Rattle.schedule.specs.Tight.{is_tight};
 ghost use Rattle.sequence_build_laws.specs.Built.{program_of};
-ghost use Rattle.self_timed_laws.specs.Entries.{AreWithin, IsFirstStated};
+ghost use Rattle.self_timed_laws.specs.Entries.{AreWithin};
 ghost use Rattle.self_timed.specs.Depths.{deepest};
-ghost use Rattle.self_timed.specs.Told.{AreDatesOf, EndInTime, IsValidForSome, StartAsStated, entries_of};
+ghost use Rattle.self_timed.specs.Told.{AreDatesOf, EndInTime, HaveEntries, IsValidForSome, StartsAsStated, entries_of};
 
 use crate::actual::Actual;
 use crate::dates::Dates;
@@ -38,11 +37,11 @@ pub fn dates_of(
     requires valid { IsValidForSome flat.now archi.now schedule.now }
     requires program { program.now ≡ program_of flat.now archi.now schedule.now }
     requires few { length actual.now ≤ 1000 }
-    requires entries { All (λ ticks. length ticks ≡ entries_of flat.now schedule.now) actual.now }
+    requires entries { HaveEntries (entries_of flat.now schedule.now) actual.now }
     requires within { AreWithin flat.now.vertices (acts schedule.now) actual.now }
     ensures dates { IfOk result (AreDatesOf archi.now.depth flat.now schedule.now actual.now) }
     ensures in_time { IfOk result (EndInTime flat.now schedule.now) }
-    ensures first { IsFirstStated flat.now.vertices (acts schedule.now) actual.now → IsTrue (is_tight flat.now schedule.now) → IfOk result (StartAsStated flat.now schedule.now) }
+    ensures first { IfOk result (StartsAsStated flat.now schedule.now actual.now) }
 {
     let _operators = archi.operators();
     let _depth = archi.depth();

@@ -1,7 +1,7 @@
 //! What must precede each act in its reaction, found once for all reactions.
-ghost use Rattle.std.specs.Prelude.{◌≡◌, ◌+◌, ◌*◌, ◌<◌, ◌≤◌, ◌++◌, ◌∷◌, [], List, All, IfOk, OnErr, OnOk, length, map};
-ghost use Rattle.schedule.specs.Acts.{Act, acts_of, carry, copy, outputs_from, run};
-ghost use Rattle.self_timed.specs.Laid.{HasFewOutputs, HasPlace, HasRow, HasShape, IsCarried, IsDecided, IsPlaced, after, after_all, empty_makers, maker_in, place, started, with_maker, with_makers};
+ghost use Rattle.std.specs.Prelude.{◌≡◌, ◌<◌, ◌≤◌, ◌++◌, All, IfOk, OnErr, OnOk, length};
+ghost use Rattle.schedule.specs.Acts.{carry, copy, run};
+ghost use Rattle.self_timed.specs.Laid.{Follows, HasFewOutputs, HasPlace, HasRow, HasShape, HaveGuardPlaces, HavePlaces, IsCarried, IsDecided, IsPlaced, after, empty_makers, guard_makers, input_makers, laid_out, maker_in, makers_of, place, started, with_decision, with_note, with_outputs, with_step, with_transfers};
 
 use crate::line::Line;
 use flat_graph::{Guard, Source, Vertex};
@@ -33,8 +33,8 @@ pub(crate) fn plan_of(
 ) -> Result<Plan, OutOfMemory>
     requires few { All HasFewOutputs vertices.now }
     requires decided { All (IsDecided vertices.now) decisions.now }
-    ensures entries { IfOk result (λ p. p.entries ≡ (after_all (started vertices.now) (acts_of decisions.now)).next) }
-    ensures steps { IfOk result (λ p. p.steps.items ≡ (after_all (started vertices.now) (acts_of decisions.now)).steps) }
+    ensures entries { IfOk result (λ p. p.entries ≡ (laid_out vertices.now decisions.now).next) }
+    ensures steps { IfOk result (λ p. p.steps.items ≡ (laid_out vertices.now decisions.now).steps) }
 {
     let mut layout = Layout::new(alloc, vertices)?;
     for decision in decisions {
@@ -93,7 +93,7 @@ impl<'a> Layout<'a> {
         requires decided { IsDecided self.old.vertices decision.now }
         ensures shape { OnOk result (HasShape self.new.vertices self.new.makers) }
         ensures vertices { self.new.vertices ≡ self.old.vertices }
-        ensures after { OnOk result ((rest : List Act) → after_all self.old (map carry decision.now.transfers ++ run decision.now ∷ rest) ≡ after_all self.new rest) }
+        ensures after { OnOk result (Follows self.old (with_decision decision.now) self.new) }
     {
         self.carry_all(decision.transfers.as_slice())?;
         self.run(decision)
@@ -104,7 +104,7 @@ impl<'a> Layout<'a> {
         requires carried { All (IsCarried self.old.vertices) transfers.now }
         ensures shape { OnOk result (HasShape self.new.vertices self.new.makers) }
         ensures vertices { self.new.vertices ≡ self.old.vertices }
-        ensures after { OnOk result ((rest : List Act) → after_all self.old (map carry transfers.now ++ rest) ≡ after_all self.new rest) }
+        ensures after { OnOk result (Follows self.old (with_transfers transfers.now) self.new) }
     {
         for transfer in transfers {
             self.carry(*transfer)?;
@@ -146,7 +146,7 @@ impl<'a> Layout<'a> {
 
     /// One more step. After want of memory all is as before.
     fn add(&mut self, entry: usize, line: Line, sources: Vec<usize>) -> Result<(), OutOfMemory>
-        ensures ok { OnOk result (self.new ≡ record self.old { steps = self.old.steps ++ record { entry = entry; line = line; sources = sources.items } ∷ [] }) }
+        ensures ok { OnOk result (self.new ≡ with_step self.old entry line sources.items) }
         ensures err { OnErr result (self.new ≡ self.old) }
     {
         self.steps.push(Step {
@@ -159,9 +159,9 @@ impl<'a> Layout<'a> {
 
     /// The entries of the acts that have made what an operation reads on an operator.
     fn sources(&self, vertex: &Vertex, operator: u32) -> Result<Vec<usize>, OutOfMemory>
-        requires guards { All (λ g. HasPlace self.now.makers (copy operator g.source)) vertex.now.guards }
-        requires inputs { All (λ x. HasPlace self.now.makers (copy operator x)) vertex.now.ins }
-        ensures { IfOk result (λ v. v.items ≡ map (λ g. maker_in self.now.makers (copy operator g.source)) vertex.now.guards ++ map (λ x. maker_in self.now.makers (copy operator x)) vertex.now.ins) }
+        requires guards { HaveGuardPlaces self.now.makers operator vertex.now.guards }
+        requires inputs { HavePlaces self.now.makers operator vertex.now.ins }
+        ensures { IfOk result (λ v. v.items ≡ makers_of self.now.makers operator vertex.now) }
     {
         let mut sources = Vec::new(self.alloc);
         self.add_guards(&mut sources, vertex.guards.as_slice(), operator)?;
@@ -175,8 +175,9 @@ impl<'a> Layout<'a> {
         guards: &[Guard],
         operator: u32,
     ) -> Result<(), OutOfMemory>
-        requires { All (λ g. HasPlace self.now.makers (copy operator g.source)) guards.now }
-        ensures { OnOk result (sources.new.items ≡ sources.old.items ++ map (λ g. maker_in self.now.makers (copy operator g.source)) guards.now) }
+        requires { HaveGuardPlaces self.now.makers operator guards.now }
+        ensures { OnOk result (sources.new.items ≡
+            sources.old.items ++ guard_makers self.now.makers operator guards.now) }
     {
         for guard in guards {
             sources.push(self.maker(guard.source, operator))?;
@@ -190,8 +191,9 @@ impl<'a> Layout<'a> {
         inputs: &[Source],
         operator: u32,
     ) -> Result<(), OutOfMemory>
-        requires { All (λ x. HasPlace self.now.makers (copy operator x)) inputs.now }
-        ensures { OnOk result (sources.new.items ≡ sources.old.items ++ map (λ x. maker_in self.now.makers (copy operator x)) inputs.now) }
+        requires { HavePlaces self.now.makers operator inputs.now }
+        ensures { OnOk result (sources.new.items ≡
+            sources.old.items ++ input_makers self.now.makers operator inputs.now) }
     {
         for input in inputs {
             sources.push(self.maker(*input, operator))?;
@@ -210,7 +212,7 @@ impl<'a> Layout<'a> {
     /// The act of this entry has made the value's copy on the operator. It takes no memory.
     fn note(&mut self, source: Source, operator: u32, entry: usize)
         requires { HasPlace self.old.makers (copy operator source) }
-        ensures { self.new ≡ record self.old { makers = with_maker self.old.makers (copy operator source) entry } }
+        ensures { self.new ≡ with_note self.old (copy operator source) entry }
     {
         self.makers[source.vertex as usize].set(place(source, operator), entry);
     }
@@ -219,7 +221,7 @@ impl<'a> Layout<'a> {
     fn note_outputs(&mut self, op: u32, operator: u32, outs: &[u32])
         requires row { HasRow self.old.makers op (length outs.now) }
         requires few { (operator < 16) × (length outs.now ≤ 64) }
-        ensures { self.new ≡ record self.old { makers = with_makers self.old.makers (map (copy operator) (outputs_from op 0 outs.now)) op } }
+        ensures { self.new ≡ with_outputs self.old op operator outs.now }
     {
         let mut port = 0;
         for _out in outs {

@@ -1,6 +1,6 @@
 //! The dates of one reaction.
 ghost use Rattle.std.specs.Prelude.{◌≡◌, ◌<◌, ◌≤◌, All, IfOk, length, replicate};
-ghost use Rattle.self_timed.specs.Running.{AreSized, FitSteps, after_steps, at_start, free, free_all, freed_in, IsLong, latest_in, no_span, running};
+ghost use Rattle.self_timed.specs.Running.{AreSized, FitSteps, FitsReaction, IsLong, after_steps, free, free_all, freed_in, latest_in, no_span, reaction_after, running};
 
 use crate::dates::Span;
 use crate::layout::{Plan, Step};
@@ -22,8 +22,9 @@ pub(crate) fn next_reaction(
     requires long { All (IsLong plan.now.entries) past.now }
     requires ticks { length ticks.now ≡ plan.now.entries }
     requires deep { 1 ≤ depth }
-    requires fits { FitSteps (freed_in plan.now depth past.now) ticks.now plan.now.steps.items (at_start plan.now ends.old) }
-    ensures { IfOk result (λ row. running ends.new row.items ≡ after_steps (freed_in plan.now depth past.now) ticks.now plan.now.steps.items (at_start plan.now ends.old)) }
+    requires fits { FitsReaction plan.now depth past.now ticks.now ends.old }
+    ensures { IfOk result (λ row. running ends.new row.items ≡
+        reaction_after plan.now depth past.now ticks.now ends.old) }
 {
     let freed = freed(alloc, plan, depth, past)?;
     let mut row = no_spans(alloc, plan.entries)?;
@@ -86,7 +87,8 @@ fn run(steps: &[Step], freed: &[u64], ticks: &[u64], ends: &mut Ends, row: &mut 
     requires freed { length freed.now ≡ length row.old }
     requires ticks { length ticks.now ≡ length row.old }
     requires fits { FitSteps freed.now ticks.now steps.now (running ends.old row.old) }
-    ensures { running ends.new row.new ≡ after_steps freed.now ticks.now steps.now (running ends.old row.old) }
+    ensures { running ends.new row.new ≡
+        after_steps freed.now ticks.now steps.now (running ends.old row.old) }
 {
     for step in steps {
         let made = latest(row, step.sources.as_slice());
