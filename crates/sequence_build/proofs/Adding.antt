@@ -1,0 +1,73 @@
+-- What is added in several steps.
+use Rattle.std.proofs.Common.{◌≡◌, ℕ, zero, suc, ◌+◌, ◌<◌, Bool, true, false, cond, nat_eq, List, [], ◌∷◌, ◌++◌, length, map, drop, refl, sym, ap, arith, ◌∙◌, append_assoc, add-one, Vec, Global}
+use Rattle.std.specs.Prelude.{slice_index_or}
+use Rattle.std.specs.List.{filter, flat_map}
+use Rattle.std.proofs.Math.Seq.{drop-cons}
+use Rattle.std.proofs.lemmas.List.{append-nil, map-append}
+use Rattle.std.proofs.lemmas.Grind.{flat_map-append}
+use Rattle.flat_graph.specs.declared.vertex.Vertex.{Vertex}
+use Rattle.schedule.specs.declared.decision.Decision.{Decision}
+use Rattle.schedule.specs.Acts.{Act, carry, run, acts_of, Copy}
+use Rattle.executive_program.specs.declared.program.Instr.{Instr}
+use Rattle.sequence_build_laws.specs.Serial.{Step, step, projection}
+use Rattle.sequence_build.specs.declared.made.Made.{Made}
+use Rattle.sequence_build.specs.Numbers.{place}
+use Rattle.sequence_build.specs.Made.{Makes, ComesTo as MakesUp, buffer_of}
+use Rattle.sequence_build.specs.Plain.{Adds, ComesTo, loop_at}
+
+pub projection-append : (xs ys : List Step) (s : ℕ) → projection (xs ++ ys) s ≡ projection xs s ++ projection ys s
+projection-append [] ys s = refl
+projection-append (x ∷ xs) ys s = by (nat_eq x.sequence s) (projection-append xs ys s)
+  where
+    by : (b : Bool) → projection (xs ++ ys) s ≡ projection xs s ++ projection ys s
+        → map (λ (x : Step). x.instr) (cond b (x ∷ filter (λ (x : Step). nat_eq x.sequence s) (xs ++ ys)) (filter (λ (x : Step). nat_eq x.sequence s) (xs ++ ys)))
+        ≡ map (λ (x : Step). x.instr) (cond b (x ∷ filter (λ (x : Step). nat_eq x.sequence s) xs) (filter (λ (x : Step). nat_eq x.sequence s) xs)) ++ projection ys s
+    by true e = ap (λ (l : List Instr). x.instr ∷ l) e
+    by false e = e
+
+pub one_projected : (q : ℕ) (x : Instr) (s : ℕ) → projection (step q x ∷ []) s ≡ cond (nat_eq q s) (x ∷ []) []
+one_projected q x s = by (nat_eq q s)
+  where
+    by : (b : Bool) → map (λ (y : Step). y.instr) (cond b (step q x ∷ []) []) ≡ cond b (x ∷ []) []
+    by true = refl
+    by false = refl
+
+-- a decision, and those after it
+pub acts-cons : (d : Decision) (ds : List Decision) → acts_of (d ∷ ds) ≡ acts_of (d ∷ []) ++ acts_of ds
+acts-cons d ds = sym (append_assoc (map carry d.transfers) (run d ∷ []) (acts_of ds))
+
+module _ (old mid new : List (Vec Instr Global)) where
+  pub adds_twice : (xs ys : List Step) → length mid ≡ length old → Adds old mid xs → Adds mid new ys → Adds old new (xs ++ ys)
+  adds_twice xs ys many first second s h =
+      second s (omega arith) ∙ ap (λ (l : List Instr). l ++ projection ys s) (first s h) ∙ append_assoc (loop_at old s) (projection xs s) (projection ys s)
+      ∙ ap (λ (l : List Instr). loop_at old s ++ l) (sym (projection-append xs ys s))
+
+  pub comes_next : (xs ys whole : List Step) → length mid ≡ length old → ComesTo old mid (xs ++ ys) whole → Adds mid new xs → ComesTo old new ys whole
+  comes_next xs ys whole many left more s h =
+      ap (λ (l : List Instr). l ++ projection ys s) (more s (omega arith)) ∙ append_assoc (loop_at mid s) (projection xs s) (projection ys s)
+      ∙ ap (λ (l : List Instr). loop_at mid s ++ l) (sym (projection-append xs ys s)) ∙ left s h
+
+pub comes_all : (old new : List (Vec Instr Global)) (whole : List Step) → ComesTo old new [] whole → Adds old new whole
+comes_all old new whole left s h = sym (append-nil (loop_at new s)) ∙ left s h
+
+pub comes_first : (old : List (Vec Instr Global)) (whole : List Step) → ComesTo old old whole whole
+comes_first old whole s h = refl
+
+module _ {vertices : List Vertex} {old mid new : Made} where
+  pub makes_twice : {xs ys : List Copy} → Makes vertices old mid xs → Makes vertices mid new ys → Makes vertices old new (xs ++ ys)
+  makes_twice {xs} {ys} first second = record {
+    buffers = second.buffers ∙ ap (λ l. l ++ map (buffer_of vertices) ys) first.buffers ∙ append_assoc old.buffers.items (map (buffer_of vertices) xs) (map (buffer_of vertices) ys) ∙ ap (λ l. old.buffers.items ++ l) (sym (map-append (buffer_of vertices) xs ys));
+    places = second.places ∙ ap (λ l. l ++ map place ys) first.places ∙ append_assoc old.places.items (map place xs) (map place ys) ∙ ap (λ l. old.places.items ++ l) (sym (map-append place xs ys));
+  }
+
+  pub makes_next : {xs ys whole : List Copy} → MakesUp vertices old mid (xs ++ ys) whole → Makes vertices mid new xs → MakesUp vertices old new ys whole
+  makes_next {xs} {ys} left more = record {
+    buffers = ap (λ l. l ++ map (buffer_of vertices) ys) more.buffers ∙ append_assoc mid.buffers.items (map (buffer_of vertices) xs) (map (buffer_of vertices) ys) ∙ ap (λ l. mid.buffers.items ++ l) (sym (map-append (buffer_of vertices) xs ys)) ∙ left.buffers;
+    places = ap (λ l. l ++ map place ys) more.places ∙ append_assoc mid.places.items (map place xs) (map place ys) ∙ ap (λ l. mid.places.items ++ l) (sym (map-append place xs ys)) ∙ left.places;
+  }
+
+pub makes_all : {vertices : List Vertex} {old new : Made} {whole : List Copy} → MakesUp vertices old new [] whole → Makes vertices old new whole
+makes_all {new = new} left = record { buffers = sym (append-nil new.buffers.items) ∙ left.buffers; places = sym (append-nil new.places.items) ∙ left.places }
+
+pub makes_first : (vertices : List Vertex) (old : Made) (whole : List Copy) → MakesUp vertices old old whole whole
+makes_first vertices old whole = record { buffers = refl; places = refl }

@@ -1,0 +1,12 @@
+pub mod Places
+pub mod Sequencing
+pub mod Noting
+pub mod Adding
+pub mod Deepening
+pub mod Reading
+pub mod Silent
+pub mod Pairing
+pub mod Guarding
+pub mod Numbering
+pub mod Covering
+pub mod Assembling

@@ -1,0 +1,60 @@
+-- Semaphore lines send nothing, so the words of a program can be counted before they are made.
+use Rattle.std.proofs.Common.{◌≡◌, ℕ, zero, suc, ◌+◌, ◌*◌, ◌≤◌, Bool, true, false, cond, max, List, [], ◌∷◌, ◌++◌, length, map, Option, refl, sym, ap, arith, ◌∙◌}
+use Rattle.interleavings.specs.Owners.{sum_below}
+use Rattle.executive_program.specs.declared.program.Instr.{Instr}
+use Rattle.executive_program.specs.declared.program.Instr.TheVariants.{Suc0, Suc1, Pre0, Pre1}
+use Rattle.executive_program.specs.declared.program.SeqCode.{SeqCode}
+use Rattle.executive_program.specs.declared.program.Buffer.{Buffer}
+use Rattle.executive_program.specs.declared.program.Program.{Program}
+use Rattle.executive_program.specs.Instructions.{len_of, depth_of}
+use Rattle.executive_program.specs.MicroSteps.{sent_len, longest_sent, longest_in, longest_on, is_on, wire_len, words}
+use Rattle.sequence_build_laws.specs.Serial.{numbers_where}
+use Rattle.sequence_build.specs.declared.pairs.Pair.{Pair}
+use Rattle.sequence_build.specs.declared.around.Moment.TheVariants.{FirstRead, LastRead, Write}
+use Rattle.sequence_build.specs.Around.{is_then, lines_with, loop_with, code_with, codes_with}
+
+max_none : (n : ℕ) → max 0 n ≡ n
+max_none n = omega arith
+
+max_assoc : (a b c : ℕ) → max (max a b) c ≡ max a (max b c)
+max_assoc a b c = omega arith
+
+module _ (p : Program) where
+  longest-append : (xs ys : List Instr) → longest_sent p (xs ++ ys) ≡ max (longest_sent p xs) (longest_sent p ys)
+  longest-append [] ys = sym (max_none (longest_sent p ys))
+  longest-append (x ∷ xs) ys =
+      ap (max (sent_len p x)) (longest-append xs ys) ∙ sym (max_assoc (sent_len p x) (longest_sent p xs) (longest_sent p ys))
+
+  silent : (f : ℕ → Instr) → ((q : ℕ) → sent_len p (f q) ≡ 0) → (qs : List ℕ) → longest_sent p (map f qs) ≡ 0
+  silent f h [] = refl
+  silent f h (q ∷ qs) = (λ i. max (h q i) (silent f h qs i))
+
+  lines_send : (pairs : List Pair) (s a : ℕ) (x : Instr) → longest_sent p (lines_with pairs s a x) ≡ sent_len p x
+  lines_send pairs s a x =
+      let first = numbers_where (is_then FirstRead s a) 0 pairs in
+      let write = numbers_where (is_then Write s a) 0 pairs in
+      let last = numbers_where (is_then LastRead s a) 0 pairs in
+      let before : longest_sent p (map Suc1 first ++ map Suc0 write) ≡ 0 =
+          longest-append (map Suc1 first) (map Suc0 write) ∙ (λ i. max (silent Suc1 (λ q. refl) first i) (silent Suc0 (λ q. refl) write i)) in
+      let after : longest_sent p (map Pre0 last ++ map Pre1 write) ≡ 0 =
+          longest-append (map Pre0 last) (map Pre1 write) ∙ (λ i. max (silent Pre0 (λ q. refl) last i) (silent Pre1 (λ q. refl) write i)) in
+      longest-append (map Suc1 first ++ map Suc0 write) (x ∷ (map Pre0 last ++ map Pre1 write))
+      ∙ (λ i. max (before i) (max (sent_len p x) (after i)))
+      ∙ (let n = sent_len p x in omega arith)
+
+  loop_sends : (pairs : List Pair) (s a : ℕ) (xs : List Instr) → longest_sent p (loop_with pairs s a xs) ≡ longest_sent p xs
+  loop_sends pairs s a [] = refl
+  loop_sends pairs s a (x ∷ xs) =
+      longest-append (lines_with pairs s a x) (loop_with pairs s (suc a) xs) ∙ (λ i. max (lines_send pairs s a x i) (loop_sends pairs s (suc a) xs i))
+
+  codes_send : (depth : ℕ) (pairs : List Pair) (s : ℕ) (qs : List SeqCode) (m : ℕ) → longest_on p (codes_with depth pairs s qs) m ≡ longest_on p qs m
+  codes_send depth pairs s [] m = refl
+  codes_send depth pairs s (q ∷ qs) m =
+      λ i. max (cond (is_on m q.seq.medium) (loop_sends pairs s 0 q.turn i) 0) (codes_send depth pairs (suc s) qs m i)
+
+-- a program with the lines of these pairs has as many words as without
+pub words_same : (depth : ℕ) (pairs : List Pair) (buffers : List Buffer) (operators : List ℕ) (qs : List SeqCode) (media : ℕ)
+    → words (record { buffers = buffers; pairs = operators; seqs = codes_with depth pairs 0 qs }) media ≡ words (record { buffers = buffers; pairs = operators; seqs = qs }) media
+words_same depth pairs buffers operators qs media =
+    let p : Program = record { buffers = buffers; pairs = operators; seqs = qs } in
+    λ i. 2 * length operators + media + sum_below (λ b. depth_of p b * len_of p b) (length buffers) + sum_below (λ m. codes_send p depth pairs 0 qs m i) media

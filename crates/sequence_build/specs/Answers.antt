@@ -1,0 +1,30 @@
+-- What `build` answers.
+use Rattle.std.specs.Prelude.{◌≡◌, ℕ, true, length, Option, Some, None}
+use Rattle.flat_graph.specs.Graph.{Graph}
+use Rattle.archi_graph.specs.Archi.{Architecture}
+use Rattle.archi_graph.specs.Sequences.{sequences}
+use Rattle.schedule.specs.declared.decision.Schedule.{Schedule}
+use Rattle.schedule.specs.Valid.{is_valid}
+use Rattle.syn_base.specs.declared.limits.LimitFault.{LimitFault}
+use Rattle.executive_program.specs.declared.program.Program.{Program}
+use Rattle.executive_program.specs.WellFormed.{IsOrder}
+use Rattle.sequence_build_laws.specs.Built.{program_of, order_of}
+use Rattle.sequence_build.specs.declared.error.BuildError.{BuildError}
+use Rattle.sequence_build.specs.declared.error.BuildError.TheVariants.{Limit, OutOfMemory}
+use Rattle.sequence_build.specs.Limit.{program_limit}
+
+module _ (g : Graph) (a : Architecture) (s : Schedule) where
+  -- the schedule is valid for some durations
+  abbrev pub IsValid : Type 0
+  IsValid = (ticks : ℕ → ℕ → Option ℕ) × (is_valid g a ticks s ≡ true)
+
+  -- it is the program of the schedule, which no limit refuses and which is well formed by its serial order
+  pub record IsProgram (p : Program) : Type 0 where
+    pub is : p ≡ program_of g a s
+    pub within : program_limit p (length a.media) ≡ None
+    pub formed : IsOrder p g (sequences a) (length a.media) (order_of g a s)
+
+  -- the limit is the one that refuses the program
+  abbrev pub IsRefusal : BuildError → Type 0
+  IsRefusal (Limit fault) = program_limit (program_of g a s) (length a.media) ≡ Some fault
+  IsRefusal OutOfMemory = Unit {0}

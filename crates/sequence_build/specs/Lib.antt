@@ -1,0 +1,9 @@
+pub mod Limit
+pub mod Program
+pub mod Numbers
+pub mod Made
+pub mod Plain
+pub mod Uses
+pub mod Pairs
+pub mod Around
+pub mod Answers

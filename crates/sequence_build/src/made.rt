@@ -1,0 +1,170 @@
+//! The copies of values that the acts of a schedule make: a buffer for each, and its place in a table.
+ghost use Rattle.std.specs.Prelude.{◌≡◌, ◌∷◌, [], map, OnOk, IfOk, slice_get, slice_index_or};
+ghost use Rattle.std.specs.List.{flat_map};
+ghost use Rattle.flat_graph.specs.Graph.{len_of};
+ghost use Rattle.schedule.specs.Acts.{acts_of, carry, copy, made_by, outputs_from, run};
+ghost use Rattle.sequence_build.specs.Numbers.{place};
+ghost use Rattle.sequence_build.specs.Made.{Makes, buffer_of};
+ghost use Rattle.sequence_build.specs.Plain.{outs_in};
+
+use executive_program::Buffer;
+use flat_graph::{Source, Vertex};
+use schedule::{Decision, Transfer};
+use std::alloc::Global;
+use syn_base::OutOfMemory;
+
+/// The place of a copy that no table has.
+const NOWHERE: u32 = 2_097_152;
+
+/// A count as the number of an output, a buffer or a pair. Where it does not fit the answer is want of
+/// memory, which that many of them would long have met.
+pub fn number(count: usize) -> Result<u32, OutOfMemory>
+    ensures { IfOk result (λ n. n ≡ count) }
+{
+    match u32::try_from(count) {
+        Ok(number) => Ok(number),
+        Err(_) => Err(OutOfMemory),
+    }
+}
+
+/// The place of a copy in a table of outputs and operators.
+pub fn place_of(operator: u32, source: Source) -> u32
+    ensures { result ≡ place (copy operator source) }
+{
+    if source.vertex < 2048 && (source.port < 64 && operator < 16) {
+        (source.vertex * 64 + source.port) * 16 + operator
+    } else {
+        NOWHERE
+    }
+}
+
+fn len_at(outs: &[u32], port: u32) -> u32
+    ensures { result ≡ slice_index_or outs.now port 0 }
+{
+    let port = port as usize;
+    if port < outs.len() { outs[port] } else { 0 }
+}
+
+/// The number of elements of a source, 0 where there is none.
+fn source_len(vertices: &[Vertex], source: Source) -> u32
+    ensures { result ≡ len_of vertices.now source }
+{
+    match vertices.get(source.vertex as usize) {
+        Some(vertex) => len_at(vertex.outs.as_slice(), source.port),
+        None => 0,
+    }
+}
+
+/// The lengths of the outputs of an operation, none where it is not there.
+pub fn outs_of(vertices: &[Vertex], op: u32) -> &[u32]
+    ensures { result.now ≡ outs_in (slice_get vertices.now op) }
+{
+    match vertices.get(op as usize) {
+        Some(vertex) => vertex.outs.as_slice(),
+        None => &[],
+    }
+}
+
+/// The buffers of the copies that were made so far, of one place each, and the copies' places.
+#[derive(Drop)]
+pub struct Made {
+    pub buffers: Vec<Buffer>,
+    pub places: Vec<u32>,
+}
+
+impl Made {
+    /// No copy was made.
+    fn new(alloc: Global) -> Made
+        ensures buffers { result.buffers.items ≡ [] }
+        ensures places { result.places.items ≡ [] }
+    {
+        Made {
+            buffers: Vec::new(alloc),
+            places: Vec::new(alloc),
+        }
+    }
+
+    /// One more copy.
+    fn make(
+        &mut self,
+        vertices: &[Vertex],
+        operator: u32,
+        source: Source,
+    ) -> Result<(), OutOfMemory>
+        ensures { OnOk result (Makes vertices.now self.old self.new (copy operator source ∷ [])) }
+    {
+        self.buffers.push(Buffer {
+            operator,
+            len: source_len(vertices, source),
+            depth: 1,
+        })?;
+        self.places.push(place_of(operator, source))?;
+        Ok(())
+    }
+
+    /// What these transfers bring.
+    fn carry_all(
+        &mut self,
+        vertices: &[Vertex],
+        transfers: &[Transfer],
+    ) -> Result<(), OutOfMemory>
+        ensures { OnOk result (Makes vertices.now self.old self.new (flat_map (made_by vertices.now) (map carry transfers.now))) }
+    {
+        for transfer in transfers {
+            self.make(vertices, transfer.to, transfer.source)?;
+        }
+        Ok(())
+    }
+
+    /// The outputs of an operation on its operator.
+    fn give_all(
+        &mut self,
+        vertices: &[Vertex],
+        decision: &Decision,
+        outs: &[u32],
+    ) -> Result<(), OutOfMemory>
+        ensures { OnOk result (Makes vertices.now self.old self.new (map (copy decision.now.operator) (outputs_from decision.now.op 0 outs.now))) }
+    {
+        for (port, _out) in outs.iter().enumerate() {
+            let source = Source {
+                vertex: decision.op,
+                port: number(port)?,
+            };
+            self.make(vertices, decision.operator, source)?;
+        }
+        Ok(())
+    }
+
+    /// What the run of an operation makes.
+    fn run(&mut self, vertices: &[Vertex], decision: &Decision) -> Result<(), OutOfMemory>
+        ensures { OnOk result (Makes vertices.now self.old self.new (made_by vertices.now (run decision.now))) }
+    {
+        self.give_all(vertices, decision, outs_of(vertices, decision.op))?;
+        Ok(())
+    }
+
+    /// What a decision makes.
+    fn take(&mut self, vertices: &[Vertex], decision: &Decision) -> Result<(), OutOfMemory>
+        ensures { OnOk result (Makes vertices.now self.old self.new (flat_map (made_by vertices.now) (acts_of (decision.now ∷ [])))) }
+    {
+        self.carry_all(vertices, decision.transfers.as_slice())?;
+        self.run(vertices, decision)?;
+        Ok(())
+    }
+}
+
+/// All copies that the acts of these decisions make, in their order.
+pub fn made_of(
+    alloc: Global,
+    vertices: &[Vertex],
+    decisions: &[Decision],
+) -> Result<Made, OutOfMemory>
+    ensures buffers { IfOk result (λ m. m.buffers.items ≡ map (buffer_of vertices.now) (flat_map (made_by vertices.now) (acts_of decisions.now))) }
+    ensures places { IfOk result (λ m. m.places.items ≡ map place (flat_map (made_by vertices.now) (acts_of decisions.now))) }
+{
+    let mut made = Made::new(alloc);
+    for decision in decisions {
+        made.take(vertices, decision)?;
+    }
+    Ok(made)
+}
