@@ -1,37 +1,34 @@
 -- The counts of all drivers, and the seats that are made one.
-use Rattle.std.proofs.Common.{◌≡◌, ℕ, zero, suc, ◌+◌, ◌%◌, ◌<◌, ◌≤◌, ◌⊎◌, inl, inr, ⊎_elim, List, [], ◌∷◌, ◌++◌, map, length, get_or, Option, Some, None, refl, sym, ap, subst, arith, ◌∙◌, zero-add}
+use Rattle.std.proofs.Common.{◌≡◌, ℕ, zero, suc, ◌+◌, ◌%◌, ◌<◌, ◌≤◌, ◌⊎◌, inl, inr, ⊎_elim, List, [], ◌∷◌, ◌++◌, length, get_or, Option, Some, None, refl, sym, ap, subst, arith, ◌∙◌, zero-add}
 use Rattle.std.specs.Prelude.{slice_get}
-use Rattle.std.specs.List.{range_with_len}
 use Rattle.std.proofs.lemmas.Bool.{cases_eq}
 use Rattle.std.proofs.lemmas.List.FromFn.{length-map-range_with_len, get_or-map-range_with_len}
 use Rattle.std.proofs.lemmas.Nat.{mod_below}
 use Rattle.std.proofs.lemmas.Option.{slice_get_within}
 use Rattle.atomic_table.specs.Seated.{TableId}
 use Rattle.flat_graph.specs.Graph.{lens_of}
-use Rattle.semaphore_core.specs.Job.{JobData, actuator_lens, reactions}
-use Rattle.semaphore_core.specs.Core.{full, AreReached}
+use Rattle.semaphore_core.specs.Job.{JobData, reactions}
+use Rattle.semaphore_core.specs.Core.{full}
 use Rattle.semaphore_core.specs.Held.{HasRow}
 use Rattle.semaphore_core.specs.Told.{told}
 use Rattle.semaphore_core.proofs.Numbered.{actuator_at}
 use Rattle.phase_laws.specs.Agrees.{caller}
-use Rattle.phase_laws.specs.Ended.{FullIsEnded, full_counts, HasEnded}
-use Rattle.word_rule.specs.declared.view.Count.{Count}
+use Rattle.phase_laws.specs.Ended.{FullIsEnded, full_counts}
 use Rattle.word_rule.specs.declared.view.Knowledge.{Knowledge}
 use Rattle.word_rule.specs.declared.view.View.{View}
 use Rattle.word_rule.specs.declared.view.View.TheVariants.{Spent, Holds}
 use Rattle.word_rule.specs.Given.{RunsOnWords}
-use Rattle.word_rule.specs.Steps.{HoldsCounts, with_seat}
+use Rattle.word_rule.specs.Steps.{HoldsCounts}
 use Rattle.word_rule.specs.Table.{SeatData}
-use Rattle.word_rule.specs.Views.{count_in, joined, count_by as view_count}
+use Rattle.word_rule.specs.Views.{count_in, joined}
 use Rattle.word_rule.proofs.Ending.{same_lists}
 use Rattle.word_rule.proofs.Splitting.{both_back, both_left, both_right}
 use Rattle.word_table.specs.declared.remains.Remains.{Remains}
 use Rattle.word_table.specs.declared.share.Share.{Share}
-use Rattle.word_table.specs.declared.woven.Woven.{Woven}
-use Rattle.word_table.specs.Driver.{FabricData, DriverData, Drives, AreDrivers, AreFinished, IsFinished, count_by, counts_of}
+use Rattle.word_table.specs.Driver.{FabricData, DriverData, AreDrivers, AreFinished, count_by, counts_of}
 use Rattle.word_table.specs.Closed.{ClosedData, IsClosedAt, IsAtEnd}
-use Rattle.word_table.specs.Ends.{AreWide, FitsTo, IsGathered, HoldsFrom, SeatHolds, seat_with}
-use Rattle.word_table.specs.Share.{IsDriver, IsShare, IsWoven, share_view, woven_view}
+use Rattle.word_table.specs.Ends.{FitsTo, IsGathered, HoldsFrom, SeatHolds, seat_with}
+use Rattle.word_table.specs.Share.{IsDriver, IsShare}
 
 -- the count of a sequence is its driver's
 pub counts_at : (f : FabricData) (ds : List DriverData) (s : ℕ) (d : DriverData) → s < length f.job.program.seqs → slice_get ds (s % f.groups) ≡ Some d → get_or (counts_of f ds) s 0 ≡ get_or d.counts s 0

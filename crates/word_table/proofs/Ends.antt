@@ -1,7 +1,7 @@
 -- Driver by driver all is gathered, and in the end it is what the counts tell.
-use Rattle.std.proofs.Common.{◌≡◌, ℕ, zero, suc, ◌+◌, ◌%◌, ◌<◌, ◌≤◌, ◌⊎◌, inl, inr, ⊎_elim, List, [], ◌∷◌, ◌++◌, map, length, get_or, Option, Some, None, refl, sym, ap, subst, arith, ◌∙◌, ℤ}
+use Rattle.std.proofs.Common.{◌≡◌, ℕ, zero, suc, ◌+◌, ◌%◌, ◌<◌, ◌≤◌, ◌⊎◌, inl, inr, ⊎_elim, List, [], ◌∷◌, map, length, get_or, Option, Some, None, refl, sym, ap, subst, arith, ◌∙◌, ℤ}
 use Rattle.std.specs.Prelude.{slice_get, replicate}
-use Rattle.std.proofs.lemmas.Bool.{cases_eq, cases_lt}
+use Rattle.std.proofs.lemmas.Bool.{cases_eq}
 use Rattle.std.proofs.lemmas.List.{length-map, length-replicate}
 use Rattle.std.proofs.lemmas.Nat.{mod_below}
 use Rattle.std.proofs.lemmas.Option.{slice_get_within}
@@ -27,7 +27,7 @@ use Rattle.word_rule.specs.Views.{count_in}
 use Rattle.word_rule.proofs.Ending.{same_lists}
 use Rattle.word_table.specs.declared.remains.Remains.{Remains}
 use Rattle.word_table.specs.declared.share.Share.{Share}
-use Rattle.word_table.specs.Ends.{AreWide, Gathers, IsGathered, TakesRows}
+use Rattle.word_table.specs.Ends.{Gathers, IsGathered, TakesRows}
 use Rattle.word_table.specs.Owners.{owners}
 use Rattle.word_table.specs.Share.{AreLaid, IsDriver}
 use Rattle.word_table.proofs.Callers.{cell_owner}

@@ -6,8 +6,8 @@ use Rattle.semaphore_core.specs.Job.{JobData, actuator_lens}
 use Rattle.semaphore_core.specs.Core.{AreReached}
 use Rattle.semaphore_core.specs.Told.{told}
 use Rattle.phase_laws.specs.Ended.{last_cells, all_acts}
-use Rattle.word_rule.specs.Driven.{Driven, closed, driven_by}
-use Rattle.word_table.specs.Driver.{FabricData, DriverData, AreFinished, counts_of}
+use Rattle.word_rule.specs.Driven.{Driven, driven_by}
+use Rattle.word_table.specs.Driver.{FabricData, DriverData, AreFinished}
 
 -- the rows of the actuators, and the cells of the delays
 pub record ClosedData : Type 0 where

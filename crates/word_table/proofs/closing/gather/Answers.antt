@@ -1,4 +1,4 @@
-use Rattle.std.proofs.Common.{◌≡◌, ◌%◌, ◌∙◌, ℕ, List, get_or, refl, sym, ap, subst}
+use Rattle.std.proofs.Common.{◌%◌, ◌∙◌, ℕ, List, get_or, refl, sym, ap, subst}
 use Rattle.level_meaning.specs.Level.{Values}
 use Rattle.syn_base.specs.Rows.{Reactions}
 use Rattle.semaphore_core.specs.Held.{HasRow}

@@ -1,4 +1,4 @@
-use Rattle.std.specs.Prelude.{◌≡◌, ◌<◌, ◌≤◌, ◌%◌, ℕ, length, slice_index_or}
+use Rattle.std.specs.Prelude.{◌≡◌, ◌<◌, ◌%◌, ℕ, length, slice_index_or}
 use Rattle.word_table.proofs.closing.take_counts.Given as goal
 
 abbrev pub invariant-loop-s : goal.invariant-loop-s

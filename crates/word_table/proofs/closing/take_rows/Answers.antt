@@ -1,4 +1,4 @@
-use Rattle.std.proofs.Common.{◌≡◌, ◌<◌, ◌≤◌, ◌+◌, ◌∙◌, ℕ, List, length, get_or, Some, refl, sym, ap, subst, arith}
+use Rattle.std.proofs.Common.{◌≡◌, ◌<◌, ◌+◌, ◌∙◌, ℕ, List, length, get_or, Some, refl, sym, ap, subst, arith}
 use Rattle.std.specs.Prelude.{slice_get}
 use Rattle.std.proofs.lemmas.Option.{slice_get_read, get_or_from_slice_get}
 use Rattle.syn_base.specs.Rows.{Reactions}
@@ -41,16 +41,16 @@ pub loop-v-preserved : goal.loop-v-preserved
 loop-v-preserved c = let a = c.args in let v = c.loop-v.v in let j = a.job.now in let xs = c.vertices-vertices.result.now in
     let same = c.vertices-vertices.ensures.same ∙ ap (λ (g : Graph). g.vertices) c.flat.ensures in
     elim c.if-callers-v.branch [
-      then-callers-v+in-Actuator w ↦ let x = w.index-vertices-v.result in
+      | then-callers-v+in-Actuator w ↦ let x = w.index-vertices-v.result in
           one_taken j a.rows.now a.others.now a.callers.now a.groups a.group (ap is_flat (sym c.flat.ensures) ∙ c.vertices-vertices.ensures.valid) v w.in-Actuator.actuator x
           (ap (λ (l : List Vertex). slice_get l v) (sym same) ∙ slice_get_read xs (length xs) v x refl c.loop-v-test.true w.index-vertices-v.is)
           (ap (λ (x : Vertex). x.kind) w.index-vertices-v.is ∙ w.in-Actuator.is) w.if-callers-v.true c.loop-v.rows c.if-callers-v.rows
           (subst (λ (r : Reactions). TakesRow c.loop-v.rows r a.others.now w.in-Actuator.actuator) (sym w.rows-is) w.take_row.ensures) c.loop-v.invariant
-    | then-callers-v+in_default w ↦
+      | then-callers-v+in_default w ↦
           subst (AreTaken j a.rows.now a.others.now a.callers.now a.groups a.group (v + 1)) (sym w.rows-is)
           (none_taken j a.rows.now a.others.now a.callers.now a.groups a.group v c.loop-v.rows
           (λ x b e k q. w.in_default.not-Actuator b (ap (λ (x : Vertex). x.kind) (get_or_from_slice_get xs v x w.index-vertices-v.result (ap (λ (l : List Vertex). slice_get l v) same ∙ e)) ∙ k)) c.loop-v.invariant)
-    | else-callers-v w ↦
+      | else-callers-v w ↦
           subst (AreTaken j a.rows.now a.others.now a.callers.now a.groups a.group (v + 1)) (sym w.rows-is)
           (none_taken j a.rows.now a.others.now a.callers.now a.groups a.group v c.loop-v.rows (λ x b e k q. w.if-callers-v.false q) c.loop-v.invariant)
     ]

@@ -1,4 +1,4 @@
-use Rattle.std.proofs.Common.{ℕ, ◌∙◌, ◌∷◌, ◌+◌, List, [], length, ap, sym, subst, arith}
+use Rattle.std.proofs.Common.{ℕ, ◌∙◌, ◌∷◌, [], length, ap, sym, subst, arith}
 use Rattle.std.proofs.lemmas.List.{length-append}
 use Rattle.word_rule.specs.Table.{SeatData}
 use Rattle.word_table.specs.Driver.{DriverData}

@@ -1,6 +1,5 @@
-use Rattle.std.proofs.Common.{◌≡◌, ◌+◌, ◌∙◌, ap, subst, sym}
+use Rattle.std.proofs.Common.{◌+◌, ◌∙◌, ap, subst, sym}
 use Rattle.word_rule.specs.Table.{SeatData}
-use Rattle.word_rule.specs.Steps.{kept_by, split_off}
 use Rattle.word_table.specs.Weaving.{DrivesGroup, IsLeft}
 use Rattle.word_table.proofs.Groups.{right_group, left_rest}
 use Rattle.word_table.proofs.weaving.group_of.Goals as goal

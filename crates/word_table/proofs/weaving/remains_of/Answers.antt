@@ -1,5 +1,4 @@
-use Rattle.std.proofs.Common.{◌≡◌, ℕ, suc, ◌+◌, ◌-◌, ◌*◌, ◌∙◌, List, length, map, get_or, ap, sym, arith, ℤ, Vec, Global}
-use Rattle.std.specs.Prelude.{replicate}
+use Rattle.std.proofs.Common.{◌≡◌, ℕ, ◌-◌, ◌∙◌, length, ap, arith}
 use Rattle.std.proofs.lemmas.List.{length-replicate}
 use Rattle.syn_base.specs.Rows.{Reactions}
 use Rattle.flat_graph.specs.declared.vertex.Vertex.{Vertex}
@@ -7,7 +6,6 @@ use Rattle.flat_graph.specs.Graph.{Graph}
 use Rattle.executive_program.specs.declared.program.SeqCode.{SeqCode}
 use Rattle.executive_program.specs.declared.program.Program.{Program}
 use Rattle.executive_program.specs.Places.{caller_of}
-use Rattle.word_rule.specs.Words.{table_len}
 use Rattle.word_table.specs.Owners.{owners}
 use Rattle.word_table.proofs.weaving.remains_of.Goals as goal
 

@@ -1,4 +1,3 @@
-use Rattle.std.proofs.Common.{◌≡◌, ◌∙◌, ap, refl, subst}
 use Rattle.word_table.specs.Share.{woven_view}
 use Rattle.word_table.proofs.Groups.{are_drivers, are_new}
 use Rattle.word_table.proofs.weaving.weave.Goals as goal

@@ -1,8 +1,7 @@
-use Rattle.std.proofs.Common.{rules, ◌≡◌, ℕ, suc, ◌<◌, ◌+◌, ◌*◌, ◌^◌, ◌++◌, ◌∙◌, List, length, get_or, replicate, ap, refl, sym, subst, arith}
+use Rattle.std.proofs.Common.{rules, ◌≡◌, ℕ, suc, ◌<◌, ◌+◌, ◌*◌, ◌^◌, ◌++◌, ◌∙◌, List, length, get_or, replicate, ap, refl, subst, arith}
 use Rattle.std.proofs.lemmas.List.{length-replicate}
 use Rattle.executive_program.specs.declared.program.Program.{Program}
 use Rattle.executive_program.specs.Expanded.{AreSteps}
-use Rattle.executive_program.specs.Instructions.{HasPlaces}
 use Rattle.semaphore_core.specs.Core.{opening, buffer_zeros, wire_zeros}
 use Rattle.word_rule.specs.Words.{table_len, element_lens, elements_start}
 use Rattle.word_table.specs.Weaving.{starts_from, end_from}

@@ -1,4 +1,4 @@
-use Rattle.std.proofs.Common.{◌≡◌, ◌∙◌, ap}
+use Rattle.std.proofs.Common.{◌∙◌, ap}
 use Rattle.word_rule.specs.Driven.{Driven}
 use Rattle.word_rule.specs.Table.{TableData}
 use Rattle.word_table.proofs.Finishing.{seat_whole, driven_whole, closed_whole, ended_whole}
@@ -24,6 +24,6 @@ returns-clause-ended c = let e = c.in-Some.ensures in let n = c.gather_all-seat.
     ended_whole w i c.args.drivers.items n.remains e.gathered n.table.key k c.as_slice.result.now c.as_slice.ensures.value c.args.self c.self.view_is c.full_is_ended.ensures c.requires
     c.args.driven.now (record { number = c.raised-driven-inside.result; counts = n.remains.counts.items; words = c.close.new.words.items }) (record { rows = n.remains.rows; cells = c.new.result })
     (driven_whole w i c.args.drivers.items n.remains e.gathered n.table.key k c.as_slice.result.now c.as_slice.ensures.value c.args.self c.self.view_is
-      c.args.driven.now c.driven.inside.number c.raised-driven-inside.result c.as_slice-2.result.now c.close.new.words.items (ap (λ (d : Driven). d.number) c.driven.view_is) c.as_slice-2.ensures.value c.raised-driven-inside.ensures c.close.ensures.words)
+    c.args.driven.now c.driven.inside.number c.raised-driven-inside.result c.as_slice-2.result.now c.close.new.words.items (ap (λ (d : Driven). d.number) c.driven.view_is) c.as_slice-2.ensures.value c.raised-driven-inside.ensures c.close.ensures.words)
     (closed_whole w i c.args.drivers.items n.remains e.gathered n.table.key k c.as_slice.result.now c.as_slice.ensures.value c.args.self c.self.view_is
-      c.new.result c.new.ensures c.close.ensures.reached)
+    c.new.result c.new.ensures c.close.ensures.reached)

@@ -1,7 +1,7 @@
 use Rattle.std.proofs.Common.{◌≡◌, ◌%◌, ◌<◌, ℕ, length, ap, sym, subst, ◌∙◌}
 use Rattle.word_table.specs.Answers.{Answers, AnswersAlone}
 use Rattle.word_table.specs.Driver.{FabricData, DriverData}
-use Rattle.word_table.specs.Share.{IsOf, share_view, woven_view}
+use Rattle.word_table.specs.Share.{share_view, woven_view}
 use Rattle.word_table.proofs.Told.{own_share, of_views, told_of, alone_answers}
 use Rattle.word_table.proofs.fabric.Fabric.try_micro.Goals as goal
 

@@ -1,10 +1,9 @@
-use Rattle.std.proofs.Common.{◌≡◌, ap, refl, rules, subst, sym, ◌∙◌, w64, to_z, of_z}
+use Rattle.std.proofs.Common.{ap, refl, rules, subst, ◌∙◌, w64, to_z, of_z}
 use Rattle.std.proofs.lemmas.Int.{to_z-of_z}
 use mir.Val.{SFits}
 use Rattle.executive_program.specs.declared.steps.MicroStep.{MicroStep}
-use Rattle.executive_program.specs.declared.steps.MicroStep.TheVariants.{Load}
-use Rattle.semaphore_core.specs.Held.{NeedsReaction, Fits, AreReady, LoadHasRow}
-use Rattle.semaphore_core.specs.Job.{JobData, reactions}
+use Rattle.semaphore_core.specs.Held.{NeedsReaction}
+use Rattle.semaphore_core.specs.Job.{reactions}
 use Rattle.word_table.proofs.Drivers.{can_count, loads_freely, free_steps}
 use Rattle.word_table.proofs.Making.{can_step, needs, room, has_registers, load_row, finds_told, loaded_driver}
 use Rattle.word_table.proofs.woven.Woven.load_into.Goals as goal
