@@ -1,28 +1,24 @@
 -- The program that is assembled is that of the schedule, and the limits are its limits.
-use Rattle.std.proofs.Common.{◌≡◌, ℕ, zero, suc, ◌+◌, ◌-◌, ◌^◌, ◌<◌, ◌≤◌, ◌*◌, Bool, true, false, cond, min, List, [], ◌∷◌, length, map, Option, Some, None, refl, sym, ap, subst, arith, ◌∙◌, Vec, Global}
+use Rattle.std.proofs.Common.{◌≡◌, ℕ, suc, ◌+◌, ◌<◌, ◌≤◌, ◌*◌, Bool, true, false, cond, List, [], ◌∷◌, length, map, Option, Some, None, refl, sym, ap, subst, arith, ◌∙◌, Vec, Global}
 use Rattle.std.specs.Prelude.{slice_get, slice_index_or, nat_eq, nat_lt, Result, Ok, Err, IfOk, IfErr}
 use Rattle.std.specs.List.{flat_map, position_or_len}
 use Rattle.std.proofs.lemmas.List.{length-map}
-use Rattle.flat_graph.specs.declared.vertex.Vertex.{Vertex}
 use Rattle.flat_graph.specs.Graph.{Graph}
 use Rattle.flat_graph.specs.Valid.{is_flat}
 use Rattle.archi_graph.specs.declared.medium.Seq.{Seq}
 use Rattle.archi_graph.specs.Archi.{Architecture, is_archi, is_depth}
 use Rattle.archi_graph.specs.Sequences.{sequences}
 use Rattle.schedule.specs.declared.decision.Schedule.{Schedule}
-use Rattle.schedule.specs.Acts.{Act, carry, run, acts, Copy, same_copy, made_by}
-use Rattle.schedule.specs.Valid.{is_valid}
+use Rattle.schedule.specs.Acts.{Act, carry, run, acts, Copy}
 use Rattle.syn_base.specs.declared.limits.LimitKind.{LimitKind}
-use Rattle.syn_base.specs.declared.limits.LimitKind.TheVariants.{Words, MicroSteps}
+use Rattle.syn_base.specs.declared.limits.LimitKind.TheVariants.{Words}
 use Rattle.syn_base.specs.declared.limits.LimitFault.{LimitFault}
 use Rattle.syn_base.specs.Limits.{bound_of}
 use Rattle.executive_program.specs.declared.program.Instr.{Instr}
-use Rattle.executive_program.specs.declared.program.SeqCode.{SeqCode}
 use Rattle.executive_program.specs.declared.program.Program.{Program}
 use Rattle.executive_program.specs.Instructions.{Reader, readers}
 use Rattle.executive_program.specs.MicroSteps.{words}
-use Rattle.executive_program.specs.Steps.{all_turns}
-use Rattle.sequence_build_laws.specs.Serial.{Step, step, projection, codes, copies, buffer_for, plain_steps, plain_program, steps_of as serial_steps}
+use Rattle.sequence_build_laws.specs.Serial.{Step, projection, codes, copies, buffer_for, plain_steps, plain_program, steps_of as serial_steps}
 use Rattle.sequence_build_laws.specs.Guarded.{guarded, operator_in, guarded_buffers}
 use Rattle.sequence_build_laws.specs.Built.{program_of}
 use Rattle.sequence_build_laws.proofs.Guards.{map-map}
@@ -33,11 +29,11 @@ use Rattle.sequence_build.specs.declared.error.BuildError.{BuildError}
 use Rattle.sequence_build.specs.declared.error.BuildError.TheVariants.{Limit, OutOfMemory}
 use Rattle.sequence_build.specs.Limit.{above, program_limit}
 use Rattle.sequence_build.specs.Numbers.{place, number_in, AreCovered}
-use Rattle.sequence_build.specs.Plain.{steps_of, elements, loop_at, HasLoops, codes_from}
+use Rattle.sequence_build.specs.Plain.{steps_of, elements, HasLoops, codes_from}
 use Rattle.sequence_build.specs.Pairs.{plain_pairs, reader_of}
 use Rattle.sequence_build.specs.Program.{paired, lined, assembled, steps_limit, IsLong, IsAssembled, IsExcess}
 use Rattle.sequence_build.specs.Answers.{IsValid, IsProgram, IsRefusal}
-use Rattle.sequence_build.proofs.Covering.{covered, once, single}
+use Rattle.sequence_build.proofs.Covering.{once, single}
 use Rattle.sequence_build.proofs.Deepening.{AreSingle, buffers_same}
 use Rattle.sequence_build.proofs.Guarding.{codes_same}
 use Rattle.sequence_build.proofs.Numbering.{numbers_are}
@@ -72,12 +68,12 @@ module _ (g : Graph) (a : Architecture) (s : Schedule) where
   plain_loops few cover places table vs are many each count loops =
       let size : length places ≡ length (copies g a s) = ap (λ (l : List ℕ). length l) are ∙ length-map (copies g a s) place in
       let number : (c : Copy) → number_in table (length places) c ≡ buffer_for g a s c = λ c.
-          ap (λ (n : ℕ). number_in table n c) size
-          ∙ numbers_are (length g.vertices) few (copies g a s) table cover many (λ k l. each k l ∙ ap (position_or_len (nat_eq k)) are) c in
+      ap (λ (n : ℕ). number_in table n c) size
+      ∙ numbers_are (length g.vertices) few (copies g a s) table cover many (λ k l. each k l ∙ ap (position_or_len (nat_eq k)) are) c in
       loops_are (plain_steps g a s) 0 vs (sequences a) count (λ i l.
-          loops i l
-          ∙ (λ j. projection (flat_map (λ x. same_steps (number_in table (length places)) number x j) (acts s)) i)
-          ∙ ap (projection (plain_steps g a s)) (let z : i ≡ 0 + i = omega arith in z))
+      loops i l
+      ∙ (λ j. projection (flat_map (λ x. same_steps (number_in table (length places)) number x j) (acts s)) i)
+      ∙ ap (projection (plain_steps g a s)) (let z : i ≡ 0 + i = omega arith in z))
 
 -- A program with the semaphores of its pairs, where each buffer is written once and has one place.
 pub guarded_is : (depth : ℕ) (p : Program) → WritesOnce p.seqs → AreSingle p.buffers → guarded depth p ≡ assembled depth p

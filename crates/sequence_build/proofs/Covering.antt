@@ -1,10 +1,9 @@
 -- What a valid schedule gives the code: every copy is of an output on an operator, and every buffer is written once.
-use Rattle.std.proofs.Common.{◌≡◌, ℕ, zero, suc, ◌+◌, ◌<◌, ◌≤◌, Bool, true, ◌&&◌, List, [], ◌∷◌, length, map, Option, Some, None, refl, sym, ap, arith, ◌∙◌}
-use Rattle.std.specs.Prelude.{slice_get, nat_le, nat_lt}
+use Rattle.std.proofs.Common.{◌≡◌, ℕ, zero, suc, ◌<◌, ◌≤◌, true, ◌&&◌, [], length, Option, Some, refl, sym, ap, arith, ◌∙◌}
+use Rattle.std.specs.Prelude.{slice_get, nat_le}
 use Rattle.std.specs.List.{list_all}
 use Rattle.std.proofs.lemmas.Bool.{and_parts, leb-true}
 use Rattle.std.proofs.lemmas.Option.{same_Some, slice_get_within}
-use Rattle.flat_graph.specs.declared.vertex.Source.{Source}
 use Rattle.flat_graph.specs.declared.vertex.Vertex.{Vertex}
 use Rattle.flat_graph.specs.Graph.{Graph, lens_of}
 use Rattle.flat_graph.specs.Order.{is_acyclic}
@@ -12,15 +11,11 @@ use Rattle.flat_graph.specs.Valid.{is_flat, is_vertex, is_path, is_len, is_guard
 use Rattle.flat_graph.proofs.Facts.{vertex_valid}
 use Rattle.archi_graph.specs.Archi.{Architecture, is_archi, is_medium, are_bounded, are_distinct, names_of, are_joined, stands_in_all}
 use Rattle.archi_graph.specs.Sequences.{sequences}
-use Rattle.schedule.specs.declared.decision.Transfer.{Transfer}
-use Rattle.schedule.specs.declared.decision.Decision.{Decision}
 use Rattle.schedule.specs.declared.decision.Schedule.{Schedule}
 use Rattle.schedule.specs.Acts.{Act, carry, run, acts, Copy, copy, outputs_of, made_by}
 use Rattle.schedule.specs.Valid.{is_valid}
-use Rattle.executive_program.specs.declared.program.Instr.{Instr}
 use Rattle.executive_program.specs.declared.program.Buffer.{Buffer}
-use Rattle.executive_program.specs.declared.program.SeqCode.{SeqCode}
-use Rattle.executive_program.specs.Instructions.{writes, turn_of}
+use Rattle.executive_program.specs.Instructions.{turn_of}
 use Rattle.executive_program.specs.WellFormed.{Stands}
 use Rattle.sequence_build_laws.specs.Serial.{copies, buffer, plain_steps, plain_program}
 use Rattle.sequence_build_laws.proofs.Lists.{in_flat, from_map}
@@ -29,7 +24,7 @@ use Rattle.sequence_build_laws.proofs.Sequences.{stands_low}
 use Rattle.sequence_build_laws.proofs.Setting.{writes_of}
 use Rattle.sequence_build_laws.proofs.Steps.{setting, written_once}
 use Rattle.sequence_build_laws.proofs.Works.{of_transfer, of_run, origin, output_of}
-use Rattle.sequence_build.specs.Numbers.{IsCovered, AreCovered}
+use Rattle.sequence_build.specs.Numbers.{AreCovered}
 use Rattle.sequence_build.proofs.Pairing.{WritesOnce}
 use Rattle.sequence_build.proofs.Deepening.{AreSingle}
 

@@ -1,16 +1,15 @@
 -- Steps of the loops that note who reads, and that put lines round instructions.
-use Rattle.std.proofs.Common.{◌≡◌, ℕ, zero, suc, ◌+◌, ◌<◌, ◌≤◌, Bool, true, false, ◌||◌, cond, nat_eq, List, [], ◌∷◌, ◌++◌, length, map, drop, Some, refl, sym, ap, arith, ◌∙◌, append_assoc, add-one}
-use Rattle.std.specs.Prelude.{slice_get, slice_index_or}
+use Rattle.std.proofs.Common.{◌≡◌, ℕ, suc, ◌+◌, ◌<◌, ◌≤◌, Bool, true, false, ◌||◌, cond, nat_eq, List, [], ◌∷◌, ◌++◌, length, map, drop, refl, sym, ap, arith, ◌∙◌, add-one}
+use Rattle.std.specs.Prelude.{slice_index_or}
 use Rattle.std.specs.List.{list_any}
 use Rattle.std.proofs.Math.Seq.{drop-cons}
 use Rattle.executive_program.specs.declared.program.Instr.{Instr}
 use Rattle.executive_program.specs.declared.program.Instr.TheVariants.{Suc0, Suc1, Pre0, Pre1}
-use Rattle.sequence_build_laws.specs.Serial.{numbers_where}
 use Rattle.sequence_build.specs.declared.uses.Use.{Use}
 use Rattle.sequence_build.specs.declared.pairs.Pair.{Pair}
 use Rattle.sequence_build.specs.declared.around.Around.{Around}
 use Rattle.sequence_build.specs.Uses.{noted}
-use Rattle.sequence_build.specs.Around.{Surrounds, between, all_between, lines_with, loop_with, list_at}
+use Rattle.sequence_build.specs.Around.{Surrounds, all_between, loop_with}
 use Rattle.sequence_build.proofs.Places.{noted_twice}
 
 noted_more : (s at : ℕ) (old new whole : List Use) (t r : Bool) → new ≡ cond t (noted s at old) old → cond (t || r) (noted s at old) old ≡ whole → cond r (noted s at new) new ≡ whole
@@ -27,7 +26,7 @@ pub noted_next : (s at b i : ℕ) (ins : List ℕ) (old new whole : List Use) �
 noted_next s at b i ins old new whole h e w =
     let next : drop i ins ≡ slice_index_or ins i 0 ∷ drop (i + 1) ins = rw (add-one, drop-cons ins i 0) refl in
     noted_more s at old new whole (nat_eq (slice_index_or ins i 0) b) (list_any (λ c. nat_eq c b) (drop (i + 1) ins)) e
-        (ap (λ (l : List ℕ). cond (list_any (λ c. nat_eq c b) l) (noted s at old) old) (sym next) ∙ w)
+    (ap (λ (l : List ℕ). cond (list_any (λ c. nat_eq c b) l) (noted s at old) old) (sym next) ∙ w)
 
 -- the lines of a loop
 around_all : (s n : ℕ) (pairs : List Pair) (x : Around) → Surrounds s n pairs x → (a : ℕ) (xs : List Instr) → a + length xs ≤ n → all_between x a xs ≡ loop_with pairs s a xs

@@ -1,14 +1,13 @@
 -- The table of numbers gives each copy the number of its buffer.
-use Rattle.std.proofs.Common.{◌≡◌, ℕ, zero, suc, ◌+◌, ◌*◌, ◌<◌, ◌≤◌, ◌⊎◌, Bool, true, false, ◌&&◌, not, cond, nat_eq, List, [], ◌∷◌, length, map, Some, refl, sym, ap, inl, inr, arith, ◌∙◌, eq-eqb, get_or}
+use Rattle.std.proofs.Common.{◌≡◌, ℕ, zero, suc, ◌+◌, ◌*◌, ◌<◌, ◌≤◌, ◌⊎◌, Bool, true, false, ◌&&◌, not, cond, nat_eq, List, [], ◌∷◌, length, map, Some, refl, sym, ap, inl, inr, arith, ◌∙◌, eq-eqb}
 use Rattle.std.specs.Prelude.{slice_get, slice_index_or, nat_lt}
 use Rattle.std.specs.List.{position_or_len}
 use Rattle.std.specs.Cmp.Derive.{both_true}
-use Rattle.std.proofs.lemmas.Bool.{false≢true, and_parts, eqb-true, ltb-true, cases_Bool, cases_lt, lt-ltb}
-use Rattle.std.proofs.lemmas.List.{get_or_past, length-map}
-use Rattle.flat_graph.specs.declared.vertex.Source.{Source}
+use Rattle.std.proofs.lemmas.Bool.{and_parts, eqb-true, ltb-true, cases_Bool, cases_lt, lt-ltb}
+use Rattle.std.proofs.lemmas.List.{get_or_past}
 use Rattle.schedule.specs.Acts.{Copy, same_copy}
 use Rattle.sequence_build_laws.proofs.Guards.{same_bool}
-use Rattle.sequence_build_laws.proofs.Works.{copy_is, same_copy_self}
+use Rattle.sequence_build_laws.proofs.Works.{copy_is}
 use Rattle.sequence_build.specs.Numbers.{covers, place, number_in, IsCovered, AreCovered}
 
 position-map : {A B : Type 0} (p : B → Bool) (f : A → B) (xs : List A) → position_or_len p (map f xs) ≡ position_or_len (λ x. p (f x)) xs
@@ -61,9 +60,9 @@ module _ (operations : ℕ) (few : operations ≤ 2048) where
   same_place : (c d : Copy) → place c < operations * 1024 → IsCovered operations d → nat_eq (place c) (place d) ≡ same_copy c d
   same_place c d h k = same_bool (nat_eq (place c) (place d)) (same_copy c d)
       (λ t. let s = spot_of c h in
-          let e : spot c ≡ spot d = sym s.is ∙ eqb-true (place c) (place d) t ∙ place_is d k in
-          let z = same_spot c.source.vertex c.source.port c.operator d.source.vertex d.source.port d.operator s.port k.port s.operator k.operator e in
-          both_true (both_true (eq-eqb c.operator d.operator z.2) (eq-eqb c.source.vertex d.source.vertex z.0)) (eq-eqb c.source.port d.source.port z.1))
+      let e : spot c ≡ spot d = sym s.is ∙ eqb-true (place c) (place d) t ∙ place_is d k in
+      let z = same_spot c.source.vertex c.source.port c.operator d.source.vertex d.source.port d.operator s.port k.port s.operator k.operator e in
+      both_true (both_true (eq-eqb c.operator d.operator z.2) (eq-eqb c.source.vertex d.source.vertex z.0)) (eq-eqb c.source.port d.source.port z.1))
       (λ t. eq-eqb (place c) (place d) (ap place (copy_is c d t)))
 
   pub numbers_are : (copies : List Copy) (table : List ℕ) → AreCovered operations copies → length table ≡ operations * 1024

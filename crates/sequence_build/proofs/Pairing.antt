@@ -1,32 +1,31 @@
 -- The pairs that are found are the readers of the program, each with the places of its first read, its last read and its write.
-use Rattle.std.proofs.Common.{◌≡◌, ℕ, zero, suc, ◌+◌, ◌<◌, ◌≤◌, ◌⊎◌, Bool, true, false, ◌&&◌, ◌||◌, not, cond, nat_eq, List, [], ◌∷◌, ◌++◌, length, map, take, drop, Option, Some, None, refl, sym, ap, subst, inl, inr, arith, ◌∙◌, eq-eqb, Vec, Global}
+use Rattle.std.proofs.Common.{◌≡◌, ℕ, zero, suc, ◌+◌, ◌<◌, Bool, true, false, ◌&&◌, not, cond, nat_eq, List, [], ◌∷◌, ◌++◌, length, map, Option, Some, None, refl, sym, ap, subst, inl, inr, arith, ◌∙◌, eq-eqb, Vec, Global}
 use Rattle.std.specs.Prelude.{slice_get, is_some}
 use Rattle.std.specs.List.{list_any}
-use Rattle.std.proofs.lemmas.Bool.{false≢true, eqb-true, ne_eqb, cases_Bool, and_parts}
+use Rattle.std.proofs.lemmas.Bool.{false≢true, eqb-true, cases_Bool, and_parts}
 use Rattle.std.proofs.lemmas.Option.{same_Some}
-use Rattle.std.proofs.lemmas.List.{append-nil, map-append}
+use Rattle.std.proofs.lemmas.List.{map-append}
 use Rattle.executive_program.specs.declared.program.Instr.{Instr}
 use Rattle.executive_program.specs.declared.program.SeqCode.{SeqCode}
 use Rattle.executive_program.specs.declared.program.Program.{Program}
 use Rattle.executive_program.specs.Blocks.{blocks}
-use Rattle.executive_program.specs.Instructions.{reads, writes, waits_for, Reader, readers_from, readers}
+use Rattle.executive_program.specs.Instructions.{reads, writes, Reader, readers_from, readers}
 use Rattle.sequence_build_laws.proofs.Guards.{same_bool, in_blocks}
 use Rattle.sequence_build_laws.proofs.Lists.{any_at, any_of}
 use Rattle.sequence_build.specs.declared.uses.Use.{Use}
 use Rattle.sequence_build.specs.declared.uses.Place.{Place}
 use Rattle.sequence_build.specs.declared.pairs.Pair.{Pair}
-use Rattle.sequence_build.specs.Uses.{use_of, place_of, uses_at, write_at, uses_by, write_by, first_from, last_from}
+use Rattle.sequence_build.specs.Uses.{use_of, uses_at, write_at, uses_by, write_by, first_from, last_from}
 use Rattle.sequence_build.specs.Pairs.{is_in, pairs_with, pairs_below, pairs_at, plain_pairs, reader_of}
 use Rattle.sequence_build.specs.Around.{is_at}
-use Rattle.sequence_build.proofs.Places.{use_in}
-use Rattle.sequence_build.proofs.Sequencing.{all_uses, uses_from_none, Found, write_found, write_there}
+use Rattle.sequence_build.proofs.Sequencing.{all_uses, uses_from_none, write_found, write_there}
 
 readers_same : (b s : ℕ) (w : Option Place) (qs : List SeqCode) → ((i : ℕ) (q : SeqCode) → slice_get qs i ≡ Some q → is_in w (s + i) ≡ list_any (writes b) q.turn)
     → map reader_of (pairs_with b w (all_uses (reads b) s qs)) ≡ readers_from s qs b
 readers_same b s w [] h = refl
 readers_same b s w (q ∷ qs) h =
     by (list_any (reads b) q.turn) (list_any (writes b) q.turn) (ap (is_in w) (let z : s ≡ s + 0 = omega arith in z) ∙ h 0 q refl)
-        (readers_same b (suc s) w qs (λ i r e. ap (is_in w) (let z : suc s + i ≡ s + suc i = omega arith in z) ∙ h (suc i) r e))
+    (readers_same b (suc s) w qs (λ i r e. ap (is_in w) (let z : suc s + i ≡ s + suc i = omega arith in z) ∙ h (suc i) r e))
   where
     u : Use
     u = use_of s (first_from (reads b) 0 q.turn) (last_from (reads b) 0 0 q.turn)
@@ -132,14 +131,14 @@ module _ (p : Program) where
           | inl n ↦ absurd cc
           | inr f ↦ same_bool (writes b x) (nat_eq z.sequence s && nat_eq z.at a)
               (λ t. let same = once b s a f.number z.at q f.code x f.instr e h f.is_code f.stands t f.passes in
-                  let n = f.sequence in let i = same.0 in let j = same.1 in
-                  (λ k. eq-eqb z.sequence s (omega arith) k && eq-eqb z.at a (omega arith) k))
+              let n = f.sequence in let i = same.0 in let j = same.1 in
+              (λ k. eq-eqb z.sequence s (omega arith) k && eq-eqb z.at a (omega arith) k))
               (λ t. let parts = and_parts (nat_eq z.sequence s) (nat_eq z.at a) t in
-                  let m = eqb-true z.sequence s parts.0 in let l = eqb-true z.at a parts.1 in let n = f.sequence in
-                  let number : s ≡ f.number = omega arith in
-                  let code : q ≡ f.code = same_Some q f.code (sym e ∙ ap (slice_get p.seqs) number ∙ f.is_code) in
-                  let instr : x ≡ f.instr = same_Some x f.instr (sym h ∙ (λ i. slice_get (code i).turn (sym l i)) ∙ f.stands) in
-                  ap (writes b) instr ∙ f.passes)
+              let m = eqb-true z.sequence s parts.0 in let l = eqb-true z.at a parts.1 in let n = f.sequence in
+              let number : s ≡ f.number = omega arith in
+              let code : q ≡ f.code = same_Some q f.code (sym e ∙ ap (slice_get p.seqs) number ∙ f.is_code) in
+              let instr : x ≡ f.instr = same_Some x f.instr (sym h ∙ (λ i. slice_get (code i).turn (sym l i)) ∙ f.stands) in
+              ap (writes b) instr ∙ f.passes)
         ]
 
     pub writer_is : (b s : ℕ) (q : SeqCode) → slice_get p.seqs s ≡ Some q → is_in (write_by (writes b) 0 p.seqs None) s ≡ list_any (writes b) q.turn
@@ -154,19 +153,19 @@ module _ (p : Program) where
           | inl n ↦ absurd cc
           | inr f ↦ same_bool (nat_eq z.sequence s) (list_any (writes b) q.turn)
               (λ t. let m = eqb-true z.sequence s t in let n = f.sequence in let number : s ≡ f.number = omega arith in
-                  let code : f.code ≡ q = same_Some f.code q (sym f.is_code ∙ ap (slice_get p.seqs) (sym number) ∙ e) in
-                  any_at (writes b) q.turn z.at f.instr (ap (λ (c : SeqCode). slice_get c.turn z.at) (sym code) ∙ f.stands) f.passes)
+              let code : f.code ≡ q = same_Some f.code q (sym f.is_code ∙ ap (slice_get p.seqs) (sym number) ∙ e) in
+              any_at (writes b) q.turn z.at f.instr (ap (λ (c : SeqCode). slice_get c.turn z.at) (sym code) ∙ f.stands) f.passes)
               (λ t. let k = any_of (writes b) q.turn t in
-                  let same = once b s k.0 f.number z.at q f.code k.1 f.instr e k.2 f.is_code f.stands k.3 f.passes in
-                  let n = f.sequence in let i = same.0 in eq-eqb z.sequence s (omega arith))
+              let same = once b s k.0 f.number z.at q f.code k.1 f.instr e k.2 f.is_code f.stands k.3 f.passes in
+              let n = f.sequence in let i = same.0 in eq-eqb z.sequence s (omega arith))
         ]
 
     pub readers_are : map reader_of (plain_pairs p) ≡ readers p
     readers_are =
         map-blocks reader_of (pairs_at p) (length p.buffers)
         ∙ blocks-same (λ b. map reader_of (pairs_at p b)) (readers_from 0 p.seqs) (length p.buffers) (λ b l.
-            ap (λ (us : List Use). map reader_of (pairs_with b (write_by (writes b) 0 p.seqs None) us)) (uses_from_none (reads b) p.seqs)
-            ∙ readers_same b 0 (write_by (writes b) 0 p.seqs None) p.seqs (λ i q e. ap (is_in (write_by (writes b) 0 p.seqs None)) (let z : 0 + i ≡ i = omega arith in z) ∙ writer_is b i q e))
+        ap (λ (us : List Use). map reader_of (pairs_with b (write_by (writes b) 0 p.seqs None) us)) (uses_from_none (reads b) p.seqs)
+        ∙ readers_same b 0 (write_by (writes b) 0 p.seqs None) p.seqs (λ i q e. ap (is_in (write_by (writes b) 0 p.seqs None)) (let z : 0 + i ≡ i = omega arith in z) ∙ writer_is b i q e))
 
 -- the pairs of tables that say what each buffer's uses are
 pub below_is : (p : Program) (uses : List (Vec Use Global)) (writers : List (Option Place)) (n : ℕ) → n ≡ length p.buffers

@@ -1,13 +1,12 @@
 -- Places in a loop: of the first and the last instruction that passes a test, and of what is noted of them.
-use Rattle.std.proofs.Common.{◌≡◌, ℕ, zero, suc, ◌+◌, ◌-◌, ◌<◌, ◌≤◌, ◌⊎◌, Bool, true, false, ◌&&◌, ◌||◌, not, cond, nat_eq, List, [], ◌∷◌, ◌++◌, length, take, drop, Option, Some, None, refl, sym, ap, subst, inl, inr, arith, ◌∙◌, length-append, eq-eqb}
+use Rattle.std.proofs.Common.{◌≡◌, ℕ, zero, suc, ◌+◌, ◌-◌, ◌≤◌, ◌⊎◌, Bool, true, false, ◌&&◌, ◌||◌, not, cond, nat_eq, List, [], ◌∷◌, ◌++◌, length, take, drop, Some, refl, sym, ap, inl, inr, arith, ◌∙◌, length-append, eq-eqb}
 use Rattle.std.specs.Prelude.{slice_get, slice_set}
 use Rattle.std.specs.List.{list_any}
-use Rattle.std.proofs.lemmas.Bool.{false≢true, eqb-true, or_cases, ne_eqb, cases_Bool}
+use Rattle.std.proofs.lemmas.Bool.{false≢true, or_cases, ne_eqb, cases_Bool}
 use Rattle.std.proofs.lemmas.Option.{same_Some}
-use Rattle.std.proofs.lemmas.List.{append-nil, append_assoc}
+use Rattle.std.proofs.lemmas.List.{append-nil}
 use Rattle.sequence_build.specs.declared.uses.Use.{Use}
-use Rattle.sequence_build.specs.declared.uses.Place.{Place}
-use Rattle.sequence_build.specs.Uses.{use_of, place_of, is_by, prolonged, last_of, noted, uses_in, write_in, first_from, last_from}
+use Rattle.sequence_build.specs.Uses.{use_of, is_by, prolonged, last_of, noted, uses_in, first_from, last_from}
 
 last_index : {A : Type 0} (xs : List A) (x : A) → length (xs ++ x ∷ []) - 1 ≡ length xs
 last_index xs x = let e = length-append xs (x ∷ []) in omega arith

@@ -1,5 +1,5 @@
 -- Semaphore lines send nothing, so the words of a program can be counted before they are made.
-use Rattle.std.proofs.Common.{◌≡◌, ℕ, zero, suc, ◌+◌, ◌*◌, ◌≤◌, Bool, true, false, cond, max, List, [], ◌∷◌, ◌++◌, length, map, Option, refl, sym, ap, arith, ◌∙◌}
+use Rattle.std.proofs.Common.{◌≡◌, ℕ, suc, ◌+◌, ◌*◌, cond, max, List, [], ◌∷◌, ◌++◌, length, map, refl, sym, ap, arith, ◌∙◌}
 use Rattle.interleavings.specs.Owners.{sum_below}
 use Rattle.executive_program.specs.declared.program.Instr.{Instr}
 use Rattle.executive_program.specs.declared.program.Instr.TheVariants.{Suc0, Suc1, Pre0, Pre1}
@@ -7,11 +7,11 @@ use Rattle.executive_program.specs.declared.program.SeqCode.{SeqCode}
 use Rattle.executive_program.specs.declared.program.Buffer.{Buffer}
 use Rattle.executive_program.specs.declared.program.Program.{Program}
 use Rattle.executive_program.specs.Instructions.{len_of, depth_of}
-use Rattle.executive_program.specs.MicroSteps.{sent_len, longest_sent, longest_in, longest_on, is_on, wire_len, words}
+use Rattle.executive_program.specs.MicroSteps.{sent_len, longest_sent, longest_on, is_on, words}
 use Rattle.sequence_build_laws.specs.Serial.{numbers_where}
 use Rattle.sequence_build.specs.declared.pairs.Pair.{Pair}
 use Rattle.sequence_build.specs.declared.around.Moment.TheVariants.{FirstRead, LastRead, Write}
-use Rattle.sequence_build.specs.Around.{is_then, lines_with, loop_with, code_with, codes_with}
+use Rattle.sequence_build.specs.Around.{is_then, lines_with, loop_with, codes_with}
 
 max_none : (n : ℕ) → max 0 n ≡ n
 max_none n = omega arith
@@ -35,9 +35,9 @@ module _ (p : Program) where
       let write = numbers_where (is_then Write s a) 0 pairs in
       let last = numbers_where (is_then LastRead s a) 0 pairs in
       let before : longest_sent p (map Suc1 first ++ map Suc0 write) ≡ 0 =
-          longest-append (map Suc1 first) (map Suc0 write) ∙ (λ i. max (silent Suc1 (λ q. refl) first i) (silent Suc0 (λ q. refl) write i)) in
+      longest-append (map Suc1 first) (map Suc0 write) ∙ (λ i. max (silent Suc1 (λ q. refl) first i) (silent Suc0 (λ q. refl) write i)) in
       let after : longest_sent p (map Pre0 last ++ map Pre1 write) ≡ 0 =
-          longest-append (map Pre0 last) (map Pre1 write) ∙ (λ i. max (silent Pre0 (λ q. refl) last i) (silent Pre1 (λ q. refl) write i)) in
+      longest-append (map Pre0 last) (map Pre1 write) ∙ (λ i. max (silent Pre0 (λ q. refl) last i) (silent Pre1 (λ q. refl) write i)) in
       longest-append (map Suc1 first ++ map Suc0 write) (x ∷ (map Pre0 last ++ map Pre1 write))
       ∙ (λ i. max (before i) (max (sent_len p x) (after i)))
       ∙ (let n = sent_len p x in omega arith)

@@ -5,7 +5,6 @@ use Rattle.archi_graph.specs.Archi.{Architecture}
 use Rattle.archi_graph.specs.Sequences.{sequences}
 use Rattle.schedule.specs.declared.decision.Schedule.{Schedule}
 use Rattle.schedule.specs.Valid.{is_valid}
-use Rattle.syn_base.specs.declared.limits.LimitFault.{LimitFault}
 use Rattle.executive_program.specs.declared.program.Program.{Program}
 use Rattle.executive_program.specs.WellFormed.{IsOrder}
 use Rattle.sequence_build_laws.specs.Built.{program_of, order_of}

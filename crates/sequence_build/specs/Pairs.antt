@@ -1,5 +1,5 @@
 -- The pairs of semaphores with the places of what they guard.
-use Rattle.std.specs.Prelude.{ℕ, ◌&&◌, Bool, true, false, not, cond, nat_eq, List, [], ◌∷◌, length, Option, Some, None, slice_get, slice_set}
+use Rattle.std.specs.Prelude.{ℕ, Bool, false, cond, nat_eq, List, [], ◌∷◌, length, Option, Some, None, slice_get, slice_set}
 use Rattle.std.specs.Global.{Vec}
 use Rattle.executive_program.specs.declared.program.Buffer.{Buffer}
 use Rattle.executive_program.specs.Blocks.{blocks}

@@ -1,13 +1,12 @@
 -- The instructions of acts, where a copy's buffer has the number that a function gives it.
 use Rattle.std.specs.Prelude.{◌≡◌, ℕ, ◌<◌, List, [], ◌∷◌, ◌++◌, map, length, Option, Some, None, slice_get}
-use Rattle.std.specs.List.{flat_map, position_or_len}
+use Rattle.std.specs.List.{position_or_len}
 use Rattle.std.specs.Global.{Vec}
 use Rattle.flat_graph.specs.declared.vertex.Guard.{Guard}
 use Rattle.flat_graph.specs.declared.vertex.Source.{Source}
 use Rattle.flat_graph.specs.declared.vertex.Vertex.{Vertex}
 use Rattle.archi_graph.specs.declared.medium.Seq.{Seq}
 use Rattle.schedule.specs.declared.decision.Transfer.{Transfer}
-use Rattle.schedule.specs.declared.decision.Decision.{Decision}
 use Rattle.schedule.specs.Acts.{Act, carry, run, Copy, copy, read_by, made_by}
 use Rattle.executive_program.specs.declared.program.Instr.{Instr}
 use Rattle.executive_program.specs.declared.program.SeqCode.{SeqCode}

@@ -114,7 +114,12 @@ fn gathered(
 {
     let mut lists = no_lists(alloc, count)?;
     for (pair_number, pair) in pairs.iter().enumerate() {
-        note_at(&mut lists, sequence, moment_of(moment, *pair), number(pair_number)?)?;
+        note_at(
+            &mut lists,
+            sequence,
+            moment_of(moment, *pair),
+            number(pair_number)?,
+        )?;
     }
     Ok(lists)
 }

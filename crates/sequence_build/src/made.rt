@@ -103,11 +103,7 @@ impl Made {
     }
 
     /// What these transfers bring.
-    fn carry_all(
-        &mut self,
-        vertices: &[Vertex],
-        transfers: &[Transfer],
-    ) -> Result<(), OutOfMemory>
+    fn carry_all(&mut self, vertices: &[Vertex], transfers: &[Transfer]) -> Result<(), OutOfMemory>
         ensures { OnOk result (Makes vertices.now self.old self.new (flat_map (made_by vertices.now) (map carry transfers.now))) }
     {
         for transfer in transfers {

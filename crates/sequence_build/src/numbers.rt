@@ -14,11 +14,7 @@ fn table_of(alloc: Global, size: usize, number: u32) -> Result<Vec<u32>, OutOfMe
 
 /// For each place below `size` the number, from 0, of the first of these that is this place, and how
 /// many they are where none is.
-pub fn first_numbers(
-    alloc: Global,
-    size: usize,
-    places: &[u32],
-) -> Result<Vec<u32>, OutOfMemory>
+pub fn first_numbers(alloc: Global, size: usize, places: &[u32]) -> Result<Vec<u32>, OutOfMemory>
     ensures many { IfOk result (λ t. length t.items ≡ size) }
     ensures each { IfOk result (λ t. (k : ℕ) → k < size → slice_index_or t.items k 0 ≡ position_or_len (nat_eq k) places.now) }
 {

@@ -64,7 +64,12 @@ pub fn pairs_of(
 {
     let mut pairs = Vec::new(alloc);
     for buffer in 0..uses.len() {
-        push_pairs(&mut pairs, number(buffer)?, writes[buffer], uses[buffer].as_slice())?;
+        push_pairs(
+            &mut pairs,
+            number(buffer)?,
+            writes[buffer],
+            uses[buffer].as_slice(),
+        )?;
     }
     Ok(pairs)
 }

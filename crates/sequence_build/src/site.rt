@@ -120,7 +120,11 @@ impl<'a> Site<'a> {
         ensures { result ≡ numbering self.now (copy operator source) }
     {
         let place = place_of(operator, source) as usize;
-        if place < self.numbers.len() { self.numbers[place] } else { self.copies }
+        if place < self.numbers.len() {
+            self.numbers[place]
+        } else {
+            self.copies
+        }
     }
 
     /// The number of an operator's sequence.
@@ -131,11 +135,7 @@ impl<'a> Site<'a> {
     }
 
     /// The waits for a transfer in the other communicators of its medium.
-    fn wait_all(
-        &self,
-        loops: &mut Vec<Vec<Instr>>,
-        transfer: Transfer,
-    ) -> Result<(), OutOfMemory>
+    fn wait_all(&self, loops: &mut Vec<Vec<Instr>>, transfer: Transfer) -> Result<(), OutOfMemory>
         ensures many { vec_len loops.new ≡ vec_len loops.old }
         ensures adds { OnOk result (Adds loops.old.items loops.new.items (waits_from transfer 0 self.now.sequences.now)) }
     {
@@ -152,11 +152,7 @@ impl<'a> Site<'a> {
     }
 
     /// A transfer: the send, the receive, and the waits of the others.
-    fn carry(
-        &self,
-        loops: &mut Vec<Vec<Instr>>,
-        transfer: Transfer,
-    ) -> Result<(), OutOfMemory>
+    fn carry(&self, loops: &mut Vec<Vec<Instr>>, transfer: Transfer) -> Result<(), OutOfMemory>
         ensures many { vec_len loops.new ≡ vec_len loops.old }
         ensures adds { OnOk result (Adds loops.old.items loops.new.items (steps_at self.now (carry transfer))) }
     {
@@ -164,12 +160,20 @@ impl<'a> Site<'a> {
             buffer: self.buffer(transfer.from, transfer.source),
             to: transfer.to,
         };
-        push_step(loops, self.sequence(transfer.from, Some(transfer.medium))?, send)?;
+        push_step(
+            loops,
+            self.sequence(transfer.from, Some(transfer.medium))?,
+            send,
+        )?;
         let receive = Instr::Recv {
             buffer: self.buffer(transfer.to, transfer.source),
             from: transfer.from,
         };
-        push_step(loops, self.sequence(transfer.to, Some(transfer.medium))?, receive)?;
+        push_step(
+            loops,
+            self.sequence(transfer.to, Some(transfer.medium))?,
+            receive,
+        )?;
         self.wait_all(loops, transfer)?;
         Ok(())
     }

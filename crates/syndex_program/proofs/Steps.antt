@@ -9,7 +9,10 @@ use Rattle.algo_text.specs.Text.{definitions_of}
 use Rattle.algo_rules.specs.Placed.{Gives}
 use Rattle.algo_rules.specs.Resolved.{resolution_of}
 use Rattle.algo_tree.specs.Tree.{Vertex}
+use Rattle.csv.specs.Reading.{default_config, records, strip_bom}
 use Rattle.sensor_table.specs.Answers as table
+use Rattle.sensor_table.specs.SensorTable.{rows_of}
+use Rattle.syn_base.specs.Rows.{Reactions}
 use Rattle.sensor_table.specs.declared.fault.SensorError.{SensorError}
 use Rattle.sensor_table.specs.declared.fault.SensorError.TheVariants as sensors
 use Rattle.syn_base.specs.declared.limits.LimitFault.{LimitFault}
@@ -20,7 +23,7 @@ use Rattle.command_plan.proofs.Makes.{after_err, after_ok, memory}
 use Rattle.command_status.specs.Status.{Refusal, above, ending_of, of_algorithm, of_sensors, status_of_algorithm, status_of_sensors}
 use Rattle.top_plans.specs.Given.{Given}
 use Rattle.top_plans.specs.Plans.{Made, algorithm_plan, table_plan, unless}
-use Rattle.syndex_program.specs.Reads.{IsAlgorithm, IsRefused, MakesAlgorithm, ReadsAlgorithm, resolves_none, says_none}
+use Rattle.syndex_program.specs.Reads.{IsAlgorithm, IsRefused, MakesAlgorithm, ReadsAlgorithm, ReadsTable, resolves_none, says_none}
 use Rattle.syndex_program.specs.declared.algorithm.Algorithm.{Algorithm}
 
 module _ {X : Type 0} (held : Held) (answer : Result X AlgoError) (next : X → Made) where
@@ -63,6 +66,12 @@ table_refused held answer next (sensors.Limit fault) (inl is) = after_err held o
 table_refused held answer next sensors.OutOfMemory h = memory held held (after of_sensors answer next)
 table_refused held answer next (sensors.Refused fault) (inr wants) = cc
 table_refused held answer next (sensors.Limit fault) (inr wants) = cc
+
+-- a table was read, and then the plan went on with its rows
+pub rows_went_on : (main : Vertex) (name : Bytes) (a b c : Held) (rows : Reactions) (next : Reactions → Made) (made : Result Given (Ending Refusal))
+    → ReadsTable main name a b (Ok rows) → Makes b c (next rows) made → Makes a c (table_plan main name next) made
+rows_went_on main name a b c rows next made (table, read, tells, lens) m =
+    was_read b table read (after_ok b c of_sensors (rows_of main (records default_config (strip_bom table))) next made rows tells m)
 
 -- more than there may be
 pub is_above : (held : Held) (o : Option LimitFault) (fault : LimitFault) (next : Made) → o ≡ Some fault → Makes held held (unless o next) (Err (refused (above fault)))

@@ -3,7 +3,7 @@
 
 ghost use Rattle.std.specs.Prelude.{◌≡◌, map, IfSome, IsSomeAnd, None, Some, IfOk, option_map};
 ghost use Rattle.std.specs.String.{string_bytes};
-ghost use Rattle.command_plan.specs.Run.{Ends, Makes, Ran};
+ghost use Rattle.command_plan.specs.Run.{Ends, Makes, Performs, Ran};
 ghost use Rattle.command_status.specs.Lines.{line_of, Said};
 ghost use Rattle.command_status.specs.Status.{ending_of};
 ghost use Rattle.command_words.specs.Command.{command_of};
@@ -13,7 +13,7 @@ ghost use Rattle.run_laws.specs.Driven.{Driven, driven_by};
 ghost use Rattle.syndex_program.specs.Reads.{text_in};
 ghost use Rattle.syndex_program.specs.Replies.{RepliesTo};
 ghost use Rattle.syndex_program.specs.Unread.{LeavesUnread};
-ghost use Rattle.top_plans.specs.Given.{stages};
+ghost use Rattle.top_plans.specs.Given.{stages, written};
 ghost use Rattle.top_plans.specs.Plans.{plan_for};
 
 use chart::chart_text;
@@ -152,9 +152,16 @@ fn write_text<K: Sink>(out: &mut K, made: Result<Vec<u8>, Status>) -> Status
 {
     match made {
         Err(refused) => refused,
-        Ok(text) => match write_whole(out, &text) {
-            Ok(()) => Status::Done,
-            Err(Failed) => Status::WriteFault,
-        },
+        Ok(text) => put_text(out, &text),
+    }
+}
+
+/// Writes a text by one call.
+fn put_text<K: Sink>(out: &mut K, text: &[u8]) -> Status
+    ensures { (driven : Driven) → Performs driven_by (stages (written text.now)) (K.sunk out.old) (K.sunk out.new) driven driven (ending_of result) }
+{
+    match write_whole(out, text) {
+        Ok(()) => Status::Done,
+        Err(Failed) => Status::WriteFault,
     }
 }

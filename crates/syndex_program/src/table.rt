@@ -23,5 +23,6 @@ pub fn read_table<S: Shelf>(
 {
     let table = read_file(alloc, shelf, File::Sensors, name)?;
     tables_fit();
-    Ok(read_sensors(alloc, &table, tree)?)
+    let rows = read_sensors(alloc, &table, tree)?;
+    Ok(rows)
 }

@@ -8,5 +8,5 @@ use Rattle.sequence_build.proofs.program.pairs_in.Goals as goal
 pub returns : goal.returns
 returns c = subst (λ (l : List Pair). IfOk c.pairs_of.result (λ pairs. pairs.items ≡ l))
     (below_is c.args.plain.now c.in_ok-uses.uses.items c.as_slice.result.now _ c.in_ok-uses.ensures.many c.in_ok-uses.ensures.each
-        (λ b h. ap (λ l. write_at l b) c.as_slice.ensures.value ∙ c.in_ok-writes.ensures.each b h))
+    (λ b h. ap (λ l. write_at l b) c.as_slice.ensures.value ∙ c.in_ok-writes.ensures.each b h))
     c.pairs_of.ensures

@@ -1,0 +1,39 @@
+use Rattle.std.proofs.Common.{◌≡◌, ◌∙◌, ap, subst, length, sym}
+use Rattle.std.specs.Prelude.{None, Some}
+use Rattle.std.proofs.lemmas.Result.{err_from_is_err_and}
+use Rattle.durations.specs.Table.{entry_in}
+use Rattle.schedule.specs.declared.decision.Schedule.{Schedule}
+use Rattle.sequence_build_laws.specs.Built.{program_of}
+use Rattle.sequence_build.specs.Limit.{program_limit}
+use Rattle.command_plan.proofs.Makes.{memory}
+use Rattle.top_plans.specs.Plans.{program_by, program_plan}
+use Rattle.syndex_program.proofs.Steps.{is_above}
+use Rattle.syndex_program.proofs.program.built.Goals as goal
+
+pub build-requires : goal.build-requires
+build-requires c = (entry_in c.args.architecture.now.durations, c.in_ok-schedule.ensures.valid)
+
+pub returns-in_err-schedule : goal.returns-in_err-schedule
+returns-in_err-schedule c =
+    let given = c.args.architecture.now in
+    let p = err_from_is_err_and c.from_residual.result c.from_residual.ensures.1 in
+    rw (p.1, p.2) (λ held next. memory held held (program_plan given.flat given.text.archi given.durations next))
+
+pub returns-in-Ok : goal.returns-in-Ok
+returns-in-Ok c =
+    let given = c.args.architecture.now in
+    let a = given.text.archi in
+    let same = c.in_ok-schedule.ensures.run in (
+      c.in-Ok.ensures.0 ∙ ap (program_of given.flat a) same,
+      subst (λ (s : Schedule). program_limit (program_of given.flat a s) (length a.media) ≡ None) same c.in-Ok.ensures.1,
+    )
+
+pub returns-in-Err-Limit : goal.returns-in-Err-Limit
+returns-in-Err-Limit c = λ held next.
+    let given = c.args.architecture.now in
+    let a = given.text.archi in
+    let over = subst (λ (s : Schedule). program_limit (program_of given.flat a s) (length a.media) ≡ Some c.in-Err-Limit.limit) c.in_ok-schedule.ensures.run (rw c.in-Err-Limit.field-0-is at c.in-Err-Limit.ensures) in
+    is_above held (program_limit (program_by given.flat a given.durations) (length a.media)) c.in-Err-Limit.limit (next (program_by given.flat a given.durations)) over
+
+pub returns : goal.returns
+returns c = λ held next. let given = c.args.architecture.now in memory held held (program_plan given.flat given.text.archi given.durations next)
