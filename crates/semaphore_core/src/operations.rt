@@ -9,7 +9,7 @@ ghost use Rattle.flat_graph.specs.Valid.{is_flat};
 ghost use Rattle.flat_graph.specs.Fire.{fired_at, kept_at, cell_len, seen_len, out_lens, read_lens};
 ghost use Rattle.semaphore_core.specs.Operation.{cell_at, with_cell, rows_by, HasCell, delay_of};
 ghost use Rattle.semaphore_core.specs.Desk.{IsDesk, lens_of_desk};
-ghost use Rattle.semaphore_core.specs.Job.{zero_rows};
+ghost use Rattle.semaphore_core.specs.Job.{actuator_lens, zero_rows};
 ghost use Rattle.semaphore_core.specs.Registers.{compute_by};
 ghost use Rattle.semaphore_core.specs.Rows.{with_vector, TakesRow};
 ghost use Rattle.semaphore_core.specs.Held.{AreReady, HasRow, LoadHasRow, StoreHasRow, outputs_len, computed, top_load, top_store, absorbed, emitted, left, with_values, with_kept};
@@ -121,6 +121,7 @@ impl Operations {
     /// The operations of a job before any is made: the opening cells, rows of zeros, and a desk for each.
     pub fn new(alloc: Global, job: &Job) -> Result<Operations, OutOfMemory>
         ensures cells { IfOk result (λ k. k.cells ≡ job.now.opening) }
+        ensures lens { IfOk result (λ k. k.lens ≡ actuator_lens job.now.graph job.now.graph.vertices) }
         ensures rows { IfOk result (λ k. k.rows ≡ zero_rows job.now) }
         ensures ready { IfOk result (λ k. AreReady job.now k) }
         ensures laid_out { IfOk result (λ k. (v : ℕ) → HasRow job.now k.lens v) }

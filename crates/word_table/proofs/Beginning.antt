@@ -1,8 +1,7 @@
 -- A driver that begins: its sequences have made no micro-step.
-use Rattle.std.proofs.Common.{◌<◌, ◌≤◌, ◌⊎◌, inl, inr, ◌≡◌, ℕ, ◌+◌, ◌%◌, zero, suc, Bool, true, false, cond, List, [], ◌∷◌, ◌++◌, map, length, get_or, Some, refl, sym, ap, subst, arith, ◌∙◌, ℤ, eq-eqb}
+use Rattle.std.proofs.Common.{◌<◌, ◌≡◌, ℕ, ◌+◌, ◌%◌, zero, suc, Bool, true, false, cond, List, [], ◌∷◌, map, length, get_or, Some, refl, sym, ap, subst, arith, ◌∙◌, ℤ, eq-eqb}
 use Rattle.std.specs.Prelude.{replicate, slice_get, nat_eq}
-use Rattle.std.proofs.lemmas.Bool.{cases_lt}
-use Rattle.std.proofs.lemmas.List.{length-map, length-replicate, length-append, get_or-replicate, get_or_past, get_or-map}
+use Rattle.std.proofs.lemmas.List.{length-map, length-replicate, length-append, get_or-map}
 use Rattle.std.proofs.lemmas.Option.{slice_get_within}
 use Rattle.level_meaning.specs.Level.{Values, vector_at, zeros}
 use Rattle.flat_graph.specs.declared.vertex.Vertex.{Vertex}

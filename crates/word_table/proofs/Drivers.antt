@@ -1,5 +1,5 @@
 -- The share of a driver stays one with each of its steps.
-use Rattle.std.proofs.Common.{◌≡◌, ℕ, suc, ◌+◌, ◌%◌, ◌<◌, ◌^◌, ◌⊎◌, inl, inr, ⊎_elim, Bool, true, false, cond, List, [], map, length, get_or, set, Some, refl, sym, ap, subst, arith, ◌∙◌, length-set, get_or-set_same, get_or-set_other}
+use Rattle.std.proofs.Common.{◌≡◌, ℕ, ◌+◌, ◌%◌, ◌<◌, ◌^◌, ◌⊎◌, inl, inr, ⊎_elim, Bool, true, false, cond, List, map, length, get_or, set, Some, refl, sym, ap, subst, arith, ◌∙◌, length-set, get_or-set_same, get_or-set_other}
 use Rattle.std.proofs.lemmas.Bool.{cases_eq}
 use Rattle.std.proofs.lemmas.Option.{same_Some}
 use Rattle.atomic_table.specs.Seated.{TableId}
@@ -23,16 +23,15 @@ use Rattle.word_rule.specs.declared.view.View.{View}
 use Rattle.word_rule.specs.declared.view.View.TheVariants.{Spent, Holds}
 use Rattle.word_rule.specs.Table.{SeatData}
 use Rattle.word_rule.specs.Views.{count_in, raised, stepped, after}
-use Rattle.word_rule.specs.Rule.{AreTold, Agree, InTold, look_of}
+use Rattle.word_rule.specs.Rule.{AreTold, Agree, InTold}
 use Rattle.word_rule.specs.Given.{RunsOnWords, enables, IsTake, Waits, AddsOne, IsLower}
 use Rattle.word_rule.specs.Words.{word_at}
 use Rattle.word_rule.proofs.Views.{raised-same, raised-other}
-use Rattle.word_rule.proofs.Allowed.{look_job, look_on, look_off}
 use Rattle.word_rule.proofs.Further.{shaped, goes}
 use Rattle.word_table.specs.declared.share.Share.{Share}
 use Rattle.word_table.specs.declared.woven.Woven.{Woven}
 use Rattle.word_table.specs.Answers.{is_recorded, next_look, Steps}
-use Rattle.word_table.specs.Driver.{DriverData, Drives, AgreeWith, InSome}
+use Rattle.word_table.specs.Driver.{InSome}
 use Rattle.word_table.specs.Share.{HasOwn, Reaches, IsDriver, IsWoven, IsOf, SameDriver, CanMake, CountsOneMore, values_of, rooms_of, last_look, share_view}
 use Rattle.word_table.proofs.Own.{IsQuiet, after_quiet}
 

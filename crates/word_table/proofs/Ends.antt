@@ -1,7 +1,7 @@
 -- Driver by driver all is gathered, and in the end it is what the counts tell.
-use Rattle.std.proofs.Common.{◌≡◌, ℕ, zero, suc, ◌+◌, ◌%◌, ◌<◌, ◌≤◌, ◌⊎◌, inl, inr, ⊎_elim, List, [], ◌∷◌, ◌++◌, map, length, get_or, Option, Some, None, refl, sym, ap, subst, arith, ◌∙◌, ℤ}
+use Rattle.std.proofs.Common.{◌≡◌, ℕ, zero, suc, ◌+◌, ◌%◌, ◌<◌, ◌≤◌, ◌⊎◌, inl, inr, ⊎_elim, List, [], ◌∷◌, map, length, get_or, Option, Some, None, refl, sym, ap, subst, arith, ◌∙◌, ℤ}
 use Rattle.std.specs.Prelude.{slice_get, replicate}
-use Rattle.std.proofs.lemmas.Bool.{cases_eq, cases_lt}
+use Rattle.std.proofs.lemmas.Bool.{cases_eq}
 use Rattle.std.proofs.lemmas.List.{length-map, length-replicate}
 use Rattle.std.proofs.lemmas.Nat.{mod_below}
 use Rattle.std.proofs.lemmas.Option.{slice_get_within}
@@ -27,10 +27,10 @@ use Rattle.word_rule.specs.Views.{count_in}
 use Rattle.word_rule.proofs.Ending.{same_lists}
 use Rattle.word_table.specs.declared.remains.Remains.{Remains}
 use Rattle.word_table.specs.declared.share.Share.{Share}
-use Rattle.word_table.specs.Ends.{AreWide, Gathers, IsGathered, TakesRows}
+use Rattle.word_table.specs.Ends.{Gathers, IsGathered, TakesRows}
 use Rattle.word_table.specs.Owners.{owners}
 use Rattle.word_table.specs.Share.{AreLaid, IsDriver}
-use Rattle.word_table.proofs.Owners.{cell_owner}
+use Rattle.word_table.proofs.Callers.{cell_owner}
 
 -- the sequence that calls an operation is one of the program
 pub caller_there : (j : JobData) → IsFormed j → (v : ℕ) (x : Vertex) → slice_get j.graph.vertices v ≡ Some x → caller j v < length j.program.seqs
@@ -45,7 +45,7 @@ widths : {A : Type 0} (xs : List (List A)) (n w : ℕ) → length xs ≡ n → (
 widths [] zero w l h = refl
 widths [] (suc n) w l h = absurd (omega arith)
 widths (x ∷ xs) zero w l h = absurd (omega arith)
-widths {A} (x ∷ xs) (suc n) w l h = λ i. h 0 (omega arith) i ∷ widths {A} xs n w (omega arith) (λ k q. h (suc k) (omega arith)) i
+widths (x ∷ xs) (suc n) w l h = λ i. h 0 (omega arith) i ∷ widths xs n w (omega arith) (λ k q. h (suc k) (omega arith)) i
 
 same_widths : {A : Type 0} (n : ℕ) (x : List A) → map length (replicate n x) ≡ replicate n (length x)
 same_widths zero x = refl

@@ -1,22 +1,21 @@
--- Groups of sequences are split off one after the other.
-use Rattle.std.proofs.Common.{◌≡◌, ℕ, suc, ◌+◌, ◌%◌, ⊎_elim, true, false, not, List, [], ◌∷◌, ◌++◌, length, refl, sym, ap, subst, arith, ◌∙◌, eq-eqb, ne_eqb}
-use Rattle.std.specs.Prelude.{nat_eq, Result, Ok, Err, IfOk}
-use Rattle.atomic_table.specs.Seated.{TableId}
+-- Groups of sequences are split off one after another.
+use Rattle.std.proofs.Common.{◌≡◌, ℕ, zero, suc, ◌+◌, ◌%◌, ⊎_elim, true, false, not, List, [], ◌∷◌, ◌++◌, length, Some, refl, sym, ap, subst, arith, ◌∙◌, eq-eqb, ne_eqb}
+use Rattle.std.specs.Prelude.{nat_eq, slice_get}
 use Rattle.std.proofs.lemmas.Bool.{cases_eq}
 use Rattle.semaphore_core.specs.Job.{JobData}
 use Rattle.word_rule.specs.declared.view.View.{View}
 use Rattle.word_rule.specs.declared.view.View.TheVariants.{Spent, Holds}
-use Rattle.word_table.specs.declared.share.Share.{Share}
-use Rattle.word_table.specs.declared.woven.Woven.{Woven}
 use Rattle.word_rule.specs.Views.{left_of, right_of, first_view}
-use Rattle.word_table.specs.Share.{IsDriverBy, DrivesGroup, IsLeft, IsGroup, AreGroups}
 use Rattle.word_rule.proofs.Splitting.{picked_back, picked_on}
 use Rattle.word_rule.proofs.Views.{all_zero, all_counted}
+use Rattle.word_table.specs.Driver.{FabricData, DriverData, AreDrivers, AreNew}
+use Rattle.word_table.specs.Weaving.{DrivesGroup, IsLeft, IsFirst, AreFirst}
 
 pub first_left : (j : JobData) (groups : ℕ) → IsLeft j groups 0 (first_view j)
 first_left j groups = (
   record {
     job = refl;
+    looks = refl;
     there = λ s n c. let a = (all_zero 0 (length j.program.seqs) s n c).2 in omega (arith, a);
     none_made = λ s n c. (all_zero 0 (length j.program.seqs) s n c).0;
   },
@@ -29,6 +28,7 @@ right_group j groups g Spent h = absurd h
 right_group j groups g (Holds k) h = (
   record {
     job = h.0.job;
+    looks = refl;
     there = λ s n c. h.0.there s n (picked_back (λ i. nat_eq (i % groups) g) k.driven s n c).1;
     none_made = λ s n c. h.0.none_made s n (picked_back (λ i. nat_eq (i % groups) g) k.driven s n c).1;
   },
@@ -45,6 +45,7 @@ left_rest j groups g Spent h = absurd h
 left_rest j groups g (Holds k) h = (
   record {
     job = h.0.job;
+    looks = h.0.looks;
     there = λ s n c. h.0.there s n (picked_back (λ i. not (nat_eq (i % groups) g)) k.driven s n c).1;
     none_made = λ s n c. h.0.none_made s n (picked_back (λ i. not (nat_eq (i % groups) g)) k.driven s n c).1;
   },
@@ -52,19 +53,21 @@ left_rest j groups g (Holds k) h = (
 )
 
 -- one driver more
-pub groups_more : (f : Fabric) (groups g : ℕ) (ds : List Driver) (d : Driver) → AreGroups f groups g ds → IsGroup f groups (g + length ds) d → AreGroups f groups g (ds ++ d ∷ [])
-groups_more f groups g [] d a i = (subst (λ (n : ℕ). IsGroup f groups n d) (omega arith) i, tt)
-groups_more f groups g (x ∷ xs) d a i = (a.0, groups_more f groups (suc g) xs d a.1 (subst (λ (n : ℕ). IsGroup f groups n d) (omega arith) i))
+pub first_more : (f : FabricData) (g : ℕ) (ds : List DriverData) (d : DriverData) → AreFirst f g ds → IsFirst f (g + length ds) d → AreFirst f g (ds ++ d ∷ [])
+first_more f g [] d a i = (subst (λ (n : ℕ). IsFirst f n d) (omega arith) i, tt)
+first_more f g (x ∷ xs) d a i = (a.0, first_more f (suc g) xs d a.1 (subst (λ (n : ℕ). IsFirst f n d) (omega arith) i))
 
-pub if_ok : {A E : Type 0} (P Q : A → Type 0) (r : Result A E) → ((x : A) → P x → Q x) → IfOk r P → IfOk r Q
-if_ok P Q (Ok x) f h = f x h
-if_ok P Q (Err e) f h = tt
+-- driver by driver
+first_at : (f : FabricData) (g : ℕ) (ds : List DriverData) → AreFirst f g ds → (k : ℕ) (d : DriverData) → slice_get ds k ≡ Some d → IsFirst f (g + k) d
+first_at f g [] a k d e = absurd cc
+first_at f g (x ∷ xs) a zero d e = let same : x ≡ d = cc in subst (λ (n : ℕ). IsFirst f n d) (let z : g ≡ g + 0 = omega arith in z) (subst (IsFirst f g) same a.0)
+first_at f g (x ∷ xs) a (suc k) d e = subst (λ (n : ℕ). IsFirst f n d) (let z : suc g + k ≡ g + suc k = omega arith in z) (first_at f (suc g) xs a.1 k d e)
 
--- a driver that begins with the part of a group
-pub is_group : (f : Fabric) (groups g : ℕ) (seat mine : View) (t : TableId) → t ≡ f.table.shared.table_id → mine ≡ right_of (λ s. nat_eq (s % groups) g) seat → IsLeft f.job.now groups g seat
-    → (d : Driver) → d.seat.me.0 ≡ mine → IsDriverBy f.job.now t mine d → (d.groups ≡ groups) × (d.group ≡ g) → IsGroup f groups g d
-is_group f groups g seat mine t same e left d is by numbers = record {
-  driver = subst (λ (v : View). IsDriverBy f.job.now f.table.shared.table_id v d) (sym is) (subst (λ (i : TableId). IsDriverBy f.job.now i mine d) same by);
-  group = subst (DrivesGroup f.job.now groups g) (sym (is ∙ e)) (right_group f.job.now groups g seat left);
-  numbers = numbers;
+pub are_drivers : (f : FabricData) (ds : List DriverData) → AreFirst f 0 ds → length ds ≡ f.groups → AreDrivers f ds
+are_drivers f ds a l = record {
+  many = l;
+  each = λ g d e. let i = first_at f 0 ds a g d e in (i.fabric, i.group ∙ (let z : 0 + g ≡ g = omega arith in z));
 }
+
+pub are_new : (f : FabricData) (ds : List DriverData) → AreFirst f 0 ds → AreNew ds
+are_new f ds a g d e = (first_at f 0 ds a g d e).new

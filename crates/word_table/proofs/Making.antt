@@ -1,6 +1,6 @@
 -- Looks, loads and stores of a driver.
-use Rattle.std.proofs.Common.{◌≡◌, ℕ, ◌+◌, ◌%◌, ◌<◌, ◌⊎◌, inl, inr, Bool, true, false, cond, List, [], length, map, get_or, set, Option, Some, None, refl, sym, ap, subst, arith, ◌∙◌, ℤ, ◌*◌}
-use Rattle.std.specs.Prelude.{slice_get, nat_eq, nat_le}
+use Rattle.std.proofs.Common.{◌≡◌, ℕ, ◌+◌, ◌%◌, ◌<◌, ◌⊎◌, inl, inr, Bool, true, false, cond, List, length, map, get_or, Some, refl, sym, ap, subst, arith, ◌∙◌, ℤ, ◌*◌}
+use Rattle.std.specs.Prelude.{nat_eq, nat_le}
 use Rattle.std.specs.Int.{w64, cast_signed}
 use Rattle.std.proofs.lemmas.Bool.{lt-ltb}
 use Rattle.std.proofs.lemmas.List.{length-map}
@@ -16,8 +16,8 @@ use Rattle.executive_program.specs.Steps.{steps}
 use Rattle.semaphore_core.specs.Job.{JobData, reactions}
 use Rattle.semaphore_core.specs.Core.{Core, full, own, element_of, enabled_in, turn_reached}
 use Rattle.semaphore_core.specs.RegisterFile.{RegisterFile}
-use Rattle.semaphore_core.specs.Registers.{Own, absorb_by, emit_by, after_by}
-use Rattle.semaphore_core.specs.Held.{NeedsReaction, Fits, AreReady, LoadHasRow, StoreHasRow, with_kept}
+use Rattle.semaphore_core.specs.Registers.{Own, emit_by}
+use Rattle.semaphore_core.specs.Held.{NeedsReaction, Fits, LoadHasRow, StoreHasRow}
 use Rattle.semaphore_core.specs.Told.{told}
 use Rattle.semaphore_core.proofs.Ready.{absorb_ready, after_ready}
 use Rattle.semaphore_core.proofs.Standing.{fits_at, needs_at, next_at}
@@ -25,24 +25,22 @@ use Rattle.phase_laws.specs.Agrees.{caller, LoadsHere, StoresHere}
 use Rattle.word_rule.specs.declared.next.Next.{Next}
 use Rattle.word_rule.specs.declared.view.Knowledge.{Knowledge}
 use Rattle.word_rule.specs.declared.view.View.{View}
-use Rattle.word_rule.specs.declared.view.View.TheVariants.{Spent, Holds}
+use Rattle.word_rule.specs.declared.view.View.TheVariants.{Holds}
 use Rattle.word_rule.specs.Words.{table_of, word_at}
-use Rattle.word_rule.specs.Views.{raised, stepped, looked, after, count_in}
+use Rattle.word_rule.specs.Views.{stepped, looked, after}
 use Rattle.word_rule.specs.Rule.{AreTold, Agree, Finds, FindsBy, InTold, look_of}
-use Rattle.word_rule.specs.Given.{IsShaped, IsThere, RunsOnWords, StandsAt, Stores, enables, IsTake, Waits}
+use Rattle.word_rule.specs.Given.{IsShaped, IsThere, StandsAt, Stores, enables, IsTake, Waits}
 use Rattle.word_rule.specs.Steps.{CanStep, looked_at}
-use Rattle.word_rule.specs.Table.{TableData}
 use Rattle.word_rule.proofs.Shapes.{element_get, semaphore_get, turn_get}
 use Rattle.word_rule.proofs.Allowed.{look_job, look_on, look_off}
 use Rattle.word_rule.proofs.Further.{shaped}
 use Rattle.word_table.specs.declared.share.Share.{Share}
 use Rattle.word_table.specs.declared.woven.Woven.{Woven}
 use Rattle.word_table.specs.Answers.{is_recorded, next_look, Steps, Misses}
-use Rattle.word_table.specs.Driver.{DriverData, InSome}
 use Rattle.word_table.specs.Files.{own_at, Changed, Becomes, own_loaded, own_stored, value_stored}
-use Rattle.word_table.specs.Share.{HasOwn, IsDriver, IsWoven, IsOf, SameDriver, CanMake, CountsOneMore, Looked, values_of, rooms_of, last_look, share_view}
+use Rattle.word_table.specs.Share.{IsWoven, IsOf, SameDriver, CanMake, CountsOneMore, Looked, values_of, rooms_of, last_look, share_view}
 use Rattle.word_table.proofs.Own.{after_load, after_store, emits, loads_here, stores_here}
-use Rattle.word_table.proofs.Drivers.{J, K, here, agreed, in_some, reaches_next, quiet_own, unmoved, moved_on, looks_quietly, loads_freely, stores_freely, free_driver, now_holds}
+use Rattle.word_table.proofs.Drivers.{here, agreed, in_some, reaches_next, quiet_own, unmoved, moved_on, looks_quietly, loads_freely, stores_freely, free_driver}
 
 module _ (f : Woven) (d : Share) (next : Next) (is : IsWoven f) (c : CanMake f d next) where
   abbrev S : ℕ

@@ -152,10 +152,10 @@ module _ (j : JobData) (f : IsFormed j) (right : AreValues (system j) (stored_va
       h : IsRightAt (system j) (stored_value j) (own_after j) s n (theory.store w.1 w.2)
       h = subst (λ (d : Micro). IsRightAt (system j) (stored_value j) (own_after j) s n d) w.4 (right.right s n c (let v = full_same j f s in omega (arith, more, v)) (micro_at s n (Store x what) e).1)
 
-  stores_here : (s n : ℕ) (x : Place) (what : OnStore) → step_at (steps j.program s) n ≡ Some (Store x what) → StoresHere j.program j.media s what
+  pub stores_here : (s n : ℕ) (x : Place) (what : OnStore) → step_at (steps j.program s) n ≡ Some (Store x what) → StoresHere j.program j.media s what
   stores_here s n x what e = (micro_at s n (Store x what) e).2.0
 
-  loads_here : (s n : ℕ) (x : Place) (then : OnLoad) → step_at (steps j.program s) n ≡ Some (Load x then) → LoadsHere j.program j.media s then
+  pub loads_here : (s n : ℕ) (x : Place) (then : OnLoad) → step_at (steps j.program s) n ≡ Some (Load x then) → LoadsHere j.program j.media s then
   loads_here s n x then e = (micro_at s n (Load x then) e).2.0
 
   -- what a sequence has of its own in the state that counts tell

@@ -1,15 +1,14 @@
 -- Where a sequence of a driver stands, from the micro-steps that are laid out and its count.
-use Rattle.std.proofs.Common.{◌%◌, ◌≡◌, ℕ, zero, suc, ◌<◌, ◌≤◌, List, [], ◌∷◌, length, get_or, Option, Some, None, refl, sym, ap, subst, arith, ◌∙◌}
-use Rattle.consistent_cuts.specs.Sites.{Code, step_at, reaction_at}
+use Rattle.std.proofs.Common.{◌%◌, ◌≡◌, ℕ, zero, suc, ◌<◌, List, [], ◌∷◌, length, get_or, Option, Some, None, refl, sym, ap, arith, ◌∙◌}
+use Rattle.consistent_cuts.specs.Sites.{step_at, reaction_at}
 use Rattle.executive_program.specs.declared.expand.SeqSteps.{SeqSteps}
 use Rattle.executive_program.specs.declared.steps.MicroStep.{MicroStep}
 use Rattle.executive_program.specs.Expanded.{code_of, next_in}
 use Rattle.executive_program.specs.Steps.{steps}
-use Rattle.semaphore_core.specs.Job.{JobData, reactions}
+use Rattle.semaphore_core.specs.Job.{JobData}
 use Rattle.semaphore_core.specs.Core.{full}
 use Rattle.semaphore_core.proofs.Standing.{code_at, laid_out, next_at, not_past, stands_at, none_left}
 use Rattle.word_rule.specs.declared.next.Next.{Next}
-use Rattle.word_rule.specs.declared.view.Knowledge.{Knowledge}
 use Rattle.word_rule.specs.Given.{IsThere}
 use Rattle.word_rule.specs.Views.{count_in}
 use Rattle.word_rule.specs.Words.{word_at}
@@ -28,10 +27,10 @@ module _ (f : Woven) (d : Share) (s : ℕ) (is : IsWoven f) (o : IsOf f d) (ther
   abbrev J : JobData
   J = f.job.now
 
-  driver : IsDriver J f.table.table o.0 d
+  abbrev driver : IsDriver J f.table.table o.0 d
   driver = o.1
 
-  count : ℕ
+  abbrev count : ℕ
   count = (driver.all s there drives).0
 
   driven : count_in o.0.driven s ≡ Some count

@@ -1,17 +1,14 @@
 -- What a driver has is told, and a driver of every sequence knows all counts.
-use Rattle.std.proofs.Common.{◌≡◌, ℕ, ◌%◌, ◌<◌, ◌≤◌, Bool, true, false, cond, List, length, get_or, Option, Some, None, refl, sym, ap, subst, arith, ◌∙◌}
+use Rattle.std.proofs.Common.{◌≡◌, ℕ, ◌%◌, ◌<◌, Bool, true, false, cond, List, length, get_or, Some, None, refl, sym, ap, subst, arith, ◌∙◌}
 use Rattle.std.proofs.lemmas.Bool.{lt-ltb, le-ltb}
 use Rattle.executive_program.specs.declared.steps.MicroStep.{MicroStep}
 use Rattle.atomic_table.specs.Seated.{TableId}
-use Rattle.consistent_cuts.specs.Sites.{step_at, reaction_at}
-use Rattle.executive_program.specs.Steps.{steps}
 use Rattle.semaphore_core.specs.Job.{JobData}
-use Rattle.semaphore_core.specs.Core.{Core, run, full, next, reaction, enabled_in, AreReached}
+use Rattle.semaphore_core.specs.Core.{Core, full, next, enabled_in, AreReached}
 use Rattle.semaphore_core.specs.Told.{told}
 use Rattle.phase_laws.specs.Agrees.{caller}
 use Rattle.word_rule.specs.declared.view.Knowledge.{Knowledge}
 use Rattle.word_rule.specs.Given.{RunsOnWords}
-use Rattle.word_rule.specs.Views.{count_in}
 use Rattle.word_rule.specs.Words.{word_at, table_of}
 use Rattle.word_rule.proofs.Ending.{same_lists}
 use Rattle.word_table.specs.declared.answer.MicroAnswer.{MicroAnswer}

@@ -1,13 +1,13 @@
 -- What is left of a fabric that was closed.
-use Rattle.std.specs.Prelude.{◌≡◌, List, map}
+use Rattle.std.specs.Prelude.{◌≡◌, ℕ, List}
 use Rattle.syn_base.specs.Rows.{Reactions}
 use Rattle.level_meaning.specs.Level.{Values}
 use Rattle.semaphore_core.specs.Job.{JobData, actuator_lens}
 use Rattle.semaphore_core.specs.Core.{AreReached}
 use Rattle.semaphore_core.specs.Told.{told}
 use Rattle.phase_laws.specs.Ended.{last_cells, all_acts}
-use Rattle.word_rule.specs.Driven.{Driven, closed, driven_by}
-use Rattle.word_table.specs.Driver.{FabricData, DriverData, AreFinished, counts_of}
+use Rattle.word_rule.specs.Driven.{Driven, driven_by}
+use Rattle.word_table.specs.Driver.{FabricData, DriverData, AreFinished}
 
 -- the rows of the actuators, and the cells of the delays
 pub record ClosedData : Type 0 where

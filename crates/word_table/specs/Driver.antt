@@ -1,5 +1,5 @@
 -- A fabric and its drivers, as contracts see them.
-use Rattle.std.specs.Prelude.{◌≡◌, ℕ, ◌+◌, ◌<◌, ◌%◌, Bool, true, false, cond, List, length, map, Option, Some, None, refl, replicate, slice_get, slice_index_or, slice_set, ℤ}
+use Rattle.std.specs.Prelude.{◌≡◌, ℕ, ◌<◌, ◌%◌, List, [], length, map, Option, Some, None, refl, replicate, slice_get, slice_index_or, ℤ}
 use Rattle.std.specs.Coded.{Coded, code_by, coded×, coded_ℕ, coded_ℤ, coded_list}
 use Rattle.std.specs.List.{range_with_len}
 use Rattle.level_meaning.specs.Level.{Values, vector_at}

@@ -5,26 +5,22 @@ use Rattle.flat_graph.specs.declared.vertex.Vertex.{Vertex}
 use Rattle.flat_graph.specs.declared.vertex.Kind.TheVariants.{Actuator}
 use Rattle.atomic_table.specs.Seated.{TableId}
 use Rattle.consistent_cuts.specs.Sites.{step_at, reaction_at}
-use Rattle.executive_program.specs.declared.steps.MicroStep.{MicroStep}
 use Rattle.executive_program.specs.Expanded.{AreSteps}
 use Rattle.executive_program.specs.Steps.{steps}
 use Rattle.semaphore_core.specs.Job.{JobData, zero_rows, actuator_lens}
-use Rattle.semaphore_core.specs.Core.{full, enabled_in, AreReached}
-use Rattle.semaphore_core.specs.Held.{Kept, AreReady, HasRow, Fits}
+use Rattle.semaphore_core.specs.Core.{full, AreReached}
+use Rattle.semaphore_core.specs.Held.{AreReady, HasRow, Fits}
 use Rattle.semaphore_core.specs.Operation.{delay_of}
-use Rattle.semaphore_core.specs.RegisterFile.{RegisterFile}
-use Rattle.semaphore_core.specs.Registers.{Own}
 use Rattle.semaphore_core.specs.Told.{own_after}
 use Rattle.phase_laws.specs.Agrees.{caller, row_at}
 use Rattle.word_rule.specs.declared.next.Next.{Next}
-use Rattle.word_rule.specs.declared.view.Count.{Count}
 use Rattle.word_rule.specs.declared.view.Knowledge.{Knowledge}
 use Rattle.word_rule.specs.declared.view.View.{View}
 use Rattle.word_rule.specs.declared.view.View.TheVariants.{Spent, Holds}
 use Rattle.word_rule.specs.Given.{RunsOnWords, enables}
-use Rattle.word_rule.specs.Rule.{FindsBy, InTold}
+use Rattle.word_rule.specs.Rule.{FindsBy}
 use Rattle.word_rule.specs.Steps.{looked_at}
-use Rattle.word_rule.specs.Views.{count_in, count_by, raised}
+use Rattle.word_rule.specs.Views.{count_in}
 use Rattle.word_rule.specs.Words.{table_len, word_at, turn_word, elements_start, element_lens}
 use Rattle.word_table.specs.declared.remains.Remains.{Remains}
 use Rattle.word_table.specs.declared.share.Share.{Share}

@@ -9,7 +9,7 @@ use Rattle.word_rule.specs.Views.{count_in}
 use Rattle.word_table.specs.declared.share.Share.{Share}
 use Rattle.word_table.specs.declared.woven.Woven.{Woven}
 use Rattle.word_table.specs.Driver.{FabricData, DriverData, IsNew}
-use Rattle.word_table.specs.Share.{IsShare, share_view, woven_view}
+use Rattle.word_table.specs.Share.{IsShare, share_view}
 
 -- where these lists begin one after another, the first at this word, and where the last one ends
 abbrev pub starts_from : ℕ → List (List ℤ) → List ℕ

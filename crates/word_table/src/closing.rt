@@ -15,6 +15,7 @@ use crate::remains::Remains;
 use crate::share::Share;
 use crate::woven::Woven;
 use flat_graph::Kind;
+use phase_laws::full_is_ended;
 use semaphore_core::{Job, put_row};
 use syn_base::{ActRows, Items};
 use word_rule::{WordSeat, WordTable};
@@ -184,6 +185,7 @@ impl<'a> Fabric<'a> {
         ensures closed { IsClosedAt self.entry.job (counts_of self.entry drivers.entry.items) result }
         ensures ended { EndsWhole self.entry drivers.entry.items driven.old driven.new result }
     {
+        full_is_ended();
         let mut woven = self.woven;
         let seat = gather_all(&mut woven, drivers);
         let Woven { table, remains, .. } = woven;

@@ -27,3 +27,8 @@ pub returns-clause-laid_out : goal.returns-clause-laid_out
 returns-clause-laid_out c =
     let lens : c.as_slice.result.now ≡ actuator_lens c.args.job.now.graph c.args.job.now.graph.vertices = c.as_slice.ensures ∙ c.in_ok-lens.ensures ∙ ap (λ (g : Graph). actuator_lens g g.vertices) c.flat.ensures in
     rows_laid_out c.args.job.now c.opening.ensures.job (subst (λ (g : Graph). IsTrue (is_flat g)) c.flat-2.ensures c.in_ok-desks_of.ensures.valid) c.in_ok-zero_rows.field-0.lens (ap (λ (r : Reactions). r.lens) c.in_ok-zero_rows.ensures ∙ lens)
+
+pub returns-clause-lens : goal.returns-clause-lens
+returns-clause-lens c =
+    let lens : c.as_slice.result.now ≡ actuator_lens c.args.job.now.graph c.args.job.now.graph.vertices = c.as_slice.ensures ∙ c.in_ok-lens.ensures ∙ ap (λ (g : Graph). actuator_lens g g.vertices) c.flat.ensures in
+    ap (λ (r : Reactions). r.lens) c.in_ok-zero_rows.ensures ∙ lens

@@ -1,7 +1,7 @@
-use Rattle.std.proofs.Common.{◌≡◌, ◌%◌, ℕ, ap, sym, subst, ◌∙◌}
+use Rattle.std.proofs.Common.{◌≡◌, ◌%◌, ◌<◌, ℕ, length, ap, sym, subst, ◌∙◌}
 use Rattle.word_table.specs.Answers.{Answers, AnswersAlone}
 use Rattle.word_table.specs.Driver.{FabricData, DriverData}
-use Rattle.word_table.specs.Share.{IsOf, share_view, woven_view}
+use Rattle.word_table.specs.Share.{share_view, woven_view}
 use Rattle.word_table.proofs.Told.{own_share, of_views, told_of, alone_answers}
 use Rattle.word_table.proofs.fabric.Fabric.try_micro.Goals as goal
 
@@ -9,7 +9,7 @@ pub try_micro-requires-clause-of : goal.try_micro-requires-clause-of
 try_micro-requires-clause-of c = of_views c.self.inside.woven c.driver.inside.share (ap (λ (d : DriverData). d.fabric) c.driver.view_is ∙ c.requires.of ∙ sym c.self.view_is) c.driver.invariant
 
 pub try_micro-requires-clause-there : goal.try_micro-requires-clause-there
-try_micro-requires-clause-there c = rw c.self.view_is c.requires.there
+try_micro-requires-clause-there c = subst (λ (f : FabricData). c.args.seq < length f.job.program.seqs) (sym c.self.view_is) c.requires.there
 
 pub try_micro-requires-clause-drives : goal.try_micro-requires-clause-drives
 try_micro-requires-clause-drives c = let q = c.requires in let seq = c.args.seq in
@@ -37,4 +37,4 @@ returns-clause-alone c one = let q = c.requires in let w = c.self.inside.woven i
     let groups : d.groups ≡ c.args.self.now.groups = ap (λ (d : DriverData). d.fabric.groups) c.driver.view_is ∙ ap (λ (f : FabricData). f.groups) q.of in
     let drives : seq % d.groups ≡ d.group = ap (λ (n : ℕ). seq % n) groups ∙ q.drives ∙ sym (ap (λ (d : DriverData). d.group) c.driver.view_is) in
     subst (λ (x : DriverData). AnswersAlone x (share_view e) seq c.try_micro.result) c.driver.view_is
-    (alone_answers w d e seq c.try_micro.result c.self.invariant (of_views w d of c.driver.invariant) c.try_micro.ensures.of (groups ∙ one) drives s.groups s.group (rw c.self.view_is q.there) c.try_micro.ensures.answer)
+    (alone_answers w d e seq c.try_micro.result c.self.invariant (of_views w d of c.driver.invariant) c.try_micro.ensures.of (groups ∙ one) drives s.groups s.group (subst (λ (f : FabricData). c.args.seq < length f.job.program.seqs) (sym c.self.view_is) q.there) c.try_micro.ensures.answer)

@@ -1,10 +1,9 @@
-use Rattle.std.proofs.Common.{◌≡◌, ap, refl, rules, subst, sym, ◌∙◌, w64, to_z, of_z}
+use Rattle.std.proofs.Common.{ap, refl, rules, subst, ◌∙◌, w64, to_z, of_z}
 use Rattle.std.proofs.lemmas.Int.{to_z-of_z}
 use mir.Val.{SFits}
 use Rattle.executive_program.specs.declared.steps.MicroStep.{MicroStep}
-use Rattle.executive_program.specs.declared.steps.MicroStep.TheVariants.{Load}
-use Rattle.semaphore_core.specs.Held.{NeedsReaction, Fits, AreReady, LoadHasRow}
-use Rattle.semaphore_core.specs.Job.{JobData, reactions}
+use Rattle.semaphore_core.specs.Held.{NeedsReaction}
+use Rattle.semaphore_core.specs.Job.{reactions}
 use Rattle.word_table.proofs.Drivers.{can_count, loads_freely, free_steps}
 use Rattle.word_table.proofs.Making.{can_step, needs, room, has_registers, load_row, finds_told, loaded_driver}
 use Rattle.word_table.proofs.woven.Woven.load_into.Goals as goal
@@ -42,5 +41,5 @@ returns-clause-of c = let q = c.requires in let a = c.args in let l = c.load-fou
 
 pub returns-clause-made : goal.returns-clause-made
 returns-clause-made c = let q = c.requires in let a = c.args in let l = c.load-found.ensures in
-    free_steps a.self.now a.share.now a.next q.woven q.can _ (record { table = ap (λ s. s.table) l.seat; job = refl; groups = refl; group = refl }) (ap (λ s. s.view) l.seat) c.count_up.ensures (loads_freely a.place a.then a.next.step q.kind)
+    free_steps a.self.now a.share.now a.next q.woven q.can (record a.share.now { seat = c.load-found.new.seat; counts = c.count_up.new.counts; registers = c.absorb.new.registers; operations = c.absorb.new.operations }) (record { table = ap (λ s. s.table) l.seat; job = refl; groups = refl; group = refl }) (ap (λ s. s.view) l.seat) c.count_up.ensures (loads_freely a.place a.then a.next.step q.kind)
     (finds_told a.self.now a.share.now a.next q.woven q.can c.load-found.result l.found)

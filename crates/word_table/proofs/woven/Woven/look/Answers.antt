@@ -1,6 +1,5 @@
-use Rattle.std.proofs.Common.{◌≡◌, Bool, true, false, ap, refl, sym, ◌∙◌}
+use Rattle.std.proofs.Common.{ap, refl, sym, ◌∙◌}
 use Rattle.word_rule.specs.Table.{SeatData}
-use Rattle.word_table.specs.Share.{Looked}
 use Rattle.word_table.proofs.Drivers.{can_count}
 use Rattle.word_table.proofs.Making.{can_step, made_driver, missed_driver, true_false}
 use Rattle.word_table.proofs.woven.Woven.look.Goals as goal

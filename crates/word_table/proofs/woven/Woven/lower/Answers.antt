@@ -15,4 +15,4 @@ returns-clause-of c = let q = c.requires in let a = c.args in let m = lowers_fre
 
 pub returns-clause-made : goal.returns-clause-made
 returns-clause-made c = let q = c.requires in let a = c.args in let m = lowers_freely a.next.step q.kind in
-    free_steps a.self.now a.share.now a.next q.woven q.can _ (record { table = ap (λ s. s.table) c.lower.ensures.seat; job = refl; groups = refl; group = refl }) (ap (λ s. s.view) c.lower.ensures.seat) c.count_up.ensures m.0 c.lower.ensures.agree
+    free_steps a.self.now a.share.now a.next q.woven q.can (record a.share.now { seat = c.lower.new.seat; counts = c.count_up.new.counts }) (record { table = ap (λ s. s.table) c.lower.ensures.seat; job = refl; groups = refl; group = refl }) (ap (λ s. s.view) c.lower.ensures.seat) c.count_up.ensures m.0 c.lower.ensures.agree

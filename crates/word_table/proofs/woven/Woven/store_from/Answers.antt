@@ -1,4 +1,4 @@
-use Rattle.std.proofs.Common.{◌≡◌, ap, refl, rules, subst, sym, ◌∙◌, w64, to_z, of_z}
+use Rattle.std.proofs.Common.{ap, refl, rules, subst, ◌∙◌, w64, to_z, of_z}
 use Rattle.std.proofs.lemmas.Int.{to_z-of_z}
 use mir.Val.{SFits}
 use Rattle.executive_program.specs.declared.steps.MicroStep.{MicroStep}
@@ -40,4 +40,4 @@ returns-clause-of c = let q = c.requires in let a = c.args in
 
 pub returns-clause-made : goal.returns-clause-made
 returns-clause-made c = let q = c.requires in let a = c.args in
-    free_steps a.self.now a.share.now a.next q.woven q.can _ (record { table = ap (λ s. s.table) c.store.ensures.seat; job = refl; groups = refl; group = refl }) (ap (λ s. s.view) c.store.ensures.seat) c.count_up.ensures (stores_freely a.place a.what a.next.step q.kind) c.store.ensures.agree
+    free_steps a.self.now a.share.now a.next q.woven q.can (record a.share.now { seat = c.store.new.seat; counts = c.count_up.new.counts; registers = c.emit-value.new.registers; operations = c.emit-value.new.operations }) (record { table = ap (λ s. s.table) c.store.ensures.seat; job = refl; groups = refl; group = refl }) (ap (λ s. s.view) c.store.ensures.seat) c.count_up.ensures (stores_freely a.place a.what a.next.step q.kind) c.store.ensures.agree

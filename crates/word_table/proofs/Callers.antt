@@ -1,14 +1,12 @@
 -- Which sequence calls each operation and each delay.
-use Rattle.std.proofs.Common.{◌≡◌, ℕ, zero, suc, ◌+◌, ◌-◌, ◌<◌, ◌≤◌, Bool, true, false, not, cond, List, [], ◌∷◌, drop, length, get_or, Option, Some, None, refl, sym, ap, subst, arith, ◌∙◌}
+use Rattle.std.proofs.Common.{◌≡◌, ℕ, zero, suc, ◌+◌, ◌<◌, Bool, true, false, cond, List, [], ◌∷◌, drop, length, get_or, Some, refl, sym, ap, arith, ◌∙◌, ℤ}
 use Rattle.std.specs.Prelude.{slice_get, if◌then◌else◌}
-use Rattle.std.specs.List.{list_any, position_or_len}
 use Rattle.std.proofs.lemmas.List.{drop_more}
 use Rattle.std.proofs.lemmas.Option.{slice_get_within}
-use Rattle.flat_graph.specs.declared.vertex.Vertex.{Vertex}
 use Rattle.flat_graph.specs.declared.vertex.Kind.{Kind}
+use Rattle.flat_graph.specs.declared.vertex.Kind.TheVariants.{Sensor, Actuator, Function, Constant, Get, Set, Explode, Implode, Merge}
+use Rattle.flat_graph.specs.declared.vertex.Vertex.{Vertex}
 use Rattle.flat_graph.specs.Meaning.{is_get, delay_number}
-use Rattle.executive_program.specs.declared.program.SeqCode.{SeqCode}
-use Rattle.executive_program.specs.Places.{calls}
 use Rattle.semaphore_core.specs.Job.{JobData}
 use Rattle.semaphore_core.specs.Operation.{delay_of}
 use Rattle.phase_laws.specs.Agrees.{IsFormed, caller}
@@ -35,15 +33,28 @@ cell_owner j f callers many each v d x is e = ap (slice_get (owners callers j.gr
     h : GetHalf j.program j.graph v d
     h = get_half j.program j.graph f.seqs j.media f.formed.0 f.formed.1 f.valid v d x is e
 
--- the first place at which a test holds, one element earlier
-pub first_place : (test : SeqCode → Bool) (xs : List SeqCode) (s : ℕ) (x : SeqCode) → slice_get xs s ≡ Some x → position_or_len test (drop s xs) ≡ cond (test x) 0 (suc (position_or_len test (drop (s + 1) xs)))
-first_place test xs s x e = ap (position_or_len test) (drop_at xs s x e) ∙ by (test x)
-  where
-    drop_at : (xs : List SeqCode) (s : ℕ) (x : SeqCode) → slice_get xs s ≡ Some x → drop s xs ≡ x ∷ drop (s + 1) xs
-    drop_at [] s x e = absurd (cc)
-    drop_at (y ∷ ys) zero x e = let same : y ≡ x = cc in ap (λ (z : SeqCode). z ∷ ys) same
-    drop_at (y ∷ ys) (suc s) x e = drop_at ys s x e
+-- what is no get half
+not_get : (k : Kind) → ((z : List ℤ) → k ≡ Get z → ⊥) → is_get k ≡ false
+not_get (Get z) n = absurd (n z refl)
+not_get (Sensor i) n = refl
+not_get (Actuator a) n = refl
+not_get (Function f) n = refl
+not_get (Constant z) n = refl
+not_get Set n = refl
+not_get Explode n = refl
+not_get Implode n = refl
+not_get (Merge z) n = refl
 
-    by : (b : Bool) → cond (not b) (suc (position_or_len test (drop (s + 1) xs))) 0 ≡ cond b 0 (suc (position_or_len test (drop (s + 1) xs)))
-    by true = refl
-    by false = refl
+-- the callers of the delays from operation v on, one operation further
+module _ (cs : List ℕ) (xs : List Vertex) (v : ℕ) (there : v < length xs) (many : length cs ≡ length xs) (x : Vertex) (read : x ≡ get_or xs v x) where
+  abbrev rest : Bool → List ℕ
+  rest b = cond b (get_or cs v 0 ∷ owners (drop (v + 1) cs) (drop (v + 1) xs)) (owners (drop (v + 1) cs) (drop (v + 1) xs))
+
+  further : owners (drop v cs) (drop v xs) ≡ rest (is_get (get_or xs v x).kind)
+  further = λ i. owners (drop_more cs v 0 (omega (arith, there, many)) i) (drop_more xs v x there i)
+
+  pub one_owner : (z : List ℤ) → x.kind ≡ Get z → owners (drop v cs) (drop v xs) ≡ get_or cs v 0 ∷ owners (drop (v + 1) cs) (drop (v + 1) xs)
+  one_owner z e = further ∙ ap rest (ap (λ (y : Vertex). is_get y.kind) (sym read) ∙ ap is_get e)
+
+  pub no_owner : ((z : List ℤ) → x.kind ≡ Get z → ⊥) → owners (drop v cs) (drop v xs) ≡ owners (drop (v + 1) cs) (drop (v + 1) xs)
+  no_owner n = further ∙ ap rest (ap (λ (y : Vertex). is_get y.kind) (sym read) ∙ not_get x.kind n)
