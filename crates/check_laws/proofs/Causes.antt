@@ -23,7 +23,7 @@ use Rattle.check_laws.proofs.Guarded.{numbered_of, pairs_of, of_pairs}
 use Rattle.check_laws.proofs.Named.{named_of, of_named, written_of, of_written}
 
 module _ (p : Program) (g : Graph) (seqs : List Seq) (operators media : ℕ) where
-  moved_of : are_transferred p media ≡ true → AreTransferred p media
+  pub moved_of : are_transferred p media ≡ true → AreTransferred p media
   moved_of h =
       let all = and_parts _ (are_moved p media) h in
       let counted = and_parts _ (counts p) all.0 in
@@ -33,7 +33,7 @@ module _ (p : Program) (g : Graph) (seqs : List Seq) (operators media : ℕ) whe
   of_moved : AreTransferred p media → are_transferred p media ≡ true
   of_moved h = both_true (both_true (both_true (of_communicators p h.communicators) (of_on_media p media h.on_media)) (of_counts p h.counts)) (of_all_moved p media h.transfers)
 
-  guarded_of : are_guarded p ≡ true → AreGuarded p
+  pub guarded_of : are_guarded p ≡ true → AreGuarded p
   guarded_of h = record { numbered = numbered_of p h; pairs = pairs_of p h }
 
   order_is_found : IsWellFormed p g seqs media → stuck p ≡ []
@@ -50,7 +50,7 @@ module _ (p : Program) (g : Graph) (seqs : List Seq) (operators media : ℕ) whe
   wrong : (c d : Cause) → ◌≡◌ {A = Option Cause} (Some c) (Some d) → IsCause p g seqs operators media c → IsCause p g seqs operators media d
   wrong c d e h = subst (λ x. IsCause p g seqs operators media x) (same_Some c d e) h
 
-  items_of : are_named p (length g.vertices) operators seqs ≡ true → are_called p g.vertices ≡ true → are_transferred p media ≡ true → are_written p g.vertices media ≡ true → are_guarded p ≡ true → are_opened p ≡ true → HasItems p g seqs operators media
+  pub items_of : are_named p (length g.vertices) operators seqs ≡ true → are_called p g.vertices ≡ true → are_transferred p media ≡ true → are_written p g.vertices media ≡ true → are_guarded p ≡ true → are_opened p ≡ true → HasItems p g seqs operators media
   items_of n c m w u o = record {
     named = named_of p (length g.vertices) operators seqs n;
     called = called_of p g.vertices c;
