@@ -45,7 +45,7 @@ use Rattle.self_timed.proofs.Low.{dates_low}
 use Rattle.self_timed.proofs.Reacting.{Given}
 use Rattle.self_timed.proofs.Following.{SoFar, fits, so_far_more}
 
--- the buffers of a program with so many places have no more
+-- no buffer of a program has more places than its depth
 places_below : (depth : ℕ) → 1 ≤ depth → (g : Graph) (a : Architecture) (s : Schedule) (n k : ℕ) (cs : List Copy) (b : Buffer) → slice_get (buffers_from depth g a s n cs) k ≡ Some b → b.depth ≤ depth
 places_below depth l g a s n k [] b e = absurd cc
 places_below depth l g a s n zero (c ∷ cs) b e = by (is_guarded g a s n) (same_Some (record { operator = c.operator; len = len_of g.vertices c.source; depth = cond (is_guarded g a s n) depth 1 }) b e)

@@ -43,7 +43,7 @@ empty_makers vertices = map empty_row vertices
 abbrev pub started : List Vertex → Laid
 started vertices = record { vertices = vertices; next = length vertices; makers = empty_makers vertices; steps = [] }
 
--- of the act behind these ones
+-- the entry of the act that comes next, and that of the transfer after it
 abbrev pub entry_after : ℕ → Act → ℕ
 entry_after next (run d) = d.op
 entry_after next (carry t) = next
@@ -119,7 +119,7 @@ HaveGuardPlaces makers operator guards = All (λ (g : Guard). HasPlace makers (c
 abbrev pub HavePlaces : List (List ℕ) → ℕ → List Source → Type 0
 HavePlaces makers operator inputs = All (λ (x : Source). HasPlace makers (copy operator x)) inputs
 
--- the operation has a row for so many outputs
+-- the operation has a row for this number of outputs
 pub record HasRow (makers : List (List ℕ)) (v outs : ℕ) : Type 0 where
   pub row : v < length makers
   pub long : length (row_at makers v) ≡ outs * 16

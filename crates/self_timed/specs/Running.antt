@@ -31,7 +31,7 @@ abbrev pub free_all : List Span → List Step → List ℕ → List ℕ
 free_all row [] freed = freed
 free_all row (st ∷ sts) freed = free_all row sts (free st.sources (end_in row st.entry) freed)
 
--- for each entry the greatest end of the acts that read what it made so many reactions ago
+-- for each entry the greatest end of the acts that read what it made `depth` reactions ago
 abbrev pub freed_in : Plan → ℕ → List (List Span) → List ℕ
 freed_in p depth past =
     cond (nat_le depth (length past)) (free_all (slice_index_or past (length past - depth) []) p.steps.items (replicate p.entries 0)) (replicate p.entries 0)

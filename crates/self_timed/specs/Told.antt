@@ -23,7 +23,7 @@ span_at reactions k e = span_in (reaction_at reactions k) e
 abbrev pub entries_of : Graph → Schedule → ℕ
 entries_of g s = length g.vertices + count_by is_transfer (acts s)
 
--- each reaction has ticks for so many entries
+-- each reaction has ticks for this number of entries
 abbrev pub HaveEntries : ℕ → List (List ℕ) → Type 0
 HaveEntries entries ticks = All (λ (row : List ℕ). length row ≡ entries) ticks
 
@@ -33,7 +33,7 @@ pub record IsValidForSome (g : Graph) (a : Architecture) (s : Schedule) : Type 0
   pub rows : All (IsRow durations.operators) durations.rows
   pub valid : IsTrue (is_valid g a (entry_in durations) s)
 
--- Of a schedule whose entries last so many ticks in each reaction, where buffers have so many places.
+-- What is told of a schedule, by the depth of buffers and the ticks of each reaction.
 module _ (depth : ℕ) (g : Graph) (s : Schedule) (ticks : List (List ℕ)) where
   abbrev pub end_at : ℕ → ℕ → ℕ
   end_at = dates depth g.vertices (acts s) (lasting g.vertices (acts s) ticks)

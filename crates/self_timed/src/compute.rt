@@ -43,6 +43,7 @@ pub fn dates_of(
     ensures in_time { IfOk result (EndInTime flat.now schedule.now) }
     ensures first { IfOk result (StartsAsStated flat.now schedule.now actual.now) }
 {
+    // What the architecture keeps is asked for: it is valid, and its depth is 1 to 4.
     let _operators = archi.operators();
     let _depth = archi.depth();
     let plan = plan_of(alloc, flat.vertices(), schedule.decisions.as_slice())?;

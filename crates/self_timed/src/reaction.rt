@@ -8,7 +8,7 @@ use crate::line::Ends;
 use std::alloc::Global;
 use syn_base::{Items, OutOfMemory};
 
-/// The dates of the reaction after these ones, whose entries last so many ticks. The ends of the lines
+/// The dates of the reaction after these ones, whose entries last these ticks. The ends of the lines
 /// go on by one reaction.
 pub(crate) fn next_reaction(
     alloc: Global,

@@ -1,4 +1,4 @@
--- Acts on one operator, or over one medium, end one behind the other.
+-- Acts on one operator, or over one medium, end one after another.
 use Rattle.std.proofs.Common.{◌≡◌, ℕ, zero, suc, ◌+◌, ◌<◌, ◌≤◌, Bool, true, cond, List, [], ◌∷◌, ◌++◌, map, take, Option, Some, None, refl, sym, ap, inl, inr, arith, ◌∙◌, eq-eqb}
 use Rattle.std.specs.Prelude.{slice_get}
 use Rattle.std.proofs.lemmas.Bool.{false≢true, eqb-true, cases_eq}

@@ -38,7 +38,7 @@ latest_of k (Some i) o = event k i ∷ []
 latest_of zero None o = []
 latest_of (suc k) None o = one_of k o
 
--- these acts so many reactions before reaction k, where there is such a reaction
+-- these acts, d reactions before reaction k, where there is such a reaction
 abbrev pub ago : ℕ → ℕ → List ℕ → List Event
 ago d k numbers = cond (nat_le d k) (map (event (k - d)) numbers) []
 
@@ -56,7 +56,7 @@ module _ (vertices : List Vertex) where
   abbrev pub brought : List Act → ℕ → ℕ → Act → List Event
   brought xs k i x = map (event k) (numbers_where (reads_from vertices x) 0 (take i xs))
 
--- Buffers that another sequence reads have so many places.
+-- Buffers that another sequence reads have this depth.
 module _ (depth : ℕ) (vertices : List Vertex) (xs : List Act) where
   -- the acts in other sequences that read what x makes, as many reactions before as the buffer has places
   abbrev pub emptied : ℕ → Act → List Event

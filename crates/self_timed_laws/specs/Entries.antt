@@ -13,7 +13,7 @@ is_transfer (run d) = false
 abbrev pub stated : Act → ℕ
 stated x = end_of x - start_of x
 
--- the entry of an act, where there are so many operations and so many transfers stand before it
+-- the entry of an act, by the number of operations and that of the transfers before it
 abbrev pub entry_at : ℕ → ℕ → Act → ℕ
 entry_at operations before (run d) = d.op
 entry_at operations before (carry t) = operations + before
