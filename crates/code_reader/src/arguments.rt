@@ -5,7 +5,7 @@ ghost use Rattle.archi_graph.specs.Archi.{ascends_from};
 ghost use Rattle.code_text.specs.Forms.{arguments_of, buffer_in, declared_by, declaration_in, each_in, is_comma, number_in};
 ghost use Rattle.code_text.specs.Text.{one_of, two_of};
 ghost use Rattle.code_reader.specs.Given.{Has};
-ghost use Rattle.code_reader.specs.Views.{HasNumbers, HasWords, IsDeclaration};
+ghost use Rattle.code_reader.specs.Views.{AreTwo, HasNumbers, HasWords, IsDeclaration, IsWord, texts_of};
 
 use crate::word::{read_buffer, read_length, read_number, read_places};
 use code_text::CodeError;
@@ -53,7 +53,7 @@ impl<'a> Arguments<'a> {
 
     /// What stands between the parentheses of a line.
     pub fn of(words: Vec<&'a [u8]>) -> Self
-        ensures { result ≡ Some (map (λ w. w.now) words.entry.items) }
+        ensures { result ≡ Some (texts_of words.entry.items) }
     {
         Arguments { words: Some(words) }
     }
@@ -67,7 +67,7 @@ impl<'a> Arguments<'a> {
 
     /// The words between the parentheses.
     pub fn list(&self) -> Option<&[&'a [u8]]>
-        ensures { MatchOption result (self.now ≡ None) (λ v. self.now ≡ Some (map (λ w. w.now) v.now)) }
+        ensures { MatchOption result (self.now ≡ None) (λ v. self.now ≡ Some (texts_of v.now)) }
     {
         match &self.words {
             Some(words) => Some(words.as_slice()),
@@ -77,7 +77,7 @@ impl<'a> Arguments<'a> {
 
     /// The one argument.
     pub fn one(&self) -> Option<&'a [u8]>
-        ensures { MatchOption result (one_of self.now ≡ None) (λ w. one_of self.now ≡ Some w.now) }
+        ensures { IsWord result (one_of self.now) }
     {
         match self.list() {
             Some([word]) => Some(word),
@@ -87,7 +87,7 @@ impl<'a> Arguments<'a> {
 
     /// The two arguments.
     pub fn two(&self) -> Option<(&'a [u8], &'a [u8])>
-        ensures { MatchOption result (two_of self.now ≡ None) (λ p. two_of self.now ≡ Some (record { first = p.0.now; second = p.1.now })) }
+        ensures { AreTwo result (two_of self.now) }
     {
         match self.list() {
             Some([first, second]) => Some((first, second)),
@@ -98,7 +98,7 @@ impl<'a> Arguments<'a> {
 
 /// The numbers that these words are, if each is one.
 pub fn numbers(alloc: Global, words: &[&[u8]]) -> Result<Option<Vec<u64>>, CodeError>
-    ensures { HasNumbers result (each_in number_in (map (λ w. w.now) words.now)) }
+    ensures { HasNumbers result (each_in number_in (texts_of words.now)) }
 {
     let mut numbers = Vec::new(alloc);
     for word in words {
@@ -112,7 +112,7 @@ pub fn numbers(alloc: Global, words: &[&[u8]]) -> Result<Option<Vec<u64>>, CodeE
 
 /// The numbers of the buffers that these words name, if each names one.
 pub fn buffers(alloc: Global, words: &[&[u8]]) -> Result<Option<Vec<u64>>, CodeError>
-    ensures { HasNumbers result (each_in buffer_in (map (λ w. w.now) words.now)) }
+    ensures { HasNumbers result (each_in buffer_in (texts_of words.now)) }
 {
     let mut numbers = Vec::new(alloc);
     for word in words {
@@ -148,7 +148,7 @@ pub struct Declaration {
 
 /// bN,LEN or bN,LEN,PLACES
 pub fn read_declaration(words: &[&[u8]]) -> Option<Declaration>
-    ensures { IsDeclaration result (declaration_in (map (λ w. w.now) words.now)) }
+    ensures { IsDeclaration result (declaration_in (texts_of words.now)) }
 {
     match words {
         [buffer, len] => declared(read_buffer(buffer), read_length(len), Some(1)),

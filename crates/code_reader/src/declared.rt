@@ -36,8 +36,10 @@ pub fn add_pairs(
     operator: u32,
     numbers: &[u64],
 ) -> Result<(), OutOfMemory>
-    ensures pairs { OnOk result (pairs.new.items ≡ pairs.old.items ++ map (numbered line) numbers.now) }
-    ensures owners { OnOk result (owners.new.items ≡ owners.old.items ++ map (λ _. operator) numbers.now) }
+    ensures pairs { OnOk result
+        (pairs.new.items ≡ pairs.old.items ++ map (numbered line) numbers.now) }
+    ensures owners { OnOk result
+        (owners.new.items ≡ owners.old.items ++ map (λ _. operator) numbers.now) }
 {
     for number in numbers {
         pairs.push(Numbered {

@@ -1,9 +1,9 @@
 //! The forms of a line.
-ghost use Rattle.std.specs.Prelude.{◌≡◌, ◌==◌, ◌<◌, MatchOption, true, false, length, map, position, IfSome};
+ghost use Rattle.std.specs.Prelude.{◌≡◌, ◌==◌, ◌<◌, length, position, IfSome};
 ghost use Rattle.std.specs.List.{list_any};
-ghost use Rattle.code_text.specs.Forms.{call_form, form_of, inside, is_closed, is_mark, is_unmarked, list_form, lists_form, may_name, name_form, op_form, operation_form, word_form};
+ghost use Rattle.code_text.specs.Forms.{call_form, form_of, is_mark, is_unmarked, list_form, lists_form, may_name, name_form, op_form, operation_form, word_form};
 ghost use Rattle.code_reader.specs.Given.{Has};
-ghost use Rattle.code_reader.specs.Views.{HasForm, IsCut, IsForm};
+ghost use Rattle.code_reader.specs.Views.{HasForm, IsCutAt, IsForm, IsInside, texts_of};
 
 use crate::word::is_name;
 use code_text::CodeError;
@@ -26,7 +26,7 @@ pub enum Form<'a> {
 
 /// The form of a line with these words, if it has one.
 pub fn read_form<'a>(alloc: Global, words: &[&'a [u8]]) -> Result<Option<Form<'a>>, CodeError>
-    ensures { HasForm result (form_of (map (λ w. w.now) words.now)) }
+    ensures { HasForm result (form_of (texts_of words.now)) }
 {
     match words {
         [word] => word_form(alloc, word),
@@ -140,14 +140,14 @@ fn has_mark(text: &[u8]) -> bool
 
 /// What stands before a closing parenthesis at the end.
 fn closed(text: &[u8]) -> Option<&[u8]>
-    ensures { MatchOption result (is_closed text.now ≡ false) (λ x. (is_closed text.now ≡ true) × (x.now ≡ inside text.now)) }
+    ensures { IsInside result text.now }
 {
     text.strip_suffix(b")")
 }
 
 /// What stands before the first mark, and what stands after it.
 fn cut_at(text: &[u8], mark: u8) -> Option<(&[u8], &[u8])>
-    ensures { MatchOption result (list_any (λ b. b == mark) text.now ≡ false) (λ p. IsCut (λ b. b == mark) text.now p.0.now p.1.now) }
+    ensures { IsCutAt (λ b. b == mark) result text.now }
 {
     match place_of(text, mark) {
         Some(place) => Some((&text[..place], &text[place + 1..])),

@@ -1,9 +1,9 @@
 //! Lines of instructions.
-ghost use Rattle.std.specs.Prelude.{◌≡◌, MatchOption, None, Some, map};
+ghost use Rattle.std.specs.Prelude.{◌≡◌};
 ghost use Rattle.code_text.specs.Forms.{buffer_in};
-ghost use Rattle.code_text.specs.Text.{call_of, declared_buffer, ends_of, first_unknown, is_known, moved_of, pair_of};
+ghost use Rattle.code_text.specs.Text.{declared_buffer, ends_of, first_unknown, is_known, moved_of, pair_of};
 ghost use Rattle.code_reader.specs.Given.{Gives, GivesEnds, GivesMoved};
-ghost use Rattle.code_reader.specs.Views.{GivesInstr};
+ghost use Rattle.code_reader.specs.Views.{GivesInstr, IsWord, call_in, texts_of};
 
 use crate::arguments::{Arguments, buffers};
 use crate::fault::{bad_argument, unknown_name};
@@ -135,7 +135,7 @@ fn is_known(here: &Numbers, word: &[u8]) -> bool
 
 /// The first of these words whose buffer is not declared here.
 fn first_unknown<'a>(here: &Numbers, words: &[&'a [u8]]) -> Option<&'a [u8]>
-    ensures { MatchOption result (first_unknown here.now (map (λ w. w.now) words.now) ≡ None) (λ w. first_unknown here.now (map (λ w. w.now) words.now) ≡ Some w.now) }
+    ensures { IsWord result (first_unknown here.now (texts_of words.now)) }
 {
     for word in words {
         if !is_known(here, word) {
@@ -153,7 +153,7 @@ pub fn read_call(
     here: &Numbers,
     operation: &Operation,
 ) -> Result<Written, CodeError>
-    ensures { GivesInstr result (call_of known.now.operations line here.now operation.now.name.now (map (λ w. w.now) operation.now.ins.now) (map (λ w. w.now) operation.now.outs.now)) }
+    ensures { GivesInstr result (call_in known.now.operations line here.now operation.now) }
 {
     let Some(ins) = buffers(alloc, operation.ins)? else {
         return Err(bad_argument(line));

@@ -105,7 +105,8 @@ fn has(media: &[u32], medium: u32) -> bool
 impl<'a> Known<'a> {
     /// What a flat graph and an architecture have.
     pub fn of(alloc: Global, flat: &'a Flat, archi: &'a Archi) -> Result<Known<'a>, OutOfMemory>
-        ensures { IfOk result (λ k. k ≡ record { operations = operation_names flat.now; archi = archi.now }) }
+        ensures { IfOk result
+            (λ k. k ≡ record { operations = operation_names flat.now; archi = archi.now }) }
     {
         let operations = operations_of(alloc, flat.vertices())?;
         Ok(Known { operations, archi })
@@ -158,7 +159,8 @@ impl<'a> Known<'a> {
     }
 
     fn medium(&self, alloc: Global, line: u32, word: &[u8]) -> Result<u32, CodeError>
-        ensures { Gives result (known line word.now (place_in (medium_names self.now.archi) word.now)) }
+        ensures { Gives result
+            (known line word.now (place_in (medium_names self.now.archi) word.now)) }
     {
         match medium_at(self.archi.media(), word) {
             Some(place) => Ok(place as u32),

@@ -16,6 +16,8 @@ mod numbers;
 mod places;
 mod reader;
 mod stage;
+#[cfg(test)]
+mod tests;
 mod whole;
 mod word;
 mod written;

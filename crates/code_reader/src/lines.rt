@@ -1,9 +1,9 @@
 //! The lines of a text, one after the other.
-ghost use Rattle.std.specs.Prelude.{◌≡◌, ◌<◌, ◌≤◌, length, map};
+ghost use Rattle.std.specs.Prelude.{◌≤◌, length};
 ghost use Rattle.text_lines.specs.Text.{lines_of};
-ghost use Rattle.code_text.specs.Text.{call_line, line_of, macro_line, named_line, next_line, placed_line, program_in, rest_of, start, words_line};
+ghost use Rattle.code_text.specs.Text.{line_of, macro_line, named_line, next_line, placed_line, program_in, rest_of, start, words_line};
 ghost use Rattle.code_reader.specs.Given.{Gives, Steps};
-ghost use Rattle.code_reader.specs.Views.{form_view};
+ghost use Rattle.code_reader.specs.Views.{form_view, operation_line, texts_of};
 ghost use Rattle.code_reader.specs.Read.{reading};
 
 use crate::arguments::{Arguments, cut_list};
@@ -30,7 +30,8 @@ impl Reader {
         arguments: &Arguments,
         found: Macro,
     ) -> Result<(), CodeError>
-        ensures { Steps result (reading self.new) (macro_line known.now.archi (reading self.old) line arguments.now found) }
+        ensures { Steps result (reading self.new)
+            (macro_line known.now.archi (reading self.old) line arguments.now found) }
     {
         match found {
             Macro::Processor => self.processor_line(known, line, arguments),
@@ -62,7 +63,8 @@ impl Reader {
         arguments: &Arguments,
         found: Macro,
     ) -> Result<(), CodeError>
-        ensures { Steps result (reading self.new) (placed_line known.now.archi (reading self.old) line arguments.now found) }
+        ensures { Steps result (reading self.new)
+            (placed_line known.now.archi (reading self.old) line arguments.now found) }
     {
         if self.may_stand(found) {
             self.macro_line(known, line, arguments, found)
@@ -79,7 +81,8 @@ impl Reader {
         name: &[u8],
         arguments: &Arguments,
     ) -> Result<(), CodeError>
-        ensures { Steps result (reading self.new) (named_line known.now.archi (reading self.old) line name.now arguments.now) }
+        ensures { Steps result (reading self.new)
+            (named_line known.now.archi (reading self.old) line name.now arguments.now) }
     {
         match find_macro(name) {
             Some(found) => self.placed_line(known, line, arguments, found),
@@ -94,7 +97,8 @@ impl Reader {
         line: u32,
         operation: &Operation,
     ) -> Result<(), CodeError>
-        ensures { Steps result (reading self.new) (call_line known.now.operations (reading self.old) line operation.now.name.now (map (λ w. w.now) operation.now.ins.now) (map (λ w. w.now) operation.now.outs.now)) }
+        ensures { Steps result (reading self.new)
+            (operation_line known.now.operations (reading self.old) line operation.now) }
     {
         if !self.takes_instr() {
             return Err(bad_line(line));
@@ -105,7 +109,8 @@ impl Reader {
 
     /// A line of this form.
     fn line_of(&mut self, known: &Known, line: u32, form: &Form) -> Result<(), CodeError>
-        ensures { Steps result (reading self.new) (line_of known.now.operations known.now.archi (reading self.old) line (form_view form.now)) }
+        ensures { Steps result (reading self.new)
+            (line_of known.now.operations known.now.archi (reading self.old) line (form_view form.now)) }
     {
         match form {
             Form::Bare(name) => self.named_line(known, line, name, &Arguments::none()),
@@ -132,7 +137,8 @@ impl Reader {
 
     /// A line with these words, of which there are some.
     fn words_line(&mut self, known: &Known, line: u32, words: &[&[u8]]) -> Result<(), CodeError>
-        ensures { Steps result (reading self.new) (words_line known.now.operations known.now.archi (reading self.old) line (map (λ w. w.now) words.now)) }
+        ensures { Steps result (reading self.new)
+            (words_line known.now.operations known.now.archi (reading self.old) line (texts_of words.now)) }
     {
         match read_form(self.alloc, words)? {
             Some(form) => self.line_of(known, line, &form),
@@ -142,7 +148,8 @@ impl Reader {
 
     /// Reads the next line.
     pub fn next_line(&mut self, known: &Known, line: u32, text: &[u8]) -> Result<(), CodeError>
-        ensures { Steps result (reading self.new) (next_line known.now.operations known.now.archi (reading self.old) line text.now) }
+        ensures { Steps result (reading self.new)
+            (next_line known.now.operations known.now.archi (reading self.old) line text.now) }
     {
         if text_lines::foreign(text).is_some() {
             return Err(bad_line(line));
@@ -175,7 +182,8 @@ pub fn read_code(
 
 fn read_lines(alloc: Global, bytes: &[u8], known: &Known) -> Result<Program, CodeError>
     requires { length (lines_of bytes.now) ≤ 4000000000 }
-    ensures { Gives result (rest_of known.now.operations known.now.archi start 1 (lines_of bytes.now)) }
+    ensures { Gives result
+        (rest_of known.now.operations known.now.archi start 1 (lines_of bytes.now)) }
 {
     let mut reader = Reader::new(alloc);
     let mut from = 0;

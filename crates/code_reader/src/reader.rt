@@ -141,7 +141,8 @@ impl Reader {
         line: u32,
         arguments: &Arguments,
     ) -> Result<(), CodeError>
-        ensures { Steps result (reading self.new) (processor_line known.now.archi (reading self.old) line arguments.now) }
+        ensures { Steps result (reading self.new)
+            (processor_line known.now.archi (reading self.old) line arguments.now) }
     {
         let operator = known.processor(self.alloc, line, self.operator, arguments)?;
         self.stage = Stage::Named;
@@ -154,7 +155,8 @@ impl Reader {
 
     /// semaphores_(q,q)
     pub fn semaphores_line(&mut self, line: u32, arguments: &Arguments) -> Result<(), CodeError>
-        ensures { Steps result (reading self.new) (semaphores_line (reading self.old) line arguments.now) }
+        ensures { Steps result (reading self.new)
+            (semaphores_line (reading self.old) line arguments.now) }
     {
         let pairs = read_pairs(self.alloc, line, arguments)?;
         let operator = self.operator.unwrap_or(0);
@@ -172,7 +174,8 @@ impl Reader {
 
     /// alloc_(bN,LEN) and alloc_(bN,LEN,PLACES)
     pub fn alloc_line(&mut self, line: u32, arguments: &Arguments) -> Result<(), CodeError>
-        ensures { Steps result (reading self.new) (alloc_line (reading self.old) line arguments.now) }
+        ensures { Steps result (reading self.new)
+            (alloc_line (reading self.old) line arguments.now) }
     {
         let declared = read_buffer_line(line, &self.buffers_here, arguments)?;
         self.buffers.push(Numbered {
@@ -195,7 +198,8 @@ impl Reader {
         line: u32,
         arguments: &Arguments,
     ) -> Result<(), CodeError>
-        ensures { Steps result (reading self.new) (thread_line known.now.archi (reading self.old) line arguments.now) }
+        ensures { Steps result (reading self.new)
+            (thread_line known.now.archi (reading self.old) line arguments.now) }
     {
         let joined = known.next_medium(self.alloc, line, self.media.as_slice(), arguments)?;
         self.media.push(joined.medium)?;
@@ -206,7 +210,8 @@ impl Reader {
 
     /// main_
     pub fn main_line(&mut self, line: u32, arguments: &Arguments) -> Result<(), CodeError>
-        ensures { Steps result (reading self.new) (main_line (reading self.old) line arguments.now) }
+        ensures { Steps result (reading self.new)
+            (main_line (reading self.old) line arguments.now) }
     {
         if !arguments.is_absent() {
             return Err(bad_argument(line));
@@ -225,7 +230,8 @@ impl Reader {
         line: u32,
         arguments: &Arguments,
     ) -> Result<(), CodeError>
-        ensures { Steps result (reading self.new) (spawn_line known.now.archi (reading self.old) line arguments.now) }
+        ensures { Steps result (reading self.new)
+            (spawn_line known.now.archi (reading self.old) line arguments.now) }
     {
         let threads = self.media.as_slice();
         let medium = known.thread(
@@ -246,7 +252,8 @@ impl Reader {
         line: u32,
         arguments: &Arguments,
     ) -> Result<(), CodeError>
-        ensures { Steps result (reading self.new) (wait_line known.now.archi (reading self.old) line arguments.now) }
+        ensures { Steps result (reading self.new)
+            (wait_line known.now.archi (reading self.old) line arguments.now) }
     {
         let threads = self.media.as_slice();
         let medium = known.thread(
@@ -262,7 +269,8 @@ impl Reader {
 
     /// loop_
     pub fn loop_line(&mut self, line: u32, arguments: &Arguments) -> Result<(), CodeError>
-        ensures { Steps result (reading self.new) (loop_line (reading self.old) line arguments.now) }
+        ensures { Steps result (reading self.new)
+            (loop_line (reading self.old) line arguments.now) }
     {
         if !arguments.is_absent() {
             return Err(bad_argument(line));
@@ -273,7 +281,8 @@ impl Reader {
 
     /// endloop_
     pub fn end_loop_line(&mut self, line: u32, arguments: &Arguments) -> Result<(), CodeError>
-        ensures { Steps result (reading self.new) (end_loop_line (reading self.old) line arguments.now) }
+        ensures { Steps result (reading self.new)
+            (end_loop_line (reading self.old) line arguments.now) }
     {
         if !arguments.is_absent() {
             return Err(bad_argument(line));
@@ -284,7 +293,8 @@ impl Reader {
 
     /// endthread_
     pub fn end_thread_line(&mut self, line: u32, arguments: &Arguments) -> Result<(), CodeError>
-        ensures { Steps result (reading self.new) (end_thread_line (reading self.old) line arguments.now) }
+        ensures { Steps result (reading self.new)
+            (end_thread_line (reading self.old) line arguments.now) }
     {
         if !arguments.is_absent() {
             return Err(bad_argument(line));
@@ -297,7 +307,8 @@ impl Reader {
 
     /// endmain_
     pub fn end_main_line(&mut self, line: u32, arguments: &Arguments) -> Result<(), CodeError>
-        ensures { Steps result (reading self.new) (end_main_line (reading self.old) line arguments.now) }
+        ensures { Steps result (reading self.new)
+            (end_main_line (reading self.old) line arguments.now) }
     {
         if !arguments.is_absent() {
             return Err(bad_argument(line));
@@ -328,7 +339,8 @@ impl Reader {
 
     /// Adds an instruction, inside the loop or before it.
     pub fn add(&mut self, written: Written) -> Result<(), CodeError>
-        ensures { Steps result (reading self.new) (Ok (with_instr (reading self.old) (instr_of written))) }
+        ensures { Steps result (reading self.new)
+            (Ok (with_instr (reading self.old) (instr_of written))) }
     {
         if is_turn(self.stage) {
             self.turn.push(written)?;
@@ -340,7 +352,8 @@ impl Reader {
 
     /// Suc0_(q)
     pub fn suc0_line(&mut self, line: u32, arguments: &Arguments) -> Result<(), CodeError>
-        ensures { Steps result (reading self.new) (pair_line (reading self.old) line (λ q. instr.Suc0 q) arguments.now) }
+        ensures { Steps result (reading self.new)
+            (pair_line (reading self.old) line (λ q. instr.Suc0 q) arguments.now) }
     {
         let pair = read_pair(self.alloc, line, &self.pairs_here, arguments)?;
         self.add(Written::Suc0(pair))
@@ -348,7 +361,8 @@ impl Reader {
 
     /// Suc1_(q)
     pub fn suc1_line(&mut self, line: u32, arguments: &Arguments) -> Result<(), CodeError>
-        ensures { Steps result (reading self.new) (pair_line (reading self.old) line (λ q. instr.Suc1 q) arguments.now) }
+        ensures { Steps result (reading self.new)
+            (pair_line (reading self.old) line (λ q. instr.Suc1 q) arguments.now) }
     {
         let pair = read_pair(self.alloc, line, &self.pairs_here, arguments)?;
         self.add(Written::Suc1(pair))
@@ -356,7 +370,8 @@ impl Reader {
 
     /// Pre0_(q)
     pub fn pre0_line(&mut self, line: u32, arguments: &Arguments) -> Result<(), CodeError>
-        ensures { Steps result (reading self.new) (pair_line (reading self.old) line (λ q. instr.Pre0 q) arguments.now) }
+        ensures { Steps result (reading self.new)
+            (pair_line (reading self.old) line (λ q. instr.Pre0 q) arguments.now) }
     {
         let pair = read_pair(self.alloc, line, &self.pairs_here, arguments)?;
         self.add(Written::Pre0(pair))
@@ -364,7 +379,8 @@ impl Reader {
 
     /// Pre1_(q)
     pub fn pre1_line(&mut self, line: u32, arguments: &Arguments) -> Result<(), CodeError>
-        ensures { Steps result (reading self.new) (pair_line (reading self.old) line (λ q. instr.Pre1 q) arguments.now) }
+        ensures { Steps result (reading self.new)
+            (pair_line (reading self.old) line (λ q. instr.Pre1 q) arguments.now) }
     {
         let pair = read_pair(self.alloc, line, &self.pairs_here, arguments)?;
         self.add(Written::Pre1(pair))
@@ -377,7 +393,8 @@ impl Reader {
         line: u32,
         arguments: &Arguments,
     ) -> Result<(), CodeError>
-        ensures { Steps result (reading self.new) (transfer_line known.now.archi (reading self.old) line (λ b o. instr.Send b o) arguments.now) }
+        ensures { Steps result (reading self.new)
+            (transfer_line known.now.archi (reading self.old) line (λ b o. instr.Send b o) arguments.now) }
     {
         let moved = read_transfer(self.alloc, known, line, &self.buffers_here, arguments)?;
         self.add(Written::Send {
@@ -393,7 +410,8 @@ impl Reader {
         line: u32,
         arguments: &Arguments,
     ) -> Result<(), CodeError>
-        ensures { Steps result (reading self.new) (transfer_line known.now.archi (reading self.old) line (λ b o. instr.Recv b o) arguments.now) }
+        ensures { Steps result (reading self.new)
+            (transfer_line known.now.archi (reading self.old) line (λ b o. instr.Recv b o) arguments.now) }
     {
         let moved = read_transfer(self.alloc, known, line, &self.buffers_here, arguments)?;
         self.add(Written::Recv {
@@ -409,7 +427,8 @@ impl Reader {
         line: u32,
         arguments: &Arguments,
     ) -> Result<(), CodeError>
-        ensures { Steps result (reading self.new) (sync_line known.now.archi (reading self.old) line arguments.now) }
+        ensures { Steps result (reading self.new)
+            (sync_line known.now.archi (reading self.old) line arguments.now) }
     {
         let ends = read_sync(self.alloc, known, line, arguments)?;
         self.add(Written::Sync {

@@ -1,6 +1,6 @@
 //! What holds of a text as a whole.
 ghost use Rattle.std.specs.Prelude.{◌≡◌, ℕ, ◌-◌, ◌^◌, IfOk, length, map, min};
-ghost use Rattle.code_text.specs.Text.{at_place, counted, earlier, limited, misnumbered, no_size, sized, whole, within_steps};
+ghost use Rattle.code_text.specs.Text.{at_place, counted, first_misnumbered, limited, no_size, sized, whole, within_steps};
 ghost use Rattle.code_text.specs.Text as text;
 ghost use Rattle.code_reader.specs.Given.{Gives, Has};
 ghost use Rattle.code_reader.specs.Placed.{ArePlaced, IsPlaced};
@@ -140,8 +140,10 @@ impl Reader {
         buffers: &[Option<usize>],
     ) -> Result<Program, CodeError>
         requires pairs { ArePlaced pairs.now self.now.pairs.items (length self.now.pairs.items) }
-        requires buffers { ArePlaced buffers.now self.now.buffers.items (length self.now.buffers.items) }
-        ensures { Gives result (limited (length known.now.archi.media) (text.program_of (reading self.now))) }
+        requires buffers { ArePlaced
+            buffers.now self.now.buffers.items (length self.now.buffers.items) }
+        ensures { Gives result
+            (limited (length known.now.archi.media) (text.program_of (reading self.now))) }
     {
         let wide = WideProgram {
             sizes: sizes_in_order(self.alloc, buffers, self.sizes.as_slice())?,
@@ -154,7 +156,8 @@ impl Reader {
     fn counted(&self, known: &Known, pairs: &Places, buffers: &Places) -> Result<Program, CodeError>
         requires pairs { IsPlaced pairs.now self.now.pairs.items }
         requires buffers { IsPlaced buffers.now self.now.buffers.items }
-        ensures { Gives result (counted (length known.now.archi.media) (reading self.now) (earlier (misnumbered self.now.pairs.items) (misnumbered self.now.buffers.items))) }
+        ensures { Gives result
+            (counted (length known.now.archi.media) (reading self.now) (first_misnumbered (reading self.now))) }
     {
         match (pairs, buffers) {
             (Places::Each(pairs), Places::Each(buffers)) => {

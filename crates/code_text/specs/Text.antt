@@ -498,13 +498,16 @@ within_steps p = if nat_lt (bound_of MicroSteps) (all_turns p) then above MicroS
 abbrev pub limited : ℕ → Program → Result Program CodeError
 limited media p = if nat_lt (bound_of Words) (words p media) then above Words (words p media) else within_steps p
 
+abbrev pub first_misnumbered : Reading → Option ℕ
+first_misnumbered r = earlier (misnumbered r.pairs) (misnumbered r.buffers)
+
 abbrev pub counted : ℕ → Reading → Option ℕ → Result Program CodeError
 counted media r (Some line) = refused line BadArgument
 counted media r None = limited media (program_of r)
 
 -- The whole, of which all lines are numbered below n: the last processor has ended; buffers and pairs use the numbers from 0 on, each once; the limits hold.
 abbrev pub whole : ℕ → Reading → ℕ → Result Program CodeError
-whole media r n = if is_outside r.stage then counted media r (earlier (misnumbered r.pairs) (misnumbered r.buffers)) else refused n BadLine
+whole media r n = if is_outside r.stage then counted media r (first_misnumbered r) else refused n BadLine
 
 module _ (operations : List Bytes) (a : Architecture) where
   abbrev pub line_of : Reading → ℕ → Form → Result Reading CodeError
