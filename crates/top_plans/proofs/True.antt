@@ -20,8 +20,8 @@ use Rattle.semaphore_core.specs.Core.{run, count}
 use Rattle.semaphore_core.specs.Told.{done_in}
 use Rattle.phase_laws.specs.Values.{IsSupplied}
 use Rattle.phase_laws.proofs.Together.{have_laws}
-use Rattle.phase_laws.proofs.Ended.{runs_end, runs_take_rows}
-use Rattle.phase_laws.proofs.Windows.{windows_make}
+use Rattle.phase_laws.specs.Ended.{RunsEnd, RunsTakeRows}
+use Rattle.phase_laws.specs.Windows.{WindowsMakeTheRun}
 use Rattle.accepted_laws.specs.Flat.{HasFlat}
 use Rattle.accepted_laws.proofs.Definitions.{accepted_have_flat}
 use Rattle.accepted_laws.proofs.Architectures.{described_are}
@@ -73,32 +73,34 @@ module _ (e : Execution) (a : IsAccepted e) where
     sensed = λ k l. rows.1 k l ∙ rows.0 ∙ sym has.lengths.sensors;
   }
 
-  pub runs_true : RunsTrue e
-  runs_true = record {
+-- by the laws of runs and of windows
+module _ (runs_end : RunsEnd) (runs_take_rows : RunsTakeRows) (windows_make : WindowsMakeTheRun) where
+  runs_true : (e : Execution) → IsAccepted e → RunsTrue e
+  runs_true e a = let s = supplied e a in let given = has e a in record {
     limit = a.limit;
-    laws = have_laws (one_job e) supplied;
-    rows = λ list v n k x is q l. runs_take_rows (one_job e) supplied list v n k x is q l
-        ∙ ap (λ (w : Values). cond (nat_lt k (done_in (one_job e) (count (run (one_job e) list)) v)) (vector_at w n) (zeros (slice_index_or (lens_of (flat_of e.main).vertices x.ins) 0 0))) (has.taken e.rows.reactions k);
-    ended = λ list d. (runs_end (one_job e) supplied list d).rows ∙ same_numbers (flat_act_row (flat_of e.main) e.rows.reactions (initial_cells (flat_of e.main).vertices)) (length e.rows.reactions)
-        ∙ same_map (flat_act_row (flat_of e.main) e.rows.reactions (initial_cells (flat_of e.main).vertices)) (act_row e.main e.rows.reactions) (has.taken e.rows.reactions) (numbers_below (length e.rows.reactions));
-    windows = λ from count l. windows_make (one_job e) supplied from count l;
+    laws = have_laws (one_job e) s;
+    rows = λ list v n k x is q l. runs_take_rows (one_job e) s list v n k x is q l
+        ∙ ap (λ (w : Values). cond (nat_lt k (done_in (one_job e) (count (run (one_job e) list)) v)) (vector_at w n) (zeros (slice_index_or (lens_of (flat_of e.main).vertices x.ins) 0 0))) (given.taken e.rows.reactions k);
+    ended = λ list d. (runs_end (one_job e) s list d).rows ∙ same_numbers (flat_act_row (flat_of e.main) e.rows.reactions (initial_cells (flat_of e.main).vertices)) (length e.rows.reactions)
+        ∙ same_map (flat_act_row (flat_of e.main) e.rows.reactions (initial_cells (flat_of e.main).vertices)) (act_row e.main e.rows.reactions) (given.taken e.rows.reactions) (numbers_below (length e.rows.reactions));
+    windows = λ from count l. windows_make (one_job e) s from count l;
   }
 
-run_leaf : (g : Given) → RunLeaf g → MakesTrue g
-run_leaf (written t) l = absurd l
-run_leaf (printed t e) l = runs_true e l
-run_leaf (summed e t) l = absurd l
+  run_leaf : (g : Given) → RunLeaf g → MakesTrue g
+  run_leaf (written t) l = absurd l
+  run_leaf (printed t e) l = runs_true e l
+  run_leaf (summed e t) l = absurd l
 
-load_leaf : (g : Given) → LoadLeaf g → MakesTrue g
-load_leaf (written t) l = absurd l
-load_leaf (printed t e) l = absurd l
-load_leaf (summed e t) l = runs_true e l
+  load_leaf : (g : Given) → LoadLeaf g → MakesTrue g
+  load_leaf (written t) l = absurd l
+  load_leaf (printed t e) l = absurd l
+  load_leaf (summed e t) l = runs_true e l
 
-pub runs_are_true : AcceptedRunTrue
-runs_are_true a h s told g e = told_gives MakesTrue told (run_plan a h s) g (walk_run (GivesOnly MakesTrue) (λ r n. tt) a h s None (λ file name next q k. k) run_leaf) e
+  pub runs_are_true : AcceptedRunTrue
+  runs_are_true a h s told g e = told_gives MakesTrue told (run_plan a h s) g (walk_run (GivesOnly MakesTrue) (λ r n. tt) a h s None (λ file name next q k. k) run_leaf) e
 
-pub loads_are_true : LoadsRunTrue
-loads_are_true a h s told g e = told_gives MakesTrue told (load_plan a h s) g (walk_load (GivesOnly MakesTrue) (λ r n. tt) a h s load_leaf) e
+  pub loads_are_true : LoadsRunTrue
+  loads_are_true a h s told g e = told_gives MakesTrue told (load_plan a h s) g (walk_load (GivesOnly MakesTrue) (λ r n. tt) a h s load_leaf) e
 
 true_leaf : (command : Command) (g : Given) → Leaf command g → MakesTrue g
 true_leaf command (written t) l = tt

@@ -1,10 +1,12 @@
 //! The plans of all commands, and the laws of what they make: what each command reads, in which order it is
 //! refused, and what it makes, over the definitions of all the parts. `syndex_program` carries the plans out.
-//! Each law is the contract of a function that does nothing.
+//! Each law is the contract of a function that does nothing, or calls other laws alone.
 #![tactic(auto)]
 
 ghost use Rattle.top_plans.specs.Meaning.{AcceptedRunTrue, LoadsRunTrue, WindowsAreRun, WindowsWriteTheOutput};
 ghost use Rattle.top_plans.specs.Replies.{CommandsReply, DoneRuns, PlainCommandsReply};
+
+use phase_laws::{runs_end, runs_take_rows, windows_make_the_run};
 
 /// The text that is written in windows is the whole output.
 pub fn windows_write_the_output()
@@ -21,12 +23,20 @@ pub fn windows_are_run()
 /// algorithm's actuators take.
 pub fn accepted_run_true()
     ensures { AcceptedRunTrue }
-{}
+{
+    runs_end();
+    runs_take_rows();
+    windows_make_the_run();
+}
 
 /// So does what a load makes of its texts.
 pub fn loads_run_true()
     ensures { LoadsRunTrue }
-{}
+{
+    runs_end();
+    runs_take_rows();
+    windows_make_the_run();
+}
 
 /// What was carried out of the plan of the words replies.
 pub fn commands_reply()

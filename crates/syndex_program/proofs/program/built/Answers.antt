@@ -2,6 +2,7 @@ use Rattle.std.proofs.Common.{◌≡◌, ◌∙◌, ap, subst, length, sym}
 use Rattle.std.specs.Prelude.{None, Some}
 use Rattle.std.proofs.lemmas.Result.{err_from_is_err_and}
 use Rattle.durations.specs.Table.{entry_in}
+use Rattle.executive_program.specs.declared.program.Program.{Program}
 use Rattle.schedule.specs.declared.decision.Schedule.{Schedule}
 use Rattle.sequence_build_laws.specs.Built.{program_of}
 use Rattle.sequence_build.specs.Limit.{program_limit}
@@ -23,16 +24,14 @@ pub returns-in-Ok : goal.returns-in-Ok
 returns-in-Ok c =
     let given = c.args.architecture.now in
     let a = given.text.archi in
-    let same = c.in_ok-schedule.ensures.run in (
-      c.in-Ok.ensures.0 ∙ ap (program_of given.flat a) same,
-      subst (λ (s : Schedule). program_limit (program_of given.flat a s) (length a.media) ≡ None) same c.in-Ok.ensures.1,
-    )
+    let ok = c.in-Ok.ensures.ok in
+    let same = ok.is ∙ ap (program_of given.flat a) c.in_ok-schedule.ensures.run in (same, subst (λ (p : Program). program_limit p (length a.media) ≡ None) same ok.within)
 
 pub returns-in-Err-Limit : goal.returns-in-Err-Limit
 returns-in-Err-Limit c = λ held next.
     let given = c.args.architecture.now in
     let a = given.text.archi in
-    let over = subst (λ (s : Schedule). program_limit (program_of given.flat a s) (length a.media) ≡ Some c.in-Err-Limit.limit) c.in_ok-schedule.ensures.run (rw c.in-Err-Limit.field-0-is at c.in-Err-Limit.ensures) in
+    let over = subst (λ (s : Schedule). program_limit (program_of given.flat a s) (length a.media) ≡ Some c.in-Err-Limit.limit) c.in_ok-schedule.ensures.run (rw c.in-Err-Limit.field-0-is at c.in-Err-Limit.ensures.err) in
     is_above held (program_limit (program_by given.flat a given.durations) (length a.media)) c.in-Err-Limit.limit (next (program_by given.flat a given.durations)) over
 
 pub returns : goal.returns
