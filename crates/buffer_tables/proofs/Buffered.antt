@@ -1,6 +1,6 @@
 -- The tests of a buffer, as tests of the places at which it is written and read.
-use Rattle.std.proofs.Common.{◌≡◌, ℕ, zero, suc, ◌+◌, ◌<◌, Bool, true, false, ◌&&◌, ◌||◌, not, cond, nat_eq, List, [], ◌∷◌, length, Option, Some, None, refl, sym, ap, subst, inl, inr, arith, ◌∙◌, eq-eqb}
-use Rattle.std.specs.Prelude.{slice_get, nat_lt}
+use Rattle.std.proofs.Common.{◌≡◌, ℕ, zero, suc, Bool, true, false, ◌&&◌, ◌||◌, not, nat_eq, List, [], ◌∷◌, Some, refl, sym, ap, subst, inl, inr, ◌∙◌, eq-eqb}
+use Rattle.std.specs.Prelude.{slice_get}
 use Rattle.std.specs.List.{list_all, list_any}
 use Rattle.std.specs.Cmp.Derive.{both_true}
 use Rattle.std.proofs.lemmas.Bool.{false≢true, and_parts, eqb-true, or_left, or_right, or_cases}
@@ -11,12 +11,11 @@ use Rattle.executive_program.specs.declared.program.SeqCode.{SeqCode}
 use Rattle.executive_program.specs.declared.program.Program.{Program}
 use Rattle.executive_program.specs.Instructions.{is_guarded, operator, operator_in, reads, turn, turn_of, waits_for, writes}
 use Rattle.executive_program.specs.WellFormed.{Stands}
-use Rattle.buffer_check.specs.Buffers.{is_near, is_operator, is_written_first, is_written_once, touches, writes_only}
+use Rattle.buffer_check.specs.Buffers.{is_near, is_operator, is_written_once, touches, writes_only}
 use Rattle.program_walks.specs.Walks.{all_at, every, implies}
-use Rattle.program_walks.proofs.ListTests.{all_here, all_there, every_of, of_every, from_zero, to_zero, implied, implying, stands_of, of_stands}
-use Rattle.program_tables.specs.declared.roles.Role.{Role}
+use Rattle.program_walks.proofs.ListTests.{all_here, all_there, every_of, of_every, from_zero, to_zero, implied, implying}
 use Rattle.program_tables.specs.declared.roles.Role.TheVariants.{Written, Read}
-use Rattle.program_tables.specs.Marks.{named, marks_of, test_of}
+use Rattle.program_tables.specs.Marks.{named, marks_of}
 use Rattle.program_tables.proofs.Naming.{all_marks}
 use Rattle.program_tables.proofs.Lone.{same_tests, stands_are}
 

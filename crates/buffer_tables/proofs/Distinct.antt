@@ -1,16 +1,15 @@
 -- The readings found in the places at which a buffer is read are its readers.
-use Rattle.std.proofs.Common.{◌≡◌, ℕ, zero, suc, ◌+◌, ◌<◌, Bool, true, false, ◌&&◌, not, cond, nat_eq, List, [], ◌∷◌, ◌++◌, length, map, Option, Some, None, refl, sym, ap, subst, arith, ◌∙◌, eq-eqb}
+use Rattle.std.proofs.Common.{◌≡◌, ℕ, suc, ◌+◌, ◌<◌, Bool, true, false, ◌&&◌, not, cond, nat_eq, List, [], ◌∷◌, ◌++◌, map, Option, Some, None, refl, sym, ap, subst, arith, ◌∙◌, eq-eqb}
 use Rattle.std.specs.Prelude.{slice_get}
 use Rattle.std.specs.List.{filter, list_any, position_or_len}
 use Rattle.std.proofs.lemmas.Bool.{ne_eqb}
-use Rattle.std.proofs.lemmas.Option.{same_Some}
 use Rattle.std.proofs.lemmas.List.Elements.{filter-append}
 use Rattle.mark_table.specs.declared.table.Mark.{Mark}
 use Rattle.executive_program.specs.declared.program.Instr.{Instr}
 use Rattle.executive_program.specs.declared.program.SeqCode.{SeqCode}
 use Rattle.executive_program.specs.declared.program.Program.{Program}
 use Rattle.executive_program.specs.Blocks.{blocks}
-use Rattle.executive_program.specs.Instructions.{Reader, reads, readers_from, turn, turn_of, waits_for, writes}
+use Rattle.executive_program.specs.Instructions.{Reader, reads, readers_from, turn_of, waits_for, writes}
 use Rattle.program_tables.specs.declared.roles.Role.{Role}
 use Rattle.program_tables.specs.declared.roles.Role.TheVariants.{Read, Written}
 use Rattle.program_tables.specs.Marks.{named, names, marks_at, marks_in, marks_from, marks_of}

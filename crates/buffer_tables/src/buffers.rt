@@ -31,11 +31,9 @@ fn is_written(list: &[Instr], buffer: usize, write: Write) -> bool
 fn are_one(writes: &[Mark], write: Write) -> bool
     ensures { result ≡ list_all (λ m. nat_eq m.sequence write.writer && nat_eq m.at write.at && nat_eq m.port write.port) writes.now }
 {
-    writes
-        .iter()
-        .all(|mark| {
-            mark.sequence == write.writer && mark.at == write.at && mark.port == write.port
-        })
+    writes.iter().all(|mark| {
+        mark.sequence == write.writer && mark.at == write.at && mark.port == write.port
+    })
 }
 
 /// Whether a buffer is written there alone.

@@ -97,9 +97,7 @@ fn is_written_right(
 fn are_between(reads: &[Mark], sequence: usize, after: usize, before: usize) -> bool
     ensures { result ≡ list_all (λ m. implies (nat_eq m.sequence sequence) (nat_lt after m.at && nat_lt m.at before)) reads.now }
 {
-    reads
-        .iter()
-        .all(|mark| mark.sequence != sequence || (after < mark.at && mark.at < before))
+    reads.iter().all(|mark| mark.sequence != sequence || (after < mark.at && mark.at < before))
 }
 
 fn is_read_within(takes: &[Mark], signals: &[Mark], sequence: usize, reads: &[Mark]) -> bool

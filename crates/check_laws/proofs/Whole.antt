@@ -1,13 +1,5 @@
 -- The laws of the check.
-use Rattle.std.proofs.Common.{◌≡◌, ℕ, List, length, Option, Some, sym, ap, arith, ◌∙◌}
-use Rattle.std.proofs.lemmas.List.{length-map}
-use Rattle.std.proofs.lemmas.Option.{slice_get_within}
-use Rattle.executive_program.specs.declared.program.Program.{Program}
-use Rattle.executive_program.specs.Instructions.{Reader, readers}
-use Rattle.executive_program.specs.Places.{reader_or}
-use Rattle.executive_program.specs.WellFormed.{operator_of}
-use Rattle.sequence_build_laws.proofs.Lists.{get_some}
-use Rattle.check_laws.specs.Items.{AreGuarded}
+use Rattle.std.proofs.Common.{length}
 use Rattle.archi_graph.specs.Sequences.{sequences}
 use Rattle.check_laws.specs.Laws.{RunIsOrder, OrderIsFound, WellFormedHasItems, CauseIsExact, NoCauseIsWellFormed, RunsAreOrders, RunsStopAlike}
 use Rattle.check_laws.specs.Run.{run}

@@ -1,5 +1,5 @@
 -- One place more in a table of rows.
-use Rattle.std.proofs.Common.{◌≡◌, ℕ, zero, suc, ◌+◌, ◌<◌, ◌≤◌, Bool, true, false, cond, nat_eq, List, [], ◌∷◌, ◌++◌, length, map, get_or, take, replicate, Some, refl, sym, ap, arith, inl, inr, ◌∙◌, append-nil, slice_get}
+use Rattle.std.proofs.Common.{◌≡◌, ℕ, zero, suc, ◌+◌, ◌<◌, ◌≤◌, cond, nat_eq, List, [], ◌∷◌, ◌++◌, length, map, get_or, take, replicate, refl, sym, ap, arith, inl, inr, ◌∙◌, append-nil}
 use Rattle.std.specs.Prelude.{slice_set}
 use Rattle.std.specs.List.{filter}
 use Rattle.std.proofs.lemmas.List.Elements.{filter_more}
@@ -64,4 +64,3 @@ pub none_grouped : (count n : ℕ) → row (replicate count []) n ≡ []
 none_grouped zero n = refl
 none_grouped (suc count) zero = refl
 none_grouped (suc count) (suc n) = none_grouped count n
-

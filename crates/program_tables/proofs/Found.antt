@@ -1,8 +1,8 @@
 -- The first place that names a number, in the words of programs.
-use Rattle.std.proofs.Common.{◌≡◌, ℕ, zero, suc, ◌+◌, Bool, true, false, ◌||◌, not, cond, nat_eq, List, [], ◌∷◌, length, Option, Some, None, refl, sym, ap, subst, arith, ◌∙◌}
+use Rattle.std.proofs.Common.{◌≡◌, ℕ, suc, ◌+◌, Bool, true, false, ◌||◌, not, cond, nat_eq, List, [], ◌∷◌, length, Some, None, refl, sym, ap, subst, arith, ◌∙◌}
 use Rattle.std.specs.Prelude.{slice_get}
 use Rattle.std.specs.List.{list_any, position_or_len}
-use Rattle.std.proofs.lemmas.Bool.{false≢true, eqb-true}
+use Rattle.std.proofs.lemmas.Bool.{false≢true}
 use Rattle.std.proofs.lemmas.Option.{same_Some, slice_get_past}
 use Rattle.mark_table.specs.declared.table.Mark.{Mark}
 use Rattle.executive_program.specs.declared.program.Instr.{Instr}
@@ -12,7 +12,7 @@ use Rattle.executive_program.specs.declared.program.Program.{Program}
 use Rattle.executive_program.specs.Instructions.{turn, turn_of, writes}
 use Rattle.executive_program.specs.Places.{output_at, sequence_where}
 use Rattle.program_tables.specs.declared.roles.Role.{Role}
-use Rattle.program_tables.specs.declared.roles.Role.TheVariants.{Called, Written}
+use Rattle.program_tables.specs.declared.roles.Role.TheVariants.{Written}
 use Rattle.program_tables.specs.Marks.{named, names, marks_of, test_of}
 use Rattle.program_tables.proofs.Naming.{IsFirst, first_is, named_in, port_in}
 use Rattle.program_tables.proofs.Lone.{names_is, names_are}
@@ -39,14 +39,14 @@ module _ (p : Program) (role : Role) (n : ℕ) where
       × (m.port ≡ port_in role n (turn p (sequence_where p has_one)))
   first m ms e =
       let P : List Mark → Type 0 = λ xs. IsFirst xs (list_any (λ (q : SeqCode). list_any (names role n) q.turn) p.seqs) (sequence_where p (λ (q : SeqCode). list_any (names role n) q.turn))
-          (position_or_len (names role n) (turn p (sequence_where p (λ (q : SeqCode). list_any (names role n) q.turn)))) (port_in role n (turn p (sequence_where p (λ (q : SeqCode). list_any (names role n) q.turn)))) in
+      (position_or_len (names role n) (turn p (sequence_where p (λ (q : SeqCode). list_any (names role n) q.turn)))) (port_in role n (turn p (sequence_where p (λ (q : SeqCode). list_any (names role n) q.turn)))) in
       let f = subst P e (first_is role n p) in
       (f.1 ∙ same_where, f.2 ∙ same_at, f.3 ∙ ap (λ (s : ℕ). port_in role n (turn p s)) same_where)
 
   none_where : marks_of p role n ≡ [] → sequence_where p has_one ≡ length p.seqs
   none_where e =
       let P : List Mark → Type 0 = λ xs. IsFirst xs (list_any (λ (q : SeqCode). list_any (names role n) q.turn) p.seqs) (sequence_where p (λ (q : SeqCode). list_any (names role n) q.turn))
-          (position_or_len (names role n) (turn p (sequence_where p (λ (q : SeqCode). list_any (names role n) q.turn)))) (port_in role n (turn p (sequence_where p (λ (q : SeqCode). list_any (names role n) q.turn)))) in
+      (position_or_len (names role n) (turn p (sequence_where p (λ (q : SeqCode). list_any (names role n) q.turn)))) (port_in role n (turn p (sequence_where p (λ (q : SeqCode). list_any (names role n) q.turn)))) in
       let f = subst P e (first_is role n p) in
       sym same_where ∙ none_found (λ (q : SeqCode). list_any (names role n) q.turn) p.seqs f
 

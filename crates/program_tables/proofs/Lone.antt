@@ -1,5 +1,5 @@
 -- The tests that speak of whole programs, as tests of the places that name a number.
-use Rattle.std.proofs.Common.{◌≡◌, ℕ, zero, suc, ◌+◌, Bool, true, false, ◌&&◌, ◌||◌, not, cond, nat_eq, List, [], ◌∷◌, Option, Some, None, refl, sym, ap, subst, arith, ◌∙◌, eq-eqb}
+use Rattle.std.proofs.Common.{◌≡◌, ℕ, Bool, true, false, ◌&&◌, ◌||◌, nat_eq, List, [], ◌∷◌, Option, Some, None, refl, sym, ap, subst, ◌∙◌}
 use Rattle.std.specs.Prelude.{slice_get}
 use Rattle.std.specs.List.{list_all, list_any, position_or_len}
 use Rattle.std.specs.Cmp.Derive.{both_true}
@@ -15,7 +15,7 @@ use Rattle.program_walks.specs.Walks.{every, implies}
 use Rattle.program_walks.proofs.ListTests.{every_of, of_every, implied, implying}
 use Rattle.program_tables.specs.declared.roles.Role.{Role}
 use Rattle.program_tables.specs.declared.roles.Role.TheVariants.{Called, Written, Read, EmptyTaken, FullSignalled, FullTaken, EmptySignalled}
-use Rattle.program_tables.specs.Marks.{named, names, marks_of, test_of, lone, first_at}
+use Rattle.program_tables.specs.Marks.{names, marks_of, test_of, lone, first_at}
 use Rattle.program_tables.proofs.Naming.{all_stands, IsFirst, first_is, port_in}
 
 -- two tests that are true together are one
@@ -109,7 +109,7 @@ module _ (p : Program) (role : Role) (n : ℕ) where
   first_of [] s e h = absurd (false≢true h)
   first_of (m ∷ ms) s e h =
       let f : IsFirst (m ∷ ms) (list_any (λ q. list_any (names role n) q.turn) p.seqs) (sequence_where p (λ q. list_any (names role n) q.turn)) (position_or_len (names role n) (turn p (sequence_where p (λ q. list_any (names role n) q.turn)))) (port_in role n (turn p (sequence_where p (λ q. list_any (names role n) q.turn)))) =
-          (let P : List Mark → Type 0 = λ ms. IsFirst ms (list_any (λ q. list_any (names role n) q.turn) p.seqs) (sequence_where p (λ q. list_any (names role n) q.turn)) (position_or_len (names role n) (turn p (sequence_where p (λ q. list_any (names role n) q.turn)))) (port_in role n (turn p (sequence_where p (λ q. list_any (names role n) q.turn)))) in subst P e (first_is role n p)) in
+      (let P : List Mark → Type 0 = λ ms. IsFirst ms (list_any (λ q. list_any (names role n) q.turn) p.seqs) (sequence_where p (λ q. list_any (names role n) q.turn)) (position_or_len (names role n) (turn p (sequence_where p (λ q. list_any (names role n) q.turn)))) (port_in role n (turn p (sequence_where p (λ q. list_any (names role n) q.turn)))) in subst P e (first_is role n p)) in
       let at_s = (and_parts (nat_eq m.sequence s) (nat_eq m.at m.at) (and_parts (here s m.at m) (list_all (here s m.at) ms) h).0).0 in
       f.2 ∙ ap (λ (t : ℕ). position_or_len (names role n) (turn p t)) (sym f.1 ∙ eqb-true m.sequence s at_s) ∙ ap (λ (t : Instr → Bool). position_or_len t (turn p s)) (names_are role n)
 

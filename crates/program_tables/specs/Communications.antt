@@ -1,5 +1,5 @@
 -- The communications of each sequence, the communicators of each medium, and the transfers, as lists.
-use Rattle.std.specs.Prelude.{ℕ, ◌+◌, cond, nat_eq, List, [], ◌∷◌, map, length, Option, Some, None, slice_get}
+use Rattle.std.specs.Prelude.{ℕ, ◌+◌, cond, nat_eq, List, [], ◌∷◌, map, Option, Some, None}
 use Rattle.std.specs.List.{filter}
 use Rattle.mark_table.specs.declared.table.Mark.{Mark}
 use Rattle.executive_program.specs.declared.program.Instr.{Instr}

@@ -1,5 +1,5 @@
 -- The transfers of each medium as a table.
-use Rattle.std.specs.Prelude.{ℕ, Bool, cond, List, [], ◌∷◌, map, length, slice_get}
+use Rattle.std.specs.Prelude.{ℕ, Bool, cond, List, [], ◌∷◌, map, slice_get}
 use Rattle.std.specs.List.{range_with_len}
 use Rattle.mark_table.specs.declared.table.Mark.{Mark}
 use Rattle.executive_program.specs.declared.program.Program.{Program}

@@ -1,4 +1,4 @@
-use Rattle.std.proofs.Common.{◌≡◌, ℕ, ◌<◌, true, length, sym, ap, arith, ◌∙◌, below_more}
+use Rattle.std.proofs.Common.{◌≡◌, true, length, sym, ap, arith, ◌∙◌, below_more}
 use Rattle.buffer_check.specs.Buffers.{is_buffer}
 use Rattle.buffer_tables.proofs.Below.{one_fails, all_pass}
 use Rattle.buffer_tables.proofs.buffers.are_buffers.Goals as goal

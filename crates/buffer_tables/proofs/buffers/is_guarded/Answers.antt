@@ -1,5 +1,5 @@
 use Rattle.std.proofs.Common.{◌∙◌, ap}
-use Rattle.std.specs.Prelude.{List, not, nat_eq}
+use Rattle.std.specs.Prelude.{not, nat_eq}
 use Rattle.std.specs.List.{list_all, list_any}
 use Rattle.mark_table.specs.declared.table.Mark.{Mark}
 use Rattle.buffer_tables.proofs.Buffered.{guarded_is}

@@ -1,5 +1,5 @@
 use Rattle.std.proofs.Common.{◌∙◌, ap}
-use Rattle.std.specs.Prelude.{List, nat_eq, nat_lt}
+use Rattle.std.specs.Prelude.{nat_eq, nat_lt}
 use Rattle.std.specs.List.{list_all}
 use Rattle.mark_table.specs.declared.table.Mark.{Mark}
 use Rattle.program_walks.specs.Walks.{implies}

@@ -1,4 +1,4 @@
-use Rattle.std.proofs.Common.{◌≡◌, ℕ, ◌<◌, length, ap, arith, ◌∙◌}
+use Rattle.std.proofs.Common.{◌<◌, length, ap, arith, ◌∙◌}
 use Rattle.buffer_tables.proofs.Distinct.{one_more}
 use Rattle.buffer_tables.proofs.readings.find_readings.Goals as goal
 

@@ -1,5 +1,5 @@
 use Rattle.std.proofs.Common.{rules}
-use Rattle.mark_table.proofs.Rowing.{put, put_none}
+use Rattle.mark_table.proofs.Rowing.{put}
 use Rattle.mark_table.proofs.table.add.Goals as goal
 
 pub returns-in_ok-push : goal.returns-in_ok-push

@@ -1,4 +1,4 @@
-use Rattle.std.proofs.Common.{◌≡◌, refl, sym, ap, ◌∙◌, List, ℕ}
+use Rattle.std.proofs.Common.{refl, sym, ap, ◌∙◌, List, ℕ}
 use Rattle.std.specs.Prelude.{slice_get, slice_index}
 use Rattle.std.proofs.lemmas.Option.{slice_get_read, slice_get_past}
 use Rattle.program_tables.proofs.Numbered.{number_told, no_number}

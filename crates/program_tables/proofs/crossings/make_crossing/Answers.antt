@@ -1,4 +1,4 @@
-use Rattle.std.proofs.Common.{◌≡◌, ◌∙◌}
+use Rattle.std.proofs.Common.{◌∙◌}
 use Rattle.program_tables.specs.Crossings.{crossing_by}
 use Rattle.program_tables.proofs.Crossed.{crossing_is}
 use Rattle.program_tables.proofs.crossings.make_crossing.Goals as goal

@@ -1,4 +1,4 @@
-use Rattle.std.proofs.Common.{◌≡◌, ap, length, map, ◌∙◌}
+use Rattle.std.proofs.Common.{ap, length, map, ◌∙◌}
 use Rattle.mark_table.specs.Rows.{row}
 use Rattle.mark_table.proofs.Rowing.{grouped, many_added}
 use Rattle.mark_table.proofs.table.MarkTable.new.Goals as goal
