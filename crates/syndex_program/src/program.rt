@@ -36,7 +36,12 @@ pub fn built(alloc: Global, architecture: &Architecture) -> Result<Program, Stat
     ensures { BuildsProgram architecture.now.flat architecture.now.text.archi architecture.now.durations result }
 {
     let schedule = scheduled(alloc, architecture)?;
-    match build(alloc, &architecture.flat, &architecture.text.archi, &schedule) {
+    match build(
+        alloc,
+        &architecture.flat,
+        &architecture.text.archi,
+        &schedule,
+    ) {
         Ok(program) => Ok(program),
         Err(BuildError::Limit(limit)) => Err(Status::Limit(limit)),
         Err(BuildError::OutOfMemory) => Err(Status::OutOfMemory),

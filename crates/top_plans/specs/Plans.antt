@@ -150,11 +150,11 @@ sum_of acts = wrapped (total (flat_map all_joined acts))
 -- the numbers of operations, sequences and micro-steps, and that sum
 abbrev pub summary : Execution → Bytes
 summary e = joined (
-  codes "operations " ∷ decimal (length (flat_of e.main).vertices)
-      ∷ codes "\nsequences " ∷ decimal (length (sequences e.architecture))
-      ∷ codes "\nsteps " ∷ decimal (total_steps e.program (length e.rows.reactions))
-      ∷ codes "\nsum " ∷ signed_decimal (sum_of (acts_of e.main e.rows.reactions)) ∷ codes "\n" ∷ []
-)
+    codes "operations " ∷ decimal (length (flat_of e.main).vertices)
+    ∷ codes "\nsequences " ∷ decimal (length (sequences e.architecture))
+    ∷ codes "\nsteps " ∷ decimal (total_steps e.program (length e.rows.reactions))
+    ∷ codes "\nsum " ∷ signed_decimal (sum_of (acts_of e.main e.rows.reactions)) ∷ codes "\n" ∷ []
+    )
 
 -- The texts of an algorithm, an architecture and a table are carried out as they stand; no file is read.
 abbrev pub load_plan : (a h s : Bytes) → Made

@@ -301,7 +301,15 @@ fn graph_of_two(rt: &impl Abort, alloc: Global) -> Result<Flat, Fail> {
 fn run_all(rt: &impl Abort, alloc: Global, depth: u32, steps: u64, end: &End) -> Result<(), Fail> {
     let flat = graph_of_two(rt, alloc)?;
     let archi = two_operators(rt, alloc)?;
-    run(rt, alloc, &program(alloc, depth)?, &flat, &archi, steps, end)
+    run(
+        rt,
+        alloc,
+        &program(alloc, depth)?,
+        &flat,
+        &archi,
+        steps,
+        end,
+    )
 }
 
 #[test]
