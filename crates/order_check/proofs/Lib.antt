@@ -1,4 +1,4 @@
-mod Exact
-mod Listed
+pub mod Exact
+pub mod Listed
 mod Ordered
 mod WorkedProgram

@@ -9,4 +9,6 @@ mod naming;
 mod order;
 mod sequencing;
 
+pub use naming::{are_communicators, are_counted, are_on_media, names_in};
 pub use order::is_order;
+pub use sequencing::are_sequences;

@@ -27,7 +27,7 @@ fn are_buffers(program: &Program, list: &[u32]) -> bool
 }
 
 /// Whether what an instruction names is there, among so many operations.
-fn names_in(program: &Program, operations: usize, instr: &Instr) -> bool
+pub fn names_in(program: &Program, operations: usize, instr: &Instr) -> bool
     ensures { result ≡ names_in program.now operations instr.now }
 {
     match instr {

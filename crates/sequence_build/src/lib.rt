@@ -15,3 +15,6 @@ mod uses;
 
 pub use error::BuildError;
 pub use program::build;
+
+#[cfg(test)]
+mod tests;

@@ -5,6 +5,7 @@ ghost use Rattle.body_lang.specs.Expr.{view as expression, value_of, vector_of, 
 ghost use Rattle.algo_tree.specs.Typed.{AreLengths, AllPortsBelow};
 ghost use Rattle.sync_meaning.specs.Store.{lengths};
 
+use crate::values::put;
 use body_lang::{Expr, Ins, value};
 
 /// Writes the only output.
@@ -14,7 +15,7 @@ pub fn write_only(outs: &mut Ins, v: &[i64])
     ensures values { outs.new ≡ v.now ∷ [] }
     ensures lens { lengths outs.new ≡ lengths outs.old }
 {
-    outs.set_vector(0, v);
+    put(outs, 0, v);
 }
 
 /// Writes zeros in the place of one output.

@@ -1,5 +1,5 @@
 //! The values of sources, and the case that a value selects.
-ghost use Rattle.std.specs.Prelude.{◌≡◌, ◌<◌, ◌≤◌, length, map};
+ghost use Rattle.std.specs.Prelude.{◌≡◌, ◌<◌, ◌≤◌, [], length, map, slice_set, slice_index_or};
 ghost use Rattle.level_meaning.specs.Level.{source_value, selected, all_hold, zeros as zeros_of};
 ghost use Rattle.algo_tree.specs.Typed.{source_length, AreLengths, AreGuardsTyped};
 ghost use Rattle.sync_meaning.specs.Store.{lengths};
@@ -20,6 +20,19 @@ pub fn value_of<'a>(source: Source, own: &'a Ins, table: &'a [Ins]) -> &'a [i64]
     }
 }
 
+/// Puts a vector in place. Most vectors have one element, which is written without a call that copies.
+#[inline(always)]
+pub fn put(into: &mut Ins, p: usize, vector: &[i64])
+    requires place { p < length into.old }
+    requires len { length vector.now ≡ length (slice_index_or into.old p []) }
+    ensures { into.new ≡ slice_set into.old p vector.now }
+{
+    match vector {
+        [x] => into.set(p, 0, *x),
+        _ => into.set_vector(p, vector),
+    }
+}
+
 /// Puts the values of several sources in place.
 pub fn fill(into: &mut Ins, sources: &[Source], own: &Ins, table: &[Ins])
     requires there { AreLengths (lengths into.old) }
@@ -28,7 +41,7 @@ pub fn fill(into: &mut Ins, sources: &[Source], own: &Ins, table: &[Ins])
     ensures lens { lengths into.new ≡ lengths into.old }
 {
     for (p, source) in sources.iter().enumerate() {
-        into.set_vector(p, value_of(*source, own, table));
+        put(into, p, value_of(*source, own, table));
     }
 }
 

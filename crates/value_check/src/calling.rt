@@ -13,7 +13,8 @@ use program_walks::{
     Act, Stand, caller_of, first_call, is_entry, is_only, len_of, medium_of, turn_of,
 };
 
-fn has_output(vertices: &[Vertex], source: Source, len: u32) -> bool
+/// Whether an operation has this output, of this length.
+pub fn has_output(vertices: &[Vertex], source: Source, len: u32) -> bool
     ensures { result ≡ has_output (slice_get vertices.now source.vertex) source.port len }
 {
     match vertices.get(source.vertex as usize) {
@@ -90,7 +91,8 @@ fn takes(program: &Program, vertices: &[Vertex], ins: &[u32], x: &Vertex) -> boo
         && carry_after(program, vertices, ins, x)
 }
 
-fn has_len(program: &Program, buffer: u32, len: u32) -> bool
+/// Whether a buffer is there and has this length.
+pub fn has_len(program: &Program, buffer: u32, len: u32) -> bool
     ensures { result ≡ has_len (slice_get program.now.buffers buffer) len }
 {
     match program.buffers.as_slice().get(buffer as usize) {
@@ -159,7 +161,8 @@ fn is_before_twin(program: &Program, stand: Stand, kind: &Kind, twin: Option<u32
     }
 }
 
-fn ins_of(list: &[Instr], at: usize) -> &[u32]
+/// The buffers that the call at a place takes; none where there is no call.
+pub fn ins_of(list: &[Instr], at: usize) -> &[u32]
     ensures { result.now ≡ ins_in (slice_get list.now at) }
 {
     match list.get(at) {
@@ -168,7 +171,8 @@ fn ins_of(list: &[Instr], at: usize) -> &[u32]
     }
 }
 
-fn outs_of(list: &[Instr], at: usize) -> &[u32]
+/// The buffers into which the call at a place gives; none where there is no call.
+pub fn outs_of(list: &[Instr], at: usize) -> &[u32]
     ensures { result.now ≡ outs_in (slice_get list.now at) }
 {
     match list.get(at) {

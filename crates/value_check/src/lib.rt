@@ -9,4 +9,7 @@ mod carrying;
 mod clauses;
 mod transferring;
 
+pub use calling::{has_len, has_output, ins_of, outs_of};
+pub use carrying::Origin;
 pub use clauses::{operations_are_called, transfers_are_right, transfers_keep_sources};
+pub use transferring::{is_receive_from, is_send_to, is_wait};

@@ -98,7 +98,8 @@ pub fn buffer_at(program: &Program, sequence: usize, number: usize) -> u32
     buffer_in(turn, communication_at(turn, number))
 }
 
-fn is_send_to(list: &[Instr], at: usize, operator: u32) -> bool
+/// Whether a send to this operator stands at a place.
+pub fn is_send_to(list: &[Instr], at: usize, operator: u32) -> bool
     ensures { result ≡ is_send_to operator (slice_get list.now at) }
 {
     match list.get(at) {
@@ -107,7 +108,8 @@ fn is_send_to(list: &[Instr], at: usize, operator: u32) -> bool
     }
 }
 
-fn is_receive_from(list: &[Instr], at: usize, operator: u32) -> bool
+/// Whether a receive from this operator stands at a place.
+pub fn is_receive_from(list: &[Instr], at: usize, operator: u32) -> bool
     ensures { result ≡ is_receive_from operator (slice_get list.now at) }
 {
     match list.get(at) {
@@ -116,7 +118,9 @@ fn is_receive_from(list: &[Instr], at: usize, operator: u32) -> bool
     }
 }
 
-fn is_wait(list: &[Instr], at: usize, sender: u32, receiver: u32, holds: bool) -> bool
+/// Whether a wait for a transfer between these operators stands at a place, and this holds; true where the list
+/// ends before.
+pub fn is_wait(list: &[Instr], at: usize, sender: u32, receiver: u32, holds: bool) -> bool
     ensures { result ≡ is_wait sender receiver holds (slice_get list.now at) }
 {
     match list.get(at) {

@@ -36,7 +36,7 @@ module _ (f : Woven) (d : Share) (s : ℕ) (is : IsWoven f) (o : IsOf f d) (ther
   driven : count_in o.0.driven s ≡ Some count
   driven = (driver.all s there drives).1
 
-  count_at : n ≡ get_or d.counts.items s 0
+  pub count_at : n ≡ get_or d.counts.items s 0
   count_at = n_at ∙ any_default d.counts.items s n 0 (let b = driver.counts_there in omega (arith, there, b))
 
   count_is : n ≡ count
@@ -51,6 +51,10 @@ module _ (f : Woven) (d : Share) (s : ℕ) (is : IsWoven f) (o : IsOf f d) (ther
   pub finished : r ≡ None → get_or d.counts.items s 0 ≡ full d.job.now s
   finished e = let a = none_left J s count (next_here ∙ e) in let w = driver.within s count driven in let q : count ≡ full J s = omega (arith, a, w) in
       driver.counted s count driven ∙ q ∙ ap (λ (j : JobData). full j s) (sym driver.of_job)
+
+  pub pending : (m : MicroStep) → r ≡ Some m → get_or d.counts.items s 0 < full d.job.now s
+  pending m e =
+      let l = not_past J s count m (next_here ∙ e) in let q = driver.counted s count driven in let w = ap (λ (j : JobData). full j s) driver.of_job in omega (arith, l, q, w)
 
   module _ (m : MicroStep) (e : r ≡ Some m) (k : ℕ) (k_at : k ≡ reaction_at (code_of code) n) where
     reaction_is : reaction_at (steps J.program s) count ≡ k

@@ -1,5 +1,6 @@
 //! A fabric and its drivers, kept whole.
-ghost use Rattle.std.specs.Prelude.{◌≡◌, ◌<◌, ◌%◌, length};
+ghost use Rattle.std.specs.Prelude.{◌≡◌, ◌<◌, ◌%◌, IfNone, IfSome, length, slice_index_or};
+ghost use Rattle.semaphore_core.specs.Core.{full};
 ghost use Rattle.word_table.specs.Answers.{Answers, AnswersAlone};
 ghost use Rattle.word_table.specs.Driver.{IsTold};
 
@@ -73,6 +74,18 @@ impl<'a> Fabric<'a> {
         ensures { result ≡ length self.now.job.program.seqs }
     {
         self.woven.job.sequences()
+    }
+
+    /// The number of the next micro-step of a sequence of a driver of this fabric, counted from 0, where it has
+    /// not made all of them. It takes no memory.
+    pub fn next_step(&self, driver: &Driver<'a>, seq: u32) -> Option<u64>
+        requires of { driver.now.fabric ≡ self.now }
+        requires there { seq < length self.now.job.program.seqs }
+        requires drives { seq % self.now.groups ≡ driver.now.group }
+        ensures next { IfSome result (λ n. (n ≡ slice_index_or driver.now.counts seq 0) × (n < full self.now.job seq)) }
+        ensures none { IfNone result (slice_index_or driver.now.counts seq 0 ≡ full self.now.job seq) }
+    {
+        self.woven.next_step(&driver.share, seq)
     }
 
     /// Tries a sequence of a driver of this fabric: makes its next micro-step by one atomic step, where the

@@ -1,5 +1,6 @@
 //! The table of a job with its micro-steps laid out, and one micro-step of a driver on it.
-ghost use Rattle.std.specs.Prelude.{◌≡◌, ◌<◌, ◌%◌, ◌⊎◌, true, false, length};
+ghost use Rattle.std.specs.Prelude.{◌≡◌, ◌<◌, ◌%◌, ◌⊎◌, IfNone, IfSome, true, false, length, slice_index_or};
+ghost use Rattle.semaphore_core.specs.Core.{full};
 ghost use Rattle.executive_program.specs.declared.steps.MicroStep.TheVariants.{Load, Store};
 ghost use Rattle.word_rule.specs.Given.{IsThere, IsHere, IsTake, Waits, AddsOne, IsLower, enables};
 ghost use Rattle.word_rule.specs.Words.{word_at, element_word};
@@ -193,6 +194,23 @@ impl<'a> Woven<'a> {
                 self.store_from(share, next, place, what);
                 true
             }
+        }
+    }
+
+    /// The number of the next micro-step of a sequence of a driver of this fabric, counted from 0.
+    pub fn next_step(&self, share: &Share<'a>, seq: u32) -> Option<u64>
+        requires woven { IsWoven self.now }
+        requires of { IsOf self.now share.now }
+        requires there { seq < length self.now.job.now.program.seqs }
+        requires drives { seq % share.now.groups ≡ share.now.group }
+        ensures next { IfSome result (λ n. (n ≡ slice_index_or (share_view share.now).counts seq 0) × (n < full share.now.job.now seq)) }
+        ensures none { IfNone result (slice_index_or (share_view share.now).counts seq 0 ≡ full share.now.job.now seq) }
+    {
+        let count = share.counts[seq as usize];
+        let code = &self.steps[seq as usize];
+        match next_in(code, self.job.reactions() as u64, count) {
+            None => None,
+            Some(_) => Some(count),
         }
     }
 

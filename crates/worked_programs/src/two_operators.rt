@@ -5,7 +5,7 @@ ghost use Rattle.flat_graph.specs.Meaning.{initial_cells};
 ghost use Rattle.flat_graph.specs.Laws.{sensor_lens};
 ghost use Rattle.semaphore_core.specs.Held.{IsOpened};
 
-use crate::words::{End, by_one, by_two};
+use crate::words::{End, drive};
 use archi_graph::{Archi, Medium, Seq, is_archi};
 use body_lang::{Body, Expr};
 use executive_program::{Buffer, Instr, Program, SeqCode};
@@ -279,8 +279,8 @@ fn run(
     match job(rt, program, flat, archi, &rows, opening, &ORDER) {
         Ok(job) => {
             the_greatest_first(rt, alloc, &job, steps)?;
-            by_two(rt, alloc, &job, end)?;
-            by_one(rt, alloc, &job, end)
+            drive(rt, alloc, &job, 2, end)?;
+            drive(rt, alloc, &job, 1, end)
         }
         Err(_) => panic!(rt; "a limit"),
     }
@@ -301,7 +301,15 @@ fn graph_of_two(rt: &impl Abort, alloc: Global) -> Result<Flat, Fail> {
 fn run_all(rt: &impl Abort, alloc: Global, depth: u32, steps: u64, end: &End) -> Result<(), Fail> {
     let flat = graph_of_two(rt, alloc)?;
     let archi = two_operators(rt, alloc)?;
-    run(rt, alloc, &program(alloc, depth)?, &flat, &archi, steps, end)
+    run(
+        rt,
+        alloc,
+        &program(alloc, depth)?,
+        &flat,
+        &archi,
+        steps,
+        end,
+    )
 }
 
 #[test]

@@ -1,5 +1,6 @@
 //! A job on a table of words: the same rows, counts and words, however many drivers there are.
-ghost use Rattle.std.specs.Prelude.{◌≡◌, ◌<◌, length};
+ghost use Rattle.std.specs.Prelude.{◌≡◌, ◌≤◌};
+ghost use Rattle.word_table.specs.Driver.{AreDrivers};
 
 use crate::two_operators::expect;
 use semaphore_core::Job;
@@ -14,9 +15,6 @@ pub(crate) struct End<'a> {
     pub(crate) counts: &'a [u64],
     pub(crate) words: &'a [u64],
 }
-
-/// Only asks that a fabric may be shared by threads, and that a driver may go to another.
-fn cross<T: Sync, U: Send>(_shared: &T, _own: &U) {}
 
 /// How many micro-steps a try made.
 fn made(answer: MicroAnswer) -> u64 {
@@ -41,37 +39,35 @@ fn turn<'a>(fabric: &Fabric<'a>, driver: &mut Driver<'a>) -> u64
     steps
 }
 
-/// Drives a job by two drivers in turn.
-pub(crate) fn by_two(rt: &impl Abort, alloc: Global, job: &Job, end: &End) -> Result<(), Fail> {
-    let (fabric, mut drivers) = weave(alloc, job, 2)?;
-    let mut second = drivers.pop().ok_or("no driver")?;
-    let mut first = drivers.pop().ok_or("one driver")?;
-    cross(&fabric, &first);
+/// Tries each sequence once, driver by driver, and counts the micro-steps that were made.
+fn round<'a>(fabric: &Fabric<'a>, drivers: &mut Vec<Driver<'a>>) -> u64
+    requires { AreDrivers fabric.now drivers.old.items }
+    ensures { AreDrivers fabric.now drivers.new.items }
+{
     let mut steps: u64 = 0;
-    for _ in 0..200 {
-        steps = steps.saturating_add(turn(&fabric, &mut first));
-        steps = steps.saturating_add(turn(&fabric, &mut second));
+    for g in 0..drivers.len() {
+        steps = steps.saturating_add(turn(fabric, &mut drivers[g]));
     }
-    let mut driven = Driven::new(alloc);
-    let drivers = vec![in alloc; first, second]?;
-    let closed = fabric.close(drivers, &mut driven);
-    assert_eq!(rt; driven.number(), steps);
-    assert_eq!(rt; driven.counts(), end.counts);
-    assert_eq!(rt; driven.words(), end.words);
-    expect(rt, closed.rows(), &[[6, 6], [0, 0], [1, 1]]);
-    Ok(())
+    steps
 }
 
-/// Drives a job by one driver.
-pub(crate) fn by_one(rt: &impl Abort, alloc: Global, job: &Job, end: &End) -> Result<(), Fail> {
-    let (fabric, mut drivers) = weave(alloc, job, 1)?;
-    let mut only = drivers.pop().ok_or("no driver")?;
+/// Drives a job in groups of sequences, by a driver each.
+pub(crate) fn drive(
+    rt: &impl Abort,
+    alloc: Global,
+    job: &Job,
+    groups: u32,
+    end: &End,
+) -> Result<(), Fail>
+    requires { (1 ≤ groups) × (groups ≤ 80) }
+{
+    let (fabric, mut drivers) = weave(alloc, job, groups)?;
     let mut steps: u64 = 0;
     for _ in 0..200 {
-        steps = steps.saturating_add(turn(&fabric, &mut only));
+        steps = steps.saturating_add(round(&fabric, &mut drivers));
     }
     let mut driven = Driven::new(alloc);
-    let closed = fabric.close(vec![in alloc; only]?, &mut driven);
+    let closed = fabric.close(drivers, &mut driven);
     assert_eq!(rt; driven.number(), steps);
     assert_eq!(rt; driven.counts(), end.counts);
     assert_eq!(rt; driven.words(), end.words);

@@ -16,8 +16,8 @@ value_of-requires c =
     let at : get_or (lengths c.args.into.now) p 0 ≡ f (get_or ss p (Own 0)) = ap (λ (ns : List ℕ). get_or ns p 0) c.requires.lens ∙ map_at f ss p (Own 0) 0 c.loop-p-test.true in
     rw at at (positive_at (lengths c.args.into.now) p c.requires.there (omega arith))
 
-pub set_vector-requires-clause-len : goal.set_vector-requires-clause-len
-set_vector-requires-clause-len c =
+pub put-requires-clause-len : goal.put-requires-clause-len
+put-requires-clause-len c =
     let f = source_length (lengths c.args.own.now) (map lengths c.args.table.now) in
     let ss = c.args.sources.now in
     let p = c.loop-p.p in
@@ -34,6 +34,6 @@ loop-p-preserved c =
     let fits : length c.value_of.result.now ≡ length (get_or c.loop-p.into p []) =
     c.value_of.ensures.len ∙ sym at ∙ ap (λ (ns : List ℕ). get_or ns p 0) (sym c.loop-p.invariant.lens) ∙ sym (length_at c.loop-p.into p) in
     record {
-      values = c.set_vector.ensures ∙ filled_next (source_value c.args.own.now (given c.args.table.now)) ss c.args.into.now c.loop-p.into p (Own 0) c.value_of.result.now long c.loop-p-test.true c.loop-p.invariant.values c.value_of.ensures.value;
-      lens = ap lengths c.set_vector.ensures ∙ lengths_set c.loop-p.into p c.value_of.result.now fits ∙ c.loop-p.invariant.lens;
+      values = c.put.ensures ∙ filled_next (source_value c.args.own.now (given c.args.table.now)) ss c.args.into.now c.loop-p.into p (Own 0) c.value_of.result.now long c.loop-p-test.true c.loop-p.invariant.values c.value_of.ensures.value;
+      lens = ap lengths c.put.ensures ∙ lengths_set c.loop-p.into p c.value_of.result.now fits ∙ c.loop-p.invariant.lens;
     }

@@ -1,0 +1,4 @@
+pub mod Below
+pub mod Buffered
+pub mod Distinct
+pub mod Paired

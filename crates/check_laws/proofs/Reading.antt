@@ -1,0 +1,117 @@
+-- In an order of a well-formed program each read stands after the write.
+use Rattle.std.proofs.Common.{◌≡◌, ℕ, zero, suc, ◌+◌, ◌<◌, Bool, true, false, not, cond, nat_eq, List, [], ◌∷◌, length, Option, Some, refl, sym, ap, subst, inl, inr, arith, ◌∙◌, eq-eqb}
+use Rattle.std.specs.Prelude.{slice_get}
+use Rattle.std.specs.List.{list_any}
+use Rattle.std.specs.Cmp.Derive.{both_true}
+use Rattle.std.proofs.lemmas.Bool.{false≢true, eqb-true, cases_eq}
+use Rattle.std.proofs.lemmas.List.{length-map}
+use Rattle.std.proofs.lemmas.Option.{same_Some, slice_get_within}
+use Rattle.flat_graph.specs.Graph.{Graph}
+use Rattle.archi_graph.specs.declared.medium.Seq.{Seq}
+use Rattle.executive_program.specs.declared.program.Instr.{Instr}
+use Rattle.executive_program.specs.declared.program.Instr.TheVariants.{Call, Send, Recv}
+use Rattle.executive_program.specs.declared.program.SeqCode.{SeqCode}
+use Rattle.executive_program.specs.declared.program.Program.{Program}
+use Rattle.executive_program.specs.Blocks.{blocks}
+use Rattle.executive_program.specs.Instructions.{reads, writes, turn, turn_of, Reader, waits_for, readers_from, readers}
+use Rattle.executive_program.specs.Places.{pair, reader, reader_or, writing}
+use Rattle.executive_program.specs.WellFormed.{Stands, WritesAt, ReadsAt, IsOrder, operator_of, place_in}
+use Rattle.sequence_build_laws.proofs.Lists.{any_at, any_of, get_before, get_past, counts_tally}
+use Rattle.sequence_build_laws.proofs.Loops.{code_there}
+use Rattle.check_laws.proofs.Turns.{mine, place_rises}
+
+of_reads : (b k : ℕ) (x : Instr) → ReadsAt x k b → reads b x ≡ true
+of_reads b k (Call v ins outs) h = any_at (λ n. nat_eq n b) ins k b h (eq-eqb b b refl)
+of_reads b k (Send n o) h = eq-eqb n b h.0
+of_reads b k _ h = absurd h
+
+writes_of : (b : ℕ) (x : Instr) → writes b x ≡ true → (k : ℕ) × WritesAt x k b
+writes_of b (Call v ins outs) h = let q = any_of (λ n. nat_eq n b) outs h in (q.0, q.2 ∙ ap (λ (n : ℕ). Some n) (eqb-true q.1 b q.3))
+writes_of b (Recv n o) h = (0, (eqb-true n b h, refl))
+writes_of b _ h = absurd (false≢true h)
+
+reader_is : (b s t : ℕ) → s ≡ t → ◌≡◌ {A = Reader} (record { buffer = b; sequence = s }) (record { buffer = b; sequence = t })
+reader_is b s t e = ap (λ (n : ℕ). record { buffer = b; sequence = n }) e
+
+to_readers : (s : ℕ) (qs : List SeqCode) (b k : ℕ) (q : SeqCode) → slice_get qs k ≡ Some q → waits_for b q ≡ true → (i : ℕ) × (slice_get (readers_from s qs b) i ≡ Some (record { buffer = b; sequence = s + k }))
+to_readers s [] b k q e h = absurd cc
+to_readers s (y ∷ ys) b zero q e h = let t : waits_for b y ≡ true = ap (waits_for b) (same_Some y q e) ∙ h in
+    (0, rw t (ap (λ (r : Reader). Some r) (reader_is b s (s + 0) (omega arith))))
+to_readers s (y ∷ ys) b (suc k) q e h = by (waits_for b y) (to_readers (suc s) ys b k q e h)
+  where
+    by : (t : Bool) → (i : ℕ) × (slice_get (readers_from (suc s) ys b) i ≡ Some (record { buffer = b; sequence = suc s + k }))
+        → (i : ℕ) × (slice_get (cond t (record { buffer = b; sequence = s } ∷ readers_from (suc s) ys b) (readers_from (suc s) ys b)) i ≡ Some (record { buffer = b; sequence = s + suc k }))
+    by true r = (suc r.0, r.1 ∙ ap (λ (r : Reader). Some r) (reader_is b (suc s + k) (s + suc k) (omega arith)))
+    by false r = (r.0, r.1 ∙ ap (λ (r : Reader). Some r) (reader_is b (suc s + k) (s + suc k) (omega arith)))
+
+-- what stands in a block stands in the list of all blocks
+in_all : {A : Type 0} (f : ℕ → List A) (n b k : ℕ) (x : A) → b < n → slice_get (f b) k ≡ Some x → (i : ℕ) × (slice_get (blocks f n) i ≡ Some x)
+in_all f zero b k x l e = absurd (omega arith)
+in_all f (suc n) b k x l e = elim (cases_eq b n) [
+  | inl q ↦ (length (blocks f n) + k, get_past (blocks f n) (f n) k ∙ ap (λ (m : ℕ). slice_get (f m) k) (sym q) ∙ e)
+  | inr q ↦ (let r = in_all f n b k x (omega arith) e in (r.0, get_before (blocks f n) (f n) r.0 x r.1))
+]
+
+module _ (p : Program) (g : Graph) (seqs : List Seq) (media : ℕ) (order : List ℕ) (h : IsOrder p g seqs media order) where
+  pub many : length p.pairs ≡ length (readers p)
+  many = sym (length-map p.pairs (λ o. Some o)) ∙ ap (λ (os : List (Option ℕ)). length os) h.numbered ∙ length-map (readers p) (λ (r : Reader). operator_of p r.buffer)
+
+  -- a reading sequence that does not write the buffer has a pair
+  has_pair : (b s a k : ℕ) (x : Instr) → b < length p.buffers → (s ≡ (writing p b).writer → ⊥) → Stands p s a x → ReadsAt x k b → (q : ℕ) × (q < length p.pairs) × ((reader p q).buffer ≡ b) × ((reader p q).sequence ≡ s)
+  has_pair b s a k x l n st rd = by (code_there p s a x st).it (code_there p s a x st).stands
+    where
+      by : (y : SeqCode) → slice_get p.seqs s ≡ Some y → (q : ℕ) × (q < length p.pairs) × ((reader p q).buffer ≡ b) × ((reader p q).sequence ≡ s)
+      by y e = (
+        stands.0,
+        let z = slice_get_within (readers p) stands.0 _ stands.1 in let m = many in omega arith,
+        ap (λ (o : Option Reader). (reader_or o).buffer) stands.1,
+        ap (λ (o : Option Reader). (reader_or o).sequence) stands.1 ∙ (let z : 0 + s ≡ s = omega arith in z),
+      )
+        where
+          turn_here : turn p s ≡ y.turn
+          turn_here = ap turn_of e
+
+          reading : list_any (reads b) y.turn ≡ true
+          reading = any_at (reads b) y.turn a x (ap (λ (l : List Instr). slice_get l a) (sym turn_here) ∙ st) (of_reads b k x rd)
+
+          no_write : (t : Bool) → list_any (writes b) y.turn ≡ t → not (list_any (writes b) y.turn) ≡ true
+          no_write true t = let q = any_of (writes b) y.turn t in let v = writes_of b q.1 q.3 in
+              absurd (n (((h.buffers b l).only s q.0 v.0 q.1 (ap (λ (l : List Instr). slice_get l q.0) turn_here ∙ q.2) v.1).0))
+          no_write false t = ap not t
+
+          found : (i : ℕ) × (slice_get (readers_from 0 p.seqs b) i ≡ Some (record { buffer = b; sequence = 0 + s }))
+          found = to_readers 0 p.seqs b s y e (both_true reading (no_write (list_any (writes b) y.turn) refl))
+
+          stands : (i : ℕ) × (slice_get (readers p) i ≡ Some (record { buffer = b; sequence = 0 + s }))
+          stands = in_all (readers_from 0 p.seqs) (length p.buffers) b found.0 (record { buffer = b; sequence = 0 + s }) l found.1
+
+  rises : (s a b : ℕ) (x : Instr) → Stands p s b x → a < b → place_in order s a < place_in order s b
+  rises s a b x e l =
+      let c = code_there p s b x e in
+      let low = slice_get_within p.seqs s c.it c.stands in
+      let w = slice_get_within (turn p s) b x e in
+      let n = sym (counts_tally (mine s) order) ∙ h.follows.lengths s low in
+      place_rises order s a b l (omega arith)
+
+  pub after_write : (b s a k : ℕ) (x : Instr) → b < length p.buffers → Stands p s a x → ReadsAt x k b → place_in order (writing p b).writer (writing p b).at < place_in order s a
+  after_write b s a k x l e r = elim (cases_eq s (writing p b).writer) [
+    | inl q ↦ own q
+    | inr q ↦ other (has_pair b s a k x l q e r).0 (has_pair b s a k x l q e r).1 (has_pair b s a k x l q e r).2 (has_pair b s a k x l q e r).3
+  ]
+    where
+      own : s ≡ (writing p b).writer → place_in order (writing p b).writer (writing p b).at < place_in order s a
+      own q =
+          let first = (h.buffers b l).own_reads a k x (subst (λ u. Stands p u a x) q e) r in
+          subst (λ u. place_in order u (writing p b).at < place_in order s a) q (rises s (writing p b).at a x e first)
+
+      other : (q : ℕ) → q < length p.pairs → (reader p q).buffer ≡ b → (reader p q).sequence ≡ s → place_in order (writing p b).writer (writing p b).at < place_in order s a
+      other q m u v =
+          let w = h.pairs q m in
+          let one : place_in order (writing p b).writer (writing p b).at ≡ place_in order (writing p (reader p q).buffer).writer (writing p (reader p q).buffer).at = ap (λ (c : ℕ). place_in order (writing p c).writer (writing p c).at) (sym u) in
+          let two = rises (writing p (reader p q).buffer).writer (writing p (reader p q).buffer).at (pair p q).signal_full _ w.signal_full.stands w.after_write in
+          let three = w.full_first in
+          let here = subst (λ (t : ℕ). Stands p t a x) (sym v) e in
+          let there = subst (λ (c : ℕ). ReadsAt x k c) (sym u) r in
+          let four = rises (reader p q).sequence (pair p q).take_full a x here (w.reads a k x here there).0 in
+          let five : place_in order (reader p q).sequence a ≡ place_in order s a = ap (λ (t : ℕ). place_in order t a) v in
+          omega arith

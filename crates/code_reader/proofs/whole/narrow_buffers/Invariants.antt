@@ -1,0 +1,6 @@
+use Rattle.std.proofs.Common.{◌≡◌, map, take}
+use Rattle.code_text.specs.Text.{sized}
+use Rattle.code_reader.proofs.whole.narrow_buffers.Given as goal
+
+abbrev pub invariant-loop-size : goal.invariant-loop-size
+invariant-loop-size l = l.buffers.items ≡ map sized (take l.size-index l.sizes)

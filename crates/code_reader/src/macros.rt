@@ -1,0 +1,70 @@
+//! The macros by their names.
+ghost use Rattle.std.specs.Prelude.{◌≡◌, map, slice_get};
+ghost use Rattle.macro_code.specs.Macros.{word_of};
+ghost use Rattle.code_text.specs.Forms.{macro_of, macros};
+
+use case_table::{CaseTable, case_arms};
+use macro_code::Macro;
+
+/// The macro of this name.
+pub fn find_macro(name: &[u8]) -> Option<Macro>
+    ensures { result ≡ macro_of name.now }
+{
+    match macro_table().find(name) {
+        Some(place) => macro_at(place),
+        None => None,
+    }
+}
+
+/// The names of the macros, each once.
+fn macro_table() -> CaseTable<'static, 18>
+    ensures { result ≡ map word_of macros }
+{
+    let mut table = CaseTable::new();
+    table.add(Macro::Processor.word().as_bytes());
+    table.add(Macro::Semaphores.word().as_bytes());
+    table.add(Macro::Alloc.word().as_bytes());
+    table.add(Macro::Thread.word().as_bytes());
+    table.add(Macro::EndThread.word().as_bytes());
+    table.add(Macro::Main.word().as_bytes());
+    table.add(Macro::EndMain.word().as_bytes());
+    table.add(Macro::SpawnThread.word().as_bytes());
+    table.add(Macro::WaitEndThread.word().as_bytes());
+    table.add(Macro::Loop.word().as_bytes());
+    table.add(Macro::EndLoop.word().as_bytes());
+    table.add(Macro::Suc0.word().as_bytes());
+    table.add(Macro::Suc1.word().as_bytes());
+    table.add(Macro::Pre0.word().as_bytes());
+    table.add(Macro::Pre1.word().as_bytes());
+    table.add(Macro::Send.word().as_bytes());
+    table.add(Macro::Recv.word().as_bytes());
+    table.add(Macro::Sync.word().as_bytes());
+    table
+}
+
+/// The macro at a place of the table.
+fn macro_at(place: usize) -> Option<Macro>
+    ensures { result ≡ slice_get macros place }
+{
+    let found = case_arms!(place;
+        Macro::Processor,
+        Macro::Semaphores,
+        Macro::Alloc,
+        Macro::Thread,
+        Macro::EndThread,
+        Macro::Main,
+        Macro::EndMain,
+        Macro::SpawnThread,
+        Macro::WaitEndThread,
+        Macro::Loop,
+        Macro::EndLoop,
+        Macro::Suc0,
+        Macro::Suc1,
+        Macro::Pre0,
+        Macro::Pre1,
+        Macro::Send,
+        Macro::Recv,
+        Macro::Sync;
+        else return None);
+    Some(found)
+}

@@ -1,0 +1,4 @@
+pub mod Lines
+pub mod Architecture
+pub mod Algorithm
+pub mod Table

@@ -1,0 +1,10 @@
+-- Texts as lists of lines.
+use Rattle.std.specs.Prelude.{ℕ, List, [], ◌∷◌, ◌++◌, codes}
+
+abbrev pub Bytes : Type 0
+Bytes = List ℕ
+
+-- a line feed after each line
+abbrev pub lines_text : List Bytes → Bytes
+lines_text [] = []
+lines_text (l ∷ ls) = (l ++ codes "\n") ++ lines_text ls

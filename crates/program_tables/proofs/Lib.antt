@@ -1,0 +1,5 @@
+pub mod Naming
+pub mod Lone
+pub mod Numbered
+pub mod Crossed
+pub mod Found

@@ -1,0 +1,105 @@
+//! What instructions name: operations, buffers and pairs of semaphores.
+ghost use Rattle.std.specs.Prelude.{◌≡◌};
+ghost use Rattle.program_tables.specs.Marks.{named};
+
+use executive_program::Instr;
+use std::slice::from_ref;
+
+/// As what an instruction names a number.
+#[derive(Clone, Copy, Drop)]
+pub enum Role {
+    /// The operation that it calls.
+    Called,
+    /// A buffer that it writes.
+    Written,
+    /// A buffer that it reads.
+    Read,
+    /// The pair of whose empty semaphore it waits for a signal.
+    EmptyTaken,
+    /// The pair whose full semaphore it signals.
+    FullSignalled,
+    /// The pair of whose full semaphore it waits for a signal.
+    FullTaken,
+    /// The pair whose empty semaphore it signals.
+    EmptySignalled,
+}
+
+fn called(instr: &Instr) -> &[u32]
+    ensures { result.now ≡ named Role.Called instr.now }
+{
+    match instr {
+        Instr::Call { vertex, .. } => from_ref(vertex),
+        _ => &[],
+    }
+}
+
+fn written(instr: &Instr) -> &[u32]
+    ensures { result.now ≡ named Role.Written instr.now }
+{
+    match instr {
+        Instr::Call { outs, .. } => outs.as_slice(),
+        Instr::Recv { buffer, .. } => from_ref(buffer),
+        _ => &[],
+    }
+}
+
+fn read(instr: &Instr) -> &[u32]
+    ensures { result.now ≡ named Role.Read instr.now }
+{
+    match instr {
+        Instr::Call { ins, .. } => ins.as_slice(),
+        Instr::Send { buffer, .. } => from_ref(buffer),
+        _ => &[],
+    }
+}
+
+fn empty_taken(instr: &Instr) -> &[u32]
+    ensures { result.now ≡ named Role.EmptyTaken instr.now }
+{
+    match instr {
+        Instr::Suc0(pair) => from_ref(pair),
+        _ => &[],
+    }
+}
+
+fn full_signalled(instr: &Instr) -> &[u32]
+    ensures { result.now ≡ named Role.FullSignalled instr.now }
+{
+    match instr {
+        Instr::Pre1(pair) => from_ref(pair),
+        _ => &[],
+    }
+}
+
+fn full_taken(instr: &Instr) -> &[u32]
+    ensures { result.now ≡ named Role.FullTaken instr.now }
+{
+    match instr {
+        Instr::Suc1(pair) => from_ref(pair),
+        _ => &[],
+    }
+}
+
+fn empty_signalled(instr: &Instr) -> &[u32]
+    ensures { result.now ≡ named Role.EmptySignalled instr.now }
+{
+    match instr {
+        Instr::Pre0(pair) => from_ref(pair),
+        _ => &[],
+    }
+}
+
+/// The numbers that an instruction names in a role.
+pub fn numbers_named(role: Role, instr: &Instr) -> &[u32]
+    ensures { result.now ≡ named role instr.now }
+{
+    match role {
+        Role::Called => called(instr),
+        Role::Written => written(instr),
+        Role::Read => read(instr),
+        Role::EmptyTaken => empty_taken(instr),
+        Role::FullSignalled => full_signalled(instr),
+        Role::FullTaken => full_taken(instr),
+        Role::EmptySignalled => empty_signalled(instr),
+    }
+}

@@ -1,0 +1,4 @@
+pub mod Sorted
+pub mod OuterNumbers
+pub mod Trees
+mod Worked

@@ -1,0 +1,10 @@
+//! The law of the lines of repetitions, the contract of a function that does nothing.
+ghost use Rattle.repetition_lines.specs.TextLines.{LinesStandInTextOrder};
+
+/// In the tree of accepted definitions each repetition is one of a definition `repeat`, and its lines by
+/// ascending outer input are the lines of that definition, from the first to the last: the line of the text
+/// that is number k among those that feed the body has outer input k. So the operations of the tree have an
+/// explode for each fork line, in the order of the text.
+pub fn lines_stand_in_text_order()
+    ensures { LinesStandInTextOrder }
+{}

@@ -1,0 +1,14 @@
+pub mod Places
+pub mod Placing
+pub mod Held
+pub mod Laying
+pub mod Freeing
+pub mod Counted
+pub mod Low
+pub mod Starting
+pub mod Lining
+pub mod Reacting
+pub mod Following
+pub mod Deepest
+pub mod Dated
+pub mod WorkedDates

@@ -1,0 +1,9 @@
+use Rattle.std.proofs.Common.{◌≡◌, ◌++◌, take, map}
+use Rattle.flat_graph.specs.declared.vertex.Guard.{Guard}
+use Rattle.schedule.specs.Acts.{copy}
+use Rattle.self_timed.specs.Laid.{maker_in}
+use Rattle.self_timed.proofs.layout.Layout.add_guards.Given as goal
+
+-- the sources of the guards so far are added
+abbrev pub invariant-loop-guard : goal.invariant-loop-guard
+invariant-loop-guard l = l.sources.items ≡ l.fn.sources.items ++ map (λ (g : Guard). maker_in l.self.makers (copy l.operator g.source)) (take l.guard-index l.guards)

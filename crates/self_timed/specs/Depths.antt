@@ -1,0 +1,8 @@
+-- The depth of a program's buffers.
+use Rattle.std.specs.Prelude.{ℕ, List, [], ◌∷◌, max}
+use Rattle.executive_program.specs.declared.program.Buffer.{Buffer}
+
+-- the greatest depth, at least 1
+abbrev pub deepest : List Buffer → ℕ
+deepest [] = 1
+deepest (b ∷ bs) = max b.depth (deepest bs)

@@ -1,0 +1,6 @@
+pub mod Lines
+pub mod Laid
+pub mod Running
+pub mod Told
+pub mod Depths
+pub mod Worked

@@ -1,0 +1,76 @@
+//! The dates of all reactions.
+ghost use Rattle.std.specs.Prelude.{◌≡◌, ◌≤◌, IfOk, length};
+ghost use Rattle.schedule.specs.Acts.{acts};
+ghost use Rattle.sequence_build_laws.specs.Built.{program_of};
+ghost use Rattle.self_timed_laws.specs.Entries.{AreWithin};
+ghost use Rattle.self_timed.specs.Depths.{deepest};
+ghost use Rattle.self_timed.specs.Told.{AreDatesOf, EndInTime, HaveEntries, IsValidForSome, StartsAsStated, entries_of};
+
+use crate::actual::Actual;
+use crate::dates::Dates;
+use crate::layout::plan_of;
+use crate::line::Ends;
+use crate::reaction::next_reaction;
+use archi_graph::Archi;
+use executive_program::Program;
+use flat_graph::Flat;
+use schedule::Schedule;
+use std::alloc::Global;
+use syn_base::{Items, OutOfMemory};
+
+/// When each entry of a schedule starts and ends in each reaction, where the entries last as long as they
+/// really do and wait for nothing but what must precede them: the act before on their operator or medium,
+/// what makes what they read, and, as many reactions before as buffers have places, those that read in
+/// another sequence what they made. The schedule is valid for some durations, `program` is its program,
+/// and no entry lasts longer than stated. Then none ends later than stated; and where all entries of the
+/// first reaction last as stated and the schedule is tight, that reaction has the schedule's dates. What
+/// must precede each act is found once, so the time is in proportion to the reactions and what the acts
+/// read.
+pub fn dates_of(
+    alloc: Global,
+    flat: &Flat,
+    archi: &Archi,
+    schedule: &Schedule,
+    program: &Program,
+    actual: &Actual,
+) -> Result<Dates, OutOfMemory>
+    requires valid { IsValidForSome flat.now archi.now schedule.now }
+    requires program { program.now ≡ program_of flat.now archi.now schedule.now }
+    requires few { length actual.now ≤ 1000 }
+    requires entries { HaveEntries (entries_of flat.now schedule.now) actual.now }
+    requires within { AreWithin flat.now.vertices (acts schedule.now) actual.now }
+    ensures dates { IfOk result (AreDatesOf archi.now.depth flat.now schedule.now actual.now) }
+    ensures in_time { IfOk result (EndInTime flat.now schedule.now) }
+    ensures first { IfOk result (StartsAsStated flat.now schedule.now actual.now) }
+{
+    // What the architecture keeps is asked for: it is valid, and its depth is 1 to 4.
+    let _operators = archi.operators();
+    let _depth = archi.depth();
+    let plan = plan_of(alloc, flat.vertices(), schedule.decisions.as_slice())?;
+    let depth = depth_of(program);
+    let mut ends = Ends::new();
+    let mut reactions = Vec::new(alloc);
+    for ticks in actual.reactions() {
+        let row = next_reaction(
+            alloc,
+            &plan,
+            depth,
+            reactions.as_slice(),
+            ticks.as_slice(),
+            &mut ends,
+        )?;
+        reactions.push(Items::new(row))?;
+    }
+    Ok(Dates::new(reactions))
+}
+
+/// How many places the buffers that are read in another sequence have, 1 where there is none.
+fn depth_of(program: &Program) -> usize
+    ensures { result ≡ deepest program.now.buffers }
+{
+    let mut depth = 1;
+    for buffer in program.buffers.as_slice() {
+        depth = (buffer.depth as usize).max(depth);
+    }
+    depth
+}

@@ -1,0 +1,57 @@
+//! The dates of reactions.
+use std::marker::Model;
+use syn_base::Items;
+
+/// When an entry starts and ends in one reaction, in ticks.
+#[derive(Clone, Copy, Debug, PartialEq, Eq)]
+pub struct Span {
+    pub start: u64,
+    pub end: u64,
+}
+
+/// When each entry of a schedule starts and ends, in ticks, reaction by reaction: first the operations
+/// by number, and then the transfers in the order of the decisions. Contracts see the list of reactions,
+/// each a list of spans.
+#[derive(Drop)]
+pub struct Dates {
+    reactions: Vec<Items<Span>>,
+}
+
+impl Model for Dates {
+    ghost use Rattle.std.specs.Prelude.{List};
+    ghost use Rattle.self_timed.specs.declared.dates.Span.{Span};
+
+    ghost Value = { List (List Span) };
+
+    ghost view = { λ s. s.reactions.items };
+}
+
+impl Dates {
+    ghost use Rattle.std.specs.Prelude.{◌≡◌, ◌<◌, length};
+    ghost use Rattle.self_timed.specs.Told.{reaction_at, span_at};
+
+    /// The dates of these reactions. It takes no memory.
+    pub(crate) fn new(reactions: Vec<Items<Span>>) -> Dates
+        ensures { result ≡ reactions.items }
+    {
+        Dates { reactions }
+    }
+
+    /// When the entry starts in the reaction. It takes no memory.
+    pub fn start(&self, reaction: usize, entry: usize) -> u64
+        requires reaction { reaction < length self.now }
+        requires entry { entry < length (reaction_at self.now reaction) }
+        ensures { result ≡ (span_at self.now reaction entry).start }
+    {
+        self.reactions[reaction].as_slice()[entry].start
+    }
+
+    /// When the entry ends in the reaction. It takes no memory.
+    pub fn end(&self, reaction: usize, entry: usize) -> u64
+        requires reaction { reaction < length self.now }
+        requires entry { entry < length (reaction_at self.now reaction) }
+        ensures { result ≡ (span_at self.now reaction entry).end }
+    {
+        self.reactions[reaction].as_slice()[entry].end
+    }
+}

@@ -1,0 +1,59 @@
+//! The lines of acts, and when the last act in each has ended.
+ghost use Rattle.std.specs.Prelude.{◌≡◌, ℕ, length, slice_index_or};
+ghost use Rattle.self_timed.specs.Lines.{AreStarted, IsLine, last_in, noted};
+
+/// Where an act stands in line: at the operator on which an operation runs, or at the medium over which
+/// a value is carried.
+#[derive(Clone, Copy, Debug, PartialEq, Eq)]
+pub(crate) enum Line {
+    Operator(u32),
+    Medium(u32),
+}
+
+/// When the last act so far has ended on each operator and over each medium, by number; 0 where there
+/// was none.
+#[derive(Drop)]
+pub(crate) struct Ends {
+    operators: [u64; 16],
+    media: [u64; 16],
+}
+
+impl Ends {
+    pub fn new() -> Ends
+        ensures { AreStarted result }
+    {
+        Ends {
+            operators: no_dates(),
+            media: no_dates(),
+        }
+    }
+
+    /// The last end in the line.
+    pub fn last(&self, line: Line) -> u64
+        requires { IsLine line }
+        ensures { result ≡ last_in self.now line }
+    {
+        match line {
+            Line::Operator(operator) => self.operators[operator as usize],
+            Line::Medium(medium) => self.media[medium as usize],
+        }
+    }
+
+    /// One more act in the line has ended.
+    pub fn note(&mut self, line: Line, end: u64)
+        requires { IsLine line }
+        ensures { self.new ≡ noted self.old line end }
+    {
+        match line {
+            Line::Operator(operator) => self.operators[operator as usize] = end,
+            Line::Medium(medium) => self.media[medium as usize] = end,
+        }
+    }
+}
+
+fn no_dates() -> [u64; 16]
+    ensures size { length result ≡ 16 }
+    ensures none { (i : ℕ) → slice_index_or result i 0 ≡ 0 }
+{
+    [0; 16]
+}

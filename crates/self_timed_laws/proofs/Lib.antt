@@ -1,0 +1,11 @@
+pub mod Needs
+pub mod Ranks
+pub mod Solution
+pub mod Charted
+pub mod Bounds
+pub mod Entered
+pub mod Depths
+pub mod Lined
+pub mod InTime
+pub mod Whole
+pub mod Rows

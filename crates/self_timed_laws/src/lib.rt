@@ -1,0 +1,48 @@
+//! Self-timed dates: when each act of a schedule starts and ends in each reaction, where it waits for
+//! nothing but what must precede it, and the acts last so long. The definitions are equations over the
+//! acts: an act waits for the act before it on its operator or medium, for those that make what it
+//! reads, and for those that read in another sequence what it made as many reactions before as the
+//! buffer has places. The laws are contracts of functions that do nothing; `self_timed` computes the
+//! dates and cites them.
+#![tactic(auto)]
+
+ghost use Rattle.self_timed_laws.specs.Laws.{BuffersHaveDepth, DatesAreOne, EntriesAreActs, EntriesEndInTime, FirstReactionIsStated, LinesAreInOrder, NoLaterThanStated};
+
+/// The equations of the dates have exactly one solution, for any acts, any durations, and buffers of
+/// at least one place.
+pub fn dates_are_one()
+    ensures { DatesAreOne }
+{}
+
+/// Where nothing lasts longer than stated, each act of reaction k ends no later than k times the
+/// schedule's length and its end there. It holds of operations and of transfers.
+pub fn no_later_than_stated()
+    ensures { NoLaterThanStated }
+{}
+
+/// Where each act lasts as stated in the first reaction, that reaction has the schedule's dates exactly
+/// where the schedule is tight.
+pub fn first_reaction_is_stated()
+    ensures { FirstReactionIsStated }
+{}
+
+/// Each entry, operations by number and then transfers in their order, is that of one act.
+pub fn entries_are_acts()
+    ensures { EntriesAreActs }
+{}
+
+/// The buffer of what another sequence reads has as many places as the dates count with.
+pub fn buffers_have_depth()
+    ensures { BuffersHaveDepth }
+{}
+
+/// Acts on one operator, or over one medium, never overlap, in one reaction and from one to the next.
+pub fn lines_are_in_order()
+    ensures { LinesAreInOrder }
+{}
+
+/// Of ticks by entry: no act ends later than stated, and a first reaction that is as stated is the
+/// chart, where the schedule is tight.
+pub fn entries_end_in_time()
+    ensures { EntriesEndInTime }
+{}

@@ -1,0 +1,123 @@
+//! The worked texts, and the trees that they say.
+ghost use Rattle.std.specs.Prelude.{◌≤◌, IfOk, length};
+ghost use Rattle.path_text.specs.Bounded.{HasBounds};
+ghost use Rattle.path_text.specs.Named.{HasNames};
+
+use algo_defs::AlgoError;
+use algo_reader::read_algo;
+use algo_resolve::resolve;
+use algo_tree::Tree;
+use reading_laws::{accepted_are_few, accepted_are_well_read};
+use std::alloc::Global;
+
+/// A switch over a sensor: 0 gives the value itself, 3 what an accumulator kept, which begins with 100, and
+/// any other value its opposite.
+pub const CASES: &[u8] = b"algorithm 1
+sensor Sense 1
+actuator Act 1
+function Same
+in x 1
+out y 1 = x[0]
+end
+function Neg
+in x 1
+out y 1 = neg(x[0])
+end
+function Add
+in x 1
+in y 1
+out z 1 = add(x[0],y[0])
+end
+delay Mem = 100
+graph Acc
+in x 1
+out y 1
+ref d Mem
+ref f Add
+edge d.o f.x
+edge x f.y
+edge f.z d.i
+edge d.o y
+end
+switch Sw
+on c
+in x 1
+out y 1
+case 0 Same
+case 3 Acc
+otherwise Neg
+end
+graph main
+ref s Sense
+ref w Sw
+ref a Act
+edge s.o w.c
+edge s.o w.x
+edge w.y a.i
+end
+";
+
+/// Four copies of a body that gives (acc + v) * w: v is forked, w is 2 in each, and the result is iterated
+/// from 10 on. One actuator takes the last result, the other one all four.
+pub const COPIES: &[u8] = b"algorithm 1
+sensor Sense 4
+actuator One 1
+actuator Four 4
+constant Two = 2
+constant Ten = 10
+function Add
+in x 1
+in y 1
+out z 1 = add(x[0],y[0])
+end
+function Mul
+in x 1
+in y 1
+out z 1 = mul(x[0],y[0])
+end
+graph Cell
+in v 1
+in w 1
+in acc 1
+out r 1
+ref p Add
+ref q Mul
+edge acc p.x
+edge v p.y
+edge p.z q.x
+edge w q.y
+edge q.z r
+end
+repeat Chain 4 Cell
+fork v v
+diffuse w w
+iterate z acc r t
+join r p
+end
+graph main
+ref s Sense
+ref w Two
+ref z Ten
+ref c Chain
+ref a One
+ref b Four
+edge s.o c.v
+edge w.o c.w
+edge z.o c.z
+edge c.t a.i
+edge c.p b.i
+end
+";
+
+/// The tree of a text, or its first refusal.
+#[tactic(auto, using(algo_reader::proofs::LineCounts::lines_at_most))]
+pub fn resolved(alloc: Global, text: &[u8]) -> Result<Tree, AlgoError>
+    requires { length text.now ≤ 2000 }
+    ensures named { IfOk result (λ tree. HasNames tree) }
+    ensures bounded { IfOk result (λ tree. HasBounds tree) }
+{
+    let defs = read_algo(alloc, text)?;
+    accepted_are_well_read();
+    accepted_are_few();
+    resolve(alloc, &defs)
+}
