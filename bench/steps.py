@@ -70,16 +70,34 @@ fn tried<'a>(fabric: &Fabric<'a>, driver: &mut Driver<'a>, list: &[u32]) -> u64
     made
 }
 
-/// The same runs on tables of words.
-fn runs_on_words(rt: &impl Abort, alloc: Global, job: &Job, list: &[u32]) -> Result<(), Fail> {
-    for _ in 0..@RUNS@ {
-        let (fabric, mut drivers) = weave(alloc, job, 1)?;
-        let made = tried(&fabric, &mut drivers[0], list);
-        assert_eq!(rt; made, list.len() as u64);
-        let mut driven = Driven::new(alloc);
-        let _closed = fabric.close(drivers, &mut driven);
+/// The same by each driver.
+fn tried_by_all<'a>(fabric: &Fabric<'a>, drivers: &mut Vec<Driver<'a>>, list: &[u32]) -> u64
+    requires { AreDrivers fabric.now drivers.old.items }
+    ensures { AreDrivers fabric.now drivers.new.items }
+{
+    let mut made: u64 = 0;
+    for g in 0..drivers.len() {
+        made = made.saturating_add(tried(fabric, &mut drivers[g], list));
     }
-    Ok(())
+    made
+}
+
+/// A run on a table of words, by one driver.
+fn run_on_words(alloc: Global, job: &Job, list: &[u32]) -> Result<u64, Fail> {
+    let (fabric, mut drivers) = weave(alloc, job, 1)?;
+    let made = tried_by_all(&fabric, &mut drivers, list);
+    let mut driven = Driven::new(alloc);
+    let _closed = fabric.close(drivers, &mut driven);
+    Ok(made)
+}
+
+/// As many runs as on the core.
+fn runs_on_words(alloc: Global, job: &Job, list: &[u32]) -> Result<u64, Fail> {
+    let mut made: u64 = 0;
+    for _ in 0..@RUNS@ {
+        made = made.saturating_add(run_on_words(alloc, job, list)?);
+    }
+    Ok(made)
 }
 
 fn turns(times: u64) -> u64 {
@@ -104,9 +122,9 @@ fn timed(rt: &HostRuntime, alloc: Global, job: &Job, list: &[u32]) -> Result<(),
     let Ok(start) = Instant::now(rt) else {
         return Ok(());
     };
-    runs_on_words(rt, alloc, job, list)?;
+    let made = runs_on_words(alloc, job, list)?;
     let words = nanoseconds(rt, start);
-    let _ = println!(rt; "took {} {} {} {}", steps, turns, words, turned);
+    let _ = println!(rt; "took {} {} {} {} {}", steps, turns, words, made, turned);
     Ok(())
 }
 
@@ -185,20 +203,23 @@ def copy(room):
     text = text.replace("use std::test::Fail;\n", "use std::test::Fail;\nuse std::time::Instant;\n", 1)
     text = text.replace("sensor_lens, try_step", "run_list, sensor_lens, try_step", 1)
     text = text.replace("IfOk}", "IfOk, sum}", 1)
+    text = text.replace("\n\nuse crate", "\nghost use Rattle.word_table.specs.Driver.{AreDrivers};\n\nuse crate", 1)
     text = text.replace("SensorRows};\n", "SensorRows};\nuse word_table::{Driven, Driver, Fabric, MicroAnswer, weave};\n", 1)
     with open(runs, "w", encoding="utf-8") as it:
         it.write(text)
     invariants = {
         "fives": "l.rows.lens ≡ l.fn.rows.lens",
+        "tried_by_all": "(length l.drivers.items ≡ length l.initial.drivers.items) × AreDrivers l.fabric l.drivers.items",
         "tried": "(l.driver.fabric ≡ l.initial.driver.fabric) × (l.driver.group ≡ l.initial.driver.group)",
     }
     for name, holds in invariants.items():
         folder = os.path.join(crate, "proofs", "two_operators", name)
         os.makedirs(folder)
-        mark = "loop-seq" if name == "tried" else "loop"
+        mark = {"tried": "loop-seq", "tried_by_all": "loop-g"}.get(name, "loop")
         with open(os.path.join(folder, "Invariants.antt"), "w", encoding="utf-8") as it:
             it.write(
-                "use Rattle.std.specs.Prelude.{◌≡◌}\n"
+                "use Rattle.std.specs.Prelude.{◌≡◌, length}\n"
+                "use Rattle.word_table.specs.Driver.{AreDrivers}\n"
                 f"use Rattle.worked_programs.proofs.two_operators.{name}.Given as goal\n\n"
                 f"abbrev pub invariant-{mark} : goal.invariant-{mark}\n"
                 f"invariant-{mark} l = {holds}\n"
@@ -210,10 +231,11 @@ def main():
     with tempfile.TemporaryDirectory() as room:
         ran = subprocess.run(["rt", "test"], cwd=copy(room), capture_output=True, text=True)
     words = [line.split() for line in ran.stdout.split("\n")]
-    took = [line[1:4] for line in words if line[:1] == ["took"]]
+    took = [line[1:5] for line in words if line[:1] == ["took"]]
     if not took:
         raise SystemExit(ran.stdout[-2000:] + ran.stderr[-2000:])
-    steps, turns, on_words = (int(word) for word in took[0])
+    steps, turns, on_words, made = (int(word) for word in took[0])
+    assert made == STEPS, f"{made} micro-steps were made on words"
     print(f"{STEPS} micro-steps: {steps / 1e9:.3f} s, {STEPS / steps * 1e3:.1f} million a second")
     print(f"as many on words: {on_words / 1e9:.3f} s, {STEPS / on_words * 1e3:.1f} million a second, ratio {on_words / steps:.2f}")
     print(f"as many turns of a plain loop: {turns / 1e9:.4f} s, ratio {steps / turns:.1f}")
