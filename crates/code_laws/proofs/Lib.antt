@@ -1,0 +1,17 @@
+pub mod Bytes
+pub mod Forms
+pub mod Arguments
+pub mod ReadLines
+pub mod ListPlaces
+pub mod Named
+pub mod Instructions
+pub mod Numbering
+pub mod Declared
+pub mod Threads
+pub mod Groups
+pub mod Processors
+pub mod Formed
+pub mod Lengths
+pub mod Whole
+pub mod Limits
+pub mod ReadBack
