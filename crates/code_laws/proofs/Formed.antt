@@ -152,25 +152,32 @@ module _ (p : Program) (g : Graph) (a : Architecture) (order : List ℕ) (h : Is
   operator_back : (b o : ℕ) (y : Buffer) → slice_get p.buffers b ≡ Some y → operator_of p b ≡ Some o → y.operator ≡ o
   operator_back b o y e f = let own : operator_of p b ≡ Some y.operator = rw e refl in same_Some y.operator o (sym own ∙ f)
 
+  pair_at : (q o b at : ℕ) (code : SeqCode) (y : Buffer) → slice_get p.pairs q ≡ Some o → reader p q ≡ record { buffer = b; sequence = 0 + at } → b < length p.buffers → slice_get p.seqs at ≡ Some code → waits_for b code ≡ true
+      → slice_get p.buffers b ≡ Some y → operator_of p b ≡ Some o → PairOf q
+  pair_at q o b at code y owned is below stands waits buffer_is operator_is = record {
+    owner = o;
+    owned = owned;
+    below = subst (λ (x : Reader). x.buffer < length p.buffers) (sym is) below;
+    code = code;
+    stands = ap (λ (x : Reader). slice_get p.seqs x.sequence) is ∙ ap (slice_get p.seqs) (let k : 0 + at ≡ at = omega arith in k) ∙ stands;
+    waits = subst (λ (x : Reader). waits_for x.buffer code ≡ true) (sym is) waits;
+    on = subst (λ (x : Reader). OnOperator x.buffer o) (sym is) (record { buffer = y; stands = buffer_is; on = operator_back b o y buffer_is operator_is });
+  }
+
+  -- from its entry in the readers, which one buffer has
+  pair_from : (q o b i : ℕ) (r : Reader) → slice_get p.pairs q ≡ Some o → slice_get (readers p) q ≡ Some r → operator_of p r.buffer ≡ Some o → b < length p.buffers → slice_get (readers_from 0 p.seqs b) i ≡ Some r → PairOf q
+  pair_from q o b i r owned entry operator_is below stands =
+      let w = from_readers 0 p.seqs b i r stands in
+      let y = got_some p.buffers b below in
+      pair_at q o b w.at w.code y.0 owned (ap reader_or entry ∙ w.is) below w.stands w.waits y.1 (ap (λ (x : Reader). operator_of p x.buffer) (sym w.is) ∙ operator_is)
+
   pub pair_of : (q : ℕ) → q < length p.pairs → PairOf q
   pair_of q l =
       let it = got_some p.pairs q l in
       let own : slice_get (map (λ (r : Reader). operator_of p r.buffer) (readers p)) q ≡ Some (Some it.0) = ap (λ (os : List (Option ℕ)). slice_get os q) (sym h.numbered) ∙ got_map (λ (o : ℕ). Some o) p.pairs q it.0 it.1 in
       let r = map_got (λ (r : Reader). operator_of p r.buffer) (readers p) q (Some it.0) own in
       let block = in_block (readers_from 0 p.seqs) (length p.buffers) q r.0 r.1 in
-      let w = from_readers 0 p.seqs block.0 block.2 r.0 block.3 in
-      let is : reader p q ≡ record { buffer = block.0; sequence = 0 + w.at } = ap reader_or r.1 ∙ w.is in
-      let y = got_some p.buffers block.0 block.1 in
-      record {
-        owner = it.0;
-        owned = it.1;
-        below = subst (λ (x : Reader). x.buffer < length p.buffers) (sym is) block.1;
-        code = w.code;
-        stands = ap (λ (x : Reader). slice_get p.seqs x.sequence) is ∙ ap (slice_get p.seqs) (let k : 0 + w.at ≡ w.at = omega arith in k) ∙ w.stands;
-        waits = subst (λ (x : Reader). waits_for x.buffer w.code ≡ true) (sym is) w.waits;
-        on = subst (λ (x : Reader). OnOperator x.buffer it.0) (sym is)
-            (record { buffer = y.0; stands = y.1; on = operator_back block.0 it.0 y.0 y.1 (ap (λ (x : Reader). operator_of p x.buffer) (sym w.is) ∙ r.2) });
-      }
+      pair_from q it.0 block.0 block.2 r.0 it.1 r.1 r.2 block.1 block.3
 
   -- its reading sequence reads its buffer
   pub record Reading (q : ℕ) : Type 0 where

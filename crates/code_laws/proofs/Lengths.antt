@@ -103,14 +103,25 @@ module _ (p : Program) (g : Graph) (a : Architecture) (order : List ℕ) (h : Is
   pairs_many : length p.pairs ≡ length (readers p)
   pairs_many = sym (length-map p.pairs (λ (o : ℕ). Some o)) ∙ ap (λ (os : List (Option ℕ)). length os) h.numbered ∙ length-map (readers p) (λ (r : Reader). operator_of p r.buffer)
 
+  pair_by : (b s i : ℕ) → slice_get (readers p) i ≡ Some (record { buffer = b; sequence = 0 + s }) → (q : ℕ) × (q < length p.pairs) × (reader p q ≡ record { buffer = b; sequence = s })
+  pair_by b s i e =
+      let w = slice_get_within (readers p) i (record { buffer = b; sequence = 0 + s }) e in
+      let m = pairs_many in
+      (i, omega (arith, w, m), ap reader_or e ∙ reader_is b (0 + s) s (omega arith))
+
+  pair_in : (b s : ℕ) (c : SeqCode) → b < length p.buffers → slice_get p.seqs s ≡ Some c → waits_for b c ≡ true → (q : ℕ) × (q < length p.pairs) × (reader p q ≡ record { buffer = b; sequence = s })
+  pair_in b s c l e waits =
+      let found = to_readers 0 p.seqs b s c e waits in
+      let it = in_blocks (readers_from 0 p.seqs) (length p.buffers) b found.0 (record { buffer = b; sequence = 0 + s }) l found.1 in
+      pair_by b s it.0 it.1
+
   -- a sequence that reads a buffer which it does not write has a pair
   pair_for : (b s i k : ℕ) (x : Instr) → b < length p.buffers → (s ≡ (writing p b).writer → ⊥) → Stands p s i x → ReadsAt x k b → (q : ℕ) × (q < length p.pairs) × (reader p q ≡ record { buffer = b; sequence = s })
   pair_for b s i k x l other e r =
       let c = formed.standing p g a order h s i x e in
       let reading : list_any (reads b) c.0.turn ≡ true = any_at (reads b) c.0.turn i x c.2 (of_reads b k x r) in
-      let found = to_readers 0 p.seqs b s c.0 c.1 (and_from (list_any (reads b) c.0.turn) (not (list_any (writes b) c.0.turn)) reading (no_write c.0 c.1 (cases_Bool (list_any (writes b) c.0.turn)))) in
-      let it = in_blocks (readers_from 0 p.seqs) (length p.buffers) b found.0 (record { buffer = b; sequence = 0 + s }) l found.1 in
-      (it.0, (let w = slice_get_within (readers p) it.0 (record { buffer = b; sequence = 0 + s }) it.1 in let m = pairs_many in omega (arith, w, m)), ap reader_or it.1 ∙ reader_is b (0 + s) s (omega arith))
+      let alone = no_write c.0 c.1 (cases_Bool (list_any (writes b) c.0.turn)) in
+      pair_in b s c.0 l c.1 (and_from (list_any (reads b) c.0.turn) (not (list_any (writes b) c.0.turn)) reading alone)
     where
       no_write : (c : SeqCode) → slice_get p.seqs s ≡ Some c → (list_any (writes b) c.turn ≡ true) ⊎ (list_any (writes b) c.turn ≡ false) → not (list_any (writes b) c.turn) ≡ true
       no_write c is (inl t) =

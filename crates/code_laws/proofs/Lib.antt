@@ -15,3 +15,4 @@ pub mod Lengths
 pub mod Whole
 pub mod Limits
 pub mod ReadBack
+pub mod Rows

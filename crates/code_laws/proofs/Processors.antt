@@ -38,6 +38,13 @@ elsewhere o t q h = ap (λ (b : Bool). cond b t []) (not-true (nat_eq q.seq.oper
 here : (o : ℕ) (t : Option ℕ → Bytes) (s r : Seq) → s ≡ r → r.operator ≡ o → cond (nat_eq s.operator o) (t s.medium) [] ≡ t r.medium
 here o t s r e f = ap (λ (x : Seq). cond (nat_eq x.operator o) (t x.medium) []) e ∙ ap (λ (b : Bool). cond b (t r.medium) []) (eq-eqb r.operator o f)
 
+-- the numbers below one more operator
+pub later_numbers : (ns xs : List ℕ) (i j : ℕ) → ns ≡ all_on xs i → i ≡ j → ns ≡ all_on xs j
+later_numbers ns xs i j e f = e ∙ ap (all_on xs) f
+
+more_numbers : (ds es : List Numbered) (xs : List ℕ) (o : ℕ) → numbers ds ≡ all_on xs o → numbers es ≡ pairs_on o 0 xs → numbers (ds ++ es) ≡ all_on xs (suc o)
+more_numbers ds es xs o e f = map-append (λ (d : Numbered). d.number) ds es ∙ ap₂ (λ (x y : List ℕ). x ++ y) e f
+
 -- the operators of the buffers
 abbrev pub places_of : List Buffer → List ℕ
 places_of xs = map (λ (x : Buffer). x.operator) xs
@@ -280,8 +287,8 @@ module _ (g : Graph) (a : Architecture) (known_names : AreNamed g a) where
             (and_from (is_earlier (o + 1) it.main) (list_all (is_earlier (o + 1)) it.threads) (own_earlier o it.main (computation o) it.is_main refl) (threads_earlier o it.threads ms it.are_threads));
         later = it.others;
       }) in
-      let pairs_now : numbers (ds ++ first.pairs) ≡ all_on p.pairs (suc o) = map-append (λ (d : Numbered). d.number) ds first.pairs ∙ ap₂ (λ (x y : List ℕ). x ++ y) pairs_are first.are_pairs in
-      let buffers_now : numbers (es ++ first.buffers) ≡ all_on (places_of p.buffers) (suc o) = map-append (λ (d : Numbered). d.number) es first.buffers ∙ ap₂ (λ (x y : List ℕ). x ++ y) buffers_are first.are_buffers in
+      let pairs_now = more_numbers ds first.pairs p.pairs o pairs_are first.are_pairs in
+      let buffers_now = more_numbers es first.buffers (places_of p.buffers) o buffers_are first.are_buffers in
       let next = processors_read ops p fp fb good first.behind first.read.k (suc o) (Some o) (ds ++ first.pairs) (es ++ first.buffers) gone it.rest (omega (arith, count)) (lt-ltb o (suc o) (omega arith)) pairs_now buffers_now left_now in
       let total : suc o + length ops ≡ o + suc (length ops) = omega arith in
       let from = outside r last ds (map fp (numbers ds)) es (map fb (numbers es)) done in
@@ -290,8 +297,8 @@ module _ (g : Graph) (a : Architecture) (known_names : AreNamed g a) where
       record {
         pairs = next.pairs;
         buffers = next.buffers;
-        are_pairs = next.are_pairs ∙ ap (all_on p.pairs) total;
-        are_buffers = next.are_buffers ∙ ap (all_on (places_of p.buffers)) total;
+        are_pairs = later_numbers (numbers next.pairs) p.pairs (suc o + length ops) (o + suc (length ops)) next.are_pairs total;
+        are_buffers = later_numbers (numbers next.buffers) (places_of p.buffers) (suc o + length ops) (o + suc (length ops)) next.are_buffers total;
         behind = next.behind;
         at = next.at;
         read = lines.both (operation_names g) a from middle to n (processor_text (names g a) p o) (processors_from (names g a) p (suc o) ops) first.read next.read;
