@@ -15,4 +15,5 @@ pub mod Lengths
 pub mod Whole
 pub mod Limits
 pub mod ReadBack
+pub mod Described
 pub mod Rows

@@ -12,6 +12,7 @@ use Rattle.executive_program.specs.declared.program.Program.{Program}
 use Rattle.executive_program.specs.WellFormed.{IsWellFormed}
 use Rattle.sequence_build_laws.specs.Built.{program_of}
 use Rattle.sequence_build.specs.Limit.{program_limit}
+use Rattle.archi_defs.specs.Text.{Bytes, Described, description_of}
 use Rattle.macro_code.specs.Text.{macro_code}
 use Rattle.code_text.specs.Text.{program_in}
 
@@ -35,3 +36,9 @@ abbrev pub BuiltReadBack : Type 0
 BuiltReadBack = (g : Graph) (a : Architecture) (ticks : ℕ → ℕ → Option ℕ) (s : Schedule)
     → IsTrue (is_flat g) → IsNamedArchi a → IsTrue (is_depth a.depth) → IsTrue (is_valid g a ticks s) → program_limit (program_of g a s) (length a.media) ≡ None
     → ReadsBack (program_of g a s) g a
+
+-- on an architecture that a text describes
+abbrev pub DescribedReadBack : Type 0
+DescribedReadBack = (text : Bytes) (d : Described) (g : Graph) (ticks : ℕ → ℕ → Option ℕ) (s : Schedule)
+    → description_of text ≡ Ok d → IsTrue (is_flat g) → IsTrue (is_valid g d.archi ticks s) → program_limit (program_of g d.archi s) (length d.archi.media) ≡ None
+    → ReadsBack (program_of g d.archi s) g d.archi

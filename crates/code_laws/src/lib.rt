@@ -2,7 +2,7 @@
 //! `code_text` says that a text is. Each is the contract of a function that does nothing.
 #![tactic(auto)]
 
-ghost use Rattle.code_laws.specs.ReadsBack.{BuiltReadBack, WellFormedReadBack};
+ghost use Rattle.code_laws.specs.ReadsBack.{BuiltReadBack, DescribedReadBack, WellFormedReadBack};
 
 /// The text of a program that is well formed for a valid flat graph and a valid architecture, whose operators
 /// and media have names, says this program, where it is within the limits of a program. A text names
@@ -17,4 +17,9 @@ pub fn well_formed_read_back()
 /// have 1 to 4 places.
 pub fn built_read_back()
     ensures { BuiltReadBack }
+{}
+
+/// And where a text describes the architecture, which is then valid, with 1 to 4 places and with names.
+pub fn described_read_back()
+    ensures { DescribedReadBack }
 {}
