@@ -1,7 +1,7 @@
 -- The bounds of this profile, and the words that messages have for them.
 use Rattle.std.specs.Prelude.{ℕ, List, codes}
 use Rattle.syn_base.specs.declared.limits.LimitKind.{LimitKind}
-use Rattle.syn_base.specs.declared.limits.LimitKind.TheVariants.{File, Tokens, PortLength, Ports, Copies, Cases, References, Depth, Operations, Operators, Media, Connections, Words, MicroSteps, Reactions, Output, Total}
+use Rattle.syn_base.specs.declared.limits.LimitKind.TheVariants.{File, Tokens, PortLength, Ports, Copies, Cases, References, Depth, Delay, Operations, Operators, Media, Connections, Words, MicroSteps, Reactions, Output, Total}
 
 abbrev pub word_of : LimitKind → List ℕ
 word_of File = codes "file"
@@ -12,6 +12,7 @@ word_of Copies = codes "copies"
 word_of Cases = codes "cases"
 word_of References = codes "references"
 word_of Depth = codes "depth"
+word_of Delay = codes "delay"
 word_of Operations = codes "operations"
 word_of Operators = codes "operators"
 word_of Media = codes "media"
@@ -31,6 +32,7 @@ bound_of Copies = 64
 bound_of Cases = 64
 bound_of References = 64
 bound_of Depth = 8
+bound_of Delay = 16
 bound_of Operations = 2048
 bound_of Operators = 16
 bound_of Media = 16

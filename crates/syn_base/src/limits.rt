@@ -21,6 +21,8 @@ pub enum LimitKind {
     References,
     /// Nesting of definitions: 8.
     Depth,
+    /// Reactions that a delay looks back: 16.
+    Delay,
     /// Flat operations: 2,048.
     Operations,
     /// Operators: 16.
@@ -57,6 +59,7 @@ impl LimitKind {
             LimitKind::Cases => "cases",
             LimitKind::References => "references",
             LimitKind::Depth => "depth",
+            LimitKind::Delay => "delay",
             LimitKind::Operations => "operations",
             LimitKind::Operators => "operators",
             LimitKind::Media => "media",
@@ -84,7 +87,7 @@ impl LimitKind {
             | LimitKind::Connections => 64,
             LimitKind::Depth => 8,
             LimitKind::Operations => 2_048,
-            LimitKind::Operators | LimitKind::Media => 16,
+            LimitKind::Delay | LimitKind::Operators | LimitKind::Media => 16,
             LimitKind::Words => 65_536,
             LimitKind::MicroSteps => 262_144,
             LimitKind::Reactions => 10_000,
