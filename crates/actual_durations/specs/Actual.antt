@@ -1,5 +1,6 @@
 -- What a text of actual durations says beside an architecture whose schedule is dated: how long each operation and each transfer of the schedule really lasts, or the first refusal.
-use Rattle.std.specs.Prelude.{ℕ, suc, ◌+◌, ◌*◌, Bool, beq, ◌&&◌, ◌||◌, ◌==◌, nat_eq, nat_lt, List, [], ◌∷◌, ◌++◌, map, Option, Some, None, slice_get, Result, Ok, Err, if◌then◌else◌}
+use Rattle.std.specs.Prelude.{ℕ, suc, ◌+◌, ◌*◌, Bool, true, false, ◌&&◌, ◌||◌, ◌==◌, nat_eq, nat_lt, List, [], ◌∷◌, ◌++◌, map, Option, Some, None, slice_get, Result, Ok, Err, if◌then◌else◌}
+use Rattle.std.specs.Bool.{beq}
 use Rattle.std.specs.List.{find, flat_map}
 use Rattle.std.specs.Str.{bytes_eq}
 use Rattle.flat_graph.specs.declared.vertex.Vertex.{Vertex}
