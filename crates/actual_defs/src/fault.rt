@@ -1,7 +1,11 @@
 //! Why a text of actual durations is refused.
-use archi_defs::ArchiFault;
+ghost use Rattle.std.specs.Prelude.{◌≡◌};
+ghost use Rattle.actual_defs.specs.Refusal.{text_error};
+ghost use Rattle.actual_defs.specs.declared.fault.ActualError.TheVariants.{OutOfMemory as Wants};
+
+use archi_defs::{ArchiError, ArchiFault};
 use std::fmt;
-use syn_base::{LimitFault, Name};
+use syn_base::{LimitFault, Name, OutOfMemory};
 use thiserror::Error;
 
 /// The causes of a refusal, in the order in which they are told.
@@ -33,5 +37,25 @@ pub enum ActualError {
 impl fmt::Debug for ActualError {
     fn fmt<W: fmt::Write>(&self, f: &mut fmt::Formatter<W>) -> fmt::Result {
         fmt::Display::fmt(self, f)
+    }
+}
+
+impl From<ArchiError> for ActualError {
+    ghost from_gives = { λ error refused. refused ≡ text_error error };
+
+    fn from(error: ArchiError) -> ActualError {
+        match error {
+            ArchiError::Refused(fault) => ActualError::Refused(ActualFault::Text(fault)),
+            ArchiError::Limit(fault) => ActualError::Limit(fault),
+            ArchiError::OutOfMemory => ActualError::OutOfMemory,
+        }
+    }
+}
+
+impl From<OutOfMemory> for ActualError {
+    ghost from_gives = { λ _ error. error ≡ Wants };
+
+    fn from(_want: OutOfMemory) -> ActualError {
+        ActualError::OutOfMemory
     }
 }

@@ -1,1 +1,2 @@
 pub mod Actual
+pub mod Answers
