@@ -1,6 +1,6 @@
 -- The signals of one pair more are passed, or the prologue is not that which its sequence has.
-use Rattle.std.proofs.Common.{◌≡◌, ◌≢◌, ℕ, zero, suc, ◌+◌, ◌-◌, ◌<◌, ◌≤◌, ◌⊎◌, Bool, true, false, ◌&&◌, cond, nat_eq, List, [], ◌∷◌, ◌++◌, length, take, drop, replicate, refl, sym, ap, subst, inl, inr, arith, ◌∙◌, length-append, length-drop, append_assoc, eq-eqb, append-nil}
-use Rattle.std.specs.Prelude.{slice_get, slice_index, slice_set, nat_le}
+use Rattle.std.proofs.Common.{◌≡◌, ◌≢◌, ℕ, zero, suc, ◌+◌, ◌<◌, ◌≤◌, ◌⊎◌, Bool, true, false, cond, List, [], ◌∷◌, ◌++◌, length, take, drop, replicate, refl, sym, ap, subst, inl, inr, arith, ◌∙◌, length-append, length-drop, append_assoc, eq-eqb, append-nil}
+use Rattle.std.specs.Prelude.{slice_index, slice_set, nat_le}
 use Rattle.std.specs.List.{list_all}
 use Rattle.std.specs.Cmp.Derive.{both_true}
 use Rattle.std.proofs.lemmas.Bool.{false≢true, and_parts, cases_eq, cases_lt, leb-true, le-leb, eqb-true, ne_eqb}
@@ -11,8 +11,7 @@ use Rattle.executive_program.specs.declared.program.Instr.TheVariants.{Pre0}
 use Rattle.executive_program.specs.declared.program.Program.{Program}
 use Rattle.executive_program.specs.Blocks.{blocks, repeated}
 use Rattle.executive_program.specs.Instructions.{depth_of, prologue, readers}
-use Rattle.executive_program.specs.Places.{opening_of, opening_signals, reader, signals_empty, signals_of}
-use Rattle.buffer_tables.specs.declared.readings.Reading.{Reading}
+use Rattle.executive_program.specs.Places.{opening_signals, reader, signals_empty, signals_of}
 use Rattle.program_walks.specs.Walks.{all_below}
 use Rattle.program_walks.proofs.ListTests.{below_of, of_below}
 use Rattle.buffer_tables.specs.Openings.{AreOpened, IsPassed, is_at_end, opens_next}

@@ -1,6 +1,6 @@
-use Rattle.std.proofs.Common.{◌≡◌, ℕ, ◌+◌, ◌<◌, ◌≤◌, true, false, List, length, drop, sym, ap, subst, arith, ◌∙◌}
+use Rattle.std.proofs.Common.{◌≡◌, ℕ, ◌+◌, ◌<◌, length, drop, sym, ap, subst, arith, ◌∙◌}
 use Rattle.std.specs.Prelude.{slice_index, slice_set}
-use Rattle.executive_program.specs.Instructions.{depth_of, prologue}
+use Rattle.executive_program.specs.Instructions.{depth_of}
 use Rattle.executive_program.specs.Places.{reader}
 use Rattle.buffer_tables.specs.declared.readings.Reading.{Reading}
 use Rattle.buffer_tables.specs.Openings.{IsPassed, opens_next}
