@@ -12,18 +12,21 @@ wants_memory kind.OutOfMemory = true
 wants_memory _ = false
 
 -- the rows have these plain arguments and this text as workers
-pub record Tells (rs : List Row) (a : Bytes) (b c w : Option Bytes) : Type 0 where
+pub record Tells (rs : List Row) (a : Bytes) (b c d w : Option Bytes) : Type 0 where
   pub first : first_of (codes "first") rs ≡ Some a
   pub second : first_of (codes "second") rs ≡ b
   pub third : first_of (codes "third") rs ≡ c
+  pub fourth : first_of (codes "fourth") rs ≡ d
   pub workers : first_of (codes "workers") rs ≡ w
 
 -- the words' command is that of what was found, and where nothing was there is no command
 abbrev pub Gives : List Bytes → Option Given → Type 0
 Gives words None = command_of words ≡ None
-Gives words (Some g) = command_of words ≡ made g.name.now g.first.now (option_map (λ w. w.now) g.second) (option_map (λ w. w.now) g.third) (option_map (λ w. w.now) g.workers)
+Gives words (Some g) = command_of words
+    ≡ made g.name.now g.first.now (option_map (λ w. w.now) g.second) (option_map (λ w. w.now) g.third) (option_map (λ w. w.now) g.fourth) (option_map (λ w. w.now) g.workers)
 
 -- what was found is this name with these arguments
-abbrev pub Is : Bytes → Bytes → Option Bytes → Option Bytes → Option Bytes → Given → Type 0
-Is name a b c w g =
-    (g.name.now ≡ name) × (g.first.now ≡ a) × (option_map (λ t. t.now) g.second ≡ b) × (option_map (λ t. t.now) g.third ≡ c) × (option_map (λ t. t.now) g.workers ≡ w)
+abbrev pub Is : Bytes → Bytes → Option Bytes → Option Bytes → Option Bytes → Option Bytes → Given → Type 0
+Is name a b c d w g =
+    (g.name.now ≡ name) × (g.first.now ≡ a) × (option_map (λ t. t.now) g.second ≡ b) × (option_map (λ t. t.now) g.third ≡ c)
+    × (option_map (λ t. t.now) g.fourth ≡ d) × (option_map (λ t. t.now) g.workers ≡ w)
