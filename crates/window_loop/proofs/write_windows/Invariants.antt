@@ -1,5 +1,4 @@
-use Rattle.std.proofs.Common.{map, ◌≡◌, ◌-◌}
-use Rattle.std.specs.List.{range_with_len}
+use Rattle.std.proofs.Common.{length}
 use Rattle.outside.specs.Bytes.{Bytes}
 use Rattle.outside.specs.Sink.{Sunk}
 use Rattle.command_plan.specs.Ending.{Ending}
@@ -8,8 +7,10 @@ use Rattle.word_rule.specs.Driven.{Driven, driven_by}
 use Rattle.window_loop.proofs.write_windows.Given as goal
 
 -- whatever follows from here is what follows from the start
-abbrev pub invariant-loop-w : goal.invariant-loop-w
-invariant-loop-w g l = (g.W.Windows.stage l.windows ≡ g.W.Windows.stage l.fn.windows)
-    × ((sunk' : Sunk) (d' : Driven) (ending : Ending Bytes)
-    → Performs {R = Bytes} driven_by (map (g.W.Windows.stage l.fn.windows) (range_with_len l.w (l.count - l.w))) (g.K.Sink.sunk l.out) sunk' (g.W.Windows.driven l.windows) d' ending
-    → Performs {R = Bytes} driven_by (map (g.W.Windows.stage l.fn.windows) (range_with_len 0 l.count)) (g.K.Sink.sunk l.fn.out) sunk' (g.W.Windows.driven l.fn.windows) d' ending)
+abbrev pub invariant-windows : goal.invariant-windows
+invariant-windows g l = (sunk' : Sunk) (d' : Driven) (ending : Ending Bytes)
+    → Performs {R = Bytes} driven_by (g.W.Windows.left l.windows) (g.K.Sink.sunk l.out) sunk' l.driven d' ending
+    → Performs {R = Bytes} driven_by (g.W.Windows.left l.fn.windows) (g.K.Sink.sunk l.fn.out) sunk' l.fn.driven d' ending
+
+abbrev pub decreases-windows : goal.decreases-windows
+decreases-windows g l = length (g.W.Windows.left l.windows)
