@@ -12,7 +12,7 @@ use Rattle.executive_program.specs.declared.program.Program.{Program}
 use Rattle.executive_program.specs.WellFormed.{IsOrder, IsWellFormed}
 use Rattle.check_laws.specs.Items.{AreNamed}
 use Rattle.check_laws.specs.Laws.{IsCause}
-use Rattle.check_laws.specs.Tests.{Cause, are_named, cause}
+use Rattle.check_laws.specs.Tests.{Cause, are_named, cause, sequences_differ}
 use Rattle.check_laws.proofs.Causes.{items_of}
 use Rattle.check_laws.proofs.Named.{named_of, of_named}
 use Rattle.check_laws.proofs.Whole.{cause_is_exact, no_cause_is_well_formed, runs_are_orders, well_formed_has_items}
@@ -21,7 +21,7 @@ use Rattle.macro_check.specs.declared.cause.CheckError.TheVariants.{Refused, Out
 use Rattle.macro_check.specs.Awaiting.{IsWhole}
 use Rattle.macro_check.specs.Causes.{AreThere, Refuses, fault, lack}
 use Rattle.macro_check.proofs.Few.{few_codes}
-use Rattle.macro_check.proofs.Lacks.{all_of, are_there, cause_is}
+use Rattle.macro_check.proofs.Lacks.{all_of, are_there, cause_is, no_name}
 
 pub refuses : (P Q : Cause → Type 0) → ((c : Cause) → P c → Q c) → (e : CheckError) → Refuses P e → Refuses Q e
 refuses P Q f (Refused c) h = f _ h
@@ -34,6 +34,9 @@ module _ (p : Program) (g : Graph) (a : Architecture) where
   named_is vs os ms v o m = λ i. are_named p (length (v i)) (length (o i)) (flat_map (sequences_of (m i)) (range_with_len 0 (length (o i))))
 
   module _ (n : are_named p (length g.vertices) (length a.operators) (sequences a) ≡ false) where
+    pub names_told : cause p g.vertices (sequences a) (length a.operators) (length a.media) ≡ Some sequences_differ
+    names_told = no_name p g.vertices (length a.media) (sequences a) (length a.operators) n
+
     pub not_named : AreNamed p (length g.vertices) (length a.operators) (sequences a) → ⊥
     not_named x = false≢true (sym n ∙ of_named p (length g.vertices) (length a.operators) (sequences a) x)
 
@@ -57,7 +60,7 @@ module _ (p : Program) (g : Graph) (a : Architecture) where
         runs_are_orders p g (sequences a) (length a.operators) (length a.media) order
         (items_of p g (sequences a) (length a.operators) (length a.media) n all.called all.transferred all.written all.guarded all.opened) w.run w.ends
 
-    cause_here : (vs : List Vertex) (media : ℕ) → vs ≡ g.vertices → media ≡ length a.media → (c : Cause) → fault p vs media ≡ Some c → cause p g.vertices (sequences a) (length a.operators) (length a.media) ≡ Some c
+    pub cause_here : (vs : List Vertex) (media : ℕ) → vs ≡ g.vertices → media ≡ length a.media → (c : Cause) → fault p vs media ≡ Some c → cause p g.vertices (sequences a) (length a.operators) (length a.media) ≡ Some c
     cause_here vs media v m c e = cause_is p g.vertices (length a.media) (sequences a) (length a.operators) n ∙ (λ i. fault p (sym v i) (sym m i)) ∙ e
 
     pub refused : (vs : List Vertex) (media : ℕ) → vs ≡ g.vertices → media ≡ length a.media → (c : Cause) → fault p vs media ≡ Some c → IsCause p g (sequences a) (length a.operators) (length a.media) c

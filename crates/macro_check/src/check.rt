@@ -8,7 +8,7 @@ ghost use Rattle.macro_check.specs.Awaiting.{IsWhole, MayRun};
 ghost use Rattle.macro_check.specs.Tabled.{AreTables};
 ghost use Rattle.check_laws.specs.Laws.{IsCause};
 ghost use Rattle.check_laws.specs.Run.{stuck};
-ghost use Rattle.check_laws.specs.Tests.{stopped};
+ghost use Rattle.check_laws.specs.Tests.{cause, stopped};
 
 use crate::calling::are_called;
 use crate::cause::CheckError;
@@ -120,8 +120,8 @@ fn check_named(
 }
 
 /// Whether a program is well formed for a flat graph and an architecture, with a serial order of one reaction:
-/// the sequences of its entries, which `is_order` accepts. The first cause is told for which it is not. A loop
-/// has fewer than 2^32 instructions.
+/// the sequences of its entries, which `is_order` accepts. The first cause is told for which it is not, and that
+/// cause is exact. A loop has fewer than 2^32 instructions.
 pub fn macro_check(
     alloc: Global,
     flat: &Flat,
@@ -130,6 +130,7 @@ pub fn macro_check(
 ) -> Result<Vec<u32>, CheckError>
     requires { (s : ℕ) → length (turn program.now s) < 2 ^ 32 }
     ensures accepted { IfOk result (λ order. IsOrder program.now flat.now (sequences archi.now) (length archi.now.media) order.items) }
+    ensures told { IfErr result (Refuses (λ c. cause program.now flat.now.vertices (sequences archi.now) (length archi.now.operators) (length archi.now.media) ≡ Some c)) }
     ensures refused { IfErr result (Refuses (IsCause program.now flat.now (sequences archi.now) (length archi.now.operators) (length archi.now.media))) }
     ensures complete { IsWellFormed program.now flat.now (sequences archi.now) (length archi.now.media) → IfErr result (Refuses (λ c. ⊥)) }
 {
