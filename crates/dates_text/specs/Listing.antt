@@ -1,5 +1,5 @@
 -- The text of the dates of reactions.
-use Rattle.std.specs.Prelude.{ℕ, zero, suc, List, [], ◌∷◌, ◌++◌, map, replicate, Option, Some, None, slice_get, codes}
+use Rattle.std.specs.Prelude.{ℕ, zero, suc, List, [], ◌∷◌, ◌++◌, length, map, replicate, Option, Some, None, slice_get, codes}
 use Rattle.std.specs.Fmt.{decimal}
 use Rattle.flat_graph.specs.Graph.{Graph}
 use Rattle.archi_graph.specs.declared.medium.Medium.{Medium}
@@ -44,14 +44,14 @@ abbrev pub name_or_none : Option Medium → Bytes
 name_or_none None = []
 name_or_none (Some m) = m.name
 
-module _ (g : Graph) (a : Architecture) where
-  abbrev pub medium_name : ℕ → Bytes
-  medium_name m = name_or_none (slice_get a.media m)
+abbrev pub medium_name : List Medium → ℕ → Bytes
+medium_name media m = name_or_none (slice_get media m)
 
+module _ (g : Graph) (a : Architecture) where
   -- K on MEDIUM START END OPERATION PORT FROM TO, and K op START END OPERATION
   abbrev pub act_line : ℕ → Span → Act → Line
   act_line k w (carry t) =
-      decimal k ∷ codes "on" ∷ medium_name t.medium ∷ decimal w.start ∷ decimal w.end
+      decimal k ∷ codes "on" ∷ medium_name a.media t.medium ∷ decimal w.start ∷ decimal w.end
       ∷ operation_name g.vertices a.operators t.source.vertex ∷ decimal t.source.port ∷ operator_name g.vertices a.operators t.from ∷ operator_name g.vertices a.operators t.to ∷ []
   act_line k w (run d) = decimal k ∷ codes "op" ∷ decimal w.start ∷ decimal w.end ∷ operation_name g.vertices a.operators d.op ∷ []
 
@@ -65,13 +65,13 @@ module _ (g : Graph) (a : Architecture) where
   abbrev pub dated_text : List Dated → Bytes
   dated_text ds = text_of (dated_lines ds)
 
-  -- The dates of so many reactions of a schedule, in each of which its operations, and then its transfers, last these ticks.
-  module _ (s : Schedule) (ticks : List ℕ) (n : ℕ) where
-    abbrev pub all_dates : List Dated
-    all_dates = dated_in (λ k i x. span (start_at a.depth g s (replicate n ticks) k i x) (end_at a.depth g s (replicate n ticks) k i)) n (acts s)
+  -- the dates of reactions of a schedule, in each of which its operations, and then its transfers, last these ticks
+  abbrev pub all_dates : Schedule → List (List ℕ) → List Dated
+  all_dates s ticks = dated_in (λ k i x. span (start_at a.depth g s ticks k i x) (end_at a.depth g s ticks k i)) (length ticks) (acts s)
 
-    abbrev pub dates_lines : List Line
-    dates_lines = dated_lines all_dates
+  -- the same where they last as long in so many reactions
+  abbrev pub dates_lines : Schedule → List ℕ → ℕ → List Line
+  dates_lines s ticks n = dated_lines (all_dates s (replicate n ticks))
 
-    abbrev pub dates_text : Bytes
-    dates_text = dated_text all_dates
+  abbrev pub dates_text : Schedule → List ℕ → ℕ → Bytes
+  dates_text s ticks n = dated_text (all_dates s (replicate n ticks))
