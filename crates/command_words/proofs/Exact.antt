@@ -9,7 +9,7 @@ use Rattle.clap.specs.Faults.{fault_of}
 use Rattle.command_words.specs.Command.{plain_by, arguments_of, command_of}
 use Rattle.command_words.specs.Plain.{plain_command, made}
 use Rattle.command_words.specs.Answer.{Tells}
-use Rattle.command_words.specs.App.{the_app, one_app, two_app, four_app, working_app, rows, four_rows}
+use Rattle.command_words.specs.App.{the_app, one_app, two_app, four_app, rows, four_rows}
 use Rattle.command_words.proofs.Behind.{behind, given, behind_first}
 use Rattle.command_words.proofs.Table.{Text, plain_from, answered}
 use Rattle.command_words.proofs.Looks.{two_ways}

@@ -5,7 +5,8 @@
 ghost use Rattle.std.specs.Prelude.{◌≡◌, IfOk, Some, map, option_map};
 ghost use Rattle.std.specs.String.{string_bytes};
 ghost use Rattle.command_words.specs.Command.{check, sim, flat, chart, code, one, two, one_or_two, four, loaded, dated, number_up_to, command_of};
-ghost use Rattle.command_words.specs.Plain.{plain_command, listed, run_with, run_made, exec_with, exec_made, made};
+ghost use Rattle.command_words.specs.Plain.{plain_command, run_with, exec_with};
+ghost use Rattle.command_words.specs.Answer.{exec_of, made_of, plain_of, run_of};
 ghost use Rattle.command_words.specs.View.{view_of};
 
 mod given;
@@ -98,7 +99,7 @@ pub fn command_of<'a>(
 }
 
 fn command_with<'a>(given: &Given<'a>) -> Option<Command<'a>>
-    ensures { option_map view_of result ≡ made given.now.name.now given.now.first.now (option_map (λ w. w.now) given.now.second) (option_map (λ w. w.now) given.now.third) (option_map (λ w. w.now) given.now.fourth) (option_map (λ w. w.now) given.now.workers) }
+    ensures { option_map view_of result ≡ made_of given.now }
 {
     if given.name == "run" {
         run(given)
@@ -111,7 +112,7 @@ fn command_with<'a>(given: &Given<'a>) -> Option<Command<'a>>
 
 /// The command of the given name with the plain arguments that are given, alone.
 fn plain_given<'a>(given: &Given<'a>) -> Option<Command<'a>>
-    ensures { option_map view_of result ≡ plain_command given.now.name.now (listed given.now.first.now (option_map (λ w. w.now) given.now.second) (option_map (λ w. w.now) given.now.third) (option_map (λ w. w.now) given.now.fourth)) }
+    ensures { option_map view_of result ≡ plain_of given.now }
 {
     let name = given.name;
     let first = given.first;
@@ -233,7 +234,7 @@ fn dates<'a>(plain: &[&'a str]) -> Option<Command<'a>>
 }
 
 fn run<'a>(given: &Given<'a>) -> Option<Command<'a>>
-    ensures { option_map view_of result ≡ run_made given.now.first.now (option_map (λ w. w.now) given.now.second) (option_map (λ w. w.now) given.now.third) (option_map (λ w. w.now) given.now.fourth) (option_map (λ w. w.now) given.now.workers) }
+    ensures { option_map view_of result ≡ run_of given.now }
 {
     match (given.second, given.third, given.fourth) {
         (Some(architecture), Some(sensors), None) => {
@@ -264,7 +265,7 @@ fn run_with<'a>(
 }
 
 fn exec<'a>(given: &Given<'a>) -> Option<Command<'a>>
-    ensures { option_map view_of result ≡ exec_made given.now.first.now (option_map (λ w. w.now) given.now.second) (option_map (λ w. w.now) given.now.third) (option_map (λ w. w.now) given.now.fourth) (option_map (λ w. w.now) given.now.workers) }
+    ensures { option_map view_of result ≡ exec_of given.now }
 {
     match (given.second, given.third, given.fourth) {
         (Some(architecture), Some(code), Some(sensors)) => {

@@ -29,11 +29,10 @@ use Rattle.accepted_laws.proofs.Tables.{tables_fit}
 use Rattle.check_laws.specs.Tests.{Cause, cause}
 use Rattle.check_laws.proofs.Whole.{no_cause_is_well_formed}
 use Rattle.check_cause.specs.declared.cause.CheckCause.{CheckCause}
-use Rattle.archi_defs.specs.Text.{Described}
 use Rattle.command_words.specs.Command.{Command, check, sim, flat, chart, code, run as runs, load, exec, dates}
 use Rattle.top_plans.specs.Given.{Given, written, printed, executed, summed, Execution, one_job}
-use Rattle.top_plans.specs.Plans.{plan_for, schedule_of, program_by}
-use Rattle.top_plans.specs.Checks.{told, lacking}
+use Rattle.top_plans.specs.Plans.{plan_for, schedule_of}
+use Rattle.top_plans.specs.Checks.{told}
 use Rattle.top_plans.specs.Meaning.{RunsTrue, MakesTrue, AcceptedRunTrue}
 use Rattle.top_plans.proofs.Schedules.{schedules_are_valid}
 use Rattle.top_plans.proofs.Walk.{Comes, built, checked, IsAccepted, Leaf}
