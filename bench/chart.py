@@ -1,13 +1,18 @@
 #!/usr/bin/env python3
-"""Times `syndex chart` over 512, 1,024 and 2,048 operations on 1, 4 and 16 operators: a chain of functions,
-functions that all read one sensor, and functions that all read the same 32 values at 64 inputs. The operators stand in a ring
-or at one bus. Prints the status, the seconds and the ratios of the times to those of half as many operations."""
+"""Times `syndex chart`, or with the word `code` `syndex code`, over 512, 1,024 and 2,048 operations on 1, 4 and 16
+operators: a chain of functions, functions that all read one sensor, and functions that all read the same 32 values at 64
+inputs. The operators stand in a ring or at one bus. A plain program (`bench/plain/code.c`, built here by `cc -O2`) does the
+same, and has to write the same bytes where `syndex` meets no limit. Prints the status, the seconds of the processor, the
+ratio to the plain program's, and the ratio to those of half as many operations."""
 import os
+import resource
 import subprocess
+import sys
 import tempfile
-import time
 
-TOP = os.path.dirname(os.path.dirname(os.path.abspath(__file__)))
+from program import built_program, TOP
+
+PROGRAM = built_program()
 SIZES = (512, 1024, 2048)
 OPERATORS = (1, 4, 16)
 HEAD = "algorithm 1\nsensor Sense 1\n"
@@ -79,29 +84,54 @@ def architecture(operators, ring):
     return "".join(lines)
 
 
-def run(algorithm, archi):
-    start = time.monotonic()
-    done = subprocess.run([os.path.join(TOP, "syndex"), "chart", algorithm, archi], capture_output=True)
-    return time.monotonic() - start, done.returncode
+def seconds(words, runs=3):
+    """The least processor time of several runs, with the status and what was written."""
+    best = None
+    for _ in range(runs):
+        before = resource.getrusage(resource.RUSAGE_CHILDREN)
+        done = subprocess.run(words, stdout=subprocess.PIPE, stderr=subprocess.DEVNULL)
+        after = resource.getrusage(resource.RUSAGE_CHILDREN)
+        took = after.ru_utime - before.ru_utime + after.ru_stime - before.ru_stime
+        best = took if best is None else min(best, took)
+    return best, done.returncode, done.stdout
+
+
+def built(room):
+    """The plain program."""
+    plain = os.path.join(room, "plain")
+    subprocess.run(["cc", "-O2", "-o", plain, os.path.join(TOP, "bench", "plain", "code.c")], check=True)
+    return plain
+
+
+def compared(plain, files, command, what, before):
+    took, status, said = seconds([PROGRAM, command, *files])
+    other, _, same = seconds([plain, command, *files])
+    assert status or said == same, f"{what}: the plain program writes something else"
+    growth = f", x{took / before:.1f}" if before else ""
+    print(f"{command}, {what}: status {status}, {took:.3f} s, {took / other:.2f} times the plain program's {other:.3f} s{growth}", flush=True)
+    return took
+
+
+def written(room, name, text):
+    file = os.path.join(room, name)
+    with open(file, "w", encoding="ascii") as it:
+        it.write(text)
+    return file
 
 
 def main():
+    command = sys.argv[1] if len(sys.argv) > 1 else "chart"
     with tempfile.TemporaryDirectory() as room:
-        algorithm, archi = os.path.join(room, "a"), os.path.join(room, "h")
+        plain = built(room)
         for shape, text_of in SHAPES.items():
             for operators in OPERATORS:
                 for ring in (True, False) if operators > 1 else (True,):
-                    with open(archi, "w", encoding="utf-8") as it:
-                        it.write(architecture(operators, ring))
-                    times = []
+                    archi, before = written(room, "h", architecture(operators, ring)), None
                     for operations in SIZES:
-                        with open(algorithm, "w", encoding="utf-8") as it:
-                            it.write(text_of(operations))
-                        took, status = min(run(algorithm, archi) for _ in range(2))
-                        times.append(took)
-                        growth = f" x{took / times[-2]:.1f}" if len(times) > 1 else ""
+                        algorithm = written(room, "a", text_of(operations))
                         where = "a ring" if ring else "a bus"
-                        print(f"{shape}, {operations} operations, {operators} operators in {where}: status {status}, {took:.2f} s{growth}")
+                        what = f"{shape}, {operations} operations, {operators} operators in {where}"
+                        before = compared(plain, [algorithm, archi], command, what, before)
 
 
 if __name__ == "__main__":

@@ -11,8 +11,9 @@ import tempfile
 import time
 
 import shapes
+from program import built_program
 
-TOP = os.path.dirname(os.path.dirname(os.path.abspath(__file__)))
+PROGRAM = built_program()
 MIB = 1024 * 1024
 HEAD = "algorithm 1\n"
 TAIL = "graph main\nend\n"
@@ -47,7 +48,7 @@ def countless():
 
 def run(path):
     start = time.monotonic()
-    done = subprocess.run([os.path.join(TOP, "syndex"), "check", path], capture_output=True)
+    done = subprocess.run([PROGRAM, "check", path], capture_output=True)
     return time.monotonic() - start, done.returncode, done.stderr.decode().strip()
 
 

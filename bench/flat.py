@@ -9,9 +9,9 @@ import tempfile
 import time
 
 import shapes
+from program import built_program
 
-TOP = os.path.dirname(os.path.dirname(os.path.abspath(__file__)))
-PROGRAM = os.path.join(TOP, "syndex")
+PROGRAM = built_program()
 RUNS = 5
 OPERATIONS = [512, 1_024, 2_048]
 REACTIONS = [1_000, 10_000]

@@ -15,9 +15,9 @@ import subprocess
 import tempfile
 
 from flat import algorithm as chain
+from program import built_program, TOP
 
-TOP = os.path.dirname(os.path.dirname(os.path.abspath(__file__)))
-PROGRAM = os.path.join(TOP, "syndex")
+PROGRAM = built_program()
 RUNS, LENGTH, REFERENCES = 5, 64, 3
 REACTIONS = [100, 1_000, 10_000]
 

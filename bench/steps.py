@@ -1,6 +1,7 @@
 #!/usr/bin/env python3
-"""Times micro-steps of the core's `run_list` over a program for two operators with a bus, in runs of
-10,000 reactions, and prints how many are made a second, and the ratio to as many turns of a plain loop.
+"""Times micro-steps of a program for two operators with a bus, in runs of 10,000 reactions: of the core's `run_list`, and
+of one driver on a table of words, which makes the same steps in the same order. Prints how many are made a second, the ratio of
+the words to the core, and that of the core to as many turns of a plain loop.
 
 What is timed is a test of `worked_programs` that is put into a copy of the repository, which is thrown away.
 The copy takes over what earlier checks kept; in a new clone everything below is proved first."""
@@ -52,6 +53,35 @@ fn runs(alloc: Global, job: &Job, list: &[u32]) -> Result<(), Fail> {
     Ok(())
 }
 
+/// Tries the sequences of a list in its order, by one driver.
+fn tried<'a>(fabric: &Fabric<'a>, driver: &mut Driver<'a>, list: &[u32]) -> u64
+    requires { driver.old.fabric ≡ fabric.now }
+    ensures fabric { driver.new.fabric ≡ driver.old.fabric }
+    ensures group { driver.new.group ≡ driver.old.group }
+{
+    let mut made: u64 = 0;
+    for seq in list {
+        if *seq < fabric.sequences() && fabric.groups() > 0 && *seq % fabric.groups() == driver.group() {
+            if let MicroAnswer::Stepped = fabric.try_micro(driver, *seq) {
+                made = made.saturating_add(1);
+            }
+        }
+    }
+    made
+}
+
+/// The same runs on tables of words.
+fn runs_on_words(rt: &impl Abort, alloc: Global, job: &Job, list: &[u32]) -> Result<(), Fail> {
+    for _ in 0..@RUNS@ {
+        let (fabric, mut drivers) = weave(alloc, job, 1)?;
+        let made = tried(&fabric, &mut drivers[0], list);
+        assert_eq!(rt; made, list.len() as u64);
+        let mut driven = Driven::new(alloc);
+        let _closed = fabric.close(drivers, &mut driven);
+    }
+    Ok(())
+}
+
 fn turns(times: u64) -> u64 {
     let mut x: u64 = 1;
     for i in 0..times {
@@ -71,7 +101,12 @@ fn timed(rt: &HostRuntime, alloc: Global, job: &Job, list: &[u32]) -> Result<(),
     };
     let turned = turns(@STEPS@);
     let turns = nanoseconds(rt, start);
-    let _ = println!(rt; "took {} {} {}", steps, turns, turned);
+    let Ok(start) = Instant::now(rt) else {
+        return Ok(());
+    };
+    runs_on_words(rt, alloc, job, list)?;
+    let words = nanoseconds(rt, start);
+    let _ = println!(rt; "took {} {} {} {}", steps, turns, words, turned);
     Ok(())
 }
 
@@ -150,17 +185,23 @@ def copy(room):
     text = text.replace("use std::test::Fail;\n", "use std::test::Fail;\nuse std::time::Instant;\n", 1)
     text = text.replace("sensor_lens, try_step", "run_list, sensor_lens, try_step", 1)
     text = text.replace("IfOk}", "IfOk, sum}", 1)
+    text = text.replace("SensorRows};\n", "SensorRows};\nuse word_table::{Driven, Driver, Fabric, MicroAnswer, weave};\n", 1)
     with open(runs, "w", encoding="utf-8") as it:
         it.write(text)
-    for name, mark in (("fives", "loop"),):
+    invariants = {
+        "fives": "l.rows.lens ≡ l.fn.rows.lens",
+        "tried": "(l.driver.fabric ≡ l.initial.driver.fabric) × (l.driver.group ≡ l.initial.driver.group)",
+    }
+    for name, holds in invariants.items():
         folder = os.path.join(crate, "proofs", "two_operators", name)
         os.makedirs(folder)
+        mark = "loop-seq" if name == "tried" else "loop"
         with open(os.path.join(folder, "Invariants.antt"), "w", encoding="utf-8") as it:
             it.write(
-                "use Rattle.std.proofs.Common.{◌≡◌}\n"
+                "use Rattle.std.specs.Prelude.{◌≡◌}\n"
                 f"use Rattle.worked_programs.proofs.two_operators.{name}.Given as goal\n\n"
                 f"abbrev pub invariant-{mark} : goal.invariant-{mark}\n"
-                f"invariant-{mark} l = l.rows.lens ≡ l.fn.rows.lens\n"
+                f"invariant-{mark} l = {holds}\n"
             )
     return crate
 
@@ -169,11 +210,12 @@ def main():
     with tempfile.TemporaryDirectory() as room:
         ran = subprocess.run(["rt", "test"], cwd=copy(room), capture_output=True, text=True)
     words = [line.split() for line in ran.stdout.split("\n")]
-    took = [line[1:3] for line in words if line[:1] == ["took"]]
+    took = [line[1:4] for line in words if line[:1] == ["took"]]
     if not took:
         raise SystemExit(ran.stdout[-2000:] + ran.stderr[-2000:])
-    steps, turns = (int(word) for word in took[0])
+    steps, turns, on_words = (int(word) for word in took[0])
     print(f"{STEPS} micro-steps: {steps / 1e9:.3f} s, {STEPS / steps * 1e3:.1f} million a second")
+    print(f"as many on words: {on_words / 1e9:.3f} s, {STEPS / on_words * 1e3:.1f} million a second, ratio {on_words / steps:.2f}")
     print(f"as many turns of a plain loop: {turns / 1e9:.4f} s, ratio {steps / turns:.1f}")
 
 
