@@ -84,8 +84,7 @@ module _ (long : Source → ℕ) where
       fit-stages c i (v ∷ vs) m e t before =
           let two : suc (suc c) ≡ c + 2 = omega arith in
           let rest = subst (λ n. Outs long none n (stages W (c + 2) (at (l.part ∷ [])) l (suc i) vs)) two m.1.1 in
-          let taken = stage-lens c i v vs rest e t.0 in
-          (
+          let taken = stage-lens c i v vs rest e t.0 in (
             record { guards = guards-wired W len all l.guards guards; ins = tt; outs = lengths.1; task = (refl, t.0) },
             (
               record {
