@@ -7,3 +7,4 @@ pub mod Leaving
 pub mod Summing
 pub mod Replying
 pub mod Loads
+pub mod Going

@@ -59,10 +59,7 @@ pub fn plain_command<S: Shelf, K: Sink, E: Sink>(
     ensures unread { LeavesUnread (command_of (map string_bytes words.now)) (S.held shelf.old) (S.held shelf.new) }
 {
     match plain::status_of(alloc, words, shelf, out) {
-        Some(status) => {
-            say(err, &status);
-            Some(status)
-        }
+        Some(status) => Some(told(err, status)),
         None => None,
     }
 }
@@ -90,9 +87,16 @@ pub fn syndex<R: Threads + Wait + Sync, S: Shelf, K: Sink, E: Sink, G: Gate>(
         Some(status) => status,
         None => {
             let drive = Drive { rt, gate };
-            let status = jobs::status_of(alloc, words, shelf, out, &drive, driven);
-            say(err, &status);
-            status
+            told(err, jobs::status_of(alloc, words, shelf, out, &drive, driven))
         }
     }
+}
+
+/// Writes the line of a status to the error stream.
+fn told<E: Sink>(err: &mut E, status: Status) -> Status
+    ensures same { result ≡ status }
+    ensures line { Said (line_of status) (E.sunk err.old) (E.sunk err.new) }
+{
+    say(err, &status);
+    status
 }

@@ -49,12 +49,15 @@ impl<'a> Lines<'a> {
         ensures { GoesOn (stages_left self.old.tree.now self.old.windows) (stages_left self.new.tree.now self.new.windows) driven.old driven.new result }
     {
         let first = self.windows.first();
-        let Some(closed) = self.windows.run_next(alloc, drive, driven)? else {
-            return Ok(None);
-        };
-        let text = acts_text_from(alloc, self.tree, closed.rows(), first)?;
-        self.windows.go_on(closed);
-        Ok(Some(text))
+        match self.windows.run_next(alloc, drive, driven) {
+            Ok(Some(closed)) => {
+                let text = acts_text_from(alloc, self.tree, closed.rows(), first)?;
+                self.windows.go_on(closed);
+                Ok(Some(text))
+            }
+            Ok(None) => Ok(None),
+            Err(want) => Err(want),
+        }
     }
 }
 

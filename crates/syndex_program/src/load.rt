@@ -77,11 +77,14 @@ fn sum_of<R: Threads + Wait + Sync, G: Gate>(
 {
     let mut sum: i64 = 0;
     'windows: loop {
-        let Some(closed) = windows.run_next(alloc, drive, driven)? else {
-            return Ok(sum);
-        };
-        sum = with_rows(sum, closed.rows());
-        windows.go_on(closed);
+        match windows.run_next(alloc, drive, driven) {
+            Ok(Some(closed)) => {
+                sum = with_rows(sum, closed.rows());
+                windows.go_on(closed);
+            }
+            Ok(None) => return Ok(sum),
+            Err(want) => return Err(want),
+        }
     }
 }
 
