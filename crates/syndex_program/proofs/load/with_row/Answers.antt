@@ -14,7 +14,7 @@ loop-actuator-preserved c =
     let e : to_z w64 (of_z w64 c.with_vector-sum.result) ≡ c.with_vector-sum.result = search (rules, to_z-of_z) in
     ap (λ n. wrapped (n +ℤ total (all_joined (drop (c.loop-actuator.actuator + 1) row)))) e
     ∙ one_vector s c.with_vector-sum.result row c.loop-actuator.actuator
-    (c.with_vector-sum.ensures ∙ (λ i. wrapped (sym c.loop-actuator.sum-is i +ℤ total (c.vector.ensures.value i))))
+    (c.with_vector-sum.ensures ∙ ap (λ (v : List ℤ). wrapped (s +ℤ total v)) c.vector.ensures.value)
     ∙ c.loop-actuator.invariant
 
 pub returns : goal.returns
@@ -24,4 +24,4 @@ returns c =
     let many = ap length c.lens-actuator-end.ensures in
     let l : length row ≤ c.loop-actuator.actuator = omega (arith, c.loop-actuator-test.false, c.requires.few, many) in
     let e : to_z w64 (of_z w64 c.args.start) ≡ c.args.start = search (rules, to_z-of_z) in
-    ap wrapped (sym c.loop-actuator.sum-is) ∙ sym (row_ends s row c.loop-actuator.actuator l) ∙ c.loop-actuator.invariant ∙ ap (λ n. wrapped (n +ℤ total (all_joined row))) e
+    sym (row_ends s row c.loop-actuator.actuator l) ∙ c.loop-actuator.invariant ∙ ap (λ n. wrapped (n +ℤ total (all_joined row))) e

@@ -11,7 +11,7 @@ loop-k-preserved c =
     let s = to_z w64 c.loop-k.sum-bits in
     let e : to_z w64 (of_z w64 c.with_row-sum.result) ≡ c.with_row-sum.result = search (rules, to_z-of_z) in
     ap (λ n. wrapped (n +ℤ total_of (drop (c.loop-k.k + 1) rows))) e
-    ∙ one_row s c.with_row-sum.result rows c.loop-k.k (c.with_row-sum.ensures ∙ (λ i. wrapped (sym c.loop-k.sum-is i +ℤ _)))
+    ∙ one_row s c.with_row-sum.result rows c.loop-k.k c.with_row-sum.ensures
     ∙ c.loop-k.invariant
 
 pub returns : goal.returns
@@ -20,4 +20,4 @@ returns c =
     let s = to_z w64 c.loop-k.sum-bits in
     let l : length rows ≤ c.loop-k.k = omega (arith, c.loop-k-test.false, c.count-k-end.ensures) in
     let e : to_z w64 (of_z w64 c.args.start) ≡ c.args.start = search (rules, to_z-of_z) in
-    ap wrapped (sym c.loop-k.sum-is) ∙ sym (rows_end s rows c.loop-k.k l) ∙ c.loop-k.invariant ∙ ap (λ n. wrapped (n +ℤ total_of rows)) e
+    sym (rows_end s rows c.loop-k.k l) ∙ c.loop-k.invariant ∙ ap (λ n. wrapped (n +ℤ total_of rows)) e
