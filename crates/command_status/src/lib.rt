@@ -2,8 +2,6 @@
 #![tactic(auto)]
 
 mod architecture;
-mod code;
-mod durations;
 mod line;
 mod status;
 #[cfg(test)]

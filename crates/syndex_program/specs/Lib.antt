@@ -1,9 +1,4 @@
 pub mod Reads
 pub mod Builds
-pub mod Executes
-pub mod Stopped
-pub mod Left
-pub mod Sums
+pub mod Replies
 pub mod Unread
-pub mod Plainly
-pub mod Jobs

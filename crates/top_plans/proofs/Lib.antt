@@ -1,5 +1,3 @@
-pub mod Loads
-pub mod Checks
 pub mod Schedules
 pub mod Walk
 pub mod Commands

@@ -1,7 +1,5 @@
 pub mod Names
 pub mod Given
-pub mod Loads
-pub mod Checks
 pub mod Plans
 pub mod Meaning
 pub mod Replies
