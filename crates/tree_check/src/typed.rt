@@ -137,7 +137,9 @@ fn are_groups(outs: &[u32], groups: &[Items<i64>]) -> bool
 fn all_have(outs: &[u32], groups: &[Items<i64>]) -> bool
     ensures { result ≡ list_all (λ v. bytes_eq outs.now (length v ∷ [])) groups.now }
 {
-    groups.iter().all(|group| is_only(group.as_slice().len(), outs))
+    groups
+        .iter()
+        .all(|group| is_only(group.as_slice().len(), outs))
 }
 
 fn is_function(lens: &[u32], outs: &[u32], es: &[Expr]) -> bool
