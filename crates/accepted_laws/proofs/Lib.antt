@@ -1,4 +1,3 @@
-pub mod Single
 pub mod Stands
 pub mod Definitions
 pub mod Architectures

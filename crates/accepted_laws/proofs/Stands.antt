@@ -16,7 +16,7 @@ use Rattle.flat_graph.specs.declared.vertex.Vertex.{Vertex}
 use Rattle.flat_graph.specs.Graph.{with_vertex}
 use Rattle.flat_graph.specs.Meaning.{level_source, level_guard}
 use Rattle.inlining_laws.specs.Flat.{Operation, Task, runs, gets, sets}
-use Rattle.inlining_laws.specs.Inlined.{wire, wirings, inlined_by, inlined, inlined_all, operations}
+use Rattle.inlining_laws.specs.Inlined.{wire, wirings, stages, inlined_by, inlined, inlined_all, operations}
 use Rattle.inlining_laws.specs.Plain.{IsKindPlain, IsPlain, AllPlain}
 use Rattle.factorisation_laws.specs.Unrolled.{unroll}
 use Rattle.factorisation_laws.proofs.Names.{names-unroll}
@@ -32,17 +32,16 @@ use Rattle.flat_laws.proofs.Halves.{IsHalf, Follow, follow-main}
 use Rattle.flat_laws.proofs.KindTests.{long}
 use Rattle.flat_laws.proofs.Fits.{AllFit, fit-main}
 use Rattle.flat_laws.proofs.Lengths.{Outs}
-use Rattle.accepted_laws.specs.Flat.{IsKindSingle, IsSingle, AllSingle, FlatOfStands, FlatTakesTheSame, TreesHaveFlat}
-use Rattle.accepted_laws.proofs.Single.{one-unroll, one-guard}
+use Rattle.accepted_laws.specs.Flat.{FlatOfStands, FlatTakesTheSame, TreesHaveFlat}
 
--- A task that a vertex of a flat graph tells: no graph, switch, repetition or delay is run, and a delay keeps one value.
+-- A task that a vertex of a flat graph tells: no graph, switch, repetition or delay is run.
 abbrev IsSole : Task → Type 0
 IsSole (runs (delay vs)) = ⊥
 IsSole (runs (graph outs)) = ⊥
 IsSole (runs (switch values names)) = ⊥
 IsSole (runs (repeat n feeds gives)) = ⊥
 IsSole (runs _) = Unit {0}
-IsSole (gets vs) = length vs ≡ 1
+IsSole (gets v) = Unit {0}
 IsSole sets = Unit {0}
 
 abbrev AllSole : List Operation → Type 0
@@ -53,30 +52,34 @@ sole-append : (xs ys : List Operation) → AllSole xs → AllSole ys → AllSole
 sole-append [] ys h k = k
 sole-append (x ∷ xs) ys h k = (h.0, sole-append xs ys h.1 k)
 
+sole-stages : (W : Source → Source) (b : ℕ) (path : Path) (l : Label) (i : ℕ) (vs : List Vector) → AllSole (stages W b path l i vs)
+sole-stages W b path l i [] = tt
+sole-stages W b path l i (v ∷ vs) = (tt, (tt, sole-stages W (b + 2) path l (suc i) vs))
+
 sole-by : (W : Source → Source) (b : ℕ) (at : Path → Path) (l : Label) (k : tree.Kind) (inner : List Source → ℕ → (Path → Path) → List Operation)
-    → ((own : List Source) → AllSole (inner own b (λ q. at (l.part ∷ q)))) → IsKindPlain k → IsKindSingle k → AllSole (inlined_by W b at l k inner)
-sole-by W b at l (graph outs) inner deep p s = deep (map W l.ins)
-sole-by W b at l (delay vs) inner deep p s = (s, (tt, tt))
-sole-by W b at l (switch values names) inner deep p s = absurd p
-sole-by W b at l (repeat n feeds gives) inner deep p s = absurd p
-sole-by W b at l (sensor n) inner deep p s = (tt, tt)
-sole-by W b at l (actuator n) inner deep p s = (tt, tt)
-sole-by W b at l (constant v) inner deep p s = (tt, tt)
-sole-by W b at l (function es) inner deep p s = (tt, tt)
-sole-by W b at l explode inner deep p s = (tt, tt)
-sole-by W b at l implode inner deep p s = (tt, tt)
-sole-by W b at l (merge values) inner deep p s = (tt, tt)
+    → ((own : List Source) → AllSole (inner own b (λ q. at (l.part ∷ q)))) → IsKindPlain k → AllSole (inlined_by W b at l k inner)
+sole-by W b at l (graph outs) inner deep p = deep (map W l.ins)
+sole-by W b at l (delay vs) inner deep p = sole-stages W b (at (l.part ∷ [])) l 0 vs
+sole-by W b at l (switch values names) inner deep p = absurd p
+sole-by W b at l (repeat n feeds gives) inner deep p = absurd p
+sole-by W b at l (sensor n) inner deep p = (tt, tt)
+sole-by W b at l (actuator n) inner deep p = (tt, tt)
+sole-by W b at l (constant v) inner deep p = (tt, tt)
+sole-by W b at l (function es) inner deep p = (tt, tt)
+sole-by W b at l explode inner deep p = (tt, tt)
+sole-by W b at l implode inner deep p = (tt, tt)
+sole-by W b at l (merge values) inner deep p = (tt, tt)
 
 mutual
-  sole-vertex : (W : Source → Source) (b : ℕ) (at : Path → Path) (u : tree.Vertex) → IsPlain u → IsSingle u → AllSole (inlined W b at u)
-  sole-vertex W b at (vertex l us) p s = sole-by W b at l l.kind _ (λ own. sole-all (wire (wirings b us) own) b (λ q. at (l.part ∷ q)) us p.1 s.1) p.0 s.0
+  sole-vertex : (W : Source → Source) (b : ℕ) (at : Path → Path) (u : tree.Vertex) → IsPlain u → AllSole (inlined W b at u)
+  sole-vertex W b at (vertex l us) p = sole-by W b at l l.kind _ (λ own. sole-all (wire (wirings b us) own) b (λ q. at (l.part ∷ q)) us p.1) p.0
 
-  sole-all : (W : Source → Source) (b : ℕ) (at : Path → Path) (us : Vertices) → AllPlain us → AllSingle us → AllSole (inlined_all W b at us)
-  sole-all W b at no_vertices p s = tt
-  sole-all W b at (and_vertex u us) p s = sole-append (inlined W b at u) _ (sole-vertex W b at u p.0 s.0) (sole-all W (b + count u) at us p.1 s.1)
+  sole-all : (W : Source → Source) (b : ℕ) (at : Path → Path) (us : Vertices) → AllPlain us → AllSole (inlined_all W b at us)
+  sole-all W b at no_vertices p = tt
+  sole-all W b at (and_vertex u us) p = sole-append (inlined W b at u) _ (sole-vertex W b at u p.0) (sole-all W (b + count u) at us p.1)
 
-sole-main : (main : tree.Vertex) → IsPlain main → IsSingle main → AllSole (operations main)
-sole-main (vertex l us) p s = sole-all (wire (wirings 0 us) []) 0 (λ q. q) us p.1 s.1
+sole-main : (main : tree.Vertex) → IsPlain main → AllSole (operations main)
+sole-main (vertex l us) p = sole-all (wire (wirings 0 us) []) 0 (λ q. q) us p.1
 
 -- what has a length is told by a flat source
 module _ (vertices : List Vertex) where
@@ -92,11 +95,6 @@ module _ (vertices : List Vertex) where
   guards-back [] h = refl
   guards-back (g ∷ gs) h = ap₂ (λ x xs. x ∷ xs) (λ i. record { source = source-back g.source (let one = h.0.0 in omega (arith, one)) i; values = g.values; case = g.case }) (guards-back gs h.1)
 
-one_of : (vs : List Vector) → length vs ≡ 1 → vs ≡ slice_index_or vs 0 [] ∷ []
-one_of [] h = absurd (omega (arith, h))
-one_of (v ∷ []) h = refl
-one_of (v ∷ (w ∷ vs)) h = absurd (omega (arith, h))
-
 task-back : (bodies before rest : List (List Expr)) (b : ℕ) (t : Task) → IsSole t → bodies ≡ before ++ (body_of t ++ rest) → length before ≡ b → t ≡ task_of bodies (flat_kind b t)
 task-back bodies before rest b (runs (sensor n)) s e l = refl
 task-back bodies before rest b (runs (actuator n)) s e l = refl
@@ -109,7 +107,7 @@ task-back bodies before rest b (runs (delay vs)) s e l = absurd s
 task-back bodies before rest b (runs (graph outs)) s e l = absurd s
 task-back bodies before rest b (runs (switch values names)) s e l = absurd s
 task-back bodies before rest b (runs (repeat n feeds gives)) s e l = absurd s
-task-back bodies before rest b (gets vs) s e l = ap gets (one_of vs s)
+task-back bodies before rest b (gets v) s e l = refl
 task-back bodies before rest b sets s e l = refl
 
 -- where an operation stands before this one, its number is not 0
@@ -119,7 +117,7 @@ Behind (Some op) v = (u : ℕ) × (v ≡ suc u)
 
 twin-back : (before : Option Operation) (op : Operation) (v : ℕ) (t : Task) → IsHalf t before op → Behind before v → IsTwin v t (twin_of v t)
 twin-back before op v (runs k) h b = refl
-twin-back before op v (gets vs) h b = refl
+twin-back before op v (gets z) h b = refl
 twin-back None op v sets h b = absurd h
 twin-back (Some get) op v sets h b = (b.0, b.1, ap (λ n. Some n) (let e = b.1 in omega (arith, e)))
 
@@ -130,6 +128,7 @@ stand-all vertices bodies before prev v b (op ∷ ops) e l s f h n = (
   record {
     same = λ i. record {
       path = op.path;
+      stage = op.stage;
       definition = op.definition;
       ins = sources-back vertices op.ins f.0.ins i;
       guards = guards-back vertices op.guards f.0.guards i;
@@ -160,18 +159,18 @@ outs-from vertices b (op ∷ ops) h = (
 outs-made : (ops : List Operation) → Outs (long (graph_of ops).vertices) (λ k. refl) 0 ops
 outs-made ops = outs-from (graph_of ops).vertices 0 ops (λ i op is p. subst (λ m. long (graph_of ops).vertices (Of m p) ≡ slice_index_or op.outs p 0) (sym (zero-add i)) (made-at p 0 0 ops i op is))
 
-inlined-stands : (main : tree.Vertex) → IsTree main → IsPlain main → IsSingle main → Stands (graph_of (operations main)) (operations main)
-inlined-stands main h plain single =
+inlined-stands : (main : tree.Vertex) → IsTree main → IsPlain main → Stands (graph_of (operations main)) (operations main)
+inlined-stands main h plain =
     let ops = operations main in
-    stand-all (graph_of ops).vertices (bodies_of ops) [] None 0 0 ops refl refl (sole-main main plain single) (fit-main (long (graph_of ops).vertices) (λ k. refl) main h plain (outs-made ops)) (follow-main main) tt
+    stand-all (graph_of ops).vertices (bodies_of ops) [] None 0 0 ops refl refl (sole-main main plain) (fit-main (long (graph_of ops).vertices) (λ k. refl) main h plain (outs-made ops)) (follow-main main) tt
 
 pub flat_of_stands : FlatOfStands
-flat_of_stands main h single =
-    inlined-stands (guard (unroll main)) (tree-guard (unroll main) (tree-unroll main h) (no-unroll main)) (flattened.flattened-plain main h) (one-guard (unroll main) (one-unroll main single))
+flat_of_stands main h =
+    inlined-stands (guard (unroll main)) (tree-guard (unroll main) (tree-unroll main h) (no-unroll main)) (flattened.flattened-plain main h)
 
 pub trees_have_flat : TreesHaveFlat
-trees_have_flat main h single names bounds =
-    let stands = flat_of_stands main h single in
+trees_have_flat main h names bounds =
+    let stands = flat_of_stands main h in
     let named = names-guard (unroll main) (tree-unroll main h) (names-unroll main h names) in
     record {
       tree = h;

@@ -2,7 +2,7 @@
 use Rattle.std.specs.Prelude.{◌≡◌, ℕ, IsTrue, List, Ok}
 use Rattle.outside.specs.Bytes.{Bytes}
 use Rattle.syn_base.specs.Rows.{Reactions, AreCut}
-use Rattle.algo_defs.specs.declared.definition.Def.{Def}
+use Rattle.algo_defs.specs.declared.definition.Defs.{Defs}
 use Rattle.algo_text.specs.Text.{definitions_of}
 use Rattle.algo_rules.specs.Resolved.{resolution_of}
 use Rattle.algo_tree.specs.Tree.{Vertex}
@@ -14,7 +14,7 @@ use Rattle.accepted_laws.specs.Flat.{HasFlat}
 
 -- definitions that are accepted have a flat graph
 abbrev pub AcceptedHaveFlat : Type 0
-AcceptedHaveFlat = (text : Bytes) (defs : List Def) (main : Vertex) → definitions_of text ≡ Ok defs → resolution_of defs ≡ Ok main → HasFlat main
+AcceptedHaveFlat = (text : Bytes) (defs : Defs) (main : Vertex) → definitions_of text ≡ Ok defs → resolution_of defs.defs ≡ Ok main → HasFlat main
 
 -- a described architecture is one
 abbrev pub DescribedAreArchitectures : Type 0

@@ -1,7 +1,7 @@
 -- The flat graph of a tree by itself: it stands for the flat list, is valid, and keeps the meaning.
-use Rattle.std.specs.Prelude.{◌≡◌, ℕ, true, List, length}
+use Rattle.std.specs.Prelude.{◌≡◌, ℕ, true, List}
 use Rattle.level_meaning.specs.Level.{Values}
-use Rattle.algo_tree.specs.Tree.{Kind, delay, Vertex, vertex, Vertices, no_vertices, and_vertex}
+use Rattle.algo_tree.specs.Tree.{Vertex}
 use Rattle.algo_tree.specs.Valid.{IsTree}
 use Rattle.algo_tree.specs.Meaning.{act_row}
 use Rattle.flat_graph.specs.Graph.{Graph}
@@ -16,22 +16,9 @@ use Rattle.flat_laws.specs.EndLengths.{HasEndLengths}
 use Rattle.flat_laws.specs.Stands.{Stands}
 use Rattle.flat_laws.specs.FlatOf.{flat_of}
 
--- a delay keeps one value
-abbrev pub IsKindSingle : Kind → Type 0
-IsKindSingle (delay vs) = length vs ≡ 1
-IsKindSingle _ = Unit {0}
-
-abbrev mutual
-  pub IsSingle : Vertex → Type 0
-  IsSingle (vertex l us) = IsKindSingle l.kind × AllSingle us
-
-  pub AllSingle : Vertices → Type 0
-  AllSingle no_vertices = Unit {0}
-  AllSingle (and_vertex u us) = IsSingle u × AllSingle us
-
 -- the flat graph that is defined stands for the flat list
 abbrev pub FlatOfStands : Type 0
-FlatOfStands = (main : Vertex) → IsTree main → IsSingle main → Stands (flat_of main) (operations (guard (unroll main)))
+FlatOfStands = (main : Vertex) → IsTree main → Stands (flat_of main) (operations (guard (unroll main)))
 
 -- it is valid, its sensors and actuators have the tree's lengths, and its actuators take what the tree's take
 pub record HasFlat (main : Vertex) : Type 0 where
@@ -41,7 +28,7 @@ pub record HasFlat (main : Vertex) : Type 0 where
   pub taken : (rows : List Values) (k : ℕ) → flat_act_row (flat_of main) rows (initial_cells (flat_of main).vertices) k ≡ act_row main rows k
 
 abbrev pub TreesHaveFlat : Type 0
-TreesHaveFlat = (main : Vertex) → IsTree main → IsSingle main → HasNames main → HasBounds main → HasFlat main
+TreesHaveFlat = (main : Vertex) → IsTree main → HasNames main → HasBounds main → HasFlat main
 
 -- Any flat graph that stands for the tree, in each reaction over all rows, from the initial values of its delays.
 abbrev pub FlatTakesTheSame : Type 0

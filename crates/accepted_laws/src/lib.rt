@@ -7,8 +7,7 @@
 ghost use Rattle.accepted_laws.specs.Accepted.{AcceptedHaveFlat, DescribedAreArchitectures, TablesFit};
 ghost use Rattle.accepted_laws.specs.Flat.{FlatOfStands, FlatTakesTheSame, TreesHaveFlat};
 
-/// The flat graph that is defined for a tree stands for the tree's flat list, where each delay keeps one
-/// value.
+/// The flat graph that is defined for a tree stands for the tree's flat list.
 pub fn flat_of_stands()
     ensures { FlatOfStands }
 {}

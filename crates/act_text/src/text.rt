@@ -2,7 +2,7 @@
 ghost use Rattle.std.specs.Prelude.{◌≡◌, ◌+◌, ◌<◌, ◌≤◌, ◌++◌, [], length, map, slice_index_or, IfOk, OnOk};
 ghost use Rattle.algo_tree.specs.Ends.{actuator_lengths};
 ghost use Rattle.act_text.specs.Names.{actuator_names};
-ghost use Rattle.act_text.specs.Text.{values_text, actuator_line, reaction_text, output_text};
+ghost use Rattle.act_text.specs.Text.{values_text, actuator_line, reaction_text, text_from, output_text};
 
 use crate::names::actuators_of;
 use algo_tree::Tree;
@@ -16,35 +16,57 @@ pub fn acts_text(alloc: Global, tree: &Tree, acts: &ActRows) -> Result<Vec<u8>, 
     requires { acts.now.lens ≡ actuator_lengths tree.now }
     ensures { IfOk result (λ text. text.items ≡ output_text (actuator_names tree.now) acts.now.reactions) }
 {
+    let _count = acts.count();
+    acts_text_from(alloc, tree, acts, 0)
+}
+
+/// The lines of these rows where the first of them is that of reaction `first`.
+pub fn acts_text_from(
+    alloc: Global,
+    tree: &Tree,
+    acts: &ActRows,
+    first: usize,
+) -> Result<Vec<u8>, OutOfMemory>
+    requires lens { acts.now.lens ≡ actuator_lengths tree.now }
+    requires numbers { first + length acts.now.reactions ≤ usize.MAX }
+    ensures { IfOk result (λ text. text.items ≡ text_from first (actuator_names tree.now) acts.now.reactions) }
+{
     let names = actuators_of(alloc, tree)?;
-    output(alloc, &names, acts)
+    output(alloc, &names, acts, first)
 }
 
 /// For each reaction in order and each actuator in declared order the line `k name v0 v1` and so on.
-fn output(alloc: Global, names: &[&[u8]], rows: &ActRows) -> Result<Vec<u8>, OutOfMemory>
-    requires { length names.now ≤ length rows.now.lens }
-    ensures { IfOk result (λ text. text.items ≡ output_text (map (λ s. s.now) names.now) rows.now.reactions) }
+fn output(
+    alloc: Global,
+    names: &[&[u8]],
+    rows: &ActRows,
+    first: usize,
+) -> Result<Vec<u8>, OutOfMemory>
+    requires names { length names.now ≤ length rows.now.lens }
+    requires numbers { first + length rows.now.reactions ≤ usize.MAX }
+    ensures { IfOk result (λ text. text.items ≡ text_from first (map (λ s. s.now) names.now) rows.now.reactions) }
 {
     let mut text = Vec::new(alloc);
     for k in 0..rows.count() {
-        append_reaction(&mut text, names, rows, k)?;
+        append_reaction(&mut text, names, rows, k, first + k)?;
     }
     Ok(text)
 }
 
-/// Appends the lines of reaction k.
+/// Appends the lines of row k, which is that of reaction `number`.
 fn append_reaction(
     text: &mut Vec<u8>,
     names: &[&[u8]],
     rows: &ActRows,
     k: usize,
+    number: usize,
 ) -> Result<(), OutOfMemory>
     requires names { length names.now ≤ length rows.now.lens }
     requires reaction { k < length rows.now.reactions }
-    ensures { OnOk result (text.new.items ≡ text.old.items ++ reaction_text k 0 (map (λ s. s.now) names.now) (slice_index_or rows.now.reactions k [])) }
+    ensures { OnOk result (text.new.items ≡ text.old.items ++ reaction_text number 0 (map (λ s. s.now) names.now) (slice_index_or rows.now.reactions k [])) }
 {
     for (a, name) in names.iter().enumerate() {
-        append_line(text, k, name, rows.vector(k, a))?;
+        append_line(text, number, name, rows.vector(k, a))?;
     }
     Ok(())
 }
@@ -85,8 +107,9 @@ mod tests {
             rows.push(&row)?;
         }
         assert!(rt; names.len() <= rows.lens().len());
-        let text = output(alloc, &names, &rows)?;
-        let lines = b"0 a 5\n0 b -7 0\n1 a -1\n1 b 9 -9223372036854775808\n";
+        assert_eq!(rt; rows.count(), 2);
+        let text = output(alloc, &names, &rows, 255)?;
+        let lines = b"255 a 5\n255 b -7 0\n256 a -1\n256 b 9 -9223372036854775808\n";
         assert_eq!(rt; text.as_slice(), lines.as_slice());
         Ok(())
     }

@@ -33,7 +33,7 @@ pub named_few : (b : Body) → IsWellRead b → length (named b) ≤ 65
 named_few (Sensor n) h = omega arith
 named_few (Actuator n) h = omega arith
 named_few (Constant values) h = omega arith
-named_few (Delay values) h = omega arith
+named_few (Delay depth values) h = omega arith
 named_few (Function ins outs) h = omega arith
 named_few (Graph ins outs references edges) h = omega (arith, as_many (λ r. r.def) references, h.few)
 named_few (Switch on ins outs cases otherwise last) h = omega (arith, length-append (map (λ c. c.def) cases) (otherwise ∷ []), as_many (λ c. c.def) cases, h.few)
@@ -99,7 +99,7 @@ module _ (ds : List Def) (n : ℕ) (counts : List ℕ) (a : AreCounts ds n count
   body_is (Sensor m) ps h = refl
   body_is (Actuator m) ps h = refl
   body_is (Constant values) ps h = refl
-  body_is (Delay values) ps h = refl
+  body_is (Delay depth values) ps h = refl
   body_is (Function ins outs) ps h = refl
   body_is (Graph ins outs references edges) ps h = sums _ ps h ∙ sum_mapped of (λ r. r.def) references
   body_is (Switch on ins outs cases otherwise last) ps h =
@@ -121,7 +121,7 @@ module _ (ds : List Def) (n : ℕ) (counts : List ℕ) (a : AreCounts ds n count
   body_most (Sensor m) ps h r = omega (arith, some_most n)
   body_most (Actuator m) ps h r = omega (arith, some_most n)
   body_most (Constant values) ps h r = omega (arith, some_most n)
-  body_most (Delay values) ps h r = omega (arith, some_most n)
+  body_most (Delay depth values) ps h r = omega (arith, some_most n, r.most)
   body_most (Function ins outs) ps h r = omega (arith, some_most n)
   body_most (Graph ins outs references edges) ps h r =
       omega (arith, sum_most _ ps h, times (length (map (λ x. x.def) references)) 65 (named_few (Graph ins outs references edges) r), some_most n)

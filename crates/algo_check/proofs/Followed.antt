@@ -22,7 +22,7 @@ module _ (ds : List Def) where
   same_body f g n (Sensor len) ps at low same = refl
   same_body f g n (Actuator len) ps at low same = refl
   same_body f g n (Constant values) ps at low same = refl
-  same_body f g n (Delay values) ps at low same = refl
+  same_body f g n (Delay depth values) ps at low same = refl
   same_body f g n (Function ins outs) ps at low same = refl
   same_body f g n (Graph ins outs references edges) ps at low same = refl
   same_body f g n (Switch on ins outs cases otherwise last) ps at low same = refl

@@ -15,7 +15,7 @@ row ds k = slice_index_or (links_of ds) k []
 
 -- the count of a body, from the count of all together that it names
 abbrev pub count_here : ℕ → Body → ℕ
-count_here inner (Delay values) = 2
+count_here inner (Delay depth values) = 2 * depth
 count_here inner (Graph ins outs references edges) = inner
 count_here inner (Switch on ins outs cases otherwise last) = inner + length outs
 count_here inner (Repeat copies def lines) = copies * inner + sum_by is_fork lines

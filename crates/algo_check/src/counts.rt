@@ -142,7 +142,7 @@ fn count_in_all(counts: &[u128], places: &[u32]) -> u128
 }
 
 /// The count of a definition whose inner ones have this count together: a delay stands for two
-/// operations, a switch for a merge of each output besides, and a repetition for its copies, with an
+/// operations for each reaction that it looks back, a switch for a merge of each output besides, and a repetition for its copies, with an
 /// explode or an implode of each fork or join line.
 fn count_of(body: &Body, inner: u128) -> u128
     requires read { IsWellRead body.now }
@@ -150,7 +150,7 @@ fn count_of(body: &Body, inner: u128) -> u128
     ensures { result ≡ count_here inner body.now }
 {
     match body {
-        Body::Delay(_) => 2,
+        Body::Delay(depth, _) => 2 * u128::from(*depth),
         Body::Graph { .. } => inner,
         Body::Switch { outs, .. } => inner + outs.as_slice().len() as u128,
         Body::Repeat { copies, lines, .. } => {

@@ -84,8 +84,9 @@ pub enum Body {
     /// The length of its input `i`.
     Actuator(u32),
     Constant(Items<i64>),
-    /// The initial values.
-    Delay(Items<i64>),
+    /// The depth, from 1, and the initial values: as many groups of equal length, in the order in which
+    /// the delay gives them.
+    Delay(u32, Items<i64>),
     Function {
         ins: Items<Port>,
         outs: Items<Output>,
@@ -121,8 +122,9 @@ pub struct Def {
     pub body: Body,
 }
 
-/// The definitions of a text, in order.
+/// The definitions of a text, in order, with the version that its first line gives.
 #[derive(Drop)]
 pub struct Defs {
+    pub version: u32,
     pub defs: Items<Def>,
 }

@@ -36,6 +36,8 @@ pub enum AlgoCause {
     /// The definition that the line names, which may not stand there.
     Misplaced(Name),
     BadRepeat,
+    /// A number of initial values that is no multiple of the depth of their delay.
+    BadDelay,
 }
 
 /// A refusal, at a line of the text, from 1; line 0 is the whole.

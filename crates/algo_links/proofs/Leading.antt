@@ -76,7 +76,7 @@ names_are : (n : ℕ) (b : Body) → map (λ m. m.def) (mentions_in n b) ≡ nam
 names_are n (Sensor len) = refl
 names_are n (Actuator len) = refl
 names_are n (Constant values) = refl
-names_are n (Delay values) = refl
+names_are n (Delay depth values) = refl
 names_are n (Function ins outs) = refl
 names_are n (Graph ins outs references edges) = twice (λ m. m.def) (λ r. record { line = r.line; def = r.def; is_reference = true }) references
 names_are n (Switch on ins outs cases otherwise last) =

@@ -104,6 +104,7 @@ fn told(
     add(alloc, &mut defs, 2, first, body)?;
     add(alloc, &mut defs, 20, second, second_body)?;
     let defs = Defs {
+        version: 1,
         defs: Items::new(defs),
     };
     Ok(line(alloc, &defs))
@@ -142,7 +143,7 @@ fn definitions_stand_where_they_may(rt: HostRuntime) -> Result<(), Fail> {
     assert_eq!(rt; sensor_in(rt.alloc(), b"main")?, 0);
     assert_eq!(rt; main_as_case(rt.alloc(), b"V")?, 22 - 1000);
     assert_eq!(rt; main_as_case(rt.alloc(), b"W")?, 21);
-    let delay = Body::Delay(Items::new(vec![in rt.alloc(); 1]?));
+    let delay = Body::Delay(1, Items::new(vec![in rt.alloc(); 1]?));
     let outer = repetition(rt.alloc(), b"D")?;
     assert_eq!(rt; told(rt.alloc(), b"D", delay, b"R", outer)?, 20);
     Ok(())
@@ -166,7 +167,7 @@ fn with_delay(alloc: Global) -> Result<Defs, Fail>
         &mut defs,
         9,
         b"Mem",
-        Body::Delay(Items::new(Vec::new(alloc))),
+        Body::Delay(1, Items::new(Vec::new(alloc))),
     )?;
     let main = graph(
         alloc,
@@ -180,6 +181,7 @@ fn with_delay(alloc: Global) -> Result<Defs, Fail>
     )?;
     add(alloc, &mut defs, 10, b"main", main)?;
     Ok(Defs {
+        version: 1,
         defs: Items::new(defs),
     })
 }

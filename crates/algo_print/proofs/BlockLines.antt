@@ -61,18 +61,18 @@ pub into_block : (r : Reading) (x : Result Block AlgoError) (after : Reading) �
 into_block r (Ok b) after h = record { block = b; is = refl; after_is = same_ok _ after h }
 into_block r (Err e) after h = cc
 
-module _ (k : Numbered) (s : Stage) (names : List Bytes) (defs : List Def) (b : Block) (same : AreSame k defs b) (open_is : (c : Block) → lines_at s defs c ≡ version_words ∷ (definition_lines defs ++ open_lines s c)) where
+module _ (k : Numbered) (s : Stage) (version : ℕ) (names : List Bytes) (defs : List Def) (b : Block) (same : AreSame k defs b) (open_is : (c : Block) → lines_at s version defs c ≡ version_words version ∷ (definition_lines version defs ++ open_lines s c)) where
   -- a line of the block, by the block that it makes
   pub block_adds : (c : Block) (ws : List Bytes) (next : ℕ → Numbered) → are_words ws ≡ true → (length ws == 0) ≡ false
       → open_lines s c ≡ open_lines s b ++ ws ∷ []
-      → ((m : ℕ) → by_stage s (numbered k (record { stage = s; names = names; defs = defs; block = b })) m ws (joined ws) ≡ Ok (numbered (next m) (record { stage = s; names = names; defs = defs; block = c })))
+      → ((m : ℕ) → by_stage s (numbered k (record { stage = s; version = version; names = names; defs = defs; block = b })) m ws (joined ws) ≡ Ok (numbered (next m) (record { stage = s; version = version; names = names; defs = defs; block = c })))
       → ((m : ℕ) → AreSame (next m) defs c) → IsOrdered s defs c
-      → Adds k s names defs b (record { stage = s; names = names; defs = defs; block = c })
+      → Adds k s version names defs b (record { stage = s; version = version; names = names; defs = defs; block = c })
   block_adds c ws next plain some lines again alike ordered = record {
     words = ws;
     plain = plain;
     some = some;
-    lines = open_is c ∙ ap (λ (ls : Lines). version_words ∷ ls) (behind (definition_lines defs) (open_lines s b) (open_lines s c) ws lines) ∙ ap (λ (ls : Lines). ls ++ ws ∷ []) (sym (open_is b));
+    lines = open_is c ∙ ap (λ (ls : Lines). version_words version ∷ ls) (behind (definition_lines version defs) (open_lines s b) (open_lines s c) ws lines) ∙ ap (λ (ls : Lines). ls ++ ws ∷ []) (sym (open_is b));
     next = next;
     reads = again;
     same = alike;
@@ -80,23 +80,23 @@ module _ (k : Numbered) (s : Stage) (names : List Bytes) (defs : List Def) (b : 
     printable = λ p. p;
   }
 
-  definitions_with : (body : Body) → body_lines b.name body ≡ open_lines s b ++ end_words ∷ []
-      → definition_lines (defs ++ record { name = b.name; line = b.line; body = body } ∷ []) ≡ (definition_lines defs ++ open_lines s b) ++ end_words ∷ []
+  definitions_with : (body : Body) → body_lines version b.name body ≡ open_lines s b ++ end_words ∷ []
+      → definition_lines version (defs ++ record { name = b.name; line = b.line; body = body } ∷ []) ≡ (definition_lines version defs ++ open_lines s b) ++ end_words ∷ []
   definitions_with body lines =
-      definitions_joined defs (record { name = b.name; line = b.line; body = body } ∷ [])
-      ∙ ap (λ (ls : Lines). definition_lines defs ++ ls) (append-nil (body_lines b.name body))
-      ∙ behind (definition_lines defs) (open_lines s b) (body_lines b.name body) end_words lines
+      definitions_joined version defs (record { name = b.name; line = b.line; body = body } ∷ [])
+      ∙ ap (λ (ls : Lines). definition_lines version defs ++ ls) (append-nil (body_lines version b.name body))
+      ∙ behind (definition_lines version defs) (open_lines s b) (body_lines version b.name body) end_words lines
 
   -- the line that ends the block
-  pub end_adds : (body : Body) (renumbered : Body) → body_lines b.name body ≡ open_lines s b ++ end_words ∷ [] → bare_body renumbered ≡ bare_body body → IsPrintable body
-      → ((m : ℕ) → by_stage s (numbered k (record { stage = s; names = names; defs = defs; block = b })) m end_words (joined end_words)
-      ≡ Ok (record { stage = between; names = names; defs = k.defs ++ record { name = b.name; line = k.line; body = renumbered } ∷ []; block = numbered_block k b }))
-      → Adds k s names defs b (record { stage = between; names = names; defs = defs ++ record { name = b.name; line = b.line; body = body } ∷ []; block = b })
+  pub end_adds : (body : Body) (renumbered : Body) → body_lines version b.name body ≡ open_lines s b ++ end_words ∷ [] → bare_body renumbered ≡ bare_body body → IsPrintable body
+      → ((m : ℕ) → by_stage s (numbered k (record { stage = s; version = version; names = names; defs = defs; block = b })) m end_words (joined end_words)
+      ≡ Ok (record { stage = between; version = version; names = names; defs = k.defs ++ record { name = b.name; line = k.line; body = renumbered } ∷ []; block = numbered_block k b }))
+      → Adds k s version names defs b (record { stage = between; version = version; names = names; defs = defs ++ record { name = b.name; line = b.line; body = body } ∷ []; block = b })
   end_adds body renumbered lines alike printable again = record {
     words = end_words;
     plain = refl;
     some = refl;
-    lines = ap (λ (ls : Lines). version_words ∷ ls) (definitions_with body lines) ∙ ap (λ (ls : Lines). ls ++ end_words ∷ []) (sym (open_is b));
+    lines = ap (λ (ls : Lines). version_words version ∷ ls) (definitions_with body lines) ∙ ap (λ (ls : Lines). ls ++ end_words ∷ []) (sym (open_is b));
     next = λ m. record k { defs = k.defs ++ record { name = b.name; line = k.line; body = renumbered } ∷ [] };
     reads = again;
     same = λ m. record {

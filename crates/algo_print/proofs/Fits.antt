@@ -1,5 +1,5 @@
 -- A number that a text is fits 64 bits.
-use Rattle.std.proofs.Common.{◌≡◌, Option, Some, Result, Ok, Err, ℤ, subst, w64, FitsSigned}
+use Rattle.std.proofs.Common.{◌≡◌, Some, Result, Ok, Err, ℤ, subst, w64, FitsSigned}
 use Rattle.syn_base.specs.declared.integer.NumFault.{NumFault}
 use Rattle.syn_base.specs.Integer.{integer_of}
 use Rattle.body_text.proofs.CanonicalSound.{Fitting, integer_fits}

@@ -130,11 +130,11 @@ more_printable names os o is are = All-append (λ x. IsRead names x.formula) os 
 none_printable : (names : List Bytes) (os : List Output) → os ≡ [] → All (λ x. IsRead names x.formula) os
 none_printable names os none = subst (λ (l : List Output). All (λ x. IsRead names x.formula) l) (sym none) (All-nil (λ x. IsRead names x.formula))
 
-module _ (k : Numbered) (names : List Bytes) (defs : List Def) (b : Block) (same : AreSame k defs b) (order : FunctionOrder b) where
+module _ (k : Numbered) (version : ℕ) (names : List Bytes) (defs : List Def) (b : Block) (same : AreSame k defs b) (order : FunctionOrder b) where
   abbrev here : Reading
-  here = record { stage = in_function; names = names; defs = defs; block = b }
+  here = record { stage = in_function; version = version; names = names; defs = defs; block = b }
 
-  input_step : (n : ℕ) (ws : List Bytes) (r : Reading) → in_block here (in_line b n ws) ≡ Ok r → Adds k in_function names defs b r
+  input_step : (n : ℕ) (ws : List Bytes) (r : Reading) → in_block here (in_line b n ws) ≡ Ok r → Adds k in_function version names defs b r
   input_step n ws r h =
       let into : IntoBlock here (in_line b n ws) r = into_block here (in_line b n ws) r h in
       let i : InRead b into.block = in_read b n ws into.block into.is in
@@ -143,35 +143,35 @@ module _ (k : Numbered) (names : List Bytes) (defs : List Def) (b : Block) (same
       let lines : function_lines c.ins b.results ≡ function_lines b.ins b.results ++ port_words (codes "in") i.port ∷ [] =
       ap (λ (os : List Output). function_lines c.ins os) none ∙ in_front (port_words (codes "in")) b.ins i.port [] refl
       ∙ ap (λ (os : List Output). function_lines b.ins os ++ port_words (codes "in") i.port ∷ []) (sym none) in
-      subst (λ (x : Reading). Adds k in_function names defs b x) (ap (λ (x : Block). record here { block = x }) i.after_is ∙ into.after_is)
-      (block_adds k in_function names defs b same (λ x. refl) c (port_words (codes "in") i.port) (λ m. k) (i.plain (codes "in") refl) refl
+      subst (λ (x : Reading). Adds k in_function version names defs b x) (ap (λ (x : Block). record here { block = x }) i.after_is ∙ into.after_is)
+      (block_adds k in_function version names defs b same (λ x. refl) c (port_words (codes "in") i.port) (λ m. k) (i.plain (codes "in") refl) refl
       (ap (λ (ls : Lines). (codes "function" ∷ b.name ∷ []) ∷ ls) lines)
       (λ m. ap (in_block (numbered k here)) (i.again k defs m (codes "in") same))
       (λ m. alike k defs b c same refl refl refl refl)
       (record { no_results = λ e. none; printable = none_printable _ b.results none }))
 
-  output_step : (n : ℕ) (code : Bytes) (r : Reading) → in_block here (result_line b n code) ≡ Ok r → Adds k in_function names defs b r
+  output_step : (n : ℕ) (code : Bytes) (r : Reading) → in_block here (result_line b n code) ≡ Ok r → Adds k in_function version names defs b r
   output_step n code r h =
       let into : IntoBlock here (result_line b n code) r = into_block here (result_line b n code) r h in
       let i : ResultRead b into.block = result_read b n code into.block into.is in
       let c : Block = with_output b i.output in
-      subst (λ (x : Reading). Adds k in_function names defs b x) (ap (λ (x : Block). record here { block = x }) i.after_is ∙ into.after_is)
-      (block_adds k in_function names defs b same (λ x. refl) c (output_words b.ins i.output) (λ m. k) i.plain refl
+      subst (λ (x : Reading). Adds k in_function version names defs b x) (ap (λ (x : Block). record here { block = x }) i.after_is ∙ into.after_is)
+      (block_adds k in_function version names defs b same (λ x. refl) c (output_words b.ins i.output) (λ m. k) i.plain refl
       (ap (λ (ls : Lines). (codes "function" ∷ b.name ∷ []) ∷ ls)
       (behind (map (port_words (codes "in")) b.ins) (map (output_words b.ins) b.results) _ (output_words b.ins i.output) (map-append (output_words b.ins) b.results (i.output ∷ []))))
       (λ m. ap (in_block (numbered k here)) (i.again k defs m same))
       (λ m. alike k defs b c same refl refl refl refl)
       (record { no_results = λ e. cc; printable = more_printable _ b.results i.output i.printable order.printable }))
 
-  function_end : (n : ℕ) (ws : List Bytes) (r : Reading) → block_end (nat_lt 0 (length b.results)) (Function b.ins b.results) here n ws ≡ Ok r → Adds k in_function names defs b r
+  function_end : (n : ℕ) (ws : List Bytes) (r : Reading) → block_end (nat_lt 0 (length b.results)) (Function b.ins b.results) here n ws ≡ Ok r → Adds k in_function version names defs b r
   function_end n ws r h =
       let form = passed (not (length ws == 1) || not (nat_lt 0 (length b.results))) _ _ r h in
       let whole = neither (not (length ws == 1)) (not (nat_lt 0 (length b.results))) form.0 in
-      subst (λ (x : Reading). Adds k in_function names defs b x) (same_ok _ r form.1)
-      (end_adds k in_function names defs b same (λ x. refl) (Function b.ins b.results) (Function b.ins b.results) refl refl order.printable
+      subst (λ (x : Reading). Adds k in_function version names defs b x) (same_ok _ r form.1)
+      (end_adds k in_function version names defs b same (λ x. refl) (Function b.ins b.results) (Function b.ins b.results) refl refl order.printable
       (λ m. passes _ _ _ _ whole.1 refl))
 
-  pub function_step : (n : ℕ) (ws : List Bytes) (code : Bytes) (r : Reading) → function_line here n ws code ≡ Ok r → Adds k in_function names defs b r
+  pub function_step : (n : ℕ) (ws : List Bytes) (code : Bytes) (r : Reading) → function_line here n ws code ≡ Ok r → Adds k in_function version names defs b r
   function_step n ws code r h =
       either (begins ws (codes "in")) _ _ r h (input_step n ws r) (λ h1.
       either (begins ws (codes "out")) _ _ r h1 (output_step n code r) (λ h2.

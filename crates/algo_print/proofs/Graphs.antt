@@ -26,9 +26,9 @@ use Rattle.algo_print.proofs.Ends.{end_read, end_again}
 use Rattle.algo_print.proofs.State.{Lines, GraphOrder, Numbered, numbered, AreSame, Adds, more, same_length, same_names}
 use Rattle.algo_print.proofs.BlockLines.{in_front, behind, no_lines, key_words, IntoBlock, into_block, alike, block_adds, end_adds, InRead, in_read, OutRead, out_read}
 
-module _ (k : Numbered) (names : List Bytes) (defs : List Def) (b : Block) (same : AreSame k defs b) (order : GraphOrder b) where
+module _ (k : Numbered) (version : ℕ) (names : List Bytes) (defs : List Def) (b : Block) (same : AreSame k defs b) (order : GraphOrder b) where
   abbrev here : Reading
-  here = record { stage = in_graph; names = names; defs = defs; block = b }
+  here = record { stage = in_graph; version = version; names = names; defs = defs; block = b }
 
   abbrev there : Reading
   there = numbered k here
@@ -56,30 +56,30 @@ module _ (k : Numbered) (names : List Bytes) (defs : List Def) (b : Block) (same
   no_output_lines low = no_lines outputs (references ++ edges) (ap (λ (l : List Port). map (port_words (codes "out")) l) (order.no_outs low)) (no_reference_lines (omega arith))
 
   -- a line makes this block of the open one
-  from : (x : Result Block AlgoError) (r : Reading) (c : Block) (into : IntoBlock here x r) → c ≡ into.block → Adds k in_graph names defs b (record here { block = c }) → Adds k in_graph names defs b r
-  from x r c into is adds = subst (λ (q : Reading). Adds k in_graph names defs b q) (ap (λ (d : Block). record here { block = d }) is ∙ into.after_is) adds
+  from : (x : Result Block AlgoError) (r : Reading) (c : Block) (into : IntoBlock here x r) → c ≡ into.block → Adds k in_graph version names defs b (record here { block = c }) → Adds k in_graph version names defs b r
+  from x r c into is adds = subst (λ (q : Reading). Adds k in_graph version names defs b q) (ap (λ (d : Block). record here { block = d }) is ∙ into.after_is) adds
 
-  input_step : (n : ℕ) (ws : List Bytes) (r : Reading) → in_block here (in_line b n ws) ≡ Ok r → Adds k in_graph names defs b r
+  input_step : (n : ℕ) (ws : List Bytes) (r : Reading) → in_block here (in_line b n ws) ≡ Ok r → Adds k in_graph version names defs b r
   input_step n ws r h =
       let into : IntoBlock here (in_line b n ws) r = into_block here (in_line b n ws) r h in
       let i : InRead b into.block = in_read b n ws into.block into.is in
       let c : Block = record b { ins = b.ins ++ i.port ∷ [] } in
       let low : rank b.part ≤ rank Inputs = (admitted b.part Inputs i.at).1 in
       from (in_line b n ws) r c into i.after_is
-      (block_adds k in_graph names defs b same (λ x. refl) c (port_words (codes "in") i.port) (λ m. k) (i.plain (codes "in") refl) refl
+      (block_adds k in_graph version names defs b same (λ x. refl) c (port_words (codes "in") i.port) (λ m. k) (i.plain (codes "in") refl) refl
       (ap (λ (ls : Lines). (codes "graph" ∷ b.name ∷ []) ∷ ls) (in_front (port_words (codes "in")) b.ins i.port _ (no_output_lines (omega arith))))
       (λ m. ap (in_block there) (i.again k defs m (codes "in") same))
       (λ m. alike k defs b c same refl refl refl refl)
       (record { no_outs = order.no_outs; no_references = order.no_references; no_edges = order.no_edges }))
 
-  output_step : (n : ℕ) (ws : List Bytes) (r : Reading) → in_block here (out_line b n ws) ≡ Ok r → Adds k in_graph names defs b r
+  output_step : (n : ℕ) (ws : List Bytes) (r : Reading) → in_block here (out_line b n ws) ≡ Ok r → Adds k in_graph version names defs b r
   output_step n ws r h =
       let into : IntoBlock here (out_line b n ws) r = into_block here (out_line b n ws) r h in
       let i : OutRead b into.block = out_read b n ws into.block into.is in
       let c : Block = record b { part = Outputs; outs = b.outs ++ i.port ∷ [] } in
       let high : rank b.part ≤ rank Outputs = (admitted b.part Outputs i.at).1 in
       from (out_line b n ws) r c into i.after_is
-      (block_adds k in_graph names defs b same (λ x. refl) c (port_words (codes "out") i.port) (λ m. k) (i.plain (codes "out") refl) refl
+      (block_adds k in_graph version names defs b same (λ x. refl) c (port_words (codes "out") i.port) (λ m. k) (i.plain (codes "out") refl) refl
       (ap (λ (ls : Lines). (codes "graph" ∷ b.name ∷ []) ∷ ls)
       (behind inputs _ _ (port_words (codes "out") i.port) (in_front (port_words (codes "out")) b.outs i.port _ (no_reference_lines (omega arith)))))
       (λ m. ap (in_block there) (i.again k defs m (codes "out") same))
@@ -90,11 +90,11 @@ module _ (k : Numbered) (names : List Bytes) (defs : List Def) (b : Block) (same
   with_reference x = record b { part = References; references = b.references ++ x ∷ [] }
 
   reference_adds : (n : ℕ) (w def : Bytes) → is_name w ≡ true → is_name def ≡ true → admits b.part References ≡ true → is_above limits.References (length b.references + 1) ≡ false → is_among w (map (λ x. x.name) b.references) ≡ false
-      → Adds k in_graph names defs b (record here { block = with_reference (record { name = w; def = def; line = n }) })
+      → Adds k in_graph version names defs b (record here { block = with_reference (record { name = w; def = def; line = n }) })
   reference_adds n w def named known admits_it few free =
       let at : ℕ → Reference = λ m. record { name = w; def = def; line = m } in
       let high : rank b.part ≤ rank References = (admitted b.part References admits_it).1 in
-      block_adds k in_graph names defs b same (λ x. refl) (with_reference (at n)) (reference_words (at n)) (λ m. record k { references = k.references ++ at m ∷ [] })
+      block_adds k in_graph version names defs b same (λ x. refl) (with_reference (at n)) (reference_words (at n)) (λ m. record k { references = k.references ++ at m ∷ [] })
       (key_words (codes "ref") w def refl (name_word w named) (name_word def known)) refl
       (ap (λ (ls : Lines). (codes "graph" ∷ b.name ∷ []) ∷ ls)
       (behind inputs _ _ (reference_words (at n)) (behind outputs _ _ (reference_words (at n)) (in_front reference_words b.references (at n) edges (no_edge_lines (omega arith))))))
@@ -110,7 +110,7 @@ module _ (k : Numbered) (names : List Bytes) (defs : List Def) (b : Block) (same
       })
       (record { no_outs = λ low. absurd (omega (arith, low)); no_references = λ low. absurd (omega (arith, low)); no_edges = λ low. order.no_edges (omega arith) })
 
-  reference_step : (n : ℕ) (ws : List Bytes) (r : Reading) → in_block here (reference_line b n ws) ≡ Ok r → Adds k in_graph names defs b r
+  reference_step : (n : ℕ) (ws : List Bytes) (r : Reading) → in_block here (reference_line b n ws) ≡ Ok r → Adds k in_graph version names defs b r
   reference_step n ws r h =
       let into : IntoBlock here (reference_line b n ws) r = into_block here (reference_line b n ws) r h in
       let form = passed (not (length ws == 3) || not (admits b.part References)) _ _ into.block into.is in
@@ -126,10 +126,10 @@ module _ (k : Numbered) (names : List Bytes) (defs : List Def) (b : Block) (same
   with_edge x = record b { part = Edges; edges = b.edges ++ x ∷ [] }
 
   edge_adds : (n : ℕ) (v w : Bytes) (from_end to_end : End) → end_of v ≡ Some from_end → end_of w ≡ Some to_end
-      → Adds k in_graph names defs b (record here { block = with_edge (record { from = from_end; to = to_end; line = n }) })
+      → Adds k in_graph version names defs b (record here { block = with_edge (record { from = from_end; to = to_end; line = n }) })
   edge_adds n v w from_end to_end first second =
       let at : ℕ → Edge = λ m. record { from = from_end; to = to_end; line = m } in
-      block_adds k in_graph names defs b same (λ x. refl) (with_edge (at n)) (edge_words (at n)) (λ m. record k { edges = k.edges ++ at m ∷ [] })
+      block_adds k in_graph version names defs b same (λ x. refl) (with_edge (at n)) (edge_words (at n)) (λ m. record k { edges = k.edges ++ at m ∷ [] })
       (key_words (codes "edge") (end_word from_end) (end_word to_end) refl ((end_read v from_end first).plain) ((end_read w to_end second).plain)) refl
       (ap (λ (ls : Lines). (codes "graph" ∷ b.name ∷ []) ∷ ls)
       (behind inputs _ _ (edge_words (at n)) (behind outputs _ _ (edge_words (at n)) (behind references edges _ (edge_words (at n)) (map-append edge_words b.edges (at n ∷ []))))))
@@ -143,7 +143,7 @@ module _ (k : Numbered) (names : List Bytes) (defs : List Def) (b : Block) (same
       })
       (record { no_outs = λ low. absurd (omega (arith, low)); no_references = λ low. absurd (omega (arith, low)); no_edges = λ low. absurd (omega (arith, low)) })
 
-  edge_step : (n : ℕ) (ws : List Bytes) (r : Reading) → in_block here (edge_line b n ws) ≡ Ok r → Adds k in_graph names defs b r
+  edge_step : (n : ℕ) (ws : List Bytes) (r : Reading) → in_block here (edge_line b n ws) ≡ Ok r → Adds k in_graph version names defs b r
   edge_step n ws r h =
       let into : IntoBlock here (edge_line b n ws) r = into_block here (edge_line b n ws) r h in
       let form = passed (not (length ws == 3)) _ _ into.block into.is in
@@ -151,15 +151,15 @@ module _ (k : Numbered) (names : List Bytes) (defs : List Def) (b : Block) (same
       let second = found (end_of (word ws 2)) _ _ into.block first.2 in
       from (edge_line b n ws) r _ into (same_ok _ into.block second.2) (edge_adds n (word ws 1) (word ws 2) first.0 second.0 first.1 second.1)
 
-  graph_end : (n : ℕ) (ws : List Bytes) (r : Reading) → block_end true (Graph b.ins b.outs b.references b.edges) here n ws ≡ Ok r → Adds k in_graph names defs b r
+  graph_end : (n : ℕ) (ws : List Bytes) (r : Reading) → block_end true (Graph b.ins b.outs b.references b.edges) here n ws ≡ Ok r → Adds k in_graph version names defs b r
   graph_end n ws r h =
       let form = passed (not (length ws == 1) || not true) _ _ r h in
-      subst (λ (x : Reading). Adds k in_graph names defs b x) (same_ok _ r form.1)
-      (end_adds k in_graph names defs b same (λ x. refl) (Graph b.ins b.outs b.references b.edges) (Graph b.ins b.outs k.references k.edges) refl
+      subst (λ (x : Reading). Adds k in_graph version names defs b x) (same_ok _ r form.1)
+      (end_adds k in_graph version names defs b same (λ x. refl) (Graph b.ins b.outs b.references b.edges) (Graph b.ins b.outs k.references k.edges) refl
       (ap₂ (λ (rs : List Reference) (es : List Edge). Graph b.ins b.outs rs es) same.references_same same.edges_same) tt
       (λ m. refl))
 
-  pub graph_step : (n : ℕ) (ws : List Bytes) (r : Reading) → graph_line here n ws ≡ Ok r → Adds k in_graph names defs b r
+  pub graph_step : (n : ℕ) (ws : List Bytes) (r : Reading) → graph_line here n ws ≡ Ok r → Adds k in_graph version names defs b r
   graph_step n ws r h =
       either (begins ws (codes "in")) _ _ r h (input_step n ws r) (λ h1.
       either (begins ws (codes "out")) _ _ r h1 (output_step n ws r) (λ h2.

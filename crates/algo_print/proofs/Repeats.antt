@@ -53,9 +53,9 @@ behind_four ws h = four ws (equal (length ws) 5 h)
     four (a ∷ b ∷ c ∷ d ∷ []) h = absurd (omega (arith, h))
     four (a ∷ b ∷ c ∷ d ∷ e ∷ f ∷ vs) h = absurd (omega (arith, h))
 
-module _ (k : Numbered) (names : List Bytes) (defs : List Def) (b : Block) (same : AreSame k defs b) where
+module _ (k : Numbered) (version : ℕ) (names : List Bytes) (defs : List Def) (b : Block) (same : AreSame k defs b) where
   abbrev here : Reading
-  here = record { stage = in_repeat; names = names; defs = defs; block = b }
+  here = record { stage = in_repeat; version = version; names = names; defs = defs; block = b }
 
   abbrev there : Reading
   there = numbered k here
@@ -75,10 +75,10 @@ module _ (k : Numbered) (names : List Bytes) (defs : List Def) (b : Block) (same
 
   frontier_adds : (n : ℕ) (f : Frontier) → are_words (words_of_frontier f) ≡ true → (length (words_of_frontier f) == 0) ≡ false
       → ((m : ℕ) → frontier_line there m (words_of_frontier f) ≡ in_block there (Ok (numbered_block (record k { frontier = k.frontier ++ record { frontier = f; line = m } ∷ [] }) (with_line f n))))
-      → Adds k in_repeat names defs b (record here { block = with_line f n })
+      → Adds k in_repeat version names defs b (record here { block = with_line f n })
   frontier_adds n f plain some again =
       let at : ℕ → FrontierLine = λ m. record { frontier = f; line = m } in
-      block_adds k in_repeat names defs b same (λ x. refl) (with_line f n) (words_of_frontier f) (λ m. record k { frontier = k.frontier ++ at m ∷ [] }) plain some
+      block_adds k in_repeat version names defs b same (λ x. refl) (with_line f n) (words_of_frontier f) (λ m. record k { frontier = k.frontier ++ at m ∷ [] }) plain some
       (behind (_ ∷ []) (map frontier_words b.frontier) _ (words_of_frontier f) (map-append frontier_words b.frontier (at n ∷ [])))
       again
       (λ m. record {
@@ -89,8 +89,8 @@ module _ (k : Numbered) (names : List Bytes) (defs : List Def) (b : Block) (same
         frontier_same = more bare_frontier k.frontier b.frontier (at m) (at n) same.frontier_same refl;
       }) tt
 
-  from : (x : Result Block AlgoError) (r : Reading) (c : Block) (into : IntoBlock here x r) → c ≡ into.block → Adds k in_repeat names defs b (record here { block = c }) → Adds k in_repeat names defs b r
-  from x r c into is adds = subst (λ (q : Reading). Adds k in_repeat names defs b q) (ap (λ (d : Block). record here { block = d }) is ∙ into.after_is) adds
+  from : (x : Result Block AlgoError) (r : Reading) (c : Block) (into : IntoBlock here x r) → c ≡ into.block → Adds k in_repeat version names defs b (record here { block = c }) → Adds k in_repeat version names defs b r
+  from x r c into is adds = subst (λ (q : Reading). Adds k in_repeat version names defs b q) (ap (λ (d : Block). record here { block = d }) is ∙ into.after_is) adds
 
   two_names : (n : ℕ) (v w : Bytes) (go : Result Block AlgoError) (after : Block) → all_names n (v ∷ w ∷ []) go ≡ Ok after → (is_name v ≡ true) × (is_name w ≡ true) × (go ≡ Ok after)
   two_names n v w go after h =
@@ -103,7 +103,7 @@ module _ (k : Numbered) (names : List Bytes) (defs : List Def) (b : Block) (same
       → ((x y : Bytes) → words_of_frontier (f x y) ≡ key ∷ x ∷ y ∷ [])
       → ((c : Block) (m : ℕ) (x y : Bytes) → with_frontier c m (f x y) ≡ pair_line c m (f x y) (outer x y))
       → ((m : ℕ) (x y : Bytes) → frontier_line there m (key ∷ x ∷ y ∷ []) ≡ in_block there (all_names m (x ∷ y ∷ []) (with_frontier (numbered_block k b) m (f x y))))
-      → in_block here (all_names n (v ∷ w ∷ []) (with_frontier b n (f v w))) ≡ Ok r → Adds k in_repeat names defs b r
+      → in_block here (all_names n (v ∷ w ∷ []) (with_frontier b n (f v w))) ≡ Ok r → Adds k in_repeat version names defs b r
   pair_step key f outer n v w r key_word words_are line_is key_line h =
       let x : Result Block AlgoError = all_names n (v ∷ w ∷ []) (with_frontier b n (f v w)) in
       let into : IntoBlock here x r = into_block here x r h in
@@ -115,7 +115,7 @@ module _ (k : Numbered) (names : List Bytes) (defs : List Def) (b : Block) (same
       (λ m. ap (frontier_line there m) (words_are v w) ∙ key_line m v w
       ∙ ap (in_block there) (holds _ _ _ _ two.0 (holds _ _ _ _ two.1 (line_is (numbered_block k b) m v w ∙ passes _ _ _ _ (few_again few.0) (passes _ _ _ _ (free_again (outer v w) free.0) refl))))))
 
-  iterate_step : (n : ℕ) (p x y q : Bytes) (r : Reading) → in_block here (all_names n (p ∷ x ∷ y ∷ q ∷ []) (with_frontier b n (Iterate p x y q))) ≡ Ok r → Adds k in_repeat names defs b r
+  iterate_step : (n : ℕ) (p x y q : Bytes) (r : Reading) → in_block here (all_names n (p ∷ x ∷ y ∷ q ∷ []) (with_frontier b n (Iterate p x y q))) ≡ Ok r → Adds k in_repeat version names defs b r
   iterate_step n p x y q r h =
       let line : Result Block AlgoError = all_names n (p ∷ x ∷ y ∷ q ∷ []) (with_frontier b n (Iterate p x y q)) in
       let into : IntoBlock here line r = into_block here line r h in
@@ -132,11 +132,11 @@ module _ (k : Numbered) (names : List Bytes) (defs : List Def) (b : Block) (same
       (λ m. ap (in_block there) (holds _ _ _ _ first.0 (holds _ _ _ _ second.0 (holds _ _ _ _ third.0 (holds _ _ _ _ fourth.0
       (passes _ _ _ _ (few_again few.0) (passes _ _ _ _ (free_again p free.0) (passes _ _ _ _ (ap (λ (ns : List Bytes). is_among q (p ∷ ns)) outer_is ∙ other.0) refl)))))))))
 
-  repeat_end : (n : ℕ) (ws : List Bytes) (r : Reading) → block_end true (Repeat b.copies b.def b.frontier) here n ws ≡ Ok r → Adds k in_repeat names defs b r
+  repeat_end : (n : ℕ) (ws : List Bytes) (r : Reading) → block_end true (Repeat b.copies b.def b.frontier) here n ws ≡ Ok r → Adds k in_repeat version names defs b r
   repeat_end n ws r h =
       let form = passed (not (length ws == 1) || not true) _ _ r h in
-      subst (λ (x : Reading). Adds k in_repeat names defs b x) (same_ok _ r form.1)
-      (end_adds k in_repeat names defs b same (λ x. refl) (Repeat b.copies b.def b.frontier) (Repeat b.copies b.def k.frontier) refl
+      subst (λ (x : Reading). Adds k in_repeat version names defs b x) (same_ok _ r form.1)
+      (end_adds k in_repeat version names defs b same (λ x. refl) (Repeat b.copies b.def b.frontier) (Repeat b.copies b.def k.frontier) refl
       (ap (λ (ls : List FrontierLine). Repeat b.copies b.def ls) same.frontier_same) tt
       (λ m. refl))
 
@@ -148,7 +148,7 @@ module _ (k : Numbered) (names : List Bytes) (defs : List Def) (b : Block) (same
       by true e g = ap (λ (l : List Bytes). in_block here (all_names n l go)) (sym (are e)) ∙ g
       by false e g = cc
 
-  pub frontier_step : (n : ℕ) (ws : List Bytes) (r : Reading) → frontier_line here n ws ≡ Ok r → Adds k in_repeat names defs b r
+  pub frontier_step : (n : ℕ) (ws : List Bytes) (r : Reading) → frontier_line here n ws ≡ Ok r → Adds k in_repeat version names defs b r
   frontier_step n ws r h =
       either (begins ws (codes "fork")) _ _ r h (λ g. pair_step (codes "fork") Fork (λ x y. x) n (word ws 1) (word ws 2) r refl (λ x y. refl) (λ c m x y. refl) (λ m x y. refl) (in_form n 3 ws _ _ r (behind_two ws) g)) (λ h1.
       either (begins ws (codes "diffuse")) _ _ r h1 (λ g. pair_step (codes "diffuse") Diffuse (λ x y. x) n (word ws 1) (word ws 2) r refl (λ x y. refl) (λ c m x y. refl) (λ m x y. refl) (in_form n 3 ws _ _ r (behind_two ws) g)) (λ h2.

@@ -2,7 +2,7 @@
 use Rattle.std.proofs.Common.{◌≡◌, refl, List, [], ◌∷◌, ◌++◌, Result, Ok, Err, codes}
 use Rattle.std.specs.Fmt.{digits}
 use Rattle.body_text.specs.Words.{form_of}
-use Rattle.algo_defs.specs.declared.definition.Def.{Def}
+use Rattle.algo_defs.specs.declared.definition.Defs.{Defs}
 use Rattle.algo_defs.specs.declared.fault.AlgoError.{AlgoError}
 use Rattle.algo_defs.specs.Words.{Bytes}
 use Rattle.algo_text.specs.Text.{definitions_of}
@@ -12,7 +12,7 @@ abbrev text : List Bytes → Bytes
 text [] = []
 text (l ∷ ls) = l ++ 10 ∷ text ls
 
-abbrev printed : Result (List Def) AlgoError → Bytes
+abbrev printed : Result Defs AlgoError → Bytes
 printed (Ok defs) = canonical_text defs
 printed (Err e) = []
 
@@ -20,6 +20,7 @@ abbrev Prints : List Bytes → List Bytes → Type 0
 Prints given made = printed (definitions_of (text given)) ≡ text made
 
 no_definitions : Prints (codes "  algorithm  1 " ∷ []) (codes "algorithm 1" ∷ [])
+unfolding digits
 no_definitions = refl
 
 echo : Prints
@@ -68,3 +69,10 @@ chain : Prints
     (codes "algorithm 1" ∷ codes "repeat Chain 4 Cell" ∷ codes "fork v v" ∷ codes "diffuse w w" ∷ codes "iterate z acc r t" ∷ codes "join r p" ∷ codes "end" ∷ [])
 unfolding digits
 chain = refl
+
+-- the version that was read, and the depth of a delay
+deep : Prints
+    (codes "algorithm  2 # with depths" ∷ codes "delay Mem 01 = 0100" ∷ codes "delay  D 2 =  1 -0 3 04" ∷ codes "constant C = -0" ∷ [])
+    (codes "algorithm 2" ∷ codes "delay Mem 1 = 100" ∷ codes "delay D 2 = 1 0 3 4" ∷ codes "constant C = 0" ∷ [])
+unfolding digits
+deep = refl

@@ -37,13 +37,13 @@ open_lines in_graph b = (codes "graph" ∷ b.name ∷ []) ∷ graph_lines b.ins 
 open_lines in_switch b = (codes "switch" ∷ b.name ∷ []) ∷ open_switch b.part b.on (map (port_words (codes "in")) b.ins ++ (map (port_words (codes "out")) b.outs ++ map case_words b.cases)) b.otherwise
 open_lines in_repeat b = (codes "repeat" ∷ b.name ∷ count b.copies ∷ b.def ∷ []) ∷ map frontier_words b.frontier
 
-abbrev pub lines_at : Stage → List Def → Block → Lines
-lines_at before_version defs b = []
-lines_at between defs b = version_words ∷ definition_lines defs
-lines_at in_function defs b = version_words ∷ (definition_lines defs ++ open_lines in_function b)
-lines_at in_graph defs b = version_words ∷ (definition_lines defs ++ open_lines in_graph b)
-lines_at in_switch defs b = version_words ∷ (definition_lines defs ++ open_lines in_switch b)
-lines_at in_repeat defs b = version_words ∷ (definition_lines defs ++ open_lines in_repeat b)
+abbrev pub lines_at : Stage → ℕ → List Def → Block → Lines
+lines_at before_version version defs b = []
+lines_at between version defs b = version_words version ∷ definition_lines version defs
+lines_at in_function version defs b = version_words version ∷ (definition_lines version defs ++ open_lines in_function b)
+lines_at in_graph version defs b = version_words version ∷ (definition_lines version defs ++ open_lines in_graph b)
+lines_at in_switch version defs b = version_words version ∷ (definition_lines version defs ++ open_lines in_switch b)
+lines_at in_repeat version defs b = version_words version ∷ (definition_lines version defs ++ open_lines in_repeat b)
 
 -- All that holds numbers of lines.
 pub record Numbered : Type 0 where
@@ -93,20 +93,22 @@ IsOrdered in_switch defs b = SwitchOrder b
 IsOrdered in_repeat defs b = Unit {0}
 
 -- A line adds one canonical line, which is read likewise whatever the numbers of lines are.
-pub record Adds (k : Numbered) (s : Stage) (names : List Bytes) (defs : List Def) (b : Block) (r : Reading) : Type 0 where
+pub record Adds (k : Numbered) (s : Stage) (version : ℕ) (names : List Bytes) (defs : List Def) (b : Block) (r : Reading) : Type 0 where
   pub words : List Bytes
   pub plain : are_words words ≡ true
   pub some : (length words == 0) ≡ false
-  pub lines : lines_at r.stage r.defs r.block ≡ lines_at s defs b ++ words ∷ []
+  pub lines : lines_at r.stage r.version r.defs r.block ≡ lines_at s version defs b ++ words ∷ []
   pub next : ℕ → Numbered
-  pub reads : (m : ℕ) → by_stage s (numbered k (record { stage = s; names = names; defs = defs; block = b })) m words (joined words) ≡ Ok (numbered (next m) r)
+  pub reads : (m : ℕ) → by_stage s (numbered k (record { stage = s; version = version; names = names; defs = defs; block = b })) m words (joined words) ≡ Ok (numbered (next m) r)
   pub same : (m : ℕ) → AreSame (next m) r.defs r.block
   pub ordered : IsOrdered r.stage r.defs r.block
   pub printable : ArePrintable defs → ArePrintable r.defs
 
-pub definitions_joined : (ds es : List Def) → definition_lines (ds ++ es) ≡ definition_lines ds ++ definition_lines es
-definitions_joined [] es = refl
-definitions_joined (d ∷ ds) es = ap (λ (ls : Lines). body_lines d.name d.body ++ ls) (definitions_joined ds es) ∙ sym (append_assoc (body_lines d.name d.body) (definition_lines ds) (definition_lines es))
+pub definitions_joined : (version : ℕ) (ds es : List Def) → definition_lines version (ds ++ es) ≡ definition_lines version ds ++ definition_lines version es
+definitions_joined version [] es = refl
+definitions_joined version (d ∷ ds) es =
+    ap (λ (ls : Lines). body_lines version d.name d.body ++ ls) (definitions_joined version ds es)
+    ∙ sym (append_assoc (body_lines version d.name d.body) (definition_lines version ds) (definition_lines version es))
 
 -- one element more on both sides
 pub more : {A B : Type 0} (f : A → B) (xs ys : List A) (x y : A) → map f xs ≡ map f ys → f x ≡ f y → map f (xs ++ x ∷ []) ≡ map f (ys ++ y ∷ [])

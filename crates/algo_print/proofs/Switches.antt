@@ -56,9 +56,9 @@ whole_is : (part : Part) → is_whole part ≡ true → Whole ≡ part
 whole_is Whole h = refl
 whole_is _ h = cc
 
-module _ (k : Numbered) (names : List Bytes) (defs : List Def) (b : Block) (same : AreSame k defs b) (order : SwitchOrder b) where
+module _ (k : Numbered) (version : ℕ) (names : List Bytes) (defs : List Def) (b : Block) (same : AreSame k defs b) (order : SwitchOrder b) where
   abbrev here : Reading
-  here = record { stage = in_switch; names = names; defs = defs; block = b }
+  here = record { stage = in_switch; version = version; names = names; defs = defs; block = b }
 
   abbrev there : Reading
   there = numbered k here
@@ -88,21 +88,21 @@ module _ (k : Numbered) (names : List Bytes) (defs : List Def) (b : Block) (same
   no_input_lines : rank b.part < rank Inputs → inputs ++ (outputs ++ cases) ≡ []
   no_input_lines low = no_lines inputs (outputs ++ cases) (ap (λ (l : List Port). map (port_words (codes "in")) l) (order.no_ins low)) (no_output_lines (omega arith))
 
-  from : (x : Result Block AlgoError) (r : Reading) (c : Block) (into : IntoBlock here x r) → c ≡ into.block → Adds k in_switch names defs b (record here { block = c }) → Adds k in_switch names defs b r
-  from x r c into is adds = subst (λ (q : Reading). Adds k in_switch names defs b q) (ap (λ (d : Block). record here { block = d }) is ∙ into.after_is) adds
+  from : (x : Result Block AlgoError) (r : Reading) (c : Block) (into : IntoBlock here x r) → c ≡ into.block → Adds k in_switch version names defs b (record here { block = c }) → Adds k in_switch version names defs b r
+  from x r c into is adds = subst (λ (q : Reading). Adds k in_switch version names defs b q) (ap (λ (d : Block). record here { block = d }) is ∙ into.after_is) adds
 
-  on_adds : (n : ℕ) (w : Bytes) → is_name w ≡ true → is_conditioning b.part ≡ true → Adds k in_switch names defs b (record here { block = record b { part = Inputs; on = w } })
+  on_adds : (n : ℕ) (w : Bytes) → is_name w ≡ true → is_conditioning b.part ≡ true → Adds k in_switch version names defs b (record here { block = record b { part = Inputs; on = w } })
   on_adds n w named zero =
       let low : rank b.part ≡ 0 = conditioning_is b.part zero in
       let c : Block = record b { part = Inputs; on = w } in
-      block_adds k in_switch names defs b same (λ x. refl) c (codes "on" ∷ w ∷ []) (λ m. k) (and_true (is_word w) true (name_word w named) refl) refl
+      block_adds k in_switch version names defs b same (λ x. refl) c (codes "on" ∷ w ∷ []) (λ m. k) (and_true (is_word w) true (name_word w named) refl) refl
       (ap (λ (ls : Lines). first ∷ (codes "on" ∷ w ∷ []) ∷ ls) (no_input_lines (omega arith))
       ∙ ap (λ (ls : Lines). first ∷ (ls ++ (codes "on" ∷ w ∷ []) ∷ [])) (sym (before_on b.part b.on (inputs ++ (outputs ++ cases)) b.otherwise zero)))
       (λ m. ap (in_block there) (passes _ _ _ _ (ap not zero) (holds _ _ _ _ named refl)))
       (λ m. alike k defs b c same refl refl refl refl)
       (record { no_ins = λ l. order.no_ins (omega arith); no_outs = λ l. order.no_outs (omega arith); no_cases = λ l. order.no_cases (omega arith) })
 
-  on_step : (n : ℕ) (ws : List Bytes) (r : Reading) → in_block here (on_line b n ws) ≡ Ok r → Adds k in_switch names defs b r
+  on_step : (n : ℕ) (ws : List Bytes) (r : Reading) → in_block here (on_line b n ws) ≡ Ok r → Adds k in_switch version names defs b r
   on_step n ws r h =
       let into : IntoBlock here (on_line b n ws) r = into_block here (on_line b n ws) r h in
       let form = passed (not (length ws == 2) || not (is_conditioning b.part)) _ _ into.block into.is in
@@ -117,7 +117,7 @@ module _ (k : Numbered) (names : List Bytes) (defs : List Def) (b : Block) (same
       ap (λ (ls : Lines). first ∷ ls) (behind_on part b.on rest b.otherwise then ∙ ap (λ (ls : Lines). on_words ∷ ls) is)
       ∙ ap (λ (ls : Lines). first ∷ (ls ++ ws ∷ [])) (sym (behind_on b.part b.on (inputs ++ (outputs ++ cases)) b.otherwise now))
 
-  input_step : (n : ℕ) (ws : List Bytes) (r : Reading) → in_block here (in_line b n ws) ≡ Ok r → Adds k in_switch names defs b r
+  input_step : (n : ℕ) (ws : List Bytes) (r : Reading) → in_block here (in_line b n ws) ≡ Ok r → Adds k in_switch version names defs b r
   input_step n ws r h =
       let into : IntoBlock here (in_line b n ws) r = into_block here (in_line b n ws) r h in
       let i : InRead b into.block = in_read b n ws into.block into.is in
@@ -125,20 +125,20 @@ module _ (k : Numbered) (names : List Bytes) (defs : List Def) (b : Block) (same
       let at = admitted b.part Inputs i.at in
       let now : admits b.part Cases ≡ true = inputs_cases b.part i.at in
       from (in_line b n ws) r c into i.after_is
-      (block_adds k in_switch names defs b same (λ x. refl) c (port_words (codes "in") i.port) (λ m. k) (i.plain (codes "in") refl) refl
+      (block_adds k in_switch version names defs b same (λ x. refl) c (port_words (codes "in") i.port) (λ m. k) (i.plain (codes "in") refl) refl
       (one_more b.part _ (port_words (codes "in") i.port) now now (in_front (port_words (codes "in")) b.ins i.port _ (no_output_lines (omega arith))))
       (λ m. ap (in_block there) (i.again k defs m (codes "in") same))
       (λ m. alike k defs b c same refl refl refl refl)
       (record { no_ins = λ low. absurd (omega (arith, low)); no_outs = order.no_outs; no_cases = order.no_cases }))
 
-  output_step : (n : ℕ) (ws : List Bytes) (r : Reading) → in_block here (out_line b n ws) ≡ Ok r → Adds k in_switch names defs b r
+  output_step : (n : ℕ) (ws : List Bytes) (r : Reading) → in_block here (out_line b n ws) ≡ Ok r → Adds k in_switch version names defs b r
   output_step n ws r h =
       let into : IntoBlock here (out_line b n ws) r = into_block here (out_line b n ws) r h in
       let i : OutRead b into.block = out_read b n ws into.block into.is in
       let c : Block = record b { part = Outputs; outs = b.outs ++ i.port ∷ [] } in
       let high : rank b.part ≤ rank Outputs = (admitted b.part Outputs i.at).1 in
       from (out_line b n ws) r c into i.after_is
-      (block_adds k in_switch names defs b same (λ x. refl) c (port_words (codes "out") i.port) (λ m. k) (i.plain (codes "out") refl) refl
+      (block_adds k in_switch version names defs b same (λ x. refl) c (port_words (codes "out") i.port) (λ m. k) (i.plain (codes "out") refl) refl
       (one_more Outputs _ (port_words (codes "out") i.port) (outputs_cases b.part i.at) refl
       (behind inputs _ _ (port_words (codes "out") i.port) (in_front (port_words (codes "out")) b.outs i.port _ (no_case_lines (omega arith)))))
       (λ m. ap (in_block there) (i.again k defs m (codes "out") same))
@@ -149,10 +149,10 @@ module _ (k : Numbered) (names : List Bytes) (defs : List Def) (b : Block) (same
   with_case x = record b { part = Cases; cases = b.cases ++ x ∷ [] }
 
   case_adds : (n : ℕ) (w def : Bytes) (v : ℤ) → number_of w ≡ Some v → is_name def ≡ true → admits b.part Cases ≡ true → is_above limits.Cases (length b.cases + 1) ≡ false
-      → Adds k in_switch names defs b (record here { block = with_case (record { value = v; def = def; line = n }) })
+      → Adds k in_switch version names defs b (record here { block = with_case (record { value = v; def = def; line = n }) })
   case_adds n w def v number named now few =
       let at : ℕ → Case = λ m. record { value = v; def = def; line = m } in
-      block_adds k in_switch names defs b same (λ x. refl) (with_case (at n)) (case_words (at n)) (λ m. record k { cases = k.cases ++ at m ∷ [] })
+      block_adds k in_switch version names defs b same (λ x. refl) (with_case (at n)) (case_words (at n)) (λ m. record k { cases = k.cases ++ at m ∷ [] })
       (key_words (codes "case") (signed_decimal v) def refl (number_word v (number_fits w v number)) (name_word def named)) refl
       (one_more Cases _ (case_words (at n)) now refl
       (behind inputs _ _ (case_words (at n)) (behind outputs cases _ (case_words (at n)) (map-append case_words b.cases (at n ∷ [])))))
@@ -168,7 +168,7 @@ module _ (k : Numbered) (names : List Bytes) (defs : List Def) (b : Block) (same
       })
       (record { no_ins = λ l. absurd (omega (arith, l)); no_outs = λ l. absurd (omega (arith, l)); no_cases = λ l. absurd (omega (arith, l)) })
 
-  case_step : (n : ℕ) (ws : List Bytes) (r : Reading) → in_block here (case_line b n ws) ≡ Ok r → Adds k in_switch names defs b r
+  case_step : (n : ℕ) (ws : List Bytes) (r : Reading) → in_block here (case_line b n ws) ≡ Ok r → Adds k in_switch version names defs b r
   case_step n ws r h =
       let into : IntoBlock here (case_line b n ws) r = into_block here (case_line b n ws) r h in
       let form = passed (not (length ws == 3) || not (admits b.part Cases)) _ _ into.block into.is in
@@ -179,16 +179,16 @@ module _ (k : Numbered) (names : List Bytes) (defs : List Def) (b : Block) (same
       from (case_line b n ws) r _ into (same_ok _ into.block few.1) (case_adds n (word ws 1) (word ws 2) number.0 number.1 named.0 now few.0)
 
   otherwise_adds : (n : ℕ) (w : Bytes) → is_name w ≡ true → admits b.part Cases ≡ true
-      → Adds k in_switch names defs b (record here { block = record b { part = Whole; otherwise = w; otherwise_line = n } })
+      → Adds k in_switch version names defs b (record here { block = record b { part = Whole; otherwise = w; otherwise_line = n } })
   otherwise_adds n w named now =
       let c : Block = record b { part = Whole; otherwise = w; otherwise_line = n } in
-      block_adds k in_switch names defs b same (λ x. refl) c (codes "otherwise" ∷ w ∷ []) (λ m. record k { otherwise_line = m }) (and_true (is_word w) true (name_word w named) refl) refl
+      block_adds k in_switch version names defs b same (λ x. refl) c (codes "otherwise" ∷ w ∷ []) (λ m. record k { otherwise_line = m }) (and_true (is_word w) true (name_word w named) refl) refl
       (ap (λ (ls : Lines). first ∷ (ls ++ (codes "otherwise" ∷ w ∷ []) ∷ [])) (sym (behind_on b.part b.on (inputs ++ (outputs ++ cases)) b.otherwise now)))
       (λ m. ap (in_block there) (passes _ _ _ _ (ap not now) (holds _ _ _ _ named refl)))
       (λ m. record { defs_same = same.defs_same; references_same = same.references_same; edges_same = same.edges_same; cases_same = same.cases_same; frontier_same = same.frontier_same })
       (record { no_ins = λ l. absurd (omega (arith, l)); no_outs = λ l. absurd (omega (arith, l)); no_cases = λ l. absurd (omega (arith, l)) })
 
-  otherwise_step : (n : ℕ) (ws : List Bytes) (r : Reading) → in_block here (otherwise_line b n ws) ≡ Ok r → Adds k in_switch names defs b r
+  otherwise_step : (n : ℕ) (ws : List Bytes) (r : Reading) → in_block here (otherwise_line b n ws) ≡ Ok r → Adds k in_switch version names defs b r
   otherwise_step n ws r h =
       let into : IntoBlock here (otherwise_line b n ws) r = into_block here (otherwise_line b n ws) r h in
       let form = passed (not (length ws == 2) || not (admits b.part Cases)) _ _ into.block into.is in
@@ -203,17 +203,17 @@ module _ (k : Numbered) (names : List Bytes) (defs : List Def) (b : Block) (same
       ap (λ (ls : Lines). first ∷ ls) (sym (append_assoc (switch_lines b.on b.ins b.outs b.cases) ((codes "otherwise" ∷ b.otherwise ∷ []) ∷ []) (end_words ∷ [])))
       ∙ ap (λ (p : Part). (first ∷ open_switch p b.on (inputs ++ (outputs ++ cases)) b.otherwise) ++ end_words ∷ []) (whole_is b.part last)
 
-  switch_end : (n : ℕ) (ws : List Bytes) (r : Reading) → block_end (is_whole b.part) (Switch b.on b.ins b.outs b.cases b.otherwise b.otherwise_line) here n ws ≡ Ok r → Adds k in_switch names defs b r
+  switch_end : (n : ℕ) (ws : List Bytes) (r : Reading) → block_end (is_whole b.part) (Switch b.on b.ins b.outs b.cases b.otherwise b.otherwise_line) here n ws ≡ Ok r → Adds k in_switch version names defs b r
   switch_end n ws r h =
       let form = passed (not (length ws == 1) || not (is_whole b.part)) _ _ r h in
       let whole = neither (not (length ws == 1)) (not (is_whole b.part)) form.0 in
-      subst (λ (x : Reading). Adds k in_switch names defs b x) (same_ok _ r form.1)
-      (end_adds k in_switch names defs b same (λ x. refl) (Switch b.on b.ins b.outs b.cases b.otherwise b.otherwise_line) (Switch b.on b.ins b.outs k.cases b.otherwise k.otherwise_line)
+      subst (λ (x : Reading). Adds k in_switch version names defs b x) (same_ok _ r form.1)
+      (end_adds k in_switch version names defs b same (λ x. refl) (Switch b.on b.ins b.outs b.cases b.otherwise b.otherwise_line) (Switch b.on b.ins b.outs k.cases b.otherwise k.otherwise_line)
       (whole_lines (not_false (is_whole b.part) whole.1))
       (ap (λ (cs : List Case). Switch b.on b.ins b.outs cs b.otherwise 0) same.cases_same) tt
       (λ m. passes _ _ _ _ whole.1 refl))
 
-  pub switch_step : (n : ℕ) (ws : List Bytes) (r : Reading) → switch_line here n ws ≡ Ok r → Adds k in_switch names defs b r
+  pub switch_step : (n : ℕ) (ws : List Bytes) (r : Reading) → switch_line here n ws ≡ Ok r → Adds k in_switch version names defs b r
   switch_step n ws r h =
       either (begins ws (codes "on")) _ _ r h (on_step n ws r) (λ h1.
       either (begins ws (codes "in")) _ _ r h1 (input_step n ws r) (λ h2.

@@ -34,12 +34,12 @@ left_from : (defs : List Def) (i : ℕ) (d : Def) → i < length defs → d ≡ 
 left_from defs i d inside is = let one : suc i ≡ i + 1 = omega arith in drop-cons defs i d inside ∙ ap₂ (λ (e : Def) (k : ℕ). e ∷ drop k defs) (sym is) one
 
 -- one definition more
-pub next_definition : (defs : List Def) (i : ℕ) (d : Def) (name text new whole : Bytes) → name ≡ d.name → i < length defs → d ≡ get_or defs i d
-    → new ≡ text ++ text_of (body_lines name d.body) → text ++ text_of (definition_lines (drop i defs)) ≡ whole
-    → new ++ text_of (definition_lines (drop (i + 1) defs)) ≡ whole
-next_definition defs i d name text new whole named inside is grown before =
-    ap (λ (t : Bytes). t ++ text_of (definition_lines (drop (i + 1) defs))) (grown ∙ ap (λ (n : Bytes). text ++ text_of (body_lines n d.body)) named)
-    ∙ append_assoc text (text_of (body_lines d.name d.body)) (text_of (definition_lines (drop (i + 1) defs)))
-    ∙ ap (λ (t : Bytes). text ++ t) (sym (text_joined (body_lines d.name d.body) (definition_lines (drop (i + 1) defs))))
-    ∙ ap (λ (ds : List Def). text ++ text_of (definition_lines ds)) (sym (left_from defs i d inside is))
+pub next_definition : (version : ℕ) (defs : List Def) (i : ℕ) (d : Def) (name text new whole : Bytes) → name ≡ d.name → i < length defs → d ≡ get_or defs i d
+    → new ≡ text ++ text_of (body_lines version name d.body) → text ++ text_of (definition_lines version (drop i defs)) ≡ whole
+    → new ++ text_of (definition_lines version (drop (i + 1) defs)) ≡ whole
+next_definition version defs i d name text new whole named inside is grown before =
+    ap (λ (t : Bytes). t ++ text_of (definition_lines version (drop (i + 1) defs))) (grown ∙ ap (λ (n : Bytes). text ++ text_of (body_lines version n d.body)) named)
+    ∙ append_assoc text (text_of (body_lines version d.name d.body)) (text_of (definition_lines version (drop (i + 1) defs)))
+    ∙ ap (λ (t : Bytes). text ++ t) (sym (text_joined (body_lines version d.name d.body) (definition_lines version (drop (i + 1) defs))))
+    ∙ ap (λ (ds : List Def). text ++ text_of (definition_lines version ds)) (sym (left_from defs i d inside is))
     ∙ before

@@ -1,9 +1,10 @@
 -- The canonical text of definitions: the one form of each line, words separated by one space, no empty lines and no comments.
-use Rattle.std.specs.Prelude.{ℕ, List, [], ◌∷◌, ◌++◌, map, All, Option, Some, None, codes, ℤ, pos}
+use Rattle.std.specs.Prelude.{ℕ, ◌==◌, if◌then◌else◌, List, [], ◌∷◌, ◌++◌, map, All, Option, Some, None, codes, ℤ, pos}
 use Rattle.std.specs.Fmt.{signed_decimal}
 use Rattle.body_lang.specs.declared.expression.Port.{Port}
 use Rattle.body_text.specs.Canonical.{canonical, IsRead}
 use Rattle.algo_defs.specs.declared.definition.Def.{Def}
+use Rattle.algo_defs.specs.declared.definition.Defs.{Defs}
 use Rattle.algo_defs.specs.declared.definition.Body.{Body}
 use Rattle.algo_defs.specs.declared.definition.Body.TheVariants.{Sensor, Actuator, Constant, Delay, Function, Graph, Switch, Repeat}
 use Rattle.algo_defs.specs.declared.definition.Output.{Output}
@@ -72,6 +73,12 @@ frontier_words l = words_of_frontier l.frontier
 abbrev pub value_words : Bytes → Bytes → List ℤ → List Bytes
 value_words key name values = key ∷ name ∷ codes "=" ∷ map signed_decimal values
 
+-- the depth of a delay stands in its line from version 2 on
+abbrev pub delay_words : ℕ → Bytes → ℕ → List ℤ → List Bytes
+delay_words version name depth values =
+    if version == 1 then value_words (codes "delay") name values else
+    codes "delay" ∷ name ∷ count depth ∷ codes "=" ∷ map signed_decimal values
+
 abbrev pub end_words : List Bytes
 end_words = codes "end" ∷ []
 
@@ -93,27 +100,36 @@ otherwise_lines def = (codes "otherwise" ∷ def ∷ []) ∷ end_words ∷ []
 abbrev pub whole_switch : Bytes → Bytes → List Port → List Port → List Case → Bytes → List (List Bytes)
 whole_switch name on ins outs cases otherwise = (codes "switch" ∷ name ∷ []) ∷ (switch_lines on ins outs cases ++ otherwise_lines otherwise)
 
--- the lines of a definition of this name
-abbrev pub body_lines : Bytes → Body → List (List Bytes)
-body_lines name (Sensor len) = (codes "sensor" ∷ name ∷ count len ∷ []) ∷ []
-body_lines name (Actuator len) = (codes "actuator" ∷ name ∷ count len ∷ []) ∷ []
-body_lines name (Constant values) = value_words (codes "constant") name values ∷ []
-body_lines name (Delay values) = value_words (codes "delay") name values ∷ []
-body_lines name (Function ins outs) = (codes "function" ∷ name ∷ []) ∷ (function_lines ins outs ++ end_words ∷ [])
-body_lines name (Graph ins outs references edges) = (codes "graph" ∷ name ∷ []) ∷ (graph_lines ins outs references edges ++ end_words ∷ [])
-body_lines name (Switch on ins outs cases otherwise line) = whole_switch name on ins outs cases otherwise
-body_lines name (Repeat copies def lines) = (codes "repeat" ∷ name ∷ count copies ∷ def ∷ []) ∷ (map frontier_words lines ++ end_words ∷ [])
+abbrev pub whole_function : Bytes → List Port → List Output → List (List Bytes)
+whole_function name ins outs = (codes "function" ∷ name ∷ []) ∷ (function_lines ins outs ++ end_words ∷ [])
 
-abbrev pub definition_lines : List Def → List (List Bytes)
-definition_lines [] = []
-definition_lines (d ∷ ds) = body_lines d.name d.body ++ definition_lines ds
+abbrev pub whole_graph : Bytes → List Port → List Port → List Reference → List Edge → List (List Bytes)
+whole_graph name ins outs references edges = (codes "graph" ∷ name ∷ []) ∷ (graph_lines ins outs references edges ++ end_words ∷ [])
 
-abbrev pub version_words : List Bytes
-version_words = codes "algorithm" ∷ codes "1" ∷ []
+abbrev pub whole_repeat : Bytes → ℕ → Bytes → List FrontierLine → List (List Bytes)
+whole_repeat name copies def lines = (codes "repeat" ∷ name ∷ count copies ∷ def ∷ []) ∷ (map frontier_words lines ++ end_words ∷ [])
 
--- the canonical text
-abbrev pub canonical_text : List Def → Bytes
-canonical_text ds = text_of (version_words ∷ definition_lines ds)
+-- the lines of a definition of this name in a text of this version
+abbrev pub body_lines : ℕ → Bytes → Body → List (List Bytes)
+body_lines version name (Sensor len) = (codes "sensor" ∷ name ∷ count len ∷ []) ∷ []
+body_lines version name (Actuator len) = (codes "actuator" ∷ name ∷ count len ∷ []) ∷ []
+body_lines version name (Constant values) = value_words (codes "constant") name values ∷ []
+body_lines version name (Delay depth values) = delay_words version name depth values ∷ []
+body_lines version name (Function ins outs) = whole_function name ins outs
+body_lines version name (Graph ins outs references edges) = whole_graph name ins outs references edges
+body_lines version name (Switch on ins outs cases otherwise line) = whole_switch name on ins outs cases otherwise
+body_lines version name (Repeat copies def lines) = whole_repeat name copies def lines
+
+abbrev pub definition_lines : ℕ → List Def → List (List Bytes)
+definition_lines version [] = []
+definition_lines version (d ∷ ds) = body_lines version d.name d.body ++ definition_lines version ds
+
+abbrev pub version_words : ℕ → List Bytes
+version_words version = codes "algorithm" ∷ count version ∷ []
+
+-- the canonical text, of the version that was read
+abbrev pub canonical_text : Defs → Bytes
+canonical_text d = text_of (version_words d.version ∷ definition_lines d.version d.defs)
 
 -- each expression of a function is what some text over its inputs says
 abbrev pub IsPrintable : Body → Type 0

@@ -1,6 +1,7 @@
 -- Definitions up to the numbers of their lines, and what it is to read back.
-use Rattle.std.specs.Prelude.{◌≡◌, List, map, Ok}
+use Rattle.std.specs.Prelude.{◌≡◌, map, Ok}
 use Rattle.algo_defs.specs.declared.definition.Def.{Def}
+use Rattle.algo_defs.specs.declared.definition.Defs.{Defs}
 use Rattle.algo_defs.specs.declared.definition.Body.{Body}
 use Rattle.algo_defs.specs.declared.definition.Body.TheVariants.{Sensor, Actuator, Constant, Delay, Function, Graph, Switch, Repeat}
 use Rattle.algo_defs.specs.declared.definition.Reference.{Reference}
@@ -27,7 +28,7 @@ abbrev pub bare_body : Body → Body
 bare_body (Sensor len) = Sensor len
 bare_body (Actuator len) = Actuator len
 bare_body (Constant values) = Constant values
-bare_body (Delay values) = Delay values
+bare_body (Delay depth values) = Delay depth values
 bare_body (Function ins outs) = Function ins outs
 bare_body (Graph ins outs references edges) = Graph ins outs (map bare_reference references) (map bare_edge edges)
 bare_body (Switch on ins outs cases otherwise line) = Switch on ins outs (map bare_case cases) otherwise 0
@@ -36,8 +37,9 @@ bare_body (Repeat copies def lines) = Repeat copies def (map bare_frontier lines
 abbrev pub bare : Def → Def
 bare d = record { name = d.name; line = 0; body = bare_body d.body }
 
--- the text says these definitions, at whatever lines
-pub record Says (text : Bytes) (defs : List Def) : Type 0 where
-  pub read : List Def
+-- the text says these definitions in their version, at whatever lines
+pub record Says (text : Bytes) (defs : Defs) : Type 0 where
+  pub read : Defs
   pub says : definitions_of text ≡ Ok read
-  pub same : map bare read ≡ map bare defs
+  pub version : read.version ≡ defs.version
+  pub same : map bare read.defs ≡ map bare defs.defs

@@ -2,8 +2,7 @@
 ghost use Rattle.std.specs.Prelude.{◌≡◌, ◌++◌, ◌∷◌, [], All, OnOk, codes, map};
 ghost use Rattle.std.specs.Fmt.{signed_decimal};
 ghost use Rattle.body_text.specs.Canonical.{IsRead};
-ghost use Rattle.algo_print.specs.Canonical.{text_of, line_of, spaced, port_words, output_words, reference_words, edge_words, case_words, frontier_words, value_words, switch_lines, whole_switch, body_lines, count};
-ghost use Rattle.algo_defs.specs.declared.definition.Body.TheVariants.{Function, Graph, Repeat};
+ghost use Rattle.algo_print.specs.Canonical.{text_of, line_of, spaced, port_words, output_words, reference_words, edge_words, case_words, frontier_words, value_words, delay_words, switch_lines, whole_function, whole_graph, whole_switch, whole_repeat, count};
 
 use crate::lines::{print_case, print_edge, print_frontier, print_output};
 use crate::words::{print_named, print_pair, print_sized, put, put_count, put_number, put_word};
@@ -11,7 +10,7 @@ use algo_defs::{Case, Edge, FrontierLine, Output, Reference};
 use body_lang::Port;
 use syn_base::OutOfMemory;
 
-/// Appends the line of a constant or a delay.
+/// Appends the line of a constant, or of a delay in version 1.
 pub(crate) fn print_values(
     key: &[u8],
     name: &[u8],
@@ -22,6 +21,27 @@ pub(crate) fn print_values(
 {
     put(key, text)?;
     put_word(name, text)?;
+    put(b" =", text)?;
+    put_numbers(values, text)?;
+    put(b"\n", text)
+}
+
+/// Appends the line of a delay, in which its depth stands from version 2 on.
+pub(crate) fn print_delay(
+    version: u32,
+    name: &[u8],
+    depth: u32,
+    values: &[i64],
+    text: &mut Vec<u8>,
+) -> Result<(), OutOfMemory>
+    ensures { OnOk result (text.new.items ≡ text.old.items ++ line_of (delay_words version name.now depth values.now)) }
+{
+    if version == 1 {
+        return print_values(b"delay", name, values, text);
+    }
+    put(b"delay", text)?;
+    put_word(name, text)?;
+    put_count(depth, text)?;
     put(b" =", text)?;
     put_numbers(values, text)?;
     put(b"\n", text)
@@ -111,7 +131,7 @@ pub(crate) fn print_function(
     text: &mut Vec<u8>,
 ) -> Result<(), OutOfMemory>
     requires { All (λ o. IsRead (map (λ p. p.name) ins.now) o.formula) outs.now }
-    ensures { OnOk result (text.new.items ≡ text.old.items ++ text_of (body_lines name.now (Function ins.now outs.now))) }
+    ensures { OnOk result (text.new.items ≡ text.old.items ++ text_of (whole_function name.now ins.now outs.now)) }
 {
     print_named(b"function", name, text)?;
     print_ports(b"in", ins, text)?;
@@ -128,7 +148,7 @@ pub(crate) fn print_graph(
     edges: &[Edge],
     text: &mut Vec<u8>,
 ) -> Result<(), OutOfMemory>
-    ensures { OnOk result (text.new.items ≡ text.old.items ++ text_of (body_lines name.now (Graph ins.now outs.now references.now edges.now))) }
+    ensures { OnOk result (text.new.items ≡ text.old.items ++ text_of (whole_graph name.now ins.now outs.now references.now edges.now)) }
 {
     print_named(b"graph", name, text)?;
     print_ports(b"in", ins, text)?;
@@ -180,7 +200,7 @@ pub(crate) fn print_repeat(
     lines: &[FrontierLine],
     text: &mut Vec<u8>,
 ) -> Result<(), OutOfMemory>
-    ensures { OnOk result (text.new.items ≡ text.old.items ++ text_of (body_lines name.now (Repeat copies def.now lines.now))) }
+    ensures { OnOk result (text.new.items ≡ text.old.items ++ text_of (whole_repeat name.now copies def.now lines.now)) }
 {
     print_repeated(name, copies, def, text)?;
     print_frontiers(lines, text)?;

@@ -33,6 +33,7 @@ fn prints(alloc: Global, defs: Vec<Def>, text: &[u8]) -> Result<bool, Fail>
     requires { ArePrintable defs.items }
 {
     let defs = Defs {
+        version: 1,
         defs: Items::new(defs),
     };
     let mut out = Vec::from_slice(alloc, b"# ")?;

@@ -5,7 +5,7 @@ use Rattle.std.specs.Str.{bytes_eq}
 use Rattle.text_lines.specs.Text.{words_of, code_of, foreign_place}
 use Rattle.algo_defs.specs.declared.definition.Body.{Body}
 use Rattle.algo_defs.specs.declared.definition.Body.TheVariants.{Sensor, Actuator, Constant, Delay}
-use Rattle.algo_defs.specs.declared.definition.Def.{Def}
+use Rattle.algo_defs.specs.declared.definition.Defs.{Defs}
 use Rattle.algo_defs.specs.declared.fault.AlgoError.{AlgoError}
 use Rattle.algo_defs.specs.declared.fault.AlgoError.TheVariants.{Refused, Limit, OutOfMemory}
 use Rattle.algo_defs.specs.Words.{Bytes, is_among}
@@ -13,7 +13,7 @@ use Rattle.algo_text.specs.Words.{word, count_of}
 use Rattle.syn_base.specs.declared.limits.LimitKind.TheVariants.{PortLength}
 use Rattle.algo_text.specs.declared.part.Part.TheVariants.{Inputs}
 use Rattle.algo_text.specs.Blocks.{Block, new_block, is_above, and_then, with_some}
-use Rattle.algo_text.specs.Text.{Stage, before_version, between, in_function, in_graph, in_switch, in_repeat, Reading, numbers_of, defined, end_line, values_line, between_line, begins, by_stage, next_line, line_by, rest_of}
+use Rattle.algo_text.specs.Text.{Stage, before_version, between, in_function, in_graph, in_switch, in_repeat, Reading, numbers_of, defined, end_line, values_line, deep_delay, deep_line, delay_line, between_line, begins, by_stage, next_line, line_by, rest_of}
 use Rattle.algo_reader.specs.declared.reader.Reader.{Reader}
 use Rattle.algo_reader.specs.declared.reader.Place.{Place}
 use Rattle.algo_reader.specs.declared.reader.Place.TheVariants.{BeforeVersion, Between, InFunction, InGraph, InSwitch, InRepeat}
@@ -63,12 +63,20 @@ module _ (r : Reading) (b : Block) (h : r.stage ≡ between) (n : ℕ) where
   same_values body ws = same_if (nat_lt (length ws) 4 || not (bytes_eq (word ws 2) (codes "="))) _ _ _ _ (alike _) (same_if (is_name (word ws 1)) _ _ _ _
       (same_then (numbers_of n (drop 3 ws)) _ _ (λ values. same_if (is_above PortLength (length values)) _ _ _ _ (alike _) (same_defined (word ws 1) (body values)))) (alike _))
 
+  same_deep : (ws : List Bytes) → Same (deep_line r n ws) (deep_line (with_block r b) n ws)
+  same_deep ws = same_if (nat_lt (length ws) 5 || not (bytes_eq (word ws 3) (codes "="))) _ _ _ _ (alike _) (same_if (is_name (word ws 1)) _ _ _ _
+      (same_some (count_of (word ws 2)) _ _ _ (λ depth. same_then (numbers_of n (drop 4 ws)) _ _ (λ values.
+      same_then (deep_delay n depth values) _ _ (same_defined (word ws 1))))) (alike _))
+
+  same_delay : (ws : List Bytes) → Same (delay_line r n ws) (delay_line (with_block r b) n ws)
+  same_delay ws = same_if (r.version == 1) _ _ _ _ (same_values (Delay 1) ws) (same_deep ws)
+
   same_between : (ws : List Bytes) → Same (between_line r n ws) (between_line (with_block r b) n ws)
   same_between ws =
       same_if (begins ws (codes "sensor")) _ _ _ _ (same_end Sensor ws)
       (same_if (begins ws (codes "actuator")) _ _ _ _ (same_end Actuator ws)
       (same_if (begins ws (codes "constant")) _ _ _ _ (same_values Constant ws)
-      (same_if (begins ws (codes "delay")) _ _ _ _ (same_values Delay ws)
+      (same_if (begins ws (codes "delay")) _ _ _ _ (same_delay ws)
       (same_if (begins ws (codes "function")) _ _ _ _ (alike _)
       (same_if (begins ws (codes "graph")) _ _ _ _ (alike _)
       (same_if (begins ws (codes "switch")) _ _ _ _ (alike _)
@@ -106,7 +114,7 @@ settled_at lines forgets r n in_repeat h = refl
 settled_rest : (lines : List Bytes) → Forgets lines → (r : Reading) (n : ℕ) → rest_of r n lines ≡ rest_of (settled r) n lines
 settled_rest lines forgets r n = settled_at lines forgets r n r.stage refl
 
-abbrev behind : ℕ → List Bytes → Result Reading AlgoError → Result (List Def) AlgoError
+abbrev behind : ℕ → List Bytes → Result Reading AlgoError → Result Defs AlgoError
 behind n lines x = and_then x (λ after. rest_of after n lines)
 
 same_behind : (lines : List Bytes) → Forgets lines → (n : ℕ) (x y : Result Reading AlgoError) → settle x ≡ settle y → behind n lines x ≡ behind n lines y
@@ -137,10 +145,10 @@ fails_behind (Limit f) lines n (Err e) h = let same : e ≡ Limit f = cc in ap (
 fails_behind OutOfMemory lines n x h = tt
 
 -- A line that is refused.
-pub line_refused : (e : AlgoError) (r : Reading) (n : ℕ) (line : Bytes) (all lines : List Bytes) (whole : Result (List Def) AlgoError)
+pub line_refused : (e : AlgoError) (r : Reading) (n : ℕ) (line : Bytes) (all lines : List Bytes) (whole : Result Defs AlgoError)
     → all ≡ line ∷ lines → Fails e (settle (next_line r n line)) → rest_of r n all ≡ whole → Fails e whole
 line_refused e r n line all lines whole is h same =
-    subst (λ (x : Result (List Def) AlgoError). Fails e x) (sym (ap (λ (l : List Bytes). rest_of r n l) is) ∙ same) (fails_behind e lines (n + 1) (next_line r n line) h)
+    subst (λ (x : Result Defs AlgoError). Fails e x) (sym (ap (λ (l : List Bytes). rest_of r n l) is) ∙ same) (fails_behind e lines (n + 1) (next_line r n line) h)
 
 kept_open : (p : Place) → kept (stage_of p) (block_of p) ≡ block_of p
 kept_open BeforeVersion = refl

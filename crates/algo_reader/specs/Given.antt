@@ -3,8 +3,6 @@ use Rattle.std.specs.Prelude.{◌≡◌, ℕ, Bool, true, false, List, [], ◌�
 use Rattle.std.specs.Global.{Vec}
 use Rattle.std.specs.List.{list_any}
 use Rattle.std.specs.Str.{bytes_eq}
-use Rattle.algo_defs.specs.declared.definition.Def.{Def}
-use Rattle.algo_defs.specs.declared.definition.Defs.{Defs}
 use Rattle.algo_defs.specs.declared.fault.AlgoCause.{AlgoCause}
 use Rattle.algo_defs.specs.declared.fault.AlgoError.{AlgoError}
 use Rattle.algo_defs.specs.declared.fault.AlgoError.TheVariants.{Refused, Limit, OutOfMemory}
@@ -61,11 +59,6 @@ AddsName (Ok false) old w new = (list_any (bytes_eq w) old ≡ true) × (new ≡
 AddsName (Err OutOfMemory) old w new = new ≡ old
 AddsName (Err (Refused f)) old w new = ⊥
 AddsName (Err (Limit f)) old w new = ⊥
-
--- what reading a text answers: its definitions or its first refusal, unless memory ran out
-abbrev pub Gives : Result Defs AlgoError → Result (List Def) AlgoError → Type 0
-Gives (Ok d) read = read ≡ Ok d.defs
-Gives (Err e) read = Fails e read
 
 -- the elements that were asked for, or their refusal
 abbrev pub MakesList : {A : Type 0} → Result (Vec A) AlgoError → Result (List A) AlgoError → Type 0

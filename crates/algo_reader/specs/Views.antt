@@ -1,5 +1,5 @@
 -- What contracts see of the open block and of the reader.
-use Rattle.std.specs.Prelude.{ℕ, ℤ, nat_lt, length, Bool, true, false, List, [], Option, Some, None, Result, Ok, Err}
+use Rattle.std.specs.Prelude.{ℕ, ℤ, nat_lt, length, true, List, [], Option, Some, None, Result, Ok, Err}
 use Rattle.algo_defs.specs.Words.{Bytes}
 use Rattle.algo_defs.specs.declared.definition.Body.{Body}
 use Rattle.algo_defs.specs.declared.definition.Body.TheVariants.{Sensor, Actuator, Constant, Delay, Function, Graph, Switch, Repeat}
@@ -82,7 +82,7 @@ block_of (places.InSwitch s) = switch_view s
 block_of (places.InRepeat r) = repeat_view r
 
 abbrev pub reading : Reader → Reading
-reading r = record { stage = stage_of r.place; names = r.names; defs = r.defs.items; block = block_of r.place }
+reading r = record { stage = stage_of r.place; version = r.version; names = r.names; defs = r.defs.items; block = block_of r.place }
 
 -- the open block, and none between definitions
 abbrev pub kept : Stage → Block → Block
@@ -112,7 +112,7 @@ end_body ends.Actuator = Actuator
 
 abbrev pub values_body : ValuesKind → List ℤ → Body
 values_body values.Constant = Constant
-values_body values.Delay = Delay
+values_body values.Delay = Delay 1
 
 -- the ends of blocks
 abbrev pub function_end : Reading → ℕ → List Bytes → Result Reading AlgoError

@@ -3,7 +3,7 @@ ghost use Rattle.std.specs.Prelude.{◌≡◌};
 ghost use Rattle.algo_reader.specs.Given.{IsStop, stop, Adds, Has};
 ghost use Rattle.syn_base.specs.Limits.{bound_of};
 ghost use Rattle.algo_text.specs.Blocks.{is_above};
-ghost use Rattle.algo_defs.specs.declared.fault.AlgoCause.TheVariants.{NotText, BadLine, BadName, BadNumber, BadExpression, DuplicateName, UnknownName};
+ghost use Rattle.algo_defs.specs.declared.fault.AlgoCause.TheVariants.{NotText, BadLine, BadName, BadNumber, BadExpression, DuplicateName, UnknownName, BadDelay};
 ghost use Rattle.algo_defs.specs.declared.fault.AlgoError.TheVariants.{Limit};
 
 use algo_defs::{AlgoCause, AlgoError, AlgoFault};
@@ -20,6 +20,12 @@ pub fn bad_line(line: u32) -> AlgoError
     ensures { result ≡ stop line BadLine }
 {
     refusal(line, AlgoCause::BadLine)
+}
+
+pub fn bad_delay(line: u32) -> AlgoError
+    ensures { result ≡ stop line BadDelay }
+{
+    refusal(line, AlgoCause::BadDelay)
 }
 
 pub fn not_text(line: u32, place: usize) -> AlgoError

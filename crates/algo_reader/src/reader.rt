@@ -2,8 +2,8 @@
 ghost use Rattle.std.specs.Prelude.{◌≡◌, ◌<◌, ◌≤◌, length};
 ghost use Rattle.text_lines.specs.Text.{lines_of};
 ghost use Rattle.algo_text.specs.Blocks.{new_block};
-ghost use Rattle.algo_text.specs.Text.{definitions_of, start, first_part, version_line, end_line, values_line, opening_line, repeat_line, between_line, function_line, graph_line, switch_line, frontier_line, by_stage, next_line, at_end, in_function, in_graph, in_switch, in_repeat};
-ghost use Rattle.algo_reader.specs.Given.{Steps, Gives};
+ghost use Rattle.algo_text.specs.Text.{definitions_of, start, first_part, version_line, end_line, values_line, deep_line, delay_line, opening_line, repeat_line, between_line, function_line, graph_line, switch_line, frontier_line, by_stage, next_line, at_end, defs_in, in_function, in_graph, in_switch, in_repeat};
+ghost use Rattle.algo_reader.specs.Given.{Makes, Steps};
 ghost use Rattle.algo_reader.specs.Views.{reading, settle, function_end, graph_end, switch_end, repeat_end, any_end, stage_of, block_of, stage_for, end_body, values_body, function_view, graph_view, switch_view, repeat_view};
 
 use crate::fault::{above, bad_line, bad_name, bad_number, duplicate, is_above, not_text, push};
@@ -12,8 +12,8 @@ use crate::graph::GraphBlock;
 use crate::names::add_name;
 use crate::repetition::RepeatBlock;
 use crate::switch::{SwitchBlock, SwitchPart};
-use crate::values::read_values;
-use crate::word::{begins, read_count, read_name};
+use crate::values::{deep_delay, read_values};
+use crate::word::{begins, read_count, read_name, read_version};
 use crate::words::Words;
 use algo_defs::{AlgoError, Body, Def, Defs};
 use name_table::Names;
@@ -36,7 +36,7 @@ pub enum EndKind {
     Actuator,
 }
 
-/// A definition that is a list of values.
+/// A definition that is a list of values, of which a delay has depth 1.
 #[derive(Clone, Copy, Drop)]
 pub enum ValuesKind {
     Constant,
@@ -54,9 +54,11 @@ pub enum Place {
     InRepeat(RepeatBlock),
 }
 
-/// What was read so far: the definitions, and their names with the open block's.
+/// What was read so far: the version, the definitions, and their names with the open block's.
 #[derive(Drop)]
 pub struct Reader<'a> {
+    /// 0 before the line of the version.
+    pub version: u32,
     pub defs: Vec<Def>,
     pub names: Names<'a>,
     pub place: Place,
@@ -87,7 +89,7 @@ fn values_body(kind: ValuesKind, values: Vec<i64>) -> Body
 {
     match kind {
         ValuesKind::Constant => Body::Constant(Items::new(values)),
-        ValuesKind::Delay => Body::Delay(Items::new(values)),
+        ValuesKind::Delay => Body::Delay(1, Items::new(values)),
     }
 }
 
@@ -97,13 +99,14 @@ impl<'a> Reader<'a> {
         ensures { reading result ≡ start }
     {
         Reader {
+            version: 0,
             defs: Vec::new(alloc),
             names: Names::new(alloc),
             place: Place::BeforeVersion,
         }
     }
 
-    /// algorithm 1
+    /// algorithm VERSION
     fn version_line(&mut self, number: u32, words: &Words) -> Result<(), AlgoError>
         requires { 0 < length words.now }
         ensures { Steps result (reading self.new) (settle (version_line (reading self.old) number words.now)) }
@@ -114,9 +117,10 @@ impl<'a> Reader<'a> {
         if !begins(words, b"algorithm") {
             return Err(bad_line(number));
         }
-        if words.get(1) != b"1".as_slice() {
+        let Some(version) = read_version(words.get(1)) else {
             return Err(bad_line(number));
-        }
+        };
+        self.version = version;
         self.place = Place::Between;
         Ok(())
     }
@@ -155,7 +159,7 @@ impl<'a> Reader<'a> {
         Ok(())
     }
 
-    /// constant NAME = V0 V1 and so on, and likewise delay
+    /// constant NAME = V0 V1 and so on, and likewise delay in version 1
     fn values_line(
         &mut self,
         alloc: Global,
@@ -188,6 +192,47 @@ impl<'a> Reader<'a> {
         };
         push(&mut self.defs, def)?;
         Ok(())
+    }
+
+    /// delay NAME DEPTH = V0 V1 and so on, from version 2 on
+    fn deep_line(&mut self, alloc: Global, number: u32, words: &Words<'a>) -> Result<(), AlgoError>
+        ensures { Steps result (reading self.new) (deep_line (reading self.old) number words.now) }
+    {
+        if words.len() < 5 {
+            return Err(bad_line(number));
+        }
+        if words.get(3) != b"=".as_slice() {
+            return Err(bad_line(number));
+        }
+        let Some(name) = read_name(alloc, words.get(1))? else {
+            return Err(bad_name(alloc, number, words.get(1)));
+        };
+        let Some(depth) = read_count(words.get(2)) else {
+            return Err(bad_number(alloc, number, words.get(2)));
+        };
+        let values = read_values(alloc, number, words, 4)?;
+        let body = deep_delay(number, depth, values)?;
+        if !add_name(&mut self.names, words.get(1))? {
+            return Err(duplicate(alloc, number, words.get(1)));
+        }
+        let def = Def {
+            name,
+            line: number,
+            body,
+        };
+        push(&mut self.defs, def)?;
+        Ok(())
+    }
+
+    /// A delay, of depth 1 in version 1.
+    fn delay_line(&mut self, alloc: Global, number: u32, words: &Words<'a>) -> Result<(), AlgoError>
+        ensures { Steps result (reading self.new) (delay_line (reading self.old) number words.now) }
+    {
+        if self.version == 1 {
+            self.values_line(alloc, ValuesKind::Delay, number, words)
+        } else {
+            self.deep_line(alloc, number, words)
+        }
     }
 
     /// function NAME, graph NAME and switch NAME
@@ -264,7 +309,7 @@ impl<'a> Reader<'a> {
             return self.values_line(alloc, ValuesKind::Constant, number, words);
         }
         if begins(words, b"delay") {
-            return self.values_line(alloc, ValuesKind::Delay, number, words);
+            return self.delay_line(alloc, number, words);
         }
         if begins(words, b"function") {
             return self.opening_line(alloc, Kind::Function, number, words);
@@ -549,10 +594,11 @@ impl<'a> Reader<'a> {
 
     /// The definitions, at the end of the text.
     pub fn at_end(self, number: u32) -> Result<Defs, AlgoError>
-        ensures { Gives result (at_end (stage_of self.entry.place) self.entry.defs.items number) }
+        ensures { Makes result (at_end (stage_of self.entry.place) (defs_in (reading self.entry)) number) }
     {
         match self.place {
             Place::Between => Ok(Defs {
+                version: self.version,
                 defs: Items::new(self.defs),
             }),
             _ => Err(bad_line(number)),
@@ -564,7 +610,7 @@ impl<'a> Reader<'a> {
 /// the cause, or Limit. OutOfMemory may come in place of any answer.
 pub fn read_algo(alloc: Global, bytes: &[u8]) -> Result<Defs, AlgoError>
     requires { length (lines_of bytes.now) ≤ 4000000000 }
-    ensures { Gives result (definitions_of bytes.now) }
+    ensures { Makes result (definitions_of bytes.now) }
 {
     let mut reader = Reader::new(alloc);
     let mut from = 0;

@@ -1,13 +1,14 @@
 //! The numbers of a line.
 ghost use Rattle.std.specs.Prelude.{◌≤◌, length, drop};
-ghost use Rattle.algo_text.specs.Text.{numbers_of};
-ghost use Rattle.algo_reader.specs.Given.{MakesList};
+ghost use Rattle.algo_text.specs.Text.{deep_delay, numbers_of};
+ghost use Rattle.algo_reader.specs.Given.{Makes, MakesList};
 
-use crate::fault::{bad_number, push};
+use crate::fault::{above, bad_delay, bad_number, is_above, push};
 use crate::word::read_number;
 use crate::words::Words;
-use algo_defs::AlgoError;
+use algo_defs::{AlgoError, Body};
 use std::alloc::Global;
+use syn_base::{Items, LimitKind};
 
 /// The numbers that the words are from one on, or the first word that is none.
 pub fn read_values(
@@ -29,4 +30,24 @@ pub fn read_values(
         at += 1;
     }
     Ok(values)
+}
+
+/// A delay of this depth, from 1, or why its values are not as many groups of equal length within the
+/// bounds.
+pub fn deep_delay(number: u32, depth: u64, values: Vec<i64>) -> Result<Body, AlgoError>
+    requires { 1 ≤ depth }
+    ensures { Makes result (deep_delay number depth values.items) }
+{
+    if is_above(LimitKind::Delay, u128::from(depth)) {
+        return Err(above(LimitKind::Delay, u128::from(depth)));
+    }
+    let count = values.len() as u64;
+    if count % depth != 0 {
+        return Err(bad_delay(number));
+    }
+    let len = u128::from(count / depth);
+    if is_above(LimitKind::PortLength, len) {
+        return Err(above(LimitKind::PortLength, len));
+    }
+    Ok(Body::Delay(depth as u32, Items::new(values)))
 }

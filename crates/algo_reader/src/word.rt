@@ -5,6 +5,7 @@ ghost use Rattle.syn_base.specs.Name.{is_name};
 ghost use Rattle.algo_reader.specs.Given.{GivesSome};
 ghost use Rattle.algo_reader.specs.Lines.{some_name};
 ghost use Rattle.algo_text.specs.Words.{number_of, count_of, end_of, is_dot};
+ghost use Rattle.algo_text.specs.Text.{version_of};
 
 use crate::words::Words;
 use algo_defs::{AlgoError, End};
@@ -40,6 +41,17 @@ pub fn read_count(w: &[u8]) -> Option<u64>
     match read_number(w) {
         Some(v) => { if v > 0 { Some(v as u64) } else { None } }
         None => None,
+    }
+}
+
+/// The version that a word is.
+pub fn read_version(w: &[u8]) -> Option<u32>
+    ensures { result ≡ version_of w.now }
+{
+    match w {
+        b"1" => Some(1),
+        b"2" => Some(2),
+        _ => None,
     }
 }
 

@@ -4,3 +4,4 @@ pub mod Told
 pub mod Edges
 pub mod Sizing
 pub mod Planned
+pub mod Groups

@@ -47,7 +47,7 @@ module _ (ds : List Def) where
   any_kind m n own (Sensor len) = refl
   any_kind m n own (Actuator len) = refl
   any_kind m n own (Constant values) = refl
-  any_kind m n own (Delay values) = refl
+  any_kind m n own (Delay depth values) = refl
   any_kind m n own (Function ins outs) = refl
   any_kind m n own (Graph ins outs references edges) = refl
   any_kind m n own (Switch on ins outs cases otherwise last) = refl
@@ -64,7 +64,7 @@ module _ (ds : List Def) where
   same_kind make own s a (Sensor len) h k = absurd (h len refl)
   same_kind make own s a (Actuator len) h k = absurd (k len refl)
   same_kind make own s a (Constant values) h k = refl
-  same_kind make own s a (Delay values) h k = refl
+  same_kind make own s a (Delay depth values) h k = refl
   same_kind make own s a (Function ins outs) h k = refl
   same_kind make own s a (Graph ins outs references edges) h k = refl
   same_kind make own s a (Switch on ins outs cases otherwise last) h k = refl

@@ -67,7 +67,7 @@ module _ (ds : List Def) (n : ℕ) (sizes : List ℕ) (a : AreSizes ds n sizes) 
   body_is (Sensor m) ps h = refl
   body_is (Actuator m) ps h = refl
   body_is (Constant values) ps h = refl
-  body_is (Delay values) ps h = refl
+  body_is (Delay depth values) ps h = refl
   body_is (Function ins outs) ps h = refl
   body_is (Graph ins outs references edges) ps h =
       suc_capped (sum_by (slice_index sizes) ps) (sum_by (λ r. of r.def) references) cap (sums _ ps h ∙ ap (λ (x : ℕ). min x cap) (sum_mapped of (λ r. r.def) references))

@@ -18,9 +18,11 @@ use Rattle.algo_defs.specs.declared.definition.Edge.{Edge}
 use Rattle.algo_defs.specs.Words.{Bytes}
 use Rattle.algo_links.proofs.Fresh.{from_here}
 use Rattle.algo_rules.specs.Links.{definition}
-use Rattle.algo_rules.specs.Ports.{lens_of, ports_of}
+use Rattle.algo_rules.specs.Placed.{ArePlaced, IsPlaced}
+use Rattle.algo_rules.specs.Ports.{ports_of}
 use Rattle.algo_rules.specs.Resolved.{Making, cases_from, inner_by, is_actuator, is_sensor, kind_by, owns, references_from, sources_to, vertex, vertex_by, vertex_within}
 use Rattle.algo_rules.specs.declared.ports.Ports.{Ports}
+use Rattle.algo_resolve.specs.declared.build.Seat.{Seat}
 
 -- one vertex behind those that are made
 pub pushed : {A B : Type 0} (f : A → B) (xs : List A) (x : A) (y : B) (rest : List B) → f x ≡ y → map f (xs ++ x ∷ []) ++ rest ≡ map f xs ++ (y ∷ rest)
@@ -38,12 +40,29 @@ module _ (ds : List Def) where
   pub vertex_step : (n m : ℕ) (part : Part) (w : Bytes) (ins : List Source) (s a : ℕ) (d : Def) (own : Ports) (kind : Kind) (inner : List Vertex)
       → n ≡ suc m → definition ds w ≡ Some d → own ≡ ports_of ds w
       → kind_view kind ≡ kind_by ds (vertex_within ds m) own s a d.body → map view inner ≡ inner_by ds (vertex_within ds m) d.body
-      → vertex part w ins (lens_of own.outs) (kind_view kind) (map view inner) ≡ vertex_within ds n part w ins s a
+      → vertex part w ins own.outs (kind_view kind) (map view inner) ≡ vertex_within ds n part w ins s a
   vertex_step n m part w ins s a d own kind inner is at same kinds inners =
-      ap (λ k. vertex part w ins (lens_of own.outs) k (map view inner)) kinds
-      ∙ ap (λ us. vertex part w ins (lens_of own.outs) (kind_by ds (vertex_within ds m) own s a d.body) us) inners
-      ∙ ap (λ (p : Ports). vertex part w ins (lens_of p.outs) (kind_by ds (vertex_within ds m) p s a d.body) (inner_by ds (vertex_within ds m) d.body)) same
+      ap (λ k. vertex part w ins own.outs k (map view inner)) kinds
+      ∙ ap (λ us. vertex part w ins own.outs (kind_by ds (vertex_within ds m) own s a d.body) us) inners
+      ∙ ap (λ (p : Ports). vertex part w ins p.outs (kind_by ds (vertex_within ds m) p s a d.body) (inner_by ds (vertex_within ds m) d.body)) same
       ∙ sym (ap (λ (k : ℕ). vertex_within ds k part w ins s a) is ∙ ap (vertex_by ds (vertex_within ds m) part w ins s a) at)
+
+  pub first_place : (table : List Ports) (w : Bytes) (ps : List ℕ) → ArePlaced ds table (w ∷ []) ps → IsPlaced ds table w (get_or ps 0 0)
+  first_place table w [] h = absurd h
+  first_place table w (p ∷ ps) h = h.0
+
+  -- the vertex of the body of a repetition, which is alone
+  pub one_copy : (fuel : ℕ) (w : Bytes) (own : Ports) (ports : List Port) (ins : List Source) (seat : Seat) (v : Vertex) (us : List Vertex)
+      → own ≡ ports_of ds w → ports ≡ own.ins → ins ≡ owns 0 (length ports) → seat ≡ record { part = Numbered 0; ins = ins; sensor = 0; actuator = 0 }
+      → view v ≡ vertex_within ds fuel seat.part w seat.ins seat.sensor seat.actuator → us ≡ v ∷ []
+      → map view us ≡ vertex_within ds fuel (Numbered 0) w (owns 0 (length (ports_of ds w).ins)) 0 0 ∷ []
+  one_copy fuel w own ports ins seat v us same lists sources sits made alone =
+      ap (λ (vs : List Vertex). map view vs) alone
+      ∙ ap (λ (u : tree.Vertex). u ∷ [])
+      (made
+      ∙ ap (λ (s : Seat). vertex_within ds fuel s.part w s.ins s.sensor s.actuator) sits
+      ∙ ap (λ (ss : List Source). vertex_within ds fuel (Numbered 0) w ss 0 0)
+      (sources ∙ ap (λ (ps : List Port). owns 0 (length ps)) lists ∙ ap (λ (q : Ports). owns 0 (length q.ins)) same))
 
   module _ (make : Making) where
     pub next_reference : (ins : List Port) (all : List Reference) (edges : List Edge) (rs : List Reference) (i : ℕ) (r : Reference) (s a t b : ℕ)

@@ -2,7 +2,7 @@
 ghost use Rattle.std.specs.Prelude.{◌≡◌, ◌+◌, ◌<◌, ◌≤◌, ◌∷◌, ◌++◌, [], IfOk, Some, length, map, slice_get};
 ghost use Rattle.algo_links.specs.Linked.{named};
 ghost use Rattle.algo_rules.specs.Placed.{ArePlaced, IsPlaced};
-ghost use Rattle.algo_rules.specs.Ports.{lens_of, ports_of};
+ghost use Rattle.algo_rules.specs.Ports.{ports_of};
 ghost use Rattle.algo_rules.specs.Resolved.{Making, cases_from, inner_by, is_actuator, is_sensor, kind_by, owns, references_from, vertex, vertex_within};
 ghost use Rattle.algo_rules.specs.WellRead.{IsWellRead};
 ghost use Rattle.algo_tree.specs.Tree.{graph as no_graph};
@@ -15,7 +15,7 @@ ghost use Rattle.algo_resolve.specs.Parts.{ArePlanned, IsWired};
 ghost use Rattle.algo_resolve.specs.Plans.{wires_by};
 
 use crate::builder::{Builder, WiredGraph};
-use crate::kind::port_lens;
+use crate::kind::{port_lens, port_names};
 use crate::lookup::{copy_name, small};
 use algo_defs::{Body, Case, Def, Reference};
 use algo_rules::Ports;
@@ -318,6 +318,7 @@ fn empty_vertex(alloc: Global, name: &Name, seat: Seat) -> Result<Vertex, OutOfM
         ins: seat.ins,
         guards: Items::new(Vec::new(alloc)),
         outs: Items::new(Vec::new(alloc)),
+        names: Items::new(Vec::new(alloc)),
         kind: Kind::Graph(Items::new(Vec::new(alloc))),
         inner: Vec::new(alloc),
     })
@@ -332,11 +333,12 @@ fn assemble(
     kind: Kind,
     inner: Vec<Vertex>,
 ) -> Result<Vertex, OutOfMemory>
-    ensures { IfOk result (λ v. view v ≡ vertex seat.part name.now seat.ins (lens_of own.now.outs) (kind_view kind) (map view inner.items)) }
+    ensures { IfOk result (λ v. view v ≡ vertex seat.part name.now seat.ins own.now.outs (kind_view kind) (map view inner.items)) }
 {
     Ok(Vertex {
         definition: copy_name(alloc, name)?,
         outs: port_lens(alloc, own.outs.as_slice())?,
+        names: port_names(alloc, own.outs.as_slice())?,
         part: seat.part,
         ins: seat.ins,
         guards: Items::new(Vec::new(alloc)),

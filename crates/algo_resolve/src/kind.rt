@@ -1,9 +1,10 @@
 //! The kind of the vertices of a definition.
-ghost use Rattle.std.specs.Prelude.{◌≡◌, ◌∷◌, [], IfOk, List, map};
+ghost use Rattle.std.specs.Prelude.{◌≡◌, ◌≤◌, ◌/◌, ◌∷◌, [], IfOk, List, drop, length, map, take};
 ghost use Rattle.algo_links.specs.Linked.{named};
 ghost use Rattle.algo_rules.specs.Placed.{ArePlaced};
 ghost use Rattle.algo_rules.specs.Ports.{lens_of, ports_of};
-ghost use Rattle.algo_rules.specs.Resolved.{Making, kind_by};
+ghost use Rattle.algo_rules.specs.Resolved.{Making, groups, kind_by};
+ghost use Rattle.algo_rules.specs.WellRead.{IsWellRead};
 ghost use Rattle.algo_tree.specs.View.{kind_view};
 ghost use Rattle.body_lang.specs.Expr.{view};
 
@@ -30,14 +31,17 @@ impl<'a> Checked<'a> {
         places: &[u32],
         body: &Body,
     ) -> Result<Kind, OutOfMemory>
-        requires { ArePlaced self.now.defs.now self.now.table.now (named body.now) places.now }
+        requires placed { ArePlaced self.now.defs.now self.now.table.now (named body.now) places.now }
+        requires read { IsWellRead body.now }
         ensures { IfOk result (λ k. (make : Making) → kind_view k ≡ kind_by self.now.defs.now make own.now 0 0 body.now) }
     {
         match body {
             Body::Sensor(_) => Ok(Kind::Sensor(0)),
             Body::Actuator(_) => Ok(Kind::Actuator(0)),
             Body::Constant(values) => Ok(Kind::Constant(copy_numbers(alloc, values.as_slice())?)),
-            Body::Delay(values) => Ok(Kind::Delay(copy_numbers(alloc, values.as_slice())?)),
+            Body::Delay(depth, values) => {
+                Ok(Kind::Delay(groups(alloc, *depth, values.as_slice())?))
+            }
             Body::Function { outs, .. } => Ok(Kind::Function(formulas(alloc, outs.as_slice())?)),
             Body::Graph {
                 ins,
@@ -78,6 +82,38 @@ impl<'a> Checked<'a> {
     }
 }
 
+/// The first so many values, or all.
+#[tactic(auto, using(std::proofs::lemmas::List::take_min))]
+fn front(values: &[i64], len: usize) -> &[i64]
+    ensures { result.now ≡ take len values.now }
+{
+    &values[..len.min(values.len())]
+}
+
+/// The values after so many, or none.
+#[tactic(auto, using(std::proofs::lemmas::List::drop_min))]
+fn behind(values: &[i64], len: usize) -> &[i64]
+    ensures { result.now ≡ drop len values.now }
+{
+    &values[len.min(values.len())..]
+}
+
+/// The values of a delay in groups of equal length, one for each reaction that it looks back.
+#[tactic(auto, using(crate::proofs::Groups::one_group, crate::proofs::Groups::all_groups))]
+fn groups(alloc: Global, depth: u32, values: &[i64]) -> Result<Items<Items<i64>>, OutOfMemory>
+    requires { 1 ≤ depth }
+    ensures { IfOk result (λ all. all ≡ groups depth (length values.now / depth) values.now) }
+{
+    let len = values.len() / depth as usize;
+    let mut rest = values;
+    let mut all = Vec::new(alloc);
+    for _ in 0..depth {
+        all.push(copy_numbers(alloc, front(rest, len))?)?;
+        rest = behind(rest, len);
+    }
+    Ok(Items::new(all))
+}
+
 /// The expressions of a function's outputs, as its vertices share them.
 fn formulas(alloc: Global, outs: &[Output]) -> Result<Function, OutOfMemory>
     ensures { IfOk result (λ es. es ≡ map (λ o. o.formula) outs.now) }
@@ -106,7 +142,8 @@ fn case_values(alloc: Global, cases: &[Case]) -> Result<Items<i64>, OutOfMemory>
     Ok(Items::new(values))
 }
 
-fn port_names(alloc: Global, ports: &[Port]) -> Result<Items<Items<u8>>, OutOfMemory>
+/// The names of ports.
+pub fn port_names(alloc: Global, ports: &[Port]) -> Result<Items<Items<u8>>, OutOfMemory>
     ensures { IfOk result (λ names. names ≡ map (λ p. p.name) ports.now) }
 {
     let mut names = Vec::new(alloc);

@@ -90,7 +90,7 @@ abbrev pub is_delay : Option Def → Bool
 is_delay (Some d) = delays d.body
   where
     delays : Body → Bool
-    delays (Delay values) = true
+    delays (Delay depth values) = true
     delays _ = false
 is_delay None = false
 

@@ -1,5 +1,5 @@
 -- The ports of definitions, where no depth is above 8.
-use Rattle.std.specs.Prelude.{ℕ, zero, suc, ◌*◌, Bool, true, false, ◌&&◌, ◌==◌, List, [], ◌∷◌, length, map, Option, Some, None, if◌then◌else◌, codes}
+use Rattle.std.specs.Prelude.{ℕ, zero, suc, ◌*◌, ◌/◌, Bool, true, false, ◌&&◌, ◌==◌, List, [], ◌∷◌, length, map, Option, Some, None, if◌then◌else◌, codes}
 use Rattle.std.specs.List.{flat_map, list_any, position_or_len}
 use Rattle.std.specs.Str.{bytes_eq}
 use Rattle.body_lang.specs.declared.expression.Port.{Port}
@@ -58,7 +58,7 @@ abbrev pub ports_by : (Bytes → Ports) → Body → Ports
 ports_by of (Sensor n) = record { ins = []; outs = one_port (codes "o") n }
 ports_by of (Actuator n) = record { ins = one_port (codes "i") n; outs = [] }
 ports_by of (Constant values) = record { ins = []; outs = one_port (codes "o") (length values) }
-ports_by of (Delay values) = record { ins = one_port (codes "i") (length values); outs = one_port (codes "o") (length values) }
+ports_by of (Delay depth values) = record { ins = one_port (codes "i") (length values / depth); outs = one_port (codes "o") (length values / depth) }
 ports_by of (Function ins outs) = record { ins = ins; outs = map (λ o. o.port) outs }
 ports_by of (Graph ins outs references edges) = record { ins = ins; outs = outs }
 ports_by of (Switch on ins outs cases otherwise last) = record { ins = port on 1 ∷ ins; outs = outs }

@@ -1,5 +1,5 @@
 -- The tree of the definitions of a text, or their first refusal.
-use Rattle.std.specs.Prelude.{ℕ, zero, suc, ◌+◌, ◌*◌, Bool, true, false, ◌==◌, nat_lt, List, [], ◌∷◌, ◌++◌, length, map, Option, Some, None, Result, Ok, Err, if◌then◌else◌, codes}
+use Rattle.std.specs.Prelude.{ℕ, zero, suc, ◌+◌, ◌*◌, ◌/◌, ℤ, Bool, true, false, ◌==◌, nat_lt, List, [], ◌∷◌, ◌++◌, length, map, take, drop, Option, Some, None, Result, Ok, Err, if◌then◌else◌, codes}
 use Rattle.std.specs.List.{flat_map, sum_by, range_with_len}
 use Rattle.std.specs.Str.{bytes_eq}
 use Rattle.syn_base.specs.declared.limits.LimitKind.TheVariants.{Operations}
@@ -78,9 +78,9 @@ is_fork l = forks l.frontier
     forks (Iterate p x y q) = 0
     forks (Join y q) = 1
 
--- How many flat operations a definition stands for, from those that it names: a delay for two, a switch for a merge of each output besides, a repetition for an explode of each fork line and an implode of each join line besides.
+-- How many flat operations a definition stands for, from those that it names: a delay for two for each reaction that it looks back, a switch for a merge of each output besides, a repetition for an explode of each fork line and an implode of each join line besides.
 abbrev pub count_by : (Bytes → ℕ) → Body → ℕ
-count_by of (Delay values) = 2
+count_by of (Delay depth values) = 2 * depth
 count_by of (Graph ins outs references edges) = sum_by (λ r. of r.def) references
 count_by of (Switch on ins outs cases otherwise last) = (sum_by (λ c. of c.def) cases + of otherwise) + length outs
 count_by of (Repeat copies def lines) = copies * of def + sum_by is_fork lines
@@ -147,8 +147,15 @@ module _ (inner outer : Ports) where
 abbrev pub Making : Type 0
 Making = Part → Bytes → List Source → ℕ → ℕ → tree.Vertex
 
-abbrev pub vertex : Part → Bytes → List Source → List ℕ → tree.Kind → List tree.Vertex → tree.Vertex
-vertex part def ins outs kind inner = tree.vertex (record { part = part; definition = def; ins = ins; guards = []; outs = outs; kind = kind }) (vertices_of inner)
+-- a vertex with these outputs
+abbrev pub vertex : Part → Bytes → List Source → List Port → tree.Kind → List tree.Vertex → tree.Vertex
+vertex part def ins outs kind inner =
+    tree.vertex (record { part = part; definition = def; ins = ins; guards = []; outs = lens_of outs; names = map (λ p. p.name) outs; kind = kind }) (vertices_of inner)
+
+-- values cut into so many groups of this length
+abbrev pub groups : ℕ → ℕ → List ℤ → List (List ℤ)
+groups zero len values = []
+groups (suc n) len values = take len values ∷ groups n len (drop len values)
 
 abbrev pub is_sensor : Option Def → ℕ
 is_sensor None = 0
@@ -186,7 +193,7 @@ module _ (ds : List Def) (make : Making) where
   kind_by own sensors actuators (Sensor n) = tree.sensor sensors
   kind_by own sensors actuators (Actuator n) = tree.actuator actuators
   kind_by own sensors actuators (Constant values) = tree.constant values
-  kind_by own sensors actuators (Delay values) = tree.delay (values ∷ [])
+  kind_by own sensors actuators (Delay depth values) = tree.delay (groups depth (length values / depth) values)
   kind_by own sensors actuators (Function ins outs) = tree.function (map (λ o. o.formula) outs)
   kind_by own sensors actuators (Graph ins outs references edges) = tree.graph (sources_to of ins references edges None outs)
   kind_by own sensors actuators (Switch on ins outs cases otherwise last) = tree.switch (map (λ c. c.value) cases) (map (λ p. p.name) outs)
@@ -202,7 +209,7 @@ module _ (ds : List Def) (make : Making) where
   abbrev pub vertex_by : Part → Bytes → List Source → ℕ → ℕ → Option Def → tree.Vertex
   vertex_by part w ins sensors actuators None = vertex part w ins [] (tree.graph []) []
   vertex_by part w ins sensors actuators (Some d) =
-      vertex part w ins (lens_of (of w).outs) (kind_by (of w) sensors actuators d.body) (inner_by d.body)
+      vertex part w ins (of w).outs (kind_by (of w) sensors actuators d.body) (inner_by d.body)
 
 abbrev pub vertex_within : List Def → ℕ → Making
 vertex_within ds zero part w ins sensors actuators = vertex part w ins [] (tree.graph []) []

@@ -1,5 +1,5 @@
 -- What the definitions of every accepted text keep: names are names and given once, and lengths and numbers of lines are within their bounds.
-use Rattle.std.specs.Prelude.{◌≡◌, ℕ, ◌≤◌, List, ◌∷◌, ◌++◌, All, length, map, true}
+use Rattle.std.specs.Prelude.{◌≡◌, ℕ, ◌≤◌, ◌*◌, ◌/◌, ℤ, List, ◌∷◌, ◌++◌, All, length, map, true}
 use Rattle.syn_base.specs.Name.{is_name}
 use Rattle.body_lang.specs.Expr.{PortsBelow}
 use Rattle.body_lang.specs.declared.expression.Port.{Port}
@@ -59,11 +59,18 @@ pub record IsRepetition (copies : ℕ) (lines : List FrontierLine) : Type 0 wher
   pub named : All IsName (all_outer lines)
   pub distinct : AreDistinctNames (all_outer lines)
 
+-- as many groups as the depth, each of one length
+pub record IsDelay (depth : ℕ) (values : List ℤ) : Type 0 where
+  pub some : 1 ≤ depth
+  pub most : depth ≤ 16
+  pub whole : length values ≡ depth * (length values / depth)
+  pub sized : IsLength (length values / depth)
+
 abbrev pub IsWellRead : Body → Type 0
 IsWellRead (Sensor n) = IsLength n
 IsWellRead (Actuator n) = IsLength n
 IsWellRead (Constant values) = IsLength (length values)
-IsWellRead (Delay values) = IsLength (length values)
+IsWellRead (Delay depth values) = IsDelay depth values
 IsWellRead (Function ins outs) = IsFunction ins outs
 IsWellRead (Graph ins outs references edges) = IsGraph ins outs references
 IsWellRead (Switch on ins outs cases otherwise last) = IsSwitch on ins outs cases

@@ -1,15 +1,18 @@
 -- What worked texts say.
-use Rattle.std.proofs.Common.{◌≡◌, refl, List, [], ◌∷◌, ◌++◌, pos, negsuc, Some, Result, Ok, Err, codes, None}
+use Rattle.std.proofs.Common.{◌≡◌, ℕ, refl, List, [], ◌∷◌, ◌++◌, pos, negsuc, Some, Result, Ok, Err, codes, None}
+use Rattle.std.specs.List.{range_with_len}
 use Rattle.syn_base.specs.declared.arithmetic.Op.TheVariants.{Add}
 use Rattle.syn_base.specs.declared.limits.LimitKind.TheVariants.{PortLength, Copies}
+use Rattle.syn_base.specs.declared.limits.LimitKind.TheVariants as limits
 use Rattle.body_lang.specs.Expr.{literal, element, apply}
 use Rattle.body_text.specs.Words.{form_of}
 use Rattle.algo_defs.specs.declared.definition.Def.{Def}
+use Rattle.algo_defs.specs.declared.definition.Defs.{Defs}
 use Rattle.algo_defs.specs.declared.definition.Body.TheVariants.{Sensor, Actuator, Constant, Delay, Function, Graph, Switch, Repeat}
 use Rattle.algo_defs.specs.declared.definition.Frontier.TheVariants.{Fork, Diffuse, Iterate, Join}
 use Rattle.algo_defs.specs.declared.fault.AlgoError.{AlgoError}
 use Rattle.algo_defs.specs.declared.fault.AlgoError.TheVariants.{Limit}
-use Rattle.algo_defs.specs.declared.fault.AlgoCause.TheVariants.{NotText, BadLine, BadName, BadNumber, BadExpression, DuplicateName, UnknownName}
+use Rattle.algo_defs.specs.declared.fault.AlgoCause.TheVariants.{NotText, BadLine, BadName, BadNumber, BadExpression, DuplicateName, UnknownName, BadDelay}
 use Rattle.algo_defs.specs.Words.{Bytes}
 use Rattle.algo_text.specs.Blocks.{refused}
 use Rattle.algo_text.specs.Text.{definitions_of}
@@ -18,14 +21,21 @@ abbrev text : List Bytes → Bytes
 text [] = []
 text (l ∷ ls) = l ++ 10 ∷ text ls
 
-abbrev read : List Bytes → Result (List Def) AlgoError
+abbrev read : List Bytes → Result Defs AlgoError
 read ls = definitions_of (text ls)
+
+-- the definitions of a text of version 1, and of one of version 2
+abbrev in_first : List Def → Result Defs AlgoError
+in_first defs = Ok (record { version = 1; defs = defs })
+
+abbrev in_second : List Def → Result Defs AlgoError
+in_second defs = Ok (record { version = 2; defs = defs })
 
 -- a sensor into an actuator
 abbrev echo : Bytes → Bytes → List Bytes
 echo second edge = codes "algorithm 1" ∷ second ∷ codes "actuator Act 1" ∷ codes "graph main" ∷ codes "ref s Sense" ∷ codes "ref a Act" ∷ edge ∷ codes "end" ∷ []
 
-plainest : read (echo (codes "sensor Sense 1") (codes "edge s.o a.i")) ≡ Ok (
+plainest : read (echo (codes "sensor Sense 1") (codes "edge s.o a.i")) ≡ in_first (
     record { name = codes "Sense"; line = 2; body = Sensor 1 }
     ∷ record { name = codes "Act"; line = 3; body = Actuator 1 }
     ∷ record {
@@ -57,7 +67,7 @@ twice : read (echo (codes "sensor Act 1") (codes "edge s.o a.i")) ≡ refused 3 
 twice = refl
 
 -- comments and blanks say nothing, but their lines count
-commented : read (codes "# a text" ∷ codes "" ∷ codes " algorithm  1 # now" ∷ codes "sensor S 1" ∷ []) ≡ Ok (record { name = codes "S"; line = 4; body = Sensor 1 } ∷ [])
+commented : read (codes "# a text" ∷ codes "" ∷ codes " algorithm  1 # now" ∷ codes "sensor S 1" ∷ []) ≡ in_first (record { name = codes "S"; line = 4; body = Sensor 1 } ∷ [])
 commented = refl
 
 -- the end comes too early, at the number of lines plus one
@@ -77,7 +87,7 @@ foreign = refl
 abbrev adding : Bytes → List Bytes
 adding out = codes "algorithm 1" ∷ codes "function F" ∷ codes "in x 1" ∷ out ∷ codes "end" ∷ []
 
-function : read (adding (codes "out y 1 = add(x[0],1)")) ≡ Ok (record {
+function : read (adding (codes "out y 1 = add(x[0],1)")) ≡ in_first (record {
   name = codes "F";
   line = 2;
   body =
@@ -102,7 +112,7 @@ same_port = refl
 no_output : read (codes "algorithm 1" ∷ codes "function F" ∷ codes "end" ∷ []) ≡ refused 3 BadLine
 no_output = refl
 
-values : read (codes "algorithm 1" ∷ codes "delay M = 7 -07" ∷ codes "constant C = 2" ∷ []) ≡ Ok (record { name = codes "M"; line = 2; body = Delay (pos 7 ∷ negsuc 6 ∷ []) } ∷ record { name = codes "C"; line = 3; body = Constant (pos 2 ∷ []) } ∷ [])
+values : read (codes "algorithm 1" ∷ codes "delay M = 7 -07" ∷ codes "constant C = 2" ∷ []) ≡ in_first (record { name = codes "M"; line = 2; body = Delay 1 (pos 7 ∷ negsuc 6 ∷ []) } ∷ record { name = codes "C"; line = 3; body = Constant (pos 2 ∷ []) } ∷ [])
 values = refl
 
 no_value : read (codes "algorithm 1" ∷ codes "delay M =" ∷ []) ≡ refused 2 BadLine
@@ -112,7 +122,7 @@ no_value = refl
 abbrev switch : List Bytes → List Bytes
 switch ls = codes "algorithm 1" ∷ codes "switch Sw" ∷ ls
 
-cases : read (switch (codes "on c" ∷ codes "in x 1" ∷ codes "out y 1" ∷ codes "case 0 Same" ∷ codes "otherwise Neg" ∷ codes "end" ∷ [])) ≡ Ok (record {
+cases : read (switch (codes "on c" ∷ codes "in x 1" ∷ codes "out y 1" ∷ codes "case 0 Same" ∷ codes "otherwise Neg" ∷ codes "end" ∷ [])) ≡ in_first (record {
   name = codes "Sw";
   line = 2;
   body =
@@ -136,7 +146,7 @@ on_again = refl
 abbrev chain : Bytes → Bytes → List Bytes
 chain first iterate = codes "algorithm 1" ∷ first ∷ codes "fork v v" ∷ codes "diffuse w w" ∷ iterate ∷ codes "join r p" ∷ codes "end" ∷ []
 
-copies : read (chain (codes "repeat Chain 4 Cell") (codes "iterate z acc r t")) ≡ Ok (record {
+copies : read (chain (codes "repeat Chain 4 Cell") (codes "iterate z acc r t")) ≡ in_first (record {
   name = codes "Chain";
   line = 2;
   body =
@@ -155,7 +165,7 @@ outer_again : read (chain (codes "repeat Chain 4 Cell") (codes "iterate v acc r 
 outer_again = refl
 
 -- lines stand in the order of the parts of a block
-abbrev block : Bytes → List Bytes → Result (List Def) AlgoError
+abbrev block : Bytes → List Bytes → Result Defs AlgoError
 block first ls = read (codes "algorithm 1" ∷ first ∷ ls)
 
 in_after_result : block (codes "function F") (codes "out y 1 = 1" ∷ codes "in x 1" ∷ []) ≡ refused 4 BadLine
@@ -168,7 +178,7 @@ reference_after_edge : block (codes "graph G") (codes "edge x y" ∷ codes "ref 
 reference_after_edge = refl
 
 -- edges may stand without ports and references before them
-edges_alone : block (codes "graph G") (codes "edge x y" ∷ codes "edge f.x z" ∷ codes "end" ∷ []) ≡ Ok (record {
+edges_alone : block (codes "graph G") (codes "edge x y" ∷ codes "edge f.x z" ∷ codes "end" ∷ []) ≡ in_first (record {
   name = codes "G";
   line = 2;
   body =
@@ -191,3 +201,76 @@ case_after_otherwise = refl
 
 otherwise_twice : block (codes "switch S") (codes "on c" ∷ codes "otherwise F" ∷ codes "otherwise G" ∷ []) ≡ refused 5 BadLine
 otherwise_twice = refl
+
+-- version 2: a delay has a depth, and its values are as many groups
+abbrev deep : Bytes → Result Defs AlgoError
+deep line = read (codes "algorithm 2" ∷ codes "sensor D 1" ∷ codes "" ∷ line ∷ [])
+
+groups_of_two : read (codes "algorithm 2" ∷ codes "delay D 2 = 1 2 3 4" ∷ codes "constant C = 2" ∷ []) ≡ in_second (
+    record { name = codes "D"; line = 2; body = Delay 2 (pos 1 ∷ pos 2 ∷ pos 3 ∷ pos 4 ∷ []) } ∷ record { name = codes "C"; line = 3; body = Constant (pos 2 ∷ []) } ∷ [])
+groups_of_two = refl
+
+deepest : read (codes "algorithm 2" ∷ codes "delay D 16 = 1 2 3 4 5 6 7 8 9 10 11 12 13 14 15 16" ∷ []) ≡ in_second (record {
+  name = codes "D";
+  line = 2;
+  body = Delay 16 (pos 1 ∷ pos 2 ∷ pos 3 ∷ pos 4 ∷ pos 5 ∷ pos 6 ∷ pos 7 ∷ pos 8 ∷ pos 9 ∷ pos 10 ∷ pos 11 ∷ pos 12 ∷ pos 13 ∷ pos 14 ∷ pos 15 ∷ pos 16 ∷ []);
+} ∷ [])
+deepest = refl
+
+depth_in_first : read (codes "algorithm 1" ∷ codes "delay D 2 = 1 2" ∷ []) ≡ refused 2 BadLine
+depth_in_first = refl
+
+no_depth : deep (codes "delay E = 1 2") ≡ refused 4 BadLine
+no_depth = refl
+
+no_groups : deep (codes "delay E 2 =") ≡ refused 4 BadLine
+no_groups = refl
+
+no_third_version : read (codes "algorithm 3" ∷ []) ≡ refused 1 BadLine
+no_third_version = refl
+
+-- the causes in their order, each before the next
+form_first : deep (codes "delay 1x 0 1 y") ≡ refused 4 BadLine
+form_first = refl
+
+name_before_depth : deep (codes "delay 1x 0 = y") ≡ refused 4 (BadName (codes "1x"))
+name_before_depth = refl
+
+equals_is_no_depth : deep (codes "delay D = = 7") ≡ refused 4 (BadNumber (codes "="))
+equals_is_no_depth = refl
+
+depth_before_values : deep (codes "delay D 0 = y") ≡ refused 4 (BadNumber (codes "0"))
+depth_before_values = refl
+
+values_before_limit : deep (codes "delay D 17 = 1 y") ≡ refused 4 (BadNumber (codes "y"))
+values_before_limit = refl
+
+too_deep : deep (codes "delay E 17 = 1") ≡ Err (Limit (record { which = limits.Delay; count = 17; bound = 16 }))
+too_deep = refl
+
+limit_before_groups : deep (codes "delay D 17 = 1 2") ≡ Err (Limit (record { which = limits.Delay; count = 17; bound = 16 }))
+limit_before_groups = refl
+
+no_multiple : deep (codes "delay D 2 = 1 2 3") ≡ refused 4 BadDelay
+no_multiple = refl
+
+fewer_than_groups : deep (codes "delay D 2 = 1") ≡ refused 4 BadDelay
+fewer_than_groups = refl
+
+-- 65 zeros, in one word each
+abbrev zeros : List ℕ → Bytes
+zeros [] = []
+zeros (n ∷ ns) = 32 ∷ 48 ∷ zeros ns
+
+abbrev delay_of_zeros : Bytes → ℕ → Bytes
+delay_of_zeros head n = head ++ zeros (range_with_len 0 n)
+
+-- a number of values that is no multiple is told before their length, and this before the name
+groups_before_length : deep (delay_of_zeros (codes "delay D 2 =") 131) ≡ refused 4 BadDelay
+groups_before_length = refl
+
+length_before_name : deep (delay_of_zeros (codes "delay D 2 =") 130) ≡ Err (Limit (record { which = PortLength; count = 65; bound = 64 }))
+length_before_name = refl
+
+name_last : deep (delay_of_zeros (codes "delay D 2 =") 128) ≡ refused 4 (DuplicateName (codes "D"))
+name_last = refl

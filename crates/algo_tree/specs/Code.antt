@@ -37,7 +37,7 @@ built [] = no_vertices
 built (x ∷ xs) = and_vertex (vertex x.0 (first x.1 (built xs))) (rest x.1 (built xs))
 
 abbrev pub nothing : Vertex
-nothing = vertex (record { part = Numbered 0; definition = []; ins = []; guards = []; outs = []; kind = explode }) no_vertices
+nothing = vertex (record { part = Numbered 0; definition = []; ins = []; guards = []; outs = []; names = []; kind = explode }) no_vertices
 
 abbrev pub head_of : Vertices → Vertex
 head_of no_vertices = nothing

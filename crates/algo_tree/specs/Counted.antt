@@ -3,10 +3,10 @@ use Rattle.std.specs.Prelude.{ℕ, ◌+◌, ◌*◌, length}
 use Rattle.algo_tree.specs.Tree.{Kind, delay, graph, switch, repeat, Vertex, vertex, Vertices, no_vertices, and_vertex}
 use Rattle.algo_tree.specs.Well.{fork_names, join_names}
 
--- A delay stands for two, a switch for its cases' and a merge for each output, a repetition for those of its copies,
+-- A delay stands for two for each reaction that it looks back, a switch for its cases' and a merge for each output, a repetition for those of its copies,
 -- an explode for each fork line and an implode for each join line, and any other vertex without others inside for one.
 abbrev pub operations_by : Kind → ℕ → ℕ
-operations_by (delay vs) inner = 2
+operations_by (delay vs) inner = 2 * length vs
 operations_by (graph outs) inner = inner
 operations_by (switch values names) inner = inner + length names
 operations_by (repeat n feeds gives) inner = length (fork_names feeds) + n * inner + length (join_names gives)

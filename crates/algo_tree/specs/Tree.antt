@@ -22,13 +22,14 @@ pub data Kind : Type 0 where
   switch : List ℤ → List (List ℕ) → Kind
   repeat : ℕ → List Feed → List Give → Kind
 
--- what is said of a vertex beside what is inside it
+-- What is said of a vertex beside what is inside it. Its outputs have names, or none where a pass of flattening makes the vertex.
 pub record Label : Type 0 where
   pub part : Part
   pub definition : List ℕ
   pub ins : List Source
   pub guards : List Guard
   pub outs : List ℕ
+  pub names : List (List ℕ)
   pub kind : Kind
 
 mutual

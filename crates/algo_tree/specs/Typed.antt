@@ -1,5 +1,5 @@
 -- The lengths of values fit, and every source is there.
-use Rattle.std.specs.Prelude.{◌≡◌, ℕ, suc, ◌*◌, ◌≤◌, List, [], ◌∷◌, map, length, replicate, slice_index_or, sum}
+use Rattle.std.specs.Prelude.{◌≡◌, ℕ, suc, ◌*◌, ◌≤◌, ℤ, List, [], ◌∷◌, map, length, replicate, slice_index_or, sum}
 use Rattle.body_lang.specs.Expr.{Expr, PortsBelow}
 use Rattle.level_meaning.specs.declared.source.Source.{Source}
 use Rattle.level_meaning.specs.declared.source.Source.TheVariants.{Own, Of}
@@ -66,13 +66,18 @@ abbrev pub given_length : ℕ → List ℕ → Give → ℕ
 given_length n outs (Last y) = slice_index_or outs y 0
 given_length n outs (Join name y) = n * slice_index_or outs y 0
 
+-- each group of initial values has the length of the one output
+abbrev pub AreGroups : List ℕ → List (List ℤ) → Type 0
+AreGroups outs [] = Unit {0}
+AreGroups outs (v ∷ vs) = (outs ≡ length v ∷ []) × AreGroups outs vs
+
 -- What a kind asks of the lengths of its inputs, of its outputs and of those of the vertices inside;
 -- of a level with such own inputs and outputs, and of a body with such inputs.
 abbrev pub IsKindTyped : Kind → List ℕ → List ℕ → List (List ℕ) → (List ℕ → List (List ℕ) → Type 0) → (List ℕ → Type 0) → Type 0
 IsKindTyped (sensor n) lens outs inner level body = (lens ≡ []) × (length outs ≡ 1)
 IsKindTyped (actuator n) lens outs inner level body = (length lens ≡ 1) × (outs ≡ [])
 IsKindTyped (constant v) lens outs inner level body = (lens ≡ []) × (outs ≡ length v ∷ [])
-IsKindTyped (delay vs) lens outs inner level body = (lens ≡ outs) × (map length vs ≡ outs)
+IsKindTyped (delay vs) lens outs inner level body = (lens ≡ outs) × ((1 ≤ length vs) × AreGroups outs vs)
 IsKindTyped (function es) lens outs inner level body = (length es ≡ length outs) × AllPortsBelow (length lens) es
 IsKindTyped explode lens outs inner level body = lens ≡ sum outs ∷ []
 IsKindTyped implode lens outs inner level body = outs ≡ sum lens ∷ []

@@ -10,7 +10,7 @@ abbrev pub kind_view : Kind → plain.Kind
 kind_view (Sensor n) = plain.sensor n
 kind_view (Actuator n) = plain.actuator n
 kind_view (Constant v) = plain.constant v
-kind_view (Delay v) = plain.delay (v ∷ [])
+kind_view (Delay groups) = plain.delay groups
 kind_view (Function b) = plain.function b
 kind_view Explode = plain.explode
 kind_view Implode = plain.implode
@@ -31,6 +31,7 @@ label_view u = record {
   ins = u.ins;
   guards = u.guards;
   outs = u.outs;
+  names = u.names;
   kind = kind_view u.kind;
 }
 

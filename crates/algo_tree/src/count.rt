@@ -23,7 +23,7 @@ fn count_by(kind: &Kind, inside: u64) -> u64
     ensures { result ≡ min (operations_by (kind_view kind.now) inside) (2 ^ 64 - 1) }
 {
     match kind {
-        Kind::Delay(_) => 2,
+        Kind::Delay(groups) => (groups.as_slice().len() as u64).saturating_mul(2),
         Kind::Graph(_) => inside,
         Kind::Switch(_, names) => inside.saturating_add(names.as_slice().len() as u64),
         Kind::Repeat(copies, feeds, gives) => count_forks(feeds.as_slice())

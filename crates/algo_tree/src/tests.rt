@@ -12,13 +12,15 @@ fn vertex(alloc: Global, kind: Kind, inner: Vec<Vertex>) -> Vertex {
         ins: Items::new(Vec::new(alloc)),
         guards: Items::new(Vec::new(alloc)),
         outs: Items::new(Vec::new(alloc)),
+        names: Items::new(Vec::new(alloc)),
         kind,
         inner,
     }
 }
 
 fn delay(alloc: Global) -> Result<Vertex, Fail> {
-    let kind = Kind::Delay(Items::new(vec![in alloc; 0]?));
+    let group = Items::new(vec![in alloc; 0]?);
+    let kind = Kind::Delay(Items::new(vec![in alloc; group]?));
     Ok(vertex(alloc, kind, Vec::new(alloc)))
 }
 

@@ -13,8 +13,8 @@ pub enum Kind {
     Actuator(u32),
     /// Its values.
     Constant(Items<i64>),
-    /// Its initial values.
-    Delay(Items<i64>),
+    /// Its initial values, a group for each active reaction that it looks back.
+    Delay(Items<Items<i64>>),
     /// What it computes, which all uses of its definition share.
     Function(Body),
     /// Gives the parts of its input.
@@ -45,6 +45,8 @@ pub struct Vertex {
     pub guards: Items<Guard>,
     /// The lengths of its outputs, in port order.
     pub outs: Items<u32>,
+    /// The names of its outputs, in port order; none where a pass of flattening makes the vertex.
+    pub names: Items<Items<u8>>,
     pub kind: Kind,
     /// The vertices of a graph, the cases of a switch, the body of a repetition.
     pub inner: Vec<Vertex>,

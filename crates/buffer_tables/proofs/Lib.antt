@@ -2,3 +2,4 @@ pub mod Below
 pub mod Buffered
 pub mod Distinct
 pub mod Paired
+pub mod Opened

@@ -4,9 +4,11 @@
 #![tactic(auto)]
 
 mod buffers;
+mod openings;
 mod pairs;
 mod readings;
 
 pub use buffers::{are_buffers, is_in};
+pub use openings::are_opened;
 pub use pairs::{PairTables, find_pairs, guards};
 pub use readings::{Reading, find_readings};

@@ -69,6 +69,7 @@ algorithm_word a.NoMain = codes "A13 NoMain"
 algorithm_word a.BadCase = codes "A14 BadCase"
 algorithm_word (a.Misplaced w) = codes "A15 Misplaced"
 algorithm_word a.BadRepeat = codes "A16 BadRepeat"
+algorithm_word a.BadDelay = codes "A17 BadDelay"
 
 abbrev pub algorithm_detail : AlgoCause → Bytes
 algorithm_detail (a.NotText place) = number_line place
@@ -87,6 +88,7 @@ algorithm_detail a.NoMain = codes "\n"
 algorithm_detail a.BadCase = codes "\n"
 algorithm_detail (a.Misplaced w) = word_line w
 algorithm_detail a.BadRepeat = codes "\n"
+algorithm_detail a.BadDelay = codes "\n"
 
 abbrev pub algorithm_line : AlgoFault → Bytes
 algorithm_line fault = head (codes "algorithm line ") fault.line (algorithm_word fault.cause) ++ algorithm_detail fault.cause

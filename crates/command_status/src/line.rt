@@ -97,6 +97,7 @@ fn algorithm_word(cause: &AlgoCause) -> &'static [u8]
         AlgoCause::BadCase => b"A14 BadCase",
         AlgoCause::Misplaced(_) => b"A15 Misplaced",
         AlgoCause::BadRepeat => b"A16 BadRepeat",
+        AlgoCause::BadDelay => b"A17 BadDelay",
     }
 }
 
@@ -117,9 +118,11 @@ fn write_algorithm_detail<E: Sink>(err: &mut E, cause: &AlgoCause) -> Result<(),
             write_word(err, name.as_bytes())
         }
         AlgoCause::Cycle(names) => write_names(err, names.as_slice()),
-        AlgoCause::BadLine | AlgoCause::NoMain | AlgoCause::BadCase | AlgoCause::BadRepeat => {
-            write_whole(err, b"\n")
-        }
+        AlgoCause::BadLine
+        | AlgoCause::NoMain
+        | AlgoCause::BadCase
+        | AlgoCause::BadRepeat
+        | AlgoCause::BadDelay => write_whole(err, b"\n"),
     }
 }
 

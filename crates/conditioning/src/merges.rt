@@ -71,6 +71,7 @@ fn merge(
         ins: Items::new(ins),
         guards,
         outs: Items::new(outs),
+        names: Items::new(Vec::new(alloc)),
         kind,
         inner: Vec::new(alloc),
     })

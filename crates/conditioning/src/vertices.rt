@@ -9,7 +9,7 @@ use algo_tree::{Kind, Vertex};
 use level_meaning::{Guard, Source};
 use std::alloc::Global;
 use syn_base::{Items, OutOfMemory};
-use tree_copy::{copy_bytes, copy_kind, copy_lens, copy_part};
+use tree_copy::{copy_bytes, copy_kind, copy_lens, copy_names, copy_part};
 
 /// An operation under these guards, in a level that has `before` further inputs.
 pub fn as_operation(
@@ -25,6 +25,7 @@ pub fn as_operation(
     let ins = shifted_sources(alloc, before, vertex.ins.as_slice())?;
     let guards = guards_under(alloc, guards, before, vertex.guards.as_slice())?;
     let outs = copy_lens(alloc, vertex.outs.as_slice())?;
+    let names = copy_names(alloc, vertex.names.as_slice())?;
     let kind = copy_kind(alloc, &vertex.kind)?;
     Ok(Vertex {
         part,
@@ -32,6 +33,7 @@ pub fn as_operation(
         ins: Items::new(ins),
         guards: Items::new(guards),
         outs,
+        names,
         kind,
         inner: Vec::new(alloc),
     })
@@ -53,12 +55,14 @@ pub fn as_graph(
     let definition = copy_bytes(alloc, vertex.definition.as_slice())?;
     let ins = handed(alloc, guards, before, vertex.ins.as_slice())?;
     let outs = copy_lens(alloc, vertex.outs.as_slice())?;
+    let names = copy_names(alloc, vertex.names.as_slice())?;
     Ok(Vertex {
         part,
         definition,
         ins: Items::new(ins),
         guards: Items::new(Vec::new(alloc)),
         outs,
+        names,
         kind: Kind::Graph(Items::new(outputs)),
         inner,
     })

@@ -14,7 +14,7 @@ use Rattle.algo_tree.specs.Counted.{operations}
 use Rattle.conditioning_laws.specs.Guarded.{guard}
 
 abbrev of : Part → List ℕ → List Source → List Guard → List ℕ → Kind → Vertices → Vertex
-of p d ins gs outs k us = vertex (record { part = p; definition = d; ins = ins; guards = gs; outs = outs; kind = k }) us
+of p d ins gs outs k us = vertex (record { part = p; definition = d; ins = ins; guards = gs; outs = outs; names = []; kind = k }) us
 
 abbrev main_of : Vertices → Vertex
 main_of us = of (Named (codes "main")) (codes "main") [] [] [] (graph []) us

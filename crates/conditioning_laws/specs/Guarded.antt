@@ -38,6 +38,7 @@ operation_under gs n l k = vertex (record {
   ins = map (shift n) l.ins;
   guards = gs ++ map (shift_guard n) l.guards;
   outs = l.outs;
+  names = l.names;
   kind = k;
 }) no_vertices
 
@@ -50,6 +51,7 @@ graph_under gs n l outs us = vertex (record {
   ins = guard_sources gs ++ map (shift n) l.ins;
   guards = [];
   outs = l.outs;
+  names = l.names;
   kind = graph outs;
 }) us
 
@@ -61,6 +63,7 @@ merge_of d gs m values k q name len = vertex (record {
   ins = Own m ∷ map (λ i. Of i q) (numbers_below k);
   guards = gs;
   outs = len ∷ [];
+  names = [];
   kind = merge values;
 }) no_vertices
 

@@ -1,6 +1,7 @@
 //! How long each operation of a flat graph lasts on each operator, by the durations of an architecture's text.
 //! `durations_of` makes the table or tells the first operation without a duration; `ticks` and `least` read it.
-//! The commands make it of what was read, and whoever places operations asks it where they may stand.
+//! The commands make it of what was read, and whoever places operations asks it where they may stand. `entry` reads
+//! the durations of a text, as `Given`, without a table.
 #![tactic(auto)]
 
 mod given;
@@ -9,8 +10,9 @@ mod missing;
 mod rows;
 mod table;
 
+pub use given::Given;
 pub use laws::{accepted_are_durations, durations_fit};
-pub use rows::durations_of;
+pub use rows::{durations_of, entry};
 pub use table::Durations;
 
 #[cfg(test)]

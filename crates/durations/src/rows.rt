@@ -75,7 +75,8 @@ fn row(alloc: Global, given: &Given, vertex: &Vertex) -> Result<Items<Option<u64
     Ok(Items::new(entries))
 }
 
-fn entry(given: &Given, vertex: &Vertex, operator: u32) -> Option<u64>
+/// The ticks that an operation lasts on an operator by these durations, where it may stand there. It takes no memory.
+pub fn entry(given: &Given, vertex: &Vertex, operator: u32) -> Option<u64>
     requires { operator < given.now.operators }
     ensures { result ≡ entry given.now.lines vertex.now operator }
 {

@@ -38,6 +38,7 @@ fn made(
         ins: Items::new(ins),
         guards: Items::new(Vec::new(alloc)),
         outs: Items::new(outs),
+        names: Items::new(Vec::new(alloc)),
         kind,
         inner: Vec::new(alloc),
     })

@@ -15,7 +15,9 @@ use algo_tree::{Kind, MOST_VERTICES, Vertex};
 use level_meaning::{Feed, Give, Part};
 use std::alloc::Global;
 use syn_base::{Items, OutOfMemory};
-use tree_copy::{copy_bytes, copy_guards, copy_kind, copy_lens, copy_part, copy_sources};
+use tree_copy::{
+    copy_bytes, copy_guards, copy_kind, copy_lens, copy_names, copy_part, copy_sources,
+};
 
 /// A vertex with another kind, and other vertices inside.
 fn remade(
@@ -31,12 +33,14 @@ fn remade(
     let ins = copy_sources(alloc, vertex.ins.as_slice())?;
     let guards = copy_guards(alloc, vertex.guards.as_slice())?;
     let outs = copy_lens(alloc, vertex.outs.as_slice())?;
+    let names = copy_names(alloc, vertex.names.as_slice())?;
     Ok(Vertex {
         part,
         definition,
         ins,
         guards,
         outs,
+        names,
         kind,
         inner,
     })
@@ -89,6 +93,7 @@ pub fn as_copy(
     let Vertex {
         definition,
         outs,
+        names,
         kind,
         inner,
         ..
@@ -99,6 +104,7 @@ pub fn as_copy(
         ins: Items::new(ins),
         guards: Items::new(Vec::new(alloc)),
         outs,
+        names,
         kind,
         inner,
     })

@@ -25,16 +25,16 @@ places : (fork_place (codes "p") (in_line_order feeds) ≡ 1) × (fork_place (co
 places = (refl, refl)
 
 abbrev body : Vertex
-body = vertex (record { part = Numbered 0; definition = codes "Add"; ins = []; guards = []; outs = 2 ∷ []; kind = function [] }) no_vertices
+body = vertex (record { part = Numbered 0; definition = codes "Add"; ins = []; guards = []; outs = 2 ∷ []; names = []; kind = function [] }) no_vertices
 
 abbrev added : Vertex
-added = vertex (record { part = Named (codes "r"); definition = codes "R"; ins = Of 0 0 ∷ Of 1 0 ∷ Of 2 0 ∷ []; guards = []; outs = 4 ∷ []; kind = repeat 2 feeds (Join (codes "z") 0 ∷ []) }) (and_vertex body no_vertices)
+added = vertex (record { part = Named (codes "r"); definition = codes "R"; ins = Of 0 0 ∷ Of 1 0 ∷ Of 2 0 ∷ []; guards = []; outs = 4 ∷ []; names = []; kind = repeat 2 feeds (Join (codes "z") 0 ∷ []) }) (and_vertex body no_vertices)
 
 -- the explode of q stands first, and input v of each copy takes from the one of p
-unrolled : unroll added ≡ vertex (record { part = Named (codes "r"); definition = codes "R"; ins = Of 0 0 ∷ Of 1 0 ∷ Of 2 0 ∷ []; guards = []; outs = 4 ∷ []; kind = graph (Of 4 0 ∷ []) })
+unrolled : unroll added ≡ vertex (record { part = Named (codes "r"); definition = codes "R"; ins = Of 0 0 ∷ Of 1 0 ∷ Of 2 0 ∷ []; guards = []; outs = 4 ∷ []; names = []; kind = graph (Of 4 0 ∷ []) })
     (and_vertex (made (codes "R") (codes "q") (Own 0 ∷ []) (1 ∷ 1 ∷ []) explode)
     (and_vertex (made (codes "R") (codes "p") (Own 2 ∷ []) (3 ∷ 3 ∷ []) explode)
-    (and_vertex (vertex (record { part = Numbered 0; definition = codes "Add"; ins = Of 1 0 ∷ Of 0 0 ∷ Own 1 ∷ []; guards = []; outs = 2 ∷ []; kind = function [] }) no_vertices)
-    (and_vertex (vertex (record { part = Numbered 1; definition = codes "Add"; ins = Of 1 1 ∷ Of 0 1 ∷ Own 1 ∷ []; guards = []; outs = 2 ∷ []; kind = function [] }) no_vertices)
+    (and_vertex (vertex (record { part = Numbered 0; definition = codes "Add"; ins = Of 1 0 ∷ Of 0 0 ∷ Own 1 ∷ []; guards = []; outs = 2 ∷ []; names = []; kind = function [] }) no_vertices)
+    (and_vertex (vertex (record { part = Numbered 1; definition = codes "Add"; ins = Of 1 1 ∷ Of 0 1 ∷ Own 1 ∷ []; guards = []; outs = 2 ∷ []; names = []; kind = function [] }) no_vertices)
     (and_vertex (made (codes "R") (codes "z") (Of 2 0 ∷ Of 3 0 ∷ []) (4 ∷ []) implode) no_vertices)))))
 unrolled = refl

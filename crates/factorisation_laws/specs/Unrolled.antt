@@ -16,9 +16,9 @@ use Rattle.algo_tree.specs.Well.{fork_names}
 use Rattle.pass_laws.specs.Relabelled.{with_kind}
 use Rattle.factorisation_laws.specs.Lines.{in_line_order, fork_place}
 
--- A vertex that flattening makes for a port of a repetition. It has the repetition's definition, no guard, and nothing inside.
+-- A vertex that flattening makes for a port of a repetition. It has the repetition's definition, no guard, no name of an output, and nothing inside.
 abbrev pub made : List ℕ → List ℕ → List Source → List ℕ → Kind → Vertex
-made definition name ins outs k = vertex (record { part = Port name; definition = definition; ins = ins; guards = []; outs = outs; kind = k }) no_vertices
+made definition name ins outs k = vertex (record { part = Port name; definition = definition; ins = ins; guards = []; outs = outs; names = []; kind = k }) no_vertices
 
 -- an explode of own input k into n parts of this length
 abbrev pub explode_of : List ℕ → ℕ → List ℕ → ℕ → ℕ → Vertex
@@ -40,7 +40,7 @@ copy_sources c i lines (Iterate k y ∷ fs) = (if i == 0 then Own k else Of (c +
 
 -- copy i of a body: the whole body, with a path and inputs of its own
 abbrev pub copy : ℕ → List Feed → Label → Vertices → ℕ → Vertex
-copy c feeds body us i = vertex (record { part = Numbered i; definition = body.definition; ins = copy_sources c i (in_line_order feeds) feeds; guards = []; outs = body.outs; kind = body.kind }) us
+copy c feeds body us i = vertex (record { part = Numbered i; definition = body.definition; ins = copy_sources c i (in_line_order feeds) feeds; guards = []; outs = body.outs; names = body.names; kind = body.kind }) us
 
 -- the copies of the one body, in order
 abbrev pub copies : ℕ → List Feed → ℕ → Vertices → List Vertex

@@ -109,7 +109,7 @@ module _ (vertices : List Vertex) where
       sources-end ss (and-right (done s.vertex) (sources_ready done (map level_source ss)) h),
     )
 
-    ready-ends : (bodies : List (List Expr)) (v : ℕ) (op : Operation) (x : Vertex) → slice_get vertices v ≡ Some x → op ≡ operation_at bodies op.path x
+    ready-ends : (bodies : List (List Expr)) (v : ℕ) (op : Operation) (x : Vertex) → slice_get vertices v ≡ Some x → op ≡ operation_at bodies op.path op.stage x
         → guards_ready done op.guards ≡ true → sources_ready done op.ins ≡ true → AllEnd (get_half x.kind x.twin) → Ends vertices v
     ready-ends bodies v op x is same guards sources half =
         ends-from v x is (all-append (map (λ d. d.source.vertex) x.guards ++ map (λ s. s.vertex) x.ins) (get_half x.kind x.twin)
@@ -126,7 +126,7 @@ same_length bodies a (x ∷ xs) (op ∷ ops) h = ap suc (same_length bodies (suc
 
 module _ (g : Graph) (ops : List Operation) (stands : Stands g ops) (halves : Follow None ops) where
   abbrev level : List Node
-  level = flat_level no_state ops
+  level = flat_level (list.stages_of no_state) ops
 
   -- a set half's get half has the same guards and reads nothing
   get-ends : (done : ℕ → Bool) → ((u : ℕ) → done u ≡ true → Ends g.vertices u) → (u : ℕ) (op : Operation) → slice_get ops (suc u) ≡ Some op → op.task ≡ sets → guards_ready done op.guards ≡ true → Ends g.vertices u
@@ -155,18 +155,18 @@ module _ (g : Graph) (ops : List Operation) (stands : Stands g ops) (halves : Fo
   rounds : (k v : ℕ) → settled level k v ≡ true → Ends g.vertices v
   rounds zero v h = absurd (false≢true h)
   rounds (suc k) v h =
-      by (slice_get ops v) refl (λ u e. rounds k u e) (sym (ap (λ o. with_node o false (is_ready (settled level k))) (slice_get-map (list.node_of no_state) ops v)) ∙ h)
+      by (slice_get ops v) refl (λ u e. rounds k u e) (sym (ap (λ o. with_node o false (is_ready (settled level k))) (slice_get-map (list.node_of (list.stages_of no_state)) ops v)) ∙ h)
     where
-      by : (o : Option Operation) → slice_get ops v ≡ o → ((u : ℕ) → settled level k u ≡ true → Ends g.vertices u) → with_node (option_map (list.node_of no_state) o) false (is_ready (settled level k)) ≡ true → Ends g.vertices v
+      by : (o : Option Operation) → slice_get ops v ≡ o → ((u : ℕ) → settled level k u ≡ true → Ends g.vertices u) → with_node (option_map (list.node_of (list.stages_of no_state)) o) false (is_ready (settled level k)) ≡ true → Ends g.vertices v
       by None e before r = absurd (false≢true r)
       by (Some op) e before r = step (settled level k) before v op e r
 
   no_cycle : IsAcyclic level → is_acyclic g.vertices ≡ true
   no_cycle acyclic =
       acyclic-from_ends g.vertices (λ v lt.
-      let a = length-map ops (list.node_of no_state) in
+      let a = length-map ops (list.node_of (list.stages_of no_state)) in
       let b = same_length g.bodies 0 g.vertices ops stands in
       rounds (length level) v (acyclic v (omega (arith, a, b, lt))))
 
 pub stands-acyclic : (main : tree.Vertex) (g : Graph) → IsTree main → IsPlain main → Stands g (operations main) → is_acyclic g.vertices ≡ true
-stands-acyclic main g h plain stands = no_cycle g (operations main) stands (follow-main main) ((flatten-keeps main h plain).acyclic no_state)
+stands-acyclic main g h plain stands = no_cycle g (operations main) stands (follow-main main) ((flatten-keeps main h plain).acyclic (list.stages_of no_state))

@@ -1,16 +1,16 @@
 -- The functions of a flat list have as many outputs as those of the tree.
 use Rattle.std.proofs.Common.{◌≡◌, ℕ, zero, suc, ◌+◌, List, [], ◌∷◌, ◌++◌, map, Some, slice_get, subst}
 use Rattle.level_meaning.specs.declared.source.Source.{Source}
-use Rattle.level_meaning.specs.Level.{Path}
+use Rattle.level_meaning.specs.Level.{Vector, Path}
 use Rattle.algo_tree.specs.Tree.{Label, Kind, sensor, actuator, constant, delay, function, explode, implode, merge, graph, switch, repeat, Vertex, vertex, Vertices, no_vertices, and_vertex}
 use Rattle.algo_tree.specs.Counted.{operations as count}
 use Rattle.inlining_laws.specs.Flat.{Operation, Task, runs, gets, sets}
-use Rattle.inlining_laws.specs.Inlined.{wire, wirings, inlined_by, inlined, inlined_all, operations}
+use Rattle.inlining_laws.specs.Inlined.{wire, wirings, stages, inlined_by, inlined, inlined_all, operations}
 use Rattle.path_text.specs.Bounded.{IsKindBounded, IsBounded, AllBounded, HasBounds}
 
 abbrev pub IsTaskBounded : Task → List ℕ → Type 0
 IsTaskBounded (runs k) outs = IsKindBounded k outs
-IsTaskBounded (gets vs) outs = Unit {0}
+IsTaskBounded (gets v) outs = Unit {0}
 IsTaskBounded sets outs = Unit {0}
 
 abbrev pub TasksBounded : List Operation → Type 0
@@ -21,10 +21,14 @@ tasks-append : (xs ys : List Operation) → TasksBounded xs → TasksBounded ys 
 tasks-append [] ys h k = k
 tasks-append (x ∷ xs) ys h k = (h.0, tasks-append xs ys h.1 k)
 
+tasks-stages : (W : Source → Source) (b : ℕ) (path : Path) (l : Label) (i : ℕ) (vs : List Vector) → TasksBounded (stages W b path l i vs)
+tasks-stages W b path l i [] = tt
+tasks-stages W b path l i (v ∷ vs) = (tt, (tt, tasks-stages W (b + 2) path l (suc i) vs))
+
 tasks-by : (W : Source → Source) (b : ℕ) (at : Path → Path) (l : Label) (k : Kind) (inner : List Source → ℕ → (Path → Path) → List Operation) → ((own : List Source) → TasksBounded (inner own b (λ q. at (l.part ∷ q))))
     → IsKindBounded k l.outs → TasksBounded (inlined_by W b at l k inner)
 tasks-by W b at l (graph outs) inner deep h = deep (map W l.ins)
-tasks-by W b at l (delay vs) inner deep h = (tt, (tt, tt))
+tasks-by W b at l (delay vs) inner deep h = tasks-stages W b (at (l.part ∷ [])) l 0 vs
 tasks-by W b at l (switch values names) inner deep h = (h, tt)
 tasks-by W b at l (repeat n feeds gives) inner deep h = (h, tt)
 tasks-by W b at l (sensor n) inner deep h = (h, tt)

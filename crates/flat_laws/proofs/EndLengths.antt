@@ -160,5 +160,5 @@ stands-lengths (vertex l us) g h plain stands =
       actuators =
           flat-taken g None 0 g.vertices (operations main) stands fit
           ∙ told-main (taken g) (none-taken g) main h.inside
-          ∙ tree-taken g (wire (wirings 0 us) []) (source_length [] (outs_of us)) (wired g l us h.portless.kind (can_inline main h.well plain) h.typed m) (λ q. q) us;
+          ∙ tree-taken g (wire (wirings 0 us) []) (source_length [] (outs_of us)) (wired g l us h.portless.kind (can_inline [] main h.well h.typed plain) h.typed m) (λ q. q) us;
     }

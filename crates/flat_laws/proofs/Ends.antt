@@ -1,18 +1,18 @@
 -- What a flat list tells of sensors and actuators alone, it tells of the vertices of the main graph, in order.
-use Rattle.std.proofs.Common.{◌≡◌, ℕ, ◌+◌, List, [], ◌∷◌, ◌++◌, map, append-nil, refl, sym, ap, ap₂, ◌∙◌}
+use Rattle.std.proofs.Common.{◌≡◌, ℕ, suc, ◌+◌, List, [], ◌∷◌, ◌++◌, map, append-nil, refl, sym, ap, ap₂, ◌∙◌}
 use Rattle.std.proofs.lemmas.List.{append_assoc}
 use Rattle.level_meaning.specs.declared.source.Source.{Source}
-use Rattle.level_meaning.specs.Level.{Path}
+use Rattle.level_meaning.specs.Level.{Vector, Path}
 use Rattle.algo_tree.specs.Tree.{Label, Kind, sensor, actuator, constant, delay, function, explode, implode, merge, graph, switch, repeat, Vertex, vertex, Vertices, no_vertices, and_vertex}
 use Rattle.algo_tree.specs.Counted.{operations as count}
 use Rattle.algo_tree.specs.Ends.{IsNoEnd, HasNoEnds, AllNoEnds, NoneInside}
 use Rattle.algo_tree.specs.Meaning.{vertices_in}
 use Rattle.inlining_laws.specs.Flat.{Operation, Task, runs, gets, sets}
-use Rattle.inlining_laws.specs.Inlined.{wire, wirings, operation_of, inlined_by, inlined, inlined_all, operations}
+use Rattle.inlining_laws.specs.Inlined.{wire, wirings, operation_of, stage_input, stages, inlined_by, inlined, inlined_all, operations}
 
 abbrev pub IsNoEndTask : Task → Type 0
 IsNoEndTask (runs k) = IsNoEnd k
-IsNoEndTask (gets vs) = Unit {0}
+IsNoEndTask (gets v) = Unit {0}
 IsNoEndTask sets = Unit {0}
 
 module _ (told : Operation → List ℕ) (none : (op : Operation) → IsNoEndTask op.task → told op ≡ []) where
@@ -26,7 +26,7 @@ module _ (told : Operation → List ℕ) (none : (op : Operation) → IsNoEndTas
 
   -- a vertex of the main graph, as one operation
   abbrev pub alone : (Source → Source) → (Path → Path) → Label → Kind → Operation
-  alone W at l k = operation_of W (at (l.part ∷ [])) l l.ins l.outs (runs k)
+  alone W at l k = operation_of W (at (l.part ∷ [])) 0 l (map W l.ins) l.outs (runs k)
 
   abbrev pub told_of : (Source → Source) → (Path → Path) → Vertices → List ℕ
   told_of W at no_vertices = []
@@ -35,13 +35,17 @@ module _ (told : Operation → List ℕ) (none : (op : Operation) → IsNoEndTas
   none-one : (op : Operation) → IsNoEndTask op.task → told op ++ [] ≡ []
   none-one op h = ap (λ xs. xs ++ []) (none op h)
 
-  none-two : (op other : Operation) → IsNoEndTask op.task → IsNoEndTask other.task → told op ++ (told other ++ []) ≡ []
-  none-two op other h k = ap₂ (λ xs ys. xs ++ (ys ++ [])) (none op h) (none other k)
+  none-stages : (W : Source → Source) (b : ℕ) (path : Path) (l : Label) (i : ℕ) (vs : List Vector) → told_in (stages W b path l i vs) ≡ []
+  none-stages W b path l i [] = refl
+  none-stages W b path l i (v ∷ vs) =
+      ap₂ (λ xs ys. xs ++ (ys ++ told_in (stages W (b + 2) path l (suc i) vs)))
+      (none (operation_of W path i l [] l.outs (gets v)) tt) (none (operation_of W path i l (stage_input b (map W l.ins) vs) [] sets) tt)
+      ∙ none-stages W (b + 2) path l (suc i) vs
 
   none-by : (W : Source → Source) (b : ℕ) (at : Path → Path) (l : Label) (k : Kind) (inner : List Source → ℕ → (Path → Path) → List Operation)
       → ((own : List Source) (below : Path → Path) → told_in (inner own b below) ≡ []) → IsNoEnd k → told_in (inlined_by W b at l k inner) ≡ []
   none-by W b at l (graph outs) inner deep h = deep (map W l.ins) (λ q. at (l.part ∷ q))
-  none-by W b at l (delay v) inner deep h = none-two (operation_of W (at (l.part ∷ [])) l [] l.outs (gets v)) (operation_of W (at (l.part ∷ [])) l l.ins [] sets) tt tt
+  none-by W b at l (delay v) inner deep h = none-stages W b (at (l.part ∷ [])) l 0 v
   none-by W b at l (sensor n) inner deep h = absurd h
   none-by W b at l (actuator n) inner deep h = absurd h
   none-by W b at l (switch values names) inner deep h = none-one (alone W at l (switch values names)) h
@@ -64,7 +68,7 @@ module _ (told : Operation → List ℕ) (none : (op : Operation) → IsNoEndTas
       → ((own : List Source) (below : Path → Path) → told_in (inner own b below) ≡ []) → told_in (inlined_by W b at l k inner) ≡ told (alone W at l k)
   main-by W b at l (graph outs) inner deep = deep (map W l.ins) (λ q. at (l.part ∷ q)) ∙ sym (none (alone W at l (graph outs)) tt)
   main-by W b at l (delay v) inner deep =
-      none-two (operation_of W (at (l.part ∷ [])) l [] l.outs (gets v)) (operation_of W (at (l.part ∷ [])) l l.ins [] sets) tt tt ∙ sym (none (alone W at l (delay v)) tt)
+      none-stages W b (at (l.part ∷ [])) l 0 v ∙ sym (none (alone W at l (delay v)) tt)
   main-by W b at l (sensor n) inner deep = append-nil (told (alone W at l (sensor n)))
   main-by W b at l (actuator n) inner deep = append-nil (told (alone W at l (actuator n)))
   main-by W b at l (switch values names) inner deep = append-nil (told (alone W at l (switch values names)))

@@ -53,14 +53,14 @@ count_back bodies Implode = refl
 count_back bodies (Merge values) = refl
 
 -- one vertex
-vertex_at : (bodies : List (List Expr)) (v b : ℕ) (x : Vertex) (q : Path) → IsNumbered b x.kind → x.name ≡ name_of (operation_at bodies q x) → IsTwin v (task_of bodies x.kind) x.twin
-    → vertex_of v b (operation_at bodies q x) ≡ x
-vertex_at bodies v b x q h n t = rw (← n, kind_back bodies b x.kind h, guards_back x.guards, sources_back x.ins, twin_back v (task_of bodies x.kind) x.twin t) refl
+vertex_at : (bodies : List (List Expr)) (v b : ℕ) (x : Vertex) (q : Path) (i : ℕ) → IsNumbered b x.kind → x.name ≡ name_of (operation_at bodies q i x) → IsTwin v (task_of bodies x.kind) x.twin
+    → vertex_of v b (operation_at bodies q i x) ≡ x
+vertex_at bodies v b x q i h n t = rw (← n, kind_back bodies b x.kind h, guards_back x.guards, sources_back x.ins, twin_back v (task_of bodies x.kind) x.twin t) refl
 
 vertex_back : (bodies : List (List Expr)) (v b : ℕ) (x : Vertex) (op : Operation) → StandsFor bodies v x op → IsNumbered b x.kind → vertex_of v b op ≡ x
 vertex_back bodies v b x op s h =
     ap (vertex_of v b) s.same
-    ∙ vertex_at bodies v b x op.path h (s.name ∙ ap name_of s.same) (subst (λ (o : Operation). IsTwin v o.task x.twin) s.same s.twin)
+    ∙ vertex_at bodies v b x op.path op.stage h (s.name ∙ ap name_of s.same) (subst (λ (o : Operation). IsTwin v o.task x.twin) s.same s.twin)
 
 body_back : (bodies : List (List Expr)) (b : ℕ) (k : Kind) → IsNumbered b k → b + bodies_in k ≤ length bodies → body_of (task_of bodies k) ++ drop (b + bodies_in k) bodies ≡ drop b bodies
 body_back bodies b (Function c) h few =

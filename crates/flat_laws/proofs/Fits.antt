@@ -1,16 +1,16 @@
 -- Each operation of the flat list has guards, inputs and outputs of the lengths that its vertex has in the tree.
-use Rattle.std.proofs.Common.{◌≡◌, ℕ, zero, suc, ◌+◌, List, [], ◌∷◌, ◌++◌, length, map, ℤ, true, Option, Some, None, slice_get, refl, sym, ◌∙◌, subst}
+use Rattle.std.proofs.Common.{◌≡◌, ℕ, zero, suc, ◌+◌, List, [], ◌∷◌, ◌++◌, length, map, ℤ, true, Option, Some, None, slice_get, slice_index_or, refl, sym, ap, ◌∙◌, subst, arith}
 use Rattle.level_meaning.specs.declared.source.Source.{Source}
 use Rattle.level_meaning.specs.declared.source.Source.TheVariants.{Own}
 use Rattle.level_meaning.specs.declared.source.Guard.{Guard}
-use Rattle.level_meaning.specs.Level.{Path}
+use Rattle.level_meaning.specs.Level.{Vector, Path}
 use Rattle.algo_tree.specs.Tree.{Label, Kind, sensor, actuator, constant, delay, function, explode, implode, merge, graph, switch, repeat, Vertex, vertex, Vertices, no_vertices, and_vertex}
 use Rattle.algo_tree.specs.Meaning.{nodes}
-use Rattle.algo_tree.specs.Typed.{AreLengths, AreGuardsTyped, label_of, outs_of, source_length, IsKindTyped, IsTyped, AllTyped, IsBodyTyped}
+use Rattle.algo_tree.specs.Typed.{AreGroups, AreLengths, AreGuardsTyped, label_of, outs_of, source_length, IsKindTyped, IsTyped, AllTyped, IsBodyTyped}
 use Rattle.algo_tree.specs.Valid.{IsTree}
 use Rattle.algo_tree.specs.Counted.{operations as count}
 use Rattle.inlining_laws.specs.Flat.{Operation, Task, runs, gets, sets, is_get}
-use Rattle.inlining_laws.specs.Inlined.{wire, wirings, wire_guard, operation_of, inlined_by, inlined, inlined_all, operations}
+use Rattle.inlining_laws.specs.Inlined.{wire, wirings, wire_guard, operation_of, stage_input, stages, inlined_by, inlined, inlined_all, operations}
 use Rattle.inlining_laws.specs.Plain.{IsPlain}
 use Rattle.inlining_laws.proofs.Inlinable.{IsKindInlinable, CanInline, AllCanInline, can_inline}
 use Rattle.pass_laws.proofs.Lists.{map_map}
@@ -28,7 +28,7 @@ IsHalf (Some get) lens = (is_get get.task ≡ true) × (lens ≡ get.outs)
 
 abbrev pub IsTaskFit : Task → Option Operation → List ℕ → List ℕ → Type 0
 IsTaskFit (runs k) before lens outs = IsRun k lens outs
-IsTaskFit (gets vs) before lens outs = (lens ≡ []) × (map length vs ≡ outs)
+IsTaskFit (gets v) before lens outs = (lens ≡ []) × (outs ≡ length v ∷ [])
 IsTaskFit sets before lens outs = (outs ≡ []) × IsHalf before lens
 
 module _ (long : Source → ℕ) where
@@ -63,7 +63,7 @@ module _ (long : Source → ℕ) where
       Deeper = (own : List Source) (lens : List ℕ) (c : ℕ) (below : Path → Path) → AllTyped lens (outs_of us) us → ((s : Source) → long (wire (wirings c us) own s) ≡ source_length lens (outs_of us) s)
           → Outs long none c (inside own c below) → (before : Option Operation) → AllFit before (inside own c below)
 
-      one : (k : Kind) → IsRun k (map len l.ins) l.outs → (before : Option Operation) → AllFit before (operation_of W (at (l.part ∷ [])) l l.ins l.outs (runs k) ∷ [])
+      one : (k : Kind) → IsRun k (map len l.ins) l.outs → (before : Option Operation) → AllFit before (operation_of W (at (l.part ∷ [])) 0 l (map W l.ins) l.outs (runs k) ∷ [])
       one k t before = (
         record {
           guards = guards-wired W len all l.guards guards;
@@ -74,20 +74,28 @@ module _ (long : Source → ℕ) where
         tt,
       )
 
-      two : (vs : List (List ℤ)) → map len l.ins ≡ l.outs → map length vs ≡ l.outs → (before : Option Operation)
-          → AllFit before (operation_of W (at (l.part ∷ [])) l [] l.outs (gets vs) ∷ operation_of W (at (l.part ∷ [])) l l.ins [] sets ∷ [])
-      two vs e t before = (
-        record { guards = guards-wired W len all l.guards guards; ins = tt; outs = lengths.1; task = (refl, t) },
-        (
-          record {
-            guards = guards-wired W len all l.guards guards;
-            ins = subst AreLengths (sym (lens-wired W len all l.ins)) lengths.0;
-            outs = tt;
-            task = (refl, (refl, lens-wired W len all l.ins ∙ e));
-          },
-          tt,
-        ),
-      )
+      -- what a stage takes has the length of its output
+      stage-lens : (c i : ℕ) (v : Vector) (vs : List Vector) → Outs long none (c + 2) (stages W (c + 2) (at (l.part ∷ [])) l (suc i) vs) → map len l.ins ≡ l.outs → l.outs ≡ length v ∷ [] → map long (stage_input c (map W l.ins) vs) ≡ l.outs
+      stage-lens c i v [] m e t = lens-wired W len all l.ins ∙ e
+      stage-lens c i v (w ∷ vs) m e t = ap (λ n. n ∷ []) (m.0 0) ∙ ap (λ (ns : List ℕ). slice_index_or ns 0 0 ∷ []) t ∙ sym t
+
+      fit-stages : (c i : ℕ) (vs : List Vector) → Outs long none c (stages W c (at (l.part ∷ [])) l i vs) → map len l.ins ≡ l.outs → AreGroups l.outs vs → (before : Option Operation) → AllFit before (stages W c (at (l.part ∷ [])) l i vs)
+      fit-stages c i [] m e t before = tt
+      fit-stages c i (v ∷ vs) m e t before =
+          let two : suc (suc c) ≡ c + 2 = omega arith in
+          let rest = subst (λ n. Outs long none n (stages W (c + 2) (at (l.part ∷ [])) l (suc i) vs)) two m.1.1 in
+          let taken = stage-lens c i v vs rest e t.0 in (
+            record { guards = guards-wired W len all l.guards guards; ins = tt; outs = lengths.1; task = (refl, t.0) },
+            (
+              record {
+                guards = guards-wired W len all l.guards guards;
+                ins = subst AreLengths (sym taken) lengths.1;
+                outs = tt;
+                task = (refl, (refl, taken));
+              },
+              fit-stages (c + 2) (suc i) vs rest e t.1 (Some (operation_of W (at (l.part ∷ [])) i l (stage_input c (map W l.ins) vs) [] sets)),
+            ),
+          )
 
       fit-by : Measures long none us → Deeper → (k : Kind) → Outs long none b (inlined_by W b at l k inside) → IsKindInlinable k l.guards (nodes us)
           → IsKindTyped k (map len l.ins) l.outs (outs_of us) (λ own outs. AllTyped own outs us) (λ fed. IsBodyTyped fed us) → (before : Option Operation) → AllFit before (inlined_by W b at l k inside)
@@ -96,7 +104,7 @@ module _ (long : Source → ℕ) where
           (measures (map W l.ins) (map len l.ins) b (λ q. at (l.part ∷ q)) h.1.0 t.0 (at_same long none W len l.ins (same_map (λ s. long (W s)) len all l.ins)) m) m before
       fit-by measures deeper (switch values names) m h t before = absurd h
       fit-by measures deeper (repeat n feeds gives) m h t before = absurd h
-      fit-by measures deeper (delay vs) m h t before = two vs t.0 t.1 before
+      fit-by measures deeper (delay vs) m h t before = fit-stages b 0 vs m t.0 t.1.1 before
       fit-by measures deeper (sensor n) m h t before = one (sensor n) t before
       fit-by measures deeper (actuator n) m h t before = one (actuator n) t before
       fit-by measures deeper (constant v) m h t before = one (constant v) t before
@@ -127,7 +135,7 @@ module _ (long : Source → ℕ) where
         fit-all (wire (wirings 0 us) []) 0 (λ q. q) us [] (outs_of us) h.1 typed (measures-all long none us h.1 [] [] 0 (λ q. q) level.1.0 typed (λ k. none 0) m) m None
 
     pub fit-main : (main : Vertex) → IsTree main → IsPlain main → Outs long none 0 (operations main) → AllFit None (operations main)
-    fit-main (vertex l us) h plain m = fit-level l us h.portless.kind (can_inline (vertex l us) h.well plain) h.typed m
+    fit-main (vertex l us) h plain m = fit-level l us h.portless.kind (can_inline [] (vertex l us) h.well h.typed plain) h.typed m
 
   -- the operation of one number, and the one before it
   pub fit-first : (ops : List Operation) (op : Operation) → AllFit None ops → slice_get ops 0 ≡ Some op → IsFit None op

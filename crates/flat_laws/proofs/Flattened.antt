@@ -1,5 +1,6 @@
 -- The flat graph of any tree: repetitions are unrolled, cases are put under guards, and graphs are inlined.
-use Rattle.std.proofs.Common.{◌≡◌, true, [], length, sym, ◌∙◌}
+use Rattle.std.proofs.Common.{◌≡◌, true, [], length, sym, ◌∙◌, ap}
+use Rattle.level_meaning.specs.Level.{vector_at}
 use Rattle.algo_tree.specs.Tree.{Vertex}
 use Rattle.algo_tree.specs.Valid.{IsTree}
 use Rattle.algo_tree.specs.Counted.{operations as count}
@@ -52,7 +53,7 @@ module _ (main : Vertex) (h : IsTree main) where
         let keeps = stands-keeps flat g tree flattened-plain stands in
         record {
           taken = λ rows k. keeps.taken rows k ∙ meaning.taken rows k;
-          kept = λ rows k v op is get. sym (meaning.kept rows k op.path) ∙ keeps.kept rows k v op is get;
+          kept = λ rows k v op is get. ap (λ vs. vector_at vs op.stage) (sym (meaning.kept rows k op.path)) ∙ keeps.kept rows k v op is get;
         }
 
     pub flattened-lengths : HasEndLengths main g

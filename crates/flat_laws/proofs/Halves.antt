@@ -1,16 +1,16 @@
 -- In the flat list of a tree each set half stands right behind its get half, under the same guards.
 use Rattle.std.proofs.Common.{◌≡◌, ℕ, zero, suc, ◌+◌, List, [], ◌∷◌, ◌++◌, map, true, Option, Some, None, slice_get, refl, ap, ◌∙◌, subst}
 use Rattle.level_meaning.specs.declared.source.Source.{Source}
-use Rattle.level_meaning.specs.Level.{Path}
+use Rattle.level_meaning.specs.Level.{Vector, Path}
 use Rattle.algo_tree.specs.Tree.{Label, Kind, sensor, actuator, constant, delay, function, explode, implode, merge, graph, switch, repeat, Vertex, vertex, Vertices, no_vertices, and_vertex}
 use Rattle.algo_tree.specs.Counted.{operations as count}
 use Rattle.inlining_laws.specs.Flat.{Operation, Task, runs, gets, sets, is_get}
-use Rattle.inlining_laws.specs.Inlined.{wire, wirings, inlined_by, inlined, inlined_all, operations}
+use Rattle.inlining_laws.specs.Inlined.{wire, wirings, operation_of, stage_input, stages, inlined_by, inlined, inlined_all, operations}
 
 -- what stands before a set half
 abbrev pub IsHalf : Task → Option Operation → Operation → Type 0
 IsHalf (runs k) before op = Unit {0}
-IsHalf (gets vs) before op = Unit {0}
+IsHalf (gets v) before op = Unit {0}
 IsHalf sets None op = ⊥
 IsHalf sets (Some get) op = (is_get get.task ≡ true) × (get.guards ≡ op.guards) × (get.ins ≡ [])
 
@@ -23,10 +23,14 @@ follow-append : (before : Option Operation) (xs ys : List Operation) → Follow 
 follow-append before [] ys h k = k before
 follow-append before (x ∷ xs) ys h k = (h.0, follow-append (Some x) xs ys h.1 k)
 
+follow-stages : (W : Source → Source) (b : ℕ) (path : Path) (l : Label) (i : ℕ) (vs : List Vector) (p : Option Operation) → Follow p (stages W b path l i vs)
+follow-stages W b path l i [] p = tt
+follow-stages W b path l i (v ∷ vs) p = (tt, ((refl, refl, refl), follow-stages W (b + 2) path l (suc i) vs (Some (operation_of W path i l (stage_input b (map W l.ins) vs) [] sets))))
+
 follow-by : (W : Source → Source) (b : ℕ) (at : Path → Path) (l : Label) (k : Kind) (inner : List Source → ℕ → (Path → Path) → List Operation)
     → ((own : List Source) (p : Option Operation) → Follow p (inner own b (λ q. at (l.part ∷ q)))) → (p : Option Operation) → Follow p (inlined_by W b at l k inner)
 follow-by W b at l (graph outs) inner deep p = deep (map W l.ins) p
-follow-by W b at l (delay vs) inner deep p = (tt, ((refl, refl, refl), tt))
+follow-by W b at l (delay vs) inner deep p = follow-stages W b (at (l.part ∷ [])) l 0 vs p
 follow-by W b at l (switch values names) inner deep p = (tt, tt)
 follow-by W b at l (repeat n feeds gives) inner deep p = (tt, tt)
 follow-by W b at l (sensor n) inner deep p = (tt, tt)

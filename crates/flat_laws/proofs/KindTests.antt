@@ -90,7 +90,7 @@ module _ (bodies : List (List Expr)) (before : Option Operation) where
   fits-pass (Actuator i) lens outs h few set = and_from (length lens == 1) (length outs == 0) (eq-eqb (length lens) 1 h.0) (none-pass outs h.1)
   fits-pass (Function b) lens outs h few set = body-pass bodies b (length lens) (length outs) h.0 few.0 h.1
   fits-pass (Constant z) lens outs h few set = and_from (length lens == 0) (is_only (length z) outs) (none-pass lens h.0) (only-pass (length z) outs h.1)
-  fits-pass (Get z) lens outs h few set = and_from (length lens == 0) (is_only (length z) outs) (none-pass lens h.0) (only-pass (length z) outs (sym h.1))
+  fits-pass (Get z) lens outs h few set = and_from (length lens == 0) (is_only (length z) outs) (none-pass lens h.0) (only-pass (length z) outs h.1)
   fits-pass Set lens outs h few set = and_from (length lens == 1) (length outs == 0) (eq-eqb (length lens) 1 (set refl)) (none-pass outs h.0)
   fits-pass Explode lens outs h few set = only-pass (sum outs) lens h
   fits-pass Implode lens outs h few set = only-pass (sum lens) outs h
@@ -113,7 +113,7 @@ module _ (bodies : List (List Expr)) (before : Option Operation) where
   outs-few (Actuator i) lens outs hl ho h few = let l = ap length h.1 in omega (arith, l)
   outs-few (Function b) lens outs hl ho h few = few.1
   outs-few (Constant z) lens outs hl ho h few = one-few outs (length z) h.1
-  outs-few (Get z) lens outs hl ho h few = one-few outs (length z) (sym h.1)
+  outs-few (Get z) lens outs hl ho h few = one-few outs (length z) h.1
   outs-few Set lens outs hl ho h few = let l = ap length h.0 in omega (arith, l)
   outs-few Explode lens outs hl ho h few = few-explode lens outs hl ho h
   outs-few Implode lens outs hl ho h few = one-few outs (sum lens) h

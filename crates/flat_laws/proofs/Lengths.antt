@@ -88,7 +88,8 @@ module _ (long : Source → ℕ) (none : (k : ℕ) → long (Own k) ≡ 0) where
         ∙ ap (λ ns. slice_index_or ns p 0) (sym t.1)
     measure-by (switch values names) m h t a p = absurd h
     measure-by (repeat n feeds gives) m h t a p = absurd h
-    measure-by (delay vs) m h t a p = m.0 p
+    measure-by (delay []) m h t a p = absurd (omega (arith, h))
+    measure-by (delay (v ∷ vs)) m h t a p = m.0 p
     measure-by (sensor n) m h t a p = m.0 p
     measure-by (actuator n) m h t a p = m.0 p
     measure-by (constant v) m h t a p = m.0 p

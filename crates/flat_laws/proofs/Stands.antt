@@ -64,20 +64,20 @@ module _ (bodies : List (List Expr)) where
   get_task (Merge values) = refl
 
   -- an active operation gives the same, from the same cell
-  same_task : (k : Kind) (outs : List ℕ) (cell : Vector) (kept : List Vector) (row ins : Values) → (is_get k ≡ true → kept ≡ cell ∷ [])
+  same_task : (k : Kind) (outs : List ℕ) (cell kept : Vector) (row ins : Values) → (is_get k ≡ true → kept ≡ cell)
       → kind_outputs bodies k outs cell (sensed k row) ins ≡ task_outputs (task_of bodies k) outs kept row ins
   same_task (Sensor i) outs cell kept row ins h = refl
   same_task (Actuator i) outs cell kept row ins h = refl
   same_task (Function b) outs cell kept row ins h = refl
   same_task (Constant z) outs cell kept row ins h = refl
-  same_task (Get z) outs cell kept row ins h = ap (λ vs. slice_index_or vs 0 [] ∷ []) (sym (h refl))
+  same_task (Get z) outs cell kept row ins h = ap (λ v. v ∷ []) (sym (h refl))
   same_task Set outs cell kept row ins h = refl
   same_task Explode outs cell kept row ins h = refl
   same_task Implode outs cell kept row ins h = refl
   same_task (Merge values) outs cell kept row ins h = refl
 
-  same_node : (x : Vertex) (path : Path) (cell : Vector) (kept : List Vector) → (is_get x.kind ≡ true → kept ≡ cell ∷ []) → node_of bodies cell x ≡ numbered_node kept (operation_at bodies path x)
-  same_node x path cell kept h i = record {
+  same_node : (x : Vertex) (path : Path) (stage : ℕ) (cell kept : Vector) → (is_get x.kind ≡ true → kept ≡ cell) → node_of bodies cell x ≡ numbered_node kept (operation_at bodies path stage x)
+  same_node x path stage cell kept h i = record {
     part = Numbered 0;
     ins = map level_source x.ins;
     asked = map level_source x.ins;
@@ -115,16 +115,16 @@ module _ (bodies : List (List Expr)) where
 
   -- what a set half leaves
   module _ (look : Source → Vector) (y : Vertex) (cell : Vector) where
-    either_set : (b : Bool) (vs : Values) → cond b (drop 1 (cell ∷ []) ++ vector_at vs 0 ∷ []) (cell ∷ []) ≡ stored Set b cell (vector_at vs 0) ∷ []
+    either_set : (b : Bool) (vs : Values) → cond b (vector_at vs 0) cell ≡ stored Set b cell (vector_at vs 0)
     either_set true vs = refl
     either_set false vs = refl
 
-    set_same : (path : Path) → y.kind ≡ Set
-        → numbered_set look (cell ∷ []) (operation_at bodies path y) ≡ kept_by y cell (conditions (λ s. look (level_source s)) y) (inputs (λ s. look (level_source s)) y) ∷ []
-    set_same path e =
-        (λ i. cond (same_guards look y.guards i) (drop 1 (cell ∷ []) ++ vector_at (same_inputs look y.ins i) 0 ∷ []) (cell ∷ []))
+    set_same : (path : Path) (stage : ℕ) → y.kind ≡ Set
+        → numbered_set look cell (operation_at bodies path stage y) ≡ kept_by y cell (conditions (λ s. look (level_source s)) y) (inputs (λ s. look (level_source s)) y)
+    set_same path stage e =
+        (λ i. cond (same_guards look y.guards i) (vector_at (same_inputs look y.ins i) 0) cell)
         ∙ either_set (guards_hold y.guards (conditions (λ s. look (level_source s)) y)) (inputs (λ s. look (level_source s)) y)
-        ∙ ap (λ k. stored k (guards_hold y.guards (conditions (λ s. look (level_source s)) y)) cell (vector_at (inputs (λ s. look (level_source s)) y) 0) ∷ []) (sym e)
+        ∙ ap (λ k. stored k (guards_hold y.guards (conditions (λ s. look (level_source s)) y)) cell (vector_at (inputs (λ s. look (level_source s)) y) 0)) (sym e)
 
   -- what is taken
   module _ (look : Source → Vector) where
@@ -132,23 +132,23 @@ module _ (bodies : List (List Expr)) where
     first_input [] = refl
     first_input (s ∷ ss) = refl
 
-    taken_one : (x : Vertex) (path : Path) (k : Kind) → taken_by (λ s. look (level_source s)) x k ≡ list.taken look (operation_at bodies path x) (task_of bodies k)
-    taken_one x path (Actuator i) = ap (λ v. v ∷ []) (first_input x.ins)
-    taken_one x path (Sensor i) = refl
-    taken_one x path (Function b) = refl
-    taken_one x path (Constant z) = refl
-    taken_one x path (Get z) = refl
-    taken_one x path Set = refl
-    taken_one x path Explode = refl
-    taken_one x path Implode = refl
-    taken_one x path (Merge values) = refl
+    taken_one : (x : Vertex) (path : Path) (stage : ℕ) (k : Kind) → taken_by (λ s. look (level_source s)) x k ≡ list.taken look (operation_at bodies path stage x) (task_of bodies k)
+    taken_one x path stage (Actuator i) = ap (λ v. v ∷ []) (first_input x.ins)
+    taken_one x path stage (Sensor i) = refl
+    taken_one x path stage (Function b) = refl
+    taken_one x path stage (Constant z) = refl
+    taken_one x path stage (Get z) = refl
+    taken_one x path stage Set = refl
+    taken_one x path stage Explode = refl
+    taken_one x path stage Implode = refl
+    taken_one x path stage (Merge values) = refl
 
     taken_same : (a : ℕ) (xs : List Vertex) (ops : List Operation) → AllStand bodies a xs ops → taken (λ s. look (level_source s)) xs ≡ flat_taken look ops
     taken_same a [] [] h = refl
     taken_same a [] (op ∷ ops) h = absurd h
     taken_same a (x ∷ xs) [] h = absurd h
     taken_same a (x ∷ xs) (op ∷ ops) h =
-        ap₂ (λ us vs. us ++ vs) (taken_one x op.path x.kind ∙ ap (λ (o : Operation). list.taken look o o.task) (sym h.0.same)) (taken_same (suc a) xs ops h.1)
+        ap₂ (λ us vs. us ++ vs) (taken_one x op.path op.stage x.kind ∙ ap (λ (o : Operation). list.taken look o o.task) (sym h.0.same)) (taken_same (suc a) xs ops h.1)
 
 -- the initial cell of a get half stands at the number of its delay
 initial_at : (xs : List Vertex) (v : ℕ) (x : Vertex) (z : List ℤ) → slice_get xs v ≡ Some x → x.kind ≡ Get z → vector_at (initial_cells xs) (delay_number xs v) ≡ z
@@ -165,22 +165,22 @@ initial_at (y ∷ ys) (suc v) x z is k = by y.kind (initial_at ys v x z is k)
 
 module _ (g : Graph) (ops : List Operation) (stands : Stands g ops) (paired : Paired ops) where
   abbrev Agrees : Values → Cells → Type 0
-  Agrees cells kept = (v : ℕ) (x : Vertex) → slice_get g.vertices v ≡ Some x → is_get x.kind ≡ true → kept v ≡ cell_of g cells v ∷ []
+  Agrees cells kept = (v : ℕ) (x : Vertex) → slice_get g.vertices v ≡ Some x → is_get x.kind ≡ true → kept v ≡ cell_of g cells v
 
   same_level : (cells : Values) (kept : Cells) (v : ℕ) (xs : List Vertex) (os : List Operation) → AllStand g.bodies v xs os
-      → ((i : ℕ) (x : Vertex) → slice_get xs i ≡ Some x → is_get x.kind ≡ true → kept (v + i) ≡ cell_of g cells (v + i) ∷ [])
+      → ((i : ℕ) (x : Vertex) → slice_get xs i ≡ Some x → is_get x.kind ≡ true → kept (v + i) ≡ cell_of g cells (v + i))
       → nodes_from g cells v xs ≡ numbered_level kept v os
   same_level cells kept v [] [] h same = refl
   same_level cells kept v [] (o ∷ os) h same = absurd h
   same_level cells kept v (x ∷ xs) [] h same = absurd h
   same_level cells kept v (x ∷ xs) (o ∷ os) h same =
       ap₂ (λ c cs. c ∷ cs)
-      (same_node g.bodies x o.path (cell_of g cells v) (kept v) (λ e. subst (λ m. kept m ≡ cell_of g cells m ∷ []) (add-zero v) (same 0 x refl e)) ∙ ap (numbered_node (kept v)) (sym h.0.same))
-      (same_level cells kept (suc v) xs os h.1 (λ i y is e. let n : v + suc i ≡ suc v + i = omega arith in subst (λ m. kept m ≡ cell_of g cells m ∷ []) n (same (suc i) y is e)))
+      (same_node g.bodies x o.path o.stage (cell_of g cells v) (kept v) (λ e. subst (λ m. kept m ≡ cell_of g cells m) (add-zero v) (same 0 x refl e)) ∙ ap (numbered_node (kept v)) (sym h.0.same))
+      (same_level cells kept (suc v) xs os h.1 (λ i y is e. let n : v + suc i ≡ suc v + i = omega arith in subst (λ m. kept m ≡ cell_of g cells m) n (same (suc i) y is e)))
 
   same_value : (row : Values) (cells : Values) (kept : Cells) → Agrees cells kept → level_value (level g cells) row no_state [] ≡ numbered_value ops row kept
   same_value row cells kept h =
-      ap (λ cs. level_value cs row no_state []) (same_level cells kept 0 g.vertices ops stands (λ i x is e. subst (λ m. kept m ≡ cell_of g cells m ∷ []) (sym (zero-add i)) (h i x is e)))
+      ap (λ cs. level_value cs row no_state []) (same_level cells kept 0 g.vertices ops stands (λ i x is e. subst (λ m. kept m ≡ cell_of g cells m) (sym (zero-add i)) (h i x is e)))
 
   abbrev opening : Values
   opening = initial_cells g.vertices
@@ -192,14 +192,14 @@ module _ (g : Graph) (ops : List Operation) (stands : Stands g ops) (paired : Pa
       ap (λ o. with_operation o [] (λ op. initial_value op.task)) f.1
       ∙ ap (λ (o : Operation). initial_value o.task) f.2.same
       ∙ ap (λ t. initial_value (task_of g.bodies t)) z.1
-      ∙ ap (λ c. c ∷ []) (sym (initial_at g.vertices v x z.0 is z.1))
+      ∙ sym (initial_at g.vertices v x z.0 is z.1)
   agrees rows (suc k) v x is e =
       let row = slice_index_or rows k [] in
       let cells = cells_after g rows opening k in
       let kept = numbered_past ops rows k in
       let f = operation_of g.bodies 0 g.vertices ops stands v x is in
       let z = kind_get x.kind e in
-      let task : f.0.task ≡ gets (z.0 ∷ []) = ap (λ (o : Operation). o.task) f.2.same ∙ ap (task_of g.bodies) z.1 in
+      let task : f.0.task ≡ gets z.0 = ap (λ (o : Operation). o.task) f.2.same ∙ ap (task_of g.bodies) z.1 in
       let twin : x.twin ≡ Some (suc v) = subst (λ m. x.twin ≡ Some (suc m)) (zero-add v) (subst (λ t. IsTwin (0 + v) t x.twin) task f.2.twin) in
       let p = pair-at ops paired v f.0 f.1 (ap list.is_get task) in
       let s = p.0 in
@@ -208,8 +208,8 @@ module _ (g : Graph) (ops : List Operation) (stands : Stands g ops) (paired : Pa
       next rows k v x z.0 s y.0 is z.1 twin p.1 y.1 y.2.same set (agrees rows k v x is e) (agrees rows k)
     where
       next : (rows : List Values) (k v : ℕ) (x : Vertex) (z : List ℤ) (s : Operation) (y : Vertex) → slice_get g.vertices v ≡ Some x → x.kind ≡ Get z → x.twin ≡ Some (suc v) → slice_get ops (suc v) ≡ Some s
-          → slice_get g.vertices (suc v) ≡ Some y → s ≡ operation_at g.bodies s.path y → y.kind ≡ Set → numbered_past ops rows k v ≡ cell_of g (cells_after g rows opening k) v ∷ [] → Agrees (cells_after g rows opening k) (numbered_past ops rows k)
-          → numbered_past ops rows (suc k) v ≡ cell_of g (cells_after g rows opening (suc k)) v ∷ []
+          → slice_get g.vertices (suc v) ≡ Some y → s ≡ operation_at g.bodies s.path s.stage y → y.kind ≡ Set → numbered_past ops rows k v ≡ cell_of g (cells_after g rows opening k) v → Agrees (cells_after g rows opening k) (numbered_past ops rows k)
+          → numbered_past ops rows (suc k) v ≡ cell_of g (cells_after g rows opening (suc k)) v
       next rows k v x z s y is kind twin at there same set here all =
           let row = slice_index_or rows k [] in
           let cells = cells_after g rows opening k in
@@ -219,11 +219,11 @@ module _ (g : Graph) (ops : List Operation) (stands : Stands g ops) (paired : Pa
           let read = reads (value_in g cells row) y in
           ap (λ o. with_operation o (kept v) (numbered_set (numbered_value ops row kept) (kept v))) at
           ∙ (λ i. numbered_set (sym (same_value row cells kept all) i) (here i) (same i))
-          ∙ set_same g.bodies look y cell s.path set
-          ∙ ap (λ c. c ∷ []) (sym (
+          ∙ set_same g.bodies look y cell s.path s.stage set
+          ∙ sym (
           is_kept g cells row v (suc v) x y z is kind twin there
           ∙ ap (λ (o : Option Vertex). with_vertex o cell (λ u. kept_by u cell (drop (length u.ins) read) (take (length u.ins) read))) there
-          ∙ (λ i. kept_by y cell (last_reads (value_in g cells row) y i) (first_reads (value_in g cells row) y i))))
+          ∙ (λ i. kept_by y cell (last_reads (value_in g cells row) y i) (first_reads (value_in g cells row) y i)))
 
   taken_list : SameCells ops → (rows : List Values) (k : ℕ) → flat_act_row g rows opening k ≡ list.flat_act_row ops rows k
   taken_list cells rows k =
@@ -231,7 +231,7 @@ module _ (g : Graph) (ops : List Operation) (stands : Stands g ops) (paired : Pa
       let values = same_value row (cells_after g rows opening k) (numbered_past ops rows k) (agrees rows k) ∙ fun_ext (λ s. cells.values rows k s) in
       taken_same g.bodies (level_value (level g (cells_after g rows opening k)) row no_state []) 0 g.vertices ops stands ∙ ap (λ (f : Source → Vector). flat_taken f ops) values
 
-  kept_list : SameCells ops → (rows : List Values) (k v : ℕ) (op : Operation) → slice_get ops v ≡ Some op → list.is_get op.task ≡ true → flat_past ops rows k op.path ≡ cell_of g (cells_after g rows opening k) v ∷ []
+  kept_list : SameCells ops → (rows : List Values) (k v : ℕ) (op : Operation) → slice_get ops v ≡ Some op → list.is_get op.task ≡ true → flat_past ops rows k op.path op.stage ≡ cell_of g (cells_after g rows opening k) v
   kept_list cells rows k v op is e =
       let x = vertex_of g.bodies 0 g.vertices ops stands v op is in
       let get : is_get x.0.kind ≡ true = sym (get_task g.bodies x.0.kind) ∙ ap (λ (o : Operation). list.is_get o.task) (sym x.2.same) ∙ e in
@@ -244,5 +244,5 @@ stands-keeps main g h plain stands =
     let cells = same_cells-main main h plain in
     record {
       taken = λ rows k. taken_list g ops stands (paired-main main) cells rows k ∙ flat.taken rows k;
-      kept = λ rows k v op is e. sym (flat.kept rows k op.path) ∙ kept_list g ops stands (paired-main main) cells rows k v op is e;
+      kept = λ rows k v op is e. sym (flat.kept rows k op.path op.stage) ∙ kept_list g ops stands (paired-main main) cells rows k v op is e;
     }

@@ -36,15 +36,15 @@ module _ (g : Graph) (ops : List Operation) (stands : Stands g ops) (halves : Fo
   getting u o is get =
       let y = vertex_of g.bodies 0 g.vertices ops stands u o is in
       let z = kind_get y.0.kind (sym (get_task g.bodies y.0.kind) ∙ ap (λ (p : Operation). list.is_get p.task) (sym y.2.same) ∙ get) in
-      let task : o.task ≡ gets (z.0 ∷ []) = ap (λ (p : Operation). p.task) y.2.same ∙ ap (task_of g.bodies) z.1 in
+      let task : o.task ≡ gets z.0 = ap (λ (p : Operation). p.task) y.2.same ∙ ap (task_of g.bodies) z.1 in
       let f = fit-some (long g.vertices) None ops fit u o is in
-      let t : IsTaskFit (gets (z.0 ∷ [])) f.0 (map (long g.vertices) o.ins) o.outs = subst (λ t. IsTaskFit t f.0 (map (long g.vertices) o.ins) o.outs) task f.1.task in
+      let t : IsTaskFit (gets z.0) f.0 (map (long g.vertices) o.ins) o.outs = subst (λ t. IsTaskFit t f.0 (map (long g.vertices) o.ins) o.outs) task f.1.task in
       record {
         vertex = y.0;
         is = y.1;
         value = z.0;
         kind = z.1;
-        outs = sym t.1;
+        outs = t.1;
         twin = subst (λ m. y.0.twin ≡ Some (suc m)) (zero-add u) (subst (λ t. IsTwin (0 + u) t y.0.twin) task y.2.twin);
       }
 
@@ -111,8 +111,8 @@ module _ (g : Graph) (ops : List Operation) (stands : Stands g ops) (halves : Fo
       let task = task-is v x op (Get z) h e in
       let p = pair-at ops paired v op is (ap list.is_get task) in
       let f = fit-some (long g.vertices) None ops fit v op is in
-      let t : IsTaskFit (gets (z ∷ [])) f.0 (map (long g.vertices) op.ins) op.outs = subst (λ t. IsTaskFit t f.0 (map (long g.vertices) op.ins) op.outs) task f.1.task in
-      set-half v (length z) op p.0 x.twin (setting v op p.0 is p.1 p.2) (sym t.1)
+      let t : IsTaskFit (gets z) f.0 (map (long g.vertices) op.ins) op.outs = subst (λ t. IsTaskFit t f.0 (map (long g.vertices) op.ins) op.outs) task f.1.task in
+      set-half v (length z) op p.0 x.twin (setting v op p.0 is p.1 p.2) t.1
       (subst (λ m. x.twin ≡ Some (suc m)) (zero-add v) (subst (λ t. IsTwin (0 + v) t x.twin) task h.twin))
 
   -- where a set half stands

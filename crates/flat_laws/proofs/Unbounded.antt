@@ -25,11 +25,11 @@ module _ (n : ℕ) where
 
   abbrev inside : tree.Vertices
   inside =
-      tree.and_vertex (tree.vertex (record { part = Named (codes "f"); definition = codes "F"; ins = []; guards = []; outs = replicate n 1; kind = tree.function body }) tree.no_vertices)
+      tree.and_vertex (tree.vertex (record { part = Named (codes "f"); definition = codes "F"; ins = []; guards = []; outs = replicate n 1; names = []; kind = tree.function body }) tree.no_vertices)
       tree.no_vertices
 
   abbrev main : tree.Vertex
-  main = tree.vertex (record { part = Named (codes "main"); definition = codes "main"; ins = []; guards = []; outs = []; kind = tree.graph [] }) inside
+  main = tree.vertex (record { part = Named (codes "main"); definition = codes "main"; ins = []; guards = []; outs = []; names = []; kind = tree.graph [] }) inside
 
   abbrev graph : List (List Expr) → Graph
   graph bodies = record { vertices = record { name = codes "f"; def = codes "F"; kind = Function 0; guards = []; ins = []; outs = replicate n 1; twin = None } ∷ []; bodies = bodies }

@@ -14,7 +14,7 @@ use Rattle.flat_graph.specs.Valid.{is_path, is_len, is_guard, fits, has_twin, ar
 use Rattle.inlining_laws.specs.Flat.{Operation}
 use Rattle.inlining_laws.specs.Inlined.{operations}
 use Rattle.inlining_laws.specs.Plain.{IsPlain}
-use Rattle.inlining_laws.proofs.Pairs.{AtAll, paired-main}
+use Rattle.inlining_laws.proofs.Pairs.{paired-main}
 use Rattle.path_text.specs.Named.{HasNames}
 use Rattle.path_text.specs.Bounded.{HasBounds}
 use Rattle.flat_laws.specs.Stands.{task_of, Stands}
@@ -27,7 +27,7 @@ use Rattle.flat_laws.proofs.Fits.{IsTaskFit, AllFit, fit-main}
 use Rattle.flat_laws.proofs.Bounds.{IsTaskBounded, tasks-main, tasks-at}
 use Rattle.flat_laws.proofs.KindTests.{long, lens-same, guards-pass, lens-pass, some-pass, fits-pass, outs-few}
 use Rattle.flat_laws.proofs.Twins.{fit-some, twins-pass, set-single}
-use Rattle.flat_laws.proofs.Names.{IsTold, name-pass, told-main}
+use Rattle.flat_laws.proofs.Names.{IsNamedOperation, AreNamed, name-pass, named-main}
 use Rattle.flat_laws.proofs.NamesApart.{apart-main, named-apart}
 
 -- the outputs of operations have the lengths of the vertices that stand for them
@@ -44,10 +44,10 @@ outs-main g ops stands = outs-from g.vertices 0 ops (λ i op is p.
     subst (λ m. long g.vertices (Of m p) ≡ slice_index_or op.outs p 0) (sym (zero-add i))
     (ap (λ x. with_vertex x 0 (λ x. slice_index_or x.outs p 0)) y.1 ∙ ap (λ (o : Operation). slice_index_or o.outs p 0) (sym y.2.same)))
 
-told-at : (ops : List Operation) → AtAll IsTold ops → (v : ℕ) (op : Operation) → slice_get ops v ≡ Some op → IsTold op.path
-told-at [] h v op is = absurd (cc)
-told-at (x ∷ ops) h zero op is = let e : x ≡ op = cc in subst (λ (o : Operation). IsTold o.path) e h.0
-told-at (x ∷ ops) h (suc v) op is = told-at ops h.1 v op is
+named-at : (ops : List Operation) → AreNamed ops → (v : ℕ) (op : Operation) → slice_get ops v ≡ Some op → IsNamedOperation op
+named-at [] h v op is = absurd (cc)
+named-at (x ∷ ops) h zero op is = let e : x ≡ op = cc in subst IsNamedOperation e h.0
+named-at (x ∷ ops) h (suc v) op is = named-at ops h.1 v op is
 
 all_from-each : (test : ℕ → Vertex → Bool) (a : ℕ) (xs : List Vertex) → ((i : ℕ) (x : Vertex) → slice_get xs i ≡ Some x → test (a + i) x ≡ true) → all_from test a xs ≡ true
 all_from-each test a [] h = refl
@@ -78,7 +78,7 @@ module _ (main : tree.Vertex) (g : Graph) (valid : IsTree main) (plain : IsPlain
       subst (λ ns. IsTaskFit (task_of g.bodies x.kind) t.0 ns x.outs) (lens-same g.vertices x.ins) (subst (λ (o : Operation). IsTaskFit o.task t.0 (map (long g.vertices) o.ins) o.outs) f.2.same t.1.task) in
       all_six (is_path x.name) (nat_le (length x.outs) 64 && list_all is_len x.outs) (list_all (is_guard g.vertices) x.guards) (list_all (nat_le 1) (lens_of g.vertices x.ins)) (fits g.bodies x.kind (lens_of g.vertices x.ins) x.outs)
       (has_twin g.vertices v x.kind x.twin)
-      (ap is_path f.2.name ∙ name-pass f.0.path f.0.task (told-at ops (told-main main names bounds) v f.0 f.1))
+      (ap is_path f.2.name ∙ name-pass f.0 (named-at ops (named-main main valid names bounds) v f.0 f.1))
       (and_from (nat_le (length x.outs) 64) (list_all is_len x.outs) (le-leb (length x.outs) 64 (outs-few g.bodies t.0 x.kind (lens_of g.vertices x.ins) x.outs ins outs task bounded)) (lens-pass x.outs outs))
       (guards-pass g.vertices x.guards guards) (some-pass (lens_of g.vertices x.ins) ins)
       (fits-pass g.bodies t.0 x.kind (lens_of g.vertices x.ins) x.outs task bounded (set-single g ops stands (follow-main main) (paired-main main) fit v x f.0 f.1 f.2))
@@ -87,6 +87,6 @@ module _ (main : tree.Vertex) (g : Graph) (valid : IsTree main) (plain : IsPlain
   pub stands-flat : is_flat g ≡ true
   stands-flat =
       all_six (nat_le (length g.vertices) 2048) (are_named_apart g.vertices) (all_from (is_vertex g) 0 g.vertices) (sensors_from 0 (kinds_of g.vertices)) (actuators_from 0 (kinds_of g.vertices)) (is_acyclic g.vertices)
-      (le-leb (length g.vertices) 2048 (few main g valid plain stands)) (named-apart g.bodies 0 g.vertices ops stands (told-main main names bounds) (apart-main main valid plain))
+      (le-leb (length g.vertices) 2048 (few main g valid plain stands)) (named-apart g.bodies 0 g.vertices ops stands (named-main main valid names bounds) (apart-main main valid plain))
       (all_from-each (is_vertex g) 0 g.vertices (λ i x is. subst (λ m. is_vertex g m x ≡ true) (sym (zero-add i)) (vertex-valid i x is)))
       (sensors-numbered main g valid plain stands) (actuators-numbered main g valid plain stands) (stands-acyclic main g valid plain stands)

@@ -38,13 +38,13 @@ kind_of b _ = Set
 
 abbrev pub flat_kind : ℕ → Task → Kind
 flat_kind b (runs k) = kind_of b k
-flat_kind b (gets vs) = Get (slice_index_or vs 0 [])
+flat_kind b (gets v) = Get v
 flat_kind b sets = Set
 
 -- a set half stands right behind its get half
 abbrev pub twin_of : ℕ → Task → Option ℕ
 twin_of v (runs k) = None
-twin_of v (gets vs) = Some (suc v)
+twin_of v (gets z) = Some (suc v)
 twin_of v sets = Some (v - 1)
 
 abbrev pub kind_body : tree.Kind → List (List Expr)
@@ -54,7 +54,7 @@ kind_body _ = []
 -- the body that an operation brings
 abbrev pub body_of : Task → List (List Expr)
 body_of (runs k) = kind_body k
-body_of (gets vs) = []
+body_of (gets v) = []
 body_of sets = []
 
 -- operation v, where the next body has number b

@@ -1,13 +1,19 @@
 -- The names of operations.
-use Rattle.std.specs.Prelude.{ℕ, List, [], ◌++◌, codes}
+use Rattle.std.specs.Prelude.{ℕ, zero, suc, List, [], ◌++◌, codes}
+use Rattle.std.specs.Fmt.{decimal}
 use Rattle.inlining_laws.specs.Flat.{Operation, Task, runs, gets, sets}
 use Rattle.path_text.specs.Texts.{path_text}
 
--- the halves of a delay have one path
-abbrev pub half_text : Task → List ℕ
-half_text (runs k) = []
-half_text (gets vs) = codes ":get"
-half_text sets = codes ":set"
+-- the number of a stage, which the first one does not tell
+abbrev pub stage_text : ℕ → List ℕ
+stage_text zero = []
+stage_text (suc i) = codes "." ++ decimal (suc i)
+
+-- the halves of the stages of a delay have one path
+abbrev pub half_text : Task → ℕ → List ℕ
+half_text (runs k) i = []
+half_text (gets v) i = codes ":get" ++ stage_text i
+half_text sets i = codes ":set" ++ stage_text i
 
 abbrev pub name_of : Operation → List ℕ
-name_of op = path_text op.path ++ half_text op.task
+name_of op = path_text op.path ++ half_text op.task op.stage

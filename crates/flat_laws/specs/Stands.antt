@@ -1,7 +1,7 @@
 -- The flat graph that stands for a flat list: the same operations by the same numbers, whose functions are bodies of the graph.
 use Rattle.std.specs.Prelude.{◌≡◌, ℕ, suc, List, [], ◌∷◌, map, Option, Some, None, true, slice_get, slice_index_or}
 use Rattle.body_lang.specs.Expr.{Expr}
-use Rattle.level_meaning.specs.Level.{Values, Path}
+use Rattle.level_meaning.specs.Level.{Values, Path, vector_at}
 use Rattle.algo_tree.specs.Tree as tree
 use Rattle.algo_tree.specs.Meaning.{past, act_row}
 use Rattle.flat_graph.specs.declared.vertex.Kind.{Kind}
@@ -18,16 +18,17 @@ task_of bodies (Sensor i) = runs (tree.sensor i)
 task_of bodies (Actuator i) = runs (tree.actuator i)
 task_of bodies (Function b) = runs (tree.function (slice_index_or bodies b []))
 task_of bodies (Constant z) = runs (tree.constant z)
-task_of bodies (Get z) = gets (z ∷ [])
+task_of bodies (Get z) = gets z
 task_of bodies Set = sets
 task_of bodies Explode = runs tree.explode
 task_of bodies Implode = runs tree.implode
 task_of bodies (Merge values) = runs (tree.merge values)
 
--- the operation that a vertex of a flat graph is, with this path
-abbrev pub operation_at : List (List Expr) → Path → Vertex → Operation
-operation_at bodies path x = record {
+-- the operation that a vertex of a flat graph is, with this path, of this stage
+abbrev pub operation_at : List (List Expr) → Path → ℕ → Vertex → Operation
+operation_at bodies path i x = record {
   path = path;
+  stage = i;
   definition = x.def;
   ins = map level_source x.ins;
   guards = map level_guard x.guards;
@@ -37,13 +38,13 @@ operation_at bodies path x = record {
 
 -- The twin of operation v: a set half stands right behind its get half.
 abbrev pub IsTwin : ℕ → Task → Option ℕ → Type 0
-IsTwin v (gets vs) twin = twin ≡ Some (suc v)
+IsTwin v (gets z) twin = twin ≡ Some (suc v)
 IsTwin v sets twin = (u : ℕ) × (v ≡ suc u) × (twin ≡ Some u)
 IsTwin v (runs k) twin = twin ≡ None
 
 -- vertex x stands for operation op, of number v
 pub record StandsFor (bodies : List (List Expr)) (v : ℕ) (x : Vertex) (op : Operation) : Type 0 where
-  pub same : op ≡ operation_at bodies op.path x
+  pub same : op ≡ operation_at bodies op.path op.stage x
   pub name : x.name ≡ name_of op
   pub twin : IsTwin v op.task x.twin
 
@@ -58,9 +59,9 @@ abbrev pub Stands : Graph → List Operation → Type 0
 Stands g ops = AllStand g.bodies 0 g.vertices ops
 
 -- A flat graph of the same meaning as a tree. Over any rows of the sensors, from the initial values of the delays: in each reaction
--- the actuators take the same values in the same order, and after any number of reactions the cell of each delay of the list
--- keeps what the tree keeps at its path.
+-- the actuators take the same values in the same order, and after any number of reactions the cells of the stages of each delay
+-- are the list that the tree keeps at its path.
 pub record KeepsGraph (main : tree.Vertex) (g : Graph) (ops : List Operation) : Type 0 where
   pub taken : (rows : List Values) (k : ℕ) → flat_act_row g rows (initial_cells g.vertices) k ≡ act_row main rows k
   pub kept : (rows : List Values) (k v : ℕ) (op : Operation) → slice_get ops v ≡ Some op → is_get op.task ≡ true
-      → past main rows k op.path ≡ cell_of g (cells_after g rows (initial_cells g.vertices) k) v ∷ []
+      → vector_at (past main rows k op.path) op.stage ≡ cell_of g (cells_after g rows (initial_cells g.vertices) k) v

@@ -1,5 +1,5 @@
 //! The ports of a definition.
-ghost use Rattle.std.specs.Prelude.{◌≡◌, ◌++◌, ◌∷◌, ◌≤◌, [], IfOk, IsTrue, OnOk, map};
+ghost use Rattle.std.specs.Prelude.{◌≡◌, ◌++◌, ◌∷◌, ◌≤◌, ◌/◌, [], IfOk, IsTrue, OnOk, length, map};
 ghost use Rattle.std.specs.List.{flat_map};
 ghost use Rattle.algo_rules.specs.Ports.{port, ports_by, outer_ins, outer_outs};
 ghost use Rattle.frontier_check.specs.Bounds.{HasShortPorts, IsBounded};
@@ -25,8 +25,8 @@ pub fn ports_of_body(alloc: Global, body: &Body, inner: &Ports) -> Result<Ports,
             let len = values.as_slice().len() as u32;
             (Vec::new(alloc), one_port(alloc, b"o", len)?)
         }
-        Body::Delay(values) => {
-            let len = values.as_slice().len() as u32;
+        Body::Delay(depth, values) => {
+            let len = group_len(*depth, values.as_slice());
             (one_port(alloc, b"i", len)?, one_port(alloc, b"o", len)?)
         }
         Body::Function { ins, outs } => (
@@ -50,6 +50,15 @@ pub fn ports_of_body(alloc: Global, body: &Body, inner: &Ports) -> Result<Ports,
         ins: Items::new(ins),
         outs: Items::new(outs),
     })
+}
+
+/// The length of each group of a delay's values.
+fn group_len(depth: u32, values: &[i64]) -> u32
+    requires some { 1 ≤ depth }
+    requires short { length values.now / depth ≤ 64 }
+    ensures { result ≡ length values.now / depth }
+{
+    (values.len() / depth as usize) as u32
 }
 
 /// A port alone. Only memory can be short, since this is a name.

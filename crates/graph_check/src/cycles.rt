@@ -21,7 +21,7 @@ use syn_base::{Items, Name, OutOfMemory};
 fn is_delay(def: &Def) -> bool
     ensures { result ≡ is_delay (Some def.now) }
 {
-    matches!(def.body, Body::Delay(_))
+    matches!(def.body, Body::Delay(..))
 }
 
 /// Whether a reference has this name and stands for a delay.

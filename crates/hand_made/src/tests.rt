@@ -28,6 +28,7 @@ fn vertex(
         ins: Items::new(Vec::from_slice(alloc, ins)?),
         guards: Items::new(Vec::new(alloc)),
         outs: Items::new(Vec::from_slice(alloc, outs)?),
+        names: Items::new(Vec::new(alloc)),
         kind,
         inner,
     })
@@ -69,7 +70,8 @@ fn body(alloc: Global) -> Result<Body, Fail> {
 fn delayed(alloc: Global) -> Result<Vertex, Fail> {
     let of_function = [Source::Of(2, 0)];
     let of_delay = [Source::Of(3, 0)];
-    let held = Items::new(vec![in alloc; 3]?);
+    let group = Items::new(vec![in alloc; 3]?);
+    let held = Items::new(vec![in alloc; group]?);
     let mut inner = Vec::new(alloc);
     inner.push(leaf(alloc, b"a", Kind::Actuator(0), &of_delay, &[])?)?;
     inner.push(leaf(alloc, b"b", Kind::Actuator(1), &of_function, &[])?)?;

@@ -1,7 +1,7 @@
 -- What adding the operations of a vertex asks for, and what it answers, seen at a declared vertex.
-use Rattle.std.proofs.Common.{◌≡◌, ℕ, zero, suc, ◌+◌, ◌<◌, ℤ, List, [], ◌∷◌, ◌++◌, length, get_or, map, drop, drop-cons, refl, sym, ap, ap₂, ◌∙◌, subst, arith}
+use Rattle.std.proofs.Common.{◌≡◌, ℕ, zero, suc, ◌+◌, ◌*◌, ◌<◌, ℤ, List, [], ◌∷◌, ◌++◌, length, get_or, map, drop, drop-cons, refl, sym, ap, ap₂, ◌∙◌, subst, arith}
 use Rattle.level_meaning.specs.declared.source.Source.{Source}
-use Rattle.level_meaning.specs.Level.{Path}
+use Rattle.level_meaning.specs.Level.{Vector, Path}
 use Rattle.level_meaning.specs.Order.{IsAcyclic}
 use Rattle.algo_tree.specs.Counted.{operations as count, operations_in as count_all, operations_by}
 use Rattle.algo_tree.specs.Tree.{graph, Label, Vertices}
@@ -14,8 +14,8 @@ use Rattle.algo_tree.specs.declared.vertex.Kind.{Kind}
 use Rattle.algo_tree.specs.declared.vertex.Kind.TheVariants.{Delay, Graph, Switch, Repeat}
 use Rattle.algo_tree.proofs.Views.{view_out}
 use Rattle.flat_graph.specs.Graph.{Graph as Flat}
-use Rattle.inlining_laws.specs.Flat.{Operation, runs, gets, sets}
-use Rattle.inlining_laws.specs.Inlined.{wire, wirings, wire_guard, operation_of, inlined_by, inlined, inlined_all, inlined_level, operations}
+use Rattle.inlining_laws.specs.Flat.{Operation, runs}
+use Rattle.inlining_laws.specs.Inlined.{wire, wirings, wire_guard, operation_of, stages, inlined_by, inlined, inlined_all, inlined_level, operations}
 use Rattle.inlining_laws.specs.Plain.{IsKindPlain, IsPlain, AllPlain}
 use Rattle.path_text.specs.Named.{IsLabelNamed, IsNamed, AllNamed}
 use Rattle.level_order.specs.Order.{nodes_of}
@@ -54,14 +54,14 @@ inside_named u h = (subst IsNamed (view_out u) h).1
 pub inside_plain : (u : Declared) → IsPlain (view u) → AllPlain (vertices_view (inner_of u))
 inside_plain u h = (subst IsPlain (view_out u) h).1
 
-run_by : (k : Kind) → IsKindPlain (kind_view k) → ((values : List ℤ) → k ≡ Delay values → ⊥) → ((outs : List Source) → k ≡ Graph outs → ⊥) → IsRun (kind_view k)
+run_by : (k : Kind) → IsKindPlain (kind_view k) → ((groups : List Vector) → k ≡ Delay groups → ⊥) → ((outs : List Source) → k ≡ Graph outs → ⊥) → IsRun (kind_view k)
 run_by (Delay values) h d g = absurd (d values refl)
 run_by (Graph outs) h d g = absurd (g outs refl)
 run_by (Switch values names) h d g = absurd h
 run_by (Repeat n feeds gives) h d g = absurd h
 run_by _ h d g = tt
 
-pub is_run : (u : Declared) → IsPlain (view u) → ((values : List ℤ) → (out-Vertex u).kind ≡ Delay values → ⊥) → ((outs : List Source) → (out-Vertex u).kind ≡ Graph outs → ⊥) → IsRun (kind_view (out-Vertex u).kind)
+pub is_run : (u : Declared) → IsPlain (view u) → ((groups : List Vector) → (out-Vertex u).kind ≡ Delay groups → ⊥) → ((outs : List Source) → (out-Vertex u).kind ≡ Graph outs → ⊥) → IsRun (kind_view (out-Vertex u).kind)
 is_run u h d g = run_by (out-Vertex u).kind (subst IsPlain (view_out u) h).0 d g
 
 -- the operations of a vertex, by its kind
@@ -78,13 +78,12 @@ module _ (w : Source → Source) (u : Declared) where
       let below = λ (q : Path). at ((out-Vertex u).part ∷ q) in
       subst (λ xs. Built new (ops ++ xs)) (ap (λ ss. inlined_level ss (length ops) below (vertices_view (inner_of u))) from ∙ sym (by_kind (Graph outs) is (length ops) at)) (adds ops h)
 
-  pub delay_adds : (values : List ℤ) → (out-Vertex u).kind ≡ Delay values → (old new : Flat) (at : Path → Path)
-      → Adds old new (λ b. operation_of w (at ((out-Vertex u).part ∷ [])) (label u) [] (out-Vertex u).outs (gets (values ∷ [])) ∷ operation_of w (at ((out-Vertex u).part ∷ [])) (label u) (out-Vertex u).ins [] sets ∷ [])
-      → Adds old new (λ b. inlined w b at (view u))
-  delay_adds values is old new at adds ops h = subst (λ xs. Built new (ops ++ xs)) (sym (by_kind (Delay values) is (length ops) at)) (adds ops h)
+  pub delay_adds : (groups : List Vector) → (out-Vertex u).kind ≡ Delay groups → (old new : Flat) (at : Path → Path)
+      → Adds old new (λ b. stages w b (at ((out-Vertex u).part ∷ [])) (label u) 0 groups) → Adds old new (λ b. inlined w b at (view u))
+  delay_adds groups is old new at adds ops h = subst (λ xs. Built new (ops ++ xs)) (sym (by_kind (Delay groups) is (length ops) at)) (adds ops h)
 
   one_operation : (k : Kind) → IsRun (kind_view k) → (b : ℕ) (at : Path → Path)
-      → inlined_by w b at (label u) (kind_view k) inside ≡ operation_of w (at ((out-Vertex u).part ∷ [])) (label u) (out-Vertex u).ins (out-Vertex u).outs (runs (kind_view k)) ∷ []
+      → inlined_by w b at (label u) (kind_view k) inside ≡ operation_of w (at ((out-Vertex u).part ∷ [])) 0 (label u) (map w (out-Vertex u).ins) (out-Vertex u).outs (runs (kind_view k)) ∷ []
   one_operation (Delay values) h b at = absurd h
   one_operation (Graph outs) h b at = absurd h
   one_operation (Switch values names) h b at = absurd h
@@ -92,7 +91,7 @@ module _ (w : Source → Source) (u : Declared) where
   one_operation _ h b at = refl
 
   pub run_adds : IsRun (kind_view (out-Vertex u).kind) → (old new : Flat) (at : Path → Path)
-      → Adds old new (λ b. operation_of w (at ((out-Vertex u).part ∷ [])) (label u) (out-Vertex u).ins (out-Vertex u).outs (runs (kind_view (out-Vertex u).kind)) ∷ [])
+      → Adds old new (λ b. operation_of w (at ((out-Vertex u).part ∷ [])) 0 (label u) (map w (out-Vertex u).ins) (out-Vertex u).outs (runs (kind_view (out-Vertex u).kind)) ∷ [])
       → Adds old new (λ b. inlined w b at (view u))
   run_adds run old new at adds ops h =
       subst (λ xs. Built new (ops ++ xs)) (sym (by_kind (out-Vertex u).kind refl (length ops) at ∙ one_operation (out-Vertex u).kind run (length ops) at)) (adds ops h)
@@ -103,8 +102,8 @@ module _ (w : Source → Source) (u : Declared) where
   graph_linked outs own is from b linked at =
       subst (λ ss. AllLinked (inlined_level ss b at (vertices_view (inner_of u)))) (sym from) (subst AllLinked (by_kind (Graph outs) is b (λ q. at (drop 1 q))) (linked (λ q. at (drop 1 q))))
 
-  pub delay_linked : (values : List ℤ) → (out-Vertex u).kind ≡ Delay values → (b : ℕ) → AllLinked (inlined w b (λ q. q) (view u)) → AreFound (map w (out-Vertex u).ins) × GuardsFound (map (wire_guard w) (out-Vertex u).guards)
-  delay_linked values is b linked = let h = subst AllLinked (by_kind (Delay values) is b (λ q. q)) linked in h.1.0
+  pub delay_linked : (groups : List Vector) → (out-Vertex u).kind ≡ Delay groups → (b : ℕ) → ((at : Path → Path) → AllLinked (inlined w b at (view u))) → AllLinked (stages w b [] (label u) 0 groups)
+  delay_linked groups is b linked = subst AllLinked (by_kind (Delay groups) is b (λ q. [])) (linked (λ q. []))
 
   pub run_linked : IsRun (kind_view (out-Vertex u).kind) → (b : ℕ) → AllLinked (inlined w b (λ q. q) (view u)) → AreFound (map w (out-Vertex u).ins) × GuardsFound (map (wire_guard w) (out-Vertex u).guards)
   run_linked run b linked =
@@ -114,8 +113,8 @@ module _ (w : Source → Source) (u : Declared) where
 pub graph_counted : (u : Declared) (outs : List Source) → (out-Vertex u).kind ≡ Graph outs → count (view u) ≡ count_all (vertices_view (inner_of u))
 graph_counted u outs is = ap count (view_out u) ∙ ap (λ k. operations_by (kind_view k) (count_all (vertices_view (inner_of u)))) is
 
-pub delay_counted : (u : Declared) (values : List ℤ) → (out-Vertex u).kind ≡ Delay values → count (view u) ≡ 2
-delay_counted u values is = ap count (view_out u) ∙ ap (λ k. operations_by (kind_view k) (count_all (vertices_view (inner_of u)))) is
+pub delay_counted : (u : Declared) (groups : List Vector) → (out-Vertex u).kind ≡ Delay groups → count (view u) ≡ 2 * length groups
+delay_counted u groups is = ap count (view_out u) ∙ ap (λ k. operations_by (kind_view k) (count_all (vertices_view (inner_of u)))) is
 
 count_one : (k : Kind) (n : ℕ) → IsRun (kind_view k) → operations_by (kind_view k) n ≡ 1
 count_one (Delay values) n h = absurd h

@@ -3,13 +3,13 @@ use Rattle.std.proofs.Common.{◌≡◌, ℕ, zero, suc, ◌+◌, ◌<◌, ◌�
 use Rattle.level_meaning.specs.declared.source.Source.{Source}
 use Rattle.level_meaning.specs.declared.source.Source.TheVariants.{Own, Of}
 use Rattle.level_meaning.specs.declared.source.Guard.{Guard}
-use Rattle.level_meaning.specs.Level.{Path}
+use Rattle.level_meaning.specs.Level.{Vector, Path}
 use Rattle.algo_tree.specs.Tree.{Label, Kind, graph, delay, Vertex, vertex, Vertices, no_vertices, and_vertex}
 use Rattle.algo_tree.specs.Counted.{operations as count}
 use Rattle.algo_tree.specs.Typed.{AreLengths, AreGuardsTyped}
 use Rattle.algo_tree.specs.Valid.{IsTree}
 use Rattle.inlining_laws.specs.Flat.{Operation}
-use Rattle.inlining_laws.specs.Inlined.{wire, wirings, wire_guard, inlined_by, inlined, inlined_all, operations}
+use Rattle.inlining_laws.specs.Inlined.{wire, wirings, wire_guard, stages, inlined_by, inlined, inlined_all, operations}
 use Rattle.inlining_laws.specs.Numbered.{with_operation}
 use Rattle.inlining_laws.specs.Plain.{IsPlain}
 use Rattle.flat_laws.proofs.Lengths.{Outs}
@@ -64,10 +64,14 @@ linked_append [] ys h k = k
 linked_append (x ∷ xs) ys h k = (h.0, linked_append xs ys h.1 k)
 
 -- paths do not matter
+anywhere_stages : (w : Source → Source) (b : ℕ) (path other : Path) (l : Label) (i : ℕ) (vs : List Vector) → AllLinked (stages w b path l i vs) → AllLinked (stages w b other l i vs)
+anywhere_stages w b path other l i [] h = tt
+anywhere_stages w b path other l i (v ∷ vs) h = (h.0, (h.1.0, anywhere_stages w (b + 2) path other l (suc i) vs h.1.1))
+
 anywhere_by : (w : Source → Source) (b : ℕ) (at below : Path → Path) (l : Label) (k : Kind) (inner : List Source → ℕ → (Path → Path) → List Operation)
     → ((own : List Source) (c : ℕ) (x y : Path → Path) → AllLinked (inner own c x) → AllLinked (inner own c y)) → AllLinked (inlined_by w b at l k inner) → AllLinked (inlined_by w b below l k inner)
 anywhere_by w b at below l (graph outs) inner deep h = deep (map w l.ins) b (λ q. at (l.part ∷ q)) (λ q. below (l.part ∷ q)) h
-anywhere_by w b at below l (delay vs) inner deep h = h
+anywhere_by w b at below l (delay vs) inner deep h = anywhere_stages w b (at (l.part ∷ [])) (below (l.part ∷ [])) l 0 vs h
 anywhere_by w b at below l _ inner deep h = h
 
 mutual

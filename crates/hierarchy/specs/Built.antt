@@ -9,8 +9,9 @@ use Rattle.flat_graph.specs.declared.vertex.Kind.TheVariants.{Function}
 use Rattle.flat_graph.specs.declared.vertex.Vertex.{Vertex}
 use Rattle.flat_graph.specs.Graph.{Graph}
 use Rattle.flat_graph.specs.Meaning.{level_source, level_guard}
-use Rattle.inlining_laws.specs.Flat.{Operation}
-use Rattle.inlining_laws.specs.Inlined.{wire_guard}
+use Rattle.level_meaning.specs.Level.{Vector, Path}
+use Rattle.inlining_laws.specs.Flat.{Operation, gets, sets}
+use Rattle.inlining_laws.specs.Inlined.{wire_guard, operation_of}
 use Rattle.flat_laws.specs.Numbering.{IsNumbered, bodies_in, HasBodiesInOrder}
 use Rattle.flat_laws.specs.Stands.{Stands}
 use Rattle.hierarchy.specs.declared.operation.Inlined.{Inlined}
@@ -42,10 +43,10 @@ pub record Built (g : Graph) (ops : List Operation) : Type 0 where
 abbrev pub Adds : Graph → Graph → (ℕ → List Operation) → Type 0
 Adds old new more = (ops : List Operation) → Built old ops → Built new (ops ++ more (length ops))
 
--- An operation of a vertex with these inputs and outputs, where the sources of its level lead as w says.
+-- An operation of a vertex with these inputs and outputs, where the sources of the guards of its level lead as w says.
 pub record IsOperation (w : Source → Source) (l : Label) (sources : List Source) (lens : List ℕ) (x : Vertex) : Type 0 where
   pub definition : x.def ≡ l.definition
-  pub ins : map level_source x.ins ≡ map w sources
+  pub ins : map level_source x.ins ≡ sources
   pub guards : map level_guard x.guards ≡ map (wire_guard w) l.guards
   pub outs : x.outs ≡ lens
 
@@ -61,3 +62,7 @@ IsRun _ = Unit {0}
 abbrev pub body_added : tree.Kind → List (List Expr)
 body_added (tree.function es) = es ∷ []
 body_added _ = []
+
+-- the halves of stage i of a delay, which takes what these sources give
+abbrev pub stage_pair : (Source → Source) → Path → ℕ → Label → Vector → List Source → List Operation
+stage_pair w path i l v sources = operation_of w path i l [] l.outs (gets v) ∷ operation_of w path i l sources [] sets ∷ []

@@ -119,7 +119,7 @@ fn add_vertex(
     let text = joined(alloc, path, &vertex.part)?;
     match &vertex.kind {
         Kind::Graph(outputs) => add_graph(alloc, level, &text, vertex, outputs.as_slice(), all),
-        Kind::Delay(values) => add_delay(alloc, level, vertex, &text, values.as_slice(), all),
+        Kind::Delay(groups) => add_delay(alloc, level, vertex, &text, groups.as_slice(), all),
         _ => add_operation(alloc, level, vertex, text, all),
     }
 }

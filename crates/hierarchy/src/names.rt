@@ -1,5 +1,6 @@
 //! The names of operations: the texts of their paths.
 ghost use Rattle.std.specs.Prelude.{◌≡◌, ◌++◌, IfOk};
+ghost use Rattle.flat_laws.specs.Names.{stage_text as text_of_stage};
 ghost use Rattle.hierarchy.specs.Texts.{joined as text_joined};
 
 use itoa::Buffer;
@@ -35,4 +36,15 @@ pub fn joined(alloc: Global, path: &[u8], part: &Part) -> Result<Vec<u8>, OutOfM
         }
         Part::Port(name) => glued(alloc, path, b":", name.as_slice()),
     }
+}
+
+/// What stands behind the name of a half of a delay: the number of its stage, or nothing for stage 0.
+pub fn stage_text(alloc: Global, number: u32) -> Result<Vec<u8>, OutOfMemory>
+    ensures { IfOk result (λ text. text.items ≡ text_of_stage number) }
+{
+    if number == 0 {
+        return Ok(Vec::new(alloc));
+    }
+    let mut buffer = Buffer::new();
+    glued(alloc, b"", b".", buffer.format(number).as_bytes())
 }

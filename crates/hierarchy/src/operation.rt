@@ -1,20 +1,21 @@
 //! Operations, one by one.
-ghost use Rattle.std.specs.Prelude.{◌≡◌, ◌+◌, ◌++◌, ◌∷◌, [], IsTrue, IfOk, OnOk, length, map};
+ghost use Rattle.std.specs.Prelude.{◌≡◌, ◌+◌, ◌*◌, ◌++◌, ◌∷◌, [], true, if◌then◌else◌, IsTrue, IfOk, OnOk, length, map};
 ghost use Rattle.syn_base.specs.Name.{is_name};
 ghost use Rattle.level_meaning.specs.Level.{Path};
 ghost use Rattle.algo_tree.specs.declared.vertex.Vertex.{out-Vertex};
 ghost use Rattle.algo_tree.specs.View.{kind_view, label_view};
 ghost use Rattle.flat_graph.specs.Meaning.{level_guard, level_source};
-ghost use Rattle.inlining_laws.specs.Flat.{gets, runs, sets};
-ghost use Rattle.inlining_laws.specs.Inlined.{operation_of, wire_guard};
+ghost use Rattle.level_meaning.specs.declared.source.Source.TheVariants.{Of};
+ghost use Rattle.inlining_laws.specs.Flat.{runs};
+ghost use Rattle.inlining_laws.specs.Inlined.{operation_of, stages, wire_guard};
 ghost use Rattle.flat_laws.specs.Stands.{task_of};
 ghost use Rattle.path_text.specs.Texts.{path_text};
 ghost use Rattle.hierarchy.specs.Wires.{led};
-ghost use Rattle.hierarchy.specs.Linked.{AreFound, GuardsFound, IsFound};
+ghost use Rattle.hierarchy.specs.Linked.{AllLinked, AreFound, GuardsFound, IsFound};
 ghost use Rattle.flat_laws.specs.Numbering.{IsNumbered, bodies_in};
-ghost use Rattle.hierarchy.specs.Built.{Adds, IsOperation, IsRun, body_added, graph_of};
+ghost use Rattle.hierarchy.specs.Built.{Adds, IsOperation, IsRun, body_added, graph_of, stage_pair};
 
-use crate::names::glued;
+use crate::names::{glued, stage_text};
 use crate::numbers::number;
 use crate::wires::{Level, follow};
 use algo_tree::{Kind, Vertex};
@@ -37,7 +38,7 @@ pub struct Inlined {
 struct Form<'a> {
     name: Vec<u8>,
     task: Task,
-    ins: &'a [Source],
+    ins: &'a [Output],
     outs: &'a [u32],
     twin: Option<u32>,
 }
@@ -114,16 +115,15 @@ fn operation(
     form: Form<'_>,
 ) -> Result<Operation, OutOfMemory>
     requires definition { IsTrue (is_name (out-Vertex vertex.now).definition) }
-    requires ins { AreFound (map (led level.now.leds.now level.now.own.now) form.ins.now) }
     requires guards { GuardsFound (map (wire_guard (led level.now.leds.now level.now.own.now)) (out-Vertex vertex.now).guards) }
-    ensures is { IfOk result (λ x. IsOperation (led level.now.leds.now level.now.own.now) (label_view (out-Vertex vertex.now)) form.entry.ins.now form.entry.outs.now x) }
+    ensures is { IfOk result (λ x. IsOperation (led level.now.leds.now level.now.own.now) (label_view (out-Vertex vertex.now)) (map level_source form.entry.ins.now) form.entry.outs.now x) }
     ensures name { IfOk result (λ x. x.name ≡ form.entry.name.items) }
     ensures task { IfOk result (λ x. x.kind ≡ form.entry.task) }
     ensures twin { IfOk result (λ x. x.twin ≡ form.entry.twin) }
 {
     let def = definition(alloc, vertex.definition.as_slice())?;
     let guards = conditions(alloc, level, vertex.guards.as_slice())?;
-    let ins = outputs_of(alloc, level, form.ins)?;
+    let ins = Vec::from_slice(alloc, form.ins)?;
     let outs = copy_lens(alloc, form.outs)?;
     Ok(Operation {
         name: Items::new(form.name),
@@ -136,40 +136,97 @@ fn operation(
     })
 }
 
-/// Adds the two halves of a delay with these initial values: the first gives the kept value, the
-/// second takes the next one.
-pub fn add_delay(
+/// A stage of a delay: the text of the path of the delay, its number in it, and its initial value.
+#[derive(Clone, Copy)]
+struct Stage<'a> {
+    path: &'a [u8],
+    number: u32,
+    values: &'a [i64],
+}
+
+/// What a stage of a delay with these sources takes, whose get half has number `get`: the value of the
+/// stage behind it, or the delay's input if it is the last.
+fn stage_ins(
+    alloc: Global,
+    level: &Level<'_>,
+    sources: &[Source],
+    is_last: bool,
+    get: u32,
+) -> Result<Vec<Output>, OutOfMemory>
+    requires { is_last ≡ true → AreFound (map (led level.now.leds.now level.now.own.now) sources.now) }
+    ensures { IfOk result (λ os. map level_source os.items ≡ (if is_last then map (led level.now.leds.now level.now.own.now) sources.now else Of (get + 2) 0 ∷ [])) }
+{
+    if is_last {
+        return outputs_of(alloc, level, sources);
+    }
+    match get.checked_add(2) {
+        Some(vertex) => Ok(vec![in alloc; Output { vertex, port: 0 }]?),
+        None => Err(OutOfMemory),
+    }
+}
+
+/// Adds the two halves of a stage of a delay, which takes what `ins` says: the first gives the kept
+/// value, the second takes the next one.
+fn add_stage(
     alloc: Global,
     level: &Level<'_>,
     vertex: &Vertex,
-    path: &[u8],
-    values: &[i64],
+    stage: &Stage<'_>,
+    ins: &[Output],
     all: &mut Inlined,
 ) -> Result<(), OutOfMemory>
     requires definition { IsTrue (is_name (out-Vertex vertex.now).definition) }
-    requires ins { AreFound (map (led level.now.leds.now level.now.own.now) (out-Vertex vertex.now).ins) }
     requires guards { GuardsFound (map (wire_guard (led level.now.leds.now level.now.own.now)) (out-Vertex vertex.now).guards) }
     ensures count { OnOk result (length all.new.vertices.items ≡ length all.old.vertices.items + 2) }
-    ensures added { OnOk result ((at : Path) → path_text at ≡ path.now → Adds (graph_of all.old) (graph_of all.new) (λ b. operation_of (led level.now.leds.now level.now.own.now) at (label_view (out-Vertex vertex.now)) [] (out-Vertex vertex.now).outs (gets (values.now ∷ [])) ∷ operation_of (led level.now.leds.now level.now.own.now) at (label_view (out-Vertex vertex.now)) (out-Vertex vertex.now).ins [] sets ∷ [])) }
+    ensures added { OnOk result ((at : Path) → path_text at ≡ stage.now.path.now → Adds (graph_of all.old) (graph_of all.new) (λ b. stage_pair (led level.now.leds.now level.now.own.now) at stage.now.number (label_view (out-Vertex vertex.now)) stage.now.values.now (map level_source ins.now))) }
 {
     let get = number(all.vertices.len())?;
     let set = number(all.vertices.len() + 1)?;
+    let text = stage_text(alloc, stage.number)?;
     let gives = Form {
-        name: glued(alloc, path, b":get", b"")?,
-        task: Task::Get(copy_numbers(alloc, values)?),
+        name: glued(alloc, stage.path, b":get", &text)?,
+        task: Task::Get(copy_numbers(alloc, stage.values)?),
         ins: &[],
         outs: vertex.outs.as_slice(),
         twin: Some(set),
     };
     let takes = Form {
-        name: glued(alloc, path, b":set", b"")?,
+        name: glued(alloc, stage.path, b":set", &text)?,
         task: Task::Set,
-        ins: vertex.ins.as_slice(),
+        ins,
         outs: &[],
         twin: Some(get),
     };
     all.vertices.push(operation(alloc, level, vertex, gives)?)?;
     all.vertices.push(operation(alloc, level, vertex, takes)?)?;
+    Ok(())
+}
+
+/// Adds the stages of a delay with these groups of initial values, from the first to the last.
+pub fn add_delay(
+    alloc: Global,
+    level: &Level<'_>,
+    vertex: &Vertex,
+    path: &[u8],
+    groups: &[Items<i64>],
+    all: &mut Inlined,
+) -> Result<(), OutOfMemory>
+    requires definition { IsTrue (is_name (out-Vertex vertex.now).definition) }
+    requires linked { AllLinked (stages (led level.now.leds.now level.now.own.now) (length all.old.vertices.items) [] (label_view (out-Vertex vertex.now)) 0 groups.now) }
+    ensures count { OnOk result (length all.new.vertices.items ≡ length all.old.vertices.items + 2 * length groups.now) }
+    ensures added { OnOk result ((at : Path) → path_text at ≡ path.now → Adds (graph_of all.old) (graph_of all.new) (λ b. stages (led level.now.leds.now level.now.own.now) b at (label_view (out-Vertex vertex.now)) 0 groups.now)) }
+{
+    for at in 0..groups.len() {
+        let is_last = at + 1 == groups.len();
+        let get = number(all.vertices.len())?;
+        let ins = stage_ins(alloc, level, vertex.ins.as_slice(), is_last, get)?;
+        let stage = Stage {
+            path,
+            number: number(at)?,
+            values: groups[at].as_slice(),
+        };
+        add_stage(alloc, level, vertex, &stage, &ins, all)?;
+    }
     Ok(())
 }
 
@@ -216,12 +273,13 @@ pub fn add_operation(
     requires guards { GuardsFound (map (wire_guard (led level.now.leds.now level.now.own.now)) (out-Vertex vertex.now).guards) }
     requires kind { IsRun (kind_view (out-Vertex vertex.now).kind) }
     ensures count { OnOk result (length all.new.vertices.items ≡ length all.old.vertices.items + 1) }
-    ensures added { OnOk result ((at : Path) → path_text at ≡ path.items → Adds (graph_of all.old) (graph_of all.new) (λ b. operation_of (led level.now.leds.now level.now.own.now) at (label_view (out-Vertex vertex.now)) (out-Vertex vertex.now).ins (out-Vertex vertex.now).outs (runs (kind_view (out-Vertex vertex.now).kind)) ∷ [])) }
+    ensures added { OnOk result ((at : Path) → path_text at ≡ path.items → Adds (graph_of all.old) (graph_of all.new) (λ b. operation_of (led level.now.leds.now level.now.own.now) at 0 (label_view (out-Vertex vertex.now)) (map (led level.now.leds.now level.now.own.now) (out-Vertex vertex.now).ins) (out-Vertex vertex.now).outs (runs (kind_view (out-Vertex vertex.now).kind)) ∷ [])) }
 {
+    let ins = outputs_of(alloc, level, vertex.ins.as_slice())?;
     let form = Form {
         name: path,
         task: task(alloc, &vertex.kind, &mut all.bodies)?,
-        ins: vertex.ins.as_slice(),
+        ins: &ins,
         outs: vertex.outs.as_slice(),
         twin: None,
     };

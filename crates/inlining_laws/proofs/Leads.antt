@@ -5,12 +5,12 @@ use Rattle.level_meaning.specs.declared.source.Source.{Source}
 use Rattle.level_meaning.specs.declared.source.Source.TheVariants.{Own, Of}
 use Rattle.algo_tree.specs.Tree.{Label, Kind, sensor, actuator, constant, delay, function, explode, implode, merge, graph, switch, repeat, Vertex, vertex, Vertices, no_vertices, and_vertex}
 use Rattle.level_meaning.specs.declared.source.Guard.{Guard}
-use Rattle.level_meaning.specs.Level.{State, Path, Node, with_node}
+use Rattle.level_meaning.specs.Level.{Vector, Path, Node, with_node}
 use Rattle.level_meaning.specs.Order.{source_ready, sources_ready, guards_ready, is_ready, settled, IsAcyclic}
 use Rattle.level_meaning.specs.Cycles.{IsOf, IsAmong, IsGuarding, Asks, Reaches, asks, goes}
 use Rattle.algo_tree.specs.Meaning.{asked_by, node, nodes}
-use Rattle.inlining_laws.specs.Flat.{Operation, runs, gets, sets, node_of}
-use Rattle.inlining_laws.specs.Inlined.{nowhere, with_wiring, wire, gives_by, wiring, wirings, wire_guard, operation_of, inlined_by, inlined, inlined_all, inlined_level}
+use Rattle.inlining_laws.specs.Flat.{Operation, Stages, runs, gets, sets, node_of}
+use Rattle.inlining_laws.specs.Inlined.{nowhere, with_wiring, wire, gives_by, wiring, wirings, wire_guard, operation_of, stage_input, stages, inlined_by, inlined, inlined_all, inlined_level}
 use Rattle.algo_tree.specs.Counted.{operations as count}
 use Rattle.inlining_laws.proofs.Inlinable.{IsKindInlinable, CanInline, AllCanInline}
 use Rattle.level_meaning.proofs.Fuel.{in_range, and-left, and-right}
@@ -41,7 +41,7 @@ acyclic-from_ends cs all =
     reach-range r (asks a) = in_range cs r a.at a.is
     reach-range r (goes a rest) = in_range cs r a.at a.is
 
-module _ (F : List Node) (cells : State) where
+module _ (F : List Node) (cells : Stages) where
   abbrev pub SourceEnds : Source → Type 0
   SourceEnds (Own k) = Unit {0}
   SourceEnds (Of v p) = Ends F v
@@ -150,14 +150,15 @@ module _ (F : List Node) (cells : State) where
     lead-by (graph outs) m h g a p = at-output _ outs p (leads (map W l.ins) b (λ q. at (l.part ∷ q)) h.1.0 a m)
     lead-by (switch values names) m h g a p = absurd h
     lead-by (repeat n feeds gives) m h g a p = absurd h
-    lead-by (delay v) m h g a p = op-ends b (operation_of W (at (l.part ∷ [])) l [] l.outs (gets v)) m.0 g a
-    lead-by (sensor n) m h g a p = op-ends b (operation_of W (at (l.part ∷ [])) l l.ins l.outs (runs (sensor n))) m.0 g a
-    lead-by (actuator n) m h g a p = op-ends b (operation_of W (at (l.part ∷ [])) l l.ins l.outs (runs (actuator n))) m.0 g a
-    lead-by (constant v) m h g a p = op-ends b (operation_of W (at (l.part ∷ [])) l l.ins l.outs (runs (constant v))) m.0 g a
-    lead-by (function es) m h g a p = op-ends b (operation_of W (at (l.part ∷ [])) l l.ins l.outs (runs (function es))) m.0 g a
-    lead-by explode m h g a p = op-ends b (operation_of W (at (l.part ∷ [])) l l.ins l.outs (runs explode)) m.0 g a
-    lead-by implode m h g a p = op-ends b (operation_of W (at (l.part ∷ [])) l l.ins l.outs (runs implode)) m.0 g a
-    lead-by (merge values) m h g a p = op-ends b (operation_of W (at (l.part ∷ [])) l l.ins l.outs (runs (merge values))) m.0 g a
+    lead-by (delay []) m h g a p = absurd (omega (arith, h))
+    lead-by (delay (v ∷ vs)) m h g a p = op-ends b (operation_of W (at (l.part ∷ [])) 0 l [] l.outs (gets v)) m.0 g a
+    lead-by (sensor n) m h g a p = op-ends b (operation_of W (at (l.part ∷ [])) 0 l (map W l.ins) l.outs (runs (sensor n))) m.0 g a
+    lead-by (actuator n) m h g a p = op-ends b (operation_of W (at (l.part ∷ [])) 0 l (map W l.ins) l.outs (runs (actuator n))) m.0 g a
+    lead-by (constant v) m h g a p = op-ends b (operation_of W (at (l.part ∷ [])) 0 l (map W l.ins) l.outs (runs (constant v))) m.0 g a
+    lead-by (function es) m h g a p = op-ends b (operation_of W (at (l.part ∷ [])) 0 l (map W l.ins) l.outs (runs (function es))) m.0 g a
+    lead-by explode m h g a p = op-ends b (operation_of W (at (l.part ∷ [])) 0 l (map W l.ins) l.outs (runs explode)) m.0 g a
+    lead-by implode m h g a p = op-ends b (operation_of W (at (l.part ∷ [])) 0 l (map W l.ins) l.outs (runs implode)) m.0 g a
+    lead-by (merge values) m h g a p = op-ends b (operation_of W (at (l.part ∷ [])) 0 l (map W l.ins) l.outs (runs (merge values))) m.0 g a
 
   mutual
     lead-vertex : (W : Source → Source) (b : ℕ) (at : Path → Path) (u : Vertex) → CanInline u → Placed b (inlined W b at u) → GuardsEnd (map (wire_guard W) (node u).guards) → AllEnd (map W (node u).asked) → (p : ℕ)
@@ -192,19 +193,36 @@ module _ (F : List Node) (cells : State) where
     abbrev inside2 : List Source → ℕ → (Path → Path) → List Operation
     inside2 own c below' = inlined_all (wire (wirings c us) own) c below' us
 
+    -- a get half asks for no input, a set half for the get half of the stage behind it or for the delay's input
+    behind-ends : (c i : ℕ) (vs : List Vector) → Placed (c + 2) (stages W (c + 2) (at (l.part ∷ [])) l (suc i) vs) → AllEnd (stage_input c (map W l.ins) vs)
+    behind-ends c i [] m = wired-end W l.ins all
+    behind-ends c i (v ∷ vs) m = (op-ends (c + 2) (operation_of W (at (l.part ∷ [])) (suc i) l [] l.outs (gets v)) m.0 (wired_guards-end W l.guards all) tt, tt)
+
+    each-stages : (c i : ℕ) (vs : List Vector) → Placed c (stages W c (at (l.part ∷ [])) l i vs) → EachEnds c (stages W c (at (l.part ∷ [])) l i vs)
+    each-stages c i [] m = tt
+    each-stages c i (v ∷ vs) m =
+        let two : suc (suc c) ≡ c + 2 = omega arith in
+        let rest = subst (λ n. Placed n (stages W (c + 2) (at (l.part ∷ [])) l (suc i) vs)) two m.1.1 in (
+          op-ends c (operation_of W (at (l.part ∷ [])) i l [] l.outs (gets v)) m.0 (wired_guards-end W l.guards all) tt,
+          (
+            op-ends (suc c) (operation_of W (at (l.part ∷ [])) i l (stage_input c (map W l.ins) vs) [] sets) m.1.0 (wired_guards-end W l.guards all) (behind-ends c i vs rest),
+            subst (λ n. EachEnds n (stages W (c + 2) (at (l.part ∷ [])) l (suc i) vs)) (sym two) (each-stages (c + 2) (suc i) vs rest),
+          ),
+        )
+
     each-by : (leads : Leads us) → ((own : List Source) (c : ℕ) (at' : Path → Path) → ((s : Source) → SourceEnds (wire (wirings c us) own s)) → Placed c (inside2 own c at') → EachEnds c (inside2 own c at'))
         → (k : Kind) → Placed b (inlined_by W b at l k inside2) → IsKindInlinable k l.guards (nodes us) → EachEnds b (inlined_by W b at l k inside2)
     each-by leads deeper (graph outs) m h = deeper (map W l.ins) b (λ q. at (l.part ∷ q)) (leads (map W l.ins) b (λ q. at (l.part ∷ q)) h.1.0 (wired-end W l.ins all) m) m
     each-by leads deeper (switch values names) m h = absurd h
     each-by leads deeper (repeat n feeds gives) m h = absurd h
-    each-by leads deeper (delay v) m h = (op-ends b (operation_of W (at (l.part ∷ [])) l [] l.outs (gets v)) m.0 (wired_guards-end W l.guards all) tt, (op-ends (suc b) (operation_of W (at (l.part ∷ [])) l l.ins [] sets) m.1.0 (wired_guards-end W l.guards all) (wired-end W l.ins all), tt))
-    each-by leads deeper (sensor n) m h = (op-ends b (operation_of W (at (l.part ∷ [])) l l.ins l.outs (runs (sensor n))) m.0 (wired_guards-end W l.guards all) (wired-end W l.ins all), tt)
-    each-by leads deeper (actuator n) m h = (op-ends b (operation_of W (at (l.part ∷ [])) l l.ins l.outs (runs (actuator n))) m.0 (wired_guards-end W l.guards all) (wired-end W l.ins all), tt)
-    each-by leads deeper (constant v) m h = (op-ends b (operation_of W (at (l.part ∷ [])) l l.ins l.outs (runs (constant v))) m.0 (wired_guards-end W l.guards all) (wired-end W l.ins all), tt)
-    each-by leads deeper (function es) m h = (op-ends b (operation_of W (at (l.part ∷ [])) l l.ins l.outs (runs (function es))) m.0 (wired_guards-end W l.guards all) (wired-end W l.ins all), tt)
-    each-by leads deeper explode m h = (op-ends b (operation_of W (at (l.part ∷ [])) l l.ins l.outs (runs explode)) m.0 (wired_guards-end W l.guards all) (wired-end W l.ins all), tt)
-    each-by leads deeper implode m h = (op-ends b (operation_of W (at (l.part ∷ [])) l l.ins l.outs (runs implode)) m.0 (wired_guards-end W l.guards all) (wired-end W l.ins all), tt)
-    each-by leads deeper (merge values) m h = (op-ends b (operation_of W (at (l.part ∷ [])) l l.ins l.outs (runs (merge values))) m.0 (wired_guards-end W l.guards all) (wired-end W l.ins all), tt)
+    each-by leads deeper (delay vs) m h = each-stages b 0 vs m
+    each-by leads deeper (sensor n) m h = (op-ends b (operation_of W (at (l.part ∷ [])) 0 l (map W l.ins) l.outs (runs (sensor n))) m.0 (wired_guards-end W l.guards all) (wired-end W l.ins all), tt)
+    each-by leads deeper (actuator n) m h = (op-ends b (operation_of W (at (l.part ∷ [])) 0 l (map W l.ins) l.outs (runs (actuator n))) m.0 (wired_guards-end W l.guards all) (wired-end W l.ins all), tt)
+    each-by leads deeper (constant v) m h = (op-ends b (operation_of W (at (l.part ∷ [])) 0 l (map W l.ins) l.outs (runs (constant v))) m.0 (wired_guards-end W l.guards all) (wired-end W l.ins all), tt)
+    each-by leads deeper (function es) m h = (op-ends b (operation_of W (at (l.part ∷ [])) 0 l (map W l.ins) l.outs (runs (function es))) m.0 (wired_guards-end W l.guards all) (wired-end W l.ins all), tt)
+    each-by leads deeper explode m h = (op-ends b (operation_of W (at (l.part ∷ [])) 0 l (map W l.ins) l.outs (runs explode)) m.0 (wired_guards-end W l.guards all) (wired-end W l.ins all), tt)
+    each-by leads deeper implode m h = (op-ends b (operation_of W (at (l.part ∷ [])) 0 l (map W l.ins) l.outs (runs implode)) m.0 (wired_guards-end W l.guards all) (wired-end W l.ins all), tt)
+    each-by leads deeper (merge values) m h = (op-ends b (operation_of W (at (l.part ∷ [])) 0 l (map W l.ins) l.outs (runs (merge values))) m.0 (wired_guards-end W l.guards all) (wired-end W l.ins all), tt)
 
   mutual
     each-vertex : (W : Source → Source) (b : ℕ) (at : Path → Path) (u : Vertex) → CanInline u → ((s : Source) → SourceEnds (W s)) → Placed b (inlined W b at u) → EachEnds b (inlined W b at u)

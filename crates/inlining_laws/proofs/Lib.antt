@@ -1,5 +1,6 @@
 pub mod Inlinable
 pub mod Parts
+pub mod Long
 pub mod Wires
 pub mod Leads
 pub mod Cells

@@ -1,5 +1,5 @@
 -- Where a source of a level leads in the flat list, and the values that are found there.
-use Rattle.std.proofs.Common.{◌≡◌, ℕ, zero, suc, ◌+◌, ◌≤◌, ◌==◌, inl, inr, List, [], ◌∷◌, ◌++◌, length, map, slice_index_or, Bool, true, false, cond, ◌&&◌, Option, Some, None, slice_get, refl, sym, ap, ap₂, ◌∙◌, subst, arith, length-append}
+use Rattle.std.proofs.Common.{◌≡◌, ℕ, zero, suc, ◌+◌, ◌*◌, ◌≤◌, ◌==◌, inl, inr, List, [], ◌∷◌, ◌++◌, length, map, slice_index_or, Bool, true, false, cond, ◌&&◌, Option, Some, None, slice_get, refl, sym, ap, ap₂, ◌∙◌, subst, arith, length-append}
 use Rattle.std.proofs.lemmas.Bool.{cases_lt, false≢true}
 use Rattle.level_meaning.specs.declared.source.Source.{Source}
 use Rattle.level_meaning.specs.declared.source.Source.TheVariants.{Own, Of}
@@ -8,10 +8,11 @@ use Rattle.level_meaning.specs.declared.source.Guard.{Guard}
 use Rattle.level_meaning.specs.Level.{Values, Vector, State, Path, Node, below, vector_at, zeros, selected, source_value, all_hold, with_node, node_outputs, out, level_value, graph_outputs}
 use Rattle.level_meaning.specs.Order.{sources_ready, guards_ready, is_ready, settled, IsAcyclic}
 use Rattle.algo_tree.specs.Meaning.{asked_by, node, nodes, kind_outputs}
-use Rattle.inlining_laws.specs.Flat.{Operation, Task, runs, gets, task_outputs, node_of, no_state}
-use Rattle.inlining_laws.specs.Inlined.{nowhere, Wiring, with_wiring, wire_source, wire_out, wire, gives_by, wiring, wirings, wire_guard, operation_of, inlined_by, inlined, inlined_all, inlined_level}
+use Rattle.inlining_laws.specs.Flat.{Operation, Task, runs, gets, task_outputs, stages_of, node_of, no_state}
+use Rattle.inlining_laws.specs.Inlined.{nowhere, Wiring, with_wiring, wire_source, wire_out, wire, gives_by, wiring, wirings, wire_guard, operation_of, stages, inlined_by, inlined, inlined_all, inlined_level}
 use Rattle.algo_tree.specs.Counted.{operations as count, operations_in as count_all, operations_by as count_by}
-use Rattle.inlining_laws.proofs.Inlinable.{with_kind, IsKindInlinable, CanInline, AllCanInline}
+use Rattle.inlining_laws.specs.Plain.{IsKindPlain, IsPlain, AllPlain}
+use Rattle.inlining_laws.proofs.Inlinable.{with_kind, IsKindInlinable, CanInline, AllCanInline, is_plain}
 use Rattle.level_meaning.proofs.Fuel.{Agree, same_outputs, and-left, and-right}
 use Rattle.pass_laws.proofs.Lists.{map_map, none_past}
 
@@ -104,34 +105,41 @@ module _ (own : List Source) where
       | inr past ↦ ap (given (wire_out ws own (length ws)) p) (none_past ws r past) ∙ sym (wire_past (length ws) r past p)
     ]
 
+pub long-stages : (w : Source → Source) (b : ℕ) (path : Path) (l : Label) (i : ℕ) (vs : List Vector) → length (stages w b path l i vs) ≡ 2 * length vs
+long-stages w b path l i [] = refl
+long-stages w b path l i (v ∷ vs) = let rest = long-stages w (b + 2) path l (suc i) vs in omega (arith, rest)
+
 -- a vertex has as many operations as it stands for
-long-by : (w : Source → Source) (b : ℕ) (at : Path → Path) (l : Label) (k : Kind) (cs : List Node) (n : ℕ) (inner : List Source → ℕ → (Path → Path) → List Operation)
-    → IsKindInlinable k l.guards cs → ((own : List Source) (c : ℕ) (below' : Path → Path) → length (inner own c below') ≡ n) → length (inlined_by w b at l k inner) ≡ count_by k n
-long-by w b at l (graph outs) cs n inner h deep = deep (map w l.ins) b (λ q. at (l.part ∷ q))
-long-by w b at l (switch values names) cs n inner h deep = absurd h
-long-by w b at l (repeat m feeds gives) cs n inner h deep = absurd h
-long-by w b at l (delay vs) cs n inner h deep = refl
-long-by w b at l (sensor m) cs n inner h deep = refl
-long-by w b at l (actuator m) cs n inner h deep = refl
-long-by w b at l (constant v) cs n inner h deep = refl
-long-by w b at l (function es) cs n inner h deep = refl
-long-by w b at l explode cs n inner h deep = refl
-long-by w b at l implode cs n inner h deep = refl
-long-by w b at l (merge values) cs n inner h deep = refl
+long-by : (w : Source → Source) (b : ℕ) (at : Path → Path) (l : Label) (k : Kind) (n : ℕ) (inner : List Source → ℕ → (Path → Path) → List Operation)
+    → IsKindPlain k → ((own : List Source) (c : ℕ) (below' : Path → Path) → length (inner own c below') ≡ n) → length (inlined_by w b at l k inner) ≡ count_by k n
+long-by w b at l (graph outs) n inner h deep = deep (map w l.ins) b (λ q. at (l.part ∷ q))
+long-by w b at l (switch values names) n inner h deep = absurd h
+long-by w b at l (repeat m feeds gives) n inner h deep = absurd h
+long-by w b at l (delay vs) n inner h deep = long-stages w b (at (l.part ∷ [])) l 0 vs
+long-by w b at l (sensor m) n inner h deep = refl
+long-by w b at l (actuator m) n inner h deep = refl
+long-by w b at l (constant v) n inner h deep = refl
+long-by w b at l (function es) n inner h deep = refl
+long-by w b at l explode n inner h deep = refl
+long-by w b at l implode n inner h deep = refl
+long-by w b at l (merge values) n inner h deep = refl
 
 mutual
-  pub long-inlined : (w : Source → Source) (b : ℕ) (at : Path → Path) (u : Vertex) → CanInline u → length (inlined w b at u) ≡ count u
-  long-inlined w b at (vertex l us) h = long-by w b at l l.kind (nodes us) (count_all us) _ h.0 (λ own c below'. long-all (wire (wirings c us) own) c below' us h.1)
+  pub long-plain : (w : Source → Source) (b : ℕ) (at : Path → Path) (u : Vertex) → IsPlain u → length (inlined w b at u) ≡ count u
+  long-plain w b at (vertex l us) h = long-by w b at l l.kind (count_all us) _ h.0 (λ own c below'. long-plain_all (wire (wirings c us) own) c below' us h.1)
 
-  pub long-all : (w : Source → Source) (b : ℕ) (at : Path → Path) (us : Vertices) → AllCanInline us → length (inlined_all w b at us) ≡ count_all us
-  long-all w b at no_vertices h = refl
-  long-all w b at (and_vertex u us) h =
-      length-append (inlined w b at u) (inlined_all w (b + count u) at us) ∙ ap₂ (λ m n. m + n) (long-inlined w b at u h.0) (long-all w (b + count u) at us h.1)
+  pub long-plain_all : (w : Source → Source) (b : ℕ) (at : Path → Path) (us : Vertices) → AllPlain us → length (inlined_all w b at us) ≡ count_all us
+  long-plain_all w b at no_vertices h = refl
+  long-plain_all w b at (and_vertex u us) h =
+      length-append (inlined w b at u) (inlined_all w (b + count u) at us) ∙ ap₂ (λ m n. m + n) (long-plain w b at u h.0) (long-plain_all w (b + count u) at us h.1)
+
+pub long-inlined : (w : Source → Source) (b : ℕ) (at : Path → Path) (u : Vertex) → CanInline u → length (inlined w b at u) ≡ count u
+long-inlined w b at u h = long-plain w b at u (is_plain u h)
 
 -- The values of the flat list: V gives for each operation what the operation makes of V.
-module _ (row : Values) (cells : State) (V : Source → Vector) (nothing : (k : ℕ) → V (Own k) ≡ []) where
+module _ (row : Values) (kept : State) (V : Source → Vector) (nothing : (k : ℕ) → V (Own k) ≡ []) where
   abbrev pub op_outputs : Operation → Values
-  op_outputs op = node_outputs row no_state V (node_of cells op)
+  op_outputs op = node_outputs row no_state V (node_of (stages_of kept) op)
 
   abbrev pub Meets : ℕ → List Operation → Type 0
   Meets b [] = Unit {0}
@@ -150,9 +158,9 @@ module _ (row : Values) (cells : State) (V : Source → Vector) (nothing : (k : 
   hold-wired W (g ∷ gs) = ap (λ b. (selected g.values (V (W g.source)) == g.case) && b) (hold-wired W gs)
 
   -- what an operation gives, as its vertex
-  op_is : (W : Source → Source) (b : ℕ) (path : Path) (l : Label) (ss : List Source) (task : Task) (st : State) (gives : Values → Values) → Meets b (operation_of W path l ss l.outs task ∷ []) → ((ins : Values) → task_outputs task l.outs (cells path) row ins ≡ gives ins) → (p : ℕ)
+  pub op_is : (W : Source → Source) (b : ℕ) (path : Path) (i : ℕ) (l : Label) (ss : List Source) (task : Task) (gives : Values → Values) → Meets b (operation_of W path i l (map W ss) l.outs task ∷ []) → ((ins : Values) → task_outputs task l.outs (vector_at (kept path) i) row ins ≡ gives ins) → (p : ℕ)
       → vector_at (cond (all_hold (λ s. V (W s)) l.guards) (gives (map (λ s. V (W s)) ss)) (map zeros l.outs)) p ≡ V (Of b p)
-  op_is W b path l ss task st gives h same p =
+  op_is W b path i l ss task gives h same p =
       sym (h.0 p ∙ ap (λ vs. vector_at vs p) (ap₂ (λ t vs. cond t vs (map zeros l.outs)) (hold-wired W l.guards) (same (map V (map W ss)) ∙ ap gives (map_map V W ss))))
 
   -- the outputs of a graph
@@ -169,15 +177,15 @@ module _ (row : Values) (cells : State) (V : Source → Vector) (nothing : (k : 
   -- each source of a level has the value that stands where it leads
   abbrev pub Reads : Vertices → Type 0
   Reads us = (own : List Source) (b : ℕ) (at : Path → Path) (ins : Values) → IsAcyclic (nodes us) → ((k : ℕ) → V (slice_index_or own k nowhere) ≡ vector_at ins k) → Meets b (inlined_level own b at us)
-      → (s : Source) → level_value (nodes us) row (λ q. cells (at q)) ins s ≡ V (wire (wirings b us) own s)
+      → (s : Source) → level_value (nodes us) row (λ q. kept (at q)) ins s ≡ V (wire (wirings b us) own s)
 
   -- from the equation of each vertex
   read-level : (us : Vertices) (own : List Source) (b : ℕ) (at : Path → Path) (ins : Values) → IsAcyclic (nodes us) → ((k : ℕ) → V (slice_index_or own k nowhere) ≡ vector_at ins k)
-      → ((r p : ℕ) → vector_at (with_node (slice_get (nodes us) r) [] (λ c. node_outputs row (below c.part (λ q. cells (at q))) (λ s. V (wire (wirings b us) own s)) c)) p
+      → ((r p : ℕ) → vector_at (with_node (slice_get (nodes us) r) [] (λ c. node_outputs row (below c.part (λ q. kept (at q))) (λ s. V (wire (wirings b us) own s)) c)) p
       ≡ V (with_wiring (slice_get (wirings b us) r) nowhere (λ w. w.gives (map (wire (wirings b us) own) w.asked) p)))
-      → (s : Source) → level_value (nodes us) row (λ q. cells (at q)) ins s ≡ V (wire (wirings b us) own s)
+      → (s : Source) → level_value (nodes us) row (λ q. kept (at q)) ins s ≡ V (wire (wirings b us) own s)
   read-level us own b at ins acyclic fed each =
-      level_is (nodes us) row (λ q. cells (at q)) ins (λ s. V (wire (wirings b us) own s)) fed
+      level_is (nodes us) row (λ q. kept (at q)) ins (λ s. V (wire (wirings b us) own s)) fed
       (λ r p. each r p ∙ ap V (wire_fix own (wirings b us) (nodes us) (matched b us) acyclic r p)) acyclic
 
   module _ (W : Source → Source) (b : ℕ) (at : Path → Path) (l : Label) (us : Vertices) (reads : Reads us) where
@@ -188,30 +196,31 @@ module _ (row : Values) (cells : State) (V : Source → Vector) (nothing : (k : 
     inside own c below' = inlined_all (wire (wirings c us) own) c below' us
 
     read-by : (k : Kind) → Meets b (inlined_by W b at l k inside) → IsKindInlinable k l.guards (nodes us) → (p : ℕ)
-        → vector_at (node_outputs row (λ q. cells (at (l.part ∷ q))) look (node (vertex (with_kind l k) us))) p ≡ V (gives_by b k (λ c. wirings c us) (map W (asked_by k l.ins)) p)
+        → vector_at (node_outputs row (λ q. kept (at (l.part ∷ q))) look (node (vertex (with_kind l k) us))) p ≡ V (gives_by b k (λ c. wirings c us) (map W (asked_by k l.ins)) p)
     read-by (graph outs) m h p =
-        ap (λ gs. vector_at (cond (all_hold look gs) (graph_outputs outs (nodes us) row (λ q. cells (at (l.part ∷ q))) (map look l.ins)) (map zeros l.outs)) p) h.0
-        ∙ graph_wired (level_value (nodes us) row (λ q. cells (at (l.part ∷ q))) (map look l.ins)) (wire (wirings b us) (map W l.ins))
+        ap (λ gs. vector_at (cond (all_hold look gs) (graph_outputs outs (nodes us) row (λ q. kept (at (l.part ∷ q))) (map look l.ins)) (map zeros l.outs)) p) h.0
+        ∙ graph_wired (level_value (nodes us) row (λ q. kept (at (l.part ∷ q))) (map look l.ins)) (wire (wirings b us) (map W l.ins))
         (reads (map W l.ins) b (λ q. at (l.part ∷ q)) (map look l.ins) h.1.0 (own_wired W l.ins) m) outs p
     read-by (switch values names) m h p = absurd h
     read-by (repeat n feeds gives) m h p = absurd h
-    read-by (delay v) m h p = op_is W b (at (l.part ∷ [])) l [] (gets v) no_state (λ ins. slice_index_or (cells (at (l.part ∷ []))) 0 [] ∷ []) (m.0, tt) (λ ins. refl) p
-    read-by (sensor n) m h p = op_is W b (at (l.part ∷ [])) l l.ins (runs (sensor n)) no_state (kind_outputs (sensor n) l.outs (nodes us) row (λ q. cells (at (l.part ∷ q)))) m (λ ins. refl) p
-    read-by (actuator n) m h p = op_is W b (at (l.part ∷ [])) l l.ins (runs (actuator n)) no_state (kind_outputs (actuator n) l.outs (nodes us) row (λ q. cells (at (l.part ∷ q)))) m (λ ins. refl) p
-    read-by (constant v) m h p = op_is W b (at (l.part ∷ [])) l l.ins (runs (constant v)) no_state (kind_outputs (constant v) l.outs (nodes us) row (λ q. cells (at (l.part ∷ q)))) m (λ ins. refl) p
-    read-by (function es) m h p = op_is W b (at (l.part ∷ [])) l l.ins (runs (function es)) no_state (kind_outputs (function es) l.outs (nodes us) row (λ q. cells (at (l.part ∷ q)))) m (λ ins. refl) p
-    read-by explode m h p = op_is W b (at (l.part ∷ [])) l l.ins (runs explode) no_state (kind_outputs explode l.outs (nodes us) row (λ q. cells (at (l.part ∷ q)))) m (λ ins. refl) p
-    read-by implode m h p = op_is W b (at (l.part ∷ [])) l l.ins (runs implode) no_state (kind_outputs implode l.outs (nodes us) row (λ q. cells (at (l.part ∷ q)))) m (λ ins. refl) p
-    read-by (merge values) m h p = op_is W b (at (l.part ∷ [])) l l.ins (runs (merge values)) no_state (kind_outputs (merge values) l.outs (nodes us) row (λ q. cells (at (l.part ∷ q)))) m (λ ins. refl) p
+    read-by (delay []) m h p = absurd (omega (arith, h))
+    read-by (delay (v ∷ vs)) m h p = op_is W b (at (l.part ∷ [])) 0 l [] (gets v) (λ ins. vector_at (kept (at (l.part ∷ []))) 0 ∷ []) (m.0, tt) (λ ins. refl) p
+    read-by (sensor n) m h p = op_is W b (at (l.part ∷ [])) 0 l l.ins (runs (sensor n)) (kind_outputs (sensor n) l.outs (nodes us) row (λ q. kept (at (l.part ∷ q)))) m (λ ins. refl) p
+    read-by (actuator n) m h p = op_is W b (at (l.part ∷ [])) 0 l l.ins (runs (actuator n)) (kind_outputs (actuator n) l.outs (nodes us) row (λ q. kept (at (l.part ∷ q)))) m (λ ins. refl) p
+    read-by (constant v) m h p = op_is W b (at (l.part ∷ [])) 0 l l.ins (runs (constant v)) (kind_outputs (constant v) l.outs (nodes us) row (λ q. kept (at (l.part ∷ q)))) m (λ ins. refl) p
+    read-by (function es) m h p = op_is W b (at (l.part ∷ [])) 0 l l.ins (runs (function es)) (kind_outputs (function es) l.outs (nodes us) row (λ q. kept (at (l.part ∷ q)))) m (λ ins. refl) p
+    read-by explode m h p = op_is W b (at (l.part ∷ [])) 0 l l.ins (runs explode) (kind_outputs explode l.outs (nodes us) row (λ q. kept (at (l.part ∷ q)))) m (λ ins. refl) p
+    read-by implode m h p = op_is W b (at (l.part ∷ [])) 0 l l.ins (runs implode) (kind_outputs implode l.outs (nodes us) row (λ q. kept (at (l.part ∷ q)))) m (λ ins. refl) p
+    read-by (merge values) m h p = op_is W b (at (l.part ∷ [])) 0 l l.ins (runs (merge values)) (kind_outputs (merge values) l.outs (nodes us) row (λ q. kept (at (l.part ∷ q)))) m (λ ins. refl) p
 
   mutual
     read-vertex : (W : Source → Source) (b : ℕ) (at : Path → Path) (u : Vertex) → CanInline u → Meets b (inlined W b at u) → (p : ℕ)
-        → vector_at (node_outputs row (below (node u).part (λ q. cells (at q))) (λ s. V (W s)) (node u)) p ≡ V ((wiring b u).gives (map W (wiring b u).asked) p)
+        → vector_at (node_outputs row (below (node u).part (λ q. kept (at q))) (λ s. V (W s)) (node u)) p ≡ V ((wiring b u).gives (map W (wiring b u).asked) p)
     read-vertex W b at (vertex l us) h m p =
         read-by W b at l us (λ own c at' ins acyclic fed met. read-level us own c at' ins acyclic fed (read-all (wire (wirings c us) own) c at' us h.1 met)) l.kind m h.0 p
 
     read-all : (W : Source → Source) (b : ℕ) (at : Path → Path) (us : Vertices) → AllCanInline us → Meets b (inlined_all W b at us) → (r p : ℕ)
-        → vector_at (with_node (slice_get (nodes us) r) [] (λ c. node_outputs row (below c.part (λ q. cells (at q))) (λ s. V (W s)) c)) p
+        → vector_at (with_node (slice_get (nodes us) r) [] (λ c. node_outputs row (below c.part (λ q. kept (at q))) (λ s. V (W s)) c)) p
         ≡ V (with_wiring (slice_get (wirings b us) r) nowhere (λ w. w.gives (map W w.asked) p))
     read-all W b at no_vertices h m r p = sym (nothing 0)
     read-all W b at (and_vertex u us) h m zero p = read-vertex W b at u h.0 (meets-left b (inlined W b at u) _ m) p

@@ -4,7 +4,7 @@ use Rattle.std.specs.Prelude.{ℕ, zero, suc, ◌+◌, List, [], ◌∷◌, ◌+
 use Rattle.level_meaning.specs.declared.source.Source.{Source}
 use Rattle.level_meaning.specs.declared.source.Source.TheVariants.{Own, Of}
 use Rattle.level_meaning.specs.declared.source.Guard.{Guard}
-use Rattle.level_meaning.specs.Level.{Path}
+use Rattle.level_meaning.specs.Level.{Vector, Path}
 use Rattle.algo_tree.specs.Tree.{Label, Kind, delay, graph, Vertex, vertex, Vertices, no_vertices, and_vertex}
 use Rattle.algo_tree.specs.Meaning.{asked_by}
 use Rattle.algo_tree.specs.Counted.{operations as count}
@@ -54,24 +54,35 @@ abbrev mutual
 abbrev pub wire_guard : (Source → Source) → Guard → Guard
 wire_guard w g = record { source = w g.source; values = g.values; case = g.case }
 
--- an operation of a vertex, where the sources of its level lead as w says
-abbrev pub operation_of : (Source → Source) → Path → Label → List Source → List ℕ → Task → Operation
-operation_of w path l ins outs task = record {
+-- an operation of a vertex, with these sources, where the sources of the guards of its level lead as w says
+abbrev pub operation_of : (Source → Source) → Path → ℕ → Label → List Source → List ℕ → Task → Operation
+operation_of w path i l ins outs task = record {
   path = path;
+  stage = i;
   definition = l.definition;
-  ins = map w ins;
+  ins = ins;
   guards = map (wire_guard w) l.guards;
   outs = outs;
   task = task;
 }
 
+-- What a stage takes, whose get half has number b: the value of the stage behind it, or the delay's input if it is the last.
+abbrev pub stage_input : ℕ → List Source → List Vector → List Source
+stage_input b ins [] = ins
+stage_input b ins (v ∷ vs) = Of (b + 2) 0 ∷ []
+
+-- The stages of a delay from stage i on, each its get half and then its set half, of which the first has number b.
+abbrev pub stages : (Source → Source) → ℕ → Path → Label → ℕ → List Vector → List Operation
+stages w b path l i [] = []
+stages w b path l i (v ∷ vs) =
+    operation_of w path i l [] l.outs (gets v) ∷ operation_of w path i l (stage_input b (map w l.ins) vs) [] sets ∷ stages w (b + 2) path l (suc i) vs
+
 -- The operations of a vertex, of which the first has number b. `at` makes a path below its level one of the whole, and `inner` are
--- the operations of the level inside it. A delay is its get half and then its set half.
+-- the operations of the level inside it.
 abbrev pub inlined_by : (Source → Source) → ℕ → (Path → Path) → Label → Kind → (List Source → ℕ → (Path → Path) → List Operation) → List Operation
 inlined_by w b at l (graph outs) inner = inner (map w l.ins) b (λ q. at (l.part ∷ q))
-inlined_by w b at l (delay vs) inner =
-    operation_of w (at (l.part ∷ [])) l [] l.outs (gets vs) ∷ operation_of w (at (l.part ∷ [])) l l.ins [] sets ∷ []
-inlined_by w b at l k inner = operation_of w (at (l.part ∷ [])) l l.ins l.outs (runs k) ∷ []
+inlined_by w b at l (delay vs) inner = stages w b (at (l.part ∷ [])) l 0 vs
+inlined_by w b at l k inner = operation_of w (at (l.part ∷ [])) 0 l (map w l.ins) l.outs (runs k) ∷ []
 
 abbrev mutual
   pub inlined : (Source → Source) → ℕ → (Path → Path) → Vertex → List Operation

@@ -1,6 +1,6 @@
--- The flat meaning with cells by number: each delay's cell is told by the number of its get half, and its set half is the next
--- operation. No path is looked up.
-use Rattle.std.specs.Prelude.{◌≡◌, ℕ, zero, suc, List, [], ◌∷◌, ◌++◌, map, drop, if◌then◌else◌, slice_index_or, slice_get, Option, Some, None, true}
+-- The flat meaning with cells by number: the cell of each stage of a delay is told by the number of its get half, and its set half
+-- is the next operation. No path is looked up.
+use Rattle.std.specs.Prelude.{◌≡◌, ℕ, zero, suc, List, [], ◌∷◌, map, if◌then◌else◌, slice_index_or, slice_get, Option, Some, None, true}
 use Rattle.level_meaning.specs.declared.source.Source.{Source}
 use Rattle.level_meaning.specs.declared.part.Part.TheVariants.{Numbered}
 use Rattle.level_meaning.specs.Level.{Vector, Values, Node, vector_at, all_hold, level_value}
@@ -8,10 +8,10 @@ use Rattle.inlining_laws.specs.Flat.{Operation, task_outputs, no_state, is_get, 
 
 -- what is kept, by the number of the get half
 abbrev pub Cells : Type 0
-Cells = ℕ → List Vector
+Cells = ℕ → Vector
 
 -- an operation as a node of a level, with this cell
-abbrev pub numbered_node : List Vector → Operation → Node
+abbrev pub numbered_node : Vector → Operation → Node
 numbered_node kept op = record {
   part = Numbered 0;
   ins = op.ins;
@@ -34,8 +34,8 @@ with_operation None a f = a
 with_operation (Some op) a f = f op
 
 -- what a set half leaves in this cell
-abbrev pub numbered_set : (Source → Vector) → List Vector → Operation → List Vector
-numbered_set look kept op = if all_hold look op.guards then drop 1 kept ++ vector_at (map look op.ins) 0 ∷ [] else kept
+abbrev pub numbered_set : (Source → Vector) → Vector → Operation → Vector
+numbered_set look kept op = if all_hold look op.guards then vector_at (map look op.ins) 0 else kept
 
 abbrev pub numbered_next : (Source → Vector) → Cells → List Operation → Cells
 numbered_next look cells ops v = with_operation (slice_get ops (suc v)) (cells v) (numbered_set look (cells v))
@@ -48,7 +48,7 @@ abbrev pub numbered_past : List Operation → List Values → ℕ → Cells
 numbered_past ops rows zero = numbered_first ops
 numbered_past ops rows (suc k) = numbered_next (numbered_value ops (slice_index_or rows k []) (numbered_past ops rows k)) (numbered_past ops rows k) ops
 
--- The cell of each get half is that of its path, and each source has the same value.
+-- The cell of each get half is that of its path and stage, and each source has the same value.
 pub record SameCells (ops : List Operation) : Type 0 where
-  pub cells : (rows : List Values) (k v : ℕ) (op : Operation) → slice_get ops v ≡ Some op → is_get op.task ≡ true → numbered_past ops rows k v ≡ flat_past ops rows k op.path
+  pub cells : (rows : List Values) (k v : ℕ) (op : Operation) → slice_get ops v ≡ Some op → is_get op.task ≡ true → numbered_past ops rows k v ≡ flat_past ops rows k op.path op.stage
   pub values : (rows : List Values) (k : ℕ) (s : Source) → numbered_value ops (slice_index_or rows k []) (numbered_past ops rows k) s ≡ flat_value ops (slice_index_or rows k []) (flat_past ops rows k) s

@@ -1,30 +1,24 @@
 -- The flat list of a tree of graphs and operations has the operations of the tree.
-use Rattle.std.proofs.Common.{◌≡◌, ℕ, ◌+◌, List, [], ◌∷◌, ◌++◌, map, append-nil, slice_index_or, refl, sym, ap, ap₂, ◌∙◌}
+use Rattle.std.proofs.Common.{◌≡◌, ℕ, suc, ◌+◌, List, [], ◌∷◌, ◌++◌, map, append-nil, slice_index_or, refl, sym, ap, ap₂, ◌∙◌}
 use Rattle.std.proofs.lemmas.List.{append_assoc, map-append}
 use Rattle.level_meaning.specs.declared.source.Source.{Source}
 use Rattle.level_meaning.specs.declared.source.Guard.{Guard}
 use Rattle.level_meaning.specs.declared.part.Part.TheVariants.{Numbered}
-use Rattle.level_meaning.specs.Level.{Path}
+use Rattle.level_meaning.specs.Level.{Vector, Path}
 use Rattle.algo_tree.specs.Tree.{Label, Kind, sensor, actuator, constant, delay, function, explode, implode, merge, graph, switch, repeat, Vertex, vertex, Vertices, no_vertices, and_vertex}
 use Rattle.algo_tree.specs.Counted.{operations as count}
 use Rattle.algo_tree.specs.Typed.{label_of}
 use Rattle.algo_tree.specs.Valid.{IsTree}
 use Rattle.algo_tree.specs.Well.{IsKindWell, IsWell, AllWell}
 use Rattle.inlining_laws.specs.Flat.{Operation, Task, runs, gets, sets}
-use Rattle.inlining_laws.specs.Inlined.{wire, wirings, wire_guard, operation_of, inlined_by, inlined, inlined_all, operations}
+use Rattle.inlining_laws.specs.Inlined.{wire, wirings, wire_guard, operation_of, stage_input, stages, inlined_by, inlined, inlined_all, operations}
 use Rattle.inlining_laws.specs.Plain.{IsKindPlain, IsPlain, AllPlain}
-use Rattle.operation_table.specs.Table.{Condition, Row, row, rows_by, condition_of, inside, conditions_of, unit_rows, graph_rows, case_rows, copy_rows, table}
+use Rattle.operation_table.specs.Table.{Condition, Row, stage_row, delay_rows, rows_by, condition_of, inside, conditions_of, unit_rows, graph_rows, case_rows, copy_rows, table}
 use Rattle.operation_table.proofs.Rows.{vertex_rows}
 use Rattle.operation_table.proofs.Guarding.{conditions}
 
--- a delay has one initial value
-abbrev pub once : Task → Task
-once (runs k) = runs k
-once (gets vs) = gets (slice_index_or vs 0 [] ∷ [])
-once sets = sets
-
 abbrev pub operation_row : Operation → Row
-operation_row op = row op.path op.definition (conditions op.guards) op.outs (once op.task)
+operation_row op = stage_row op.path op.stage op.definition (conditions op.guards) op.outs op.task
 
 -- what an operation may be
 abbrev pub IsFlatKind : Kind → Type 0
@@ -36,7 +30,7 @@ IsFlatKind _ = Unit {0}
 
 abbrev pub IsFlatTask : Task → Type 0
 IsFlatTask (runs k) = IsFlatKind k
-IsFlatTask (gets vs) = Unit {0}
+IsFlatTask (gets v) = Unit {0}
 IsFlatTask sets = Unit {0}
 
 abbrev pub AllFlat : List Operation → Type 0
@@ -52,9 +46,21 @@ conditions-wired w [] = refl
 conditions-wired w (g ∷ gs) = ap (λ cs. condition_of g ∷ cs) (conditions-wired w gs)
 
 -- one operation of a vertex
-one : (w : Source → Source) (p path : Path) (l : Label) (ins : List Source) (outs : List ℕ) (task : Task) → path ≡ inside p l.part
-    → operation_row (operation_of w path l ins outs task) ≡ row (inside p l.part) l.definition (conditions l.guards) outs (once task)
-one w p path l ins outs task e = ap₂ (λ q cs. row q l.definition cs outs (once task)) e (conditions-wired w l.guards)
+one : (w : Source → Source) (p path : Path) (i : ℕ) (l : Label) (ins : List Source) (outs : List ℕ) (task : Task) → path ≡ inside p l.part
+    → operation_row (operation_of w path i l ins outs task) ≡ stage_row (inside p l.part) i l.definition (conditions l.guards) outs task
+one w p path i l ins outs task e = ap₂ (λ q cs. stage_row q i l.definition cs outs task) e (conditions-wired w l.guards)
+
+-- the stages of a delay
+rows-stages : (w : Source → Source) (b : ℕ) (p path : Path) (i : ℕ) (l : Label) (vs : List Vector) → path ≡ inside p l.part
+    → map operation_row (stages w b path l i vs) ≡ delay_rows (inside p l.part) (conditions l.guards) l.definition l.outs i vs
+rows-stages w b p path i l [] e = refl
+rows-stages w b p path i l (v ∷ vs) e =
+    ap₂ (λ x y. x ∷ y) (one w p path i l [] l.outs (gets v) e)
+    (ap₂ (λ x y. x ∷ y) (one w p path i l (stage_input b (map w l.ins) vs) [] sets e) (rows-stages w (b + 2) p path (suc i) l vs e))
+
+flat-stages : (w : Source → Source) (b : ℕ) (path : Path) (i : ℕ) (l : Label) (vs : List Vector) → AllFlat (stages w b path l i vs)
+flat-stages w b path i l [] = tt
+flat-stages w b path i l (v ∷ vs) = (tt, (tt, flat-stages w (b + 2) path (suc i) l vs))
 
 module _ (w : Source → Source) (b : ℕ) (at : Path → Path) (p : Path) (l : Label) (us : Vertices) (inner : List Source → ℕ → (Path → Path) → List Operation) where
   abbrev rows_of : Kind → List Row
@@ -68,21 +74,20 @@ module _ (w : Source → Source) (b : ℕ) (at : Path → Path) (p : Path) (l : 
       I (map w l.ins) b (λ q. at (l.part ∷ q)) (λ q. along (l.part ∷ q) ∙ sym (append_assoc p (l.part ∷ []) q)) ∙ ap (λ gs. graph_rows (inside p l.part) (conditions gs) us) (sym well.0)
   by-kind (switch values names) plain well along I = absurd plain
   by-kind (repeat n feeds gives) plain well along I = absurd plain
-  by-kind (delay vs) plain well along I =
-      ap₂ (λ x y. x ∷ y ∷ []) (one w p (at (l.part ∷ [])) l [] l.outs (gets vs) (along (l.part ∷ []))) (one w p (at (l.part ∷ [])) l l.ins [] sets (along (l.part ∷ [])))
-  by-kind (sensor m) plain well along I = ap (λ x. x ∷ []) (one w p (at (l.part ∷ [])) l l.ins l.outs (runs (sensor m)) (along (l.part ∷ [])))
-  by-kind (actuator m) plain well along I = ap (λ x. x ∷ []) (one w p (at (l.part ∷ [])) l l.ins l.outs (runs (actuator m)) (along (l.part ∷ [])))
-  by-kind (constant v) plain well along I = ap (λ x. x ∷ []) (one w p (at (l.part ∷ [])) l l.ins l.outs (runs (constant v)) (along (l.part ∷ [])))
-  by-kind (function es) plain well along I = ap (λ x. x ∷ []) (one w p (at (l.part ∷ [])) l l.ins l.outs (runs (function es)) (along (l.part ∷ [])))
-  by-kind explode plain well along I = ap (λ x. x ∷ []) (one w p (at (l.part ∷ [])) l l.ins l.outs (runs explode) (along (l.part ∷ [])))
-  by-kind implode plain well along I = ap (λ x. x ∷ []) (one w p (at (l.part ∷ [])) l l.ins l.outs (runs implode) (along (l.part ∷ [])))
-  by-kind (merge values) plain well along I = ap (λ x. x ∷ []) (one w p (at (l.part ∷ [])) l l.ins l.outs (runs (merge values)) (along (l.part ∷ [])))
+  by-kind (delay vs) plain well along I = rows-stages w b p (at (l.part ∷ [])) 0 l vs (along (l.part ∷ []))
+  by-kind (sensor m) plain well along I = ap (λ x. x ∷ []) (one w p (at (l.part ∷ [])) 0 l (map w l.ins) l.outs (runs (sensor m)) (along (l.part ∷ [])))
+  by-kind (actuator m) plain well along I = ap (λ x. x ∷ []) (one w p (at (l.part ∷ [])) 0 l (map w l.ins) l.outs (runs (actuator m)) (along (l.part ∷ [])))
+  by-kind (constant v) plain well along I = ap (λ x. x ∷ []) (one w p (at (l.part ∷ [])) 0 l (map w l.ins) l.outs (runs (constant v)) (along (l.part ∷ [])))
+  by-kind (function es) plain well along I = ap (λ x. x ∷ []) (one w p (at (l.part ∷ [])) 0 l (map w l.ins) l.outs (runs (function es)) (along (l.part ∷ [])))
+  by-kind explode plain well along I = ap (λ x. x ∷ []) (one w p (at (l.part ∷ [])) 0 l (map w l.ins) l.outs (runs explode) (along (l.part ∷ [])))
+  by-kind implode plain well along I = ap (λ x. x ∷ []) (one w p (at (l.part ∷ [])) 0 l (map w l.ins) l.outs (runs implode) (along (l.part ∷ [])))
+  by-kind (merge values) plain well along I = ap (λ x. x ∷ []) (one w p (at (l.part ∷ [])) 0 l (map w l.ins) l.outs (runs (merge values)) (along (l.part ∷ [])))
 
   flat-kind : (k : Kind) → IsKindPlain k → ((own : List Source) (c : ℕ) (below : Path → Path) → AllFlat (inner own c below)) → AllFlat (inlined_by w b at l k inner)
   flat-kind (graph outs) plain I = I (map w l.ins) b (λ q. at (l.part ∷ q))
   flat-kind (switch values names) plain I = absurd plain
   flat-kind (repeat n feeds gives) plain I = absurd plain
-  flat-kind (delay vs) plain I = (tt, (tt, tt))
+  flat-kind (delay vs) plain I = flat-stages w b (at (l.part ∷ [])) 0 l vs
   flat-kind (sensor m) plain I = (tt, tt)
   flat-kind (actuator m) plain I = (tt, tt)
   flat-kind (constant v) plain I = (tt, tt)

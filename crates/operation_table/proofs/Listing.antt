@@ -14,7 +14,7 @@ use Rattle.conditioning_laws.proofs.Trees.{tree-guard}
 use Rattle.inlining_laws.specs.Flat.{Operation, Task, runs, gets, sets}
 use Rattle.inlining_laws.specs.Inlined.{operations}
 use Rattle.flat_laws.specs.FlatOf.{flat_guard, flat_kind, body_of, vertex_of, vertices_from, bodies_of, graph_of, flat_of}
-use Rattle.flat_laws.specs.Names.{name_of, half_text}
+use Rattle.flat_laws.specs.Names.{name_of}
 use Rattle.flat_laws.specs.Stands.{task_of}
 use Rattle.flat_laws.proofs.Flattened.{flattened-plain}
 use Rattle.path_text.specs.Texts.{path_text}
@@ -22,7 +22,7 @@ use Rattle.operation_table.specs.Table.{Condition, Row, row, condition_of, table
 use Rattle.operation_table.specs.Listed.{guard_condition, vertex_row, listed, HasOperations}
 use Rattle.operation_table.proofs.Unrolling.{table-unroll}
 use Rattle.operation_table.proofs.Guarding.{conditions, table-guard}
-use Rattle.operation_table.proofs.Inlining.{once, operation_row, IsFlatKind, IsFlatTask, AllFlat, table-inlined, all-flat}
+use Rattle.operation_table.proofs.Inlining.{operation_row, IsFlatKind, IsFlatTask, AllFlat, table-inlined, all-flat}
 
 flat-conditions : (gs : List Guard) → map guard_condition (map flat_guard gs) ≡ conditions gs
 flat-conditions [] = refl
@@ -45,20 +45,14 @@ same-kind before more (tree.graph outs) h = absurd h
 same-kind before more (tree.switch values names) h = absurd h
 same-kind before more (tree.repeat n feeds gives) h = absurd h
 
-same-task : (before more : List (List Expr)) (t : Task) → IsFlatTask t → task_of (before ++ (body_of t ++ more)) (flat_kind (length before) t) ≡ once t
+same-task : (before more : List (List Expr)) (t : Task) → IsFlatTask t → task_of (before ++ (body_of t ++ more)) (flat_kind (length before) t) ≡ t
 same-task before more (runs k) h = same-kind before more k h
-same-task before more (gets vs) h = refl
+same-task before more (gets v) h = refl
 same-task before more sets h = refl
-
-same-half : (t : Task) → half_text t ≡ half_text (once t)
-same-half (runs k) = refl
-same-half (gets vs) = refl
-same-half sets = refl
 
 same-row : (before more : List (List Expr)) (v : ℕ) (op : Operation) → IsFlatTask op.task → vertex_row (before ++ (body_of op.task ++ more)) (vertex_of v (length before) op) ≡ operation_row op
 same-row before more v op h =
     ap₂ (λ cs t. record { name = name_of op; definition = op.definition; conditions = cs; outs = op.outs; task = t }) (flat-conditions op.guards) (same-task before more op.task h)
-    ∙ ap (λ x. record { name = path_text op.path ++ x; definition = op.definition; conditions = conditions op.guards; outs = op.outs; task = once op.task }) (same-half op.task)
 
 same-rows : (before : List (List Expr)) (v : ℕ) (ops : List Operation) → AllFlat ops → map (vertex_row (before ++ bodies_of ops)) (vertices_from v (length before) ops) ≡ map operation_row ops
 same-rows before v [] h = refl

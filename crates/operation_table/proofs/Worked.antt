@@ -13,11 +13,11 @@ use Rattle.body_lang.specs.Expr.{Expr, index}
 use Rattle.algo_tree.specs.Tree.{Kind, sensor, actuator, delay, function, explode, implode, merge, graph, switch, repeat, Vertex, vertex, Vertices, no_vertices, and_vertex}
 use Rattle.inlining_laws.specs.Flat.{runs, gets, sets}
 use Rattle.flat_laws.specs.FlatOf.{flat_of}
-use Rattle.operation_table.specs.Table.{Condition, Row, row, table}
+use Rattle.operation_table.specs.Table.{Condition, Row, stage_row, row, table}
 use Rattle.operation_table.specs.Listed.{listed}
 
 abbrev of : Part → List ℕ → List Source → List ℕ → Kind → Vertices → Vertex
-of p d ins outs k us = vertex (record { part = p; definition = d; ins = ins; guards = []; outs = outs; kind = k }) us
+of p d ins outs k us = vertex (record { part = p; definition = d; ins = ins; guards = []; outs = outs; names = []; kind = k }) us
 
 abbrev alone : Part → List ℕ → List Source → List ℕ → Kind → Vertex
 alone p d ins outs k = of p d ins outs k no_vertices
@@ -78,7 +78,7 @@ abbrev copied : ℕ → List Row
 copied i =
     let o : Path = Named (codes "o") ∷ Numbered i ∷ [] in
     row (o ++ Port (codes "x") ∷ []) (codes "Mid") [] (2 ∷ []) (runs explode)
-    ∷ row (o ++ Numbered 0 ∷ Numbered 0 ∷ Named (codes "d") ∷ []) (codes "Zero") (when (pos 5 ∷ []) 0 ∷ []) (1 ∷ []) (gets ((pos 0 ∷ []) ∷ []))
+    ∷ row (o ++ Numbered 0 ∷ Numbered 0 ∷ Named (codes "d") ∷ []) (codes "Zero") (when (pos 5 ∷ []) 0 ∷ []) (1 ∷ []) (gets (pos 0 ∷ []))
     ∷ row (o ++ Numbered 0 ∷ Numbered 0 ∷ Named (codes "d") ∷ []) (codes "Zero") (when (pos 5 ∷ []) 0 ∷ []) [] sets
     ∷ row (o ++ Numbered 0 ∷ Numbered 1 ∷ []) (codes "Same") (when (pos 5 ∷ []) 1 ∷ []) (1 ∷ []) (runs does)
     ∷ row (o ++ Numbered 0 ∷ Port (codes "v") ∷ []) (codes "K") [] (1 ∷ []) (runs (merge (pos 5 ∷ [])))
@@ -92,7 +92,7 @@ rows : table main ≡
     ∷ row (w ++ Numbered 0 ∷ Numbered 0 ∷ []) (codes "Add") (when outer 0 ∷ []) (1 ∷ []) (runs does)
     ∷ row (w ++ Numbered 0 ∷ Numbered 1 ∷ []) (codes "Add") (when outer 0 ∷ []) (1 ∷ []) (runs does)
     ∷ row (w ++ Numbered 0 ∷ Port (codes "z") ∷ []) (codes "R") (when outer 0 ∷ []) (2 ∷ []) (runs implode)
-    ∷ row (w ++ Numbered 1 ∷ Named (codes "d") ∷ []) (codes "Mem") (when outer 1 ∷ []) (2 ∷ []) (gets ((pos 8 ∷ pos 9 ∷ []) ∷ []))
+    ∷ row (w ++ Numbered 1 ∷ Named (codes "d") ∷ []) (codes "Mem") (when outer 1 ∷ []) (2 ∷ []) (gets (pos 8 ∷ pos 9 ∷ []))
     ∷ row (w ++ Numbered 1 ∷ Named (codes "d") ∷ []) (codes "Mem") (when outer 1 ∷ []) [] sets
     ∷ row (w ++ Numbered 1 ∷ Named (codes "f") ∷ []) (codes "Add") (when outer 1 ∷ []) (2 ∷ []) (runs does)
     ∷ row (w ++ Numbered 2 ∷ Numbered 0 ∷ []) (codes "Same") (when outer 2 ∷ when (pos 9 ∷ []) 0 ∷ []) (2 ∷ []) (runs does)
@@ -123,3 +123,34 @@ names = refl
 numbered_name : map (λ (r : Row). r.name) (table (alone_in_main (of (named (codes "c")) (codes "In") [] (2 ∷ []) (switch [] (codes "u" ∷ [])) (only (alone (Numbered 0) (codes "Same") [] (2 ∷ []) does)))))
     ≡ (codes "c" ++ (codes "." ++ (decimal 0 ++ []) ++ [])) ∷ codes "c:u" ∷ []
 numbered_name = refl
+
+-- a delay that looks back two active reactions, as it is and in the copies of a repetition
+abbrev deep : Part → List Source → Vertex
+deep p ins = alone p (codes "D") ins (1 ∷ []) (delay ((pos 1 ∷ []) ∷ (pos 2 ∷ []) ∷ []))
+
+abbrev deep_main : Vertex
+deep_main = of (named (codes "main")) (codes "main") [] [] (graph [])
+    (and_vertex (alone (named (codes "s")) (codes "S") [] (1 ∷ []) (sensor 0))
+    (and_vertex (deep (named (codes "d")) (Of 0 0 ∷ []))
+    (only (of (named (codes "r")) (codes "R") (Of 0 0 ∷ []) (2 ∷ []) (repeat 2 (Diffuse 0 ∷ []) (Join (codes "y") 0 ∷ [])) (only (deep (Numbered 0) []))))))
+
+-- the halves of the stages of a delay of this path
+abbrev halves : Path → List Row
+halves p =
+    stage_row p 0 (codes "D") [] (1 ∷ []) (gets (pos 1 ∷ []))
+    ∷ stage_row p 0 (codes "D") [] [] sets
+    ∷ stage_row p 1 (codes "D") [] (1 ∷ []) (gets (pos 2 ∷ []))
+    ∷ stage_row p 1 (codes "D") [] [] sets
+    ∷ []
+
+deep_rows : table deep_main ≡
+    row (Named (codes "s") ∷ []) (codes "S") [] (1 ∷ []) (runs (sensor 0))
+    ∷ (halves (Named (codes "d") ∷ []) ++ (halves (Named (codes "r") ∷ Numbered 0 ∷ []) ++ (halves (Named (codes "r") ∷ Numbered 1 ∷ [])
+    ++ (row (Named (codes "r") ∷ Port (codes "y") ∷ []) (codes "R") [] (2 ∷ []) (runs implode) ∷ []))))
+deep_rows = refl
+
+deep_flattened : listed (flat_of deep_main) ≡ table deep_main
+deep_flattened = refl
+
+stage_names : map (λ (r : Row). r.name) (halves (Named (codes "d") ∷ [])) ≡ codes "d:get" ∷ codes "d:set" ∷ (codes "d:get." ++ decimal 1) ∷ (codes "d:set." ++ decimal 1) ∷ []
+stage_names = refl

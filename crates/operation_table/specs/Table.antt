@@ -3,7 +3,7 @@
 --   a graph: those of its vertices in order;
 --   a switch: those of its cases in order, and then a merge for each output;
 --   a repetition: an explode for each fork line, those of the copies in order, and an implode for each join line;
---   a delay: its get half and then its set half;
+--   a delay: for each stage its get half and then its set half;
 --   any other unit: one.
 -- An operation has a condition for each case around it, outer first.
 use Rattle.std.specs.Prelude.{ℕ, suc, ℤ, List, [], ◌∷◌, ◌++◌, map, replicate, slice_index_or}
@@ -15,7 +15,7 @@ use Rattle.level_meaning.specs.declared.frontier.Feed.{Feed}
 use Rattle.level_meaning.specs.declared.frontier.Feed.TheVariants.{Fork, Diffuse, Iterate}
 use Rattle.level_meaning.specs.declared.frontier.Give.{Give}
 use Rattle.level_meaning.specs.declared.frontier.Give.TheVariants.{Last, Join}
-use Rattle.level_meaning.specs.Level.{Path, numbers_below}
+use Rattle.level_meaning.specs.Level.{Vector, Path, numbers_below}
 use Rattle.algo_tree.specs.Tree.{Kind, delay, explode, implode, merge, graph, switch, repeat, Label, Vertex, vertex, Vertices, no_vertices, and_vertex}
 use Rattle.algo_tree.specs.Typed.{label_of}
 use Rattle.path_text.specs.Texts.{path_text}
@@ -36,9 +36,18 @@ pub record Row : Type 0 where
   pub outs : List ℕ
   pub task : Task
 
--- an operation is named by its path, and the halves of a delay beside that by `:get` and `:set`
+-- An operation is named by its path, and the halves of a stage of a delay beside that by `:get` and `:set`, with the number of the
+-- stage behind it if that is not 0.
+abbrev pub stage_row : Path → ℕ → List ℕ → List Condition → List ℕ → Task → Row
+stage_row p i d cs outs task = record { name = path_text p ++ half_text task i; definition = d; conditions = cs; outs = outs; task = task }
+
 abbrev pub row : Path → List ℕ → List Condition → List ℕ → Task → Row
-row p d cs outs task = record { name = path_text p ++ half_text task; definition = d; conditions = cs; outs = outs; task = task }
+row p d cs outs task = stage_row p 0 d cs outs task
+
+-- the stages of a delay from stage i on, one for each group of initial values
+abbrev pub delay_rows : Path → List Condition → List ℕ → List ℕ → ℕ → List Vector → List Row
+delay_rows p cs d outs i [] = []
+delay_rows p cs d outs i (v ∷ vs) = stage_row p i d cs outs (gets v) ∷ stage_row p i d cs [] sets ∷ delay_rows p cs d outs (suc i) vs
 
 -- the unit that flattening makes for a port
 abbrev pub port : Path → List ℕ → Path
@@ -62,13 +71,13 @@ merge_rows p cs d values outs q [] = []
 merge_rows p cs d values outs q (name ∷ names) = row (port p name) d cs (slice_index_or outs q 0 ∷ []) (runs (merge values)) ∷ merge_rows p cs d values outs (suc q) names
 
 -- A unit of this path, under these conditions, of this definition, with these lengths of outputs and of this kind; from the operations
--- of its vertices, of its cases, which have these values, and of each copy. A delay has one initial value.
+-- of its vertices, of its cases, which have these values, and of each copy.
 abbrev pub rows_by : Path → List Condition → List ℕ → List ℕ → Kind → List Row → (List ℤ → List Row) → (ℕ → List Row) → List Row
 rows_by p cs d outs (graph sources) inner cases copy = inner
 rows_by p cs d outs (switch values names) inner cases copy = cases values ++ merge_rows p cs d values outs 0 names
 rows_by p cs d outs (repeat n feeds gives) inner cases copy =
     explode_rows p cs d n (in_line_order feeds) ++ (flat_map copy (numbers_below n) ++ implode_rows p cs d outs 0 gives)
-rows_by p cs d outs (delay vs) inner cases copy = row p d cs outs (gets (slice_index_or vs 0 [] ∷ [])) ∷ row p d cs [] sets ∷ []
+rows_by p cs d outs (delay vs) inner cases copy = delay_rows p cs d outs 0 vs
 rows_by p cs d outs k inner cases copy = row p d cs outs (runs k) ∷ []
 
 abbrev pub condition_of : Guard → Condition

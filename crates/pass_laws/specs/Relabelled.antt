@@ -2,4 +2,4 @@
 use Rattle.algo_tree.specs.Tree.{Label, Kind}
 
 abbrev pub with_kind : Label → Kind → Label
-with_kind l k = record { part = l.part; definition = l.definition; ins = l.ins; guards = l.guards; outs = l.outs; kind = k }
+with_kind l k = record { part = l.part; definition = l.definition; ins = l.ins; guards = l.guards; outs = l.outs; names = l.names; kind = k }

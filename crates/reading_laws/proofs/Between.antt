@@ -1,6 +1,7 @@
 -- Lines between definitions.
-use Rattle.std.proofs.Common.{◌≡◌, ℕ, suc, ◌≤◌, ◌==◌, not, ◌||◌, nat_lt, Ok, List, [], ◌∷◌, ◌++◌, length, drop, refl, arith, sym, ap, ◌∙◌, subst, append-nil, bytes_eq, codes, ℤ}
+use Rattle.std.proofs.Common.{◌≡◌, ℕ, zero, suc, ◌*◌, ◌/◌, ◌%◌, ◌≤◌, ◌==◌, not, ◌||◌, nat_lt, Ok, List, [], ◌∷◌, ◌++◌, length, drop, refl, arith, sym, ap, ◌∙◌, subst, append-nil, bytes_eq, codes, ℤ}
 use Rattle.std.proofs.lemmas.List.{length-drop}
+use Rattle.std.proofs.Math.Nat.{div-add-mod, div-one}
 use Rattle.std.proofs.lemmas.List.Elements.{All-nil, All-push}
 use Rattle.syn_base.specs.Name.{is_name}
 use Rattle.body_lang.specs.Expr.{PortsBelow}
@@ -13,10 +14,11 @@ use Rattle.algo_defs.specs.declared.definition.Body.TheVariants.{Sensor, Actuato
 use Rattle.algo_defs.specs.Words.{Bytes, is_among}
 use Rattle.algo_text.specs.Words.{word, number_of, count_of}
 use Rattle.algo_text.specs.Blocks.{Block, new_block}
-use Rattle.algo_text.specs.Text.{Stage, between, in_function, in_graph, in_switch, in_repeat, Reading, begins, numbers_of, defined, end_line, values_line, opened, opening_line, repeat_line, between_line}
-use Rattle.algo_text.proofs.Checks.{at_most, either, found, held, neither, never, passed, read, same_ok}
+use Rattle.algo_text.specs.Text.{Stage, between, in_function, in_graph, in_switch, in_repeat, Reading, begins, numbers_of, defined, end_line, values_line, deep_delay, deep_line, delay_line, opened, opening_line, repeat_line, between_line}
+use Rattle.algo_text.proofs.Checks.{at_most, either, equal, found, held, neither, never, not_false, passed, read, same_ok}
 use Rattle.algo_text.specs.declared.part.Part.TheVariants.{Conditioning, Inputs}
 use Rattle.syn_base.specs.declared.limits.LimitKind.TheVariants.{PortLength, Copies}
+use Rattle.syn_base.specs.declared.limits.LimitKind.TheVariants as limits
 use Rattle.syn_base.specs.Limits.{bound_of}
 use Rattle.algo_text.specs.Blocks.{is_above}
 use Rattle.algo_text.specs.Text.{first_part}
@@ -33,9 +35,34 @@ numbers_length n (w ∷ ws) vs h =
     let rest = read (numbers_of n ws) _ vs first.2 in
     ap length (sym (same_ok (first.0 ∷ rest.0) vs rest.2)) ∙ ap (λ i. suc i) (numbers_length n ws rest.0 rest.1)
 
-module _ (names : List Bytes) (defs : List Def) (b : Block) (kept : Kept between names defs b) where
+some_each : (depth len n : ℕ) → 1 ≤ n → n ≡ depth * len → 1 ≤ len
+some_each depth zero n filled cut = absurd (omega (arith, filled, cut))
+some_each depth (suc len) n filled cut = omega arith
+
+-- values in groups that a line accepts
+delay_well : (n depth : ℕ) (vs : List ℤ) (body : Body) → 1 ≤ depth → 1 ≤ length vs → deep_delay n depth vs ≡ Ok body → IsWellRead body
+delay_well n depth vs body some filled h =
+    let few = passed (is_above limits.Delay depth) _ _ body h in
+    let whole = passed (not (length vs % depth == 0)) _ _ body few.1 in
+    let short = passed (is_above PortLength (length vs / depth)) _ _ body whole.1 in
+    let none : length vs % depth ≡ 0 = equal (length vs % depth) 0 (not_false (length vs % depth == 0) whole.0) in
+    let cut : length vs ≡ depth * (length vs / depth) = omega (arith, none, div-add-mod (length vs) depth) in
+    subst (λ (c : Body). IsWellRead c) (same_ok (Delay depth vs) body short.1) (record {
+      some = some;
+      most = at_most (bound_of limits.Delay) depth few.0;
+      whole = cut;
+      sized = (some_each depth (length vs / depth) (length vs) filled cut, at_most (bound_of PortLength) (length vs / depth) short.0);
+    })
+
+-- one group is all values
+one_well : (vs : List ℤ) → IsLength (length vs) → IsWellRead (Delay 1 vs)
+one_well vs is =
+    let whole : length vs / 1 ≡ length vs = div-one (length vs) in
+    record { some = omega arith; most = omega arith; whole = omega (arith, whole); sized = subst IsLength (sym whole) is }
+
+module _ (version : ℕ) (names : List Bytes) (defs : List Def) (b : Block) (kept : Kept between names defs b) where
   abbrev here : Reading
-  here = reading between names defs b
+  here = reading between version names defs b
 
   names_are : names ≡ names_of defs
   names_are = kept.names_are ∙ append-nil (names_of defs)
@@ -83,6 +110,21 @@ module _ (names : List Bytes) (defs : List Def) (b : Block) (kept : Kept between
       let some : 1 ≤ length all.0 = omega (arith, numbers_length n (drop 3 ws) all.0 all.1, length-drop 3 ws) in
       defined_kept n (word ws 1) (body all.0) r named.0 (well all.0 (some, at_most (bound_of PortLength) (length all.0) low.0)) low.1
 
+  -- the depth divides the number of values, and leaves a length
+  deep_kept : (n : ℕ) (ws : List Bytes) (r : Reading) → deep_line here n ws ≡ Ok r → IsKept r
+  deep_kept n ws r h =
+      let form = passed (nat_lt (length ws) 5 || not (bytes_eq (word ws 3) (codes "="))) _ _ r h in
+      let long : 5 ≤ length ws = at_most (length ws) 5 (neither (nat_lt (length ws) 5) _ form.0).0 in
+      let named = held (is_name (word ws 1)) _ _ r form.1 in
+      let counted = found (count_of (word ws 2)) _ _ r named.1 in
+      let all = read (numbers_of n (drop 4 ws)) _ r counted.2 in
+      let body = read (deep_delay n counted.0 all.0) _ r all.2 in
+      let some : 1 ≤ length all.0 = omega (arith, numbers_length n (drop 4 ws) all.0 all.1, length-drop 4 ws) in
+      defined_kept n (word ws 1) body.0 r named.0 (delay_well n counted.0 all.0 body.0 (count_positive (word ws 2) counted.0 counted.1) some body.1) body.2
+
+  delay_kept : (n : ℕ) (ws : List Bytes) (r : Reading) → delay_line here n ws ≡ Ok r → IsKept r
+  delay_kept n ws r h = either (version == 1) _ _ r h (values_kept (Delay 1) n ws r (λ vs is. one_well vs is)) (deep_kept n ws r)
+
   opening_kept : (s : Stage) (n : ℕ) (ws : List Bytes) (r : Reading) → ((w : Bytes) → open_name s (new_block (first_part s) w n) ≡ w ∷ []) → ((w : Bytes) → IsOpen s (new_block (first_part s) w n)) → opening_line s here n ws ≡ Ok r → IsKept r
   opening_kept s n ws r name_is well h =
       let form = passed (not (length ws == 2)) _ _ r h in
@@ -113,7 +155,7 @@ module _ (names : List Bytes) (defs : List Def) (b : Block) (kept : Kept between
       either (begins ws (codes "sensor")) _ _ r h (end_kept Sensor n ws r (λ len is. is)) (λ h1.
       either (begins ws (codes "actuator")) _ _ r h1 (end_kept Actuator n ws r (λ len is. is)) (λ h2.
       either (begins ws (codes "constant")) _ _ r h2 (values_kept Constant n ws r (λ vs is. is)) (λ h3.
-      either (begins ws (codes "delay")) _ _ r h3 (values_kept Delay n ws r (λ vs is. is)) (λ h4.
+      either (begins ws (codes "delay")) _ _ r h3 (delay_kept n ws r) (λ h4.
       either (begins ws (codes "function")) _ _ r h4 (opening_kept in_function n ws r (λ w. refl) (new_function n)) (λ h5.
       either (begins ws (codes "graph")) _ _ r h5 (opening_kept in_graph n ws r (λ w. refl) (new_graph n)) (λ h6.
       either (begins ws (codes "switch")) _ _ r h6 (opening_kept in_switch n ws r (λ w. refl) (new_switch n)) (λ h7.

@@ -53,12 +53,12 @@ output_goes b after o a =
       },
     )
 
-module _ (names : List Bytes) (defs : List Def) (b : Block) (kept : Kept in_function names defs b) where
+module _ (version : ℕ) (names : List Bytes) (defs : List Def) (b : Block) (kept : Kept in_function names defs b) where
   whole : (nat_lt 0 (length b.results)) ≡ true → IsFunction b.ins b.results
   whole some = record { inputs = kept.well.inputs; outputs = kept.well.outputs; some = above_none (length b.results) some; distinct = kept.well.distinct; formulas = kept.well.formulas }
 
-  pub function_kept : (n : ℕ) (ws : List Bytes) (code : Bytes) (r : Reading) → function_line (reading in_function names defs b) n ws code ≡ Ok r → IsKept r
+  pub function_kept : (n : ℕ) (ws : List Bytes) (code : Bytes) (r : Reading) → function_line (reading in_function version names defs b) n ws code ≡ Ok r → IsKept r
   function_kept n ws code r h =
-      either (begins ws (codes "in")) _ _ r h (line_kept in_function names defs b kept (in_line b n ws) r (λ after e. input_goes b after kept.well (in_added b n ws after e))) (λ h1.
-      either (begins ws (codes "out")) _ _ r h1 (line_kept in_function names defs b kept (result_line b n code) r (λ after e. output_goes b after kept.well (result_added b n code after e))) (λ h2.
-      either (begins ws (codes "end")) _ _ r h2 (end_kept in_function names defs b kept refl (nat_lt 0 (length b.results)) (Function b.ins b.results) n ws r whole) (λ h3. never _ r h3)))
+      either (begins ws (codes "in")) _ _ r h (line_kept in_function version names defs b kept (in_line b n ws) r (λ after e. input_goes b after kept.well (in_added b n ws after e))) (λ h1.
+      either (begins ws (codes "out")) _ _ r h1 (line_kept in_function version names defs b kept (result_line b n code) r (λ after e. output_goes b after kept.well (result_added b n code after e))) (λ h2.
+      either (begins ws (codes "end")) _ _ r h2 (end_kept in_function version names defs b kept refl (nat_lt 0 (length b.results)) (Function b.ins b.results) n ws r whole) (λ h3. never _ r h3)))

@@ -82,11 +82,11 @@ edge_goes b after n ws o h =
     let to = found (end_of (word ws 2)) _ _ after from.2 in
     subst (λ (c : Block). Goes in_graph b c) (same_ok _ after to.2) (refl, o)
 
-module _ (names : List Bytes) (defs : List Def) (b : Block) (kept : Kept in_graph names defs b) where
-  pub graph_kept : (n : ℕ) (ws : List Bytes) (r : Reading) → graph_line (reading in_graph names defs b) n ws ≡ Ok r → IsKept r
+module _ (version : ℕ) (names : List Bytes) (defs : List Def) (b : Block) (kept : Kept in_graph names defs b) where
+  pub graph_kept : (n : ℕ) (ws : List Bytes) (r : Reading) → graph_line (reading in_graph version names defs b) n ws ≡ Ok r → IsKept r
   graph_kept n ws r h =
-      either (begins ws (codes "in")) _ _ r h (line_kept in_graph names defs b kept (in_line b n ws) r (λ after e. input_goes b after kept.well (in_added b n ws after e))) (λ h1.
-      either (begins ws (codes "out")) _ _ r h1 (line_kept in_graph names defs b kept (out_line b n ws) r (λ after e. output_goes b after kept.well (out_added b n ws after e))) (λ h2.
-      either (begins ws (codes "ref")) _ _ r h2 (line_kept in_graph names defs b kept (reference_line b n ws) r (λ after e. reference_goes b after n ws kept.well e)) (λ h3.
-      either (begins ws (codes "edge")) _ _ r h3 (line_kept in_graph names defs b kept (edge_line b n ws) r (λ after e. edge_goes b after n ws kept.well e)) (λ h4.
-      either (begins ws (codes "end")) _ _ r h4 (end_kept in_graph names defs b kept refl true (Graph b.ins b.outs b.references b.edges) n ws r (λ e. kept.well)) (λ h5. never _ r h5)))))
+      either (begins ws (codes "in")) _ _ r h (line_kept in_graph version names defs b kept (in_line b n ws) r (λ after e. input_goes b after kept.well (in_added b n ws after e))) (λ h1.
+      either (begins ws (codes "out")) _ _ r h1 (line_kept in_graph version names defs b kept (out_line b n ws) r (λ after e. output_goes b after kept.well (out_added b n ws after e))) (λ h2.
+      either (begins ws (codes "ref")) _ _ r h2 (line_kept in_graph version names defs b kept (reference_line b n ws) r (λ after e. reference_goes b after n ws kept.well e)) (λ h3.
+      either (begins ws (codes "edge")) _ _ r h3 (line_kept in_graph version names defs b kept (edge_line b n ws) r (λ after e. edge_goes b after n ws kept.well e)) (λ h4.
+      either (begins ws (codes "end")) _ _ r h4 (end_kept in_graph version names defs b kept refl true (Graph b.ins b.outs b.references b.edges) n ws r (λ e. kept.well)) (λ h5. never _ r h5)))))

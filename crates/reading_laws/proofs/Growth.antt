@@ -3,6 +3,7 @@ use Rattle.std.proofs.Common.{◌≡◌, ℕ, ◌+◌, ◌≤◌, ◌==◌, Bool
 use Rattle.syn_base.specs.Name.{is_name}
 use Rattle.text_lines.specs.Text.{lines_of, words_of, code_of, foreign_place}
 use Rattle.algo_defs.specs.declared.definition.Def.{Def}
+use Rattle.algo_defs.specs.declared.definition.Defs.{Defs}
 use Rattle.algo_defs.specs.declared.definition.Body.{Body}
 use Rattle.algo_defs.specs.declared.definition.Body.TheVariants.{Sensor, Actuator, Constant, Delay, Function, Graph, Switch, Repeat}
 use Rattle.algo_defs.specs.declared.fault.AlgoError.{AlgoError}
@@ -12,7 +13,7 @@ use Rattle.algo_text.specs.Parts.{is_whole}
 use Rattle.algo_text.specs.declared.part.Part.TheVariants.{Inputs}
 use Rattle.syn_base.specs.declared.limits.LimitKind.TheVariants.{PortLength, Copies}
 use Rattle.algo_text.specs.Blocks.{Block, new_block, is_above, in_line, out_line, result_line, reference_line, edge_line, on_line, case_line, otherwise_line, fork_line, diffuse_line, iterate_line, join_line}
-use Rattle.algo_text.specs.Text.{first_part, Stage, before_version, between, in_function, in_graph, in_switch, in_repeat, Reading, start, begins, defined, end_line, values_line, opened, opening_line, repeat_line, between_line, in_block, block_end, function_line, graph_line, switch_line, frontier_line, version_line, numbers_of, by_stage, line_by, next_line, at_end, rest_of, definitions_of}
+use Rattle.algo_text.specs.Text.{first_part, Stage, before_version, between, in_function, in_graph, in_switch, in_repeat, Reading, start, begins, defined, end_line, values_line, deep_delay, deep_line, delay_line, opened, opening_line, repeat_line, between_line, in_block, block_end, function_line, graph_line, switch_line, frontier_line, version_of, version_line, numbers_of, by_stage, line_by, next_line, at_end, defs_in, rest_of, definitions_of}
 use Rattle.algo_text.proofs.Checks.{passed, held, found, read, either, never, same_ok}
 
 -- what was read after a line has at most one definition more
@@ -53,6 +54,18 @@ module _ (r : Reading) where
       let low = passed (is_above PortLength (length all.0)) _ _ q all.2 in
       defined_grows n (word ws 1) (body all.0) q low.1
 
+  deep_grows : (n : ℕ) (ws : List Bytes) (q : Reading) → deep_line r n ws ≡ Ok q → Grows r q
+  deep_grows n ws q h =
+      let form = passed (nat_lt (length ws) 5 || not (bytes_eq (word ws 3) (codes "="))) _ _ q h in
+      let named = held (is_name (word ws 1)) _ _ q form.1 in
+      let counted = found (count_of (word ws 2)) _ _ q named.1 in
+      let all = read (numbers_of n (drop 4 ws)) _ q counted.2 in
+      let body = read (deep_delay n counted.0 all.0) _ q all.2 in
+      defined_grows n (word ws 1) body.0 q body.2
+
+  delay_grows : (n : ℕ) (ws : List Bytes) (q : Reading) → delay_line r n ws ≡ Ok q → Grows r q
+  delay_grows n ws q h = either (r.version == 1) _ _ q h (values_grows (Delay 1) n ws q) (deep_grows n ws q)
+
   opening_grows : (s : Stage) (n : ℕ) (ws : List Bytes) (q : Reading) → opening_line s r n ws ≡ Ok q → Grows r q
   opening_grows s n ws q h =
       let form = passed (not (length ws == 2)) _ _ q h in
@@ -73,7 +86,7 @@ module _ (r : Reading) where
       either (begins ws (codes "sensor")) _ _ q h (end_grows Sensor n ws q) (λ h1.
       either (begins ws (codes "actuator")) _ _ q h1 (end_grows Actuator n ws q) (λ h2.
       either (begins ws (codes "constant")) _ _ q h2 (values_grows Constant n ws q) (λ h3.
-      either (begins ws (codes "delay")) _ _ q h3 (values_grows Delay n ws q) (λ h4.
+      either (begins ws (codes "delay")) _ _ q h3 (delay_grows n ws q) (λ h4.
       either (begins ws (codes "function")) _ _ q h4 (opening_grows in_function n ws q) (λ h5.
       either (begins ws (codes "graph")) _ _ q h5 (opening_grows in_graph n ws q) (λ h6.
       either (begins ws (codes "switch")) _ _ q h6 (opening_grows in_switch n ws q) (λ h7.
@@ -122,8 +135,9 @@ module _ (r : Reading) where
 
   version_grows : (n : ℕ) (ws : List Bytes) (q : Reading) → version_line r n ws ≡ Ok q → Grows r q
   version_grows n ws q h =
-      let form = passed (not (length ws == 2) || not (begins ws (codes "algorithm")) || not (bytes_eq (word ws 1) (codes "1"))) _ _ q h in
-      same_grows _ q as_many (same_ok _ q form.1)
+      let form = passed (not (length ws == 2) || not (begins ws (codes "algorithm"))) _ _ q h in
+      let some = found (version_of (word ws 1)) _ _ q form.1 in
+      same_grows _ q as_many (same_ok _ q some.2)
 
   words_grow : (s : Stage) (n : ℕ) (ws : List Bytes) (code : Bytes) (q : Reading) → by_stage s r n ws code ≡ Ok q → Grows r q
   words_grow before_version n ws code q h = version_grows n ws q h
@@ -139,19 +153,19 @@ module _ (r : Reading) where
       either (length (words_of (code_of line)) == 0) _ _ q h (λ g. same_grows r q as_many (same_ok r q g))
       (words_grow r.stage n (words_of (code_of line)) (code_of line) q)
 
-end_few : (s : Stage) (defs ds : List Def) (n : ℕ) → at_end s defs n ≡ Ok ds → length ds ≤ length defs
-end_few between defs ds n h = let same = ap (λ (es : List Def). length es) (same_ok defs ds h) in omega (arith, same)
+end_few : (s : Stage) (defs ds : Defs) (n : ℕ) → at_end s defs n ≡ Ok ds → length ds.defs ≤ length defs.defs
+end_few between defs ds n h = let same = ap (λ (es : Defs). length es.defs) (same_ok defs ds h) in omega (arith, same)
 end_few before_version defs ds n h = never _ ds h
 end_few in_function defs ds n h = never _ ds h
 end_few in_graph defs ds n h = never _ ds h
 end_few in_switch defs ds n h = never _ ds h
 end_few in_repeat defs ds n h = never _ ds h
 
-rest_few : (lines : List Bytes) (r : Reading) (n : ℕ) (ds : List Def) → rest_of r n lines ≡ Ok ds → length ds ≤ length r.defs + length lines
-rest_few [] r n ds h = omega (arith, end_few r.stage r.defs ds n h)
+rest_few : (lines : List Bytes) (r : Reading) (n : ℕ) (ds : Defs) → rest_of r n lines ≡ Ok ds → length ds.defs ≤ length r.defs + length lines
+rest_few [] r n ds h = omega (arith, end_few r.stage (defs_in r) ds n h)
 rest_few (line ∷ lines) r n ds h =
     let one = read (next_line r n line) (λ after. rest_of after (n + 1) lines) ds h in
     omega (arith, line_grows r n line (foreign_place line) one.0 one.1, rest_few lines one.0 (n + 1) ds one.2)
 
-pub accepted_few : (text : Bytes) (ds : List Def) → definitions_of text ≡ Ok ds → length ds ≤ length (lines_of text)
+pub accepted_few : (text : Bytes) (ds : Defs) → definitions_of text ≡ Ok ds → length ds.defs ≤ length (lines_of text)
 accepted_few text ds h = omega (arith, rest_few (lines_of text) start 1 ds h)

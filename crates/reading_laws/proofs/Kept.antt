@@ -78,15 +78,15 @@ same_name in_graph b after h = ap (λ (w : Bytes). w ∷ []) h
 same_name in_switch b after h = ap (λ (w : Bytes). w ∷ []) h
 same_name in_repeat b after h = ap (λ (w : Bytes). w ∷ []) h
 
-abbrev pub reading : Stage → List Bytes → List Def → Block → Reading
-reading s names defs b = record { stage = s; names = names; defs = defs; block = b }
+abbrev pub reading : Stage → ℕ → List Bytes → List Def → Block → Reading
+reading s version names defs b = record { stage = s; version = version; names = names; defs = defs; block = b }
 
-pub line_kept : (s : Stage) (names : List Bytes) (defs : List Def) (b : Block) → Kept s names defs b → (x : Result Block AlgoError) (r : Reading)
-    → ((after : Block) → x ≡ Ok after → Goes s b after) → in_block (reading s names defs b) x ≡ Ok r → IsKept r
-line_kept s names defs b kept (Err e) r goes h = never e r h
-line_kept s names defs b kept (Ok after) r goes h =
+pub line_kept : (s : Stage) (version : ℕ) (names : List Bytes) (defs : List Def) (b : Block) → Kept s names defs b → (x : Result Block AlgoError) (r : Reading)
+    → ((after : Block) → x ≡ Ok after → Goes s b after) → in_block (reading s version names defs b) x ≡ Ok r → IsKept r
+line_kept s version names defs b kept (Err e) r goes h = never e r h
+line_kept s version names defs b kept (Ok after) r goes h =
     let g = goes after refl in
-    subst (λ (q : Reading). IsKept q) (same_ok (reading s names defs after) r h) (record {
+    subst (λ (q : Reading). IsKept q) (same_ok (reading s version names defs after) r h) (record {
       names_are = kept.names_are ∙ ap (λ (l : List Bytes). names_of defs ++ l) (same_name s b after g.0);
       named = kept.named;
       once = kept.once;
@@ -98,9 +98,9 @@ pub names_with : (defs : List Def) (d : Def) → names_of defs ++ d.name ∷ [] 
 names_with defs d = sym (map-append (λ e. e.name) defs (d ∷ [])) ∙ sym (append-nil (names_of (defs ++ d ∷ [])))
 
 -- the line that ends a block of this kind
-pub end_kept : (s : Stage) (names : List Bytes) (defs : List Def) (b : Block) → Kept s names defs b → open_name s b ≡ b.name ∷ [] → (whole : Bool) (body : Body) (n : ℕ) (ws : List Bytes) (r : Reading)
-    → (whole ≡ true → IsWellRead body) → block_end whole body (reading s names defs b) n ws ≡ Ok r → IsKept r
-end_kept s names defs b kept name_is whole body n ws r is_well h =
+pub end_kept : (s : Stage) (version : ℕ) (names : List Bytes) (defs : List Def) (b : Block) → Kept s names defs b → open_name s b ≡ b.name ∷ [] → (whole : Bool) (body : Body) (n : ℕ) (ws : List Bytes) (r : Reading)
+    → (whole ≡ true → IsWellRead body) → block_end whole body (reading s version names defs b) n ws ≡ Ok r → IsKept r
+end_kept s version names defs b kept name_is whole body n ws r is_well h =
     let form = passed (not (length ws == 1) || not whole) _ _ r h in
     let d : Def = record { name = b.name; line = b.line; body = body } in
     subst (λ (q : Reading). IsKept q) (same_ok _ r form.1) (record {

@@ -146,11 +146,11 @@ module _ (b after : Block) (n : ℕ) (o : IsRepetition b.copies b.frontier) wher
       let ends = four_words ws (not_false (length ws == 5) form.0) named.0 in
       two_goes (word ws 1) (word ws 2) (word ws 3) (word ws 4) ends.0 ends.1 named.1
 
-module _ (names : List Bytes) (defs : List Def) (b : Block) (kept : Kept in_repeat names defs b) where
-  pub repetition_kept : (n : ℕ) (ws : List Bytes) (r : Reading) → frontier_line (reading in_repeat names defs b) n ws ≡ Ok r → IsKept r
+module _ (version : ℕ) (names : List Bytes) (defs : List Def) (b : Block) (kept : Kept in_repeat names defs b) where
+  pub repetition_kept : (n : ℕ) (ws : List Bytes) (r : Reading) → frontier_line (reading in_repeat version names defs b) n ws ≡ Ok r → IsKept r
   repetition_kept n ws r h =
-      either (begins ws (codes "fork")) _ _ r h (line_kept in_repeat names defs b kept (fork_line b n ws) r (λ after e. fork_goes b after n kept.well ws e)) (λ h1.
-      either (begins ws (codes "diffuse")) _ _ r h1 (line_kept in_repeat names defs b kept (diffuse_line b n ws) r (λ after e. diffuse_goes b after n kept.well ws e)) (λ h2.
-      either (begins ws (codes "iterate")) _ _ r h2 (line_kept in_repeat names defs b kept (iterate_line b n ws) r (λ after e. iterate_goes b after n kept.well ws e)) (λ h3.
-      either (begins ws (codes "join")) _ _ r h3 (line_kept in_repeat names defs b kept (join_line b n ws) r (λ after e. join_goes b after n kept.well ws e)) (λ h4.
-      either (begins ws (codes "end")) _ _ r h4 (end_kept in_repeat names defs b kept refl true (Repeat b.copies b.def b.frontier) n ws r (λ e. kept.well)) (λ h5. never _ r h5)))))
+      either (begins ws (codes "fork")) _ _ r h (line_kept in_repeat version names defs b kept (fork_line b n ws) r (λ after e. fork_goes b after n kept.well ws e)) (λ h1.
+      either (begins ws (codes "diffuse")) _ _ r h1 (line_kept in_repeat version names defs b kept (diffuse_line b n ws) r (λ after e. diffuse_goes b after n kept.well ws e)) (λ h2.
+      either (begins ws (codes "iterate")) _ _ r h2 (line_kept in_repeat version names defs b kept (iterate_line b n ws) r (λ after e. iterate_goes b after n kept.well ws e)) (λ h3.
+      either (begins ws (codes "join")) _ _ r h3 (line_kept in_repeat version names defs b kept (join_line b n ws) r (λ after e. join_goes b after n kept.well ws e)) (λ h4.
+      either (begins ws (codes "end")) _ _ r h4 (end_kept in_repeat version names defs b kept refl true (Repeat b.copies b.def b.frontier) n ws r (λ e. kept.well)) (λ h5. never _ r h5)))))

@@ -1,5 +1,5 @@
 -- What the definitions of worked texts resolve to.
-use Rattle.std.proofs.Common.{◌≡◌, refl, List, [], ◌∷◌, ◌++◌, pos, Result, Ok, Err, codes}
+use Rattle.std.proofs.Common.{◌≡◌, ℕ, refl, List, [], ◌∷◌, ◌++◌, pos, Result, Ok, Err, codes}
 use Rattle.level_meaning.specs.declared.source.Source.TheVariants.{Own, Of}
 use Rattle.level_meaning.specs.declared.part.Part.TheVariants.{Named, Numbered}
 use Rattle.level_meaning.specs.declared.frontier.Feed.TheVariants as feed
@@ -8,18 +8,27 @@ use Rattle.algo_tree.specs.Tree as tree
 use Rattle.algo_defs.specs.declared.fault.AlgoError.{AlgoError}
 use Rattle.algo_defs.specs.declared.fault.AlgoError.TheVariants.{Limit}
 use Rattle.algo_defs.specs.declared.fault.AlgoCause.TheVariants.{UnknownName, WrongLength, Unconnected, TwiceConnected, Recursive, Cycle, NoMain, BadCase, Misplaced, BadRepeat}
-use Rattle.syn_base.specs.declared.limits.LimitKind.TheVariants.{PortLength, Depth}
+use Rattle.syn_base.specs.declared.limits.LimitKind.TheVariants.{PortLength, Depth, Operations}
 use Rattle.algo_defs.specs.Words.{Bytes}
 use Rattle.algo_text.specs.Blocks.{refused, and_then}
 use Rattle.algo_text.specs.Text.{definitions_of}
+use Rattle.body_lang.specs.declared.expression.Port.{Port}
+use Rattle.algo_rules.specs.Ports.{one_port, port}
 use Rattle.algo_rules.specs.Resolved.{resolution_of, vertex}
 
 abbrev text : List Bytes → Bytes
 text [] = []
 text (l ∷ ls) = l ++ 10 ∷ text ls
 
+abbrev read_as : Bytes → List Bytes → Result tree.Vertex AlgoError
+read_as version ls = and_then (definitions_of (text (version ∷ ls))) (λ d. resolution_of d.defs)
+
 abbrev read : List Bytes → Result tree.Vertex AlgoError
-read ls = and_then (definitions_of (text (codes "algorithm 1" ∷ ls))) resolution_of
+read ls = read_as (codes "algorithm 1") ls
+
+-- one output
+abbrev out : Bytes → ℕ → List Port
+out w len = one_port w len
 
 -- a sensor into an actuator, with these edges
 abbrev echo : List Bytes → List Bytes
@@ -29,7 +38,7 @@ abbrev main_with : List tree.Vertex → tree.Vertex
 main_with us = vertex (Named (codes "main")) (codes "main") [] [] (tree.graph []) us
 
 plainest : read (echo (codes "edge s.o a.i" ∷ [])) ≡ Ok (main_with
-    (vertex (Named (codes "s")) (codes "Sense") [] (1 ∷ []) (tree.sensor 0) []
+    (vertex (Named (codes "s")) (codes "Sense") [] (out (codes "o") 1) (tree.sensor 0) []
     ∷ vertex (Named (codes "a")) (codes "Act") (Of 0 0 ∷ []) [] (tree.actuator 0) [] ∷ []))
 plainest = refl
 
@@ -56,8 +65,19 @@ cycle = refl
 
 -- an edge out of a delay is not counted
 delayed : read (codes "delay M = 7" ∷ codes "graph main" ∷ codes "ref m M" ∷ codes "edge m.o m.i" ∷ codes "end" ∷ [])
-    ≡ Ok (main_with (vertex (Named (codes "m")) (codes "M") (Of 0 0 ∷ []) (1 ∷ []) (tree.delay ((pos 7 ∷ []) ∷ [])) [] ∷ []))
+    ≡ Ok (main_with (vertex (Named (codes "m")) (codes "M") (Of 0 0 ∷ []) (out (codes "o") 1) (tree.delay ((pos 7 ∷ []) ∷ [])) [] ∷ []))
 delayed = refl
+
+-- a group for each reaction that a delay looks back
+deep : read_as (codes "algorithm 2") (codes "delay M 2 = 1 2 3 4" ∷ codes "graph main" ∷ codes "ref m M" ∷ codes "edge m.o m.i" ∷ codes "end" ∷ [])
+    ≡ Ok (main_with (vertex (Named (codes "m")) (codes "M") (Of 0 0 ∷ []) (out (codes "o") 2) (tree.delay ((pos 1 ∷ pos 2 ∷ []) ∷ (pos 3 ∷ pos 4 ∷ []) ∷ [])) [] ∷ []))
+deep = refl
+
+-- it stands for two operations for each of them
+many_operations : read_as (codes "algorithm 2") (codes "delay M 16 = 1 2 3 4 5 6 7 8 9 10 11 12 13 14 15 16" ∷ codes "constant C = 0" ∷ codes "graph G" ∷ codes "ref a M" ∷ codes "ref c C" ∷ codes "edge a.o a.i" ∷ codes "end"
+    ∷ codes "repeat R 63 G" ∷ codes "end" ∷ codes "graph main" ∷ codes "ref r R" ∷ codes "end" ∷ [])
+    ≡ Err (Limit (record { which = Operations; count = 2079; bound = 2048 }))
+many_operations = refl
 
 unknown_definition : read (codes "graph main" ∷ codes "ref m M" ∷ codes "end" ∷ []) ≡ refused 3 (UnknownName (codes "M"))
 unknown_definition = refl
@@ -112,11 +132,11 @@ repeated count lines = codes "function F" ∷ codes "in x 2" ∷ codes "in a 1" 
     ∷ (codes "repeat R " ++ count ++ codes " F") ∷ lines ++ codes "end" ∷ codes "graph main" ∷ codes "ref v V" ∷ codes "ref z Z" ∷ codes "ref r R" ∷ codes "edge v.o r.p" ∷ codes "edge z.o r.z" ∷ codes "end" ∷ []
 
 copies : read (repeated (codes "2") (codes "fork p x" ∷ codes "iterate z a y t" ∷ codes "join y q" ∷ [])) ≡ Ok (main_with
-    (vertex (Named (codes "v")) (codes "V") [] (4 ∷ []) (tree.constant (pos 1 ∷ pos 2 ∷ pos 3 ∷ pos 4 ∷ [])) []
-    ∷ vertex (Named (codes "z")) (codes "Z") [] (1 ∷ []) (tree.constant (pos 0 ∷ [])) []
-    ∷ vertex (Named (codes "r")) (codes "R") (Of 0 0 ∷ Of 1 0 ∷ []) (1 ∷ 2 ∷ [])
+    (vertex (Named (codes "v")) (codes "V") [] (out (codes "o") 4) (tree.constant (pos 1 ∷ pos 2 ∷ pos 3 ∷ pos 4 ∷ [])) []
+    ∷ vertex (Named (codes "z")) (codes "Z") [] (out (codes "o") 1) (tree.constant (pos 0 ∷ [])) []
+    ∷ vertex (Named (codes "r")) (codes "R") (Of 0 0 ∷ Of 1 0 ∷ []) (port (codes "t") 1 ∷ port (codes "q") 2 ∷ [])
     (tree.repeat 2 (feed.Fork (codes "p") 0 2 ∷ feed.Iterate 1 0 ∷ []) (give.Last 0 ∷ give.Join (codes "q") 0 ∷ []))
-    (vertex (Numbered 0) (codes "F") (Own 0 ∷ Own 1 ∷ []) (1 ∷ []) (tree.function (Rattle.body_lang.specs.Expr.literal (pos 1) ∷ [])) [] ∷ []) ∷ []))
+    (vertex (Numbered 0) (codes "F") (Own 0 ∷ Own 1 ∷ []) (out (codes "y") 1) (tree.function (Rattle.body_lang.specs.Expr.literal (pos 1) ∷ [])) [] ∷ []) ∷ []))
 copies = refl
 
 used_twice : read (repeated (codes "2") (codes "fork p x" ∷ codes "diffuse z x" ∷ [])) ≡ refused 11 BadRepeat

@@ -129,15 +129,15 @@ otherwise_goes b after n ws o h =
       },
     )
 
-module _ (names : List Bytes) (defs : List Def) (b : Block) (kept : Kept in_switch names defs b) where
+module _ (version : ℕ) (names : List Bytes) (defs : List Def) (b : Block) (kept : Kept in_switch names defs b) where
   whole : is_whole b.part ≡ true → IsSwitch b.on b.ins b.outs b.cases
   whole last = record { named = kept.well.named (whole_begun b.part last); inputs = kept.well.inputs; outputs = kept.well.outputs; distinct = kept.well.distinct; few = kept.well.few }
 
-  pub switch_kept : (n : ℕ) (ws : List Bytes) (r : Reading) → switch_line (reading in_switch names defs b) n ws ≡ Ok r → IsKept r
+  pub switch_kept : (n : ℕ) (ws : List Bytes) (r : Reading) → switch_line (reading in_switch version names defs b) n ws ≡ Ok r → IsKept r
   switch_kept n ws r h =
-      either (begins ws (codes "on")) _ _ r h (line_kept in_switch names defs b kept (on_line b n ws) r (λ after e. on_goes b after n ws kept.well e)) (λ h1.
-      either (begins ws (codes "in")) _ _ r h1 (line_kept in_switch names defs b kept (in_line b n ws) r (λ after e. input_goes b after kept.well (in_added b n ws after e))) (λ h2.
-      either (begins ws (codes "out")) _ _ r h2 (line_kept in_switch names defs b kept (out_line b n ws) r (λ after e. output_goes b after kept.well (out_added b n ws after e))) (λ h3.
-      either (begins ws (codes "case")) _ _ r h3 (line_kept in_switch names defs b kept (case_line b n ws) r (λ after e. case_goes b after n ws kept.well e)) (λ h4.
-      either (begins ws (codes "otherwise")) _ _ r h4 (line_kept in_switch names defs b kept (otherwise_line b n ws) r (λ after e. otherwise_goes b after n ws kept.well e)) (λ h5.
-      either (begins ws (codes "end")) _ _ r h5 (end_kept in_switch names defs b kept refl (is_whole b.part) (Switch b.on b.ins b.outs b.cases b.otherwise b.otherwise_line) n ws r whole) (λ h6. never _ r h6))))))
+      either (begins ws (codes "on")) _ _ r h (line_kept in_switch version names defs b kept (on_line b n ws) r (λ after e. on_goes b after n ws kept.well e)) (λ h1.
+      either (begins ws (codes "in")) _ _ r h1 (line_kept in_switch version names defs b kept (in_line b n ws) r (λ after e. input_goes b after kept.well (in_added b n ws after e))) (λ h2.
+      either (begins ws (codes "out")) _ _ r h2 (line_kept in_switch version names defs b kept (out_line b n ws) r (λ after e. output_goes b after kept.well (out_added b n ws after e))) (λ h3.
+      either (begins ws (codes "case")) _ _ r h3 (line_kept in_switch version names defs b kept (case_line b n ws) r (λ after e. case_goes b after n ws kept.well e)) (λ h4.
+      either (begins ws (codes "otherwise")) _ _ r h4 (line_kept in_switch version names defs b kept (otherwise_line b n ws) r (λ after e. otherwise_goes b after n ws kept.well e)) (λ h5.
+      either (begins ws (codes "end")) _ _ r h5 (end_kept in_switch version names defs b kept refl (is_whole b.part) (Switch b.on b.ins b.outs b.cases b.otherwise b.otherwise_line) n ws r whole) (λ h6. never _ r h6))))))

@@ -1,10 +1,10 @@
 -- What reading guarantees whoever works on definitions.
-use Rattle.std.specs.Prelude.{◌≡◌, List, Ok}
-use Rattle.algo_defs.specs.declared.definition.Def.{Def}
+use Rattle.std.specs.Prelude.{◌≡◌, Ok}
+use Rattle.algo_defs.specs.declared.definition.Defs.{Defs}
 use Rattle.algo_defs.specs.Words.{Bytes}
 use Rattle.algo_text.specs.Text.{definitions_of}
 use Rattle.algo_rules.specs.WellRead.{AreWellRead}
 
 -- the definitions of every text that is accepted
 abbrev pub AcceptedAreWellRead : Type 0
-AcceptedAreWellRead = (text : Bytes) (ds : List Def) → definitions_of text ≡ Ok ds → AreWellRead ds
+AcceptedAreWellRead = (text : Bytes) (ds : Defs) → definitions_of text ≡ Ok ds → AreWellRead ds.defs

@@ -9,7 +9,7 @@ ghost use Rattle.reading_laws.specs.Few.{AcceptedAreFew};
 
 /// The definitions of every text that is accepted are well read: names are names; definitions, the ports of one
 /// definition, the references of a graph and the outer names of a repetition are each named once; vectors have 1 to
-/// 64 elements; a definition has at most 64 inputs, outputs, references, cases or frontier lines each; a function
+/// 64 elements; a delay looks back 1 to 16 reactions, with a vector of initial values for each; a definition has at most 64 inputs, outputs, references, cases or frontier lines each; a function
 /// has an output, and its formulas name inputs of its own; a repetition has 1 to 64 copies.
 pub fn accepted_are_well_read()
     ensures { AcceptedAreWellRead }

@@ -64,7 +64,7 @@ module _ (ds : List Def) (make : Making) where
   inner_of_text h (Sensor n) = tt
   inner_of_text h (Actuator n) = tt
   inner_of_text h (Constant values) = tt
-  inner_of_text h (Delay values) = tt
+  inner_of_text h (Delay depth values) = tt
   inner_of_text h (Function ins outs) = tt
   inner_of_text h (Graph ins outs references edges) = references_of_text h ins references edges 0 0 references
   inner_of_text h (Switch on ins outs cases otherwise last) = cases_of_text h (length ins) 0 (map (λ c. c.def) cases ++ otherwise ∷ [])
@@ -94,7 +94,7 @@ module _ (ds : List Def) (make : Making) where
   kind_of_text acc w s a line (Sensor n) e = tt
   kind_of_text acc w s a line (Actuator n) e = tt
   kind_of_text acc w s a line (Constant values) e = tt
-  kind_of_text acc w s a line (Delay values) e = tt
+  kind_of_text acc w s a line (Delay depth values) e = tt
   kind_of_text acc w s a line (Function ins outs) e = tt
   kind_of_text acc w s a line (Graph ins outs references edges) e = tt
   kind_of_text acc w s a line (Switch on ins outs cases otherwise last) e = tt

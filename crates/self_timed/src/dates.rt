@@ -37,6 +37,21 @@ impl Dates {
         Dates { reactions }
     }
 
+    /// How many reactions there are. It takes no memory.
+    pub fn reactions(&self) -> usize
+        ensures { result ≡ length self.now }
+    {
+        self.reactions.len()
+    }
+
+    /// How many entries the reaction has. It takes no memory.
+    pub fn entries(&self, reaction: usize) -> usize
+        requires { reaction < length self.now }
+        ensures { result ≡ length (reaction_at self.now reaction) }
+    {
+        self.reactions[reaction].as_slice().len()
+    }
+
     /// When the entry starts in the reaction. It takes no memory.
     pub fn start(&self, reaction: usize, entry: usize) -> u64
         requires reaction { reaction < length self.now }

@@ -24,6 +24,7 @@ fn vertex(
         ins: Items::new(Vec::new(alloc)),
         guards: Items::new(Vec::new(alloc)),
         outs: Items::new(Vec::from_slice(alloc, outs)?),
+        names: Items::new(Vec::new(alloc)),
         kind,
         inner,
     })

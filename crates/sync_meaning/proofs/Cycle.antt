@@ -1,6 +1,6 @@
 -- What the functions of a reaction ask of one another.
-use Rattle.std.proofs.Common.{◌≡◌, ℕ, zero, suc, ◌+◌, ◌<◌, ◌≤◌, List, [], ◌∷◌, length, get_or, set, take, map, false, ℤ, refl, sym, ap, ◌∙◌, subst, arith, get_or-set_same}
-use Rattle.std.proofs.lemmas.List.{get_or_default, take_more}
+use Rattle.std.proofs.Common.{◌≡◌, ℕ, zero, suc, ◌+◌, ◌<◌, ◌≤◌, List, [], ◌∷◌, length, get_or, set, take, map, replicate, false, ℤ, refl, sym, ap, ◌∙◌, subst, arith, get_or-set_same}
+use Rattle.std.proofs.lemmas.List.{get_or_default, take_more, length-replicate}
 use Rattle.level_meaning.specs.declared.source.Source.{Source}
 use Rattle.level_meaning.specs.declared.frontier.Feed.{Feed}
 use Rattle.level_meaning.specs.declared.frontier.Give.{Give}
@@ -15,11 +15,13 @@ use Rattle.algo_tree.specs.declared.vertex.Kind.TheVariants.{Sensor, Actuator, C
 use Rattle.sync_meaning.specs.declared.store.Store.{Store, out-Store}
 use Rattle.level_order.specs.Order.{MayRun, IsOrder, nodes_of}
 use Rattle.level_order.proofs.Nodes.{length-nodes_of}
-use Rattle.sync_meaning.specs.Store.{Fits, lengths}
+use Rattle.sync_meaning.specs.Store.{AreOf, Fits, lengths}
 use Rattle.sync_meaning.specs.Sound.{IsSound, AreSound, IsAlone}
 use Rattle.sync_meaning.specs.Run.{InRun, RunsAt, NodeReacts, CaseReacts, given, in_lengths, is_delay}
 use Rattle.sync_meaning.proofs.Nodes.{not_delay}
 use Rattle.sync_meaning.proofs.Stores.{view_out, label_is}
+use Rattle.sync_meaning.proofs.Lists.{length-map, length_at, length_like}
+use Rattle.sync_meaning.proofs.Firsts.{delay_lens}
 use Rattle.sync_meaning.proofs.Index.{guards_at, sound_at, outs_at}
 use Rattle.sync_meaning.proofs.Steps.{run_step, may_run_there}
 
@@ -108,24 +110,30 @@ guards_are u = ap (λ l. l.guards) (label_is u)
 pub ins_are : (u : Declared) → (label_of (view u)).ins ≡ (out-Vertex u).ins
 ins_are u = ap (λ l. l.ins) (label_is u)
 
-pub not_delay_at : (u : Declared) → ((v : List ℤ) → (out-Vertex u).kind ≡ Delay v → ⊥) → is_delay (label_of (view u)).kind ≡ false
+pub not_delay_at : (u : Declared) → ((v : List (List ℤ)) → (out-Vertex u).kind ≡ Delay v → ⊥) → is_delay (label_of (view u)).kind ≡ false
 not_delay_at u h = ap (λ l. is_delay l.kind) (label_is u) ∙ not_delay (out-Vertex u).kind h
 
--- a delay keeps one value, of its output's length
-pub delay_keeps : (u : Declared) (v : List ℤ) (lens : List ℕ) (k : Store) → (out-Vertex u).kind ≡ Delay v → Fits lens (view u) k → IsTyped lens (view u)
-    → (lengths (out-Store k).kept ≡ (label_of (view u)).outs) × (lengths (out-Store k).kept ≡ length v ∷ [])
-delay_keeps u v lens k is fit typed =
+like_long : (vs : Values) (m n : ℕ) → lengths vs ≡ replicate m n → 0 < m → AreOf n vs
+like_long vs m n e some =
+    let long : length vs ≡ m = sym (length-map length vs) ∙ ap length e ∙ length-replicate m n in
+    (e ∙ ap (λ d. replicate d n) (sym long), omega (arith, long, some))
+
+-- a delay keeps values of its output's length
+pub delay_keeps : (u : Declared) (vs : Values) (lens : List ℕ) (k : Store) → (out-Vertex u).kind ≡ Delay vs → Fits lens (view u) k → IsTyped lens (view u)
+    → AreOf (get_or lens 0 0) (out-Store k).kept
+delay_keeps u vs lens k is fit typed =
     let f = (subst (λ w. Fits lens w k) (view_out u) fit).1 in
-    let t = (subst (IsTyped lens) (view_out u) typed).1 in
     let kept = rw is at f in
-    let lens_are = rw is at t in
-    (kept ∙ lens_are.0 ∙ sym (ap (λ l. l.outs) (label_is u)), kept ∙ lens_are.0 ∙ sym lens_are.1)
+    like_long (out-Store k).kept (length vs) (get_or lens 0 0) kept (delay_lens u vs lens is typed).some
 
-pub only_one : (vs : Values) (n : ℕ) → lengths vs ≡ n ∷ [] → lengths vs ≡ length (get_or vs 0 []) ∷ []
-only_one [] n e = absurd (omega (arith, ap length e))
-only_one (x ∷ []) n e = refl
-only_one (x ∷ y ∷ vs) n e = absurd (omega (arith, ap length e))
+-- the first of the kept values has the length of the output
+pub first_kept : (u : Declared) (vs : Values) (lens : List ℕ) (k : Store) → (out-Vertex u).kind ≡ Delay vs → Fits lens (view u) k → IsTyped lens (view u)
+    → (label_of (view u)).outs ≡ length (get_or (out-Store k).kept 0 []) ∷ []
+first_kept u vs lens k is fit typed =
+    let keeps = delay_keeps u vs lens k is fit typed in
+    let is_delay_of = delay_lens u vs lens is typed in
+    sym is_delay_of.same ∙ is_delay_of.one ∙ ap (λ n. n ∷ []) (sym (length_like (out-Store k).kept (length (out-Store k).kept) (get_or lens 0 0) 0 keeps.0 keeps.1))
 
-pub one_there : (vs : Values) (n : ℕ) → lengths vs ≡ n ∷ [] → 0 < length vs
-one_there [] n e = absurd (omega (arith, ap length e))
-one_there (x ∷ vs) n e = omega arith
+-- the one input of a delay
+pub delay_input : (u : Declared) (vs : Values) (x : Values) → (out-Vertex u).kind ≡ Delay vs → IsTyped (lengths x) (view u) → lengths x ≡ length (get_or x 0 []) ∷ []
+delay_input u vs x is typed = (delay_lens u vs (lengths x) is typed).one ∙ ap (λ n. n ∷ []) (sym (length_at x 0))

@@ -1,5 +1,5 @@
 -- Stores as they are before the first reaction.
-use Rattle.std.proofs.Common.{◌≡◌, ℕ, zero, suc, ◌+◌, ◌<◌, ◌≤◌, inl, inr, List, [], ◌∷◌, ◌++◌, length, get_or, take, map, replicate, cond, nat_lt, Bool, true, false, Option, Some, None, slice_get, ℤ, refl, sym, ap, ◌∙◌, subst, arith, add-one, length-append}
+use Rattle.std.proofs.Common.{◌≡◌, ℕ, zero, suc, ◌+◌, ◌<◌, ◌≤◌, inl, inr, List, [], ◌∷◌, ◌++◌, length, get_or, take, map, replicate, cond, nat_lt, Bool, true, false, Option, Some, None, slice_get, ℤ, refl, sym, ap, ap₂, ◌∙◌, subst, arith, add-one, length-append}
 use mathlib.Core.Path.{fun_ext}
 use Rattle.std.proofs.lemmas.Bool.{cases_lt, ltb-true, ltb-false}
 use Rattle.std.proofs.lemmas.List.{get_or_append_left, get_or-take, get_or_default, length-take-le}
@@ -13,7 +13,7 @@ use Rattle.level_meaning.specs.Level.{Values, State, Path, zeros, repeat_initial
 use Rattle.algo_tree.specs.Tree.{Label, Vertex, vertex, Vertices, no_vertices, and_vertex}
 use Rattle.algo_tree.specs.Meaning.{node, nodes, behaviour, kind_initial}
 use Rattle.algo_tree.specs.Well.{IsWell, AllWell, IsOne}
-use Rattle.algo_tree.specs.Typed.{label_of, outs_of, fed_length, IsTyped, AllTyped, IsBodyTyped}
+use Rattle.algo_tree.specs.Typed.{AreGroups, label_of, outs_of, fed_length, IsTyped, AllTyped, IsBodyTyped}
 use Rattle.algo_tree.specs.View.{view, label_view, vertices_view, kind_view}
 use Rattle.algo_tree.specs.declared.vertex.Vertex.{Vertex as Declared, out-Vertex}
 use Rattle.algo_tree.specs.declared.vertex.Kind as declared
@@ -118,8 +118,8 @@ module _ (u : Declared) (lens : List ℕ) (x : Store-F Store) (ins : x.ins ≡ m
     initial = state-roll l us x ∙ fun_ext initial;
   })
 
-  pub first-delay : (v : List ℤ) → (out-Vertex u).kind ≡ Delay v → x.kept ≡ v ∷ [] → lens ≡ length v ∷ [] → x.inner.items ≡ [] → IsFirst lens (view u) (roll-Store x)
-  first-delay v is kept one empty = first_of (rw is (ap lengths kept ∙ sym one)) at_path
+  pub first-delay : (vs : List (List ℤ)) → (out-Vertex u).kind ≡ Delay vs → x.kept ≡ vs → lengths vs ≡ replicate (length vs) (get_or lens 0 0) → x.inner.items ≡ [] → IsFirst lens (view u) (roll-Store x)
+  first-delay vs is kept long empty = first_of (rw is (ap lengths kept ∙ long)) at_path
     where
       at_path : (q : Path) → state_out l us x q ≡ kind_initial l.kind (nodes us) q
       at_path [] = rw is kept
@@ -143,7 +143,7 @@ module _ (u : Declared) (lens : List ℕ) (x : Store-F Store) (ins : x.ins ≡ m
           ∙ ap (λ cs. with_node (find_node p cs) [] (λ c. c.does.initial q)) (sym (nodes_view (out-Vertex u).inner.items)))
 
   -- what a kind with nothing inside asks of the store at the start
-  alone_fit : (K : declared.Kind) → ((v : List ℤ) → K ≡ Delay v → ⊥) → ((ss : List Source) → K ≡ Graph ss → ⊥) → ((v : List ℤ) (n : List (List ℕ)) → K ≡ Switch v n → ⊥) → ((n : ℕ) (f : List Feed) (o : List Give) → K ≡ Repeat n f o → ⊥)
+  alone_fit : (K : declared.Kind) → ((v : List (List ℤ)) → K ≡ Delay v → ⊥) → ((ss : List Source) → K ≡ Graph ss → ⊥) → ((v : List ℤ) (n : List (List ℕ)) → K ≡ Switch v n → ⊥) → ((n : ℕ) (f : List Feed) (o : List Give) → K ≡ Repeat n f o → ⊥)
       → FitsKind (kind_view K) lens us x (λ own outs. AllFit own outs us x.inner.items) (λ fed. CopiesFit fed us x.inner.items)
   alone_fit (Sensor n) d g w r = tt
   alone_fit (Actuator n) d g w r = tt
@@ -157,7 +157,7 @@ module _ (u : Declared) (lens : List ℕ) (x : Store-F Store) (ins : x.ins ≡ m
   alone_fit (Switch values names) d g w r = absurd (w values names refl)
   alone_fit (Repeat n feeds gives) d g w r = absurd (r n feeds gives refl)
 
-  alone_initial : (K : declared.Kind) → ((v : List ℤ) → K ≡ Delay v → ⊥) → ((ss : List Source) → K ≡ Graph ss → ⊥) → ((v : List ℤ) (n : List (List ℕ)) → K ≡ Switch v n → ⊥) → ((n : ℕ) (f : List Feed) (o : List Give) → K ≡ Repeat n f o → ⊥)
+  alone_initial : (K : declared.Kind) → ((v : List (List ℤ)) → K ≡ Delay v → ⊥) → ((ss : List Source) → K ≡ Graph ss → ⊥) → ((v : List ℤ) (n : List (List ℕ)) → K ≡ Switch v n → ⊥) → ((n : ℕ) (f : List Feed) (o : List Give) → K ≡ Repeat n f o → ⊥)
       → x.inner.items ≡ [] → (p : Part) (q : Path) → kept_inside (kind_view K) (state_in us x.inner.items p q) (state_of_copies us x.inner.items p q) ≡ kind_initial (kind_view K) (nodes us) (p ∷ q)
   alone_initial (Sensor n) d g w r empty p q = rw empty (none_kept us p q)
   alone_initial (Actuator n) d g w r empty p q = rw empty (none_kept us p q)
@@ -171,7 +171,7 @@ module _ (u : Declared) (lens : List ℕ) (x : Store-F Store) (ins : x.ins ≡ m
   alone_initial (Switch values names) d g w r empty p q = absurd (w values names refl)
   alone_initial (Repeat n feeds gives) d g w r empty p q = absurd (r n feeds gives refl)
 
-  alone_here : (K : declared.Kind) → ((v : List ℤ) → K ≡ Delay v → ⊥) → ((ss : List Source) → K ≡ Graph ss → ⊥) → ((v : List ℤ) (n : List (List ℕ)) → K ≡ Switch v n → ⊥) → ((n : ℕ) (f : List Feed) (o : List Give) → K ≡ Repeat n f o → ⊥)
+  alone_here : (K : declared.Kind) → ((v : List (List ℤ)) → K ≡ Delay v → ⊥) → ((ss : List Source) → K ≡ Graph ss → ⊥) → ((v : List ℤ) (n : List (List ℕ)) → K ≡ Switch v n → ⊥) → ((n : ℕ) (f : List Feed) (o : List Give) → K ≡ Repeat n f o → ⊥)
       → kept_here (kind_view K) x.kept ≡ kind_initial (kind_view K) (nodes us) []
   alone_here (Sensor n) d g w r = refl
   alone_here (Actuator n) d g w r = refl
@@ -185,7 +185,7 @@ module _ (u : Declared) (lens : List ℕ) (x : Store-F Store) (ins : x.ins ≡ m
   alone_here (Switch values names) d g w r = absurd (w values names refl)
   alone_here (Repeat n feeds gives) d g w r = absurd (r n feeds gives refl)
 
-  pub first-alone : ((v : List ℤ) → (out-Vertex u).kind ≡ Delay v → ⊥) → ((ss : List Source) → (out-Vertex u).kind ≡ Graph ss → ⊥) → ((v : List ℤ) (n : List (List ℕ)) → (out-Vertex u).kind ≡ Switch v n → ⊥)
+  pub first-alone : ((v : List (List ℤ)) → (out-Vertex u).kind ≡ Delay v → ⊥) → ((ss : List Source) → (out-Vertex u).kind ≡ Graph ss → ⊥) → ((v : List ℤ) (n : List (List ℕ)) → (out-Vertex u).kind ≡ Switch v n → ⊥)
       → ((n : ℕ) (f : List Feed) (o : List Give) → (out-Vertex u).kind ≡ Repeat n f o → ⊥) → x.inner.items ≡ [] → IsFirst lens (view u) (roll-Store x)
   first-alone d g w r empty = first_of (alone_fit (out-Vertex u).kind d g w r) at_path
     where
@@ -293,8 +293,33 @@ module _ (u : Declared) (lens : List ℕ) (x : Store-F Store) (ins : x.ins ≡ m
 pub inner_well : (u : Declared) → IsWell (view u) → AllWell (vertices_view (out-Vertex u).inner.items)
 inner_well u h = (subst IsWell (view_out u) h).1
 
-pub delay_lens : (u : Declared) (v : List ℤ) (lens : List ℕ) → (out-Vertex u).kind ≡ Delay v → IsTyped lens (view u) → lens ≡ length v ∷ []
-delay_lens u v lens is h = let typed = (subst (IsTyped lens) (view_out u) h).1 in let here = rw is at typed in here.0 ∙ sym here.1
+-- what the length of an output says of the groups of initial values
+pub groups_one : (outs : List ℕ) (vs : Values) → 1 ≤ length vs → AreGroups outs vs → outs ≡ get_or outs 0 0 ∷ []
+groups_one outs [] some h = absurd (omega (arith, some))
+groups_one outs (v ∷ vs) some h = h.0 ∙ ap (λ (ns : List ℕ). get_or ns 0 0 ∷ []) (sym h.0)
+
+groups_like : (outs : List ℕ) (vs : Values) → AreGroups outs vs → lengths vs ≡ replicate (length vs) (get_or outs 0 0)
+groups_like outs [] h = refl
+groups_like outs (v ∷ vs) h = ap₂ (λ n ns. n ∷ ns) (ap (λ (ns : List ℕ). get_or ns 0 0) (sym h.0)) (groups_like outs vs h.1)
+
+-- what a delay has: as many inputs as outputs, one, and groups of its length
+pub record IsDelayOf (lens outs : List ℕ) (vs : Values) : Type 0 where
+  pub same : lens ≡ outs
+  pub one : lens ≡ get_or lens 0 0 ∷ []
+  pub some : 0 < length vs
+  pub like : lengths vs ≡ replicate (length vs) (get_or lens 0 0)
+
+pub delay_lens : (u : Declared) (vs : Values) (lens : List ℕ) → (out-Vertex u).kind ≡ Delay vs → IsTyped lens (view u) → IsDelayOf lens (label_of (view u)).outs vs
+delay_lens u vs lens is h =
+    let typed = (subst (IsTyped lens) (view_out u) h).1 in
+    let here = rw is at typed in
+    let outs = (out-Vertex u).outs in
+    record {
+      same = here.0 ∙ sym (ap (λ l. l.outs) (label_is u));
+      one = here.0 ∙ groups_one outs vs here.1.0 here.1.1 ∙ ap (λ (ns : List ℕ). get_or ns 0 0 ∷ []) (sym here.0);
+      some = omega (arith, here.1.0);
+      like = groups_like outs vs here.1.1 ∙ ap (λ (ns : List ℕ). replicate (length vs) (get_or ns 0 0)) (sym here.0);
+    }
 
 pub graph_typed : (u : Declared) (sources : List Source) (lens : List ℕ) → (out-Vertex u).kind ≡ Graph sources → IsTyped lens (view u) → AllTyped lens (outs_of (vertices_view (out-Vertex u).inner.items)) (vertices_view (out-Vertex u).inner.items)
 graph_typed u sources lens is h = let typed = (subst (IsTyped lens) (view_out u) h).1 in let here = rw is at typed in here.0

@@ -1,9 +1,9 @@
 -- Lists of vectors and their lengths.
 use Rattle.std.proofs.Common.{◌≡◌, ℕ, zero, suc, ◌+◌, ◌<◌, ◌≤◌, ℤ, List, [], ◌∷◌, ◌++◌, length, map, get_or, set, take, drop, refl, sym, ap, ◌∙◌, arith, add-one, pos, length-append, replicate, length-drop, length-set, get_or-set_same, append-nil}
-use Rattle.std.proofs.lemmas.List.{map-append}
+use Rattle.std.proofs.lemmas.List.{map-append, get_or-replicate}
 use Rattle.algo_tree.specs.Typed.{AreLengths}
 use Rattle.body_lang.specs.Expr.{vector_of, numbers_below, zeros}
-use Rattle.sync_meaning.specs.Store.{lengths}
+use Rattle.sync_meaning.specs.Store.{AreOf, lengths}
 
 pub map_at : {A B : Type 0} (f : A → B) (xs : List A) (i : ℕ) (d : A) (e : B) → i < length xs → get_or (map f xs) i e ≡ f (get_or xs i d)
 map_at f [] i d e h = absurd (omega arith)
@@ -166,3 +166,69 @@ get_itself (x ∷ xs) (suc r) d = get_itself xs r d
 pub length-zeros : (n : ℕ) → length (zeros n) ≡ n
 length-zeros zero = refl
 length-zeros (suc n) = ap suc (length-zeros n)
+
+-- Vector by vector, each takes the place of the one before it: y1 .. yi, then x and what stands behind it as it was.
+pub moved_up : (i : ℕ) (x : List ℤ) (ys : List (List ℤ)) → i < length ys
+    → set (take i ys ++ drop i (x ∷ ys)) i (get_or (take i ys ++ drop i (x ∷ ys)) (suc i) []) ≡ take (suc i) ys ++ drop (suc i) (x ∷ ys)
+moved_up i x [] lt = absurd (omega arith)
+moved_up zero x (y ∷ ys) lt = refl
+moved_up (suc i) x (y ∷ ys) lt = ap (λ zs. y ∷ zs) (moved_up i y ys (omega arith))
+
+pub all_moved : (x v : List ℤ) (ys : List (List ℤ)) (n : ℕ) → n ≡ length ys → set (take n ys ++ drop n (x ∷ ys)) n v ≡ ys ++ v ∷ []
+all_moved x v [] zero e = refl
+all_moved x v [] (suc n) e = absurd (omega arith)
+all_moved x v (y ∷ ys) zero e = absurd (omega arith)
+all_moved x v (y ∷ ys) (suc n) e = ap (λ zs. y ∷ zs) (all_moved y v ys n (omega arith))
+
+-- another vector is as before
+set_other : (vs : List (List ℤ)) (p r : ℕ) (v : List ℤ) → p < r → get_or (set vs p v) r [] ≡ get_or vs r []
+set_other [] p r v lt = refl
+set_other (w ∷ vs) p zero v lt = absurd (omega arith)
+set_other (w ∷ vs) zero (suc r) v lt = refl
+set_other (w ∷ vs) (suc p) (suc r) v lt = set_other vs p r v (omega arith)
+
+pub written_other : (old : List (List ℤ)) (p r : ℕ) (f : ℕ → ℤ) (j : ℕ) (cur : List (List ℤ)) → Written old p f j cur → p < r → get_or cur r [] ≡ get_or old r []
+written_other old p r f j cur w lt = rw w (set_other old p r _ lt)
+
+pub written_long : (old : List (List ℤ)) (p : ℕ) (f : ℕ → ℤ) (j : ℕ) (cur : List (List ℤ)) → Written old p f j cur → length cur ≡ length old
+written_long old p f j cur w = ap length w ∙ simp length-set refl
+
+-- the same of a list with a first vector
+pub moved_next : (vs cur : List (List ℤ)) (i : ℕ) → cur ≡ take i (drop 1 vs) ++ drop i vs → i + 1 < length vs → set cur i (get_or cur (i + 1) []) ≡ take (i + 1) (drop 1 vs) ++ drop (i + 1) vs
+moved_next [] cur i is lt = absurd (omega arith)
+moved_next (x ∷ ys) cur i is lt = rw (is, add-one) (moved_up i x ys (omega arith))
+
+pub moved_whole : (vs cur : List (List ℤ)) (i : ℕ) (v : List ℤ) → cur ≡ take i (drop 1 vs) ++ drop i vs → suc i ≡ length vs → set cur i v ≡ drop 1 vs ++ v ∷ []
+moved_whole [] cur i v is e = absurd (omega (arith, e))
+moved_whole (x ∷ ys) cur i v is e = rw is (all_moved x v ys i (omega (arith, e)))
+
+replicate_last : (m n : ℕ) → replicate (suc m) n ≡ replicate m n ++ n ∷ []
+replicate_last zero n = refl
+replicate_last (suc m) n = ap (λ ns. n ∷ ns) (replicate_last m n)
+
+pub lengths_kept : (vs : List (List ℤ)) (v : List ℤ) → AreOf (length v) vs → lengths (drop 1 vs ++ v ∷ []) ≡ lengths vs
+lengths_kept [] v h = absurd (omega (arith, h.1))
+lengths_kept (x ∷ ys) v h =
+    let rest : lengths ys ≡ replicate (length ys) (length v) = ap (drop 1) h.0 in
+    map-append length ys (v ∷ []) ∙ ap (λ ns. ns ++ length v ∷ []) rest ∙ sym (replicate_last (length ys) (length v)) ∙ sym h.0
+
+-- the length at a place among vectors of one length
+pub length_like : (vs : List (List ℤ)) (m n i : ℕ) → lengths vs ≡ replicate m n → i < m → length (get_or vs i []) ≡ n
+length_like vs m n i e lt = length_at vs i ∙ ap (λ (ns : List ℕ). get_or ns i 0) e ∙ get_or-replicate m i n 0 lt
+
+-- the elements of a vector are those at its places
+take_last : (m : ℕ) (zs : List ℤ) → suc m ≤ length zs → take (suc m) zs ≡ take m zs ++ get_or zs m (pos 0) ∷ []
+take_last m [] h = absurd (omega arith)
+take_last zero (z ∷ zs) h = refl
+take_last (suc m) (z ∷ zs) h = ap (λ xs. z ∷ xs) (take_last m zs (omega arith))
+
+first_places : (m : ℕ) (zs : List ℤ) → m ≤ length zs → vector_of m (λ j. get_or zs j (pos 0)) ≡ take m zs
+first_places zero zs h = refl
+first_places (suc m) zs h = map-append (λ j. get_or zs j (pos 0)) (numbers_below m) (m ∷ []) ∙ ap (λ xs. xs ++ get_or zs m (pos 0) ∷ []) (first_places m zs (omega arith)) ∙ sym (take_last m zs h)
+
+take_all : (zs : List ℤ) → take (length zs) zs ≡ zs
+take_all [] = refl
+take_all (z ∷ zs) = ap (λ xs. z ∷ xs) (take_all zs)
+
+pub vector_itself : (xs : List ℤ) → vector_of (length xs) (λ j. get_or xs j (pos 0)) ≡ xs
+vector_itself xs = first_places (length xs) xs (omega arith) ∙ take_all xs

@@ -32,7 +32,7 @@ outputs_asked (graph sources) o cs row st look ss = refl
 outputs_asked (switch values names) o cs row st look ss = refl
 outputs_asked (repeat n feeds gives) o cs row st look ss = refl
 
-pub not_delay : (K : declared.Kind) → ((v : List ℤ) → K ≡ Delay v → ⊥) → is_delay (kind_view K) ≡ false
+pub not_delay : (K : declared.Kind) → ((v : List (List ℤ)) → K ≡ Delay v → ⊥) → is_delay (kind_view K) ≡ false
 not_delay (Sensor n) h = refl
 not_delay (Actuator n) h = refl
 not_delay (Constant v) h = refl
@@ -138,13 +138,13 @@ runs-idle u lens row look k outs r = record { fit = r.fit; lens_are = r.lens_are
 pub runs-other : (u : Vertex) (lens : List ℕ) (row : Values) (look : Source → Vector) (k new : Store) (outs : Values) → is_delay (label_of u).kind ≡ false → NodeReacts u lens row look k new outs → Runs u lens row look k new outs
 runs-other u lens row look k new outs other r = record { fit = r.fit; lens_are = r.lens_are; outputs = r.outputs; next = rw other r.next }
 
-pub runs-delay : (u : Declared) (v : List ℤ) (lens : List ℕ) (row : Values) (look : Source → Vector) (k : Store) → (out-Vertex u).kind ≡ Delay v → Fits lens (view u) k → all_hold look (out-Vertex u).guards ≡ true
+pub runs-delay : (u : Declared) (vs : List (List ℤ)) (lens : List ℕ) (row : Values) (look : Source → Vector) (k : Store) → (out-Vertex u).kind ≡ Delay vs → Fits lens (view u) k → all_hold look (out-Vertex u).guards ≡ true
     → (outs : Values) → outs ≡ get_or (out-Store k).kept 0 [] ∷ [] → lengths outs ≡ (label_of (view u)).outs → Runs (view u) lens row look k k outs
-runs-delay u v lens row look k is fit on outs gives same =
+runs-delay u vs lens row look k is fit on outs gives same =
     let l = label_view (out-Vertex u) in
     let us = vertices_view (out-Vertex u).inner.items in
     subst (λ w. Runs w lens row look k k outs) (sym (view_out u))
-    (delay_at l us lens row look k (v ∷ []) (ap kind_view is) (subst (λ w. Fits lens w k) (view_out u) fit) on outs gives (same ∙ ap (λ w. (label_of w).outs) (view_out u)))
+    (delay_at l us lens row look k vs (ap kind_view is) (subst (λ w. Fits lens w k) (view_out u) fit) on outs gives (same ∙ ap (λ w. (label_of w).outs) (view_out u)))
 
 pub runs_at : (u : Vertex) (lens : List ℕ) (row : Values) (look : Source → Vector) (k new : Store) (r : ℕ) (table after : List Values) (outs : Values) → r < length table → after ≡ set table r outs
     → Runs u lens row look k new outs → RunsAt u lens row look k new r table after

@@ -71,15 +71,15 @@ module _ (l : Label) (us : Vertices) (vs : List (List ℤ)) (e : l.kind ≡ dela
     next = state-roll l us then ∙ fun_ext (delay_next_at keeps);
   }
 
-pub reacts-delay : (u : Declared) (v : List ℤ) → (out-Vertex u).kind ≡ Delay v → (row : Values) (k : Store) (kept outs : Values) → Fits (lengths (out-Store k).ins) (view u) k → lengths outs ≡ (label_of (view u)).outs
+pub reacts-delay : (u : Declared) (vs : List (List ℤ)) → (out-Vertex u).kind ≡ Delay vs → (row : Values) (k : Store) (kept outs : Values) → Fits (lengths (out-Store k).ins) (view u) k → lengths outs ≡ (label_of (view u)).outs
     → outs ≡ get_or (out-Store k).kept 0 [] ∷ [] → kept ≡ drop 1 (out-Store k).kept ++ get_or (out-Store k).ins 0 [] ∷ [] → lengths kept ≡ lengths (out-Store k).kept
     → Reacts (view u) row k (roll-Store (record { ins = (out-Store k).ins; kept = kept; order = (out-Store k).order; outs = (out-Store k).outs; inner = (out-Store k).inner })) outs
-reacts-delay u v is row k kept outs fit lens gives keeps same =
+reacts-delay u vs is row k kept outs fit lens gives keeps same =
     let l = label_view (out-Vertex u) in
     let us = vertices_view (out-Vertex u).inner.items in
     let then : Store = roll-Store (record { ins = (out-Store k).ins; kept = kept; order = (out-Store k).order; outs = (out-Store k).outs; inner = (out-Store k).inner }) in
     subst (λ w. Reacts w row k then outs) (sym (view_out u))
-    (reacts-delay-at l us (v ∷ []) (ap kind_view is) row k kept outs (subst (λ w. Fits (lengths (out-Store k).ins) w k) (view_out u) fit) (subst (λ w. lengths outs ≡ (label_of w).outs) (view_out u) lens) gives keeps same)
+    (reacts-delay-at l us vs (ap kind_view is) row k kept outs (subst (λ w. Fits (lengths (out-Store k).ins) w k) (view_out u) fit) (subst (λ w. lengths outs ≡ (label_of w).outs) (view_out u) lens) gives keeps same)
 
 pub typed_out : (u : Declared) (lens : List ℕ) → IsTyped lens (view u) → IsTyped lens (vertex (label_view (out-Vertex u)) (vertices_view (out-Vertex u).inner.items))
 typed_out u lens h = subst (IsTyped lens) (view_out u) h

@@ -1,9 +1,12 @@
 -- What typing says of a declared vertex.
 use Rattle.std.proofs.Common.{◌≡◌, ◌+◌, ◌<◌, ◌≤◌, ◌∷◌, [], ℕ, ℤ, zero, suc, List, length, get_or, replicate, refl, sym, ap, ◌∙◌, subst, arith, add-one}
 use Rattle.sync_meaning.specs.Store.{lengths}
-use Rattle.sync_meaning.proofs.Lists.{length_at}
-use Rattle.algo_tree.specs.declared.vertex.Kind.TheVariants.{Merge}
-use Rattle.algo_tree.specs.Typed.{AreLengths, IsTyped, label_of}
+use Rattle.sync_meaning.proofs.Lists.{length_at, length-map}
+use Rattle.std.proofs.lemmas.List.{length-replicate}
+use Rattle.std.specs.Prelude.{sum}
+use Rattle.algo_tree.specs.declared.vertex.Kind.TheVariants.{Merge, Function, Explode}
+use Rattle.algo_tree.specs.Typed.{AreLengths, AllPortsBelow, IsTyped, label_of}
+use Rattle.body_lang.specs.Expr.{Expr}
 use Rattle.algo_tree.specs.View.{view}
 use Rattle.algo_tree.specs.declared.vertex.Vertex.{Vertex as Declared, out-Vertex}
 use Rattle.algo_tree.proofs.Views.{view_out}
@@ -31,3 +34,35 @@ merge_input u values ins outs at is h lens le =
     let o = get_or (out-Vertex u).outs 0 0 in
     let in_length : length (get_or ins (at + 1) []) ≡ o = length_at ins (at + 1) ∙ ap (λ (ns : List ℕ). get_or ns (at + 1) 0) here.1 ∙ rw add-one (replicate_at (suc (length values)) o at (omega arith)) in
     lens ∙ ap (λ l. l.outs) (label_is u) ∙ only_one (out-Vertex u).outs here.0 ∙ ap (λ n. n ∷ []) (sym in_length)
+
+-- what the typing of a vertex of this kind says
+module _ (u : Declared) (ins outs : List (List ℤ)) (h : IsTyped (lengths ins) (view u)) (lens : lengths outs ≡ (label_of (view u)).outs) where
+  long_outs : length outs ≡ length (out-Vertex u).outs
+  long_outs = sym (length-map length outs) ∙ ap length (lens ∙ ap (λ l. l.outs) (label_is u))
+
+  pub function_count : (es : List Expr) → (out-Vertex u).kind ≡ Function es → length es ≡ length outs
+  function_count es is = let typed = (subst (IsTyped (lengths ins)) (view_out u) h).1 in let here = rw is at typed in here.0 ∙ sym long_outs
+
+  pub function_ports : (es : List Expr) → (out-Vertex u).kind ≡ Function es → AllPortsBelow (length ins) es
+  function_ports es is = let typed = (subst (IsTyped (lengths ins)) (view_out u) h).1 in let here = rw is at typed in subst (λ n. AllPortsBelow n es) (length-map length ins) here.1
+
+  pub explode_there : (out-Vertex u).kind ≡ Explode → 0 < length ins
+  explode_there is =
+      let typed = (subst (IsTyped (lengths ins)) (view_out u) h).1 in
+      let here = rw is at typed in
+      let many = sym (length-map length ins) ∙ ap length here in
+      omega (arith, many)
+
+  pub explode_fits : (out-Vertex u).kind ≡ Explode → length (get_or ins 0 []) ≡ sum (lengths outs)
+  explode_fits is =
+      let typed = (subst (IsTyped (lengths ins)) (view_out u) h).1 in
+      let here = rw is at typed in
+      length_at ins 0 ∙ ap (λ (ns : List ℕ). get_or ns 0 0) here ∙ ap sum (sym (lens ∙ ap (λ l. l.outs) (label_is u)))
+
+  pub merge_there : (values : List ℤ) (at : ℕ) → (out-Vertex u).kind ≡ Merge values → at ≤ length values → at + 1 < length ins
+  merge_there values at is le =
+      let typed = (subst (IsTyped (lengths ins)) (view_out u) h).1 in
+      let here = rw is at typed in
+      let many = sym (length-map length ins) ∙ ap length here.1 in
+      let rest = length-replicate (suc (length values)) (get_or (out-Vertex u).outs 0 0) in
+      omega (arith, many, rest, le)

@@ -1,5 +1,5 @@
 -- What a store beside a vertex stands for, and when it fits the vertex.
-use Rattle.std.specs.Prelude.{◌≡◌, ℕ, List, [], ◌∷◌, length, map, replicate, if◌then◌else◌, Option, Some, None, slice_get, slice_index_or}
+use Rattle.std.specs.Prelude.{◌≡◌, ℕ, ◌<◌, List, [], ◌∷◌, length, map, replicate, if◌then◌else◌, Option, Some, None, slice_get, slice_index_or}
 use Rattle.level_meaning.specs.declared.part.Part.{Part}
 use Rattle.level_meaning.specs.declared.part.Part.TheVariants.{Named, Numbered, Port}
 use Rattle.level_meaning.specs.Level.{Vector, State, same_part}
@@ -49,9 +49,13 @@ abbrev mutual
 abbrev pub lengths : List Vector → List ℕ
 lengths vs = map length vs
 
+-- vectors of this length, one at least
+abbrev pub AreOf : ℕ → List Vector → Type 0
+AreOf n vs = (lengths vs ≡ replicate (length vs) n) × (0 < length vs)
+
 -- what a kind asks of a store, of those of a level inside with such own inputs and outputs, and of those of copies with such inputs
 abbrev pub FitsKind : Kind → List ℕ → Vertices → Store-F Store → (List ℕ → List (List ℕ) → Type 0) → (List ℕ → Type 0) → Type 0
-FitsKind (delay vs) lens us k level copies = lengths k.kept ≡ lens
+FitsKind (delay vs) lens us k level copies = lengths k.kept ≡ replicate (length vs) (slice_index_or lens 0 0)
 FitsKind (graph sources) lens us k level copies =
     (IsOrder (nodes us) k.order.items × (map lengths k.outs.items ≡ outs_of us)) × level lens (outs_of us)
 FitsKind (switch values names) lens us k level copies = level lens []

@@ -16,7 +16,7 @@ use body_lang::Ins;
 use level_meaning::{Feed, Source};
 use level_order::find_order;
 use std::alloc::Global;
-use syn_base::OutOfMemory;
+use syn_base::{Items, OutOfMemory};
 
 /// The lengths of the values of several sources.
 fn lengths_of(
@@ -72,13 +72,23 @@ fn copies_outputs(alloc: Global, body: &Vertex, count: u32) -> Result<Vec<Ins>, 
 }
 
 /// The initial values of a delay.
-fn initial_values(alloc: Global, lens: &[u32], values: &[i64]) -> Result<Ins, OutOfMemory>
-    requires { lens.now ≡ length values.now ∷ [] }
-    ensures { IfOk result (λ kept. kept ≡ values.now ∷ []) }
+fn initial_values(alloc: Global, len: u32, groups: &[Items<i64>]) -> Result<Ins, OutOfMemory>
+    requires { lengths groups.now ≡ replicate (length groups.now) len }
+    ensures { IfOk result (λ kept. kept ≡ groups.now) }
 {
-    let mut kept = Ins::new(alloc, lens)?;
-    kept.set_vector(0, values);
+    let lens = repeated(alloc, len, groups.len())?;
+    let mut kept = Ins::new(alloc, &lens)?;
+    for (at, group) in groups.iter().enumerate() {
+        kept.set_vector(at, group.as_slice());
+    }
     Ok(kept)
+}
+
+/// The same length `count` times.
+fn repeated(alloc: Global, len: u32, count: usize) -> Result<Vec<u32>, OutOfMemory>
+    ensures { IfOk result (λ lens. lens.items ≡ replicate count len) }
+{
+    Ok(vec![in alloc; len; count]?)
 }
 
 /// The stores of a level, whose vertices are fed by own inputs of these lengths and by `level`.
@@ -149,9 +159,9 @@ pub fn new_store(alloc: Global, vertex: &Vertex, lens: &[u32]) -> Result<Store, 
     ensures { IfOk result (IsFirst lens.now (view vertex.now)) }
 {
     match &vertex.kind {
-        Kind::Delay(values) => Ok(Store {
+        Kind::Delay(groups) => Ok(Store {
             ins: Ins::new(alloc, lens)?,
-            kept: initial_values(alloc, lens, values.as_slice())?,
+            kept: initial_values(alloc, lens[0], groups.as_slice())?,
             order: Vec::new(alloc),
             outs: Vec::new(alloc),
             inner: Vec::new(alloc),

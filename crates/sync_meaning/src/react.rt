@@ -1,5 +1,5 @@
 //! One reaction.
-ghost use Rattle.std.specs.Prelude.{◌≡◌, ◌<◌, ◌+◌, ◌++◌, ◌∷◌, [], length, map, drop, replicate, slice_index_or};
+ghost use Rattle.std.specs.Prelude.{◌≡◌, ◌<◌, ◌+◌, ◌++◌, ◌∷◌, [], length, map, drop, replicate, slice_index_or, slice_set};
 ghost use Rattle.level_meaning.specs.Level.{source_value, case_look};
 ghost use Rattle.level_meaning.specs.Order.{IsAcyclic};
 ghost use Rattle.level_meaning.specs.Parts.{HasDistinctParts};
@@ -8,7 +8,7 @@ ghost use Rattle.algo_tree.specs.View.{view, vertices_view};
 ghost use Rattle.algo_tree.specs.Typed.{outs_of, label_of, source_length, AreLengths, AreGuardsTyped, IsTyped, AllTyped, AllGive, AllFed, fed_length};
 ghost use Rattle.sync_meaning.specs.declared.store.Store.{out-Store};
 ghost use Rattle.level_order.specs.Order.{IsOrder, nodes_of};
-ghost use Rattle.sync_meaning.specs.Store.{Fits, AllFit, lengths};
+ghost use Rattle.sync_meaning.specs.Store.{AreOf, Fits, AllFit, lengths};
 ghost use Rattle.sync_meaning.specs.Sound.{IsSound, AreSound, IsAlone};
 ghost use Rattle.sync_meaning.specs.Run.{Reacts, NodeReacts, RunsAt, LevelReacts, CaseReacts, Advances, AllAdvance, CopiesReact, CopiesAllFit, row_of, given, in_lengths, selected_at};
 
@@ -23,16 +23,41 @@ use syn_base::SensorRows;
 
 /// A delay gives the first of its kept values, and keeps its input behind the others.
 fn react_delay(kept: &mut Ins, ins: &Ins, outs: &mut Ins)
-    requires one { length kept.old ≡ 1 }
-    requires ins { lengths ins.now ≡ lengths kept.old }
-    requires outs { lengths outs.old ≡ lengths kept.old }
+    requires ins { lengths ins.now ≡ length (slice_index_or ins.now 0 []) ∷ [] }
+    requires kept { AreOf (length (slice_index_or ins.now 0 [])) kept.old }
+    requires outs { lengths outs.old ≡ lengths ins.now }
     ensures given { outs.new ≡ slice_index_or kept.old 0 [] ∷ [] }
     ensures kept { kept.new ≡ drop 1 kept.old ++ slice_index_or ins.now 0 [] ∷ [] }
     ensures outs { lengths outs.new ≡ lengths outs.old }
     ensures lens { lengths kept.new ≡ lengths kept.old }
 {
     write_only(outs, kept.vector(0));
-    kept.set_vector(0, ins.vector(0));
+    keep_last(kept, ins.vector(0));
+}
+
+/// Drops the first of the kept values, and keeps this one behind the others. It takes no memory.
+fn keep_last(kept: &mut Ins, last: &[i64])
+    requires { AreOf (length last.now) kept.old }
+    ensures kept { kept.new ≡ drop 1 kept.old ++ last.now ∷ [] }
+    ensures lens { lengths kept.new ≡ lengths kept.old }
+{
+    let end = kept.count() - 1;
+    for at in 0..end {
+        move_up(kept, at + 1, at);
+    }
+    kept.set_vector(end, last);
+}
+
+/// Puts a kept value in the place of one before it, of the same length.
+fn move_up(kept: &mut Ins, from: usize, to: usize)
+    requires place { from < length kept.old }
+    requires order { to < from }
+    requires len { length (slice_index_or kept.old from []) ≡ length (slice_index_or kept.old to []) }
+    ensures { kept.new ≡ slice_set kept.old to (slice_index_or kept.old from []) }
+{
+    for j in 0..kept.vector(to).len() {
+        kept.set(to, j, kept.get(from, j));
+    }
 }
 
 /// A reaction of a vertex with nothing inside.
@@ -272,11 +297,11 @@ fn advance(vertex: &Vertex, own: &Ins, table: &[Ins], store: &mut Store)
 
 /// A delay keeps the value at its input behind the others.
 fn take_input(kept: &mut Ins, sources: &[Source], own: &Ins, table: &[Ins])
-    requires one { length kept.old ≡ 1 }
-    requires lens { map (source_length (lengths own.now) (map lengths table.now)) sources.now ≡ lengths kept.old }
-    requires there { AreLengths (lengths kept.old) }
+    requires some { 0 < length sources.now }
+    requires there { AreLengths (map (source_length (lengths own.now) (map lengths table.now)) sources.now) }
+    requires kept { AreOf (slice_index_or (map (source_length (lengths own.now) (map lengths table.now)) sources.now) 0 0) kept.old }
     ensures kept { kept.new ≡ drop 1 kept.old ++ slice_index_or (map (source_value own.now (given table.now)) sources.now) 0 [] ∷ [] }
     ensures lens { lengths kept.new ≡ lengths kept.old }
 {
-    kept.set_vector(0, value_of(sources[0], own, table));
+    keep_last(kept, value_of(sources[0], own, table));
 }

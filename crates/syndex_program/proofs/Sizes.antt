@@ -5,6 +5,7 @@ use Rattle.outside.specs.Shelf.{file_bound}
 use Rattle.algo_reader.proofs.LineCounts.{lines_at_most}
 use Rattle.algo_defs.specs.Words.{Bytes}
 use Rattle.algo_defs.specs.declared.definition.Def.{Def}
+use Rattle.algo_defs.specs.declared.definition.Defs.{Defs}
 use Rattle.algo_defs.specs.declared.definition.Body.{Body}
 use Rattle.algo_defs.specs.declared.definition.Body.TheVariants.{Sensor, Actuator, Constant, Delay, Function, Graph, Switch, Repeat}
 use Rattle.algo_print.specs.Canonical.{body_lines, canonical_text, definition_lines, joined, text_of, version_words}
@@ -33,21 +34,23 @@ as_many_lines (ws ∷ ls) =
     omega (arith, first, as_many_lines ls)
 
 -- each definition has a line
-one_line : (w : Bytes) (b : Body) → 1 ≤ length (body_lines w b)
-one_line w (Sensor len) = omega arith
-one_line w (Actuator len) = omega arith
-one_line w (Constant values) = omega arith
-one_line w (Delay values) = omega arith
-one_line w (Function ins outs) = omega arith
-one_line w (Graph ins outs references edges) = omega arith
-one_line w (Switch on ins outs cases otherwise line) = omega arith
-one_line w (Repeat copies def lines) = omega arith
+one_line : (version : ℕ) (w : Bytes) (b : Body) → 1 ≤ length (body_lines version w b)
+one_line version w (Sensor len) = omega arith
+one_line version w (Actuator len) = omega arith
+one_line version w (Constant values) = omega arith
+one_line version w (Delay depth values) = omega arith
+one_line version w (Function ins outs) = omega arith
+one_line version w (Graph ins outs references edges) = omega arith
+one_line version w (Switch on ins outs cases otherwise line) = omega arith
+one_line version w (Repeat copies def lines) = omega arith
 
-as_many_definitions : (ds : List Def) → length ds ≤ length (definition_lines ds)
-as_many_definitions [] = omega arith
-as_many_definitions (d ∷ ds) = omega (arith, one_line d.name d.body, as_many_definitions ds, length-append (body_lines d.name d.body) (definition_lines ds))
+as_many_definitions : (version : ℕ) (ds : List Def) → length ds ≤ length (definition_lines version ds)
+as_many_definitions version [] = omega arith
+as_many_definitions version (d ∷ ds) =
+    omega (arith, one_line version d.name d.body, as_many_definitions version ds, length-append (body_lines version d.name d.body) (definition_lines version ds))
 
-pub few_definitions : (text : Bytes) (ds : List Def) → length text ≤ file_bound → length (lines_of (canonical_text ds)) ≤ length (lines_of text) → length ds ≤ 4000000000
+pub few_definitions : (text : Bytes) (ds : Defs) → length text ≤ file_bound → length (lines_of (canonical_text ds)) ≤ length (lines_of text) → length ds.defs ≤ 4000000000
 few_definitions text ds short back =
-    let printed : length (version_words ∷ definition_lines ds) ≤ length (lines_of (canonical_text ds)) = as_many_lines (version_words ∷ definition_lines ds) in
-    omega (arith, few_lines text short, back, printed, as_many_definitions ds)
+    let ls : List (List Bytes) = version_words ds.version ∷ definition_lines ds.version ds.defs in
+    let printed : length ls ≤ length (lines_of (canonical_text ds)) = as_many_lines ls in
+    omega (arith, few_lines text short, back, printed, as_many_definitions ds.version ds.defs)

@@ -5,7 +5,7 @@ use Rattle.outside.specs.Bytes.{Bytes}
 use Rattle.outside.specs.Shelf.{Held}
 use Rattle.outside.specs.declared.file.File.TheVariants as file
 use Rattle.syn_base.specs.Rows.{Reactions}
-use Rattle.algo_defs.specs.declared.definition.Def.{Def}
+use Rattle.algo_defs.specs.declared.definition.Defs.{Defs}
 use Rattle.algo_defs.specs.declared.fault.AlgoError.{AlgoError}
 use Rattle.algo_defs.specs.declared.fault.AlgoError.TheVariants as error
 use Rattle.algo_text.specs.Text.{definitions_of}
@@ -38,7 +38,7 @@ module _ {A : Type 0} where
 
 -- the definitions of a text, and what they resolve to
 pub record IsAlgorithm (text : Bytes) (algorithm : Algorithm) : Type 0 where
-  pub says : definitions_of text ≡ Ok algorithm.defs.defs
+  pub says : definitions_of text ≡ Ok algorithm.defs
   pub resolves : resolution_of algorithm.defs.defs ≡ Ok algorithm.tree
   pub named : HasNames algorithm.tree
   pub bounded : HasBounds algorithm.tree
@@ -46,7 +46,7 @@ pub record IsAlgorithm (text : Bytes) (algorithm : Algorithm) : Type 0 where
 -- the first refusal of a text, by itself or by its definitions
 pub data IsRefused (text : Bytes) (error : AlgoError) : Type 0 where
   says_none : definitions_of text ≡ Err error → IsRefused text error
-  resolves_none : (defs : List Def) → definitions_of text ≡ Ok defs → resolution_of defs ≡ Err error → IsRefused text error
+  resolves_none : (defs : Defs) → definitions_of text ≡ Ok defs → resolution_of defs.defs ≡ Err error → IsRefused text error
 
 -- the algorithm of a text or its first refusal; want of memory may come in place of either
 abbrev pub MakesAlgorithm : Bytes → Result Algorithm AlgoError → Type 0
@@ -58,7 +58,7 @@ MakesAlgorithm text (Err error.OutOfMemory) = Unit {0}
 -- the file has a text of this algorithm; or carrying on from it ends so, whatever follows
 abbrev pub ReadsAlgorithm : Bytes → Held → Held → Result Algorithm Status → Type 0
 ReadsAlgorithm name old new (Ok algorithm) = (text : Bytes) × WasRead file.Algorithm name old new text × IsAlgorithm text algorithm
-ReadsAlgorithm name old new (Err status) = (next : List Def → Vertex → Made) → Makes old new (algorithm_plan name next) (Err (ending_of status))
+ReadsAlgorithm name old new (Err status) = (next : Defs → Vertex → Made) → Makes old new (algorithm_plan name next) (Err (ending_of status))
 
 -- what a text describes
 abbrev pub described : ArchiText → Described

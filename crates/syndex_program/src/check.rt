@@ -63,7 +63,7 @@ fn check_both<S: Shelf>(
 /// The canonical text of definitions.
 fn printed(alloc: Global, defs: &Defs) -> Result<Vec<u8>, OutOfMemory>
     requires { ArePrintable defs.now.defs }
-    ensures { IfOk result (λ text. text.items ≡ canonical_text defs.now.defs) }
+    ensures { IfOk result (λ text. text.items ≡ canonical_text defs.now) }
 {
     let mut text = Vec::new(alloc);
     print_algo(alloc, defs, &mut text)?;
@@ -77,7 +77,7 @@ fn both_printed(
     architecture: &ArchiText,
 ) -> Result<Vec<u8>, OutOfMemory>
     requires { ArePrintable defs.now.defs }
-    ensures { IfOk result (λ text. text.items ≡ both_texts defs.now.defs (described architecture.now)) }
+    ensures { IfOk result (λ text. text.items ≡ both_texts defs.now (described architecture.now)) }
 {
     let mut text = printed(alloc, defs)?;
     text.push(b'\n')?;

@@ -6,7 +6,7 @@ use Rattle.outside.specs.declared.file.File.{File}
 use Rattle.outside.specs.declared.file.File.TheVariants.{Algorithm, Architecture, Sensors}
 use Rattle.syn_base.specs.Rows.{Reactions}
 use Rattle.syn_base.specs.declared.limits.LimitFault.{LimitFault}
-use Rattle.algo_defs.specs.declared.definition.Def.{Def}
+use Rattle.algo_defs.specs.declared.definition.Defs.{Defs}
 use Rattle.algo_text.specs.Text.{definitions_of}
 use Rattle.algo_defs.specs.declared.fault.AlgoError.{AlgoError}
 use Rattle.algo_defs.specs.declared.fault.AlgoError.TheVariants as algorithm
@@ -36,9 +36,9 @@ use Rattle.top_plans.specs.Plans.{Made, read_file, unless, algorithm_in, archite
 -- all that was accepted on the way to an execution
 pub record IsAccepted (e : Execution) : Type 0 where
   pub text : Bytes
-  pub defs : List Def
+  pub defs : Defs
   pub says : definitions_of text ≡ Ok defs
-  pub resolves : resolution_of defs ≡ Ok e.main
+  pub resolves : resolution_of defs.defs ≡ Ok e.main
   pub lines : Bytes
   pub described : Described
   pub describes : description_of lines ≡ Ok described
@@ -93,8 +93,8 @@ module _ (Q : Made → Type 0) (refused : (r : Refusal) → ¬ (r ≡ usage) →
   unless_within (Some f) next h = refused (above f) (λ q. cc)
   unless_within None next h = h refl
 
-  algorithm_so : (text : Bytes) (next : List Def → Vertex → Made) → ((defs : List Def) (main : Vertex) → definitions_of text ≡ Ok defs → resolution_of defs ≡ Ok main → Q (next defs main)) → Q (algorithm_in text next)
-  algorithm_so text next h = after_so of_algorithm algorithm_not (definitions_of text) (λ defs. after of_algorithm (resolution_of defs) (next defs)) (λ defs p. after_so of_algorithm algorithm_not (resolution_of defs) (next defs) (λ main q. h defs main p q))
+  algorithm_so : (text : Bytes) (next : Defs → Vertex → Made) → ((defs : Defs) (main : Vertex) → definitions_of text ≡ Ok defs → resolution_of defs.defs ≡ Ok main → Q (next defs main)) → Q (algorithm_in text next)
+  algorithm_so text next h = after_so of_algorithm algorithm_not (definitions_of text) (λ defs. after of_algorithm (resolution_of defs.defs) (next defs)) (λ defs p. after_so of_algorithm algorithm_not (resolution_of defs.defs) (next defs) (λ main q. h defs main p q))
 
   architecture_so : (text : Bytes) (main : Vertex) (next : Described → Table → Made) → ((d : Described) (t : Table) → description_of text ≡ Ok d → durations_of (flat_of main) d ≡ Ok t → Q (next d t))
       → Q (architecture_in text main next)
@@ -111,8 +111,8 @@ module _ (Q : Made → Type 0) (refused : (r : Refusal) → ¬ (r ≡ usage) →
   program_so g a t next h = unless_within (program_limit (program_by g a t) (length a.media)) (next (program_by g a t)) (λ n. h)
 
   -- an execution of the program that the pressure run gives
-  execution_so : (text : Bytes) (defs : List Def) (main : Vertex) (lines : Bytes) (d : Described) (t : Table) (table : Bytes) (rows : Reactions) (what : Execution → Given)
-      → definitions_of text ≡ Ok defs → resolution_of defs ≡ Ok main → description_of lines ≡ Ok d → durations_of (flat_of main) d ≡ Ok t → rows_of main (records default_config (strip_bom table)) ≡ Ok rows
+  execution_so : (text : Bytes) (defs : Defs) (main : Vertex) (lines : Bytes) (d : Described) (t : Table) (table : Bytes) (rows : Reactions) (what : Execution → Given)
+      → definitions_of text ≡ Ok defs → resolution_of defs.defs ≡ Ok main → description_of lines ≡ Ok d → durations_of (flat_of main) d ≡ Ok t → rows_of main (records default_config (strip_bom table)) ≡ Ok rows
       → ((e : Execution) → IsAccepted e → Q (give (what e))) → Q (program_plan (flat_of main) d.archi t (λ p. execution_plan (execution main d.archi p rows) what))
   execution_so text defs main lines d t table rows what says resolves describes lasts tells h =
       let e = execution main d.archi (program_by (flat_of main) d.archi t) rows in

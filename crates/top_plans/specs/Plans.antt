@@ -14,7 +14,7 @@ use Rattle.syn_base.specs.declared.limits.LimitFault.{LimitFault}
 use Rattle.syn_base.specs.declared.limits.LimitKind.TheVariants.{Output}
 use Rattle.level_meaning.specs.Level.{Values, all_joined}
 use Rattle.body_lang.specs.Expr.{total}
-use Rattle.algo_defs.specs.declared.definition.Def.{Def}
+use Rattle.algo_defs.specs.declared.definition.Defs.{Defs}
 use Rattle.algo_text.specs.Text.{definitions_of}
 use Rattle.algo_rules.specs.Resolved.{resolution_of}
 use Rattle.algo_print.specs.Canonical.{canonical_text}
@@ -58,8 +58,8 @@ unless (Some fault) next = refuse (above fault)
 unless None next = next
 
 -- what a text says of an algorithm, and then what its definitions resolve to
-abbrev pub algorithm_in : Bytes → (List Def → Vertex → Made) → Made
-algorithm_in text next = after of_algorithm (definitions_of text) (λ defs. after of_algorithm (resolution_of defs) (next defs))
+abbrev pub algorithm_in : Bytes → (Defs → Vertex → Made) → Made
+algorithm_in text next = after of_algorithm (definitions_of text) (λ defs. after of_algorithm (resolution_of defs.defs) (next defs))
 
 -- what a text says of an architecture, and then the durations of the algorithm's operations
 abbrev pub architecture_in : Bytes → Vertex → (Described → Table → Made) → Made
@@ -70,7 +70,7 @@ abbrev pub table_in : Vertex → Bytes → (Reactions → Made) → Made
 table_in main table next = after of_sensors (rows_of main (records default_config (strip_bom table))) next
 
 -- the same of files
-abbrev pub algorithm_plan : Bytes → (List Def → Vertex → Made) → Made
+abbrev pub algorithm_plan : Bytes → (Defs → Vertex → Made) → Made
 algorithm_plan a next = read_file Algorithm a (λ text. algorithm_in text next)
 
 abbrev pub architecture_plan : Bytes → Vertex → (Described → Table → Made) → Made
@@ -80,7 +80,7 @@ abbrev pub table_plan : Vertex → Bytes → (Reactions → Made) → Made
 table_plan main s next = read_file Sensors s (λ table. table_in main table next)
 
 -- both canonical texts, with an empty line between them
-abbrev pub both_texts : List Def → Described → Bytes
+abbrev pub both_texts : Defs → Described → Bytes
 both_texts defs d = canonical_text defs ++ (codes "\n" ++ architecture.canonical_text d)
 
 -- the canonical text of the algorithm, and that of an architecture beside it

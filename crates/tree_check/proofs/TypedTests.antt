@@ -14,9 +14,9 @@ use Rattle.level_meaning.specs.declared.frontier.Feed.{Feed}
 use Rattle.level_meaning.specs.declared.frontier.Feed.TheVariants.{Fork, Diffuse, Iterate}
 use Rattle.level_meaning.specs.declared.frontier.Give.{Give}
 use Rattle.algo_tree.specs.Tree.{Kind, sensor, actuator, constant, delay, function, explode, implode, merge, graph, switch, repeat, Vertex, vertex, Vertices, no_vertices, and_vertex}
-use Rattle.algo_tree.specs.Typed.{IsLength, AreLengths, label_of, outs_of, source_length, AreGuardsTyped, AllPortsBelow, AllGive, IsFed, AllFed, fed_length, given_length, IsKindTyped, IsTyped, AllTyped, IsBodyTyped}
+use Rattle.algo_tree.specs.Typed.{IsLength, AreLengths, label_of, outs_of, source_length, AreGuardsTyped, AllPortsBelow, AreGroups, AllGive, IsFed, AllFed, fed_length, given_length, IsKindTyped, IsTyped, AllTyped, IsBodyTyped}
 use Rattle.algo_tree.specs.Well.{IsEmpty, IsOne, IsKindWell, IsWell, AllWell}
-use Rattle.tree_check.specs.Typed.{is_length, is_guard_typed, ports_below, is_fed, all_give, is_merge, fits, is_typed, all_typed}
+use Rattle.tree_check.specs.Typed.{is_length, is_guard_typed, ports_below, is_fed, all_give, is_merge, are_groups, fits, is_typed, all_typed}
 use Rattle.tree_check.proofs.Decided.{yes, at_most}
 
 long : (n : ℕ) → Decides (is_length n) (IsLength n)
@@ -49,6 +49,11 @@ all_ports n (e ∷ es) = Decides-and (ports_below n e) (list_all (ports_below n)
 gives_all : (outs : List ℕ) (os : List (List ℕ)) → Decides (all_give outs os) (AllGive outs os)
 gives_all outs [] = yes
 gives_all outs (o ∷ os) = Decides-and (bytes_eq o outs) (all_give outs os) (bytes_eq-Decides o outs) (gives_all outs os)
+
+all_groups : (outs : List ℕ) (vs : List (List ℤ)) → Decides (list_all (λ v. bytes_eq outs (length v ∷ [])) vs) (AreGroups outs vs)
+all_groups outs [] = yes
+all_groups outs (v ∷ vs) =
+    Decides-and (bytes_eq outs (length v ∷ [])) (list_all (λ w. bytes_eq outs (length w ∷ [])) vs) (bytes_eq-Decides outs (length v ∷ [])) (all_groups outs vs)
 
 fed : (n : ℕ) (lens outs : List ℕ) (f : Feed) → Decides (is_fed n lens outs f) (IsFed n lens outs f)
 fed n lens outs (Fork name k len) = Decides-eqb (slice_index_or lens k 0) (n * len)
@@ -137,8 +142,9 @@ kind_typed (constant v) gs lens outs inner us w d =
     with_nothing (bytes_eq lens [] && bytes_eq outs (length v ∷ [])) (all_typed (constant v) lens inner us) (nothing (constant v) lens inner us w)
     (Decides-and (bytes_eq lens []) (bytes_eq outs (length v ∷ [])) (bytes_eq-Decides lens []) (bytes_eq-Decides outs (length v ∷ [])))
 kind_typed (delay vs) gs lens outs inner us w d =
-    with_nothing (bytes_eq lens outs && bytes_eq (map length vs) outs) (all_typed (delay vs) lens inner us) (nothing (delay vs) lens inner us w)
-    (Decides-and (bytes_eq lens outs) (bytes_eq (map length vs) outs) (bytes_eq-Decides lens outs) (bytes_eq-Decides (map length vs) outs))
+    with_nothing (bytes_eq lens outs && are_groups outs vs) (all_typed (delay vs) lens inner us) (nothing (delay vs) lens inner us w)
+    (Decides-and (bytes_eq lens outs) (are_groups outs vs) (bytes_eq-Decides lens outs)
+    (Decides-and (nat_le 1 (length vs)) (list_all (λ v. bytes_eq outs (length v ∷ [])) vs) (at_most 1 (length vs)) (all_groups outs vs)))
 kind_typed (function es) gs lens outs inner us w d =
     with_nothing ((length es == length outs) && list_all (ports_below (length lens)) es) (all_typed (function es) lens inner us) (nothing (function es) lens inner us w)
     (Decides-and (length es == length outs) (list_all (ports_below (length lens)) es) (Decides-eqb (length es) (length outs)) (all_ports (length lens) es))

@@ -1,5 +1,5 @@
 -- Tests of the lengths of values, each beside the definition of its name.
-use Rattle.std.specs.Prelude.{ℕ, suc, ◌*◌, Bool, true, false, ◌&&◌, ◌==◌, nat_le, nat_lt, List, [], ◌∷◌, map, length, slice_index_or, sum}
+use Rattle.std.specs.Prelude.{ℕ, suc, ◌*◌, Bool, true, false, ◌&&◌, ◌==◌, nat_le, nat_lt, ℤ, List, [], ◌∷◌, map, length, slice_index_or, sum}
 use Rattle.std.specs.List.{list_all}
 use Rattle.std.specs.Str.{bytes_eq}
 use Rattle.body_lang.specs.Expr.{Expr, literal, index, element, sum_over, negation, apply, select}
@@ -43,12 +43,16 @@ abbrev pub is_merge : ℕ → ℕ → List ℕ → Bool
 is_merge values len [] = false
 is_merge values len (c ∷ lens) = (c == 1) && ((length lens == suc values) && list_all (λ n. n == len) lens)
 
+-- each group of initial values has the length of the one output, and there is one
+abbrev pub are_groups : List ℕ → List (List ℤ) → Bool
+are_groups outs vs = nat_le 1 (length vs) && list_all (λ v. bytes_eq outs (length v ∷ [])) vs
+
 -- what a kind asks of the lengths of its inputs and outputs, and of the outputs of the vertices inside
 abbrev pub fits : Kind → List ℕ → List ℕ → List (List ℕ) → Bool
 fits (sensor n) lens outs inner = bytes_eq lens [] && (length outs == 1)
 fits (actuator n) lens outs inner = (length lens == 1) && bytes_eq outs []
 fits (constant v) lens outs inner = bytes_eq lens [] && bytes_eq outs (length v ∷ [])
-fits (delay vs) lens outs inner = bytes_eq lens outs && bytes_eq (map length vs) outs
+fits (delay vs) lens outs inner = bytes_eq lens outs && are_groups outs vs
 fits (function es) lens outs inner = (length es == length outs) && list_all (ports_below (length lens)) es
 fits explode lens outs inner = bytes_eq lens (sum outs ∷ [])
 fits implode lens outs inner = bytes_eq outs (sum lens ∷ [])

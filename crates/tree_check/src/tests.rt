@@ -25,6 +25,7 @@ fn vertex(
         ins: Items::new(Vec::from_slice(alloc, ins)?),
         guards: Items::new(Vec::new(alloc)),
         outs: Items::new(Vec::from_slice(alloc, outs)?),
+        names: Items::new(Vec::new(alloc)),
         kind,
         inner,
     })
@@ -59,11 +60,12 @@ fn actuator(alloc: Global, part: Part, source: Source) -> Result<Vertex, Fail> {
 
 /// A delay whose initial value has this many elements, all 0.
 fn delay(alloc: Global, part: Part, len: usize, source: Source) -> Result<Vertex, Fail> {
-    let values = Items::new(vec![in alloc; 0; len]?);
+    let group = Items::new(vec![in alloc; 0; len]?);
+    let groups = Items::new(vec![in alloc; group]?);
     vertex(
         alloc,
         part,
-        Kind::Delay(values),
+        Kind::Delay(groups),
         &[source],
         &[1],
         Vec::new(alloc),

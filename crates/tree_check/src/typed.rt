@@ -1,18 +1,18 @@
 //! The lengths of values fit, and every source is there.
-ghost use Rattle.std.specs.Prelude.{◌≡◌, ◌==◌, ◌&&◌, [], IfOk, length, map, slice_index_or};
+ghost use Rattle.std.specs.Prelude.{◌≡◌, ◌==◌, ◌&&◌, ◌∷◌, [], IfOk, length, map, slice_index_or};
 ghost use Rattle.std.specs.List.{list_all};
 ghost use Rattle.std.specs.Str.{bytes_eq};
 ghost use Rattle.body_lang.specs.Expr.{view as expression};
 ghost use Rattle.algo_tree.specs.View.{kind_view, view, vertices_view};
 ghost use Rattle.algo_tree.specs.Typed.{outs_of, source_length, given_length};
-ghost use Rattle.tree_check.specs.Typed.{is_guard_typed, ports_below, is_fed, all_give, is_merge, fits, inner_lengths, are_guards_typed, is_typed};
+ghost use Rattle.tree_check.specs.Typed.{is_guard_typed, ports_below, is_fed, all_give, is_merge, are_groups, fits, inner_lengths, are_guards_typed, is_typed};
 
 use crate::lens::{are_lengths, fed_lens, is_only, is_sum, len_at, source_len, source_lens};
 use algo_tree::{Kind, Vertex};
 use body_lang::{Expr, has_ports_below};
 use level_meaning::{Feed, Give, Guard, Source};
 use std::alloc::Global;
-use syn_base::OutOfMemory;
+use syn_base::{Items, OutOfMemory};
 
 /// Whether the lengths of a vertex with inputs of these lengths, and of all inside it, fit and each
 /// source is there. It takes memory for the lengths of the inputs.
@@ -107,7 +107,7 @@ fn fits(
         Kind::Sensor(_) => Ok(lens.is_empty() && outs.len() == 1),
         Kind::Actuator(_) => Ok(lens.len() == 1 && outs.is_empty()),
         Kind::Constant(values) => Ok(lens.is_empty() && is_only(values.as_slice().len(), outs)),
-        Kind::Delay(values) => Ok(lens == outs && is_only(values.as_slice().len(), outs)),
+        Kind::Delay(groups) => Ok(lens == outs && are_groups(outs, groups.as_slice())),
         Kind::Function(body) => Ok(is_function(lens, outs, body.outputs())),
         Kind::Explode => Ok(is_sum(lens, outs)),
         Kind::Implode => Ok(is_sum(outs, lens)),
@@ -125,6 +125,21 @@ fn fits(
             inner,
         )),
     }
+}
+
+/// Whether there is a group of initial values, and each has the one length.
+fn are_groups(outs: &[u32], groups: &[Items<i64>]) -> bool
+    ensures { result ≡ are_groups outs.now groups.now }
+{
+    1 <= groups.len() && all_have(outs, groups)
+}
+
+fn all_have(outs: &[u32], groups: &[Items<i64>]) -> bool
+    ensures { result ≡ list_all (λ v. bytes_eq outs.now (length v ∷ [])) groups.now }
+{
+    groups
+        .iter()
+        .all(|group| is_only(group.as_slice().len(), outs))
 }
 
 fn is_function(lens: &[u32], outs: &[u32], es: &[Expr]) -> bool

@@ -2,7 +2,7 @@
 ghost use Rattle.std.specs.Prelude.{◌≡◌, IfOk};
 ghost use Rattle.algo_tree.specs.View.{kind_view};
 
-use crate::label::{copy_bytes, copy_numbers, copy_sources};
+use crate::label::{copy_bytes, copy_names, copy_numbers, copy_sources};
 use algo_tree::Kind;
 use level_meaning::{Feed, Give};
 use std::alloc::Global;
@@ -16,7 +16,7 @@ pub fn copy_kind(alloc: Global, kind: &Kind) -> Result<Kind, OutOfMemory>
         Kind::Sensor(number) => Kind::Sensor(*number),
         Kind::Actuator(number) => Kind::Actuator(*number),
         Kind::Constant(values) => Kind::Constant(copy_numbers(alloc, values.as_slice())?),
-        Kind::Delay(values) => Kind::Delay(copy_numbers(alloc, values.as_slice())?),
+        Kind::Delay(groups) => Kind::Delay(copy_groups(alloc, groups.as_slice())?),
         Kind::Function(body) => Kind::Function(body.share()?),
         Kind::Explode => Kind::Explode,
         Kind::Implode => Kind::Implode,
@@ -48,12 +48,12 @@ fn copy_repeat(
     Ok(Kind::Repeat(count, feeds, copy_gives(alloc, gives)?))
 }
 
-fn copy_names(alloc: Global, names: &[Items<u8>]) -> Result<Items<Items<u8>>, OutOfMemory>
-    ensures { IfOk result (λ copies. copies ≡ names.now) }
+fn copy_groups(alloc: Global, groups: &[Items<i64>]) -> Result<Items<Items<i64>>, OutOfMemory>
+    ensures { IfOk result (λ copies. copies ≡ groups.now) }
 {
     let mut copies = Vec::new(alloc);
-    for name in names {
-        copies.push(copy_bytes(alloc, name.as_slice())?)?;
+    for group in groups {
+        copies.push(copy_numbers(alloc, group.as_slice())?)?;
     }
     Ok(Items::new(copies))
 }

@@ -12,6 +12,17 @@ pub fn copy_bytes(alloc: Global, bytes: &[u8]) -> Result<Items<u8>, OutOfMemory>
     Ok(Items::new(Vec::from_slice(alloc, bytes)?))
 }
 
+/// The same names.
+pub fn copy_names(alloc: Global, names: &[Items<u8>]) -> Result<Items<Items<u8>>, OutOfMemory>
+    ensures { IfOk result (λ copies. copies ≡ names.now) }
+{
+    let mut copies = Vec::new(alloc);
+    for name in names {
+        copies.push(copy_bytes(alloc, name.as_slice())?)?;
+    }
+    Ok(Items::new(copies))
+}
+
 /// The same values.
 pub fn copy_numbers(alloc: Global, numbers: &[i64]) -> Result<Items<i64>, OutOfMemory>
     ensures { IfOk result (λ copy. copy ≡ numbers.now) }

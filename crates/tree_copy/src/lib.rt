@@ -6,4 +6,6 @@ mod kind;
 mod label;
 
 pub use kind::copy_kind;
-pub use label::{copy_bytes, copy_guards, copy_lens, copy_numbers, copy_part, copy_sources};
+pub use label::{
+    copy_bytes, copy_guards, copy_lens, copy_names, copy_numbers, copy_part, copy_sources,
+};

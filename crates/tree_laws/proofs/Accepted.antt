@@ -57,7 +57,7 @@ same_by : (f g : Bytes → Ports) (n : ℕ) (b : Body) → Each (λ m. f m.def �
 same_by f g n (Sensor len) h = refl
 same_by f g n (Actuator len) h = refl
 same_by f g n (Constant values) h = refl
-same_by f g n (Delay values) h = refl
+same_by f g n (Delay depth values) h = refl
 same_by f g n (Function ins outs) h = refl
 same_by f g n (Graph ins outs references edges) h = refl
 same_by f g n (Switch on ins outs cases otherwise last) h = refl

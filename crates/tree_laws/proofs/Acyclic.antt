@@ -50,7 +50,7 @@ module _ (ds : List Def) (make : Making) where
   asked_body own s a ins (Sensor len) d e = inr (refl, refl)
   asked_body own s a ins (Actuator len) d e = inr (refl, refl)
   asked_body own s a ins (Constant values) d e = inr (refl, refl)
-  asked_body own s a ins (Delay values) d e = inl refl
+  asked_body own s a ins (Delay depth values) d e = inl refl
   asked_body own s a ins (Function is os) d e = inr (refl, refl)
   asked_body own s a ins (Graph is os references edges) d e = inr (refl, refl)
   asked_body own s a ins (Switch on is os cases otherwise last) d e = inr (refl, refl)

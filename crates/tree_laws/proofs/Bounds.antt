@@ -46,7 +46,7 @@ module _ (ds : List Def) (make : Making) where
   inner_bounded h (Sensor n) read = tt
   inner_bounded h (Actuator n) read = tt
   inner_bounded h (Constant values) read = tt
-  inner_bounded h (Delay values) read = tt
+  inner_bounded h (Delay depth values) read = tt
   inner_bounded h (Function ins outs) read = tt
   inner_bounded h (Graph ins outs references edges) read = references_bounded h ins references edges 0 0 references
   inner_bounded h (Switch on ins outs cases otherwise last) read =
@@ -60,7 +60,7 @@ module _ (ds : List Def) (make : Making) where
   kind_bounded of own s a (Sensor n) read = tt
   kind_bounded of own s a (Actuator n) read = tt
   kind_bounded of own s a (Constant values) read = tt
-  kind_bounded of own s a (Delay values) read = tt
+  kind_bounded of own s a (Delay depth values) read = tt
   kind_bounded of own s a (Function ins outs) read =
       let long = as_many_lengths outs in
       let same = length-map outs (λ o. o.port) in

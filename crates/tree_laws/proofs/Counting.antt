@@ -1,5 +1,5 @@
 -- The vertex that is made of a definition stands for as many operations as are counted for it.
-use Rattle.std.proofs.Common.{◌≡◌, true, false, ℕ, zero, suc, ◌+◌, ◌*◌, Bool, ◌||◌, List, [], ◌∷◌, ◌++◌, map, length, Option, Some, None, refl, ap, ap₂, sym, subst, ◌∙◌, arith, if◌then◌else◌}
+use Rattle.std.proofs.Common.{◌≡◌, ◌/◌, true, false, ℕ, zero, suc, ◌+◌, ◌*◌, Bool, ◌||◌, List, [], ◌∷◌, ◌++◌, map, length, Option, Some, None, refl, ap, ap₂, sym, subst, ◌∙◌, arith, if◌then◌else◌}
 use Rattle.std.specs.Str.{bytes_eq}
 use Rattle.std.specs.List.{flat_map, sum_by}
 use Rattle.std.proofs.lemmas.List.Sums.{sum_by-cons}
@@ -36,6 +36,7 @@ use Rattle.tree_laws.proofs.Lengths.{turned, same_bytes}
 use Rattle.tree_laws.specs.Depths.{rank}
 use Rattle.tree_laws.proofs.Accepted.{IsLower, Accepted}
 use Rattle.tree_laws.proofs.Sized.{fine}
+use Rattle.tree_laws.proofs.Typing.{as_many_groups}
 use Rattle.tree_laws.proofs.Frontiers.{LineFits, LinesFit, IsFresh, AreFresh, repeat_fits}
 
 -- how many are fork lines
@@ -194,7 +195,7 @@ module _ (ds : List Def) (make : Making) (count : Bytes → ℕ) (ih : MakesCoun
   body_counted acc own s a line (Sensor len) none h = refl
   body_counted acc own s a line (Actuator len) none h = refl
   body_counted acc own s a line (Constant values) none h = refl
-  body_counted acc own s a line (Delay values) none h = refl
+  body_counted acc own s a line (Delay depth values) none h = ap (λ (m : ℕ). 2 * m) (as_many_groups depth (length values / depth) values)
   body_counted acc own s a line (Function is os) none h = refl
   body_counted acc own s a line (Graph is os references edges) none h = references_counted is references edges 0 0 references
   body_counted acc own s a line (Switch on is os cases otherwise last) none h = ap₂ (λ (m n : ℕ). m + n) (cases_counted (length is) 0 otherwise cases) (as_many_names os)

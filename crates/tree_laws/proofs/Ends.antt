@@ -52,7 +52,7 @@ module _ (ds : List Def) (make : Making) where
   inner_no_ends h owner out n (Sensor len) k = tt
   inner_no_ends h owner out n (Actuator len) k = tt
   inner_no_ends h owner out n (Constant values) k = tt
-  inner_no_ends h owner out n (Delay values) k = tt
+  inner_no_ends h owner out n (Delay depth values) k = tt
   inner_no_ends h owner out n (Function ins outs) k = tt
   inner_no_ends h owner out n (Graph ins outs references edges) k = references_no_ends h owner out ins references edges 0 0 references k
   inner_no_ends h owner out n (Switch on ins outs cases otherwise last) k = cases_no_ends h (length ins) 0 _ (named_cases owner out otherwise last cases k)
@@ -62,7 +62,7 @@ module _ (ds : List Def) (make : Making) where
   kind_no_end own s a (Sensor len) k = cc
   kind_no_end own s a (Actuator len) k = cc
   kind_no_end own s a (Constant values) k = tt
-  kind_no_end own s a (Delay values) k = tt
+  kind_no_end own s a (Delay depth values) k = tt
   kind_no_end own s a (Function ins outs) k = tt
   kind_no_end own s a (Graph ins outs references edges) k = tt
   kind_no_end own s a (Switch on ins outs cases otherwise last) k = tt

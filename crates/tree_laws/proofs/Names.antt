@@ -117,7 +117,7 @@ module _ (ds : List Def) (n : ℕ) where
   named_body ih own s a line (Sensor len) read h = (tt, tt)
   named_body ih own s a line (Actuator len) read h = (tt, tt)
   named_body ih own s a line (Constant values) read h = (tt, tt)
-  named_body ih own s a line (Delay values) read h = (tt, tt)
+  named_body ih own s a line (Delay depth values) read h = (tt, tt)
   named_body ih own s a line (Function is os) read h = (tt, tt)
   named_body ih own s a line (Graph is os references edges) read h = (tt, references_named ih is references edges 0 0 references h (each_all (λ r. IsName r.name) references read.named))
   named_body ih own s a line (Switch on is os cases otherwise last) read h = (

@@ -77,7 +77,7 @@ module _ (ds : List Def) (n : ℕ) where
   sensor_by own s a (Sensor len) d e = inl (refl, refl)
   sensor_by own s a (Actuator len) d e = inr (refl, refl)
   sensor_by own s a (Constant values) d e = inr (refl, refl)
-  sensor_by own s a (Delay values) d e = inr (refl, refl)
+  sensor_by own s a (Delay depth values) d e = inr (refl, refl)
   sensor_by own s a (Function ins outs) d e = inr (refl, refl)
   sensor_by own s a (Graph ins outs references edges) d e = inr (refl, refl)
   sensor_by own s a (Switch on ins outs cases otherwise last) d e = inr (refl, refl)
@@ -87,7 +87,7 @@ module _ (ds : List Def) (n : ℕ) where
   actuator_by own s a (Sensor len) d e = inr (refl, refl)
   actuator_by own s a (Actuator len) d e = inl (refl, refl)
   actuator_by own s a (Constant values) d e = inr (refl, refl)
-  actuator_by own s a (Delay values) d e = inr (refl, refl)
+  actuator_by own s a (Delay depth values) d e = inr (refl, refl)
   actuator_by own s a (Function ins outs) d e = inr (refl, refl)
   actuator_by own s a (Graph ins outs references edges) d e = inr (refl, refl)
   actuator_by own s a (Switch on ins outs cases otherwise last) d e = inr (refl, refl)
@@ -146,7 +146,7 @@ module _ (ds : List Def) (n : ℕ) where
   graph_none stand w line (Sensor len) h k = cc
   graph_none stand w line (Actuator len) h k = cc
   graph_none stand w line (Constant values) h k = cc
-  graph_none stand w line (Delay values) h k = cc
+  graph_none stand w line (Delay depth values) h k = cc
   graph_none stand w line (Function ins outs) h k = cc
   graph_none stand w line (Switch on ins outs cases otherwise last) h k = cc
   graph_none stand w line (Repeat copies def lines) h k = cc
@@ -156,7 +156,7 @@ module _ (ds : List Def) (n : ℕ) where
   graph_numbered (Sensor len) h = cc
   graph_numbered (Actuator len) h = cc
   graph_numbered (Constant values) h = cc
-  graph_numbered (Delay values) h = cc
+  graph_numbered (Delay depth values) h = cc
   graph_numbered (Function ins outs) h = cc
   graph_numbered (Switch on ins outs cases otherwise last) h = cc
   graph_numbered (Repeat copies def lines) h = cc

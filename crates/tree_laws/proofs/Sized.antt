@@ -27,7 +27,7 @@ module _ (ds : List Def) where
   fine_by n (Sensor len) read none h = record { ins = tt; outs = (read, tt); distinct = tt }
   fine_by n (Actuator len) read none h = record { ins = (read, tt); outs = tt; distinct = (tt, tt) }
   fine_by n (Constant values) read none h = record { ins = tt; outs = (read, tt); distinct = tt }
-  fine_by n (Delay values) read none h = record { ins = (read, tt); outs = (read, tt); distinct = (tt, tt) }
+  fine_by n (Delay depth values) read none h = record { ins = (read.sized, tt); outs = (read.sized, tt); distinct = (tt, tt) }
   fine_by n (Function ins outs) read none h =
       record { ins = sized ins read.inputs.sized; outs = sized (ports_in outs) read.outputs.sized; distinct = (distinct_append (port_names ins) (port_names (ports_in outs)) read.distinct).0 }
   fine_by n (Graph ins outs references edges) read none h =

@@ -51,7 +51,7 @@ module _ (ds : List Def) (make : Making) (count : Bytes → ℕ) (ih : MakesAsMa
   body_made acc own s a line (Sensor len) none h = refl
   body_made acc own s a line (Actuator len) none h = refl
   body_made acc own s a line (Constant values) none h = refl
-  body_made acc own s a line (Delay values) none h = refl
+  body_made acc own s a line (Delay depth values) none h = refl
   body_made acc own s a line (Function is os) none h = refl
   body_made acc own s a line (Graph is os references edges) none h = ap suc (references_made is references edges 0 0 references)
   body_made acc own s a line (Switch on is os cases otherwise last) none h = ap suc (cases_made (length is) 0 otherwise cases)

@@ -59,7 +59,7 @@ inner_is_no_end : (b : Body) → may_be_inner b ≡ true → is_end b ≡ false
 inner_is_no_end (Sensor n) h = cc
 inner_is_no_end (Actuator n) h = cc
 inner_is_no_end (Constant values) h = refl
-inner_is_no_end (Delay values) h = refl
+inner_is_no_end (Delay depth values) h = refl
 inner_is_no_end (Function ins outs) h = refl
 inner_is_no_end (Graph ins outs references edges) h = refl
 inner_is_no_end (Switch on ins outs cases otherwise last) h = refl

@@ -1,14 +1,14 @@
 -- The lengths of values fit in the vertex that is made of a definition.
-use Rattle.std.proofs.Common.{◌≡◌, false, ℕ, zero, suc, ◌+◌, ◌≤◌, List, [], ◌∷◌, ◌++◌, map, length, Option, Some, None, refl, ap, sym, subst, ◌∙◌, arith}
+use Rattle.std.proofs.Common.{◌≡◌, false, ℕ, zero, suc, ◌+◌, ◌*◌, ◌/◌, ◌≤◌, ℤ, take, drop, List, [], ◌∷◌, ◌++◌, map, length, Option, Some, None, refl, ap, sym, subst, ◌∙◌, arith}
 use Rattle.std.specs.List.{All, flat_map}
-use Rattle.std.proofs.lemmas.List.{length-map}
+use Rattle.std.proofs.lemmas.List.{length-drop, length-map, length-take}
 use Rattle.body_lang.specs.Expr.{PortsBelow}
 use Rattle.body_lang.specs.declared.expression.Port.{Port}
 use Rattle.level_meaning.specs.declared.source.Source.{Source}
 use Rattle.level_meaning.specs.declared.part.Part.{Part}
 use Rattle.level_meaning.specs.declared.part.Part.TheVariants.{Named, Numbered}
 use Rattle.algo_tree.specs.View.{vertices_of}
-use Rattle.algo_tree.specs.Typed.{label_of, outs_of, source_length, AreGuardsTyped, AllPortsBelow, AllGive, AllFed, given_length, IsTyped, AllTyped}
+use Rattle.algo_tree.specs.Typed.{label_of, outs_of, source_length, AreGuardsTyped, AllPortsBelow, AreGroups, AllGive, AllFed, given_length, IsTyped, AllTyped}
 use Rattle.algo_tree.specs.Well.{AreDistinctNames}
 use Rattle.algo_defs.specs.declared.definition.Def.{Def}
 use Rattle.algo_defs.specs.declared.definition.Body.{Body}
@@ -22,7 +22,7 @@ use Rattle.algo_rules.specs.Links.{Mention, mentions, mentions_in, definition}
 use Rattle.algo_rules.specs.Ports.{ports_of, ports_by, lens_of, outer_ports}
 use Rattle.algo_rules.specs.declared.ports.Ports.{Ports}
 use Rattle.algo_rules.specs.Graphs.{edge_faults, open_faults, cycle_fault}
-use Rattle.algo_rules.specs.Resolved.{vertex, vertex_within, vertex_by, references_from, cases_from, sources_to, owns, kind_by, inner_by, feed_of, give_by, is_sensor, is_actuator, body_fault}
+use Rattle.algo_rules.specs.Resolved.{groups, vertex, vertex_within, vertex_by, references_from, cases_from, sources_to, owns, kind_by, inner_by, feed_of, give_by, is_sensor, is_actuator, body_fault}
 use Rattle.algo_rules.specs.WellRead.{IsWellRead, IsGraph, port_names}
 use Rattle.tree_laws.proofs.Firsts.{Each, none_both, none_append}
 use Rattle.tree_laws.proofs.Lengths.{distinct_append}
@@ -64,6 +64,18 @@ formulas_below : (n : ℕ) (os : List Output) → All (λ o. PortsBelow n o.form
 formulas_below n [] h = tt
 formulas_below n (o ∷ os) h = (h 0 o (omega arith), formulas_below n os (λ k d lt. h (suc k) d (omega arith)))
 
+-- values cut into as many groups as they make
+pub as_many_groups : (depth len : ℕ) (values : List ℤ) → length (groups depth len values) ≡ depth
+as_many_groups zero len values = refl
+as_many_groups (suc n) len values = ap suc (as_many_groups n len (drop len values))
+
+groups_fit : (depth len : ℕ) (values : List ℤ) → length values ≡ depth * len → AreGroups (len ∷ []) (groups depth len values)
+groups_fit zero len values whole = tt
+groups_fit (suc n) len values whole = (
+  ap (λ (m : ℕ). m ∷ []) (omega (arith, whole, length-take len values)),
+  groups_fit n len (drop len values) (omega (arith, whole, length-drop len values)),
+)
+
 as_many_names : (ps : List Port) → length (map (λ p. p.name) ps) ≡ length (lens_of ps)
 as_many_names [] = refl
 as_many_names (p ∷ ps) = ap suc (as_many_names ps)
@@ -104,14 +116,15 @@ module _ (ds : List Def) (acc : Accepted ds) (n : ℕ) where
       (label_outs ds acc n (Numbered c) w h.0.0.0 (owns 1 (length ins)) 0 0 h.0.0.1 (omega (arith, h.0.1)) ∙ k.0.1, cases_give ins outs (suc c) ws h.1 k.1)
 
   abbrev BodyTyped : Part → Bytes → List Source → ℕ → ℕ → Body → Ports → Type 0
-  BodyTyped part w ins s a b own = IsTyped (lens_of own.ins) (vertex part w ins (lens_of own.outs) (kind_by ds (vertex_within ds n) own s a b) (inner_by ds (vertex_within ds n) b))
+  BodyTyped part w ins s a b own = IsTyped (lens_of own.ins) (vertex part w ins own.outs (kind_by ds (vertex_within ds n) own s a b) (inner_by ds (vertex_within ds n) b))
 
   typed_body : MakesTyped → (part : Part) (w : Bytes) (ins : List Source) (s a line : ℕ) (b : Body) → IsWellRead b → body_fault ds line b ≡ None → Each (λ m. IsLower ds (suc n) m.def) (mentions_in line b)
       → AreFine (ports_by (ports_of ds) b) → BodyTyped part w ins s a b (ports_by (ports_of ds) b)
   typed_body ih part w ins s a line (Sensor len) read none h fine = ((fine.ins, fine.outs), (refl, refl))
   typed_body ih part w ins s a line (Actuator len) read none h fine = ((fine.ins, fine.outs), (refl, refl))
   typed_body ih part w ins s a line (Constant values) read none h fine = ((fine.ins, fine.outs), (refl, refl))
-  typed_body ih part w ins s a line (Delay values) read none h fine = ((fine.ins, fine.outs), (refl, refl))
+  typed_body ih part w ins s a line (Delay depth values) read none h fine =
+      ((fine.ins, fine.outs), (refl, (omega (arith, read.some, as_many_groups depth (length values / depth) values), groups_fit depth (length values / depth) values read.whole)))
   typed_body ih part w ins s a line (Function is os) read none h fine = (
     (fine.ins, fine.outs),
     (

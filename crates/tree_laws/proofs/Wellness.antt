@@ -121,7 +121,7 @@ well_body : (ds : List Def) (acc : Accepted ds) (n : ℕ) → MakesWell ds n →
 well_body ds acc n ih own s a line (Sensor len) read none h = (tt, tt)
 well_body ds acc n ih own s a line (Actuator len) read none h = (tt, tt)
 well_body ds acc n ih own s a line (Constant values) read none h = (tt, tt)
-well_body ds acc n ih own s a line (Delay values) read none h = (tt, tt)
+well_body ds acc n ih own s a line (Delay depth values) read none h = (tt, tt)
 well_body ds acc n ih own s a line (Function is os) read none h = (tt, tt)
 well_body ds acc n ih own s a line (Graph is os references edges) read none h =
     ((refl, level_well ds acc n line is os references edges read none h), references_well ds n ih is references edges 0 0 references h)

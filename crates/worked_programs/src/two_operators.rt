@@ -20,7 +20,7 @@ use std::test::Fail;
 use syn_base::{ActRows, Items, LimitFault, Name, Op, SensorRows};
 
 /// The sensor, its function, the transfer, the other function with its actuator, and the first actuator.
-const ORDER: [u32; 15] = [0, 0, 0, 0, 1, 1, 1, 3, 3, 3, 2, 2, 2, 2, 0];
+pub(crate) const ORDER: [u32; 15] = [0, 0, 0, 0, 1, 1, 1, 3, 3, 3, 2, 2, 2, 2, 0];
 
 pub(crate) fn vertex(
     alloc: Global,
@@ -190,7 +190,7 @@ fn receiver(alloc: Global) -> Result<SeqCode, Fail> {
 }
 
 /// The program, with buffers of so many places where pairs guard them.
-fn program(alloc: Global, depth: u32) -> Result<Program, Fail> {
+pub(crate) fn program(alloc: Global, depth: u32) -> Result<Program, Fail> {
     let mut seqs = Vec::new(alloc);
     seqs.push(first_computation(alloc)?)?;
     seqs.push(sender(alloc, depth)?)?;
@@ -253,7 +253,7 @@ fn the_greatest_first(rt: &impl Abort, alloc: Global, job: &Job, steps: u64) -> 
 }
 
 /// Rows in which the one sensor gives 5, -1 and 0.
-fn sensed(rt: &impl Abort, alloc: Global, flat: &Flat) -> Result<SensorRows, Fail>
+pub(crate) fn sensed(rt: &impl Abort, alloc: Global, flat: &Flat) -> Result<SensorRows, Fail>
     ensures { IfOk result (λ rows. rows.lens ≡ sensor_lens flat.now.vertices) }
 {
     let lens = sensor_lens(alloc, flat)?;
@@ -286,13 +286,13 @@ fn run(
     }
 }
 
-fn two_operators(rt: &impl Abort, alloc: Global) -> Result<Archi, Fail> {
+pub(crate) fn two_operators(rt: &impl Abort, alloc: Global) -> Result<Archi, Fail> {
     let operators = vec![in alloc; Name::new(alloc, b"P")?, Name::new(alloc, b"Q")?]?;
     let bus = bus(alloc, false, &[0, 1])?;
     Ok(archi(rt, operators, vec![in alloc; bus]?))
 }
 
-fn graph_of_two(rt: &impl Abort, alloc: Global) -> Result<Flat, Fail> {
+pub(crate) fn graph_of_two(rt: &impl Abort, alloc: Global) -> Result<Flat, Fail> {
     let one_more = sum(alloc, first_element(alloc, 0)?, Expr::Lit(1))?;
     Ok(flat(rt, vertices(alloc)?, vec![in alloc; one_more]?))
 }

@@ -4,5 +4,5 @@ use Rattle.act_text.proofs.text.append_reaction.Given as goal
 
 -- what is there, with the lines of the actuators that are left, is the whole
 abbrev pub invariant-loop-a : goal.invariant-loop-a
-invariant-loop-a l = l.text.items ++ reaction_text l.k l.a (map (λ s. s.now) (drop l.a l.names)) (get_or l.rows.reactions l.k [])
-    ≡ l.fn.text.items ++ reaction_text l.k 0 (map (λ s. s.now) l.names) (get_or l.rows.reactions l.k [])
+invariant-loop-a l = l.text.items ++ reaction_text l.number l.a (map (λ s. s.now) (drop l.a l.names)) (get_or l.rows.reactions l.k [])
+    ≡ l.fn.text.items ++ reaction_text l.number 0 (map (λ s. s.now) l.names) (get_or l.rows.reactions l.k [])

@@ -1,4 +1,4 @@
-use Rattle.std.proofs.Common.{◌≡◌, ◌+◌, ◌-◌, suc, ℕ, List, Some, get_or, sym, subst, ap, ◌∙◌, arith, rules}
+use Rattle.std.proofs.Common.{◌≡◌, ◌+◌, ◌-◌, ◌∷◌, ◌++◌, [], suc, ℕ, List, Some, get_or, sym, subst, ap, ◌∙◌, arith, rules}
 use Rattle.std.proofs.lemmas.Option.{slice_get-get_or}
 use Rattle.level_meaning.specs.declared.source.Source.{Source}
 use Rattle.level_meaning.specs.declared.part.Part.TheVariants.{Named}
@@ -8,12 +8,13 @@ use Rattle.algo_rules.specs.Placed.{IsPlaced}
 use Rattle.algo_rules.specs.Ports.{ports_of}
 use Rattle.algo_rules.specs.Resolved.{is_actuator, is_sensor, sources_to, vertex_within}
 use Rattle.algo_tree.specs.View.{kind_view, view}
+use Rattle.algo_tree.specs.declared.vertex.Vertex.{Vertex}
 use Rattle.algo_resolve.specs.declared.build.Seat.{Seat}
 use Rattle.algo_resolve.specs.declared.plan.Plan.{Plan}
 use Rattle.frontier_check.proofs.Places.{case_at, one_more, otherwise_at}
 use Rattle.algo_resolve.proofs.Placed.{def_at, place_at, place_there, ports_at}
 use Rattle.algo_resolve.proofs.Planned.{beside, plan_at, planned_kind}
-use Rattle.algo_resolve.proofs.Steps.{one_reference, vertex_step}
+use Rattle.algo_resolve.proofs.Steps.{first_place, one_copy, one_reference, vertex_step}
 use Rattle.algo_resolve.proofs.Told.{retold}
 use Rattle.algo_resolve.proofs.build.+build.Goals as goal
 
@@ -124,3 +125,15 @@ build_vertex-returns t c =
     retold view c.assemble.result _ (vertex_within ds c.args.fuel seat.part c.args.name.now seat.ins seat.sensor seat.actuator)
     (vertex_step ds c.args.fuel inner seat.part c.args.name.now seat.ins seat.sensor seat.actuator d own c.in_ok-kind.kind c.in_ok-inner.inner.items
     fuel def ports (c.in_ok-kind.ensures ds (vertex_within ds inner) own kind) c.in_ok-inner.ensures) c.assemble.ensures
+
+pub build_copy-returns : goal.build_copy-returns
+build_copy-returns t c =
+    let b = c.args.builder.now in
+    let w = c.args.name.now in
+    let place = get_or c.args.places.now 0 0 in
+    let own = get_or b.table.now place c.index-builder-place.result in
+    let placed = first_place b.defs.now b.table.now w c.args.places.now c.requires.placed in
+    one_copy b.defs.now c.args.fuel w own _ _ c.inner_seat-seat.result c.in_ok-build_vertex.field-0 _
+    (ports_at b.defs.now b.table.now w place c.index-builder-place.result placed)
+    c.as_slice.ensures c.in_ok-ins.ensures c.inner_seat-seat.ensures c.in_ok-build_vertex.ensures
+    (c.in_ok-push.ensures.items ∙ ap (λ (us : List Vertex). us ++ c.in_ok-build_vertex.field-0 ∷ []) c.new-inner.ensures.items)

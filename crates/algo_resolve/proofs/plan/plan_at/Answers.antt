@@ -4,19 +4,28 @@ use Rattle.level_meaning.specs.declared.source.Source.{Source}
 use Rattle.algo_tree.specs.Tree.{Kind}
 use Rattle.algo_links.specs.Linked.{named}
 use Rattle.algo_rules.specs.Placed.{ArePlaced}
+use Rattle.algo_defs.specs.declared.definition.Def.{Def}
 use Rattle.algo_rules.specs.Ports.{ports_of}
+use Rattle.algo_rules.specs.WellRead.{IsWellRead}
 use Rattle.algo_rules.specs.Resolved.{kind_by, vertex_within}
 use Rattle.algo_rules.specs.declared.ports.Ports.{Ports}
 use Rattle.algo_resolve.proofs.Placed.{places_stand}
 use Rattle.algo_resolve.proofs.Planned.{beside, inside}
 use Rattle.algo_resolve.proofs.plan.plan_at.Goals as goal
 
-pub kind-requires : goal.kind-requires
-kind-requires c =
+pub kind-requires-clause-placed : goal.kind-requires-clause-placed
+kind-requires-clause-placed c =
     let b = c.args.checked.now in
     let d = c.args.def.now in
     subst (λ (ps : List ℕ). ArePlaced b.defs.now b.table.now (named d.body) ps) (c.index-checked-place.is ∙ sym c.as_slice-places.ensures)
     (places_stand b.defs.now b.links.now b.table.now c.requires.ready c.args.place d c.index-checked-place.result (inside b.defs.now c.args.place d c.requires.there) c.requires.there c.index-checked-place.is)
+
+pub kind-requires-clause-read : goal.kind-requires-clause-read
+kind-requires-clause-read c =
+    let ds = c.args.checked.now.defs.now in
+    let d = c.args.def.now in
+    subst (λ (e : Def). IsWellRead e.body) (get_or_from_slice_get ds c.args.place d d c.requires.there)
+    (c.requires.ready.read c.args.place d (inside ds c.args.place d c.requires.there))
 
 pub wires-requires : goal.wires-requires
 wires-requires c =

@@ -1,7 +1,7 @@
-use Rattle.std.proofs.Common.{◌≡◌, ◌+◌, ◌<◌, [], ◌∷◌, map, drop, length, get_or, refl, sym, ap, ◌∙◌, subst, rules, arith}
+use Rattle.std.proofs.Common.{◌≡◌, ◌+◌, ◌*◌, ◌<◌, List, [], ◌∷◌, map, drop, length, get_or, refl, sym, ap, ◌∙◌, subst, rules, arith}
 use Rattle.std.proofs.lemmas.List.{drop_all}
 use Rattle.std.proofs.lemmas.Result.{on_ok_weaker}
-use Rattle.level_meaning.specs.Level.{Path}
+use Rattle.level_meaning.specs.Level.{Vector, Path}
 use Rattle.algo_tree.specs.Counted.{operations as count, operations_in as count_all}
 use Rattle.algo_tree.specs.View.{view, vertices_view}
 use Rattle.algo_tree.specs.Well.{IsWell}
@@ -9,7 +9,6 @@ use Rattle.algo_tree.specs.declared.vertex.Vertex.{the_lemmas, out-Vertex}
 use Rattle.algo_tree.specs.declared.vertex.Kind.TheVariants.{Delay}
 use Rattle.inlining_laws.specs.Inlined.{inlined, inlined_all}
 use Rattle.inlining_laws.specs.Plain.{IsPlain}
-use Rattle.inlining_laws.proofs.Inlinable.{can_inline}
 use Rattle.path_text.specs.Named.{IsNamed}
 use Rattle.hierarchy.specs.Built.{graph_of}
 use Rattle.hierarchy.specs.Linked.{AllLinked}
@@ -85,7 +84,7 @@ add_vertices-loop-vertex-preserved t c =
           let before : AddsRest (graph_of old) (graph_of now) w below (vertices_view (drop i us)) (vertices_view us) = rw items at (c.loop-vertex.invariant.added below prefix) in
           let one : AddsRest (graph_of old) (graph_of now) w below (vertices_view (u ∷ drop (i + 1) us)) (vertices_view us) =
           subst (λ vs. AddsRest (graph_of old) (graph_of now) w below (vertices_view vs) (vertices_view us)) from before in
-          rw items (vertex_added (graph_of old) (graph_of now) (graph_of next) w below (view u) rest (vertices_view us) (can_inline (view u) well plain) (c.in_ok-add_vertex.ensures.added below prefix) one);
+          rw items (vertex_added (graph_of old) (graph_of now) (graph_of next) w below (view u) rest (vertices_view us) plain (c.in_ok-add_vertex.ensures.added below prefix) one);
     }
 
 pub add_vertices-returns-clause-added : goal.add_vertices-returns-clause-added
@@ -131,15 +130,10 @@ add_level-returns-clause-added t c =
     level_added (graph_of c.args.all.now) (graph_of c.add_vertices.new.all) (led c.deref.result.now c.args.own.now) c.args.own.now c.in_ok-first.first below us number leads (adds below prefix))
     c.add_vertices.ensures.added
 
-pub add_vertex-add_delay-requires-clause-ins : goal.add_vertex-add_delay-requires-clause-ins
-add_vertex-add_delay-requires-clause-ins t c =
+pub add_vertex-add_delay-requires-clause-linked : goal.add_vertex-add_delay-requires-clause-linked
+add_vertex-add_delay-requires-clause-linked t c =
     let w = led c.args.level.now.leds.now c.args.level.now.own.now in
-    (delay_linked w c.args.vertex.now c.in-Delay.values c.in-Delay.is (length c.args.all.now.vertices.items) (c.requires.linked (λ q. q))).0
-
-pub add_vertex-add_delay-requires-clause-guards : goal.add_vertex-add_delay-requires-clause-guards
-add_vertex-add_delay-requires-clause-guards t c =
-    let w = led c.args.level.now.leds.now c.args.level.now.own.now in
-    (delay_linked w c.args.vertex.now c.in-Delay.values c.in-Delay.is (length c.args.all.now.vertices.items) (c.requires.linked (λ q. q))).1
+    rw c.as_slice-in-Delay.ensures (delay_linked w c.args.vertex.now c.in-Delay.groups c.in-Delay.is (length c.args.all.now.vertices.items) c.requires.linked)
 
 pub add_vertex-add_operation-requires-clause-ins : goal.add_vertex-add_operation-requires-clause-ins
 add_vertex-add_operation-requires-clause-ins t c =
@@ -177,7 +171,7 @@ add_vertex-returns-in-Delay-clause-added t c =
 
 pub add_vertex-returns-in-Delay-clause-count : goal.add_vertex-returns-in-Delay-clause-count
 add_vertex-returns-in-Delay-clause-count t c =
-    let two = delay_counted c.args.vertex.now c.in-Delay.values c.in-Delay.is in
+    let two = delay_counted c.args.vertex.now c.in-Delay.groups c.in-Delay.is ∙ ap (λ (vs : List Vector). 2 * length vs) (sym c.as_slice-in-Delay.ensures) in
     on_ok_weaker c.add_delay.result (λ more. more ∙ ap (λ n. length c.args.all.now.vertices.items + n) (sym two)) c.add_delay.ensures.count
 
 pub add_vertex-returns-in_default-clause-added : goal.add_vertex-returns-in_default-clause-added

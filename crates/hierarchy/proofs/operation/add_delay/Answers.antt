@@ -1,26 +1,84 @@
-use Rattle.std.proofs.Common.{◌≡◌, suc, ◌++◌, ◌∷◌, [], length, refl, ap, ◌∙◌, subst, arith}
+use Rattle.std.proofs.Common.{◌≡◌, ℕ, suc, ◌+◌, ◌*◌, ◌<◌, ◌==◌, true, List, [], ◌∷◌, drop, cond, length, map, get_or, drop-cons, refl, sym, ap, ap₂, ◌∙◌, subst, arith}
+use Rattle.std.proofs.lemmas.List.{drop_all, get_or_default}
+use Rattle.level_meaning.specs.declared.source.Source.{Source}
+use Rattle.level_meaning.specs.declared.source.Source.TheVariants.{Of}
+use Rattle.level_meaning.specs.Level.{Vector, Path}
+use Rattle.algo_tree.specs.Tree.{Label}
 use Rattle.algo_tree.specs.View.{label_view}
 use Rattle.algo_tree.specs.declared.vertex.Vertex.{out-Vertex}
-use Rattle.flat_graph.specs.declared.vertex.Kind.TheVariants.{Get}
-use Rattle.hierarchy.specs.Built.{IsOperation, graph_of}
+use Rattle.flat_graph.specs.Meaning.{level_source}
+use Rattle.inlining_laws.specs.Inlined.{stage_input, stages, wire_guard}
+use Rattle.hierarchy.specs.Built.{Adds, graph_of, stage_pair}
+use Rattle.hierarchy.specs.Linked.{AreFound, GuardsFound, AllLinked}
 use Rattle.hierarchy.specs.Wires.{led}
-use Rattle.hierarchy.proofs.Building.{delay_added}
+use Rattle.hierarchy.proofs.Building.{input_is, stages_from, stage_added, stages_begin, stages_end}
 use Rattle.hierarchy.proofs.operation.add_delay.Goals as goal
+
+pub loop-at-init : goal.loop-at-init
+loop-at-init c = record {
+  count = omega arith;
+  linked = c.requires.linked;
+  added = λ at named. stages_begin (graph_of c.args.all.now) (led c.args.level.now.leds.now c.args.level.now.own.now) at (label_view (out-Vertex c.args.vertex.now)) c.args.groups.now;
+}
+
+-- the stage whose turn it is
+turn : (w : Source → Source) (n i : ℕ) (l : Label) (vs : List Vector) → i < length vs → AllLinked (stages w n [] l i (drop i vs)) → AllLinked (stages w n [] l i (get_or vs i [] ∷ drop (i + 1) vs))
+turn w n i l vs lt linked = subst (λ us. AllLinked (stages w n [] l i us)) (stages_from i vs lt) linked
+
+pub stage_ins-requires : goal.stage_ins-requires
+stage_ins-requires c =
+    let w = led c.args.level.now.leds.now c.args.level.now.own.now in
+    let l = label_view (out-Vertex c.args.vertex.now) in
+    let i = c.loop-at.at in
+    let n = length c.loop-at.all.vertices.items in
+    let vs = c.args.groups.now in
+    let here = turn w n i l vs c.loop-at-test.true c.loop-at.invariant.linked in
+    λ last.
+    rw c.as_slice.ensures (subst AreFound (input_is n i (map w l.ins) vs c.loop-at-test.true ∙ ap (λ t. cond t (map w l.ins) (Of (n + 2) 0 ∷ [])) last) here.1.0.0)
+
+pub add_stage-requires-clause-guards : goal.add_stage-requires-clause-guards
+add_stage-requires-clause-guards c =
+    let w = led c.args.level.now.leds.now c.args.level.now.own.now in
+    let l = label_view (out-Vertex c.args.vertex.now) in
+    (turn w (length c.loop-at.all.vertices.items) c.loop-at.at l c.args.groups.now c.loop-at-test.true c.loop-at.invariant.linked).0.1
+
+pub loop-at-preserved : goal.loop-at-preserved
+loop-at-preserved c =
+    let w = led c.args.level.now.leds.now c.args.level.now.own.now in
+    let l = label_view (out-Vertex c.args.vertex.now) in
+    let i = c.loop-at.at in
+    let old = c.args.all.now in
+    let now = c.loop-at.all in
+    let next = c.add_stage.new.all in
+    let n = length now.vertices.items in
+    let vs = c.args.groups.now in
+    let z = get_or vs i [] in
+    let here = turn w n i l vs c.loop-at-test.true c.loop-at.invariant.linked in
+    let more : length next.vertices.items ≡ n + 2 = c.in_ok-add_stage.ensures.count in
+    let get : c.in_ok-get.get ≡ n = c.in_ok-get.ensures ∙ c.len.ensures ∙ now.vertices.ok.0 in
+    let value : c.as_slice-in-loop-at.result.now ≡ z = c.as_slice-in-loop-at.ensures ∙ c.index-groups-at.is ∙ get_or_default vs i c.index-groups-at.result [] c.loop-at-test.true in
+    let taken : map level_source c.deref.result.now ≡ stage_input n (map w l.ins) (drop (i + 1) vs) =
+    ap (map level_source) c.deref.ensures.value ∙ c.in_ok-ins.ensures
+    ∙ ap₂ (λ ss g. cond (i + 1 == length vs) (map w ss) (Of (g + 2) 0 ∷ [])) c.as_slice.ensures get ∙ sym (input_is n i (map w l.ins) vs c.loop-at-test.true) in
+    let number : c.in_ok-number.field-0 ≡ i = c.in_ok-number.ensures in
+    record {
+      count = omega (arith, more, c.loop-at.invariant.count);
+      linked =
+          let one : suc i ≡ i + 1 = omega arith in
+          subst (λ j. AllLinked (stages w (length next.vertices.items) [] l j (drop (i + 1) vs))) one (subst (λ m. AllLinked (stages w m [] l (suc i) (drop (i + 1) vs))) (sym more) here.1.1);
+      added = λ at named.
+          let pair : Adds (graph_of now) (graph_of next) (λ b. stage_pair w at i l z (map level_source c.deref.result.now)) =
+          subst (λ j. Adds (graph_of now) (graph_of next) (λ b. stage_pair w at j l z (map level_source c.deref.result.now))) number
+          (subst (λ v. Adds (graph_of now) (graph_of next) (λ b. stage_pair w at c.in_ok-number.field-0 l v (map level_source c.deref.result.now))) value (c.in_ok-add_stage.ensures.added at named)) in
+          stage_added (graph_of old) (graph_of now) (graph_of next) w at l i z (map level_source c.deref.result.now) vs (stages_from i vs c.loop-at-test.true) taken pair (c.loop-at.invariant.added at named);
+    }
 
 pub returns-clause-added : goal.returns-clause-added
 returns-clause-added c =
     let w = led c.args.level.now.leds.now c.args.level.now.own.now in
     let l = label_view (out-Vertex c.args.vertex.now) in
-    let old = c.args.all.now in
-    let x = c.in_ok-operation.field-0 in
-    let y = c.in_ok-operation-2.field-0 in
-    let long = old.vertices.ok.0 in
-    let get : c.in_ok-get.get ≡ length old.vertices.items = c.in_ok-get.ensures ∙ c.len.ensures ∙ long in
-    let one = c.in_ok-set.ensures in
-    let count = c.len-2.ensures in
-    let set : c.in_ok-set.set ≡ suc (length old.vertices.items) = omega (arith, one, count, long) in
-    let gives : IsOperation w l [] l.outs x = subst (λ outs. IsOperation w l [] outs x) c.as_slice.ensures c.in_ok-operation.ensures.is in
-    let takes : IsOperation w l l.ins [] y = subst (λ ins. IsOperation w l ins [] y) c.as_slice-2.ensures c.in_ok-operation-2.ensures.is in
-    delay_added (graph_of old) (record { vertices = c.push-2.new.self.items; bodies = old.bodies.items }) w l c.args.values.now x y c.args.path.now
-    c.in_ok-glued.field-0.items c.in_ok-glued-2.field-0.items c.in_ok-get.get c.in_ok-set.set (c.in_ok-push-2.ensures.items ∙ ap (λ xs. xs ++ y ∷ []) c.in_ok-push.ensures.items) refl get set c.in_ok-glued.ensures c.in_ok-glued-2.ensures
-    gives c.in_ok-operation.ensures.name (c.in_ok-operation.ensures.task ∙ ap Get c.in_ok-copy_numbers.ensures) c.in_ok-operation.ensures.twin takes c.in_ok-operation-2.ensures.name c.in_ok-operation-2.ensures.task c.in_ok-operation-2.ensures.twin
+    λ at named.
+    stages_end (graph_of c.args.all.now) (graph_of c.loop-at.all) w at l c.loop-at.at c.args.groups.now (drop_all c.loop-at.at c.args.groups.now (omega (arith, c.loop-at-test.false))) (c.loop-at.invariant.added at named)
+
+pub returns-clause-count : goal.returns-clause-count
+returns-clause-count c = omega (arith, c.loop-at.invariant.count, c.loop-at-test.false, c.loop-at.auto.at-end)

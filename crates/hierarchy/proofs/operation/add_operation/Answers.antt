@@ -1,4 +1,5 @@
-use Rattle.std.proofs.Common.{length, subst}
+use Rattle.std.proofs.Common.{length, map, ap, ◌∙◌, subst}
+use Rattle.flat_graph.specs.Meaning.{level_source}
 use Rattle.algo_tree.specs.View.{kind_view, label_view}
 use Rattle.algo_tree.specs.declared.vertex.Vertex.{out-Vertex}
 use Rattle.hierarchy.specs.Built.{Brings, IsOperation, body_added, graph_of}
@@ -14,8 +15,9 @@ returns-clause-added c =
     let task = c.in_ok-task.field-0 in
     let x = c.in_ok-operation.field-0 in
     let bodies = c.task.new.bodies.items in
-    let is : IsOperation w l l.ins l.outs x =
-    subst (λ ins. IsOperation w l ins l.outs x) c.as_slice.ensures (subst (λ outs. IsOperation w l c.as_slice.result.now outs x) c.as_slice-2.ensures c.in_ok-operation.ensures.is) in
+    let taken = ap (map level_source) c.deref.ensures.value ∙ c.in_ok-ins.ensures ∙ ap (map w) c.as_slice.ensures in
+    let is : IsOperation w l (map w l.ins) l.outs x =
+    subst (λ ins. IsOperation w l ins l.outs x) taken (subst (λ outs. IsOperation w l (map level_source c.deref.result.now) outs x) c.as_slice-2.ensures c.in_ok-operation.ensures.is) in
     let brings : Brings (length c.args.all.now.bodies.items) (length (body_added kind)) task =
     record { numbered = c.in_ok-task.ensures.numbered; many = c.in_ok-task.ensures.many } in
     run_added (graph_of c.args.all.now) (record { vertices = c.push.new.self.items; bodies = bodies }) w l x c.args.path.items kind task (body_added kind)

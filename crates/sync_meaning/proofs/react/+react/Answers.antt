@@ -16,7 +16,7 @@ use Rattle.sync_meaning.proofs.Index.{fits_count, fits_at, fits_in, guards_at, s
 use Rattle.sync_meaning.proofs.Steps.{run_none, level_reacts}
 use Rattle.sync_meaning.proofs.Graphs.{graph_sound, graph_level, graph_order, graph_table, graph_fit, reacts-graph}
 use Rattle.sync_meaning.proofs.Switches.{switch_sound, switch_conditioned, switch_gives, switch_count, switch_fit, reacts-switch, give_at}
-use Rattle.sync_meaning.proofs.Cycle.{alone_by, next_there, next_guards, next_sound, next_fit, next_lens, next_run, all_among, case_step, conditioned_there, fit_lens, guards_are, not_delay_at, delay_keeps, only_one, one_there}
+use Rattle.sync_meaning.proofs.Cycle.{alone_by, next_there, next_guards, next_sound, next_fit, next_lens, next_run, all_among, case_step, conditioned_there, fit_lens, guards_are, not_delay_at, delay_keeps, first_kept}
 use Rattle.sync_meaning.proofs.Repeats.{copies_none, copies_count, copy_fit, copy_lens, copy_step, replicate_at, fits-ins_at, repeat_asks, table_many, table_same, gives_lens, reacts-repeat}
 use Rattle.sync_meaning.proofs.Stores.{view_out, label_is}
 use Rattle.sync_meaning.proofs.Firsts.{repeat_there}
@@ -207,15 +207,14 @@ run_node-do_guards_hold-requires t c =
 pub run_node-vector-requires : goal.run_node-vector-requires
 run_node-vector-requires t c =
     let keeps = delay_keeps c.args.vertex.now c.in-Delay.field-0 _ c.args.store.now c.in-Delay.is c.requires.fit c.requires.sound.typed in
-    one_there (out-Store c.args.store.now).kept (length c.in-Delay.field-0) keeps.1
+    keeps.1
 
 pub run_node-write_only-requires : goal.run_node-write_only-requires
 run_node-write_only-requires t c =
-    let keeps = delay_keeps c.args.vertex.now c.in-Delay.field-0 _ c.args.store.now c.in-Delay.is c.requires.fit c.requires.sound.typed in
-    let kept = (out-Store c.args.store.now).kept in
+    let long = first_kept c.args.vertex.now c.in-Delay.field-0 _ c.args.store.now c.in-Delay.is c.requires.fit c.requires.sound.typed in
     let table = c.args.table.now.items in
     let here : c.index_mut-in-Delay.result.now ≡ get_or table c.args.at [] = c.index_mut-in-Delay.ensures.value ∙ get_or_default table c.args.at c.index_mut-in-Delay.result.now [] c.requires.place in
-    ap lengths here ∙ c.requires.lens ∙ sym keeps.0 ∙ only_one kept (length c.in-Delay.field-0) keeps.1 ∙ ap (λ v. length v ∷ []) (sym c.vector.ensures)
+    ap lengths here ∙ c.requires.lens ∙ long ∙ ap (λ v. length v ∷ []) (sym c.vector.ensures)
 
 pub run_node-returns-in_default : goal.run_node-returns-in_default
 run_node-returns-in_default t c =

@@ -7,14 +7,14 @@ pub read_algo-requires : goal.read_algo-requires
 read_algo-requires c = few_lines c.args.text.now c.requires
 
 pub resolve-requires-clause-read : goal.resolve-requires-clause-read
-resolve-requires-clause-read c = c.accepted_are_well_read.ensures c.args.text.now c.in_ok-defs.defs.defs c.in_ok-defs.ensures
+resolve-requires-clause-read c = c.accepted_are_well_read.ensures c.args.text.now c.in_ok-defs.defs c.in_ok-defs.ensures
 
 pub resolve-requires-clause-few : goal.resolve-requires-clause-few
 resolve-requires-clause-few c =
-    let defs = c.in_ok-defs.defs.defs in
+    let defs = c.in_ok-defs.defs in
     few_definitions c.args.text.now defs c.requires (c.canonical_text_reads_back.ensures.lines c.args.text.now defs c.in_ok-defs.ensures)
 
 pub returns-in_err-tree : goal.returns-in_err-tree
 returns-in_err-tree c =
     let p = err_from_is_err_and c.from_residual-in_err-tree.result c.from_residual-in_err-tree.ensures.1 in
-    rw (p.1, p.2) (by_definitions c.args.text.now c.in_ok-defs.defs.defs c.in_err-tree.field-0.0 c.in_ok-defs.ensures c.in_err-tree.ensures.gives)
+    rw (p.1, p.2) (by_definitions c.args.text.now c.in_ok-defs.defs c.in_err-tree.field-0.0 c.in_ok-defs.ensures c.in_err-tree.ensures.gives)

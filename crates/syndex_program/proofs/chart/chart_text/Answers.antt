@@ -2,7 +2,7 @@ use Rattle.std.proofs.Common.{◌≡◌, ◌∙◌, ap, subst, sym}
 use Rattle.std.specs.Prelude.{List, Ok, Err}
 use Rattle.std.proofs.lemmas.Result.{err_from_is_err_and}
 use Rattle.outside.specs.Bytes.{Bytes}
-use Rattle.algo_defs.specs.declared.definition.Def.{Def}
+use Rattle.algo_defs.specs.declared.definition.Defs.{Defs}
 use Rattle.algo_tree.specs.Tree.{Vertex}
 use Rattle.archi_defs.specs.Text.{Described}
 use Rattle.durations.specs.Table.{Table, durations_of}
@@ -30,7 +30,7 @@ returns-in_err-architecture-clause-makes g c =
     let p = err_from_is_err_and c.from_residual-in_err-architecture.result c.from_residual-in_err-architecture.ensures.1 in
     rw (p.1, p.2) (
     went_on c.args.algorithm.now (H c.args.shelf.now) (H c.read_algorithm.new.shelf) (H c.read_architecture.new.shelf) c.in_ok-algorithm.algorithm
-    (λ (defs : List Def) (main : Vertex). architecture_plan c.args.architecture.now main (λ (d : Described) (t : Table). give (written (chart_of (flat_of main) d t)))) (Err (ending_of c.in_err-architecture.field-0.0))
+    (λ (defs : Defs) (main : Vertex). architecture_plan c.args.architecture.now main (λ (d : Described) (t : Table). give (written (chart_of (flat_of main) d t)))) (Err (ending_of c.in_err-architecture.field-0.0))
     c.in_ok-algorithm.ensures.reads (c.in_err-architecture.ensures.reads _)
     )
 
@@ -48,7 +48,7 @@ returns-clause-makes g c =
     let is = c.in_ok-architecture.ensures.reads.2 in
     let d = described given.text in
     went_on c.args.algorithm.now (H c.args.shelf.now) (H c.read_algorithm.new.shelf) (H c.read_architecture.new.shelf) algorithm
-    (λ (defs : List Def) (main : Vertex). architecture_plan c.args.architecture.now main (λ (d : Described) (t : Table). give (written (chart_of (flat_of main) d t)))) _ c.in_ok-algorithm.ensures.reads
+    (λ (defs : Defs) (main : Vertex). architecture_plan c.args.architecture.now main (λ (d : Described) (t : Table). give (written (chart_of (flat_of main) d t)))) _ c.in_ok-algorithm.ensures.reads
     (architecture.went_on algorithm.tree c.args.architecture.now (H c.read_algorithm.new.shelf) (H c.read_architecture.new.shelf) (H c.read_architecture.new.shelf) given
     (λ (d : Described) (t : Table). give (written (chart_of (flat_of algorithm.tree) d t))) _ c.in_ok-architecture.ensures.reads
     (gave (H c.read_architecture.new.shelf) _ _ (ap (λ (x : Bytes). Ok (written x)) (c.in_ok-charted.ensures ∙ ap (λ (f : Graph). chart_of f d given.durations) is.flattens))))

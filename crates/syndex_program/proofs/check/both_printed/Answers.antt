@@ -10,4 +10,4 @@ pub returns : goal.returns
 returns c =
     let behind = architecture.canonical_text (described c.args.architecture.now) in
     c.in_ok-print_archi.ensures.ok ∙ ap (λ (t : Bytes). t ++ behind) (c.in_ok-push.ensures.items ∙ ap (λ (t : Bytes). t ++ 10 ∷ []) c.in_ok-text.ensures)
-    ∙ append_assoc (canonical_text c.args.defs.now.defs) (10 ∷ []) behind
+    ∙ append_assoc (canonical_text c.args.defs.now) (10 ∷ []) behind

@@ -2,7 +2,7 @@ use Rattle.std.proofs.Common.{ap}
 use Rattle.std.specs.Prelude.{List, None, Ok}
 use Rattle.std.proofs.lemmas.Result.{err_from_is_err_and}
 use Rattle.outside.specs.Bytes.{Bytes}
-use Rattle.algo_defs.specs.declared.definition.Def.{Def}
+use Rattle.algo_defs.specs.declared.definition.Defs.{Defs}
 use Rattle.algo_print.specs.Canonical.{canonical_text}
 use Rattle.algo_tree.specs.Tree.{Vertex}
 use Rattle.command_plan.specs.Plan.{give}
@@ -22,5 +22,5 @@ pub returns-clause-makes : goal.returns-clause-makes
 returns-clause-makes g c =
     let H = g.S.Shelf.held in
     went_on c.args.algorithm.now (H c.args.shelf.now) (H c.read_algorithm.new.shelf) (H c.read_algorithm.new.shelf) c.in_ok-algorithm.algorithm
-    (λ (defs : List Def) (main : Vertex). give (written (canonical_text defs))) _ c.in_ok-algorithm.ensures.reads
+    (λ (defs : Defs) (main : Vertex). give (written (canonical_text defs))) _ c.in_ok-algorithm.ensures.reads
     (gave (H c.read_algorithm.new.shelf) _ _ (ap (λ (x : Bytes). Ok (written x)) c.in_ok-printed.ensures))

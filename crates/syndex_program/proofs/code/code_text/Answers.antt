@@ -1,7 +1,7 @@
 use Rattle.std.proofs.Common.{◌≡◌, subst, sym}
 use Rattle.std.specs.Prelude.{List, Ok, Err}
 use Rattle.std.proofs.lemmas.Result.{err_from_is_err_and}
-use Rattle.algo_defs.specs.declared.definition.Def.{Def}
+use Rattle.algo_defs.specs.declared.definition.Defs.{Defs}
 use Rattle.algo_tree.specs.Tree.{Vertex}
 use Rattle.archi_defs.specs.Text.{Described}
 use Rattle.durations.specs.Table.{Table, durations_of}
@@ -27,7 +27,7 @@ returns-in_err-architecture-clause-makes g c =
     let p = err_from_is_err_and c.from_residual-in_err-architecture.result c.from_residual-in_err-architecture.ensures.1 in
     rw (p.1, p.2) (
     went_on c.args.algorithm.now (H c.args.shelf.now) (H c.read_algorithm.new.shelf) (H c.read_architecture.new.shelf) c.in_ok-algorithm.algorithm
-    (λ (defs : List Def) (main : Vertex). architecture_plan c.args.architecture.now main (λ (d : Described) (t : Table). macro_plan (flat_of main) d.archi t)) (Err (ending_of c.in_err-architecture.field-0.0))
+    (λ (defs : Defs) (main : Vertex). architecture_plan c.args.architecture.now main (λ (d : Described) (t : Table). macro_plan (flat_of main) d.archi t)) (Err (ending_of c.in_err-architecture.field-0.0))
     c.in_ok-algorithm.ensures.reads (c.in_err-architecture.ensures.reads _)
     )
 
@@ -39,7 +39,7 @@ returns-clause-makes g c =
     let given = c.in_ok-architecture.architecture in
     let made = text_in c.code_of.result in
     went_on c.args.algorithm.now (H c.args.shelf.now) (H c.read_algorithm.new.shelf) held algorithm
-    (λ (defs : List Def) (main : Vertex). architecture_plan c.args.architecture.now main (λ (d : Described) (t : Table). macro_plan (flat_of main) d.archi t)) made c.in_ok-algorithm.ensures.reads
+    (λ (defs : Defs) (main : Vertex). architecture_plan c.args.architecture.now main (λ (d : Described) (t : Table). macro_plan (flat_of main) d.archi t)) made c.in_ok-algorithm.ensures.reads
     (architecture.went_on algorithm.tree c.args.architecture.now (H c.read_algorithm.new.shelf) held held given
     (λ (d : Described) (t : Table). macro_plan (flat_of algorithm.tree) d.archi t) made c.in_ok-architecture.ensures.reads
     (subst (λ (f : Graph). Makes held held (macro_plan f given.text.archi given.durations) made) c.in_ok-architecture.ensures.reads.2.flattens (c.code_of.ensures held)))

@@ -1,0 +1,2 @@
+pub mod Actual
+pub mod Answers

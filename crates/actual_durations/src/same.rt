@@ -1,0 +1,53 @@
+//! Whether two architectures are the same but for the times of their media.
+ghost use Rattle.std.specs.Prelude.{◌≡◌};
+ghost use Rattle.std.specs.Cmp.Lexicographic.{pointwise};
+ghost use Rattle.std.specs.Str.{bytes_eq};
+ghost use Rattle.actual_durations.specs.Actual.{same_architecture, same_medium};
+
+use archi_graph::{Archi, Medium};
+use syn_base::Name;
+
+/// Whether both have the same operators, media, kinds, connections and depth, in the same order.
+pub fn same_architecture(stated: &Archi, actual: &Archi) -> bool
+    ensures { result ≡ same_architecture stated.now actual.now }
+{
+    same_names(stated.operators(), actual.operators())
+        && same_media(stated.media(), actual.media())
+        && stated.depth() == actual.depth()
+}
+
+fn same_names(stated: &[Name], actual: &[Name]) -> bool
+    ensures { result ≡ pointwise bytes_eq stated.now actual.now }
+{
+    if stated.len() != actual.len() {
+        return false;
+    }
+    for (place, name) in actual.iter().enumerate() {
+        if stated[place].as_bytes() != name.as_bytes() {
+            return false;
+        }
+    }
+    true
+}
+
+fn same_media(stated: &[Medium], actual: &[Medium]) -> bool
+    ensures { result ≡ pointwise same_medium stated.now actual.now }
+{
+    if stated.len() != actual.len() {
+        return false;
+    }
+    for (place, medium) in actual.iter().enumerate() {
+        if !same_medium(&stated[place], medium) {
+            return false;
+        }
+    }
+    true
+}
+
+fn same_medium(stated: &Medium, actual: &Medium) -> bool
+    ensures { result ≡ same_medium stated.now actual.now }
+{
+    stated.name.as_bytes() == actual.name.as_bytes()
+        && stated.multi == actual.multi
+        && stated.stands.as_slice() == actual.stands.as_slice()
+}

@@ -1,0 +1,32 @@
+//! A text is read, and then its program is checked.
+ghost use Rattle.std.specs.Prelude.{◌≤◌, length};
+ghost use Rattle.text_lines.specs.Text.{lines_of};
+ghost use Rattle.checked_code.specs.Checked.{GivesChecked};
+
+use crate::error::CheckedError;
+use archi_graph::Archi;
+use code_reader::read_code;
+use code_text::CodeError;
+use executive_program::Program;
+use flat_graph::Flat;
+use macro_check::{loops_are_short, macro_check};
+use std::alloc::Global;
+
+/// The program of a text of macro-code, if it is well formed for a flat graph and an architecture. A loop that no
+/// memory holds is want of memory.
+pub fn read_checked(
+    alloc: Global,
+    bytes: &[u8],
+    flat: &Flat,
+    archi: &Archi,
+) -> Result<Program, CheckedError>
+    requires { length (lines_of bytes.now) ≤ 4000000000 }
+    ensures { GivesChecked bytes.now flat.now archi.now result }
+{
+    let program = read_code(alloc, bytes, flat, archi)?;
+    if !loops_are_short(&program) {
+        return Err(CheckedError::Text(CodeError::OutOfMemory));
+    }
+    let _order = macro_check(alloc, flat, archi, &program)?;
+    Ok(program)
+}

@@ -1,0 +1,27 @@
+use Rattle.std.proofs.Common.{◌++◌, List, length, refl, sym, ap, subst, ◌∙◌}
+use Rattle.schedule.specs.declared.decision.Decision.{Decision}
+use Rattle.schedule.specs.Acts.{acts_of}
+use Rattle.timing_chart.specs.Chart.{Bytes}
+use Rattle.dates_text.specs.Listing.{Dated, dated_text}
+use Rattle.dates_text.specs.Printed.{EachFits, entry_span, told}
+use Rattle.dates_text.proofs.Entered.{told_is}
+use Rattle.dates_text.proofs.Fitting.{each_fits}
+use Rattle.dates_text.proofs.listing.print_dates.Goals as goal
+
+pub append_dates-requires : goal.append_dates-requires
+append_dates-requires c =
+    subst (λ (ds : List Decision). EachFits c.args.flat.now ds c.args.dates.now) (sym c.as_slice.ensures)
+    (each_fits c.args.flat.now c.args.archi.now c.args.schedule.now c.args.dates.now c.requires.valid c.requires.entries)
+
+pub returns-clause-text : goal.returns-clause-text
+returns-clause-text c =
+    let g = c.args.flat.now in
+    let a = c.args.archi.now in
+    let s = c.args.schedule.now in
+    let reactions = c.args.dates.now in
+    let out = c.args.out.now.items in
+    c.in_ok-extend_from_slice.ensures.items
+    ∙ ap (λ (l : Bytes). out ++ l) (c.deref.ensures.value ∙ c.in_ok-append_dates.ensures
+    ∙ ap (λ (l : Bytes). l ++ dated_text g a (told reactions (length g.vertices) (acts_of c.as_slice.result.now) (length reactions))) c.new-text.ensures.items
+    ∙ ap (λ (ds : List Decision). dated_text g a (told reactions (length g.vertices) (acts_of ds) (length reactions))) c.as_slice.ensures
+    ∙ ap (λ (ds : List Dated). dated_text g a ds) (told_is g s reactions (entry_span g s reactions) (length reactions) (λ k l i x e. refl)))

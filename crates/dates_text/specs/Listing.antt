@@ -1,0 +1,77 @@
+-- The text of the dates of reactions.
+use Rattle.std.specs.Prelude.{ℕ, zero, suc, List, [], ◌∷◌, ◌++◌, length, map, replicate, Option, Some, None, slice_get, codes}
+use Rattle.std.specs.Fmt.{decimal}
+use Rattle.flat_graph.specs.Graph.{Graph}
+use Rattle.archi_graph.specs.declared.medium.Medium.{Medium}
+use Rattle.archi_graph.specs.Archi.{Architecture}
+use Rattle.schedule.specs.declared.decision.Schedule.{Schedule}
+use Rattle.schedule.specs.Acts.{Act, carry, run, acts}
+use Rattle.timing_chart.specs.Chart.{Bytes, Line, text_of, operation_name, operator_name}
+use Rattle.self_timed_laws.specs.Dates.{greatest}
+use Rattle.self_timed.specs.declared.dates.Span.{Span}
+use Rattle.self_timed.specs.Running.{span}
+use Rattle.self_timed.specs.Told.{start_at, end_at}
+
+-- an act in a reaction, and from when to when it lasts
+pub record Dated : Type 0 where
+  pub reaction : ℕ
+  pub when : Span
+  pub act : Act
+
+abbrev pub dated : ℕ → Span → Act → Dated
+dated k w x = record { reaction = k; when = w; act = x }
+
+abbrev pub end_in_date : Dated → ℕ
+end_in_date d = d.when.end
+
+-- the greatest end, 0 where there is none
+abbrev pub latest_end : List Dated → ℕ
+latest_end ds = greatest (map end_in_date ds)
+
+-- Act i of reaction k, which is x, takes `when k i x`.
+module _ (when : ℕ → ℕ → Act → Span) where
+  -- these acts in reaction k, of which the first has number i
+  abbrev pub dated_from : ℕ → ℕ → List Act → List Dated
+  dated_from k i [] = []
+  dated_from k i (x ∷ xs) = dated k (when k i x) x ∷ dated_from k (suc i) xs
+
+  -- all acts in so many reactions, reaction by reaction
+  abbrev pub dated_in : ℕ → List Act → List Dated
+  dated_in zero xs = []
+  dated_in (suc k) xs = dated_in k xs ++ dated_from k 0 xs
+
+abbrev pub name_or_none : Option Medium → Bytes
+name_or_none None = []
+name_or_none (Some m) = m.name
+
+abbrev pub medium_name : List Medium → ℕ → Bytes
+medium_name media m = name_or_none (slice_get media m)
+
+module _ (g : Graph) (a : Architecture) where
+  -- K on MEDIUM START END OPERATION PORT FROM TO, and K op START END OPERATION
+  abbrev pub act_line : ℕ → Span → Act → Line
+  act_line k w (carry t) =
+      decimal k ∷ codes "on" ∷ medium_name a.media t.medium ∷ decimal w.start ∷ decimal w.end
+      ∷ operation_name g.vertices a.operators t.source.vertex ∷ decimal t.source.port ∷ operator_name g.vertices a.operators t.from ∷ operator_name g.vertices a.operators t.to ∷ []
+  act_line k w (run d) = decimal k ∷ codes "op" ∷ decimal w.start ∷ decimal w.end ∷ operation_name g.vertices a.operators d.op ∷ []
+
+  abbrev pub dated_line : Dated → Line
+  dated_line d = act_line d.reaction d.when d.act
+
+  -- a line for each, and the latest end
+  abbrev pub dated_lines : List Dated → List Line
+  dated_lines ds = map dated_line ds ++ (codes "latest" ∷ decimal (latest_end ds) ∷ []) ∷ []
+
+  abbrev pub dated_text : List Dated → Bytes
+  dated_text ds = text_of (dated_lines ds)
+
+  -- the dates of reactions of a schedule, in each of which its operations, and then its transfers, last these ticks
+  abbrev pub all_dates : Schedule → List (List ℕ) → List Dated
+  all_dates s ticks = dated_in (λ k i x. span (start_at a.depth g s ticks k i x) (end_at a.depth g s ticks k i)) (length ticks) (acts s)
+
+  -- the same where they last as long in so many reactions
+  abbrev pub dates_lines : Schedule → List ℕ → ℕ → List Line
+  dates_lines s ticks n = dated_lines (all_dates s (replicate n ticks))
+
+  abbrev pub dates_text : Schedule → List ℕ → ℕ → Bytes
+  dates_text s ticks n = dated_text (all_dates s (replicate n ticks))

@@ -1,0 +1,83 @@
+//! The text of all reactions.
+ghost use Rattle.std.specs.Prelude.{◌≡◌, ◌++◌, IfOk, OnErr, OnOk, length};
+ghost use Rattle.schedule.specs.Acts.{acts, acts_of};
+ghost use Rattle.self_timed.specs.Told.{IsValidForSome};
+ghost use Rattle.dates_text.specs.Listing.{dated_in, dated_text};
+ghost use Rattle.dates_text.specs.Printed.{Appends, EachFits, HaveSpans, entry_span, told};
+
+use crate::line::Reaction;
+use crate::reaction::append_reaction;
+use archi_graph::Archi;
+use flat_graph::Flat;
+use grown_text::{append, append_count};
+use schedule::{Decision, Schedule};
+use self_timed::Dates;
+use std::alloc::Global;
+use syn_base::OutOfMemory;
+
+/// Appends the text of the dates of a schedule: reaction by reaction and decision by decision, for each
+/// transfer the line `K on MEDIUM START END OPERATION PORT FROM TO`, and then for the operation
+/// `K op START END OPERATION`, where K is the number of the reaction and PORT that of the operation's
+/// output; last `latest L`, where L is the greatest end, or 0. The dates have an entry for each operation
+/// and each transfer. After want of memory `out` is as before.
+pub fn print_dates(
+    alloc: Global,
+    flat: &Flat,
+    archi: &Archi,
+    schedule: &Schedule,
+    dates: &Dates,
+    out: &mut Vec<u8>,
+) -> Result<(), OutOfMemory>
+    requires valid { IsValidForSome flat.now archi.now schedule.now }
+    requires entries { HaveSpans flat.now schedule.now dates.now }
+    ensures text { OnOk result (out.new.items ≡ out.old.items ++ dated_text flat.now archi.now
+        (dated_in (entry_span flat.now schedule.now dates.now) (length dates.now) (acts schedule.now))) }
+    ensures err { OnErr result (out.new.items ≡ out.old.items) }
+{
+    let mut text = Vec::new(alloc);
+    append_dates(&mut text, flat, archi, schedule.decisions.as_slice(), dates)?;
+    out.extend_from_slice(&text)?;
+    Ok(())
+}
+
+fn append_dates(
+    out: &mut Vec<u8>,
+    flat: &Flat,
+    archi: &Archi,
+    decisions: &[Decision],
+    dates: &Dates,
+) -> Result<(), OutOfMemory>
+    requires { EachFits flat.now decisions.now dates.now }
+    ensures { OnOk result (out.new.items ≡ out.old.items ++ dated_text flat.now archi.now
+        (told dates.now (length flat.now.vertices) (acts_of decisions.now) (length dates.now))) }
+{
+    let latest = append_reactions(out, flat, archi, decisions, dates)?;
+    append(out, b"latest ")?;
+    append_count(out, latest as usize)?;
+    append(out, b"\n")
+}
+
+/// Appends the lines of all reactions, and answers their latest end.
+fn append_reactions(
+    out: &mut Vec<u8>,
+    flat: &Flat,
+    archi: &Archi,
+    decisions: &[Decision],
+    dates: &Dates,
+) -> Result<u64, OutOfMemory>
+    requires { EachFits flat.now decisions.now dates.now }
+    ensures { IfOk result (λ end. Appends flat.now archi.now out.old.items out.new.items end
+        (told dates.now (length flat.now.vertices) (acts_of decisions.now) (length dates.now))) }
+{
+    let mut latest = 0;
+    for number in 0..dates.reactions() {
+        let reaction = Reaction {
+            flat,
+            archi,
+            dates,
+            number,
+        };
+        latest = append_reaction(out, &reaction, decisions)?.max(latest);
+    }
+    Ok(latest)
+}

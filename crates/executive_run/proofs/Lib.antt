@@ -1,0 +1,4 @@
+pub mod Places
+pub mod Goings
+pub mod Driving
+pub mod Threads

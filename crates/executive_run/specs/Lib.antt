@@ -1,0 +1,5 @@
+pub mod Slots
+pub mod Going
+pub mod Groups
+pub mod Ready
+pub mod Prepared

@@ -1,0 +1,110 @@
+//! What is made ready before a run.
+ghost use Rattle.std.specs.Prelude.{◌≡◌, ◌≤◌, IfOk, vec_len};
+ghost use Rattle.word_table.specs.Driver.{AreDrivers, AreNew, IsNew};
+ghost use Rattle.executive_run.specs.Prepared.{AreGroups};
+
+use crate::beside::Slot;
+use crate::chief::Returns;
+use crate::group::Group;
+use semaphore_core::Job;
+use std::alloc::Global;
+use std::marker::Model;
+use syn_base::OutOfMemory;
+use word_table::{Driver, Fabric, weave};
+
+/// A fabric with all its drivers, and all memory that a run takes. Contracts see the job and the number of
+/// workers.
+#[derive(Drop)]
+pub struct Ready<'a> {
+    pub(crate) job: &'a Job<'a>,
+    pub(crate) fabric: Fabric<'a>,
+    pub(crate) groups: Vec<Group<'a>>,
+    /// Room for the groups while they are driven, once they are done, and for their drivers.
+    pub(crate) slots: Vec<Slot<Group<'a>, Returns<'a>>>,
+    pub(crate) done: Vec<Group<'a>>,
+    pub(crate) drivers: Vec<Driver<'a>>,
+}
+
+impl<'a> Model for Ready<'a> {
+    ghost use Rattle.std.specs.Coded.{codes};
+    ghost use Rattle.body_lang.specs.Code.{expr_code};
+    ghost use Rattle.flat_graph.specs.Graph.{graph_code};
+    ghost use Rattle.semaphore_core.specs.Job.{job_code};
+    ghost use Rattle.executive_run.specs.Ready.{ReadyData, ready_code};
+    ghost use Rattle.std.specs.Prelude.{vec_len, vec_capacity};
+    ghost use Rattle.executive_run.specs.Prepared.{IsReady, IsRoom};
+
+    ghost Value = { ReadyData };
+
+    ghost coded = { ready_code (job_code (Prim.hlevel codes) (graph_code (Prim.hlevel codes) (expr_code (Prim.hlevel codes)))) };
+
+    ghost view = { λ r. record { job = r.job.now; workers = r.fabric.groups } };
+
+    ghost invariant = { λ r. IsReady r.job.now r.fabric r.groups.items
+        × IsRoom r.fabric.groups (vec_len r.slots) (vec_capacity r.slots)
+        × IsRoom r.fabric.groups (vec_len r.done) (vec_capacity r.done)
+        × IsRoom r.fabric.groups (vec_len r.drivers) (vec_capacity r.drivers) };
+}
+
+/// Makes a job ready to be run by 1 to 80 workers. It takes all memory that the run takes.
+pub fn prepare<'a>(alloc: Global, job: &'a Job<'a>, workers: u32) -> Result<Ready<'a>, OutOfMemory>
+    requires from { 1 ≤ workers }
+    requires to { workers ≤ 80 }
+    ensures { IfOk result (λ ready. (ready.job ≡ job.now) × (ready.workers ≡ workers)) }
+{
+    let slots = Vec::with_capacity(alloc, workers as usize)?;
+    let done = Vec::with_capacity(alloc, workers as usize)?;
+    let drivers = Vec::with_capacity(alloc, workers as usize)?;
+    let (fabric, woven) = weave(alloc, job, workers)?;
+    let groups = groups_of(alloc, &fabric, woven)?;
+    Ok(Ready {
+        job,
+        fabric,
+        groups,
+        slots,
+        done,
+        drivers,
+    })
+}
+
+/// A group for each driver.
+fn groups_of<'a>(
+    alloc: Global,
+    fabric: &Fabric<'a>,
+    drivers: Vec<Driver<'a>>,
+) -> Result<Vec<Group<'a>>, OutOfMemory>
+    requires are { AreDrivers fabric.now drivers.items }
+    requires new { AreNew drivers.items }
+    ensures { IfOk result (λ groups. AreGroups fabric.entry.now groups.items) }
+{
+    let mut groups = Vec::new(alloc);
+    for driver in drivers {
+        let group = group_of(alloc, fabric, driver)?;
+        groups.push(group)?;
+    }
+    Ok(groups)
+}
+
+fn group_of<'a>(
+    alloc: Global,
+    fabric: &Fabric<'a>,
+    driver: Driver<'a>,
+) -> Result<Group<'a>, OutOfMemory>
+    requires of { driver.fabric ≡ fabric.now }
+    requires new { IsNew driver }
+    ensures { IfOk result (λ group. group.driver ≡ driver.entry) }
+{
+    let asked = none_asked(alloc, fabric.sequences() as usize)?;
+    Ok(Group { driver, asked })
+}
+
+/// For so many sequences that the gate was asked for no step.
+fn none_asked(alloc: Global, count: usize) -> Result<Vec<Option<u64>>, OutOfMemory>
+    ensures { IfOk result (λ asked. vec_len asked ≡ count) }
+{
+    let mut asked = Vec::with_capacity(alloc, count)?;
+    'sequences: for _sequence in 0..count {
+        asked.push(None)?;
+    }
+    Ok(asked)
+}

@@ -1,0 +1,11 @@
+pub mod Told
+pub mod Wakes
+pub mod Goes
+pub mod Follows
+pub mod Sourced
+pub mod Few
+pub mod Lacks
+pub mod ByReading
+pub mod MovedBy
+pub mod Results
+pub mod Checked

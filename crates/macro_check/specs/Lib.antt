@@ -1,0 +1,4 @@
+pub mod Tabled
+pub mod Awaiting
+pub mod Carrying
+pub mod Causes

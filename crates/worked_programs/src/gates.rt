@@ -1,0 +1,139 @@
+//! Gates that show which steps are asked for, by which threads, and in what order.
+use outside::Gate;
+use std::hint;
+use std::sync::atomic::{AtomicU64, Ordering};
+
+/// After so many turns of waiting a gate gives up.
+const TURNS: u32 = 50_000_000;
+
+/// Waits until the word is at least this, and says whether it was.
+fn waits(word: &AtomicU64, least: u64) -> bool {
+    for _ in 0..TURNS {
+        if word.load(Ordering::SeqCst) >= least {
+            return true;
+        }
+        hint::spin_loop();
+    }
+    false
+}
+
+/// Before their first steps the sequences 0 and 1 wait for each other. So where one thread drives both, the
+/// one that is asked for first waits in vain.
+#[derive(Drop)]
+pub(crate) struct Meeting {
+    marks: [AtomicU64; 2],
+    given_up: AtomicU64,
+}
+
+impl Meeting {
+    pub(crate) fn new() -> Meeting {
+        Meeting {
+            marks: [AtomicU64::new(0), AtomicU64::new(0)],
+            given_up: AtomicU64::new(0),
+        }
+    }
+
+    /// Both were asked for their first steps.
+    pub(crate) fn has_marks(&self) -> bool {
+        self.marks[0].load(Ordering::SeqCst) == 1 && self.marks[1].load(Ordering::SeqCst) == 1
+    }
+
+    /// How often a sequence waited in vain.
+    pub(crate) fn given_up(&self) -> u64 {
+        self.given_up.load(Ordering::SeqCst)
+    }
+}
+
+impl Gate for Meeting {
+    fn pass(&self, seq: u32, n: u64) {
+        if seq >= 2 || n > 0 {
+            return;
+        }
+        self.marks[seq as usize].store(1, Ordering::SeqCst);
+        if !waits(&self.marks[1 - seq as usize], 1) {
+            self.given_up.fetch_add(1, Ordering::SeqCst);
+        }
+    }
+}
+
+/// Counts the steps of each of four sequences that it is asked for, and those that come out of turn.
+#[derive(Drop)]
+pub(crate) struct Counting {
+    asked: [AtomicU64; 4],
+    out_of_turn: AtomicU64,
+}
+
+impl Counting {
+    pub(crate) fn new() -> Counting {
+        Counting {
+            asked: [
+                AtomicU64::new(0),
+                AtomicU64::new(0),
+                AtomicU64::new(0),
+                AtomicU64::new(0),
+            ],
+            out_of_turn: AtomicU64::new(0),
+        }
+    }
+
+    /// How many steps of each sequence it was asked for.
+    pub(crate) fn asked(&self) -> [u64; 4] {
+        [
+            self.asked[0].load(Ordering::SeqCst),
+            self.asked[1].load(Ordering::SeqCst),
+            self.asked[2].load(Ordering::SeqCst),
+            self.asked[3].load(Ordering::SeqCst),
+        ]
+    }
+
+    /// How often a step was not the one after the last step of its sequence.
+    pub(crate) fn out_of_turn(&self) -> u64 {
+        self.out_of_turn.load(Ordering::SeqCst)
+    }
+}
+
+impl Gate for Counting {
+    fn pass(&self, seq: u32, n: u64) {
+        let before = match self.asked.get(seq as usize) {
+            Some(asked) => asked.fetch_add(1, Ordering::SeqCst),
+            None => u64::MAX,
+        };
+        if before != n {
+            self.out_of_turn.fetch_add(1, Ordering::SeqCst);
+        }
+    }
+}
+
+/// Holds sequence 1 before its step 1 until sequence 0 was asked for its step 6.
+#[derive(Drop)]
+pub(crate) struct Holding {
+    /// The last step of sequence 0 that was asked for, and what it was when sequence 1 was let go.
+    first: AtomicU64,
+    at_release: AtomicU64,
+}
+
+impl Holding {
+    pub(crate) fn new() -> Holding {
+        Holding {
+            first: AtomicU64::new(0),
+            at_release: AtomicU64::new(0),
+        }
+    }
+
+    /// The last step of sequence 0 that was asked for when sequence 1 was let go; 0 where that did not come.
+    pub(crate) fn at_release(&self) -> u64 {
+        self.at_release.load(Ordering::SeqCst)
+    }
+}
+
+impl Gate for Holding {
+    fn pass(&self, seq: u32, n: u64) {
+        if seq == 0 {
+            self.first.store(n, Ordering::SeqCst);
+        }
+        if seq == 1 && n == 1 && waits(&self.first, 6) {
+            let last = self.first.load(Ordering::SeqCst);
+            self.at_release.store(last, Ordering::SeqCst);
+        }
+    }
+}

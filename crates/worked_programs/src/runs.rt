@@ -1,0 +1,114 @@
+//! A job run to its end by threads, and by one driver alone: its rows, counts and words are the same whoever
+//! drives, each sequence is driven by the worker of its group, and the gate is asked once for each step.
+use crate::gates::{Counting, Holding, Meeting};
+use crate::two_operators::{ORDER, expect, graph_of_two, job, program, sensed, two_operators};
+use executive_run::{prepare, run_alone, run_ready};
+use outside::{Gate, GateFree};
+use semaphore_core::{Job, opening_of};
+use std::alloc::Global;
+use std::process::Abort;
+use std::sync::Wait;
+use std::test::Fail;
+use std::thread::Threads;
+use word_table::{Closed, Driven};
+
+/// Who drives a job.
+#[derive(Clone, Copy, Debug)]
+pub(crate) enum By {
+    Alone,
+    Workers(u32),
+}
+
+/// Runs a job to its end.
+pub(crate) fn end_of<R: Abort + Threads + Wait + Sync, G: Gate>(
+    rt: &R,
+    alloc: Global,
+    job: &Job,
+    gate: &G,
+    by: By,
+    driven: &mut Driven,
+) -> Result<Closed, Fail> {
+    match by {
+        By::Alone => Ok(run_alone(prepare(alloc, job, 1)?, gate, driven)),
+        By::Workers(workers) => {
+            assert!(rt; 1 <= workers && workers <= 80);
+            Ok(run_ready(rt, prepare(alloc, job, workers)?, gate, driven))
+        }
+    }
+}
+
+/// Runs a job of the program for two operators over three reactions.
+fn run_job<R: Abort + Threads + Wait + Sync, G: Gate>(
+    rt: &R,
+    alloc: Global,
+    job: &Job,
+    gate: &G,
+    by: By,
+) -> Result<(), Fail> {
+    let mut driven = Driven::new(alloc);
+    let closed = end_of(rt, alloc, job, gate, by, &mut driven)?;
+    assert_eq!(rt; driven.number(), 71);
+    assert_eq!(rt; driven.counts(), [18, 19, 16, 18].as_slice());
+    assert_eq!(rt; driven.words(), [1, 0, 1, 0, 6, 0, 1, 0, 1, 0].as_slice());
+    expect(rt, closed.rows(), &[[6, 6], [0, 0], [1, 1]]);
+    Ok(())
+}
+
+/// Runs the program for two operators over three reactions.
+fn run<R: Abort + Threads + Wait + Sync, G: Gate>(
+    rt: &R,
+    alloc: Global,
+    gate: &G,
+    by: By,
+) -> Result<(), Fail> {
+    let flat = graph_of_two(rt, alloc)?;
+    let archi = two_operators(rt, alloc)?;
+    let program = program(alloc, 1)?;
+    let rows = sensed(rt, alloc, &flat)?;
+    let opening = opening_of(alloc, &flat)?;
+    match job(rt, &program, &flat, &archi, &rows, opening, &ORDER) {
+        Ok(job) => run_job(rt, alloc, &job, gate, by),
+        Err(_) => panic!(rt; "a limit"),
+    }
+}
+
+#[test]
+fn whoever_drives_the_end_is_the_same(rt: HostRuntime) -> Result<(), Fail> {
+    run(&rt, rt.alloc(), &GateFree, By::Alone)?;
+    for workers in [1, 2, 3, 4, 80] {
+        run(&rt, rt.alloc(), &GateFree, By::Workers(workers))?;
+    }
+    Ok(())
+}
+
+#[test]
+fn two_sequences_of_two_workers_meet(rt: HostRuntime) -> Result<(), Fail> {
+    for (by, given_up) in [(By::Workers(4), 0), (By::Workers(1), 1), (By::Alone, 1)] {
+        let gate = Meeting::new();
+        run(&rt, rt.alloc(), &gate, by)?;
+        assert!(rt; gate.has_marks());
+        assert_eq!(rt; gate.given_up(), given_up, "{by:?}");
+    }
+    Ok(())
+}
+
+#[test]
+fn each_step_is_asked_for_once(rt: HostRuntime) -> Result<(), Fail> {
+    for by in [By::Workers(4), By::Workers(1), By::Alone] {
+        let gate = Counting::new();
+        run(&rt, rt.alloc(), &gate, by)?;
+        assert_eq!(rt; gate.asked(), [18, 19, 16, 18], "{by:?}");
+        assert_eq!(rt; gate.out_of_turn(), 0, "{by:?}");
+    }
+    Ok(())
+}
+
+#[test]
+fn a_sequence_waits_for_one_that_is_held(rt: HostRuntime) -> Result<(), Fail> {
+    for (by, at_release) in [(By::Workers(4), 6), (By::Alone, 0)] {
+        let gate = Holding::new();
+        run(&rt, rt.alloc(), &gate, by)?;
+        assert_eq!(rt; gate.at_release(), at_release, "{by:?}");
+    }
+    Ok(())
+}
