@@ -1,0 +1,54 @@
+-- What making periods keeps, and what it makes.
+use Rattle.std.specs.Prelude.{◌≡◌, ℕ, suc, ◌+◌, ◌*◌, ◌≤◌, List, ◌∷◌, length, Option, Some, None, codes}
+use Rattle.level_meaning.specs.declared.part.Part.TheVariants.{Named, Numbered}
+use Rattle.level_meaning.specs.Level.{Values, State, Path}
+use Rattle.algo_tree.specs.Tree.{Label, Vertex, vertex, Vertices, no_vertices, and_vertex}
+use Rattle.algo_tree.specs.Meaning.{vertices_in, past, act_row}
+use Rattle.algo_tree.specs.Counted.{operations}
+use Rattle.algo_tree.specs.Valid.{IsTree}
+use Rattle.multi_period.specs.declared.mark.Mark.{Mark}
+use Rattle.multi_period.specs.Marks.{mark_at}
+use Rattle.multi_period.specs.Meaning.{act_row_at, history}
+use Rattle.multi_period.specs.Periods.{periods, period}
+
+-- in each reaction the actuators of another main graph take what the meaning with periods says
+abbrev pub DoesAsMarked : List Mark → Vertex → Vertex → Type 0
+DoesAsMarked marks main made = (rows : List Values) (k : ℕ) → act_row made rows k ≡ act_row_at marks main rows k
+
+abbrev pub PeriodsKeep : List Mark → Vertex → Type 0
+PeriodsKeep marks main = DoesAsMarked marks main (periods marks main)
+
+-- a marked reference of m operations and q outputs becomes m + 2n + 3q
+abbrev pub PeriodCounts : Mark → Label → Vertices → Type 0
+PeriodCounts m l us = operations (period m l us) ≡ operations (vertex l us) + (2 * m.every + 3 * length l.outs)
+
+abbrev pub added_by : Option Mark → Label → ℕ
+added_by None l = 0
+added_by (Some m) l = 2 * m.every + 3 * length l.outs
+
+-- what the marks add, without making anything
+abbrev pub added : (ℕ → Option Mark) → Vertices → ℕ
+added mark no_vertices = 0
+added mark (and_vertex (vertex l vs) us) = added_by (mark 0) l + added (λ r. mark (suc r)) us
+
+abbrev pub PeriodsCount : List Mark → Vertex → Type 0
+PeriodsCount marks main = operations (periods marks main) ≡ operations main + added (mark_at marks) (vertices_in main)
+
+-- what has few enough operations is a tree again
+abbrev pub PeriodsAreTrees : List Mark → Vertex → Type 0
+PeriodsAreTrees marks main = operations (periods marks main) ≤ 2048 → IsTree (periods marks main)
+
+-- where what stood below a reference stands
+abbrev pub moved : Option Mark → Path → Path
+moved None q = q
+moved (Some m) q = Named (codes "body") ∷ Numbered 0 ∷ Named (codes "run") ∷ q
+
+abbrev pub ValuesMoved : (ℕ → Option Mark) → State → State → Vertices → Type 0
+ValuesMoved mark before after no_vertices = Unit {0}
+ValuesMoved mark before after (and_vertex (vertex l vs) us) =
+    ((q : Path) → after (l.part ∷ moved (mark 0) q) ≡ before (l.part ∷ q)) × ValuesMoved (λ r. mark (suc r)) before after us
+
+-- what is kept below each reference is kept in the made tree after each reaction
+abbrev pub PeriodsKeepValues : List Mark → Vertex → Type 0
+PeriodsKeepValues marks main =
+    (rows : List Values) (k : ℕ) → ValuesMoved (mark_at marks) (history (mark_at marks) main rows k).past (past (periods marks main) rows k) (vertices_in main)

@@ -1,0 +1,33 @@
+-- What is said of a declared vertex, and what stands inside it.
+use Rattle.std.specs.Prelude.{◌≡◌, ℕ, suc, ◌+◌, ◌<◌, ◌^◌, List, [], ◌∷◌, ◌++◌, length}
+use Rattle.level_meaning.specs.declared.source.Source.{Source}
+use Rattle.level_meaning.specs.declared.source.Source.TheVariants.{Of}
+use Rattle.level_meaning.specs.declared.part.Part.{Part}
+use Rattle.algo_tree.specs.Tree.{Label, Kind, Vertices}
+use Rattle.algo_tree.specs.View.{label_view, vertices_view}
+use Rattle.algo_tree.specs.declared.vertex.Vertex.{Vertex, out-Vertex}
+use Rattle.multi_period.specs.declared.ports.Ports.{Ports}
+use Rattle.multi_period.specs.Periods.{inputs_from, firsts}
+
+abbrev pub label_seen : Vertex → Label
+label_seen u = label_view (out-Vertex u)
+
+abbrev pub inside_seen : Vertex → Vertices
+inside_seen u = vertices_view (out-Vertex u).inner.items
+
+-- How many inputs and outputs. The switch stands behind the count and a delay for each output; its kept inputs stand behind the count's
+-- and the reference's own. These numbers have 32 bits.
+pub record ArePorts (p : Ports) (l : Label) : Type 0 where
+  pub ins : p.ins ≡ length l.ins
+  pub outs : p.outs ≡ length l.outs
+  pub switch : p.switch ≡ suc (length l.outs)
+  pub kept : p.kept ≡ suc (length l.ins)
+  pub few : p.kept + p.outs < 2 ^ 32
+
+-- a label of the same definition with the same outputs, without guards
+abbrev pub relabelled : Label → Part → List Source → Kind → Label
+relabelled l p ins k = record { part = p; definition = l.definition; ins = ins; guards = []; outs = l.outs; names = l.names; kind = k }
+
+-- the inputs of the switch behind its count
+abbrev pub body_ins : ℕ → ℕ → List Source
+body_ins a q = Of 0 0 ∷ (inputs_from 0 a ++ firsts q)

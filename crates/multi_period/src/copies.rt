@@ -1,0 +1,101 @@
+//! Copies of vertices.
+ghost use Rattle.std.specs.Prelude.{◌≡◌, [], IfOk, map};
+ghost use Rattle.algo_tree.specs.Tree.{vertex as plain_vertex};
+ghost use Rattle.algo_tree.specs.View.{kind_view, view, vertices_view};
+ghost use Rattle.multi_period.specs.Periods.{run as runs};
+ghost use Rattle.multi_period.specs.Seen.{ArePorts, label_seen, inside_seen, relabelled as labelled};
+
+use crate::ports::{Ports, inputs_from};
+use algo_tree::{Kind, Vertex};
+use level_meaning::{Part, Source};
+use std::alloc::Global;
+use syn_base::{Items, OutOfMemory};
+use tree_copy::{
+    copy_bytes, copy_guards, copy_kind, copy_lens, copy_names, copy_part, copy_sources,
+};
+
+/// The same vertex, with copies of all that is inside it.
+#[cycle(copied)]
+pub fn copied(alloc: Global, vertex: &Vertex) -> Result<Vertex, OutOfMemory>
+    ensures { IfOk result (λ u. view u ≡ view vertex.now) }
+{
+    let inner = copied_each(alloc, &vertex.inner)?;
+    with_inside(alloc, vertex, inner)
+}
+
+/// The same vertices.
+#[cycle(copied)]
+fn copied_each(alloc: Global, vertices: &Vec<Vertex>) -> Result<Vec<Vertex>, OutOfMemory>
+    ensures { IfOk result (λ us. map view us.items ≡ map view vertices.now.items) }
+{
+    let mut all = Vec::new(alloc);
+    for vertex in vertices {
+        all.push(copied(alloc, vertex)?)?;
+    }
+    Ok(all)
+}
+
+/// What is said of a vertex, with these vertices inside.
+pub fn with_inside(
+    alloc: Global,
+    vertex: &Vertex,
+    inner: Vec<Vertex>,
+) -> Result<Vertex, OutOfMemory>
+    ensures { IfOk result (λ u. view u ≡ plain_vertex (label_seen vertex.now) (vertices_view inner.items)) }
+{
+    let part = copy_part(alloc, &vertex.part)?;
+    let definition = copy_bytes(alloc, vertex.definition.as_slice())?;
+    let ins = copy_sources(alloc, vertex.ins.as_slice())?;
+    let guards = copy_guards(alloc, vertex.guards.as_slice())?;
+    let outs = copy_lens(alloc, vertex.outs.as_slice())?;
+    let names = copy_names(alloc, vertex.names.as_slice())?;
+    let kind = copy_kind(alloc, &vertex.kind)?;
+    Ok(Vertex {
+        part,
+        definition,
+        ins,
+        guards,
+        outs,
+        names,
+        kind,
+        inner,
+    })
+}
+
+/// A vertex without guards that has the definition and the outputs of this one.
+pub fn relabelled(
+    alloc: Global,
+    vertex: &Vertex,
+    part: Part,
+    ins: Items<Source>,
+    kind: Kind,
+    inner: Vec<Vertex>,
+) -> Result<Vertex, OutOfMemory>
+    ensures { IfOk result (λ u. view u ≡ plain_vertex (labelled (label_seen vertex.now) part ins (kind_view kind)) (vertices_view inner.items)) }
+{
+    let definition = copy_bytes(alloc, vertex.definition.as_slice())?;
+    let outs = copy_lens(alloc, vertex.outs.as_slice())?;
+    let names = copy_names(alloc, vertex.names.as_slice())?;
+    Ok(Vertex {
+        part,
+        definition,
+        ins,
+        guards: Items::new(Vec::new(alloc)),
+        outs,
+        names,
+        kind,
+        inner,
+    })
+}
+
+/// The reference itself, inside the case in which it runs.
+pub fn run(alloc: Global, vertex: &Vertex, ports: Ports) -> Result<Vertex, OutOfMemory>
+    requires { ArePorts ports (label_seen vertex.now) }
+    ensures { IfOk result (λ u. view u ≡ runs (label_seen vertex.now) (inside_seen vertex.now)) }
+{
+    let part = Part::Named(copy_bytes(alloc, b"run")?);
+    let ins = Items::new(inputs_from(alloc, 0, ports.ins)?);
+    let kind = copy_kind(alloc, &vertex.kind)?;
+    let inner = copied_each(alloc, &vertex.inner)?;
+    relabelled(alloc, vertex, part, ins, kind, inner)
+}

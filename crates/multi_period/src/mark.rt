@@ -1,0 +1,11 @@
+//! A mark on a reference.
+
+/// A reference of the main graph runs in the reactions that `every` divides; in the others its outputs keep
+/// their last values, and the delays inside it stand still.
+#[derive(Clone, Copy, Debug, PartialEq, Eq)]
+pub struct Mark {
+    /// The place of the reference in the main graph, from 0.
+    pub reference: u32,
+    /// In every how many reactions it runs, 1 to 16.
+    pub every: u32,
+}
