@@ -3,11 +3,14 @@ use crate::formula::Formula;
 use body_lang::Port;
 use syn_base::{Items, Name};
 
-/// A line `ref R DEF`.
+/// A line `ref R DEF`, or `ref R DEF every N` from version 3 on.
 #[derive(Drop)]
 pub struct Reference {
     pub name: Name,
     pub def: Name,
+    /// The mark, from 1 to 16: the reference runs in the reactions that this number divides. Without
+    /// one it runs in each.
+    pub every: Option<u32>,
     pub line: u32,
 }
 

@@ -38,6 +38,8 @@ pub enum AlgoCause {
     BadRepeat,
     /// A number of initial values that is no multiple of the depth of their delay.
     BadDelay,
+    /// The reference with a mark that may have none.
+    BadEvery(Name),
 }
 
 /// A refusal, at a line of the text, from 1; line 0 is the whole.

@@ -18,6 +18,7 @@ fn graph(alloc: Global, line: u32, refers_to: &[&[u8]]) -> Result<Body, Fail> {
         references.push(Reference {
             name: Name::new(alloc, b"r")?,
             def: Name::new(alloc, refers)?,
+            every: None,
             line: number,
         })?;
         number = number.wrapping_add(1);

@@ -30,7 +30,7 @@ record VersionBack (v : ℕ) : Type 0 where
 
 version_back : (w : Bytes) (v : ℕ) → version_of w ≡ Some v → VersionBack v
 unfolding digits
-version_back w v h = by (bytes_eq w (codes "1")) (bytes_eq w (codes "2")) h
+version_back w v h = by (bytes_eq w (codes "1")) (bytes_eq w (codes "2")) (bytes_eq w (codes "3")) h
   where
     first : VersionBack 1
     first = record { again = refl; plain = refl }
@@ -38,10 +38,14 @@ version_back w v h = by (bytes_eq w (codes "1")) (bytes_eq w (codes "2")) h
     second : VersionBack 2
     second = record { again = refl; plain = refl }
 
-    by : (p q : Bool) → cond p (Some 1) (cond q (Some 2) None) ≡ Some v → VersionBack v
-    by true q h = let same : 1 ≡ v = cc in subst VersionBack same first
-    by false true h = let same : 2 ≡ v = cc in subst VersionBack same second
-    by false false h = cc
+    third : VersionBack 3
+    third = record { again = refl; plain = refl }
+
+    by : (p q r : Bool) → cond p (Some 1) (cond q (Some 2) (cond r (Some 3) None)) ≡ Some v → VersionBack v
+    by true q r h = let same : 1 ≡ v = cc in subst VersionBack same first
+    by false true r h = let same : 2 ≡ v = cc in subst VersionBack same second
+    by false false true h = let same : 3 ≡ v = cc in subst VersionBack same third
+    by false false false h = cc
 
 module _ (k : Numbered) (version : ℕ) (names : List Bytes) (defs : List Def) (b : Block) (same : AreSame k defs b) where
   version_step : (n : ℕ) (ws : List Bytes) (r : Reading) → defs ≡ []

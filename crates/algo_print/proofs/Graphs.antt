@@ -1,5 +1,5 @@
 -- Lines of graphs add canonical lines.
-use Rattle.std.proofs.Common.{◌≡◌, ℕ, ◌<◌, ◌≤◌, ◌==◌, not, ◌||◌, true, false, List, [], ◌∷◌, ◌++◌, length, map, Some, Result, Ok, refl, arith, ap, ap₂, ◌∙◌, subst, codes, ◌+◌}
+use Rattle.std.proofs.Common.{◌≡◌, ℕ, ◌<◌, ◌≤◌, ◌==◌, Bool, not, ◌&&◌, ◌||◌, true, false, cond, List, [], ◌∷◌, ◌++◌, length, map, Option, Some, None, Result, Ok, refl, arith, ap, ap₂, ◌∙◌, subst, codes, ◌+◌}
 use Rattle.std.proofs.lemmas.List.{map-append}
 use Rattle.syn_base.specs.Name.{is_name}
 use Rattle.body_lang.specs.declared.expression.Port.{Port}
@@ -10,21 +10,27 @@ use Rattle.algo_defs.specs.declared.definition.Edge.{Edge}
 use Rattle.algo_defs.specs.declared.definition.Reference.{Reference}
 use Rattle.algo_defs.specs.declared.fault.AlgoError.{AlgoError}
 use Rattle.algo_defs.specs.Words.{Bytes, is_among}
-use Rattle.algo_text.specs.Words.{word, end_of}
-use Rattle.algo_text.specs.Blocks.{Block, in_line, out_line, reference_line, edge_line}
+use Rattle.algo_text.specs.Words.{word, period_of, end_of}
+use Rattle.algo_text.specs.Blocks.{Block, in_line, out_line, reference_of, with_reference, plain_line, marked_line, reference_line, edge_line}
 use Rattle.algo_text.specs.Text.{in_graph, Reading, begins, in_block, block_end, graph_line}
-use Rattle.algo_text.proofs.Checks.{either, finds, found, held, holds, neither, never, not_false, passed, passes, same_ok}
+use Rattle.algo_text.proofs.Checks.{either, finds, found, holds, never, passed, passes, reads, same_ok}
+use Rattle.algo_text.proofs.References.{IsMark, ReferenceRead, reference_read}
 use Rattle.algo_text.specs.declared.part.Part.TheVariants.{Inputs, Outputs, References, Edges}
 use Rattle.algo_text.specs.Parts.{rank, admits}
 use Rattle.algo_text.proofs.Parts.{admitted}
 use Rattle.syn_base.specs.declared.limits.LimitKind.TheVariants as limits
 use Rattle.algo_text.specs.Blocks.{is_above}
-use Rattle.algo_print.specs.Canonical.{port_words, reference_words, edge_words, end_word}
+use Rattle.algo_print.specs.Canonical.{count, port_words, reference_words, edge_words, end_word}
 use Rattle.algo_print.specs.ReadBack.{bare_reference, bare_edge}
-use Rattle.algo_print.proofs.Spelled.{name_word}
+use Rattle.algo_print.proofs.Pieces.{is_word, are_words, and_true}
+use Rattle.algo_print.proofs.Spelled.{name_word, count_word, PeriodRead, period_read}
 use Rattle.algo_print.proofs.Ends.{end_read, end_again}
-use Rattle.algo_print.proofs.State.{Lines, GraphOrder, Numbered, numbered, AreSame, Adds, more, same_length, same_names}
+use Rattle.algo_print.proofs.State.{Lines, GraphOrder, Numbered, numbered_block, numbered, AreSame, Adds, more, same_length, same_names}
 use Rattle.algo_print.proofs.BlockLines.{in_front, behind, no_lines, key_words, IntoBlock, into_block, alike, block_adds, end_adds, InRead, in_read, OutRead, out_read}
+
+and_false : (t : Bool) → (t && false) ≡ false
+and_false true = refl
+and_false false = refl
 
 module _ (k : Numbered) (version : ℕ) (names : List Bytes) (defs : List Def) (b : Block) (same : AreSame k defs b) (order : GraphOrder b) where
   abbrev here : Reading
@@ -86,21 +92,35 @@ module _ (k : Numbered) (version : ℕ) (names : List Bytes) (defs : List Def) (
       (λ m. alike k defs b c same refl refl refl refl)
       (record { no_outs = λ low. absurd (omega (arith, low)); no_references = λ low. order.no_references (omega arith); no_edges = λ low. order.no_edges (omega arith) }))
 
-  abbrev with_reference : Reference → Block
-  with_reference x = record b { part = References; references = b.references ++ x ∷ [] }
+  -- a reference in the line with number m
+  abbrev referred : Bytes → Bytes → Option ℕ → ℕ → Reference
+  referred w def every m = record { name = w; def = def; every = every; line = m }
 
-  reference_adds : (n : ℕ) (w def : Bytes) → is_name w ≡ true → is_name def ≡ true → admits b.part References ≡ true → is_above limits.References (length b.references + 1) ≡ false → is_among w (map (λ x. x.name) b.references) ≡ false
-      → Adds k in_graph version names defs b (record here { block = with_reference (record { name = w; def = def; line = n }) })
-  reference_adds n w def named known admits_it few free =
-      let at : ℕ → Reference = λ m. record { name = w; def = def; line = m } in
+  abbrev with_one : Reference → Block
+  with_one x = record b { part = References; references = b.references ++ x ∷ [] }
+
+  -- the same with other numbers of lines
+  abbrev numbered_one : Reference → Block
+  numbered_one x = record (numbered_block k b) { part = References; references = k.references ++ x ∷ [] }
+
+  -- the line of a reference says what its first part and its mark say
+  abbrev IsReferred : Bytes → Bytes → Option ℕ → Type 0
+  IsReferred w def every = (m : ℕ) (c : Block) → with_reference (numbered_block k b) (referred w def every m) ≡ Ok c
+      → reference_line version (numbered_block k b) m (reference_words (referred w def every m)) ≡ Ok c
+
+  reference_adds : (n : ℕ) (w def : Bytes) (every : Option ℕ) → admits b.part References ≡ true → is_above limits.References (length b.references + 1) ≡ false → is_among w (map (λ x. x.name) b.references) ≡ false
+      → are_words (reference_words (referred w def every n)) ≡ true → (length (reference_words (referred w def every n)) == 0) ≡ false → IsReferred w def every
+      → Adds k in_graph version names defs b (record here { block = with_one (referred w def every n) })
+  reference_adds n w def every admits_it few free plain some says =
+      let at : ℕ → Reference = referred w def every in
       let high : rank b.part ≤ rank References = (admitted b.part References admits_it).1 in
-      block_adds k in_graph version names defs b same (λ x. refl) (with_reference (at n)) (reference_words (at n)) (λ m. record k { references = k.references ++ at m ∷ [] })
-      (key_words (codes "ref") w def refl (name_word w named) (name_word def known)) refl
+      block_adds k in_graph version names defs b same (λ x. refl) (with_one (at n)) (reference_words (at n)) (λ m. record k { references = k.references ++ at m ∷ [] })
+      plain some
       (ap (λ (ls : Lines). (codes "graph" ∷ b.name ∷ []) ∷ ls)
       (behind inputs _ _ (reference_words (at n)) (behind outputs _ _ (reference_words (at n)) (in_front reference_words b.references (at n) edges (no_edge_lines (omega arith))))))
-      (λ m. ap (in_block there) (passes _ _ _ _ (ap not admits_it) (holds _ _ _ _ named (holds _ _ _ _ known
+      (λ m. ap (in_block there) (says m (numbered_one (at m))
       (passes _ _ _ _ (ap (λ (m : ℕ). is_above limits.References (m + 1)) (same_length bare_reference k.references b.references same.references_same) ∙ few)
-      (passes _ _ _ _ (ap (is_among w) (same_names k.references b.references same.references_same) ∙ free) refl))))))
+      (passes _ _ _ _ (ap (is_among w) (same_names k.references b.references same.references_same) ∙ free) refl))))
       (λ m. record {
         defs_same = same.defs_same;
         references_same = more bare_reference k.references b.references (at m) (at n) same.references_same refl;
@@ -110,17 +130,40 @@ module _ (k : Numbered) (version : ℕ) (names : List Bytes) (defs : List Def) (
       })
       (record { no_outs = λ low. absurd (omega (arith, low)); no_references = λ low. absurd (omega (arith, low)); no_edges = λ low. order.no_edges (omega arith) })
 
-  reference_step : (n : ℕ) (ws : List Bytes) (r : Reading) → in_block here (reference_line b n ws) ≡ Ok r → Adds k in_graph version names defs b r
+  -- the names of a line are read again
+  names_again : (m : ℕ) (w def : Bytes) (more : List Bytes) → is_name w ≡ true → is_name def ≡ true → reference_of m (codes "ref" ∷ w ∷ def ∷ more) ≡ Ok (referred w def None m)
+  names_again m w def more named known = holds _ _ _ _ named (holds _ _ _ _ known refl)
+
+  plain_again : (w def : Bytes) → is_name w ≡ true → is_name def ≡ true → admits b.part References ≡ true → IsReferred w def None
+  plain_again w def named known admits_it m c put =
+      let ws : List Bytes = codes "ref" ∷ w ∷ def ∷ [] in
+      ap (λ (t : Bool). cond t (marked_line (numbered_block k b) m ws) (plain_line (numbered_block k b) m ws)) (and_false (version == 3))
+      ∙ passes _ _ _ _ (ap not admits_it) (reads _ _ _ (referred w def None m) (names_again m w def [] named known) put)
+
+  marked_again : (w def : Bytes) (n : ℕ) → is_name w ≡ true → is_name def ≡ true → admits b.part References ≡ true → (version == 3) ≡ true → period_of (count n) ≡ Some n → IsReferred w def (Some n)
+  marked_again w def n named known admits_it third period m c put =
+      let ws : List Bytes = codes "ref" ∷ w ∷ def ∷ codes "every" ∷ count n ∷ [] in
+      ap (λ (t : Bool). cond t (marked_line (numbered_block k b) m ws) (plain_line (numbered_block k b) m ws)) (and_true (version == 3) true third refl)
+      ∙ passes _ _ _ _ (ap not admits_it) (reads _ _ _ (referred w def None m) (names_again m w def (codes "every" ∷ count n ∷ []) named known) (finds _ _ _ _ n period put))
+
+  reference_made : (n : ℕ) (ws : List Bytes) (every : Option ℕ) → IsMark version ws every → admits b.part References ≡ true → is_name (word ws 1) ≡ true → is_name (word ws 2) ≡ true
+      → is_above limits.References (length b.references + 1) ≡ false → is_among (word ws 1) (map (λ x. x.name) b.references) ≡ false
+      → Adds k in_graph version names defs b (record here { block = with_one (referred (word ws 1) (word ws 2) every n) })
+  reference_made n ws None mark admits_it named known few free =
+      reference_adds n (word ws 1) (word ws 2) None admits_it few free
+      (key_words (codes "ref") (word ws 1) (word ws 2) refl (name_word (word ws 1) named) (name_word (word ws 2) known)) refl
+      (plain_again (word ws 1) (word ws 2) named known admits_it)
+  reference_made n ws (Some period) mark admits_it named known few free =
+      let back : PeriodRead period = period_read (word ws 4) period mark.1 in
+      reference_adds n (word ws 1) (word ws 2) (Some period) admits_it few free
+      (and_true (is_word (word ws 1)) _ (name_word (word ws 1) named) (and_true (is_word (word ws 2)) _ (name_word (word ws 2) known) (and_true (is_word (count period)) true (count_word period back.low) refl)))
+      refl (marked_again (word ws 1) (word ws 2) period named known admits_it mark.0 back.again)
+
+  reference_step : (n : ℕ) (ws : List Bytes) (r : Reading) → in_block here (reference_line version b n ws) ≡ Ok r → Adds k in_graph version names defs b r
   reference_step n ws r h =
-      let into : IntoBlock here (reference_line b n ws) r = into_block here (reference_line b n ws) r h in
-      let form = passed (not (length ws == 3) || not (admits b.part References)) _ _ into.block into.is in
-      let order_is = neither (not (length ws == 3)) (not (admits b.part References)) form.0 in
-      let named = held (is_name (word ws 1)) _ _ into.block form.1 in
-      let known = held (is_name (word ws 2)) _ _ into.block named.1 in
-      let few = passed (is_above limits.References (length b.references + 1)) _ _ into.block known.1 in
-      let free = passed (is_among (word ws 1) (map (λ x. x.name) b.references)) _ _ into.block few.1 in
-      from (reference_line b n ws) r _ into (same_ok _ into.block free.1)
-      (reference_adds n (word ws 1) (word ws 2) named.0 known.0 (not_false (admits b.part References) order_is.1) few.0 free.0)
+      let into : IntoBlock here (reference_line version b n ws) r = into_block here (reference_line version b n ws) r h in
+      let x : ReferenceRead version b n ws into.block = reference_read version b n ws into.block into.is in
+      from (reference_line version b n ws) r _ into x.after_is (reference_made n ws x.every x.mark x.at x.named x.known x.few x.free)
 
   abbrev with_edge : Edge → Block
   with_edge x = record b { part = Edges; edges = b.edges ++ x ∷ [] }

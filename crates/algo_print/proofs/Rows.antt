@@ -76,3 +76,10 @@ deep : Prints
     (codes "algorithm 2" ∷ codes "delay Mem 1 = 100" ∷ codes "delay D 2 = 1 0 3 4" ∷ codes "constant C = 0" ∷ [])
 unfolding digits
 deep = refl
+
+-- marks of references
+marked : Prints
+    (codes "algorithm 3" ∷ codes "graph G" ∷ codes "ref  f F  every 02 # seldom" ∷ codes "ref g F" ∷ codes "ref every every every 16" ∷ codes "end" ∷ [])
+    (codes "algorithm 3" ∷ codes "graph G" ∷ codes "ref f F every 2" ∷ codes "ref g F" ∷ codes "ref every every every 16" ∷ codes "end" ∷ [])
+unfolding digits
+marked = refl

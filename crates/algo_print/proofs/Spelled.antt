@@ -20,7 +20,7 @@ use Rattle.body_text.proofs.CanonicalText.{text_of}
 use Rattle.body_text.proofs.CanonicalPorts.{known, same_text}
 use Rattle.body_text.specs.Grammar.{written}
 use Rattle.algo_defs.specs.Words.{Bytes}
-use Rattle.algo_text.specs.Words.{number_of, number_by, count_of, count_by}
+use Rattle.algo_text.specs.Words.{number_of, number_by, count_of, count_by, period_of, period_by}
 use Rattle.algo_text.specs.Blocks.{is_equals}
 use Rattle.algo_print.specs.Canonical.{count}
 use Rattle.algo_print.proofs.Pieces.{is_plain, is_word, both, plain_word, passes, joins, word_more}
@@ -164,6 +164,28 @@ count_some None n h = cc
 -- what is read as a length is above 0
 pub count_positive : (w : Bytes) (n : ℕ) → count_of w ≡ Some n → (n == 0) ≡ false
 count_positive w n h = count_some (number_of w) n h
+
+within_16 : (n : ℕ) → nat_le n 16 ≡ true → nat_lt 64 n ≡ false
+within_16 n h = grind arith
+
+-- what is read as the number of a mark, which is read back
+pub record PeriodRead (n : ℕ) : Type 0 where
+  pub low : nat_lt 64 n ≡ false
+  pub again : period_of (count n) ≡ Some n
+
+period_kept : (m n : ℕ) (c : Bool) → nat_le m 16 ≡ c → (m == 0) ≡ false → (if c then Some m else None) ≡ Some n → PeriodRead n
+period_kept m n true most some h =
+    let same : m ≡ n = cc in
+    let low : nat_lt 64 m ≡ false = within_16 m most in
+    subst PeriodRead same (record { low = low; again = ap period_by (count_back m some low) ∙ ap (λ c. if c then Some m else None) most })
+period_kept m n false most some h = cc
+
+period_by_count : (w : Bytes) (n : ℕ) (o : Option ℕ) → count_of w ≡ o → period_by o ≡ Some n → PeriodRead n
+period_by_count w n (Some m) counted h = period_kept m n (nat_le m 16) refl (count_positive w m counted) h
+period_by_count w n None counted h = cc
+
+pub period_read : (w : Bytes) (n : ℕ) → period_of w ≡ Some n → PeriodRead n
+period_read w n h = period_by_count w n (count_of w) refl h
 
 -- what is read as a number is read back
 pub number_back : (w : Bytes) (v : ℤ) → number_of w ≡ Some v → number_of (signed_decimal v) ≡ Some v

@@ -45,8 +45,13 @@ port_words key p = key ∷ p.name ∷ count p.len ∷ []
 abbrev pub output_words : List Port → Output → List Bytes
 output_words ins o = codes "out" ∷ o.port.name ∷ count o.port.len ∷ codes "=" ∷ canonical (map (λ p. p.name) ins) o.formula ∷ []
 
+-- a mark, where there is one
+abbrev pub mark_words : Option ℕ → List Bytes
+mark_words None = []
+mark_words (Some n) = codes "every" ∷ count n ∷ []
+
 abbrev pub reference_words : Reference → List Bytes
-reference_words r = codes "ref" ∷ r.name ∷ r.def ∷ []
+reference_words r = codes "ref" ∷ r.name ∷ r.def ∷ mark_words r.every
 
 abbrev pub owned : Option Bytes → Bytes → Bytes
 owned None port = port

@@ -13,7 +13,7 @@ use Rattle.algo_text.specs.Text.{definitions_of}
 
 -- the same with its line's number forgotten
 abbrev pub bare_reference : Reference → Reference
-bare_reference r = record { name = r.name; def = r.def; line = 0 }
+bare_reference r = record { name = r.name; def = r.def; every = r.every; line = 0 }
 
 abbrev pub bare_edge : Edge → Edge
 bare_edge e = record { from = e.from; to = e.to; line = 0 }

@@ -4,8 +4,8 @@ ghost use Rattle.std.specs.Fmt.{signed_decimal};
 ghost use Rattle.body_text.specs.Canonical.{IsRead};
 ghost use Rattle.algo_print.specs.Canonical.{text_of, line_of, spaced, port_words, output_words, reference_words, edge_words, case_words, frontier_words, value_words, delay_words, switch_lines, whole_function, whole_graph, whole_switch, whole_repeat, count};
 
-use crate::lines::{print_case, print_edge, print_frontier, print_output};
-use crate::words::{print_named, print_pair, print_sized, put, put_count, put_number, put_word};
+use crate::lines::{print_case, print_edge, print_frontier, print_output, print_reference};
+use crate::words::{print_named, print_sized, put, put_count, put_number, put_word};
 use algo_defs::{Case, Edge, FrontierLine, Output, Reference};
 use body_lang::Port;
 use syn_base::OutOfMemory;
@@ -83,12 +83,7 @@ fn print_references(references: &[Reference], text: &mut Vec<u8>) -> Result<(), 
     ensures { OnOk result (text.new.items ≡ text.old.items ++ text_of (map reference_words references.now)) }
 {
     for reference in references {
-        print_pair(
-            b"ref",
-            reference.name.as_bytes(),
-            reference.def.as_bytes(),
-            text,
-        )?;
+        print_reference(reference, text)?;
     }
     Ok(())
 }

@@ -1,10 +1,10 @@
 //! The lines of a block, each kind by itself.
 ghost use Rattle.std.specs.Prelude.{◌≡◌, ◌++◌, ◌∷◌, OnOk, map};
 ghost use Rattle.body_text.specs.Canonical.{IsRead};
-ghost use Rattle.algo_print.specs.Canonical.{end_word, line_of, output_words, edge_words, case_words, words_of_frontier};
+ghost use Rattle.algo_print.specs.Canonical.{end_word, line_of, spaced, mark_words, output_words, reference_words, edge_words, case_words, words_of_frontier};
 
 use crate::words::{print_pair, put, put_count, put_number, put_word};
-use algo_defs::{Case, Edge, End, Frontier, Output};
+use algo_defs::{Case, Edge, End, Frontier, Output, Reference};
 use body_lang::Port;
 use body_text::print_body;
 use syn_base::OutOfMemory;
@@ -23,6 +23,30 @@ pub(crate) fn print_output(
     put_count(output.port.len, text)?;
     put(b" = ", text)?;
     print_body(output.formula.expr(), ins, text)?;
+    put(b"\n", text)
+}
+
+/// Appends a mark where there is one, each of its words after a space.
+fn put_mark(every: Option<u32>, text: &mut Vec<u8>) -> Result<(), OutOfMemory>
+    ensures { OnOk result (text.new.items ≡ text.old.items ++ spaced (mark_words every)) }
+{
+    match every {
+        None => Ok(()),
+        Some(number) => {
+            put(b" every", text)?;
+            put_count(number, text)
+        }
+    }
+}
+
+/// Appends the line of a reference.
+pub(crate) fn print_reference(reference: &Reference, text: &mut Vec<u8>) -> Result<(), OutOfMemory>
+    ensures { OnOk result (text.new.items ≡ text.old.items ++ line_of (reference_words reference.now)) }
+{
+    put(b"ref", text)?;
+    put_word(reference.name.as_bytes(), text)?;
+    put_word(reference.def.as_bytes(), text)?;
+    put_mark(reference.every, text)?;
     put(b"\n", text)
 }
 

@@ -46,6 +46,7 @@ fn reference(alloc: Global, text: &[u8], def: &[u8]) -> Result<Reference, Fail> 
     Ok(Reference {
         name,
         def: Name::new(alloc, def)?,
+        every: None,
         line: 0,
     })
 }

@@ -1,14 +1,14 @@
 //! The lines of a graph.
-ghost use Rattle.std.specs.Prelude.{◌≡◌, IsTrue, map, true};
+ghost use Rattle.std.specs.Prelude.{◌≡◌, ◌≤◌, IsTrue, map, true, length};
 ghost use Rattle.syn_base.specs.Name.{is_name};
 ghost use Rattle.algo_defs.specs.Words.{is_among};
-ghost use Rattle.algo_text.specs.Blocks.{in_line, out_line, reference_line, edge_line, is_taken, new_block};
-ghost use Rattle.algo_reader.specs.Given.{Steps};
+ghost use Rattle.algo_text.specs.Blocks.{in_line, out_line, reference_of, with_reference, plain_line, marked_line, reference_line, edge_line, is_taken, new_block};
+ghost use Rattle.algo_reader.specs.Given.{Makes, Steps};
 ghost use Rattle.algo_reader.specs.Views.{graph_view};
 
-use crate::fault::{above, bad_line, bad_name, duplicate, is_above, push};
+use crate::fault::{above, bad_line, bad_name, bad_number, duplicate, is_above, push};
 use crate::ports::{Ports, read_port};
-use crate::word::{read_end, read_name};
+use crate::word::{read_end, read_name, read_period};
 use crate::words::Words;
 use algo_defs::{AlgoError, Edge, Reference};
 use algo_text::Part;
@@ -37,6 +37,25 @@ fn has_reference(references: &[Reference], name: &[u8]) -> bool
         }
     }
     false
+}
+
+/// R DEF after `ref`, without a mark.
+fn read_reference(alloc: Global, number: u32, words: &Words) -> Result<Reference, AlgoError>
+    requires { 3 ≤ length words.now }
+    ensures { Makes result (reference_of number words.now) }
+{
+    let Some(name) = read_name(alloc, words.get(1))? else {
+        return Err(bad_name(alloc, number, words.get(1)));
+    };
+    let Some(def) = read_name(alloc, words.get(2))? else {
+        return Err(bad_name(alloc, number, words.get(2)));
+    };
+    Ok(Reference {
+        name,
+        def,
+        every: None,
+        line: number,
+    })
 }
 
 impl GraphBlock {
@@ -95,41 +114,67 @@ impl GraphBlock {
         Ok(())
     }
 
-    /// ref R DEF
-    pub fn reference_line(
-        &mut self,
-        alloc: Global,
-        number: u32,
-        words: &Words,
-    ) -> Result<(), AlgoError>
-        ensures { Steps result (graph_view self.new) (reference_line (graph_view self.old) number words.now) }
+    /// One reference more, of a name that none has.
+    fn add_reference(&mut self, alloc: Global, reference: Reference) -> Result<(), AlgoError>
+        ensures { Steps result (graph_view self.new) (with_reference (graph_view self.old) reference) }
     {
-        if words.len() != 3 || !self.part.admits(Part::References) {
-            return Err(bad_line(number));
-        }
-        let Some(name) = read_name(alloc, words.get(1))? else {
-            return Err(bad_name(alloc, number, words.get(1)));
-        };
-        let Some(def) = read_name(alloc, words.get(2))? else {
-            return Err(bad_name(alloc, number, words.get(2)));
-        };
         let count = self.references.len() as u128 + 1;
         if is_above(LimitKind::References, count) {
             return Err(above(LimitKind::References, count));
         }
-        if has_reference(self.references.as_slice(), words.get(1)) {
-            return Err(duplicate(alloc, number, words.get(1)));
+        if has_reference(self.references.as_slice(), reference.name.as_bytes()) {
+            return Err(duplicate(alloc, reference.line, reference.name.as_bytes()));
         }
         self.part = Part::References;
-        push(
-            &mut self.references,
+        push(&mut self.references, reference)
+    }
+
+    /// ref R DEF
+    fn plain_line(&mut self, alloc: Global, number: u32, words: &Words) -> Result<(), AlgoError>
+        ensures { Steps result (graph_view self.new) (plain_line (graph_view self.old) number words.now) }
+    {
+        if words.len() != 3 || !self.part.admits(Part::References) {
+            return Err(bad_line(number));
+        }
+        let reference = read_reference(alloc, number, words)?;
+        self.add_reference(alloc, reference)
+    }
+
+    /// ref R DEF every N
+    fn marked_line(&mut self, alloc: Global, number: u32, words: &Words) -> Result<(), AlgoError>
+        requires { length words.now ≡ 5 }
+        ensures { Steps result (graph_view self.new) (marked_line (graph_view self.old) number words.now) }
+    {
+        if words.get(3) != b"every".as_slice() || !self.part.admits(Part::References) {
+            return Err(bad_line(number));
+        }
+        let reference = read_reference(alloc, number, words)?;
+        let Some(every) = read_period(words.get(4)) else {
+            return Err(bad_number(alloc, number, words.get(4)));
+        };
+        self.add_reference(
+            alloc,
             Reference {
-                name,
-                def,
-                line: number,
+                every: Some(every),
+                ..reference
             },
-        )?;
-        Ok(())
+        )
+    }
+
+    /// A reference, which may have a mark in version 3.
+    pub fn reference_line(
+        &mut self,
+        alloc: Global,
+        version: u32,
+        number: u32,
+        words: &Words,
+    ) -> Result<(), AlgoError>
+        ensures { Steps result (graph_view self.new) (reference_line version (graph_view self.old) number words.now) }
+    {
+        if version == 3 && words.len() == 5 {
+            return self.marked_line(alloc, number, words);
+        }
+        self.plain_line(alloc, number, words)
     }
 
     /// edge FROM TO

@@ -487,7 +487,7 @@ impl<'a> Reader<'a> {
             return block.out_line(alloc, number, words);
         }
         if begins(words, b"ref") {
-            return block.reference_line(alloc, number, words);
+            return block.reference_line(alloc, self.version, number, words);
         }
         if begins(words, b"edge") {
             return block.edge_line(alloc, number, words);

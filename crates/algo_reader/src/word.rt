@@ -4,7 +4,7 @@ ghost use Rattle.std.specs.Str.{bytes_eq};
 ghost use Rattle.syn_base.specs.Name.{is_name};
 ghost use Rattle.algo_reader.specs.Given.{GivesSome};
 ghost use Rattle.algo_reader.specs.Lines.{some_name};
-ghost use Rattle.algo_text.specs.Words.{number_of, count_of, end_of, is_dot};
+ghost use Rattle.algo_text.specs.Words.{number_of, count_of, period_of, end_of, is_dot};
 ghost use Rattle.algo_text.specs.Text.{version_of};
 
 use crate::words::Words;
@@ -44,6 +44,16 @@ pub fn read_count(w: &[u8]) -> Option<u64>
     }
 }
 
+/// The number of a mark, from 1 to 16.
+pub fn read_period(w: &[u8]) -> Option<u32>
+    ensures { result ≡ period_of w.now }
+{
+    match read_count(w) {
+        Some(n) => { if n <= 16 { Some(n as u32) } else { None } }
+        None => None,
+    }
+}
+
 /// The version that a word is.
 pub fn read_version(w: &[u8]) -> Option<u32>
     ensures { result ≡ version_of w.now }
@@ -51,6 +61,7 @@ pub fn read_version(w: &[u8]) -> Option<u32>
     match w {
         b"1" => Some(1),
         b"2" => Some(2),
+        b"3" => Some(3),
         _ => None,
     }
 }

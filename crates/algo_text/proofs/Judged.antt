@@ -10,7 +10,7 @@ use Rattle.body_text.specs.Parse.{Parse, good, stops, parse, alone}
 use Rattle.body_text.specs.Reads.{AreFew, place_of, IsUnknown}
 use Rattle.body_text.proofs.Judged.{is_written}
 use Rattle.algo_defs.specs.declared.fault.AlgoCause.{AlgoCause}
-use Rattle.algo_defs.specs.declared.fault.AlgoCause.TheVariants.{NotText, BadLine, BadName, BadNumber, BadExpression, DuplicateName, UnknownName, WrongLength, Unconnected, TwiceConnected, Recursive, Cycle, NoMain, BadCase, Misplaced, BadRepeat, BadDelay}
+use Rattle.algo_defs.specs.declared.fault.AlgoCause.TheVariants.{NotText, BadLine, BadName, BadNumber, BadExpression, DuplicateName, UnknownName, WrongLength, Unconnected, TwiceConnected, Recursive, Cycle, NoMain, BadCase, Misplaced, BadRepeat, BadDelay, BadEvery}
 use Rattle.algo_defs.specs.declared.fault.AlgoError.{AlgoError}
 use Rattle.algo_defs.specs.declared.fault.AlgoError.TheVariants.{Refused, Limit, OutOfMemory}
 use Rattle.algo_defs.specs.Words.{Bytes}
@@ -80,6 +80,7 @@ module _ (line : ℕ) (ports : List Bytes) (text : Bytes) where
   refusal n (Misplaced w) e h = absurd h
   refusal n BadRepeat e h = absurd h
   refusal n BadDelay e h = absurd h
+  refusal n (BadEvery w) e h = absurd h
 
   -- the grammar says one thing of a text
   pub one_formula : (r : Result Expr AlgoError) → IsFormula ports text line r → formula_of line ports text ≡ r

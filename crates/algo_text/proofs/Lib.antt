@@ -4,3 +4,4 @@ pub mod PortNames
 pub mod Judged
 pub mod Checks
 pub mod Parts
+pub mod References

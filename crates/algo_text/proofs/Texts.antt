@@ -1,5 +1,5 @@
 -- What worked texts say.
-use Rattle.std.proofs.Common.{◌≡◌, ℕ, refl, List, [], ◌∷◌, ◌++◌, pos, negsuc, Some, Result, Ok, Err, codes, None}
+use Rattle.std.proofs.Common.{◌≡◌, ℕ, ◌+◌, ◌/◌, ◌%◌, refl, List, [], ◌∷◌, ◌++◌, pos, negsuc, Some, Result, Ok, Err, codes, None}
 use Rattle.std.specs.List.{range_with_len}
 use Rattle.syn_base.specs.declared.arithmetic.Op.TheVariants.{Add}
 use Rattle.syn_base.specs.declared.limits.LimitKind.TheVariants.{PortLength, Copies}
@@ -7,6 +7,7 @@ use Rattle.syn_base.specs.declared.limits.LimitKind.TheVariants as limits
 use Rattle.body_lang.specs.Expr.{literal, element, apply}
 use Rattle.body_text.specs.Words.{form_of}
 use Rattle.algo_defs.specs.declared.definition.Def.{Def}
+use Rattle.algo_defs.specs.declared.definition.Reference.{Reference}
 use Rattle.algo_defs.specs.declared.definition.Defs.{Defs}
 use Rattle.algo_defs.specs.declared.definition.Body.TheVariants.{Sensor, Actuator, Constant, Delay, Function, Graph, Switch, Repeat}
 use Rattle.algo_defs.specs.declared.definition.Frontier.TheVariants.{Fork, Diffuse, Iterate, Join}
@@ -42,7 +43,7 @@ plainest : read (echo (codes "sensor Sense 1") (codes "edge s.o a.i")) ≡ in_fi
       name = codes "main";
       line = 4;
       body = Graph [] []
-          (record { name = codes "s"; def = codes "Sense"; line = 5 } ∷ record { name = codes "a"; def = codes "Act"; line = 6 } ∷ [])
+          (record { name = codes "s"; def = codes "Sense"; every = None; line = 5 } ∷ record { name = codes "a"; def = codes "Act"; every = None; line = 6 } ∷ [])
           (record { from = record { owner = Some (codes "s"); port = codes "o" }; to = record { owner = Some (codes "a"); port = codes "i" }; line = 7 } ∷ []);
     } ∷ [])
 plainest = refl
@@ -226,8 +227,8 @@ no_depth = refl
 no_groups : deep (codes "delay E 2 =") ≡ refused 4 BadLine
 no_groups = refl
 
-no_third_version : read (codes "algorithm 3" ∷ []) ≡ refused 1 BadLine
-no_third_version = refl
+no_fourth_version : read (codes "algorithm 4" ∷ []) ≡ refused 1 BadLine
+no_fourth_version = refl
 
 -- the causes in their order, each before the next
 form_first : deep (codes "delay 1x 0 1 y") ≡ refused 4 BadLine
@@ -274,3 +275,97 @@ length_before_name = refl
 
 name_last : deep (delay_of_zeros (codes "delay D 2 =") 128) ≡ refused 4 (DuplicateName (codes "D"))
 name_last = refl
+
+-- version 3: a reference may have a mark, and all else is as in version 2
+abbrev in_third : List Def → Result Defs AlgoError
+in_third defs = Ok (record { version = 3; defs = defs })
+
+-- a graph without ports and edges, in line 2
+abbrev graph_of : List Reference → Def
+graph_of references = record { name = codes "G"; line = 2; body = Graph [] [] references [] }
+
+abbrev graph_in : Bytes → List Bytes → Result Defs AlgoError
+graph_in version ls = read (version ∷ codes "graph G" ∷ ls)
+
+abbrev third : List Bytes → Result Defs AlgoError
+third = graph_in (codes "algorithm 3")
+
+marked : third (codes "ref f F every 2" ∷ codes "ref g G" ∷ codes "ref h F every 16" ∷ codes "ref k F every 1" ∷ codes "end" ∷ []) ≡ in_third (graph_of (
+    record { name = codes "f"; def = codes "F"; every = Some 2; line = 3 }
+    ∷ record { name = codes "g"; def = codes "G"; every = None; line = 4 }
+    ∷ record { name = codes "h"; def = codes "F"; every = Some 16; line = 5 }
+    ∷ record { name = codes "k"; def = codes "F"; every = Some 1; line = 6 } ∷ []) ∷ [])
+marked = refl
+
+-- a mark is a number by value, and no name is kept for it
+every_everywhere : third (codes "ref every every every 002" ∷ codes "end" ∷ []) ≡ in_third (graph_of (record { name = codes "every"; def = codes "every"; every = Some 2; line = 3 } ∷ []) ∷ [])
+every_everywhere = refl
+
+deep_in_third : read (codes "algorithm 3" ∷ codes "delay D 2 = 1 2" ∷ []) ≡ in_third (record { name = codes "D"; line = 2; body = Delay 2 (pos 1 ∷ pos 2 ∷ []) } ∷ [])
+deep_in_third = refl
+
+no_depth_in_third : read (codes "algorithm 3" ∷ codes "delay D = 1 2" ∷ []) ≡ refused 2 BadLine
+no_depth_in_third = refl
+
+mark_in_first : graph_in (codes "algorithm 1") (codes "ref f F every 2" ∷ []) ≡ refused 3 BadLine
+mark_in_first = refl
+
+mark_in_second : graph_in (codes "algorithm 2") (codes "ref f F every 2" ∷ []) ≡ refused 3 BadLine
+mark_in_second = refl
+
+other_word : third (codes "ref f F each 2" ∷ []) ≡ refused 3 BadLine
+other_word = refl
+
+no_period : third (codes "ref f F every" ∷ []) ≡ refused 3 BadLine
+no_period = refl
+
+two_periods : third (codes "ref f F every 2 3" ∷ []) ≡ refused 3 BadLine
+two_periods = refl
+
+mark_after_edge : third (codes "edge x y" ∷ codes "ref f F every 2" ∷ []) ≡ refused 4 BadLine
+mark_after_edge = refl
+
+too_seldom : third (codes "ref f F every 17" ∷ []) ≡ refused 3 (BadNumber (codes "17"))
+too_seldom = refl
+
+never_run : third (codes "ref f F every 0" ∷ []) ≡ refused 3 (BadNumber (codes "0"))
+never_run = refl
+
+below_none : third (codes "ref f F every -2" ∷ []) ≡ refused 3 (BadNumber (codes "-2"))
+below_none = refl
+
+beyond_words : third (codes "ref f F every 18446744073709551618" ∷ []) ≡ refused 3 (BadNumber (codes "18446744073709551618"))
+beyond_words = refl
+
+no_number : third (codes "ref f F every x" ∷ []) ≡ refused 3 (BadNumber (codes "x"))
+no_number = refl
+
+-- the form of the line, its names, its number, and then what any reference is refused for
+mark_form_first : third (codes "ref 1f 1F each 17" ∷ []) ≡ refused 3 BadLine
+mark_form_first = refl
+
+name_before_period : third (codes "ref 1f 1F every 17" ∷ []) ≡ refused 3 (BadName (codes "1f"))
+name_before_period = refl
+
+definition_before_period : third (codes "ref f 1F every x" ∷ []) ≡ refused 3 (BadName (codes "1F"))
+definition_before_period = refl
+
+period_before_name_again : third (codes "ref f F" ∷ codes "ref f F every 17" ∷ []) ≡ refused 4 (BadNumber (codes "17"))
+period_before_name_again = refl
+
+name_again : third (codes "ref f F every 2" ∷ codes "ref f F every 3" ∷ []) ≡ refused 4 (DuplicateName (codes "f"))
+name_again = refl
+
+-- references of the names r0 to r63
+abbrev references_to : List ℕ → List Bytes
+references_to [] = []
+references_to (n ∷ ns) = (codes "ref r" ++ (48 + n / 10) ∷ (48 + n % 10) ∷ codes " F") ∷ references_to ns
+
+abbrev after_64 : Bytes → Result Defs AlgoError
+after_64 line = third (references_to (range_with_len 0 64) ++ line ∷ [])
+
+period_before_limit : after_64 (codes "ref r F every 17") ≡ refused 67 (BadNumber (codes "17"))
+period_before_limit = refl
+
+limit_before_name_again : after_64 (codes "ref r00 F every 16") ≡ Err (Limit (record { which = limits.References; count = 65; bound = 64 }))
+limit_before_name_again = refl

@@ -1,5 +1,6 @@
 -- What the lines of a block say, each kind of line by itself: the block with it, or the line's first refusal. The checks of a line stand in their order: its form, names, numbers, limits, the expression, names given before.
-use Rattle.std.specs.Prelude.{ℕ, ◌+◌, Bool, not, ◌==◌, ◌||◌, nat_lt, List, [], ◌∷◌, ◌++◌, length, map, position, take, drop, Option, Some, None, Result, Ok, Err, if◌then◌else◌}
+use Rattle.std.specs.Prelude.{ℕ, ◌+◌, Bool, not, ◌==◌, ◌&&◌, ◌||◌, nat_lt, List, [], ◌∷◌, ◌++◌, length, map, position, take, drop, Option, Some, None, Result, Ok, Err, if◌then◌else◌, codes}
+use Rattle.std.specs.Str.{bytes_eq}
 use Rattle.text_lines.specs.Text.{words_of}
 use Rattle.syn_base.specs.Name.{is_name}
 use Rattle.syn_base.specs.Limits.{bound_of}
@@ -23,7 +24,7 @@ use Rattle.algo_defs.specs.Outer.{outer_names, all_outer}
 use Rattle.algo_text.specs.declared.part.Part.{Part}
 use Rattle.algo_text.specs.declared.part.Part.TheVariants as parts
 use Rattle.algo_text.specs.Parts.{admits, is_conditioning}
-use Rattle.algo_text.specs.Words.{word, number_of, count_of, end_of}
+use Rattle.algo_text.specs.Words.{word, number_of, count_of, period_of, end_of}
 use Rattle.algo_text.specs.Formulas.{formula_of}
 
 -- The open block, with all that any kind of block may have. `part` is the part in which its last line stands.
@@ -128,14 +129,33 @@ result_at b n code (Some at) = result_words b n (words_of (take at code)) (drop 
 abbrev pub result_line : Block → ℕ → Bytes → Result Block AlgoError
 result_line b n code = result_at b n code (position is_equals code)
 
+-- R DEF after `ref`
+abbrev pub reference_of : ℕ → List Bytes → Result Reference AlgoError
+reference_of n ws = all_names n (word ws 1 ∷ word ws 2 ∷ []) (Ok (record { name = word ws 1; def = word ws 2; every = None; line = n }))
+
+-- one reference more, of a name that none has
+abbrev pub with_reference : Block → Reference → Result Block AlgoError
+with_reference b r =
+    if is_above References (length b.references + 1) then above References (length b.references + 1) else
+    if is_among r.name (map (λ q. q.name) b.references) then refused r.line (DuplicateName r.name) else
+    Ok (record b { part = parts.References; references = b.references ++ r ∷ [] })
+
 -- ref R DEF
-abbrev pub reference_line : Block → ℕ → List Bytes → Result Block AlgoError
-reference_line b n ws =
+abbrev pub plain_line : Block → ℕ → List Bytes → Result Block AlgoError
+plain_line b n ws =
     if not (length ws == 3) || not (admits b.part parts.References) then refused n BadLine else
-    all_names n (word ws 1 ∷ word ws 2 ∷ [])
-    (if is_above References (length b.references + 1) then above References (length b.references + 1) else
-    if is_among (word ws 1) (map (λ r. r.name) b.references) then refused n (DuplicateName (word ws 1)) else
-    Ok (record b { part = parts.References; references = b.references ++ record { name = word ws 1; def = word ws 2; line = n } ∷ [] }))
+    and_then (reference_of n ws) (with_reference b)
+
+-- ref R DEF every N, of five words
+abbrev pub marked_line : Block → ℕ → List Bytes → Result Block AlgoError
+marked_line b n ws =
+    if not (bytes_eq (word ws 3) (codes "every")) || not (admits b.part parts.References) then refused n BadLine else
+    and_then (reference_of n ws) (λ r.
+    with_some (period_of (word ws 4)) (refused n (BadNumber (word ws 4))) (λ every. with_reference b (record r { every = Some every })))
+
+-- a reference, which may have a mark in version 3
+abbrev pub reference_line : ℕ → Block → ℕ → List Bytes → Result Block AlgoError
+reference_line version b n ws = if version == 3 && length ws == 5 then marked_line b n ws else plain_line b n ws
 
 -- edge FROM TO
 abbrev pub edge_line : Block → ℕ → List Bytes → Result Block AlgoError

@@ -6,7 +6,7 @@ use Rattle.body_lang.specs.Expr.{Expr}
 use Rattle.body_text.specs.Tokens.{tokens, name}
 use Rattle.body_text.specs.Reads.{IsBody, IsBad, IsUnknown}
 use Rattle.algo_defs.specs.declared.fault.AlgoCause.{AlgoCause}
-use Rattle.algo_defs.specs.declared.fault.AlgoCause.TheVariants.{NotText, BadLine, BadName, BadNumber, BadExpression, DuplicateName, UnknownName, WrongLength, Unconnected, TwiceConnected, Recursive, Cycle, NoMain, BadCase, Misplaced, BadRepeat, BadDelay}
+use Rattle.algo_defs.specs.declared.fault.AlgoCause.TheVariants.{NotText, BadLine, BadName, BadNumber, BadExpression, DuplicateName, UnknownName, WrongLength, Unconnected, TwiceConnected, Recursive, Cycle, NoMain, BadCase, Misplaced, BadRepeat, BadDelay, BadEvery}
 use Rattle.algo_defs.specs.declared.fault.AlgoError.{AlgoError}
 use Rattle.algo_defs.specs.declared.fault.AlgoError.TheVariants.{Refused, Limit, OutOfMemory}
 use Rattle.algo_defs.specs.Words.{Bytes}
@@ -37,6 +37,7 @@ module _ (ports : List Bytes) (text : Bytes) where
   IsCause (Misplaced w) = ⊥
   IsCause BadRepeat = ⊥
   IsCause BadDelay = ⊥
+  IsCause (BadEvery w) = ⊥
 
   -- Too many tokens, then the grammar, then the ports; a refusal is at the line of the text.
   abbrev pub IsFormula : ℕ → Result Expr AlgoError → Type 0

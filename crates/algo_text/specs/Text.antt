@@ -40,6 +40,7 @@ abbrev pub version_of : Bytes → Option ℕ
 version_of w =
     if bytes_eq w (codes "1") then Some 1 else
     if bytes_eq w (codes "2") then Some 2 else
+    if bytes_eq w (codes "3") then Some 3 else
     None
 
 -- algorithm VERSION
@@ -158,7 +159,7 @@ abbrev pub graph_line : Reading → ℕ → List Bytes → Result Reading AlgoEr
 graph_line r n ws =
     if begins ws (codes "in") then in_block r (in_line r.block n ws) else
     if begins ws (codes "out") then in_block r (out_line r.block n ws) else
-    if begins ws (codes "ref") then in_block r (reference_line r.block n ws) else
+    if begins ws (codes "ref") then in_block r (reference_line r.version r.block n ws) else
     if begins ws (codes "edge") then in_block r (edge_line r.block n ws) else
     if begins ws (codes "end") then block_end true (Graph r.block.ins r.block.outs r.block.references r.block.edges) r n ws else
     refused n BadLine

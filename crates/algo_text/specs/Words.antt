@@ -1,5 +1,5 @@
 -- What the words of a line are: names, numbers, lengths, ends of edges.
-use Rattle.std.specs.Prelude.{ℕ, Bool, ◌&&◌, ◌==◌, List, [], Option, Some, None, if◌then◌else◌, slice_index_or, ℤ, pos, negsuc, Result, Ok, Err}
+use Rattle.std.specs.Prelude.{ℕ, Bool, ◌&&◌, ◌==◌, nat_le, List, [], Option, Some, None, if◌then◌else◌, slice_index_or, ℤ, pos, negsuc, Result, Ok, Err}
 use Rattle.std.specs.List.{before_first, after_first}
 use Rattle.syn_base.specs.Name.{is_name}
 use Rattle.syn_base.specs.Integer.{integer_of}
@@ -26,6 +26,14 @@ count_by None = None
 -- a length, or a number of copies
 abbrev pub count_of : Bytes → Option ℕ
 count_of w = count_by (number_of w)
+
+abbrev pub period_by : Option ℕ → Option ℕ
+period_by (Some n) = if nat_le n 16 then Some n else None
+period_by None = None
+
+-- the number of a mark, from 1 to 16
+abbrev pub period_of : Bytes → Option ℕ
+period_of w = period_by (count_of w)
 
 abbrev pub is_dot : ℕ → Bool
 is_dot b = b == 46

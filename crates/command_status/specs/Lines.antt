@@ -70,6 +70,7 @@ algorithm_word a.BadCase = codes "A14 BadCase"
 algorithm_word (a.Misplaced w) = codes "A15 Misplaced"
 algorithm_word a.BadRepeat = codes "A16 BadRepeat"
 algorithm_word a.BadDelay = codes "A17 BadDelay"
+algorithm_word (a.BadEvery w) = codes "A18 BadEvery"
 
 abbrev pub algorithm_detail : AlgoCause → Bytes
 algorithm_detail (a.NotText place) = number_line place
@@ -89,6 +90,7 @@ algorithm_detail a.BadCase = codes "\n"
 algorithm_detail (a.Misplaced w) = word_line w
 algorithm_detail a.BadRepeat = codes "\n"
 algorithm_detail a.BadDelay = codes "\n"
+algorithm_detail (a.BadEvery w) = word_line w
 
 abbrev pub algorithm_line : AlgoFault → Bytes
 algorithm_line fault = head (codes "algorithm line ") fault.line (algorithm_word fault.cause) ++ algorithm_detail fault.cause

@@ -98,6 +98,7 @@ fn algorithm_word(cause: &AlgoCause) -> &'static [u8]
         AlgoCause::Misplaced(_) => b"A15 Misplaced",
         AlgoCause::BadRepeat => b"A16 BadRepeat",
         AlgoCause::BadDelay => b"A17 BadDelay",
+        AlgoCause::BadEvery(_) => b"A18 BadEvery",
     }
 }
 
@@ -114,9 +115,8 @@ fn write_algorithm_detail<E: Sink>(err: &mut E, cause: &AlgoCause) -> Result<(),
         | AlgoCause::WrongLength(word)
         | AlgoCause::Unconnected(word)
         | AlgoCause::TwiceConnected(word) => write_word(err, word.as_slice()),
-        AlgoCause::Recursive(name) | AlgoCause::Misplaced(name) => {
-            write_word(err, name.as_bytes())
-        }
+        AlgoCause::Recursive(name) | AlgoCause::Misplaced(name) | AlgoCause::BadEvery(name) =>
+            write_word(err, name.as_bytes()),
         AlgoCause::Cycle(names) => write_names(err, names.as_slice()),
         AlgoCause::BadLine
         | AlgoCause::NoMain

@@ -1,5 +1,5 @@
 -- Where names are found.
-use Rattle.std.proofs.Common.{◌≡◌, ℕ, suc, ◌+◌, ◌<◌, ◌≤◌, Bool, true, false, cond, List, [], ◌∷◌, length, refl, sym, ◌∙◌, subst, ap, arith}
+use Rattle.std.proofs.Common.{◌≡◌, ℕ, suc, ◌+◌, ◌<◌, ◌≤◌, Bool, true, false, cond, None, List, [], ◌∷◌, length, refl, sym, ◌∙◌, subst, ap, arith}
 use Rattle.std.specs.Prelude.{not, Option, Some, None, slice_index_or, if◌then◌else◌}
 use Rattle.std.specs.Str.{bytes_eq}
 use Rattle.std.proofs.lemmas.List.Sums.{passes_at_first}
@@ -25,7 +25,7 @@ one_port ps v w lt e =
 
 pub one_reference : (rs : List Reference) (v w : Bytes) → place rs v < length rs → place rs v ≡ place rs w → v ≡ w
 one_reference rs v w lt e =
-    let d : Reference = record { name = v; def = v; line = 0 } in
+    let d : Reference = record { name = v; def = v; every = None; line = 0 } in
     let P : ℕ → Type 0 = λ k. bytes_eq w (slice_index_or rs k d).name ≡ true in
     let there : place rs w < length rs = omega arith in
     (bytes_eq-Decides v (slice_index_or rs (place rs v) d).name).0 (passes_at_first (λ p. bytes_eq v p.name) rs d lt)

@@ -1,22 +1,19 @@
 -- Lines of graphs.
-use Rattle.std.proofs.Common.{◌≡◌, ℕ, ◌==◌, not, ◌||◌, true, Ok, List, [], ◌∷◌, ◌++◌, length, map, refl, arith, subst, codes, ◌<◌, ◌+◌}
+use Rattle.std.proofs.Common.{◌≡◌, ℕ, ◌==◌, not, true, Ok, List, [], ◌∷◌, ◌++◌, length, map, refl, arith, subst, codes, ◌<◌}
 use Rattle.std.proofs.lemmas.List.{map-append, length-append}
 use Rattle.std.proofs.lemmas.List.Elements.{All-push}
 use Rattle.body_lang.specs.declared.expression.Port.{Port}
-use Rattle.syn_base.specs.Name.{is_name}
 use Rattle.algo_defs.specs.declared.definition.Def.{Def}
 use Rattle.algo_defs.specs.declared.definition.Reference.{Reference}
 use Rattle.algo_defs.specs.declared.definition.Body.TheVariants.{Graph}
-use Rattle.algo_defs.specs.Words.{Bytes, is_among}
+use Rattle.algo_defs.specs.Words.{Bytes}
 use Rattle.algo_text.specs.Words.{word, end_of}
 use Rattle.algo_text.specs.Blocks.{Block, in_line, out_line, reference_line, edge_line}
 use Rattle.algo_text.specs.Text.{in_graph, Reading, begins, graph_line}
-use Rattle.algo_text.proofs.Checks.{either, fewer, found, held, never, passed, same_ok}
-use Rattle.algo_text.specs.declared.part.Part.TheVariants.{References}
-use Rattle.algo_text.specs.Parts.{admits}
+use Rattle.algo_text.proofs.Checks.{either, fewer, found, never, passed, same_ok}
+use Rattle.algo_text.proofs.References.{ReferenceRead, reference_read}
 use Rattle.syn_base.specs.declared.limits.LimitKind.TheVariants as limits
 use Rattle.syn_base.specs.Limits.{bound_of}
-use Rattle.algo_text.specs.Blocks.{is_above}
 use Rattle.algo_rules.specs.WellRead.{IsName, port_names, IsGraph}
 use Rattle.reading_laws.proofs.Names.{new_beside, new_both}
 use Rattle.reading_laws.proofs.Ports.{ports_with, input_put, output_put, put_between, put_behind, InAdded, in_added, OutAdded, out_added}
@@ -52,26 +49,22 @@ output_goes b after o a =
       },
     )
 
-reference_goes : (b after : Block) (n : ℕ) (ws : List Bytes) → IsGraph b.ins b.outs b.references → reference_line b n ws ≡ Ok after → Goes in_graph b after
-reference_goes b after n ws o h =
+reference_goes : (version : ℕ) (b after : Block) (n : ℕ) (ws : List Bytes) → IsGraph b.ins b.outs b.references → reference_line version b n ws ≡ Ok after → Goes in_graph b after
+reference_goes version b after n ws o h =
+    let x : ReferenceRead version b n ws after = reference_read version b n ws after h in
     let w : Bytes = word ws 1 in
-    let new : Reference = record { name = w; def = word ws 2; line = n } in
+    let new : Reference = record { name = w; def = word ws 2; every = x.every; line = n } in
     let names : List Bytes = map (λ r. r.name) b.references in
-    let form = passed (not (length ws == 3) || not (admits b.part References)) _ _ after h in
-    let named = held (is_name w) _ _ after form.1 in
-    let def = held (is_name (word ws 2)) _ _ after named.1 in
-    let few = passed (is_above limits.References (length b.references + 1)) _ _ after def.1 in
-    let last = passed (is_among w names) _ _ after few.1 in
-    let size : length b.references < bound_of limits.References = fewer (bound_of limits.References) (length b.references) few.0 in
-    subst (λ (c : Block). Goes in_graph b c) (same_ok _ after last.1) (
+    let size : length b.references < bound_of limits.References = fewer (bound_of limits.References) (length b.references) x.few in
+    subst (λ (c : Block). Goes in_graph b c) x.after_is (
       refl,
       record {
         inputs = o.inputs;
         outputs = o.outputs;
         distinct = o.distinct;
         few = omega (arith, length-append b.references (new ∷ []));
-        named = All-push (λ (r : Reference). IsName r.name) b.references new o.named named.0;
-        once = put_behind names _ w (map-append (λ (r : Reference). r.name) b.references (new ∷ [])) (new_beside w names last.0) o.once;
+        named = All-push (λ (r : Reference). IsName r.name) b.references new o.named x.named;
+        once = put_behind names _ w (map-append (λ (r : Reference). r.name) b.references (new ∷ [])) (new_beside w names x.free) o.once;
       },
     )
 
@@ -87,6 +80,6 @@ module _ (version : ℕ) (names : List Bytes) (defs : List Def) (b : Block) (kep
   graph_kept n ws r h =
       either (begins ws (codes "in")) _ _ r h (line_kept in_graph version names defs b kept (in_line b n ws) r (λ after e. input_goes b after kept.well (in_added b n ws after e))) (λ h1.
       either (begins ws (codes "out")) _ _ r h1 (line_kept in_graph version names defs b kept (out_line b n ws) r (λ after e. output_goes b after kept.well (out_added b n ws after e))) (λ h2.
-      either (begins ws (codes "ref")) _ _ r h2 (line_kept in_graph version names defs b kept (reference_line b n ws) r (λ after e. reference_goes b after n ws kept.well e)) (λ h3.
+      either (begins ws (codes "ref")) _ _ r h2 (line_kept in_graph version names defs b kept (reference_line version b n ws) r (λ after e. reference_goes version b after n ws kept.well e)) (λ h3.
       either (begins ws (codes "edge")) _ _ r h3 (line_kept in_graph version names defs b kept (edge_line b n ws) r (λ after e. edge_goes b after n ws kept.well e)) (λ h4.
       either (begins ws (codes "end")) _ _ r h4 (end_kept in_graph version names defs b kept refl true (Graph b.ins b.outs b.references b.edges) n ws r (λ e. kept.well)) (λ h5. never _ r h5)))))

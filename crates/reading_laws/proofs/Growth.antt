@@ -112,7 +112,7 @@ module _ (r : Reading) where
   graph_grows n ws q h =
       either (begins ws (codes "in")) _ _ q h (block_grows (in_line r.block n ws) q) (λ h1.
       either (begins ws (codes "out")) _ _ q h1 (block_grows (out_line r.block n ws) q) (λ h2.
-      either (begins ws (codes "ref")) _ _ q h2 (block_grows (reference_line r.block n ws) q) (λ h3.
+      either (begins ws (codes "ref")) _ _ q h2 (block_grows (reference_line r.version r.block n ws) q) (λ h3.
       either (begins ws (codes "edge")) _ _ q h3 (block_grows (edge_line r.block n ws) q) (λ h4.
       either (begins ws (codes "end")) _ _ q h4 (closed_grows true (Graph r.block.ins r.block.outs r.block.references r.block.edges) n ws q) (λ h5. never _ q h5)))))
 

@@ -10,3 +10,4 @@ pub mod Repetitions
 pub mod Lines
 pub mod Resolutions
 pub mod Growth
+pub mod Marks

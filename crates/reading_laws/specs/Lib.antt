@@ -1,2 +1,3 @@
 pub mod Accepted
 pub mod Few
+pub mod Periods

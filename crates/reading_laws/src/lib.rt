@@ -6,6 +6,7 @@
 
 ghost use Rattle.reading_laws.specs.Accepted.{AcceptedAreWellRead};
 ghost use Rattle.reading_laws.specs.Few.{AcceptedAreFew};
+ghost use Rattle.reading_laws.specs.Periods.{AcceptedHavePeriods};
 
 /// The definitions of every text that is accepted are well read: names are names; definitions, the ports of one
 /// definition, the references of a graph and the outer names of a repetition are each named once; vectors have 1 to
@@ -19,4 +20,10 @@ pub fn accepted_are_well_read()
 /// long to be resolved.
 pub fn accepted_are_few()
     ensures { AcceptedAreFew }
+{}
+
+/// In every text that is accepted a reference with a mark stands in version 3 alone, and the number of the mark is
+/// from 1 to 16.
+pub fn accepted_have_periods()
+    ensures { AcceptedHavePeriods }
 {}

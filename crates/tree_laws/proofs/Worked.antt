@@ -12,7 +12,7 @@ use Rattle.tree_laws.proofs.Firsts.{all_of}
 use Rattle.tree_laws.proofs.Trees.{make_a_tree}
 
 abbrev two : List Reference
-two = record { name = codes "s"; def = codes "Sense"; line = 5 } ∷ record { name = codes "a"; def = codes "Act"; line = 6 } ∷ []
+two = record { name = codes "s"; def = codes "Sense"; every = None; line = 5 } ∷ record { name = codes "a"; def = codes "Act"; every = None; line = 6 } ∷ []
 
 abbrev edge : Edge
 edge = record { from = record { owner = Some (codes "s"); port = codes "o" }; to = record { owner = Some (codes "a"); port = codes "i" }; line = 7 }
