@@ -3,6 +3,7 @@ use Rattle.std.specs.Prelude.{◌≡◌, ℕ, suc, ◌+◌, ◌<◌, ◌^◌, Li
 use Rattle.level_meaning.specs.declared.source.Source.{Source}
 use Rattle.level_meaning.specs.declared.source.Source.TheVariants.{Of}
 use Rattle.level_meaning.specs.declared.part.Part.{Part}
+use Rattle.algo_tree.specs.Tree as plain
 use Rattle.algo_tree.specs.Tree.{Label, Kind, Vertices}
 use Rattle.algo_tree.specs.View.{label_view, vertices_view}
 use Rattle.algo_tree.specs.declared.vertex.Vertex.{Vertex, out-Vertex}
@@ -14,6 +15,14 @@ label_seen u = label_view (out-Vertex u)
 
 abbrev pub inside_seen : Vertex → Vertices
 inside_seen u = vertices_view (out-Vertex u).inner.items
+
+-- what a declared vertex becomes, by its label and what is inside it
+abbrev pub of_seen : {A : Type 0} → (Label → Vertices → A) → Vertex → A
+of_seen f u = f (label_seen u) (inside_seen u)
+
+-- a vertex with these declared ones inside
+abbrev pub with_inner : Label → List Vertex → plain.Vertex
+with_inner l us = plain.vertex l (vertices_view us)
 
 -- How many inputs and outputs. The switch stands behind the count and a delay for each output; its kept inputs stand behind the count's
 -- and the reference's own. These numbers have 32 bits.

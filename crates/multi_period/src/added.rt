@@ -8,8 +8,8 @@ ghost use Rattle.multi_period.specs.Within.{adds};
 use crate::mark::Mark;
 use algo_tree::Vertex;
 
-/// How many operations a marked reference becomes beside its own: two for each reaction that its count
-/// looks back, two for the delay that keeps an output, and a merge for each output.
+/// How many operations a marked reference becomes beside its own: two for each reaction that its
+/// count looks back, two for the delay that keeps an output, and a merge for each output.
 fn added_by(vertex: &Vertex, every: u32) -> u128
     ensures is { result ≡ 2 * every + 3 * length (label_seen vertex.now).outs }
     ensures small { result < 2 ^ 65 }

@@ -1,9 +1,8 @@
 //! Copies of vertices.
 ghost use Rattle.std.specs.Prelude.{◌≡◌, [], IfOk, map};
-ghost use Rattle.algo_tree.specs.Tree.{vertex as plain_vertex};
-ghost use Rattle.algo_tree.specs.View.{kind_view, view, vertices_view};
+ghost use Rattle.algo_tree.specs.View.{kind_view, view};
 ghost use Rattle.multi_period.specs.Periods.{run as runs};
-ghost use Rattle.multi_period.specs.Seen.{ArePorts, label_seen, inside_seen, relabelled as labelled};
+ghost use Rattle.multi_period.specs.Seen.{ArePorts, label_seen, of_seen, relabelled as labelled, with_inner};
 
 use crate::ports::{Ports, inputs_from};
 use algo_tree::{Kind, Vertex};
@@ -41,7 +40,7 @@ pub fn with_inside(
     vertex: &Vertex,
     inner: Vec<Vertex>,
 ) -> Result<Vertex, OutOfMemory>
-    ensures { IfOk result (λ u. view u ≡ plain_vertex (label_seen vertex.now) (vertices_view inner.items)) }
+    ensures { IfOk result (λ u. view u ≡ with_inner (label_seen vertex.now) inner.items) }
 {
     let part = copy_part(alloc, &vertex.part)?;
     let definition = copy_bytes(alloc, vertex.definition.as_slice())?;
@@ -71,7 +70,8 @@ pub fn relabelled(
     kind: Kind,
     inner: Vec<Vertex>,
 ) -> Result<Vertex, OutOfMemory>
-    ensures { IfOk result (λ u. view u ≡ plain_vertex (labelled (label_seen vertex.now) part ins (kind_view kind)) (vertices_view inner.items)) }
+    ensures { let label = labelled (label_seen vertex.now) part ins (kind_view kind) in
+        IfOk result (λ u. view u ≡ with_inner label inner.items) }
 {
     let definition = copy_bytes(alloc, vertex.definition.as_slice())?;
     let outs = copy_lens(alloc, vertex.outs.as_slice())?;
@@ -91,7 +91,7 @@ pub fn relabelled(
 /// The reference itself, inside the case in which it runs.
 pub fn run(alloc: Global, vertex: &Vertex, ports: Ports) -> Result<Vertex, OutOfMemory>
     requires { ArePorts ports (label_seen vertex.now) }
-    ensures { IfOk result (λ u. view u ≡ runs (label_seen vertex.now) (inside_seen vertex.now)) }
+    ensures { IfOk result (λ u. view u ≡ of_seen runs vertex.now) }
 {
     let part = Part::Named(copy_bytes(alloc, b"run")?);
     let ins = Items::new(inputs_from(alloc, 0, ports.ins)?);

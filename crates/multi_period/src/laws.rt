@@ -15,13 +15,14 @@ ghost use Rattle.multi_period.specs.Laws.{PeriodsKeep, PeriodCounts, PeriodsCoun
 
 /// The made tree does what the meaning with periods says.
 pub fn periods_keep_the_meaning()
-    ensures { (marks : List Mark) (main : Vertex) → IsTree main → AreMarked (mark_at marks) (vertices_in main)
-        → PeriodsKeep marks main }
+    ensures { (marks : List Mark) (main : Vertex) → IsTree main
+        → AreMarked (mark_at marks) (vertices_in main) → PeriodsKeep marks main }
 {}
 
 /// Where nothing is marked the meaning with periods is the synchronous meaning.
 pub fn nothing_marked()
-    ensures { (main : Vertex) → IsTree main → (rows : List Values) (k : ℕ) → act_row_at [] main rows k ≡ act_row main rows k }
+    ensures { (main : Vertex) → IsTree main → (rows : List Values) (k : ℕ)
+        → act_row_at [] main rows k ≡ act_row main rows k }
 {}
 
 /// Without marks the made tree is the tree itself.
@@ -29,24 +30,30 @@ pub fn unmarked_trees_stay()
     ensures { (main : Vertex) → periods [] main ≡ main }
 {}
 
-/// The made tree is a valid tree where it has few enough operations; each marked reference has become as many as are said.
+/// The made tree is a valid tree where it has few enough operations; each marked reference has
+/// become as many as are said.
 pub fn periods_are_trees()
-    ensures valid { (marks : List Mark) (main : Vertex) → IsTree main → AreMarked (mark_at marks) (vertices_in main)
-        → PeriodsAreTrees marks main }
-    ensures whole { (marks : List Mark) (main : Vertex) → IsTree main → AreMarked (mark_at marks) (vertices_in main)
-        → PeriodsCount marks main }
+    ensures valid { (marks : List Mark) (main : Vertex) → IsTree main
+        → AreMarked (mark_at marks) (vertices_in main) → PeriodsAreTrees marks main }
+    ensures whole { (marks : List Mark) (main : Vertex) → IsTree main
+        → AreMarked (mark_at marks) (vertices_in main) → PeriodsCount marks main }
     ensures count { (m : Mark) (l : Label) (us : Vertices) → IsMark m l → PeriodCounts m l us }
 {}
 
-/// Each delay keeps in the made tree what it keeps by the meaning with periods: one inside a marked reference deeper inside.
+/// Each delay keeps in the made tree what it keeps by the meaning with periods: one inside a marked
+/// reference deeper inside.
 pub fn periods_keep_values()
-    ensures { (marks : List Mark) (main : Vertex) → IsTree main → AreMarked (mark_at marks) (vertices_in main)
-        → PeriodsKeepValues marks main }
+    ensures { (marks : List Mark) (main : Vertex) → IsTree main
+        → AreMarked (mark_at marks) (vertices_in main) → PeriodsKeepValues marks main }
 {}
 
-/// Where names stand in a tree, names stand in the made tree; those of references may be longer. Numbers in paths have 32 bits.
+/// Where names stand in a tree, names stand in the made tree; those of references may be longer.
+/// Numbers in paths have 32 bits.
 pub fn periods_keep_names()
-    ensures names { (marks : List Mark) (main : Vertex) → AreMarked (mark_at marks) (vertices_in main)
-        → AreNamed (mark_at marks) (vertices_in main) → HasNames main → HasNames (periods marks main) }
-    ensures bounds { (marks : List Mark) (main : Vertex) → HasBounds main → HasBounds (periods marks main) }
+    ensures names { (marks : List Mark) (main : Vertex)
+        → AreMarked (mark_at marks) (vertices_in main)
+        → AreNamed (mark_at marks) (vertices_in main)
+        → HasNames main → HasNames (periods marks main) }
+    ensures bounds { (marks : List Mark) (main : Vertex) → HasBounds main
+        → HasBounds (periods marks main) }
 {}

@@ -1,6 +1,6 @@
-//! References of the main graph that run in some reactions only. `Mark` says which, `periods` makes the
-//! tree in which each of them has become a graph that counts the reactions and keeps the last outputs, and
-//! the laws say that it does what the meaning with marks says.
+//! References of the main graph that run in some reactions only. `Mark` says which, `periods` makes
+//! the tree in which each of them has become a graph that counts the reactions and keeps the last
+//! outputs, and the laws say that it does what the meaning with marks says.
 #![tactic(auto)]
 
 mod added;

@@ -3,7 +3,7 @@ ghost use Rattle.std.specs.Prelude.{◌≡◌, ◌≤◌, ◌<◌, ◌+◌, ◌^
 ghost use Rattle.level_meaning.specs.Level.{zeros as zeroed};
 ghost use Rattle.algo_tree.specs.View.{kind_view, view, vertices_view};
 ghost use Rattle.multi_period.specs.Periods.{body as bodied, count as counted, keep as kept, keep_name as kept_name, made as vertex_made, otherwise as kept_on, period as perioded, parts as perioded_parts, turns as turned, when_runs as runs_when};
-ghost use Rattle.multi_period.specs.Seen.{ArePorts, body_ins as ins_of_body, label_seen, inside_seen};
+ghost use Rattle.multi_period.specs.Seen.{ArePorts, body_ins as ins_of_body, label_seen, of_seen};
 
 use crate::copies::{relabelled, run};
 use crate::mark::Mark;
@@ -23,7 +23,8 @@ fn made(
     kind: Kind,
     inner: Vec<Vertex>,
 ) -> Result<Vertex, OutOfMemory>
-    ensures { IfOk result (λ u. view u ≡ vertex_made part ins.items outs (kind_view kind) (vertices_view inner.items)) }
+    ensures { let inside = vertices_view inner.items in
+        IfOk result (λ u. view u ≡ vertex_made part ins.items outs (kind_view kind) inside) }
 {
     let definition = copy_bytes(alloc, b"every")?;
     Ok(Vertex {
@@ -116,7 +117,7 @@ fn keep(alloc: Global, vertex: &Vertex, ports: Ports, output: u32) -> Result<Ver
 /// The case in which the reference runs.
 fn when_runs(alloc: Global, vertex: &Vertex, ports: Ports) -> Result<Vertex, OutOfMemory>
     requires { ArePorts ports (label_seen vertex.now) }
-    ensures { IfOk result (λ u. view u ≡ runs_when (label_seen vertex.now) (inside_seen vertex.now)) }
+    ensures { IfOk result (λ u. view u ≡ of_seen runs_when vertex.now) }
 {
     let ins = inputs_from(alloc, 1, ports.ins)?;
     let outs = copy_lens(alloc, vertex.outs.as_slice())?;
@@ -150,7 +151,7 @@ fn body_ins(alloc: Global, ports: Ports) -> Result<Vec<Source>, OutOfMemory>
 /// The switch between the two cases.
 fn body(alloc: Global, vertex: &Vertex, ports: Ports) -> Result<Vertex, OutOfMemory>
     requires { ArePorts ports (label_seen vertex.now) }
-    ensures { IfOk result (λ u. view u ≡ bodied (label_seen vertex.now) (inside_seen vertex.now)) }
+    ensures { IfOk result (λ u. view u ≡ of_seen bodied vertex.now) }
 {
     let part = Part::Named(copy_bytes(alloc, b"body")?);
     let ins = body_ins(alloc, ports)?;
@@ -171,7 +172,7 @@ fn parts(
 ) -> Result<Vec<Vertex>, OutOfMemory>
     requires ports { ArePorts ports (label_seen vertex.now) }
     requires some { 1 ≤ mark.every }
-    ensures { IfOk result (λ us. map view us.items ≡ perioded_parts mark (label_seen vertex.now) (inside_seen vertex.now)) }
+    ensures { IfOk result (λ us. map view us.items ≡ of_seen (perioded_parts mark) vertex.now) }
 {
     let mut all = vec![in alloc; count(alloc, mark.every)?]?;
     for output in 0..ports.outs {
@@ -184,7 +185,7 @@ fn parts(
 /// The graph that a marked reference becomes.
 pub fn period(alloc: Global, vertex: &Vertex, mark: Mark) -> Result<Vertex, OutOfMemory>
     requires { 1 ≤ mark.every }
-    ensures { IfOk result (λ u. view u ≡ perioded mark (label_seen vertex.now) (inside_seen vertex.now)) }
+    ensures { IfOk result (λ u. view u ≡ of_seen (perioded mark) vertex.now) }
 {
     let ports = ports_of(vertex)?;
     let part = copy_part(alloc, &vertex.part)?;

@@ -1,7 +1,7 @@
 //! A mark on a reference.
 
-/// A reference of the main graph runs in the reactions that `every` divides; in the others its outputs keep
-/// their last values, and the delays inside it stand still.
+/// A reference of the main graph runs in the reactions that `every` divides; in the others its
+/// outputs keep their last values, and the delays inside it stand still.
 #[derive(Clone, Copy, Debug, PartialEq, Eq)]
 pub struct Mark {
     /// The place of the reference in the main graph, from 0.

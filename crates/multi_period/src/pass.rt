@@ -23,16 +23,18 @@ use algo_tree::{Tree, Vertex};
 use std::alloc::Global;
 use syn_base::{LimitFault, LimitKind, OutOfMemory};
 
-/// The tree in which each marked reference has become a graph that runs it in every so many reactions:
-/// it does what the meaning with these marks says.
+/// The tree in which each marked reference has become a graph that runs it in every so many
+/// reactions: it does what the meaning with these marks says.
 ///
-/// `Limit` comes exactly where that tree would stand for more than 2,048 flat operations, with their
-/// number, and before anything is made. Time and memory are in proportion to the tree that is made.
+/// `Limit` comes exactly where that tree would stand for more than 2,048 flat operations, with
+/// their number, and before anything is made. Want of memory comes only where it would not. Time
+/// and memory are in proportion to the tree that is made.
 pub fn periods(alloc: Global, tree: &Tree, marks: &[Mark]) -> Result<Tree, PeriodError>
     requires { MayHaveMarks marks.now tree.now }
     ensures gives { Gives result (made_within marks.now tree.now) }
     ensures meaning { IfOk result (DoesAsMarked marks.now tree.now) }
-    ensures named { HasNames tree.now → AreNamed (mark_at marks.now) (vertices_in tree.now) → IfOk result (λ t. HasNames t) }
+    ensures named { HasNames tree.now → AreNamed (mark_at marks.now) (vertices_in tree.now)
+        → IfOk result (λ t. HasNames t) }
     ensures bounded { HasBounds tree.now → IfOk result (λ t. HasBounds t) }
 {
     let count = count_made(tree, marks);
@@ -78,7 +80,8 @@ fn each_period(
 ) -> Result<Vec<Vertex>, OutOfMemory>
     requires marked { AreMarked (mark_at marks.now) (vertices_view vertices.now) }
     requires within { All (λ m. m.reference < length vertices.now) marks.now }
-    ensures { IfOk result (λ us. vertices_view us.items ≡ all_periods (mark_at marks.now) (vertices_view vertices.now)) }
+    ensures { let made = all_periods (mark_at marks.now) (vertices_view vertices.now) in
+        IfOk result (λ us. vertices_view us.items ≡ made) }
 {
     let table = mark_table(alloc, marks, vertices.len())?;
     let mut all = Vec::new(alloc);

@@ -16,12 +16,13 @@ pub struct Ports {
     pub outs: u32,
     /// The place of the switch, behind the count and a delay for each output.
     pub switch: u32,
-    /// The number of the first kept input of the switch, behind the count and the inputs of the vertex.
+    /// The number of the first kept input of the switch, behind the count and the inputs of the
+    /// vertex.
     pub kept: u32,
 }
 
-/// A count as the number of an input or of a vertex. Where it does not fit the answer is want of memory,
-/// which that many inputs or vertices would long have met.
+/// A count as the number of an input or of a vertex. Where it does not fit the answer is want of
+/// memory, which that many inputs or vertices would long have met.
 fn number(count: usize) -> Result<u32, OutOfMemory>
     ensures { IfOk result (λ n. n ≡ count) }
 {
@@ -31,7 +32,8 @@ fn number(count: usize) -> Result<u32, OutOfMemory>
     }
 }
 
-/// The ports of a vertex, where a vertex with one input more than both together has numbers for them.
+/// The ports of a vertex, where a vertex with one input more than both together has numbers for
+/// them.
 pub fn ports_of(vertex: &Vertex) -> Result<Ports, OutOfMemory>
     ensures { IfOk result (λ p. ArePorts p (label_seen vertex.now)) }
 {
