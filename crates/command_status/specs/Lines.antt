@@ -18,7 +18,7 @@ use Rattle.sensor_table.specs.declared.fault.SensorCause.{SensorCause}
 use Rattle.sensor_table.specs.declared.fault.SensorCause.TheVariants as s
 use Rattle.sensor_table.specs.declared.fault.SensorFault.{SensorFault}
 use Rattle.command_status.specs.declared.status.Status.{Status}
-use Rattle.command_status.specs.declared.status.Status.TheVariants.{Done, Usage, ReadFault, WriteFault, AlgoRefused, ArchiRefused, SensorsRefused, Limit, NotBuilt, OutOfMemory}
+use Rattle.command_status.specs.declared.status.Status.TheVariants.{Done, Usage, ReadFault, WriteFault, AlgoRefused, ArchiRefused, SensorsRefused, Limit, OutOfMemory}
 
 abbrev pub file_word : File → Bytes
 file_word file.Algorithm = codes "algorithm"
@@ -145,7 +145,6 @@ line_of (AlgoRefused fault) = algorithm_line fault
 line_of (ArchiRefused fault) = architecture_line fault
 line_of (SensorsRefused fault) = sensors_line fault
 line_of (Limit fault) = limit_line fault
-line_of NotBuilt = codes "not built\n"
 line_of OutOfMemory = codes "out of memory\n"
 
 -- what is appended to the error sink: a prefix of the line, and all of it where no call on the sink failed

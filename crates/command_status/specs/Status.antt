@@ -12,7 +12,7 @@ use Rattle.sensor_table.specs.declared.fault.SensorError.TheVariants as sensors
 use Rattle.sensor_table.specs.declared.fault.SensorFault.{SensorFault}
 use Rattle.syn_base.specs.declared.limits.LimitFault.{LimitFault}
 use Rattle.command_status.specs.declared.status.Status.{Status}
-use Rattle.command_status.specs.declared.status.Status.TheVariants.{Done, Usage, ReadFault, WriteFault, AlgoRefused, ArchiRefused, SensorsRefused, Limit, NotBuilt, OutOfMemory}
+use Rattle.command_status.specs.declared.status.Status.TheVariants.{Done, Usage, ReadFault, WriteFault, AlgoRefused, ArchiRefused, SensorsRefused, Limit, OutOfMemory}
 
 -- Why a command is refused. No definition says `wants_memory`: it is there because the types of errors have it.
 pub data Refusal : Type 0 where
@@ -21,7 +21,6 @@ pub data Refusal : Type 0 where
   bad_architecture : ArchiFault → Refusal
   bad_sensors : SensorFault → Refusal
   above : LimitFault → Refusal
-  not_built : Refusal
   wants_memory : Refusal
 
 -- the ending of a plan that a status stands for
@@ -34,7 +33,6 @@ ending_of (AlgoRefused fault) = refused (bad_algorithm fault)
 ending_of (ArchiRefused fault) = refused (bad_architecture fault)
 ending_of (SensorsRefused fault) = refused (bad_sensors fault)
 ending_of (Limit fault) = refused (above fault)
-ending_of NotBuilt = refused not_built
 ending_of OutOfMemory = no_memory
 
 -- the number with which the program ends
@@ -48,7 +46,6 @@ number_of (ArchiRefused fault) = 6
 number_of (SensorsRefused fault) = 7
 number_of (Limit fault) = 8
 number_of OutOfMemory = 9
-number_of NotBuilt = 10
 
 -- the refusal by an algorithm's text
 abbrev pub of_algorithm : AlgoError → Refusal

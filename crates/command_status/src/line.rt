@@ -30,7 +30,6 @@ fn write_line<E: Sink>(err: &mut E, status: &Status) -> Result<(), Failed>
         Status::ArchiRefused(fault) => write_architecture(err, fault),
         Status::SensorsRefused(fault) => write_sensors(err, fault),
         Status::Limit(fault) => write_limit(err, fault),
-        Status::NotBuilt => write_whole(err, b"not built\n"),
         Status::OutOfMemory => write_whole(err, b"out of memory\n"),
     }
 }

@@ -28,8 +28,6 @@ pub enum Status {
     SensorsRefused(SensorFault),
     /// A quantity is above its bound.
     Limit(LimitFault),
-    /// A command that is not built yet.
-    NotBuilt,
     /// There was not enough memory.
     OutOfMemory,
 }
@@ -49,7 +47,6 @@ impl Status {
             Status::SensorsRefused(_) => 7,
             Status::Limit(_) => 8,
             Status::OutOfMemory => 9,
-            Status::NotBuilt => 10,
         }
     }
 }

@@ -1,4 +1,9 @@
 pub mod Reads
 pub mod Builds
-pub mod Replies
+pub mod Executes
+pub mod Stopped
+pub mod Left
+pub mod Sums
 pub mod Unread
+pub mod Plainly
+pub mod Jobs

@@ -1,3 +1,4 @@
+pub mod Loads
 pub mod Schedules
 pub mod Walk
 pub mod Commands

@@ -1,5 +1,5 @@
 -- What is accepted runs true.
-use Rattle.std.proofs.Common.{◌≡◌, ℕ, zero, suc, cond, List, [], ◌∷◌, ◌++◌, length, map, None, refl, sym, ap, subst, ◌∙◌, add-one, zero-add}
+use Rattle.std.proofs.Common.{◌≡◌, ℕ, zero, suc, cond, List, [], ◌∷◌, ◌++◌, length, map, refl, sym, ap, subst, ◌∙◌, add-one, zero-add}
 use Rattle.std.specs.Prelude.{nat_lt, slice_index_or}
 use Rattle.std.specs.List.{range_with_len}
 use Rattle.std.proofs.lemmas.List.{map-append}
@@ -26,13 +26,12 @@ use Rattle.accepted_laws.specs.Flat.{HasFlat}
 use Rattle.accepted_laws.proofs.Definitions.{accepted_have_flat}
 use Rattle.accepted_laws.proofs.Architectures.{described_are}
 use Rattle.accepted_laws.proofs.Tables.{tables_fit}
-use Rattle.command_plan.specs.Plan.{GivesOnly}
 use Rattle.command_words.specs.Command.{Command, check, sim, flat, chart, code, run as runs, load}
-use Rattle.top_plans.specs.Given.{Given, written, printed, summed, Execution, one_job}
-use Rattle.top_plans.specs.Plans.{plan_for, run_plan, load_plan, schedule_of, program_by}
-use Rattle.top_plans.specs.Meaning.{RunsTrue, MakesTrue, AcceptedRunTrue, LoadsRunTrue}
+use Rattle.top_plans.specs.Given.{Given, written, printed, executed, summed, Execution, one_job}
+use Rattle.top_plans.specs.Plans.{plan_for, schedule_of, program_by}
+use Rattle.top_plans.specs.Meaning.{RunsTrue, MakesTrue, AcceptedRunTrue}
 use Rattle.top_plans.proofs.Schedules.{schedules_are_valid}
-use Rattle.top_plans.proofs.Walk.{IsAccepted, Leaf, RunLeaf, LoadLeaf, walk_run, walk_load}
+use Rattle.top_plans.proofs.Walk.{IsAccepted, Leaf}
 use Rattle.top_plans.proofs.Commands.{gives_leaves, told_gives}
 
 same_numbers : {A : Type 0} (f : ℕ → A) (n : ℕ) → map f (range_with_len 0 n) ≡ map f (numbers_below n)
@@ -86,38 +85,29 @@ module _ (runs_end : RunsEnd) (runs_take_rows : RunsTakeRows) (windows_make : Wi
     windows = λ from count l. windows_make (one_job e) s from count l;
   }
 
-  run_leaf : (g : Given) → RunLeaf g → MakesTrue g
-  run_leaf (written t) l = absurd l
-  run_leaf (printed t e) l = runs_true e l
-  run_leaf (summed e t) l = absurd l
+  true_leaf : (command : Command) (g : Given) → Leaf command g → MakesTrue g
+  true_leaf command (written t) l = tt
+  true_leaf (runs a h s w) (printed t e) l = runs_true e l
+  true_leaf (load n) (summed e t) l = runs_true e l
+  true_leaf (check a h) (printed t e) l = absurd l
+  true_leaf (check a h) (executed e) l = absurd l
+  true_leaf (check a h) (summed e t) l = absurd l
+  true_leaf (sim a h) (printed t e) l = absurd l
+  true_leaf (sim a h) (executed e) l = absurd l
+  true_leaf (sim a h) (summed e t) l = absurd l
+  true_leaf (flat a) (printed t e) l = absurd l
+  true_leaf (flat a) (executed e) l = absurd l
+  true_leaf (flat a) (summed e t) l = absurd l
+  true_leaf (chart a h) (printed t e) l = absurd l
+  true_leaf (chart a h) (executed e) l = absurd l
+  true_leaf (chart a h) (summed e t) l = absurd l
+  true_leaf (code a h) (printed t e) l = absurd l
+  true_leaf (code a h) (executed e) l = absurd l
+  true_leaf (code a h) (summed e t) l = absurd l
+  true_leaf (runs a h s w) (executed e) l = absurd l
+  true_leaf (runs a h s w) (summed e t) l = absurd l
+  true_leaf (load n) (printed t e) l = absurd l
+  true_leaf (load n) (executed e) l = absurd l
 
-  load_leaf : (g : Given) → LoadLeaf g → MakesTrue g
-  load_leaf (written t) l = absurd l
-  load_leaf (printed t e) l = absurd l
-  load_leaf (summed e t) l = runs_true e l
-
-  pub runs_are_true : AcceptedRunTrue
-  runs_are_true a h s told g e = told_gives MakesTrue told (run_plan a h s) g (walk_run (GivesOnly MakesTrue) (λ r n. tt) a h s None (λ file name next q k. k) run_leaf) e
-
-  pub loads_are_true : LoadsRunTrue
-  loads_are_true a h s told g e = told_gives MakesTrue told (load_plan a h s) g (walk_load (GivesOnly MakesTrue) (λ r n. tt) a h s load_leaf) e
-
-true_leaf : (command : Command) (g : Given) → Leaf command g → MakesTrue g
-true_leaf command (written t) l = tt
-true_leaf (check a h) (printed t e) l = absurd l
-true_leaf (check a h) (summed e t) l = absurd l
-true_leaf (sim a h) (printed t e) l = absurd l
-true_leaf (sim a h) (summed e t) l = absurd l
-true_leaf (flat a) (printed t e) l = absurd l
-true_leaf (flat a) (summed e t) l = absurd l
-true_leaf (chart a h) (printed t e) l = absurd l
-true_leaf (chart a h) (summed e t) l = absurd l
-true_leaf (code a h) (printed t e) l = absurd l
-true_leaf (code a h) (summed e t) l = absurd l
-true_leaf (runs a h s w) (printed t e) l = absurd l
-true_leaf (runs a h s w) (summed e t) l = absurd l
-true_leaf (load n) (printed t e) l = absurd l
-true_leaf (load n) (summed e t) l = absurd l
-
-pub commands_true : (command : Command) → GivesOnly MakesTrue (plan_for command)
-commands_true command = gives_leaves MakesTrue command (true_leaf command)
+  pub accepted_true : AcceptedRunTrue
+  accepted_true command told g e = told_gives MakesTrue told (plan_for command) g (gives_leaves MakesTrue command (true_leaf command)) e

@@ -27,11 +27,12 @@ use Rattle.macro_code.specs.Text.{macro_code}
 use Rattle.sequence_build.specs.Limit.{program_limit}
 use Rattle.semaphore_core.specs.IsJob.{limit_of}
 use Rattle.command_plan.specs.Plan.{give, refuse, after}
-use Rattle.command_status.specs.Status.{Refusal, above, of_algorithm, of_architecture, of_sensors, not_built, usage}
+use Rattle.command_status.specs.Status.{Refusal, above, of_algorithm, of_architecture, of_sensors, usage}
 use Rattle.command_words.specs.Command.{Command, check, sim, flat, chart, code, run, load}
 use Rattle.top_plans.specs.Names.{names_for}
 use Rattle.top_plans.specs.Given.{Given, written, printed, summed, Execution, one_job}
-use Rattle.top_plans.specs.Plans.{Made, read_file, unless, algorithm_in, architecture_in, table_in, program_plan, program_by, rows_plan, excess, execution, execution_plan, head, summary, run_plan, load_plan, plan_for}
+use Rattle.top_plans.specs.Plans.{Made, read_file, unless, algorithm_in, architecture_in, table_in, program_plan, program_by, rows_plan, excess, execution, execution_plan, head, summary, load_plan, plan_for}
+use Rattle.top_plans.specs.Loads.{load_algorithm, load_architecture, load_table}
 
 -- all that was accepted on the way to an execution
 pub record IsAccepted (e : Execution) : Type 0 where
@@ -57,15 +58,9 @@ Leaf (sim a s) (written t) = Unit {0}
 Leaf (flat a) (written t) = Unit {0}
 Leaf (chart a h) (written t) = Unit {0}
 Leaf (code a h) (written t) = Unit {0}
+Leaf (run a h s workers) (printed t e) = IsAccepted e
+Leaf (load n) (summed e t) = IsAccepted e
 Leaf _ _ = ⊥
-
-abbrev pub RunLeaf : Given → Type 0
-RunLeaf (printed t e) = IsAccepted e
-RunLeaf _ = ⊥
-
-abbrev pub LoadLeaf : Given → Type 0
-LoadLeaf (summed e t) = IsAccepted e
-LoadLeaf _ = ⊥
 
 -- no part refuses as words that are no command
 algorithm_not : (e : AlgoError) → ¬ (of_algorithm e ≡ usage)
@@ -133,19 +128,13 @@ module _ (Q : Made → Type 0) (refused : (r : Refusal) → ¬ (r ≡ usage) →
         limit = n;
       })))
 
-  -- a load
-  pub walk_load : (a h s : Bytes) → ((g : Given) → LoadLeaf g → Q (give g)) → Q (load_plan a h s)
-  walk_load a h s gives = algorithm_so a _ (λ defs main p q. architecture_so h main _ (λ d t u v. table_so main s _ (λ rows r.
-      execution_so a defs main h d t s rows (λ e. summed e (summary e)) p q u v r (λ e is. gives (summed e (summary e)) is))))
+  -- a load, whatever its texts are
+  load_so : (a h s : Bytes) → ((e : Execution) → IsAccepted e → Q (give (summed e (summary e)))) → Q (load_plan a h s)
+  load_so a h s gives = algorithm_so a _ (λ defs main p q. architecture_so h main _ (λ d t u v. table_so main s _ (λ rows r.
+      execution_so a defs main h d t s rows (λ e. summed e (summary e)) p q u v r gives)))
 
   abbrev Reads : (File → Option Bytes) → Type 0
   Reads names = (file : File) (name : Bytes) (next : Bytes → Made) → names file ≡ Some name → ((bytes : Bytes) → Q (next bytes)) → Q (read_file file name next)
-
-  -- a run
-  pub walk_run : (a h s : Bytes) (workers : Option ℕ) → Reads (names_for (run a h s workers)) → ((g : Given) → RunLeaf g → Q (give g)) → Q (run_plan a h s)
-  walk_run a h s workers reads gives = reads Algorithm a _ refl (λ text. algorithm_so text _ (λ defs main p q. reads Architecture h _ refl (λ lines. architecture_so lines main _ (λ d t u v.
-      reads Sensors s _ refl (λ table. table_so main table _ (λ rows r.
-      execution_so text defs main lines d t table rows (λ e. printed (head e) e) p q u v r (λ e is. gives (printed (head e) e) is)))))))
 
   -- the plan of each command
   pub walk : (command : Command) → Reads (names_for command) → ((g : Given) → Leaf command g → Q (give g)) → Q (plan_for command)
@@ -156,5 +145,7 @@ module _ (Q : Made → Type 0) (refused : (r : Refusal) → ¬ (r ≡ usage) →
   walk (chart a h) reads gives = reads Algorithm a _ refl (λ text. algorithm_so text _ (λ defs main p q. reads Architecture h _ refl (λ lines. architecture_so lines main _ (λ d t u v. gives _ tt))))
   walk (code a h) reads gives = reads Algorithm a _ refl (λ text. algorithm_so text _ (λ defs main p q. reads Architecture h _ refl (λ lines. architecture_so lines main _ (λ d t u v.
       program_so (flat_of main) d.archi t (λ p. give (written (macro_code p (flat_of main) d.archi))) (gives _ tt)))))
-  walk (run a h s workers) reads gives = refused not_built (λ q. cc)
-  walk (load n) reads gives = refused not_built (λ q. cc)
+  walk (run a h s workers) reads gives = reads Algorithm a _ refl (λ text. algorithm_so text _ (λ defs main p q. reads Architecture h _ refl (λ lines. architecture_so lines main _ (λ d t u v.
+      reads Sensors s _ refl (λ table. table_so main table _ (λ rows r.
+      execution_so text defs main lines d t table rows (λ e. printed (head e) e) p q u v r (λ e is. gives (printed (head e) e) is)))))))
+  walk (load n) reads gives = load_so (load_algorithm n) load_architecture (load_table n) (λ e is. gives (summed e (summary e)) is)

@@ -36,7 +36,7 @@ module _ (e : Execution) where
   whole = texts_of (starts (length e.rows.reactions)) ∙ ap (λ n. flat_map texts (starts n)) (sym as_many) ∙ windows_tell (actuator_names e.main) (acts_of e.main e.rows.reactions)
 
 pub windows_write : WindowsWriteTheOutput
-windows_write text e = (ap (λ t. text ++ t) (whole e), append-nil text)
+windows_write text e = (ap (λ t. text ++ t) (whole e), whole e, append-nil text)
 
 pub windows_run : WindowsAreRun
-windows_run text e = (jobs_in e (starts (length e.rows.reactions)), append-nil (window_jobs (one_job e)))
+windows_run text e = (jobs_in e (starts (length e.rows.reactions)), jobs_in e (starts (length e.rows.reactions)), append-nil (window_jobs (one_job e)))

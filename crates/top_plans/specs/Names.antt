@@ -1,4 +1,4 @@
--- The names that each command gives its files.
+-- The names that each command gives its files, and which commands run jobs.
 use Rattle.std.specs.Prelude.{Option, Some, None}
 use Rattle.outside.specs.Bytes.{Bytes}
 use Rattle.outside.specs.declared.file.File.{File}
@@ -25,3 +25,14 @@ names_for (load n) = named None None None
 abbrev pub names_of : Option Command → File → Option Bytes
 names_of None = named None None None
 names_of (Some command) = names_for command
+
+-- commands that run jobs: they are left to the call that has threads
+abbrev pub RunsJobs : Command → Type 0
+RunsJobs (run a h s workers) = Unit {0}
+RunsJobs (load n) = Unit {0}
+RunsJobs _ = ⊥
+
+-- no command, or one that runs no job
+abbrev pub IsPlain : Option Command → Type 0
+IsPlain None = Unit {0}
+IsPlain (Some command) = ¬ RunsJobs command

@@ -41,9 +41,10 @@ use Rattle.semaphore_core.specs.IsJob.{limit_of}
 use Rattle.macro_code.specs.Text.{macro_code}
 use Rattle.sensor_table.specs.SensorTable.{rows_of}
 use Rattle.command_plan.specs.Plan.{Plan, give, refuse, read, after}
-use Rattle.command_status.specs.Status.{Refusal, above, not_built, of_algorithm, of_architecture, of_sensors, usage}
+use Rattle.command_status.specs.Status.{Refusal, above, of_algorithm, of_architecture, of_sensors, usage}
 use Rattle.command_words.specs.Command.{Command, check, sim, flat, chart, code, run, load}
 use Rattle.top_plans.specs.Given.{Given, written, printed, summed, Execution, one_job, acts_of, output_of}
+use Rattle.top_plans.specs.Loads.{load_algorithm, load_architecture, load_table}
 
 abbrev pub Made : Type 0
 Made = Plan Refusal Given
@@ -167,8 +168,8 @@ plan_for (sim a s) = sim_plan a s
 plan_for (flat a) = flat_plan a
 plan_for (chart a h) = chart_plan a h
 plan_for (code a h) = code_plan a h
-plan_for (run a h s workers) = refuse not_built
-plan_for (load n) = refuse not_built
+plan_for (run a h s workers) = run_plan a h s
+plan_for (load n) = load_plan (load_algorithm n) load_architecture (load_table n)
 
 -- the plan of the words
 abbrev pub plan_of : Option Command → Made
