@@ -9,3 +9,5 @@ pub mod Replying
 pub mod Loads
 pub mod Loading
 pub mod Going
+pub mod Dated
+pub mod Counts

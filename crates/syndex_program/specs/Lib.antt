@@ -7,3 +7,5 @@ pub mod Sums
 pub mod Unread
 pub mod Plainly
 pub mod Jobs
+pub mod Dates
+pub mod Counts

@@ -8,7 +8,7 @@ use Rattle.command_plan.specs.Plan.{Plan, give, refuse, read, outcome, ReadsOnly
 use Rattle.command_plan.specs.Ending.{Ending, done, unwritten}
 use Rattle.command_plan.specs.Answers.{Answers, IsOnce, RunsNone}
 use Rattle.command_status.specs.Status.{Refusal}
-use Rattle.command_words.specs.Command.{Command, check, sim, flat, chart, code, run, load}
+use Rattle.command_words.specs.Command.{Command, check, sim, flat, chart, code, run, load, exec, dates}
 use Rattle.word_rule.specs.Driven.{Driven, driven_by}
 use Rattle.top_plans.specs.Names.{names_for, names_of, RunsJobs, IsPlain}
 use Rattle.top_plans.specs.Given.{Given, written, printed, executed, summed, stages}
@@ -28,6 +28,7 @@ once_leaf : (command : Command) (a : Given) → ¬ RunsJobs command → Leaf com
 once_leaf command (written t) p l = (omega arith, refl)
 once_leaf (run a h s w) (printed t e) p l = absurd (p tt)
 once_leaf (load n) (summed e t) p l = absurd (p tt)
+once_leaf (exec a h c s w) (executed e) p l = absurd (p tt)
 once_leaf (check a h) (printed t e) p l = absurd l
 once_leaf (check a h) (executed e) p l = absurd l
 once_leaf (check a h) (summed e t) p l = absurd l
@@ -43,10 +44,15 @@ once_leaf (chart a h) (summed e t) p l = absurd l
 once_leaf (code a h) (printed t e) p l = absurd l
 once_leaf (code a h) (executed e) p l = absurd l
 once_leaf (code a h) (summed e t) p l = absurd l
+once_leaf (dates a h g n) (printed t e) p l = absurd l
+once_leaf (dates a h g n) (executed e) p l = absurd l
+once_leaf (dates a h g n) (summed e t) p l = absurd l
 once_leaf (run a h s w) (executed e) p l = absurd l
 once_leaf (run a h s w) (summed e t) p l = absurd l
 once_leaf (load n) (printed t e) p l = absurd l
 once_leaf (load n) (executed e) p l = absurd l
+once_leaf (exec a h c s w) (printed t e) p l = absurd l
+once_leaf (exec a h c s w) (summed e t) p l = absurd l
 
 -- all is written by one call, and no job is run
 gives_once : (command : Option Command) → IsPlain command → GivesOnly (IsOnce stages) (plan_of command)

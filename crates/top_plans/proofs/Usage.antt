@@ -11,7 +11,7 @@ use Rattle.command_plan.specs.Run.{FailsToRead, Makes, gives, refuses, not_read,
 use Rattle.command_plan.proofs.Meaning.{answers_of}
 use Rattle.command_plan.proofs.Stages.{not_refused}
 use Rattle.command_status.specs.Status.{Refusal, usage}
-use Rattle.command_words.specs.Command.{Command, load}
+use Rattle.command_words.specs.Command.{Command}
 use Rattle.word_rule.specs.Driven.{Driven, new_driven, driven_by}
 use Rattle.top_plans.specs.Names.{names_of}
 use Rattle.top_plans.specs.Given.{Given, written, printed, executed, summed, stages}
