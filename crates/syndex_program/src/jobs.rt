@@ -15,6 +15,7 @@ ghost use Rattle.syndex_program.specs.Executes.{IsExecuted, made_of};
 ghost use Rattle.syndex_program.specs.Jobs.{IsFit, RunsIn};
 ghost use Rattle.syndex_program.specs.Unread.{LeavesUnread};
 
+use crate::exec::{read_foreign, write_exec};
 use crate::execution::{Execution, load_execution, read_execution};
 use crate::load::write_load;
 use crate::run::write_run;
@@ -79,6 +80,17 @@ fn status_for<R: Threads + Wait + Sync, S: Shelf, K: Sink, G: Gate>(
             let made = load_execution(alloc, *n);
             load_made(alloc, made, out, drive, driven)
         }
+        Command::Exec {
+            algorithm,
+            architecture,
+            code,
+            sensors,
+            workers,
+        } => match read_foreign(alloc, shelf, algorithm, architecture, code, sensors) {
+            Ok(foreign) => write_exec(alloc, &foreign, out, drive, *workers, driven),
+            Err(refused) => refused,
+        },
+        Command::Dates { .. } => unreachable!(),
         Command::Check { .. } => unreachable!(),
         Command::Sim { .. } => unreachable!(),
         Command::Flat { .. } => unreachable!(),

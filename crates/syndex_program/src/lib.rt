@@ -25,6 +25,7 @@ mod architecture;
 mod chart;
 mod check;
 mod code;
+mod exec;
 mod execution;
 mod files;
 mod flat;

@@ -86,6 +86,8 @@ fn text_of<S: Shelf>(
         } => Some(code_text(alloc, shelf, algorithm, architecture)),
         Command::Run { .. } => None,
         Command::Load(_) => None,
+        Command::Exec { .. } => None,
+        Command::Dates { .. } => None,
     }
 }
 
