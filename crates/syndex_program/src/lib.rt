@@ -25,6 +25,7 @@ mod architecture;
 mod chart;
 mod check;
 mod code;
+mod dates;
 mod exec;
 mod execution;
 mod files;
@@ -45,7 +46,7 @@ pub use command_status::Status;
 
 /// Every command that starts no thread. It answers how the command of the words ended, and writes
 /// its line to `err`; what happens there changes no status. It answers None exactly for a command that
-/// runs jobs, `run` and `load`, and nothing was read or written then. Nothing is read or written for
+/// runs jobs, `run`, `load` and `exec`, and nothing was read or written then. Nothing is read or written for
 /// words that are no command. It always returns.
 pub fn plain_command<S: Shelf, K: Sink, E: Sink>(
     alloc: Global,
@@ -66,7 +67,7 @@ pub fn plain_command<S: Shelf, K: Sink, E: Sink>(
 }
 
 /// The top call: the command of the words, from the files of the shelf to the output, with its line
-/// on `err`. For `run` and `load` threads are started and waited for by `rt`, and the gate is asked before
+/// on `err`. For `run`, `load` and `exec` threads are started and waited for by `rt`, and the gate is asked before
 /// each step; `driven` keeps what was driven.
 pub fn syndex<R: Threads + Wait + Sync, S: Shelf, K: Sink, E: Sink, G: Gate>(
     rt: &R,

@@ -15,6 +15,7 @@ ghost use Rattle.syndex_program.specs.Unread.{LeavesUnread};
 use crate::chart::chart_text;
 use crate::check::check_texts;
 use crate::code::code_text;
+use crate::dates::dates_listing;
 use crate::flat::listing_text;
 use crate::sim::sim_text;
 use command_status::Status;
@@ -86,8 +87,20 @@ fn text_of<S: Shelf>(
         } => Some(code_text(alloc, shelf, algorithm, architecture)),
         Command::Run { .. } => None,
         Command::Load(_) => None,
+        Command::Dates {
+            algorithm,
+            architecture,
+            durations,
+            reactions,
+        } => Some(dates_listing(
+            alloc,
+            shelf,
+            algorithm,
+            architecture,
+            durations,
+            *reactions,
+        )),
         Command::Exec { .. } => None,
-        Command::Dates { .. } => None,
     }
 }
 
