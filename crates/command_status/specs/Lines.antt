@@ -17,8 +17,16 @@ use Rattle.archi_defs.specs.declared.fault.ArchiFault.{ArchiFault}
 use Rattle.sensor_table.specs.declared.fault.SensorCause.{SensorCause}
 use Rattle.sensor_table.specs.declared.fault.SensorCause.TheVariants as s
 use Rattle.sensor_table.specs.declared.fault.SensorFault.{SensorFault}
+use Rattle.code_text.specs.declared.fault.CodeCause.{CodeCause}
+use Rattle.code_text.specs.declared.fault.CodeCause.TheVariants as c
+use Rattle.code_text.specs.declared.fault.CodeFault.{CodeFault}
+use Rattle.check_cause.specs.declared.cause.CheckCause.{CheckCause}
+use Rattle.check_cause.specs.declared.cause.CheckCause.TheVariants as k
+use Rattle.check_cause.specs.declared.cause.Stop.{Stop}
+use Rattle.actual_defs.specs.declared.fault.ActualFault.{ActualFault}
+use Rattle.actual_defs.specs.declared.fault.ActualFault.TheVariants as e
 use Rattle.command_status.specs.declared.status.Status.{Status}
-use Rattle.command_status.specs.declared.status.Status.TheVariants.{Done, Usage, ReadFault, WriteFault, AlgoRefused, ArchiRefused, SensorsRefused, Limit, NotBuilt, OutOfMemory}
+use Rattle.command_status.specs.declared.status.Status.TheVariants.{Done, Usage, ReadFault, WriteFault, AlgoRefused, ArchiRefused, SensorsRefused, CodeRefused, CheckRefused, ActualRefused, Limit, OutOfMemory}
 
 abbrev pub file_word : File → Bytes
 file_word file.Algorithm = codes "algorithm"
@@ -119,8 +127,9 @@ architecture_detail h.NoOperator = codes "\n"
 architecture_detail (h.Disconnected w v) = two_names_line w v
 architecture_detail (h.NoDuration w) = word_line w
 
-abbrev pub architecture_line : ArchiFault → Bytes
-architecture_line fault = head (codes "architecture line ") fault.line (architecture_word fault.cause) ++ architecture_detail fault.cause
+-- of an architecture, or of the durations that really occur
+abbrev pub described_line : Bytes → ArchiFault → Bytes
+described_line text fault = head text fault.line (architecture_word fault.cause) ++ architecture_detail fault.cause
 
 abbrev pub sensors_word : SensorCause → Bytes
 sensors_word s.BadHeader = codes "S1 BadHeader"
@@ -137,6 +146,62 @@ sensors_detail (s.BadNumber column) = number_line column
 abbrev pub sensors_line : SensorFault → Bytes
 sensors_line fault = head (codes "sensors row ") fault.row (sensors_word fault.cause) ++ sensors_detail fault.cause
 
+abbrev pub code_word : CodeCause → Bytes
+code_word c.BadLine = codes "C1 BadLine"
+code_word (c.UnknownMacro w) = codes "C2 UnknownMacro"
+code_word c.BadArgument = codes "C3 BadArgument"
+code_word (c.UnknownName w) = codes "C4 UnknownName"
+
+abbrev pub code_detail : CodeCause → Bytes
+code_detail c.BadLine = codes "\n"
+code_detail (c.UnknownMacro w) = word_line w
+code_detail c.BadArgument = codes "\n"
+code_detail (c.UnknownName w) = word_line w
+
+abbrev pub code_line : CodeFault → Bytes
+code_line fault = head (codes "code line ") fault.line (code_word fault.cause) ++ code_detail fault.cause
+
+-- a sequence that is not at its end, and the place of its next instruction
+abbrev pub stop_text : Stop → Bytes
+stop_text y = joined (codes " " ∷ decimal y.sequence ∷ codes "." ∷ decimal y.at ∷ [])
+
+abbrev pub stops_line : List Stop → Bytes
+stops_line [] = codes "\n"
+stops_line (y ∷ ys) = stop_text y ++ stops_line ys
+
+abbrev pub check_word : CheckCause → Bytes
+check_word k.Sequences = codes "K1 Sequences"
+check_word k.Calls = codes "K2 Calls"
+check_word k.Transfers = codes "K3 Transfers"
+check_word k.Buffers = codes "K4 Buffers"
+check_word k.Pairs = codes "K5 Pairs"
+check_word k.Prologue = codes "K6 Prologue"
+check_word (k.Stuck ys) = codes "K7 Stuck"
+
+abbrev pub check_detail : CheckCause → Bytes
+check_detail k.Sequences = codes "\n"
+check_detail k.Calls = codes "\n"
+check_detail k.Transfers = codes "\n"
+check_detail k.Buffers = codes "\n"
+check_detail k.Pairs = codes "\n"
+check_detail k.Prologue = codes "\n"
+check_detail (k.Stuck ys) = stops_line ys
+
+abbrev pub check_head : Bytes → Bytes
+check_head word = joined (codes "code check: " ∷ word ∷ [])
+
+abbrev pub check_line : CheckCause → Bytes
+check_line cause = check_head (check_word cause) ++ check_detail cause
+
+abbrev pub named_line : Bytes → Bytes → Bytes
+named_line text w = joined (text ∷ w ∷ codes "\n" ∷ [])
+
+abbrev pub durations_line : ActualFault → Bytes
+durations_line (e.Text fault) = described_line (codes "durations line ") fault
+durations_line e.Differs = codes "durations: E1 Differs\n"
+durations_line (e.Longer w) = named_line (codes "durations: E2 Longer ") w
+durations_line (e.Missing w) = named_line (codes "durations: E3 Missing ") w
+
 -- the line of a status: none where it is Done
 abbrev pub line_of : Status → Bytes
 line_of Done = []
@@ -144,10 +209,12 @@ line_of Usage = codes "usage\n"
 line_of (ReadFault f) = joined (codes "cannot read " ∷ file_word f ∷ codes "\n" ∷ [])
 line_of WriteFault = codes "cannot write\n"
 line_of (AlgoRefused fault) = algorithm_line fault
-line_of (ArchiRefused fault) = architecture_line fault
+line_of (ArchiRefused fault) = described_line (codes "architecture line ") fault
 line_of (SensorsRefused fault) = sensors_line fault
+line_of (CodeRefused fault) = code_line fault
+line_of (CheckRefused cause) = check_line cause
+line_of (ActualRefused fault) = durations_line fault
 line_of (Limit fault) = limit_line fault
-line_of NotBuilt = codes "not built\n"
 line_of OutOfMemory = codes "out of memory\n"
 
 -- what is appended to the error sink: a prefix of the line, and all of it where no call on the sink failed

@@ -10,9 +10,16 @@ use Rattle.archi_defs.specs.declared.fault.ArchiFault.{ArchiFault}
 use Rattle.sensor_table.specs.declared.fault.SensorError.{SensorError}
 use Rattle.sensor_table.specs.declared.fault.SensorError.TheVariants as sensors
 use Rattle.sensor_table.specs.declared.fault.SensorFault.{SensorFault}
+use Rattle.code_text.specs.declared.fault.CodeError.{CodeError}
+use Rattle.code_text.specs.declared.fault.CodeError.TheVariants as code
+use Rattle.code_text.specs.declared.fault.CodeFault.{CodeFault}
+use Rattle.check_cause.specs.declared.cause.CheckCause.{CheckCause}
+use Rattle.actual_defs.specs.declared.fault.ActualError.{ActualError}
+use Rattle.actual_defs.specs.declared.fault.ActualError.TheVariants as durations
+use Rattle.actual_defs.specs.declared.fault.ActualFault.{ActualFault}
 use Rattle.syn_base.specs.declared.limits.LimitFault.{LimitFault}
 use Rattle.command_status.specs.declared.status.Status.{Status}
-use Rattle.command_status.specs.declared.status.Status.TheVariants.{Done, Usage, ReadFault, WriteFault, AlgoRefused, ArchiRefused, SensorsRefused, Limit, NotBuilt, OutOfMemory}
+use Rattle.command_status.specs.declared.status.Status.TheVariants.{Done, Usage, ReadFault, WriteFault, AlgoRefused, ArchiRefused, SensorsRefused, CodeRefused, CheckRefused, ActualRefused, Limit, OutOfMemory}
 
 -- Why a command is refused. No definition says `wants_memory`: it is there because the types of errors have it.
 pub data Refusal : Type 0 where
@@ -20,8 +27,10 @@ pub data Refusal : Type 0 where
   bad_algorithm : AlgoFault → Refusal
   bad_architecture : ArchiFault → Refusal
   bad_sensors : SensorFault → Refusal
+  bad_code : CodeFault → Refusal
+  failed_check : CheckCause → Refusal
+  bad_durations : ActualFault → Refusal
   above : LimitFault → Refusal
-  not_built : Refusal
   wants_memory : Refusal
 
 -- the ending of a plan that a status stands for
@@ -33,8 +42,10 @@ ending_of WriteFault = unwritten
 ending_of (AlgoRefused fault) = refused (bad_algorithm fault)
 ending_of (ArchiRefused fault) = refused (bad_architecture fault)
 ending_of (SensorsRefused fault) = refused (bad_sensors fault)
+ending_of (CodeRefused fault) = refused (bad_code fault)
+ending_of (CheckRefused cause) = refused (failed_check cause)
+ending_of (ActualRefused fault) = refused (bad_durations fault)
 ending_of (Limit fault) = refused (above fault)
-ending_of NotBuilt = refused not_built
 ending_of OutOfMemory = no_memory
 
 -- the number with which the program ends
@@ -48,7 +59,9 @@ number_of (ArchiRefused fault) = 6
 number_of (SensorsRefused fault) = 7
 number_of (Limit fault) = 8
 number_of OutOfMemory = 9
-number_of NotBuilt = 10
+number_of (CodeRefused fault) = 11
+number_of (CheckRefused cause) = 12
+number_of (ActualRefused fault) = 13
 
 -- the refusal by an algorithm's text
 abbrev pub of_algorithm : AlgoError → Refusal
@@ -82,3 +95,25 @@ abbrev pub status_of_sensors : SensorError → Status
 status_of_sensors (sensors.Refused fault) = SensorsRefused fault
 status_of_sensors (sensors.Limit fault) = Limit fault
 status_of_sensors sensors.OutOfMemory = OutOfMemory
+
+-- the refusal by a text of macro-code
+abbrev pub of_code : CodeError → Refusal
+of_code (code.Refused fault) = bad_code fault
+of_code (code.Limit fault) = above fault
+of_code code.OutOfMemory = wants_memory
+
+abbrev pub status_of_code : CodeError → Status
+status_of_code (code.Refused fault) = CodeRefused fault
+status_of_code (code.Limit fault) = Limit fault
+status_of_code code.OutOfMemory = OutOfMemory
+
+-- the refusal by a text of the durations that really occur
+abbrev pub of_durations : ActualError → Refusal
+of_durations (durations.Refused fault) = bad_durations fault
+of_durations (durations.Limit fault) = above fault
+of_durations durations.OutOfMemory = wants_memory
+
+abbrev pub status_of_durations : ActualError → Status
+status_of_durations (durations.Refused fault) = ActualRefused fault
+status_of_durations (durations.Limit fault) = Limit fault
+status_of_durations durations.OutOfMemory = OutOfMemory

@@ -1,18 +1,18 @@
-//! The line of a refused architecture.
+//! The line of a refused architecture, and of a text of durations that is refused as one.
 ghost use Rattle.std.specs.Prelude.{◌≡◌, is_ok};
 ghost use Rattle.outside.specs.Sink.{Wrote};
-ghost use Rattle.command_status.specs.Lines.{architecture_detail, architecture_line, architecture_word, two_names_line};
+ghost use Rattle.command_status.specs.Lines.{architecture_detail, architecture_word, described_line, two_names_line};
 
 use crate::line::{write_head, write_number, write_word};
 use archi_defs::{ArchiCause, ArchiFault};
 use outside::{Failed, Sink, write_pieces, write_whole};
 
-/// Where an architecture's text is refused, for which cause, and what stands behind it.
-pub fn write_architecture<E: Sink>(err: &mut E, fault: &ArchiFault) -> Result<(), Failed>
-    ensures { Wrote (E.sunk err.old) (E.sunk err.new) (architecture_line fault.now) (is_ok result) }
+/// Where an architecture's text is refused, for which cause, and what stands behind it, after this text.
+pub fn write_described<E: Sink>(err: &mut E, text: &[u8], fault: &ArchiFault) -> Result<(), Failed>
+    ensures { Wrote (E.sunk err.old) (E.sunk err.new) (described_line text.now fault.now) (is_ok result) }
 {
     let word = architecture_word(&fault.cause);
-    write_head(err, b"architecture line ", u64::from(fault.line), word)?;
+    write_head(err, text, u64::from(fault.line), word)?;
     write_architecture_detail(err, &fault.cause)
 }
 

@@ -2,6 +2,8 @@
 #![tactic(auto)]
 
 mod architecture;
+mod code;
+mod durations;
 mod line;
 mod status;
 #[cfg(test)]

@@ -3,7 +3,9 @@ ghost use Rattle.std.specs.Prelude.{◌≡◌, is_ok, map};
 ghost use Rattle.outside.specs.Sink.{Wrote};
 ghost use Rattle.command_status.specs.Lines.{algorithm_detail, algorithm_line, algorithm_word, counts_line, file_word, head, limit_line, line_of, names_line, number_line, sensors_detail, sensors_line, sensors_word, word_line, Said};
 
-use crate::architecture::write_architecture;
+use crate::architecture::write_described;
+use crate::code::{write_check, write_code};
+use crate::durations::write_durations;
 use crate::status::Status;
 use algo_defs::{AlgoCause, AlgoFault};
 use itoa::Buffer;
@@ -27,10 +29,12 @@ fn write_line<E: Sink>(err: &mut E, status: &Status) -> Result<(), Failed>
         Status::ReadFault(file) => write_pieces(err, &[b"cannot read ", word_of(*file), b"\n"]),
         Status::WriteFault => write_whole(err, b"cannot write\n"),
         Status::AlgoRefused(fault) => write_algorithm(err, fault),
-        Status::ArchiRefused(fault) => write_architecture(err, fault),
+        Status::ArchiRefused(fault) => write_described(err, b"architecture line ", fault),
         Status::SensorsRefused(fault) => write_sensors(err, fault),
+        Status::CodeRefused(fault) => write_code(err, fault),
+        Status::CheckRefused(cause) => write_check(err, cause),
+        Status::ActualRefused(fault) => write_durations(err, fault),
         Status::Limit(fault) => write_limit(err, fault),
-        Status::NotBuilt => write_whole(err, b"not built\n"),
         Status::OutOfMemory => write_whole(err, b"out of memory\n"),
     }
 }

@@ -1,10 +1,13 @@
 //! The status of a command that has ended.
 ghost use Rattle.std.specs.Prelude.{◌≡◌};
-ghost use Rattle.command_status.specs.Status.{number_of, status_of_algorithm, status_of_architecture, status_of_sensors};
+ghost use Rattle.command_status.specs.Status.{number_of, status_of_algorithm, status_of_architecture, status_of_code, status_of_durations, status_of_sensors};
 ghost use Rattle.command_status.specs.declared.status.Status.TheVariants.{OutOfMemory as Wants};
 
+use actual_defs::{ActualError, ActualFault};
 use algo_defs::{AlgoError, AlgoFault};
 use archi_defs::{ArchiError, ArchiFault};
+use check_cause::CheckCause;
+use code_text::{CodeError, CodeFault};
 use outside::File;
 use sensor_table::{SensorError, SensorFault};
 use syn_base::{LimitFault, OutOfMemory};
@@ -26,10 +29,14 @@ pub enum Status {
     ArchiRefused(ArchiFault),
     /// The first refusal of the sensor table.
     SensorsRefused(SensorFault),
+    /// The first refusal of a text of macro-code.
+    CodeRefused(CodeFault),
+    /// The first that the program of such a text lacks.
+    CheckRefused(CheckCause),
+    /// The first refusal of the durations that really occur.
+    ActualRefused(ActualFault),
     /// A quantity is above its bound.
     Limit(LimitFault),
-    /// A command that is not built yet.
-    NotBuilt,
     /// There was not enough memory.
     OutOfMemory,
 }
@@ -49,7 +56,9 @@ impl Status {
             Status::SensorsRefused(_) => 7,
             Status::Limit(_) => 8,
             Status::OutOfMemory => 9,
-            Status::NotBuilt => 10,
+            Status::CodeRefused(_) => 11,
+            Status::CheckRefused(_) => 12,
+            Status::ActualRefused(_) => 13,
         }
     }
 }
@@ -86,6 +95,30 @@ impl From<SensorError> for Status {
             SensorError::Refused(fault) => Status::SensorsRefused(fault),
             SensorError::Limit(fault) => Status::Limit(fault),
             SensorError::OutOfMemory => Status::OutOfMemory,
+        }
+    }
+}
+
+impl From<CodeError> for Status {
+    ghost from_gives = { λ error status. status ≡ status_of_code error };
+
+    fn from(error: CodeError) -> Status {
+        match error {
+            CodeError::Refused(fault) => Status::CodeRefused(fault),
+            CodeError::Limit(fault) => Status::Limit(fault),
+            CodeError::OutOfMemory => Status::OutOfMemory,
+        }
+    }
+}
+
+impl From<ActualError> for Status {
+    ghost from_gives = { λ error status. status ≡ status_of_durations error };
+
+    fn from(error: ActualError) -> Status {
+        match error {
+            ActualError::Refused(fault) => Status::ActualRefused(fault),
+            ActualError::Limit(fault) => Status::Limit(fault),
+            ActualError::OutOfMemory => Status::OutOfMemory,
         }
     }
 }

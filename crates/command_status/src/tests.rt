@@ -2,8 +2,11 @@
 ghost use Rattle.std.specs.Prelude.{◌≤◌};
 
 use super::*;
+use actual_defs::ActualFault;
 use algo_defs::{AlgoCause, AlgoFault};
 use archi_defs::{ArchiCause, ArchiFault};
+use check_cause::{CheckCause, Stop};
+use code_text::{CodeCause, CodeFault};
 use outside::SinkMem;
 use sensor_table::{SensorCause, SensorFault};
 use std::alloc::{AllocError, Global};
@@ -123,5 +126,39 @@ fn says_what_is_above_its_bound(rt: HostRuntime) -> Result<(), Fail> {
         bound: 64,
     });
     assert!(rt; says(rt.alloc(), &limit, 8, b"limit length: 65 above 64\n")?);
+    Ok(())
+}
+
+#[test]
+fn says_which_macro_is_unknown(rt: HostRuntime) -> Result<(), Fail> {
+    let alloc = rt.alloc();
+    let word = Items::new(Vec::from_slice(alloc, b"x")?);
+    let unknown = Status::CodeRefused(CodeFault {
+        line: 4,
+        cause: CodeCause::UnknownMacro(word),
+    });
+    assert!(rt; says(alloc, &unknown, 11, b"code line 4: C2 UnknownMacro x\n")?);
+    Ok(())
+}
+
+#[test]
+fn says_where_a_run_stops(rt: HostRuntime) -> Result<(), Fail> {
+    let alloc = rt.alloc();
+    let mut stops = Vec::new(alloc);
+    stops.push(Stop { sequence: 0, at: 1 })?;
+    stops.push(Stop {
+        sequence: 12,
+        at: 0,
+    })?;
+    let stuck = Status::CheckRefused(CheckCause::Stuck(Items::new(stops)));
+    assert!(rt; says(alloc, &stuck, 12, b"code check: K7 Stuck 0.1 12.0\n")?);
+    Ok(())
+}
+
+#[test]
+fn says_what_lasts_longer(rt: HostRuntime) -> Result<(), Fail> {
+    let alloc = rt.alloc();
+    let longer = Status::ActualRefused(ActualFault::Longer(Name::new(alloc, b"bus")?));
+    assert!(rt; says(alloc, &longer, 13, b"durations: E2 Longer bus\n")?);
     Ok(())
 }

@@ -3,7 +3,7 @@ use Rattle.std.proofs.Common.{◌≡◌, List, [], ◌∷◌, Bool, true, false,
 use Rattle.clap.specs.Walk.{Held, Row, nothing_held, arg_by_index, to_positional}
 use Rattle.clap.specs.Simple.{Shape, App, built_leaf, inherited, with_leaf_noted, marked_built}
 use Rattle.command_words.proofs.Table.{Text}
-use Rattle.command_words.specs.App.{the_app, one_app, two_app, row, rows}
+use Rattle.command_words.specs.App.{the_app, one_app, two_app, four_app, row, rows, four_rows}
 use Rattle.command_words.proofs.Leaf.{IsRefused, NoOptions, at}
 use Rattle.clap.specs.Kinds.{Kinds}
 use Rattle.clap.specs.Faults.{walk_fault, defaults_fault}
@@ -141,3 +141,74 @@ both_read name = pair_reads name true (needs_both name)
 
 pub one_or_two_read : (name : Text) → Reads (pair name false) nothing_held 1 (wants_two name false)
 one_or_two_read name = pair_reads name false (needs_one name)
+
+abbrev h3 : Text → Text → Text → Held
+h3 a b c = record { rows = row (codes "first") a ∷ row (codes "second") b ∷ []; pending = Some (codes "third", c ∷ []); skip = 0 }
+
+abbrev h4 : Text → Text → Text → Text → Held
+h4 a b c d = record { rows = row (codes "first") a ∷ row (codes "second") b ∷ row (codes "third") c ∷ []; pending = Some (codes "fourth", d ∷ []); skip = 0 }
+
+module _ (name : Text) where
+  abbrev pub quad : Shape
+  quad = leaf (four_app true name)
+
+  abbrev pub wants_four : List Text → Option (List Row)
+  wants_four (a ∷ b ∷ c ∷ d ∷ []) = Some (four_rows a b c d)
+  wants_four _ = None
+
+  quad_free : NoOptions quad
+  quad_free = record { long = λ n. refl; short = λ c. refl }
+
+  quad_ends0 : (t : Bool) → Fits quad (at nothing_held 1 t) [] None
+  unfolding walk_fault defaults_fault
+  quad_ends0 t = missing (faults_of quad (at nothing_held 1 t) []) refl
+
+  quad_ends1 : (a : Text) (t : Bool) → Fits quad (at (h1 a) 2 t) [] None
+  unfolding walk_fault defaults_fault
+  quad_ends1 a t = missing (faults_of quad (at (h1 a) 2 t) []) refl
+
+  quad_ends2 : (a b : Text) (t : Bool) → Fits quad (at (h2 a b) 3 t) [] None
+  unfolding walk_fault defaults_fault
+  quad_ends2 a b t = missing (faults_of quad (at (h2 a b) 3 t) []) refl
+
+  quad_ends3 : (a b c : Text) (t : Bool) → Fits quad (at (h3 a b c) 4 t) [] None
+  unfolding walk_fault defaults_fault
+  quad_ends3 a b c t = missing (faults_of quad (at (h3 a b c) 4 t) []) refl
+
+  quad_ends4 : (a b c d : Text) (t : Bool) → Fits quad (at (h4 a b c d) 5 t) [] (Some (four_rows a b c d))
+  unfolding walk_fault defaults_fault
+  quad_ends4 a b c d t = (refl, refl)
+
+  quad_goes0 : (x : Text) (t : Bool) → to_positional quad.rules (arg_by_index quad.rules 1) x (at nothing_held 1 t) nothing_held ≡ at (h1 x) 2 t
+  quad_goes0 x true = refl
+  quad_goes0 x false = refl
+
+  quad_goes1 : (a x : Text) (t : Bool) → to_positional quad.rules (arg_by_index quad.rules 2) x (at (h1 a) 2 t) (h1 a) ≡ at (h2 a x) 3 t
+  quad_goes1 a x true = refl
+  quad_goes1 a x false = refl
+
+  quad_goes2 : (a b x : Text) (t : Bool) → to_positional quad.rules (arg_by_index quad.rules 3) x (at (h2 a b) 3 t) (h2 a b) ≡ at (h3 a b x) 4 t
+  quad_goes2 a b x true = refl
+  quad_goes2 a b x false = refl
+
+  quad_goes3 : (a b c x : Text) (t : Bool) → to_positional quad.rules (arg_by_index quad.rules 4) x (at (h3 a b c) 4 t) (h3 a b c) ≡ at (h4 a b c x) 5 t
+  quad_goes3 a b c x true = refl
+  quad_goes3 a b c x false = refl
+
+  quad_fifth : (a b c d : Text) → Reads quad (h4 a b c d) 5 (λ us. wants_four (a ∷ b ∷ c ∷ d ∷ us))
+  quad_fifth a b c d = last quad (h4 a b c d) 5 (λ us. wants_four (a ∷ b ∷ c ∷ d ∷ us)) quad_free refl (quad_ends4 a b c d) (stray _ refl) (λ x us. refl)
+
+  quad_fourth : (a b c : Text) → Reads quad (h3 a b c) 4 (λ us. wants_four (a ∷ b ∷ c ∷ us))
+  quad_fourth a b c = stage quad (h3 a b c) 4 (λ us. wants_four (a ∷ b ∷ c ∷ us)) quad_free refl (quad_ends3 a b c) (h4 a b c) (λ d us. wants_four (a ∷ b ∷ c ∷ d ∷ us))
+      (record { passes = λ x. refl; goes = quad_goes3 a b c }) (λ x us. refl) (quad_fifth a b c)
+
+  quad_third : (a b : Text) → Reads quad (h2 a b) 3 (λ us. wants_four (a ∷ b ∷ us))
+  quad_third a b = stage quad (h2 a b) 3 (λ us. wants_four (a ∷ b ∷ us)) quad_free refl (quad_ends2 a b) (h3 a b) (λ c us. wants_four (a ∷ b ∷ c ∷ us))
+      (record { passes = λ x. refl; goes = quad_goes2 a b }) (λ x us. refl) (quad_fourth a b)
+
+  quad_second : (a : Text) → Reads quad (h1 a) 2 (λ us. wants_four (a ∷ us))
+  quad_second a = stage quad (h1 a) 2 (λ us. wants_four (a ∷ us)) quad_free refl (quad_ends1 a) (h2 a) (λ b us. wants_four (a ∷ b ∷ us))
+      (record { passes = λ x. refl; goes = quad_goes1 a }) (λ x us. refl) (quad_third a)
+
+  pub four_read : Reads quad nothing_held 1 wants_four
+  four_read = stage quad nothing_held 1 wants_four quad_free refl quad_ends0 h1 (λ a us. wants_four (a ∷ us)) (record { passes = λ x. refl; goes = quad_goes0 }) (λ x us. refl) quad_second

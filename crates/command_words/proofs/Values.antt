@@ -45,30 +45,30 @@ module _ {Z : Type 0} where
   texts [] = tt
   texts (w ∷ ws) = (IsUtf8-string_bytes w, texts ws)
 
-gives : (words : List Text) (name a : Text) (b c w : Option Text) → command_of words ≡ made name a b c w → (r : Option Given) → IsSomeAnd r (Is name a b c w) → Gives words r
-gives words name a b c w e None h = absurd h
-gives words name a b c w e (Some g) h = e ∙ rw (sym h.0, sym h.1, sym h.2, sym h.3, sym h.4) refl
+gives : (words : List Text) (name a : Text) (b c d w : Option Text) → command_of words ≡ made name a b c d w → (r : Option Given) → IsSomeAnd r (Is name a b c d w) → Gives words r
+gives words name a b c d w e None h = absurd h
+gives words name a b c d w e (Some g) h = e ∙ rw (sym h.0, sym h.1, sym h.2, sym h.3, sym h.4, sym h.5) refl
 
 memory : (k : ErrorKind) → k ≡ kind.OutOfMemory → wants_memory k ≡ true
 memory k e = ap wants_memory e
 
 module _ (words : List Text) (app : App) (is : app ≡ the_app) (t : AreTexts words) where
   found : Exact words → (m : ArgMatches) → fault_of the_app words ≡ [] → subcommand_rows_of m ≡ subcommand_of the_app words → (r : Option Given)
-      → ((name a : Text) (b c w : Option Text) (rs : List Row) → subcommand_rows_of m ≡ Some (name, rs) → Tells rs a b c w → IsSomeAnd r (Is name a b c w)) → Gives words r
+      → ((name a : Text) (b c d w : Option Text) (rs : List Row) → subcommand_rows_of m ≡ Some (name, rs) → Tells rs a b c d w → IsSomeAnd r (Is name a b c d w)) → Gives words r
   found (refused f n) m e s r h = absurd (f e)
-  found (accepted name a b c w rs f s' t n) m e s r h = gives words name a b c w n r (h name a b c w rs (s ∙ s') t)
+  found (accepted name a b c d w rs f s' t n) m e s r h = gives words name a b c d w n r (h name a b c d w rs (s ∙ s') t)
 
   -- clap's matches
   pub ok_gives : (m : ArgMatches) → (is_simple_and_free app ≡ true → fault_of app words ≡ []) → HasMatchesOf app words m → (r : Option Given)
-      → ((name a : Text) (b c w : Option Text) (rs : List Row) → subcommand_rows_of m ≡ Some (name, rs) → Tells rs a b c w → IsSomeAnd r (Is name a b c w)) → Gives words r
+      → ((name a : Text) (b c d w : Option Text) (rs : List Row) → subcommand_rows_of m ≡ Some (name, rs) → Tells rs a b c d w → IsSomeAnd r (Is name a b c d w)) → Gives words r
   ok_gives m h g r p =
       found (exact words t) m (subst (λ (a : App). fault_of a words ≡ []) is (h (ap is_simple_and_free is ∙ simple)))
       ((g (ap is_simple is ∙ simple_too)).1 ∙ ap (λ (a : App). subcommand_of a words) is) r p
 
   none_by : Exact words → (e : Error) → HasKind (fault_of the_app words) e → wants_memory (kind_of e) ≡ false → command_of words ≡ None
   none_by (refused f n) e h w = n
-  none_by (accepted name a b c v rs f s t n) e (inl m) w = let bad : true ≡ false = sym (memory (kind_of e) m) ∙ w in cc
-  none_by (accepted name a b c v rs f s t n) e (inr among) w = absurd (subst (λ (ks : Kinds). IsAmong (kind_of e) ks) f among)
+  none_by (accepted name a b c d v rs f s t n) e (inl m) w = let bad : true ≡ false = sym (memory (kind_of e) m) ∙ w in cc
+  none_by (accepted name a b c d v rs f s t n) e (inr among) w = absurd (subst (λ (ks : Kinds). IsAmong (kind_of e) ks) f among)
 
   -- an error that is not of memory
   pub err_none : (e : Error) → (is_simple_and_free app ≡ true → HasKind (fault_of app words) e) → wants_memory (kind_of e) ≡ false → command_of words ≡ None

@@ -7,7 +7,7 @@ use Rattle.clap.specs.Simple.{Shape, built, names_of, entered, subcommand_of, is
 use Rattle.clap.specs.Kinds.{Kinds, or_else}
 use Rattle.clap.specs.Faults.{fault_of, other_fault, turn_fault, word_fault, walk_fault, defaults_fault, settle_fault, check_fault, entered_fault, is_simple_and_free}
 use Rattle.clap.specs.declared.error.kind.ErrorKind.TheVariants as kind
-use Rattle.command_words.specs.App.{the_app, one_app, two_app, run_app}
+use Rattle.command_words.specs.App.{the_app, one_app, two_app, four_app, working_app}
 use Rattle.command_words.proofs.Table.{Text, is_escape, is_dashed}
 use Rattle.command_words.proofs.Looks.{two_ways, plain_long, plain_short}
 use Rattle.command_words.proofs.Leaf.{IsRefused, refused_first, NoOptions, at, word_dashed}
@@ -99,9 +99,17 @@ names_load : IsNamed (codes "load") (leaf (one_app (codes "load")))
 unfolding walked defaults_fault
 names_load = record { first = refl; turn = refl; below = λ ws. refl; found = λ ws. refl }
 
-names_run : IsNamed (codes "run") (leaf run_app)
+names_dates : IsNamed (codes "dates") (leaf (four_app true (codes "dates")))
+unfolding walked defaults_fault
+names_dates = record { first = refl; turn = refl; below = λ ws. refl; found = λ ws. refl }
+
+names_run : IsNamed (codes "run") (leaf (working_app false (codes "run")))
 unfolding walked defaults_fault
 names_run = record { first = refl; turn = refl; below = λ ws. refl; found = λ ws. refl }
+
+names_exec : IsNamed (codes "exec") (leaf (working_app true (codes "exec")))
+unfolding walked defaults_fault
+names_exec = record { first = refl; turn = refl; below = λ ws. refl; found = λ ws. refl }
 
 pub at_check : Behaves (codes "check") (leaf (two_app false (codes "check")))
 at_check = behaves (codes "check") (leaf (two_app false (codes "check"))) names_check
@@ -121,8 +129,14 @@ at_code = behaves (codes "code") (leaf (two_app true (codes "code"))) names_code
 pub at_load : Behaves (codes "load") (leaf (one_app (codes "load")))
 at_load = behaves (codes "load") (leaf (one_app (codes "load"))) names_load
 
-pub at_run : Behaves (codes "run") (leaf run_app)
-at_run = behaves (codes "run") (leaf run_app) names_run
+pub at_dates : Behaves (codes "dates") (leaf (four_app true (codes "dates")))
+at_dates = behaves (codes "dates") (leaf (four_app true (codes "dates"))) names_dates
+
+pub at_run : Behaves (codes "run") (leaf (working_app false (codes "run")))
+at_run = behaves (codes "run") (leaf (working_app false (codes "run"))) names_run
+
+pub at_exec : Behaves (codes "exec") (leaf (working_app true (codes "exec")))
+at_exec = behaves (codes "exec") (leaf (working_app true (codes "exec"))) names_exec
 
 refused_by : (ks : Kinds) (k : kind.the_data) (more : Kinds) → ks ≡ k ∷ more → IsRefused ks
 refused_by ks k more e = λ b. cc
@@ -143,11 +157,13 @@ pub record IsOther (word : Text) : Type 0 where
   pub no_chart : bytes_eq (codes "chart") word ≡ false
   pub no_code : bytes_eq (codes "code") word ≡ false
   pub no_load : bytes_eq (codes "load") word ≡ false
+  pub no_dates : bytes_eq (codes "dates") word ≡ false
   pub no_run : bytes_eq (codes "run") word ≡ false
+  pub no_exec : bytes_eq (codes "exec") word ≡ false
 
 module _ (word : Text) (n : IsOther word) where
   not_met : subcommand_met names idle word ≡ None
-  not_met = rw (n.no_check, n.no_sim, n.no_flat, n.no_chart, n.no_code, n.no_load, n.no_run) refl
+  not_met = rw (n.no_check, n.no_sim, n.no_flat, n.no_chart, n.no_code, n.no_load, n.no_dates, n.no_run, n.no_exec) refl
 
   turn_refused : (ws : List Text) (program : Text) → IsRefused (turn_fault top names (walk_from nothing_held) word) → IsRefused (fault_of the_app (program ∷ word ∷ ws))
   unfolding walk_fault
@@ -155,8 +171,8 @@ module _ (word : Text) (n : IsOther word) where
 
   escape_first : (program : Text) (ws : List Text) → is_escape word ≡ true → IsRefused (fault_of the_app (program ∷ word ∷ ws))
   unfolding walk_fault walked defaults_fault
-  escape_first program [] e = refused_by _ kind.MissingSubcommand [] (rw (n.no_check, n.no_sim, n.no_flat, n.no_chart, n.no_code, n.no_load, n.no_run, e) refl)
-  escape_first program (x ∷ xs) e = refused_by _ kind.UnknownArgument (kind.InvalidSubcommand ∷ []) (rw (n.no_check, n.no_sim, n.no_flat, n.no_chart, n.no_code, n.no_load, n.no_run, e) refl)
+  escape_first program [] e = refused_by _ kind.MissingSubcommand [] (rw (n.no_check, n.no_sim, n.no_flat, n.no_chart, n.no_code, n.no_load, n.no_dates, n.no_run, n.no_exec, e) refl)
+  escape_first program (x ∷ xs) e = refused_by _ kind.UnknownArgument (kind.InvalidSubcommand ∷ []) (rw (n.no_check, n.no_sim, n.no_flat, n.no_chart, n.no_code, n.no_load, n.no_dates, n.no_run, n.no_exec, e) refl)
 
   top_free : NoOptions top
   top_free = record { long = λ name. refl; short = λ c. refl }
@@ -168,7 +184,7 @@ module _ (word : Text) (n : IsOther word) where
 
   plain_first : is_escape word ≡ false → is_dashed word ≡ false → IsRefused (turn_fault top names (walk_from nothing_held) word)
   plain_first e d = refused_by _ kind.UnknownArgument (kind.InvalidSubcommand ∷ [])
-      (rw (n.no_check, n.no_sim, n.no_flat, n.no_chart, n.no_code, n.no_load, n.no_run, e, plain_long word d, plain_short word d) refl)
+      (rw (n.no_check, n.no_sim, n.no_flat, n.no_chart, n.no_code, n.no_load, n.no_dates, n.no_run, n.no_exec, e, plain_long word d, plain_short word d) refl)
 
   pub no_name : (program : Text) (ws : List Text) → IsUtf8 word → IsRefused (fault_of the_app (program ∷ word ∷ ws))
   no_name program ws u =

@@ -1,6 +1,6 @@
 -- Which commands worked words are.
 use Rattle.std.proofs.Common.{◌≡◌, refl, List, [], ◌∷◌, Option, Some, None, codes}
-use Rattle.command_words.specs.Command.{Bytes, Command, check, sim, flat, chart, code, run, load, command_of}
+use Rattle.command_words.specs.Command.{Bytes, Command, check, sim, flat, chart, code, run, load, exec, dates, command_of}
 
 abbrev a : Bytes
 a = codes "a"
@@ -63,3 +63,24 @@ hyphens = (refl, refl)
 
 loads : (of (codes "load" ∷ codes "1000" ∷ []) ≡ Some (load 1000)) × (of (codes "load" ∷ codes "0001" ∷ []) ≡ Some (load 1)) × (of (codes "load" ∷ codes "0" ∷ []) ≡ None) × (of (codes "load" ∷ codes "1001" ∷ []) ≡ None)
 loads = (refl, refl, refl, refl)
+
+-- macro-code takes workers as a run does, and needs four files
+abbrev c : Bytes
+c = codes "c"
+
+execs : (of (codes "exec" ∷ a ∷ h ∷ c ∷ s ∷ []) ≡ Some (exec a h c s None)) × (of (codes "exec" ∷ a ∷ codes "--workers" ∷ codes "80" ∷ h ∷ c ∷ s ∷ []) ≡ Some (exec a h c s (Some 80)))
+    × (of (codes "exec" ∷ a ∷ h ∷ c ∷ s ∷ codes "--workers=007" ∷ []) ≡ Some (exec a h c s (Some 7))) × (of (codes "exec" ∷ a ∷ h ∷ codes "--" ∷ codes "-" ∷ codes "--workers" ∷ []) ≡ Some (exec a h (codes "-") (codes "--workers") None))
+execs = (refl, refl, refl, refl)
+
+no_execs : (of (codes "exec" ∷ a ∷ h ∷ s ∷ []) ≡ None) × (of (codes "exec" ∷ a ∷ h ∷ c ∷ s ∷ c ∷ []) ≡ None) × (of (codes "exec" ∷ a ∷ h ∷ c ∷ s ∷ codes "--workers=81" ∷ []) ≡ None)
+    × (of (codes "exec" ∷ a ∷ h ∷ c ∷ s ∷ codes "--workers" ∷ []) ≡ None) × (of (workers (c ∷ [])) ≡ None)
+no_execs = (refl, refl, refl, refl, refl)
+
+-- 1 to 1,000 reactions are dated, and there is no option
+dated : (of (codes "dates" ∷ a ∷ h ∷ h ∷ codes "2" ∷ []) ≡ Some (dates a h h 2)) × (of (codes "dates" ∷ a ∷ h ∷ h ∷ codes "01000" ∷ []) ≡ Some (dates a h h 1000))
+    × (of (codes "dates" ∷ a ∷ h ∷ h ∷ codes "0" ∷ []) ≡ None) × (of (codes "dates" ∷ a ∷ h ∷ h ∷ codes "1001" ∷ []) ≡ None)
+dated = (refl, refl, refl, refl)
+
+not_dated : (of (codes "dates" ∷ a ∷ h ∷ codes "2" ∷ []) ≡ None) × (of (codes "dates" ∷ a ∷ h ∷ h ∷ codes "2" ∷ s ∷ []) ≡ None) × (of (codes "dates" ∷ a ∷ h ∷ h ∷ codes "2" ∷ codes "--workers=1" ∷ []) ≡ None)
+    × (of (codes "dates" ∷ a ∷ h ∷ h ∷ codes "-2" ∷ []) ≡ None)
+not_dated = (refl, refl, refl, refl)

@@ -15,21 +15,30 @@ one_app name = with_rule (new_app name) (argument (codes "first") true)
 abbrev pub two_app : Bool → Bytes → App
 two_app needed name = with_rule (one_app name) (argument (codes "second") needed)
 
--- the option that may be given beside the plain arguments of `run`
+abbrev pub four_app : Bool → Bytes → App
+four_app needed name = with_rule (with_rule (two_app true name) (argument (codes "third") true)) (argument (codes "fourth") needed)
+
+-- the option that may be given beside the plain arguments of `run` and `exec`
 abbrev pub workers_rule : Rule
 workers_rule = record (new_rule (codes "workers")) { long = Some (codes "workers") }
 
-abbrev pub run_app : App
-run_app = with_rule (with_rule (two_app true (codes "run")) (argument (codes "third") true)) workers_rule
+-- Those two differ in whether the fourth argument has to be there; a `run` with one is no command.
+abbrev pub working_app : Bool → Bytes → App
+working_app needed name = with_rule (four_app needed name) workers_rule
 
 abbrev pub bare_app : App
 bare_app = on_top (λ s. record s { disable_help_flag = true; disable_help_subcommand = true; subcommand_required = true }) (new_app (codes "syndex"))
 
+abbrev pub texts_app : App
+texts_app =
+    with_subcommand (with_subcommand (with_subcommand (with_subcommand (with_subcommand bare_app
+    (two_app false (codes "check")).top) (two_app true (codes "sim")).top) (one_app (codes "flat")).top)
+    (two_app true (codes "chart")).top) (two_app true (codes "code")).top
+
 abbrev pub the_app : App
 the_app =
-    with_subcommand (with_subcommand (with_subcommand (with_subcommand (with_subcommand (with_subcommand (with_subcommand bare_app
-    (two_app false (codes "check")).top) (two_app true (codes "sim")).top) (one_app (codes "flat")).top)
-    (two_app true (codes "chart")).top) (two_app true (codes "code")).top) (one_app (codes "load")).top) run_app.top
+    with_subcommand (with_subcommand (with_subcommand (with_subcommand texts_app
+    (one_app (codes "load")).top) (four_app true (codes "dates")).top) (working_app false (codes "run")).top) (working_app true (codes "exec")).top
 
 -- what a parse finds
 abbrev pub row : Bytes → Bytes → Row
@@ -38,3 +47,6 @@ row id v = record { id = id; values = v ∷ []; count = None; source = Some Comm
 abbrev pub rows : Bytes → Option Bytes → List Row
 rows a None = row (codes "first") a ∷ []
 rows a (Some b) = row (codes "first") a ∷ row (codes "second") b ∷ []
+
+abbrev pub four_rows : Bytes → Bytes → Bytes → Bytes → List Row
+four_rows a b c d = row (codes "first") a ∷ row (codes "second") b ∷ row (codes "third") c ∷ row (codes "fourth") d ∷ []

@@ -20,6 +20,10 @@ pub data Command : Type 0 where
   -- the algorithm, the architecture and the sensor table, and the number of workers if it is given
   run : Bytes → Bytes → Bytes → Option ℕ → Command
   load : ℕ → Command
+  -- the algorithm, the architecture, the code and the sensor table, and the number of workers if it is given
+  exec : Bytes → Bytes → Bytes → Bytes → Option ℕ → Command
+  -- the algorithm, the architecture, the durations that really occur, and the number of reactions
+  dates : Bytes → Bytes → Bytes → ℕ → Command
 
 -- one or more digits, which give a number from 1 up to this one
 abbrev pub number_up_to : ℕ → Bytes → Option ℕ
@@ -78,9 +82,17 @@ abbrev pub three : (Bytes → Bytes → Bytes → Option Command) → List Bytes
 three go (a ∷ b ∷ c ∷ []) = go a b c
 three go _ = None
 
+abbrev pub four : (Bytes → Bytes → Bytes → Bytes → Option Command) → List Bytes → Option Command
+four go (a ∷ b ∷ c ∷ d ∷ []) = go a b c d
+four go _ = None
+
 abbrev pub loaded : Option ℕ → Option Command
 loaded None = None
 loaded (Some n) = Some (load n)
+
+abbrev pub dated : Bytes → Bytes → Bytes → Option ℕ → Option Command
+dated a h g None = None
+dated a h g (Some n) = Some (dates a h g n)
 
 abbrev pub with_count : (Option ℕ → Option Command) → Option ℕ → Option Command
 with_count go None = None
@@ -100,6 +112,10 @@ abbrev pub run_by : Option Arguments → Option Command
 run_by None = None
 run_by (Some a) = counted (λ workers. three (λ alg archi sensors. Some (run alg archi sensors workers)) a.plain) a.workers
 
+abbrev pub exec_by : Option Arguments → Option Command
+exec_by None = None
+exec_by (Some a) = counted (λ workers. four (λ alg archi code sensors. Some (exec alg archi code sensors workers)) a.plain) a.workers
+
 abbrev pub plain : (List Bytes → Option Command) → List Bytes → Option Command
 plain go ws = plain_by go (arguments_of false false ws)
 
@@ -112,6 +128,8 @@ command_by name ws =
     if bytes_eq name (codes "code") then plain (two (λ a h. Some (code a h))) ws else
     if bytes_eq name (codes "run") then run_by (arguments_of true false ws) else
     if bytes_eq name (codes "load") then plain (one (λ n. loaded (number_up_to 1000 n))) ws else
+    if bytes_eq name (codes "exec") then exec_by (arguments_of true false ws) else
+    if bytes_eq name (codes "dates") then plain (four (λ a h g n. dated a h g (number_up_to 1000 n))) ws else
     None
 
 -- the command of these words, if they are one

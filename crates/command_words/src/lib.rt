@@ -4,8 +4,9 @@
 
 ghost use Rattle.std.specs.Prelude.{◌≡◌, IfOk, Some, map, option_map};
 ghost use Rattle.std.specs.String.{string_bytes};
-ghost use Rattle.command_words.specs.Command.{check, sim, flat, chart, code, one, two, one_or_two, loaded, number_up_to, command_of};
-ghost use Rattle.command_words.specs.Plain.{plain_command, listed, run_with, run_made, made};
+ghost use Rattle.command_words.specs.Command.{check, sim, flat, chart, code, one, two, one_or_two, four, loaded, dated, number_up_to, command_of};
+ghost use Rattle.command_words.specs.Plain.{plain_command, run_with, exec_with};
+ghost use Rattle.command_words.specs.Answer.{exec_of, made_of, plain_of, run_of};
 ghost use Rattle.command_words.specs.View.{view_of};
 
 mod given;
@@ -55,13 +56,33 @@ pub enum Command<'a> {
     },
     /// `load N`: a load of 1 to 1,000.
     Load(u32),
+    /// `exec A H C S [--workers W]`: what the actuators take when this macro-code is executed. Workers are as
+    /// those of a run.
+    Exec {
+        algorithm: &'a str,
+        architecture: &'a str,
+        code: &'a str,
+        sensors: &'a str,
+        workers: Option<u32>,
+    },
+    /// `dates A H G N`: the dates of 1 to 1,000 reactions where the durations are those of another
+    /// architecture text.
+    Dates {
+        algorithm: &'a str,
+        architecture: &'a str,
+        durations: &'a str,
+        reactions: u32,
+    },
 }
 
-/// The most workers of a run.
+/// The most workers.
 const MOST_WORKERS: u32 = 80;
 
 /// The most of a load.
 const MOST_LOAD: u32 = 1000;
+
+/// The most reactions that are dated.
+const MOST_REACTIONS: u32 = 1000;
 
 /// The command of these words, if the table has them. The first word is the program's name.
 /// `OutOfMemory` comes where an allocation fails.
@@ -78,14 +99,29 @@ pub fn command_of<'a>(
 }
 
 fn command_with<'a>(given: &Given<'a>) -> Option<Command<'a>>
-    ensures { option_map view_of result ≡ made given.now.name.now given.now.first.now (option_map (λ w. w.now) given.now.second) (option_map (λ w. w.now) given.now.third) (option_map (λ w. w.now) given.now.workers) }
+    ensures { option_map view_of result ≡ made_of given.now }
 {
     if given.name == "run" {
         run(given)
+    } else if given.name == "exec" {
+        exec(given)
     } else {
-        match given.second {
-            Some(second) => plain_command(given.name, &[given.first, second]),
-            None => plain_command(given.name, &[given.first]),
+        plain_given(given)
+    }
+}
+
+/// The command of the given name with the plain arguments that are given, alone.
+fn plain_given<'a>(given: &Given<'a>) -> Option<Command<'a>>
+    ensures { option_map view_of result ≡ plain_of given.now }
+{
+    let name = given.name;
+    let first = given.first;
+    match (given.second, given.third, given.fourth) {
+        (None, _, _) => plain_command(name, &[first]),
+        (Some(second), None, _) => plain_command(name, &[first, second]),
+        (Some(second), Some(third), None) => plain_command(name, &[first, second, third]),
+        (Some(second), Some(third), Some(fourth)) => {
+            plain_command(name, &[first, second, third, fourth])
         }
     }
 }
@@ -106,6 +142,8 @@ fn plain_command<'a>(name: &str, plain: &[&'a str]) -> Option<Command<'a>>
         code(plain)
     } else if name == "load" {
         load(plain)
+    } else if name == "dates" {
+        dates(plain)
     } else {
         None
     }
@@ -178,11 +216,28 @@ fn load<'a>(plain: &[&'a str]) -> Option<Command<'a>>
     }
 }
 
-fn run<'a>(given: &Given<'a>) -> Option<Command<'a>>
-    ensures { option_map view_of result ≡ run_made given.now.first.now (option_map (λ w. w.now) given.now.second) (option_map (λ w. w.now) given.now.third) (option_map (λ w. w.now) given.now.workers) }
+fn dates<'a>(plain: &[&'a str]) -> Option<Command<'a>>
+    ensures { option_map view_of result ≡ four (λ a h g n. dated a h g (number_up_to 1000 n)) (map (λ w. w.now) plain.now) }
 {
-    match (given.second, given.third) {
-        (Some(architecture), Some(sensors)) => {
+    match plain {
+        [algorithm, architecture, durations, count] => {
+            let reactions = number_up_to(MOST_REACTIONS, count.as_bytes())?;
+            Some(Command::Dates {
+                algorithm,
+                architecture,
+                durations,
+                reactions,
+            })
+        }
+        _ => None,
+    }
+}
+
+fn run<'a>(given: &Given<'a>) -> Option<Command<'a>>
+    ensures { option_map view_of result ≡ run_of given.now }
+{
+    match (given.second, given.third, given.fourth) {
+        (Some(architecture), Some(sensors), None) => {
             run_with(given.first, architecture, sensors, given.workers)
         }
         _ => None,
@@ -204,6 +259,39 @@ fn run_with<'a>(
     Some(Command::Run {
         algorithm,
         architecture,
+        sensors,
+        workers,
+    })
+}
+
+fn exec<'a>(given: &Given<'a>) -> Option<Command<'a>>
+    ensures { option_map view_of result ≡ exec_of given.now }
+{
+    match (given.second, given.third, given.fourth) {
+        (Some(architecture), Some(code), Some(sensors)) => {
+            exec_with(given.first, architecture, code, sensors, given.workers)
+        }
+        _ => None,
+    }
+}
+
+fn exec_with<'a>(
+    algorithm: &'a str,
+    architecture: &'a str,
+    code: &'a str,
+    sensors: &'a str,
+    workers: Option<&str>,
+) -> Option<Command<'a>>
+    ensures { option_map view_of result ≡ exec_with algorithm.now architecture.now code.now sensors.now (option_map (λ w. w.now) workers.entry) }
+{
+    let workers = match workers {
+        Some(count) => Some(number_up_to(MOST_WORKERS, count.as_bytes())?),
+        None => None,
+    };
+    Some(Command::Exec {
+        algorithm,
+        architecture,
+        code,
         sensors,
         workers,
     })

@@ -101,3 +101,39 @@ fn refused_workers(rt: HostRuntime) -> Result<(), Fail> {
     assert!(rt; is(alloc, &["run", "a", "h", "s", "--workers", "--", "1"], None)?);
     Ok(())
 }
+
+#[test]
+fn executed_code(rt: HostRuntime) -> Result<(), Fail> {
+    let alloc = rt.alloc();
+    let executed = Command::Exec {
+        algorithm: "a",
+        architecture: "h",
+        code: "c",
+        sensors: "s",
+        workers: Some(2),
+    };
+    assert!(rt;
+        is(
+            alloc,
+            &["exec", "a", "h", "--workers=2", "c", "s"],
+            Some(executed)
+        )?
+    );
+    assert!(rt; is(alloc, &["exec", "a", "h", "s"], None)?);
+    assert!(rt; is(alloc, &["run", "a", "h", "c", "s"], None)?);
+    Ok(())
+}
+
+#[test]
+fn dated_reactions(rt: HostRuntime) -> Result<(), Fail> {
+    let alloc = rt.alloc();
+    let dated = Command::Dates {
+        algorithm: "a",
+        architecture: "h",
+        durations: "g",
+        reactions: 1000,
+    };
+    assert!(rt; is(alloc, &["dates", "a", "h", "g", "1000"], Some(dated))?);
+    assert!(rt; is(alloc, &["dates", "a", "h", "g", "1001"], None)?);
+    Ok(())
+}

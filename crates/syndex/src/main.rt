@@ -6,6 +6,7 @@ use real_edge::{ErrSink, FileShelf, StdSink};
 use std::process::ExitCode;
 use std::{env, io};
 use syndex_program::{Status, syndex};
+use word_table::Driven;
 
 /// The words of the command line; none where one of them is no text.
 fn words_of(rt: &HostRuntime) -> io::Result<Vec<String>> {
@@ -20,6 +21,7 @@ fn main(rt: HostRuntime) -> ExitCode {
     let mut shelf = FileShelf::new(&rt);
     let mut out = StdSink::new(&rt);
     let mut err = ErrSink::new(&rt);
+    let mut driven = Driven::new(rt.alloc());
     let status = match words_of(&rt) {
         Ok(words) => syndex(
             &rt,
@@ -29,6 +31,7 @@ fn main(rt: HostRuntime) -> ExitCode {
             &mut out,
             &mut err,
             &GateFree,
+            &mut driven,
         ),
         Err(_) => {
             let _ = write_whole(&mut err, b"out of memory\n");

@@ -1,5 +1,5 @@
 -- Reading an architecture, part by part.
-use Rattle.std.proofs.Common.{◌≡◌, List, Result, Ok, Err, refl, subst}
+use Rattle.std.proofs.Common.{◌≡◌, Result, Ok, Err, subst}
 use Rattle.outside.specs.Bytes.{Bytes}
 use Rattle.outside.specs.Shelf.{Held}
 use Rattle.algo_tree.specs.Tree.{Vertex}
@@ -47,7 +47,7 @@ module _ (main : Vertex) (text : Bytes) (next : Described → Table → Made) wh
   refused_so held (error.Limit fault) h = is_refused held (error.Limit fault) h
   refused_so held error.OutOfMemory h = memory held held behind
 
-  described_so : (old new : Held) (architecture : Architecture) (made : Result Given (Ending Refusal)) → IsArchitecture main text architecture
+  pub described_so : (old new : Held) (architecture : Architecture) (made : Result Given (Ending Refusal)) → IsArchitecture main text architecture
       → Makes old new (next (described architecture.text) architecture.durations) made → Makes old new behind made
   described_so old new architecture made is m =
       let d = described architecture.text in

@@ -1,3 +1,13 @@
 pub mod Sizes
 pub mod Steps
 pub mod Architectures
+pub mod Tables
+pub mod Executing
+pub mod Leaving
+pub mod Summing
+pub mod Replying
+pub mod Loads
+pub mod Loading
+pub mod Going
+pub mod Dated
+pub mod Counts

@@ -22,7 +22,7 @@ use Rattle.command_plan.specs.Run.{Makes, refuses, was_read}
 use Rattle.command_plan.proofs.Makes.{after_err, after_ok, memory}
 use Rattle.command_status.specs.Status.{Refusal, above, ending_of, of_algorithm, of_sensors, status_of_algorithm, status_of_sensors}
 use Rattle.top_plans.specs.Given.{Given}
-use Rattle.top_plans.specs.Plans.{Made, algorithm_plan, table_plan, unless}
+use Rattle.top_plans.specs.Plans.{Made, algorithm_plan, table_in, table_plan, unless}
 use Rattle.syndex_program.specs.Reads.{IsAlgorithm, IsRefused, MakesAlgorithm, ReadsAlgorithm, ReadsTable, resolves_none, says_none}
 use Rattle.syndex_program.specs.declared.algorithm.Algorithm.{Algorithm}
 
@@ -67,11 +67,15 @@ table_refused held answer next sensors.OutOfMemory h = memory held held (after o
 table_refused held answer next (sensors.Refused fault) (inr wants) = cc
 table_refused held answer next (sensors.Limit fault) (inr wants) = cc
 
+-- the rows of a table, and then the plan went on with them
+pub rows_so : (main : Vertex) (table : Bytes) (a b : Held) (rows : Reactions) (next : Reactions → Made) (made : Result Given (Ending Refusal))
+    → rows_of main (records default_config (strip_bom table)) ≡ Ok rows → Makes a b (next rows) made → Makes a b (table_in main table next) made
+rows_so main table a b rows next made tells m = after_ok a b of_sensors (rows_of main (records default_config (strip_bom table))) next made rows tells m
+
 -- a table was read, and then the plan went on with its rows
 pub rows_went_on : (main : Vertex) (name : Bytes) (a b c : Held) (rows : Reactions) (next : Reactions → Made) (made : Result Given (Ending Refusal))
     → ReadsTable main name a b (Ok rows) → Makes b c (next rows) made → Makes a c (table_plan main name next) made
-rows_went_on main name a b c rows next made (table, read, tells, lens) m =
-    was_read b table read (after_ok b c of_sensors (rows_of main (records default_config (strip_bom table))) next made rows tells m)
+rows_went_on main name a b c rows next made (table, read, is) m = was_read b table read (rows_so main table b c rows next made is.0 m)
 
 -- more than there may be
 pub is_above : (held : Held) (o : Option LimitFault) (fault : LimitFault) (next : Made) → o ≡ Some fault → Makes held held (unless o next) (Err (refused (above fault)))

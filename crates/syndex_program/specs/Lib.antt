@@ -1,4 +1,11 @@
 pub mod Reads
 pub mod Builds
-pub mod Replies
+pub mod Executes
+pub mod Stopped
+pub mod Left
+pub mod Sums
 pub mod Unread
+pub mod Plainly
+pub mod Jobs
+pub mod Dates
+pub mod Counts

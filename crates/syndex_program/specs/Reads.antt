@@ -20,7 +20,9 @@ use Rattle.flat_laws.specs.FlatOf.{flat_of}
 use Rattle.path_text.specs.Named.{HasNames}
 use Rattle.path_text.specs.Bounded.{HasBounds}
 use Rattle.algo_tree.specs.Ends.{sensor_lengths}
+use Rattle.sensor_table.specs.Answers.{Fails}
 use Rattle.sensor_table.specs.SensorTable.{rows_of}
+use Rattle.sensor_table.specs.declared.fault.SensorError.{SensorError}
 use Rattle.command_plan.specs.Run.{Makes, WasRead}
 use Rattle.command_plan.specs.Ending.{Ending}
 use Rattle.command_status.specs.Status.{Refusal, ending_of}
@@ -88,8 +90,13 @@ ReadsArchitecture main name old new (Ok architecture) = (text : Bytes) × WasRea
 ReadsArchitecture main name old new (Err status) =
     (next : Described → Table → Made) → Makes old new (architecture_plan name main next) (Err (ending_of status))
 
+-- the rows of a table for this algorithm or its first refusal; want of memory may come in place of either
+abbrev pub MakesTable : Vertex → Bytes → Result Reactions SensorError → Type 0
+MakesTable main table (Ok rows) = (rows_of main (records default_config (strip_bom table)) ≡ Ok rows) × (rows.lens ≡ sensor_lengths main)
+MakesTable main table (Err e) = Fails e (rows_of main (records default_config (strip_bom table)))
+
 -- the file has a table of these rows for this algorithm; or carrying on from it ends so, whatever follows
 abbrev pub ReadsTable : Vertex → Bytes → Held → Held → Result Reactions Status → Type 0
 ReadsTable main name old new (Ok rows) =
-    (table : Bytes) × WasRead file.Sensors name old new table × (rows_of main (records default_config (strip_bom table)) ≡ Ok rows) × (rows.lens ≡ sensor_lengths main)
+    (table : Bytes) × WasRead file.Sensors name old new table × MakesTable main table (Ok rows)
 ReadsTable main name old new (Err status) = (next : Reactions → Made) → Makes old new (table_plan main name next) (Err (ending_of status))

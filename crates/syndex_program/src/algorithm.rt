@@ -35,7 +35,7 @@ pub fn read_algorithm<S: Shelf>(
 }
 
 /// The algorithm of a text, or its first refusal.
-fn algorithm_of(alloc: Global, text: &[u8]) -> Result<Algorithm, AlgoError>
+pub fn algorithm_of(alloc: Global, text: &[u8]) -> Result<Algorithm, AlgoError>
     requires { length text.now ≤ file_bound }
     ensures { MakesAlgorithm text.now result }
 {

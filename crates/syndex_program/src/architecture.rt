@@ -42,7 +42,7 @@ pub fn read_architecture<S: Shelf>(
 }
 
 /// The architecture of a text for this algorithm, or its first refusal.
-fn architecture_of(alloc: Global, text: &[u8], tree: &Tree) -> Result<Architecture, ArchiError>
+pub fn architecture_of(alloc: Global, text: &[u8], tree: &Tree) -> Result<Architecture, ArchiError>
     requires short { length text.now ≤ file_bound }
     requires names { HasNames tree.now }
     requires bounds { HasBounds tree.now }

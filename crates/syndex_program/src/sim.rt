@@ -72,7 +72,7 @@ fn excess(reactions: usize, width: usize) -> Option<LimitFault>
 }
 
 /// The text of what the actuators take over these rows.
-fn simulated(alloc: Global, tree: &Tree, rows: &SensorRows) -> Result<Vec<u8>, OutOfMemory>
+pub fn simulated(alloc: Global, tree: &Tree, rows: &SensorRows) -> Result<Vec<u8>, OutOfMemory>
     requires { rows.now.lens ≡ sensor_lengths tree.now }
     ensures { IfOk result (λ text. text.items ≡ output_of tree.now rows.now.reactions) }
 {

@@ -1,13 +1,13 @@
 //! The sensor table of a file.
 ghost use Rattle.outside.specs.Shelf.{Stays};
-ghost use Rattle.syndex_program.specs.Reads.{ReadsTable};
+ghost use Rattle.syndex_program.specs.Reads.{MakesTable, ReadsTable};
 
 use crate::files::read_file;
 use accepted_laws::tables_fit;
 use algo_tree::Tree;
 use command_status::Status;
 use outside::{File, Shelf};
-use sensor_table::read_sensors;
+use sensor_table::{SensorError, read_sensors};
 use std::alloc::Global;
 use syn_base::SensorRows;
 
@@ -22,7 +22,13 @@ pub fn read_table<S: Shelf>(
     ensures reads { ReadsTable tree.now name.now (S.held shelf.old) (S.held shelf.new) result }
 {
     let table = read_file(alloc, shelf, File::Sensors, name)?;
+    Ok(table_of(alloc, &table, tree)?)
+}
+
+/// The rows of a table for this algorithm, or its first refusal.
+pub fn table_of(alloc: Global, table: &[u8], tree: &Tree) -> Result<SensorRows, SensorError>
+    ensures { MakesTable tree.now table.now result }
+{
     tables_fit();
-    let rows = read_sensors(alloc, &table, tree)?;
-    Ok(rows)
+    read_sensors(alloc, table, tree)
 }

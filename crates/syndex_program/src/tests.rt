@@ -45,8 +45,16 @@ fn an_actuator_takes_what_the_sensor_gives(rt: HostRuntime) -> Result<(), Fail> 
     let mut shelf = shelf(alloc)?;
     let mut out = sink(alloc)?;
     let mut err = sink(alloc)?;
+    let mut driven = Driven::new(alloc);
     let status = syndex(
-        &rt, alloc, &words, &mut shelf, &mut out, &mut err, &GateFree,
+        &rt,
+        alloc,
+        &words,
+        &mut shelf,
+        &mut out,
+        &mut err,
+        &GateFree,
+        &mut driven,
     );
     assert_eq!(rt; status.number(), 0);
     assert_eq!(rt; out.bytes(), b"0 a 5\n1 a -1\n2 a 0\n".as_slice());

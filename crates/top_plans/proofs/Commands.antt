@@ -8,10 +8,10 @@ use Rattle.command_plan.specs.Plan.{Plan, give, refuse, read, outcome, ReadsOnly
 use Rattle.command_plan.specs.Ending.{Ending, done, unwritten}
 use Rattle.command_plan.specs.Answers.{Answers, IsOnce, RunsNone}
 use Rattle.command_status.specs.Status.{Refusal}
-use Rattle.command_words.specs.Command.{Command, check, sim, flat, chart, code, run, load}
+use Rattle.command_words.specs.Command.{Command, check, sim, flat, chart, code, run, load, exec, dates}
 use Rattle.word_rule.specs.Driven.{Driven, driven_by}
-use Rattle.top_plans.specs.Names.{names_for, names_of}
-use Rattle.top_plans.specs.Given.{Given, written, printed, summed, stages}
+use Rattle.top_plans.specs.Names.{names_for, names_of, RunsJobs, IsPlain}
+use Rattle.top_plans.specs.Given.{Given, written, printed, executed, summed, stages}
 use Rattle.top_plans.specs.Plans.{plan_for, plan_of}
 use Rattle.top_plans.proofs.Walk.{Leaf, walk}
 
@@ -24,31 +24,54 @@ reads_only (Some command) = walk (ReadsOnly (names_for command)) (λ r n. tt) co
 pub gives_leaves : (P : Given → Type 0) (command : Command) → ((a : Given) → Leaf command a → P a) → GivesOnly P (plan_for command)
 gives_leaves P command h = walk (GivesOnly P) (λ r n. tt) command (λ file name next e k. k) h
 
-once_leaf : (command : Command) (a : Given) → Leaf command a → IsOnce stages a × RunsNone stages a
-once_leaf command (written t) l = (omega arith, refl)
-once_leaf (check a h) (printed t e) l = absurd l
-once_leaf (check a h) (summed e t) l = absurd l
-once_leaf (sim a h) (printed t e) l = absurd l
-once_leaf (sim a h) (summed e t) l = absurd l
-once_leaf (flat a) (printed t e) l = absurd l
-once_leaf (flat a) (summed e t) l = absurd l
-once_leaf (chart a h) (printed t e) l = absurd l
-once_leaf (chart a h) (summed e t) l = absurd l
-once_leaf (code a h) (printed t e) l = absurd l
-once_leaf (code a h) (summed e t) l = absurd l
-once_leaf (run a h s w) (printed t e) l = absurd l
-once_leaf (run a h s w) (summed e t) l = absurd l
-once_leaf (load n) (printed t e) l = absurd l
-once_leaf (load n) (summed e t) l = absurd l
+once_leaf : (command : Command) (a : Given) → ¬ RunsJobs command → Leaf command a → IsOnce stages a × RunsNone stages a
+once_leaf command (written t) p l = (omega arith, refl)
+once_leaf (run a h s w) (printed t e) p l = absurd (p tt)
+once_leaf (load n) (summed e t) p l = absurd (p tt)
+once_leaf (exec a h c s w) (executed e) p l = absurd (p tt)
+once_leaf (check a h) (printed t e) p l = absurd l
+once_leaf (check a h) (executed e) p l = absurd l
+once_leaf (check a h) (summed e t) p l = absurd l
+once_leaf (sim a h) (printed t e) p l = absurd l
+once_leaf (sim a h) (executed e) p l = absurd l
+once_leaf (sim a h) (summed e t) p l = absurd l
+once_leaf (flat a) (printed t e) p l = absurd l
+once_leaf (flat a) (executed e) p l = absurd l
+once_leaf (flat a) (summed e t) p l = absurd l
+once_leaf (chart a h) (printed t e) p l = absurd l
+once_leaf (chart a h) (executed e) p l = absurd l
+once_leaf (chart a h) (summed e t) p l = absurd l
+once_leaf (code a h) (printed t e) p l = absurd l
+once_leaf (code a h) (executed e) p l = absurd l
+once_leaf (code a h) (summed e t) p l = absurd l
+once_leaf (dates a h g n) (printed t e) p l = absurd l
+once_leaf (dates a h g n) (executed e) p l = absurd l
+once_leaf (dates a h g n) (summed e t) p l = absurd l
+once_leaf (run a h s w) (executed e) p l = absurd l
+once_leaf (run a h s w) (summed e t) p l = absurd l
+once_leaf (load n) (printed t e) p l = absurd l
+once_leaf (load n) (executed e) p l = absurd l
+once_leaf (exec a h c s w) (printed t e) p l = absurd l
+once_leaf (exec a h c s w) (summed e t) p l = absurd l
 
 -- all is written by one call, and no job is run
-gives_once : (command : Option Command) → GivesOnly (IsOnce stages) (plan_of command)
-gives_once None = tt
-gives_once (Some command) = gives_leaves (IsOnce stages) command (λ a l. (once_leaf command a l).0)
+gives_once : (command : Option Command) → IsPlain command → GivesOnly (IsOnce stages) (plan_of command)
+gives_once None p = tt
+gives_once (Some command) p = gives_leaves (IsOnce stages) command (λ a l. (once_leaf command a p l).0)
 
-pub keeps_plain : (command : Option Command) (held held' : Held) (sunk sunk' : Sunk) (driven driven' : Driven) (ending : Ending Refusal)
+pub keeps_plain : (command : Option Command) → IsPlain command → (held held' : Held) (sunk sunk' : Sunk) (driven driven' : Driven) (ending : Ending Refusal)
     → Answers driven_by stages (plan_of command) (names_of command) held held' sunk sunk' driven driven' ending → (ending ≡ done) ⊎ (ending ≡ unwritten) ⊎ (sunk' ≡ sunk)
-keeps_plain command held held' sunk sunk' driven driven' ending answers = answers.once (gives_once command)
+keeps_plain command p held held' sunk sunk' driven driven' ending answers = answers.once (gives_once command p)
+
+-- a load is written by one call too
+load_leaf : (n : ℕ) (a : Given) → Leaf (load n) a → IsOnce stages a
+load_leaf n (written t) l = absurd l
+load_leaf n (printed t e) l = absurd l
+load_leaf n (executed e) l = absurd l
+load_leaf n (summed e t) l = omega arith
+
+pub load_gives_once : (n : ℕ) → GivesOnly (IsOnce stages) (plan_of (Some (load n)))
+load_gives_once n = gives_leaves (IsOnce stages) (load n) (load_leaf n)
 
 module _ {R A : Type 0} where
   abbrev made : A → Option (Result A R)

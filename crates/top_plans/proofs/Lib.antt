@@ -1,3 +1,5 @@
+pub mod Loads
+pub mod Checks
 pub mod Schedules
 pub mod Walk
 pub mod Commands

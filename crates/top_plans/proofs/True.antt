@@ -1,6 +1,6 @@
 -- What is accepted runs true.
-use Rattle.std.proofs.Common.{◌≡◌, ℕ, zero, suc, cond, List, [], ◌∷◌, ◌++◌, length, map, None, refl, sym, ap, subst, ◌∙◌, add-one, zero-add}
-use Rattle.std.specs.Prelude.{nat_lt, slice_index_or}
+use Rattle.std.proofs.Common.{◌≡◌, ℕ, zero, suc, cond, List, [], ◌∷◌, ◌++◌, length, map, Option, Some, None, refl, sym, ap, subst, ◌∙◌, add-one, zero-add}
+use Rattle.std.specs.Prelude.{nat_lt, slice_index_or, option_map}
 use Rattle.std.specs.List.{range_with_len}
 use Rattle.std.proofs.lemmas.List.{map-append}
 use Rattle.std.proofs.lemmas.List.FromFn.{map-range_with_len_more}
@@ -26,13 +26,16 @@ use Rattle.accepted_laws.specs.Flat.{HasFlat}
 use Rattle.accepted_laws.proofs.Definitions.{accepted_have_flat}
 use Rattle.accepted_laws.proofs.Architectures.{described_are}
 use Rattle.accepted_laws.proofs.Tables.{tables_fit}
-use Rattle.command_plan.specs.Plan.{GivesOnly}
-use Rattle.command_words.specs.Command.{Command, check, sim, flat, chart, code, run as runs, load}
-use Rattle.top_plans.specs.Given.{Given, written, printed, summed, Execution, one_job}
-use Rattle.top_plans.specs.Plans.{plan_for, run_plan, load_plan, schedule_of, program_by}
-use Rattle.top_plans.specs.Meaning.{RunsTrue, MakesTrue, AcceptedRunTrue, LoadsRunTrue}
+use Rattle.check_laws.specs.Tests.{Cause, cause}
+use Rattle.check_laws.proofs.Whole.{no_cause_is_well_formed}
+use Rattle.check_cause.specs.declared.cause.CheckCause.{CheckCause}
+use Rattle.command_words.specs.Command.{Command, check, sim, flat, chart, code, run as runs, load, exec, dates}
+use Rattle.top_plans.specs.Given.{Given, written, printed, executed, summed, Execution, one_job}
+use Rattle.top_plans.specs.Plans.{plan_for, schedule_of}
+use Rattle.top_plans.specs.Checks.{told}
+use Rattle.top_plans.specs.Meaning.{RunsTrue, MakesTrue, AcceptedRunTrue}
 use Rattle.top_plans.proofs.Schedules.{schedules_are_valid}
-use Rattle.top_plans.proofs.Walk.{IsAccepted, Leaf, RunLeaf, LoadLeaf, walk_run, walk_load}
+use Rattle.top_plans.proofs.Walk.{Comes, built, checked, IsAccepted, Leaf}
 use Rattle.top_plans.proofs.Commands.{gives_leaves, told_gives}
 
 same_numbers : {A : Type 0} (f : ℕ → A) (n : ℕ) → map f (range_with_len 0 n) ≡ map f (numbers_below n)
@@ -43,6 +46,14 @@ same_map : {A B : Type 0} (f g : A → B) → ((x : A) → f x ≡ g x) → (xs 
 same_map f g h [] = refl
 same_map f g h (x ∷ xs) = λ i. h x i ∷ same_map f g h xs i
 
+-- where no cause is told there is none
+no_cause : (o : Option Cause) → option_map told o ≡ None → o ≡ None
+no_cause None e = refl
+no_cause (Some c) e = absurd (is_none (told c) e)
+  where
+    is_none : (k : CheckCause) → Some k ≡ None → ⊥
+    is_none k q = cc
+
 module _ (e : Execution) (a : IsAccepted e) where
   has : HasFlat e.main
   has = accepted_have_flat a.text a.defs e.main a.says a.resolves
@@ -50,18 +61,24 @@ module _ (e : Execution) (a : IsAccepted e) where
   abbrev IsFormed : Archi → Program → Type 0
   IsFormed b p = IsWellFormed p (flat_of e.main) (sequences b) (length b.media)
 
-  built_formed : IsFormed a.described.archi (program_by (flat_of e.main) a.described.archi a.durations)
-  built_formed =
+  formed_by : Comes a.described e → IsFormed a.described.archi e.program
+  formed_by (built t lasts made) =
       let d = a.described in
       let g = flat_of e.main in
       let archi = described_are a.lines d a.describes in
-      let s = schedule_of g d.archi a.durations in (
+      let s = schedule_of g d.archi t in
+      subst (IsFormed d.archi) (sym made) (
         order_of g d.archi s,
-        built_are_well_formed g d.archi (entry_in a.durations) s has.valid archi.0 archi.1 (schedules_are_valid g a.lines d a.durations has.valid a.describes a.lasts),
+        built_are_well_formed g d.archi (entry_in t) s has.valid archi.0 archi.1 (schedules_are_valid g a.lines d t has.valid a.describes lasts),
       )
+  formed_by (checked whole) =
+      let d = a.described in
+      let g = flat_of e.main in
+      let archi = described_are a.lines d a.describes in
+      (no_cause_is_well_formed e.program g d.archi archi.0).0 (no_cause (cause e.program g.vertices (sequences d.archi) (length d.archi.operators) (length d.archi.media)) whole)
 
   formed : IsFormed e.architecture e.program
-  formed = subst (λ b. IsFormed b e.program) (sym a.stands) (subst (IsFormed a.described.archi) (sym a.built) built_formed)
+  formed = subst (λ b. IsFormed b e.program) (sym a.stands) (formed_by a.comes)
 
   supplied : IsSupplied (one_job e)
   supplied = let rows = tables_fit e.main a.table e.rows a.tells in record {
@@ -86,38 +103,35 @@ module _ (runs_end : RunsEnd) (runs_take_rows : RunsTakeRows) (windows_make : Wi
     windows = λ from count l. windows_make (one_job e) s from count l;
   }
 
-  run_leaf : (g : Given) → RunLeaf g → MakesTrue g
-  run_leaf (written t) l = absurd l
-  run_leaf (printed t e) l = runs_true e l
-  run_leaf (summed e t) l = absurd l
+  true_leaf : (command : Command) (g : Given) → Leaf command g → MakesTrue g
+  true_leaf command (written t) l = tt
+  true_leaf (runs a h s w) (printed t e) l = runs_true e l
+  true_leaf (load n) (summed e t) l = runs_true e l
+  true_leaf (exec a h c s w) (executed e) l = runs_true e l
+  true_leaf (check a h) (printed t e) l = absurd l
+  true_leaf (check a h) (executed e) l = absurd l
+  true_leaf (check a h) (summed e t) l = absurd l
+  true_leaf (sim a h) (printed t e) l = absurd l
+  true_leaf (sim a h) (executed e) l = absurd l
+  true_leaf (sim a h) (summed e t) l = absurd l
+  true_leaf (flat a) (printed t e) l = absurd l
+  true_leaf (flat a) (executed e) l = absurd l
+  true_leaf (flat a) (summed e t) l = absurd l
+  true_leaf (chart a h) (printed t e) l = absurd l
+  true_leaf (chart a h) (executed e) l = absurd l
+  true_leaf (chart a h) (summed e t) l = absurd l
+  true_leaf (code a h) (printed t e) l = absurd l
+  true_leaf (code a h) (executed e) l = absurd l
+  true_leaf (code a h) (summed e t) l = absurd l
+  true_leaf (dates a h r n) (printed t e) l = absurd l
+  true_leaf (dates a h r n) (executed e) l = absurd l
+  true_leaf (dates a h r n) (summed e t) l = absurd l
+  true_leaf (runs a h s w) (executed e) l = absurd l
+  true_leaf (runs a h s w) (summed e t) l = absurd l
+  true_leaf (load n) (printed t e) l = absurd l
+  true_leaf (load n) (executed e) l = absurd l
+  true_leaf (exec a h c s w) (printed t e) l = absurd l
+  true_leaf (exec a h c s w) (summed e t) l = absurd l
 
-  load_leaf : (g : Given) → LoadLeaf g → MakesTrue g
-  load_leaf (written t) l = absurd l
-  load_leaf (printed t e) l = absurd l
-  load_leaf (summed e t) l = runs_true e l
-
-  pub runs_are_true : AcceptedRunTrue
-  runs_are_true a h s told g e = told_gives MakesTrue told (run_plan a h s) g (walk_run (GivesOnly MakesTrue) (λ r n. tt) a h s None (λ file name next q k. k) run_leaf) e
-
-  pub loads_are_true : LoadsRunTrue
-  loads_are_true a h s told g e = told_gives MakesTrue told (load_plan a h s) g (walk_load (GivesOnly MakesTrue) (λ r n. tt) a h s load_leaf) e
-
-true_leaf : (command : Command) (g : Given) → Leaf command g → MakesTrue g
-true_leaf command (written t) l = tt
-true_leaf (check a h) (printed t e) l = absurd l
-true_leaf (check a h) (summed e t) l = absurd l
-true_leaf (sim a h) (printed t e) l = absurd l
-true_leaf (sim a h) (summed e t) l = absurd l
-true_leaf (flat a) (printed t e) l = absurd l
-true_leaf (flat a) (summed e t) l = absurd l
-true_leaf (chart a h) (printed t e) l = absurd l
-true_leaf (chart a h) (summed e t) l = absurd l
-true_leaf (code a h) (printed t e) l = absurd l
-true_leaf (code a h) (summed e t) l = absurd l
-true_leaf (runs a h s w) (printed t e) l = absurd l
-true_leaf (runs a h s w) (summed e t) l = absurd l
-true_leaf (load n) (printed t e) l = absurd l
-true_leaf (load n) (summed e t) l = absurd l
-
-pub commands_true : (command : Command) → GivesOnly MakesTrue (plan_for command)
-commands_true command = gives_leaves MakesTrue command (true_leaf command)
+  pub accepted_true : AcceptedRunTrue
+  accepted_true command told g e = told_gives MakesTrue told (plan_for command) g (gives_leaves MakesTrue command (true_leaf command)) e

@@ -1,5 +1,5 @@
 -- What was carried out of the plan of the words replies; no command ends with Usage.
-use Rattle.std.proofs.Common.{◌≡◌, Option, Some, None, Result, Ok, Err, inl, inr, refl, sym, ap, subst, ◌∙◌}
+use Rattle.std.proofs.Common.{◌≡◌, append-nil, [], Option, Some, None, Result, Ok, Err, inl, inr, refl, sym, ap, subst, ◌∙◌}
 use Rattle.std.specs.Prelude.{IsOkAnd}
 use Rattle.outside.specs.Bytes.{Bytes}
 use Rattle.outside.specs.Shelf.{Held}
@@ -14,14 +14,13 @@ use Rattle.command_status.specs.Status.{Refusal, usage}
 use Rattle.command_words.specs.Command.{Command}
 use Rattle.word_rule.specs.Driven.{Driven, new_driven, driven_by}
 use Rattle.top_plans.specs.Names.{names_of}
-use Rattle.top_plans.specs.Given.{Given, printed, stages}
+use Rattle.top_plans.specs.Given.{Given, written, printed, executed, summed, stages}
 use Rattle.top_plans.specs.Plans.{plan_for, plan_of}
-use Rattle.top_plans.specs.Meaning.{MakesTrue}
-use Rattle.top_plans.specs.Replies.{CommandsReply, PlainCommandsReply, DoneRuns}
+use Rattle.top_plans.specs.Meaning.{MakesTrue, AcceptedRunTrue}
+use Rattle.top_plans.specs.Replies.{CommandsReply, PlainCommandsReply, LoadsKeep, IsMade, DoneRuns}
 use Rattle.top_plans.proofs.Written.{windows_write, windows_run}
 use Rattle.top_plans.proofs.Walk.{walk}
-use Rattle.top_plans.proofs.Commands.{reads_only, keeps_plain, told_gives}
-use Rattle.top_plans.proofs.True.{commands_true}
+use Rattle.top_plans.proofs.Commands.{reads_only, keeps_plain, load_gives_once}
 
 -- no refusal of the plan is this one
 abbrev Never : {R A : Type 0} → R → Plan R A → Type 0
@@ -72,43 +71,57 @@ not_usage command held held' sunk sunk' d d' ending (Ok a, m, w) e = by ending e
     by no_memory e w = cc
 not_usage command held held' sunk sunk' d d' ending (Err s, m, w) e = never_made usage held held' (plan_for command) (Err s) (never command) m (λ i. Err ((sym w.0 ∙ e) i))
 
-true_of : (command : Option Command) (told : Bytes → Option Bytes) (a : Given) → outcome told (plan_of command) ≡ Some (Ok a) → MakesTrue a
-true_of None told a e = absurd (let q = e in cc)
-true_of (Some command) told a e = told_gives MakesTrue told (plan_for command) a (commands_true command) e
-
 usage_of : (command : Option Command) (held held' : Held) (sunk sunk' : Sunk) (d d' : Driven) (ending : Ending Refusal)
     → Ran driven_by stages (plan_of command) held held' sunk sunk' d d' ending → ending ≡ refused usage → command ≡ None
 usage_of None held held' sunk sunk' d d' ending r e = refl
 usage_of (Some command) held held' sunk sunk' d d' ending r e = absurd (not_usage command held held' sunk sunk' d d' ending r e)
 
-pub commands_reply : CommandsReply
-commands_reply command held held' sunk sunk' d d' ending r = record {
+true_of : AcceptedRunTrue → (command : Option Command) (told : Bytes → Option Bytes) (a : Given) → outcome told (plan_of command) ≡ Some (Ok a) → MakesTrue a
+true_of true_runs None told a e = absurd (let q = e in cc)
+true_of true_runs (Some command) told a e = true_runs command told a e
+
+pub commands_reply : AcceptedRunTrue → CommandsReply
+commands_reply true_runs command held held' sunk sunk' d d' ending r = record {
   answers = answers_of driven_by stages (plan_of command) (names_of command) held held' sunk sunk' d d' ending (reads_only command) r;
   usage = usage_of command held held' sunk sunk' d d' ending r;
-  true_runs = true_of command held.told;
+  true_runs = true_of true_runs command held.told;
 }
 
 first : {A B : Type 0} (o : Result A B) (P Q : A → Type 0) → IsOkAnd o (λ a. P a × Q a) → IsOkAnd o P
 first (Ok a) P Q h = h.0
 first (Err r) P Q h = h
 
-pub plain_commands_reply : PlainCommandsReply
-plain_commands_reply command held held' sunk sunk' ending ran =
-    let answers = (commands_reply command held held' sunk sunk' new_driven new_driven ending (ran new_driven)).answers in
+pub plain_commands_reply : AcceptedRunTrue → PlainCommandsReply
+plain_commands_reply true_runs command plain held held' sunk sunk' ending ran =
+    let answers = (commands_reply true_runs command held held' sunk sunk' new_driven new_driven ending (ran new_driven)).answers in
     record {
-      replies = λ d. commands_reply command held held' sunk sunk' d d ending (ran d);
+      replies = λ d. commands_reply true_runs command held held' sunk sunk' d d ending (ran d);
       done_means = λ e o p. first o (λ a. Appends sunk sunk' (text_of (stages a))) (λ a. new_driven ≡ after_jobs driven_by (jobs_of (stages a)) new_driven) (answers.done_means e o p);
       unwritten_means = λ e. (
         (answers.unwritten_means e).0,
         λ o p. first o (λ a. AppendsPrefix sunk sunk' (text_of (stages a))) (λ a. RunsSome driven_by (jobs_of (stages a)) new_driven new_driven) ((answers.unwritten_means e).1 o p),
       );
-      nothing = keeps_plain command held held' sunk sunk' new_driven new_driven ending answers;
+      nothing = keeps_plain command plain held held' sunk sunk' new_driven new_driven ending answers;
     }
 
+pub loads_keep : LoadsKeep
+loads_keep n held held' sunk sunk' d d' ending replies = replies.answers.once (load_gives_once n)
+
+-- by the text and the jobs of all stages
+made_by : (given : Given) (sunk sunk' : Sunk) (d d' : Driven) → Appends sunk sunk' (text_of (stages given)) × (d' ≡ after_jobs driven_by (jobs_of (stages given)) d) → IsMade given sunk sunk' d d'
+made_by (written text) sunk sunk' d d' all = (subst (λ t. Appends sunk sunk' t) (append-nil text) all.0, all.1)
+made_by (printed text e) sunk sunk' d d' all = record {
+  output = subst (λ t. Appends sunk sunk' t) (windows_write text e).0 all.0;
+  ran = all.1 ∙ ap (λ js. after_jobs driven_by js d) (windows_run text e).0;
+}
+made_by (executed e) sunk sunk' d d' all = record {
+  output = subst (λ t. Appends sunk sunk' t) (windows_write [] e).1 all.0;
+  ran = all.1 ∙ ap (λ js. after_jobs driven_by js d) (windows_run [] e).1;
+}
+made_by (summed e text) sunk sunk' d d' all = record {
+  output = subst (λ t. Appends sunk sunk' t) (windows_write text e).2 all.0;
+  ran = all.1 ∙ ap (λ js. after_jobs driven_by js d) (windows_run text e).2;
+}
+
 pub done_runs : DoneRuns
-done_runs command held held' sunk sunk' d d' text e replies o =
-    let all = replies.answers.done_means refl (Ok (printed text e)) o in
-    record {
-      output = subst (λ t. Appends sunk sunk' t) (windows_write text e).0 all.0;
-      ran = all.1 ∙ ap (λ js. after_jobs driven_by js d) (windows_run text e).0;
-    }
+done_runs command held held' sunk sunk' d d' given replies o = made_by given sunk sunk' d d' (replies.answers.done_means refl (Ok given) o)

@@ -3,7 +3,7 @@ use Rattle.std.proofs.Common.{◌≡◌, ℕ, List, length, Option, Some, None, 
 use Rattle.csv.specs.Reading.{default_config, records, strip_bom}
 use Rattle.outside.specs.Bytes.{Bytes}
 use Rattle.outside.specs.declared.file.File.{File}
-use Rattle.outside.specs.declared.file.File.TheVariants.{Algorithm, Architecture, Sensors}
+use Rattle.outside.specs.declared.file.File.TheVariants.{Algorithm, Architecture, Sensors, Code, Durations}
 use Rattle.syn_base.specs.Rows.{Reactions}
 use Rattle.syn_base.specs.declared.limits.LimitFault.{LimitFault}
 use Rattle.algo_defs.specs.declared.definition.Defs.{Defs}
@@ -14,6 +14,14 @@ use Rattle.archi_defs.specs.declared.fault.ArchiError.{ArchiError}
 use Rattle.archi_defs.specs.declared.fault.ArchiError.TheVariants as architecture
 use Rattle.sensor_table.specs.declared.fault.SensorError.{SensorError}
 use Rattle.sensor_table.specs.declared.fault.SensorError.TheVariants as sensors
+use Rattle.code_text.specs.declared.fault.CodeError.{CodeError}
+use Rattle.code_text.specs.declared.fault.CodeError.TheVariants as macros
+use Rattle.code_text.specs.Text.{program_in}
+use Rattle.check_cause.specs.declared.cause.CheckCause.{CheckCause}
+use Rattle.actual_defs.specs.declared.fault.ActualError.{ActualError}
+use Rattle.actual_defs.specs.declared.fault.ActualError.TheVariants as actual
+use Rattle.actual_durations.specs.Actual.{actual_of}
+use Rattle.dates_text.specs.Listing.{dates_text}
 use Rattle.algo_rules.specs.Resolved.{resolution_of}
 use Rattle.algo_tree.specs.Tree.{Vertex}
 use Rattle.archi_graph.specs.Archi.{Architecture as Archi}
@@ -27,11 +35,18 @@ use Rattle.macro_code.specs.Text.{macro_code}
 use Rattle.sequence_build.specs.Limit.{program_limit}
 use Rattle.semaphore_core.specs.IsJob.{limit_of}
 use Rattle.command_plan.specs.Plan.{give, refuse, after}
-use Rattle.command_status.specs.Status.{Refusal, above, of_algorithm, of_architecture, of_sensors, not_built, usage}
-use Rattle.command_words.specs.Command.{Command, check, sim, flat, chart, code, run, load}
+use Rattle.command_status.specs.Status.{Refusal, above, failed_check, of_algorithm, of_architecture, of_code, of_durations, of_sensors, usage}
+use Rattle.command_words.specs.Command.{Command, check, sim, flat, chart, code, run, load, exec, dates}
 use Rattle.top_plans.specs.Names.{names_for}
-use Rattle.top_plans.specs.Given.{Given, written, printed, summed, Execution, one_job}
-use Rattle.top_plans.specs.Plans.{Made, read_file, unless, algorithm_in, architecture_in, table_in, program_plan, program_by, rows_plan, excess, execution, execution_plan, head, summary, run_plan, load_plan, plan_for}
+use Rattle.top_plans.specs.Given.{Given, written, printed, executed, summed, Execution, one_job}
+use Rattle.top_plans.specs.Plans.{Made, read_file, unless, unless_lacking, algorithm_in, described_in, architecture_in, table_in, code_in, durations_in, program_plan, program_by, schedule_of, rows_plan, excess, execution, execution_plan, head, summary, load_plan, plan_for}
+use Rattle.top_plans.specs.Loads.{load_algorithm, load_architecture, load_table}
+use Rattle.top_plans.specs.Checks.{lacking}
+
+-- where the program of an execution comes from
+pub data Comes (d : Described) (e : Execution) : Type 0 where
+  built : (t : Table) → durations_of (flat_of e.main) d ≡ Ok t → e.program ≡ program_by (flat_of e.main) d.archi t → Comes d e
+  checked : lacking (flat_of e.main) d.archi e.program ≡ None → Comes d e
 
 -- all that was accepted on the way to an execution
 pub record IsAccepted (e : Execution) : Type 0 where
@@ -43,9 +58,7 @@ pub record IsAccepted (e : Execution) : Type 0 where
   pub described : Described
   pub describes : description_of lines ≡ Ok described
   pub stands : e.architecture ≡ described.archi
-  pub durations : Table
-  pub lasts : durations_of (flat_of e.main) described ≡ Ok durations
-  pub built : e.program ≡ program_by (flat_of e.main) described.archi durations
+  pub comes : Comes described e
   pub table : List (List (List ℕ))
   pub tells : rows_of e.main table ≡ Ok e.rows
   pub limit : limit_of (one_job e) ≡ None
@@ -57,15 +70,11 @@ Leaf (sim a s) (written t) = Unit {0}
 Leaf (flat a) (written t) = Unit {0}
 Leaf (chart a h) (written t) = Unit {0}
 Leaf (code a h) (written t) = Unit {0}
+Leaf (run a h s workers) (printed t e) = IsAccepted e
+Leaf (load n) (summed e t) = IsAccepted e
+Leaf (exec a h c s workers) (executed e) = IsAccepted e
+Leaf (dates a h g n) (written t) = Unit {0}
 Leaf _ _ = ⊥
-
-abbrev pub RunLeaf : Given → Type 0
-RunLeaf (printed t e) = IsAccepted e
-RunLeaf _ = ⊥
-
-abbrev pub LoadLeaf : Given → Type 0
-LoadLeaf (summed e t) = IsAccepted e
-LoadLeaf _ = ⊥
 
 -- no part refuses as words that are no command
 algorithm_not : (e : AlgoError) → ¬ (of_algorithm e ≡ usage)
@@ -82,6 +91,16 @@ sensors_not : (e : SensorError) → ¬ (of_sensors e ≡ usage)
 sensors_not (sensors.Refused fault) q = cc
 sensors_not (sensors.Limit fault) q = cc
 sensors_not sensors.OutOfMemory q = cc
+
+code_not : (e : CodeError) → ¬ (of_code e ≡ usage)
+code_not (macros.Refused fault) q = cc
+code_not (macros.Limit fault) q = cc
+code_not macros.OutOfMemory q = cc
+
+durations_not : (e : ActualError) → ¬ (of_durations e ≡ usage)
+durations_not (actual.Refused fault) q = cc
+durations_not (actual.Limit fault) q = cc
+durations_not actual.OutOfMemory q = cc
 
 -- a property of plans that refusals have
 module _ (Q : Made → Type 0) (refused : (r : Refusal) → ¬ (r ≡ usage) → Q (refuse r)) where
@@ -110,6 +129,19 @@ module _ (Q : Made → Type 0) (refused : (r : Refusal) → ¬ (r ≡ usage) →
   program_so : (g : Graph) (a : Archi) (t : Table) (next : Program → Made) → Q (next (program_by g a t)) → Q (program_plan g a t next)
   program_so g a t next h = unless_within (program_limit (program_by g a t) (length a.media)) (next (program_by g a t)) (λ n. h)
 
+  unless_none : (o : Option CheckCause) (next : Made) → (o ≡ None → Q next) → Q (unless_lacking o next)
+  unless_none (Some cause) next h = refused (failed_check cause) (λ q. cc)
+  unless_none None next h = h refl
+
+  described_so : (text : Bytes) (next : Described → Made) → ((d : Described) → description_of text ≡ Ok d → Q (next d)) → Q (described_in text next)
+  described_so text next h = after_so of_architecture architecture_not (description_of text) next h
+
+  code_so : (text : Bytes) (g : Graph) (a : Archi) (next : Program → Made) → ((p : Program) → lacking g a p ≡ None → Q (next p)) → Q (code_in text g a next)
+  code_so text g a next h = after_so of_code code_not (program_in text g a) (λ p. unless_lacking (lacking g a p) (next p)) (λ p q. unless_none (lacking g a p) (next p) (h p))
+
+  durations_so : (text : Bytes) (g : Graph) (a : Archi) (t : Table) (next : List ℕ → Made) → ((ticks : List ℕ) → Q (next ticks)) → Q (durations_in text g a t next)
+  durations_so text g a t next h = after_so of_durations durations_not (actual_of g a t (schedule_of g a t) text) next (λ ticks q. h ticks)
+
   -- an execution of the program that the pressure run gives
   execution_so : (text : Bytes) (defs : Defs) (main : Vertex) (lines : Bytes) (d : Described) (t : Table) (table : Bytes) (rows : Reactions) (what : Execution → Given)
       → definitions_of text ≡ Ok defs → resolution_of defs.defs ≡ Ok main → description_of lines ≡ Ok d → durations_of (flat_of main) d ≡ Ok t → rows_of main (records default_config (strip_bom table)) ≡ Ok rows
@@ -125,27 +157,40 @@ module _ (Q : Made → Type 0) (refused : (r : Refusal) → ¬ (r ≡ usage) →
         described = d;
         describes = describes;
         stands = refl;
-        durations = t;
-        lasts = lasts;
-        built = refl;
+        comes = built t lasts refl;
         table = records default_config (strip_bom table);
         tells = tells;
         limit = n;
       })))
 
-  -- a load
-  pub walk_load : (a h s : Bytes) → ((g : Given) → LoadLeaf g → Q (give g)) → Q (load_plan a h s)
-  walk_load a h s gives = algorithm_so a _ (λ defs main p q. architecture_so h main _ (λ d t u v. table_so main s _ (λ rows r.
-      execution_so a defs main h d t s rows (λ e. summed e (summary e)) p q u v r (λ e is. gives (summed e (summary e)) is))))
+  -- an execution of a program that was checked
+  checked_so : (text : Bytes) (defs : List Def) (main : Vertex) (lines : Bytes) (d : Described) (p : Program) (table : Bytes) (rows : Reactions)
+      → definitions_of text ≡ Ok defs → resolution_of defs ≡ Ok main → description_of lines ≡ Ok d → lacking (flat_of main) d.archi p ≡ None → rows_of main (records default_config (strip_bom table)) ≡ Ok rows
+      → ((e : Execution) → IsAccepted e → Q (give (executed e))) → Q (execution_plan (execution main d.archi p rows) executed)
+  checked_so text defs main lines d p table rows says resolves describes whole tells h =
+      let e = execution main d.archi p rows in
+      unless_within (limit_of (one_job e)) (give (executed e)) (λ n. h e (record {
+        text = text;
+        defs = defs;
+        says = says;
+        resolves = resolves;
+        lines = lines;
+        described = d;
+        describes = describes;
+        stands = refl;
+        comes = checked whole;
+        table = records default_config (strip_bom table);
+        tells = tells;
+        limit = n;
+      }))
+
+  -- a load, whatever its texts are
+  load_so : (a h s : Bytes) → ((e : Execution) → IsAccepted e → Q (give (summed e (summary e)))) → Q (load_plan a h s)
+  load_so a h s gives = algorithm_so a _ (λ defs main p q. architecture_so h main _ (λ d t u v. table_so main s _ (λ rows r.
+      execution_so a defs main h d t s rows (λ e. summed e (summary e)) p q u v r gives)))
 
   abbrev Reads : (File → Option Bytes) → Type 0
   Reads names = (file : File) (name : Bytes) (next : Bytes → Made) → names file ≡ Some name → ((bytes : Bytes) → Q (next bytes)) → Q (read_file file name next)
-
-  -- a run
-  pub walk_run : (a h s : Bytes) (workers : Option ℕ) → Reads (names_for (run a h s workers)) → ((g : Given) → RunLeaf g → Q (give g)) → Q (run_plan a h s)
-  walk_run a h s workers reads gives = reads Algorithm a _ refl (λ text. algorithm_so text _ (λ defs main p q. reads Architecture h _ refl (λ lines. architecture_so lines main _ (λ d t u v.
-      reads Sensors s _ refl (λ table. table_so main table _ (λ rows r.
-      execution_so text defs main lines d t table rows (λ e. printed (head e) e) p q u v r (λ e is. gives (printed (head e) e) is)))))))
 
   -- the plan of each command
   pub walk : (command : Command) → Reads (names_for command) → ((g : Given) → Leaf command g → Q (give g)) → Q (plan_for command)
@@ -156,5 +201,13 @@ module _ (Q : Made → Type 0) (refused : (r : Refusal) → ¬ (r ≡ usage) →
   walk (chart a h) reads gives = reads Algorithm a _ refl (λ text. algorithm_so text _ (λ defs main p q. reads Architecture h _ refl (λ lines. architecture_so lines main _ (λ d t u v. gives _ tt))))
   walk (code a h) reads gives = reads Algorithm a _ refl (λ text. algorithm_so text _ (λ defs main p q. reads Architecture h _ refl (λ lines. architecture_so lines main _ (λ d t u v.
       program_so (flat_of main) d.archi t (λ p. give (written (macro_code p (flat_of main) d.archi))) (gives _ tt)))))
-  walk (run a h s workers) reads gives = refused not_built (λ q. cc)
-  walk (load n) reads gives = refused not_built (λ q. cc)
+  walk (run a h s workers) reads gives = reads Algorithm a _ refl (λ text. algorithm_so text _ (λ defs main p q. reads Architecture h _ refl (λ lines. architecture_so lines main _ (λ d t u v.
+      reads Sensors s _ refl (λ table. table_so main table _ (λ rows r.
+      execution_so text defs main lines d t table rows (λ e. printed (head e) e) p q u v r (λ e is. gives (printed (head e) e) is)))))))
+  walk (load n) reads gives = load_so (load_algorithm n) load_architecture (load_table n) (λ e is. gives (summed e (summary e)) is)
+  walk (exec a h c s workers) reads gives = reads Algorithm a _ refl (λ text. algorithm_so text _ (λ defs main p q. reads Architecture h _ refl (λ lines. described_so lines _ (λ d u.
+      reads Code c _ refl (λ macros. code_so macros (flat_of main) d.archi _ (λ program whole. reads Sensors s _ refl (λ table. table_so main table _ (λ rows r.
+      checked_so text defs main lines d program table rows p q u whole r (λ e is. gives (executed e) is)))))))))
+  walk (dates a h g n) reads gives = reads Algorithm a _ refl (λ text. algorithm_so text _ (λ defs main p q. reads Architecture h _ refl (λ lines. architecture_so lines main _ (λ d t u v.
+      reads Durations g _ refl (λ real. durations_so real (flat_of main) d.archi t _ (λ ticks.
+      program_so (flat_of main) d.archi t (λ p. give (written (dates_text (flat_of main) d.archi (schedule_of (flat_of main) d.archi t) ticks n))) (gives _ tt)))))))

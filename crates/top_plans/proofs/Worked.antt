@@ -3,13 +3,18 @@ use Rattle.std.proofs.Common.{◌≡◌, ℕ, refl, List, [], ◌∷◌, ◌++�
 use Rattle.csv.specs.Reading.{records_from, strip_bom}
 use Rattle.csv.specs.Machine.{next_record}
 use Rattle.std.specs.Fmt.{digits}
+use Rattle.code_text.specs.Forms.{macro_of}
 use Rattle.outside.specs.Bytes.{Bytes, named}
 use Rattle.semaphore_core.specs.Job.{JobData, reactions}
 use Rattle.command_plan.specs.Plan.{outcome}
 use Rattle.command_plan.specs.Stage.{Stage}
-use Rattle.command_status.specs.Status.{Refusal}
+use Rattle.command_status.specs.Status.{Refusal, bad_code, failed_check, bad_durations}
+use Rattle.code_text.specs.declared.fault.CodeCause.TheVariants as code_cause
+use Rattle.check_cause.specs.declared.cause.CheckCause.TheVariants.{Sequences}
+use Rattle.archi_defs.specs.declared.fault.ArchiCause.TheVariants as archi_cause
+use Rattle.actual_defs.specs.declared.fault.ActualFault.TheVariants.{Text, Longer}
 use Rattle.top_plans.specs.Given.{Given, stages}
-use Rattle.top_plans.specs.Plans.{run_plan, sim_plan, code_plan, load_plan}
+use Rattle.top_plans.specs.Plans.{run_plan, sim_plan, code_plan, load_plan, exec_plan, dates_plan}
 
 abbrev text : List Bytes → Bytes
 text [] = []
@@ -27,19 +32,23 @@ table = text (codes "k,s.0" ∷ codes "0,5" ∷ codes "1,-1" ∷ codes "2,0" ∷
 abbrev no_rows : Bytes
 no_rows = text (codes "k,s.0" ∷ [])
 
--- files `A`, `H`, `S`, and `E` for a table without rows
+-- an actuator that lasts longer
+abbrev longer : Bytes
+longer = text (codes "architecture 1" ∷ codes "operator P" ∷ codes "duration Sense P 1" ∷ codes "duration Act P 3" ∷ [])
+
+-- the code of one operator
+abbrev code : Bytes
+code = codes "processor_(P)\nsemaphores_()\nalloc_(b0,1)\nmain_\nloop_\nop s(;b0)\nop a(b0;)\nendloop_\nendmain_\n"
+
+-- files `A`, `H`, `S`, `E` for a table without rows, the code `C`, `N` without a byte, `B` which is no text of any kind, and `L`
 abbrev told : Bytes → Option Bytes
-told = named ((codes "A", algorithm) ∷ (codes "H", architecture) ∷ (codes "S", table) ∷ (codes "E", no_rows) ∷ [])
+told = named ((codes "A", algorithm) ∷ (codes "H", architecture) ∷ (codes "S", table) ∷ (codes "E", no_rows) ∷ (codes "C", code) ∷ (codes "N", []) ∷ (codes "B", codes "?\n") ∷ (codes "L", longer) ∷ [])
 
 -- how many reactions each job of a stage has, and its text
 abbrev in_stages : Option (Result Given Refusal) → List (List ℕ × Bytes)
 in_stages (Some (Ok a)) = map (λ (x : Stage JobData). (map reactions x.jobs, x.text)) (stages a)
 in_stages (Some (Err r)) = []
 in_stages None = []
-
--- the code of one operator
-abbrev code : Bytes
-code = codes "processor_(P)\nsemaphores_()\nalloc_(b0,1)\nmain_\nloop_\nop s(;b0)\nop a(b0;)\nendloop_\nendmain_\n"
 
 simulated : in_stages (outcome told (sim_plan (codes "A") (codes "S"))) ≡ (([], codes "0 a 5\n1 a -1\n2 a 0\n") ∷ [])
 unfolding records_from strip_bom next_record digits
@@ -63,3 +72,27 @@ ran_none = refl
 loaded : in_stages (outcome told (load_plan algorithm architecture table)) ≡ ((3 ∷ [], codes "operations 2\nsequences 1\nsteps 6\nsum 4\n") ∷ [])
 unfolding records_from strip_bom next_record digits
 loaded = refl
+
+-- what the code writes by itself
+executed : in_stages (outcome told (exec_plan (codes "A") (codes "H") (codes "C") (codes "S"))) ≡ ((3 ∷ [], codes "0 a 5\n1 a -1\n2 a 0\n") ∷ [])
+unfolding records_from strip_bom next_record digits macro_of
+executed = refl
+
+-- the code is refused before its table is asked for, which is not told here: by its text, and by its check
+unread : outcome told (exec_plan (codes "A") (codes "H") (codes "B") (codes "X")) ≡ Some (Err (bad_code (record { line = 1; cause = code_cause.BadLine })))
+unfolding macro_of
+unread = refl
+
+unchecked : outcome told (exec_plan (codes "A") (codes "H") (codes "N") (codes "X")) ≡ Some (Err (failed_check Sequences))
+unfolding macro_of
+unchecked = refl
+
+-- the same durations as stated
+dated : in_stages (outcome told (dates_plan (codes "A") (codes "H") (codes "H") 2)) ≡ (([], codes "0 op 0 1 s\n0 op 1 3 a\n1 op 3 4 s\n1 op 4 6 a\nlatest 6\n") ∷ [])
+unfolding digits
+dated = refl
+
+-- a text that is no architecture, and one that lasts longer
+undated : (outcome told (dates_plan (codes "A") (codes "H") (codes "B") 2) ≡ Some (Err (bad_durations (Text (record { line = 1; cause = archi_cause.BadLine })))))
+    × (outcome told (dates_plan (codes "A") (codes "H") (codes "L") 2) ≡ Some (Err (bad_durations (Longer (codes "Act")))))
+undated = (refl, refl)

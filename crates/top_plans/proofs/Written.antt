@@ -6,8 +6,7 @@ use Rattle.level_meaning.specs.Level.{numbers_below}
 use Rattle.algo_tree.specs.Meaning.{act_row}
 use Rattle.act_text.specs.Names.{actuator_names}
 use Rattle.command_plan.specs.Stage.{text_of, jobs_of}
-use Rattle.phase_laws.specs.Windows.{window, window_job}
-use Rattle.act_text.specs.Text.{text_from}
+use Rattle.phase_laws.specs.Windows.{window_job}
 use Rattle.run_laws.specs.Windows.{starts, reactions_from, window_jobs, window_text}
 use Rattle.run_laws.proofs.Texts.{windows_tell}
 use Rattle.top_plans.specs.Given.{Execution, one_job, acts_of, window_stage, window_stages, output_of}
@@ -36,7 +35,7 @@ module _ (e : Execution) where
   whole = texts_of (starts (length e.rows.reactions)) ∙ ap (λ n. flat_map texts (starts n)) (sym as_many) ∙ windows_tell (actuator_names e.main) (acts_of e.main e.rows.reactions)
 
 pub windows_write : WindowsWriteTheOutput
-windows_write text e = (ap (λ t. text ++ t) (whole e), append-nil text)
+windows_write text e = (ap (λ t. text ++ t) (whole e), whole e, append-nil text)
 
 pub windows_run : WindowsAreRun
-windows_run text e = (jobs_in e (starts (length e.rows.reactions)), append-nil (window_jobs (one_job e)))
+windows_run text e = (jobs_in e (starts (length e.rows.reactions)), jobs_in e (starts (length e.rows.reactions)), append-nil (window_jobs (one_job e)))

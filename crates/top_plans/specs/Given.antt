@@ -35,10 +35,12 @@ acts_of main rows = map (act_row main rows) (numbers_below (length rows))
 abbrev pub output_of : Vertex → List Values → Bytes
 output_of main rows = output_text (actuator_names main) (acts_of main rows)
 
--- What is to be made: a text by itself; a text, and after it what a program that is executed gives; or a text for which a program is executed.
+-- What is to be made: a text by itself; a text, and after it what a program that is executed gives; what it gives alone; or a text for
+-- which a program is executed.
 pub data Given : Type 0 where
   written : Bytes → Given
   printed : Bytes → Execution → Given
+  executed : Execution → Given
   summed : Execution → Bytes → Given
 
 -- the window that begins with reaction s: its job, and then its lines
@@ -55,4 +57,5 @@ window_stages e = map (window_stage e) (starts (length e.rows.reactions))
 abbrev pub stages : Given → List (Stage JobData)
 stages (written text) = record { jobs = []; text = text } ∷ []
 stages (printed text e) = record { jobs = []; text = text } ∷ window_stages e
+stages (executed e) = window_stages e
 stages (summed e text) = record { jobs = window_jobs (one_job e); text = text } ∷ []

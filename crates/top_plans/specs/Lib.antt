@@ -1,5 +1,7 @@
 pub mod Names
 pub mod Given
+pub mod Loads
+pub mod Checks
 pub mod Plans
 pub mod Meaning
 pub mod Replies

@@ -16,16 +16,19 @@ use Rattle.phase_laws.specs.Windows.{IsWindow}
 use Rattle.command_plan.specs.Plan.{outcome}
 use Rattle.command_plan.specs.Stage.{text_of, jobs_of}
 use Rattle.run_laws.specs.Windows.{window_jobs}
-use Rattle.top_plans.specs.Given.{Given, written, printed, summed, Execution, one_job, acts_of, output_of, stages}
-use Rattle.top_plans.specs.Plans.{run_plan, load_plan}
+use Rattle.top_plans.specs.Given.{Given, written, printed, executed, summed, Execution, one_job, acts_of, output_of, stages}
+use Rattle.command_words.specs.Command.{Command}
+use Rattle.top_plans.specs.Plans.{plan_for}
 
 -- the text that is written in windows is the whole output
 abbrev pub WindowsWriteTheOutput : Type 0
-WindowsWriteTheOutput = (text : Bytes) (e : Execution) → (text_of (stages (printed text e)) ≡ text ++ output_of e.main e.rows.reactions) × (text_of (stages (summed e text)) ≡ text)
+WindowsWriteTheOutput = (text : Bytes) (e : Execution) → (text_of (stages (printed text e)) ≡ text ++ output_of e.main e.rows.reactions)
+    × (text_of (stages (executed e)) ≡ output_of e.main e.rows.reactions) × (text_of (stages (summed e text)) ≡ text)
 
 -- and the jobs that are run are the windows of the one job
 abbrev pub WindowsAreRun : Type 0
-WindowsAreRun = (text : Bytes) (e : Execution) → (jobs_of (stages (printed text e)) ≡ window_jobs (one_job e)) × (jobs_of (stages (summed e text)) ≡ window_jobs (one_job e))
+WindowsAreRun = (text : Bytes) (e : Execution) → (jobs_of (stages (printed text e)) ≡ window_jobs (one_job e))
+    × (jobs_of (stages (executed e)) ≡ window_jobs (one_job e)) × (jobs_of (stages (summed e text)) ≡ window_jobs (one_job e))
 
 -- The runs of an execution, in every interleaving of its one job over all rows.
 pub record RunsTrue (e : Execution) : Type 0 where
@@ -45,11 +48,9 @@ pub record RunsTrue (e : Execution) : Type 0 where
 abbrev pub MakesTrue : Given → Type 0
 MakesTrue (written text) = Unit {0}
 MakesTrue (printed text e) = RunsTrue e
+MakesTrue (executed e) = RunsTrue e
 MakesTrue (summed e text) = RunsTrue e
 
--- Whatever a run comes to make of files that are told, or a load of its texts, runs true.
+-- Whatever a command comes to make of files that are told runs true.
 abbrev pub AcceptedRunTrue : Type 0
-AcceptedRunTrue = (a h s : Bytes) (told : Bytes → Option Bytes) (given : Given) → outcome told (run_plan a h s) ≡ Some (Ok given) → MakesTrue given
-
-abbrev pub LoadsRunTrue : Type 0
-LoadsRunTrue = (a h s : Bytes) (told : Bytes → Option Bytes) (given : Given) → outcome told (load_plan a h s) ≡ Some (Ok given) → MakesTrue given
+AcceptedRunTrue = (command : Command) (told : Bytes → Option Bytes) (given : Given) → outcome told (plan_for command) ≡ Some (Ok given) → MakesTrue given

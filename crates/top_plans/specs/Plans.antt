@@ -6,7 +6,7 @@ use Rattle.csv.specs.Reading.{default_config, records, strip_bom}
 use Rattle.outside.specs.Bytes.{Bytes, joined}
 use Rattle.outside.specs.Shelf.{file_limit}
 use Rattle.outside.specs.declared.file.File.{File}
-use Rattle.outside.specs.declared.file.File.TheVariants.{Algorithm, Architecture, Sensors}
+use Rattle.outside.specs.declared.file.File.TheVariants.{Algorithm, Architecture, Sensors, Code, Durations}
 use Rattle.syn_base.specs.Arithmetic.{wrapped}
 use Rattle.syn_base.specs.Limits.{bound_of}
 use Rattle.syn_base.specs.Rows.{Reactions}
@@ -39,11 +39,17 @@ use Rattle.sequence_build.specs.Limit.{program_limit}
 use Rattle.semaphore_core.specs.Job.{total_steps}
 use Rattle.semaphore_core.specs.IsJob.{limit_of}
 use Rattle.macro_code.specs.Text.{macro_code}
+use Rattle.code_text.specs.Text.{program_in}
+use Rattle.check_cause.specs.declared.cause.CheckCause.{CheckCause}
+use Rattle.actual_durations.specs.Actual.{actual_of}
+use Rattle.dates_text.specs.Listing.{dates_text}
 use Rattle.sensor_table.specs.SensorTable.{rows_of}
 use Rattle.command_plan.specs.Plan.{Plan, give, refuse, read, after}
-use Rattle.command_status.specs.Status.{Refusal, above, not_built, of_algorithm, of_architecture, of_sensors, usage}
-use Rattle.command_words.specs.Command.{Command, check, sim, flat, chart, code, run, load}
-use Rattle.top_plans.specs.Given.{Given, written, printed, summed, Execution, one_job, acts_of, output_of}
+use Rattle.command_status.specs.Status.{Refusal, above, failed_check, of_algorithm, of_architecture, of_code, of_durations, of_sensors, usage}
+use Rattle.command_words.specs.Command.{Command, check, sim, flat, chart, code, run, load, exec, dates}
+use Rattle.top_plans.specs.Given.{Given, written, printed, executed, summed, Execution, one_job, acts_of, output_of}
+use Rattle.top_plans.specs.Loads.{load_algorithm, load_architecture, load_table}
+use Rattle.top_plans.specs.Checks.{lacking}
 
 abbrev pub Made : Type 0
 Made = Plan Refusal Given
@@ -61,9 +67,13 @@ unless None next = next
 abbrev pub algorithm_in : Bytes → (Defs → Vertex → Made) → Made
 algorithm_in text next = after of_algorithm (definitions_of text) (λ defs. after of_algorithm (resolution_of defs.defs) (next defs))
 
--- what a text says of an architecture, and then the durations of the algorithm's operations
+-- what a text says of an architecture
+abbrev pub described_in : Bytes → (Described → Made) → Made
+described_in text next = after of_architecture (description_of text) next
+
+-- the same, and then the durations of the algorithm's operations
 abbrev pub architecture_in : Bytes → Vertex → (Described → Table → Made) → Made
-architecture_in text main next = after of_architecture (description_of text) (λ d. after of_architecture (durations_of (flat_of main) d) (next d))
+architecture_in text main next = described_in text (λ d. after of_architecture (durations_of (flat_of main) d) (next d))
 
 -- the rows of a table
 abbrev pub table_in : Vertex → Bytes → (Reactions → Made) → Made
@@ -156,6 +166,29 @@ summary e = joined (
     ∷ codes "\nsum " ∷ signed_decimal (sum_of (acts_of e.main e.rows.reactions)) ∷ codes "\n" ∷ []
     )
 
+-- go on where a program lacks nothing
+abbrev pub unless_lacking : Option CheckCause → Made → Made
+unless_lacking (Some cause) next = refuse (failed_check cause)
+unless_lacking None next = next
+
+-- the program of a text of macro-code within its limits, and then its check
+abbrev pub code_in : Bytes → Graph → Archi → (Program → Made) → Made
+code_in text g a next = after of_code (program_in text g a) (λ p. unless_lacking (lacking g a p) (next p))
+
+-- Durations of the architecture are passed over. The code and its check come before the rows, and these before the limits of the run.
+abbrev pub exec_plan : Bytes → Bytes → Bytes → Bytes → Made
+exec_plan a h c s = algorithm_plan a (λ defs main. read_file Architecture h (λ lines. described_in lines (λ d. read_file Code c (λ text.
+    code_in text (flat_of main) d.archi (λ p. table_plan main s (λ rows. execution_plan (execution main d.archi p rows) executed))))))
+
+-- how long operations and transfers of the schedule really last, by a text
+abbrev pub durations_in : Bytes → Graph → Archi → Table → (List ℕ → Made) → Made
+durations_in text g a t next = after of_durations (actual_of g a t (schedule_of g a t) text) next
+
+-- The durations that really occur come before the limits of the program.
+abbrev pub dates_plan : Bytes → Bytes → Bytes → ℕ → Made
+dates_plan a h g n = algorithm_plan a (λ defs main. architecture_plan h main (λ d t. read_file Durations g (λ text. durations_in text (flat_of main) d.archi t (λ ticks.
+    program_plan (flat_of main) d.archi t (λ p. give (written (dates_text (flat_of main) d.archi (schedule_of (flat_of main) d.archi t) ticks n)))))))
+
 -- The texts of an algorithm, an architecture and a table are carried out as they stand; no file is read.
 abbrev pub load_plan : (a h s : Bytes) → Made
 load_plan a h s = algorithm_in a (λ defs main. architecture_in h main (λ d t. table_in main s (λ rows.
@@ -167,8 +200,10 @@ plan_for (sim a s) = sim_plan a s
 plan_for (flat a) = flat_plan a
 plan_for (chart a h) = chart_plan a h
 plan_for (code a h) = code_plan a h
-plan_for (run a h s workers) = refuse not_built
-plan_for (load n) = refuse not_built
+plan_for (run a h s workers) = run_plan a h s
+plan_for (load n) = load_plan (load_algorithm n) load_architecture (load_table n)
+plan_for (exec a h c s workers) = exec_plan a h c s
+plan_for (dates a h g n) = dates_plan a h g n
 
 -- the plan of the words
 abbrev pub plan_of : Option Command → Made

@@ -1,20 +1,20 @@
 -- What the public calls answer.
-use Rattle.std.specs.Prelude.{◌≡◌, ◌⊎◌, ◌++◌, Option, Some, None, Result, Ok, IsOkAnd}
+use Rattle.std.specs.Prelude.{◌≡◌, ◌⊎◌, ◌++◌, ℕ, Option, Some, None, Result, Ok, IsOkAnd}
 use Rattle.outside.specs.Bytes.{Bytes}
 use Rattle.outside.specs.Faults.{Rose}
 use Rattle.outside.specs.Shelf.{Held}
 use Rattle.outside.specs.Sink.{Sunk, Appends, AppendsPrefix}
 use Rattle.command_plan.specs.Plan.{outcome}
 use Rattle.command_plan.specs.Stage.{text_of, after_jobs}
-use Rattle.command_plan.specs.Ending.{Ending, done, refused, unwritten}
+use Rattle.command_plan.specs.Ending.{Ending, done, refused, unwritten, no_memory}
 use Rattle.command_plan.specs.Run.{Ran}
 use Rattle.command_plan.specs.Answers.{Answers}
 use Rattle.command_status.specs.Status.{Refusal, usage}
-use Rattle.command_words.specs.Command.{Command}
+use Rattle.command_words.specs.Command.{Command, load}
 use Rattle.word_rule.specs.Driven.{Driven, driven_by}
 use Rattle.run_laws.specs.Windows.{window_jobs}
-use Rattle.top_plans.specs.Names.{names_of}
-use Rattle.top_plans.specs.Given.{Given, printed, Execution, one_job, output_of, stages}
+use Rattle.top_plans.specs.Names.{names_of, RunsJobs, IsPlain}
+use Rattle.top_plans.specs.Given.{Given, written, printed, executed, summed, Execution, one_job, output_of, stages}
 use Rattle.top_plans.specs.Plans.{plan_of}
 use Rattle.top_plans.specs.Meaning.{MakesTrue}
 
@@ -32,21 +32,45 @@ pub record RepliesPlainly (command : Option Command) (held held' : Held) (sunk s
       × ((o : Result Given Refusal) → outcome held.told (plan_of command) ≡ Some o → IsOkAnd o (λ a. AppendsPrefix sunk sunk' (text_of (stages a))))
   pub nothing : (ending ≡ done) ⊎ (ending ≡ unwritten) ⊎ (sunk' ≡ sunk)
 
+-- A command that runs jobs is left as it is: nothing was read, and nothing written.
+abbrev pub LeavesJobs : Option Command → Held → Held → Sunk → Sunk → Type 0
+LeavesJobs None held held' sunk sunk' = ⊥
+LeavesJobs (Some command) held held' sunk sunk' = RunsJobs command × (held' ≡ held) × (sunk' ≡ sunk)
+
+-- The call without threads answers none exactly for commands that run jobs, and says nothing then. Want of memory may come for any words, before anything is read.
+abbrev pub PlainReplies : Option Command → Held → Held → Sunk → Sunk → (err err' : Sunk) → Option (Ending Refusal) → Type 0
+PlainReplies command held held' sunk sunk' err err' None = LeavesJobs command held held' sunk sunk' × (err' ≡ err)
+PlainReplies command held held' sunk sunk' err err' (Some ending) =
+    (IsPlain command × RepliesPlainly command held held' sunk sunk' ending) ⊎ ((ending ≡ no_memory) × LeavesJobs command held held' sunk sunk')
+
 -- What was carried out of the plan of the words replies.
 abbrev pub CommandsReply : Type 0
 CommandsReply = (command : Option Command) (held held' : Held) (sunk sunk' : Sunk) (driven driven' : Driven) (ending : Ending Refusal)
     → Ran driven_by stages (plan_of command) held held' sunk sunk' driven driven' ending → Replies command held held' sunk sunk' driven driven' ending
 
--- What was carried out of it without driving anything replies plainly.
+-- What a call without threads carried out of the plan of words that run no job, whatever is driven, replies plainly.
 abbrev pub PlainCommandsReply : Type 0
-PlainCommandsReply = (command : Option Command) (held held' : Held) (sunk sunk' : Sunk) (ending : Ending Refusal)
+PlainCommandsReply = (command : Option Command) → IsPlain command → (held held' : Held) (sunk sunk' : Sunk) (ending : Ending Refusal)
     → ((driven : Driven) → Ran driven_by stages (plan_of command) held held' sunk sunk' driven driven ending) → RepliesPlainly command held held' sunk sunk' ending
 
--- Done of a run: its text and the output were appended, and the windows of the one job were run.
+-- A load is written by one call, so that nothing is appended with any ending but done and a fault of the output.
+abbrev pub LoadsKeep : Type 0
+LoadsKeep = (n : ℕ) (held held' : Held) (sunk sunk' : Sunk) (driven driven' : Driven) (ending : Ending Refusal)
+    → Replies (Some (load n)) held held' sunk sunk' driven driven' ending → (ending ≡ done) ⊎ (ending ≡ unwritten) ⊎ (sunk' ≡ sunk)
+
+-- this text was appended, and the windows of the one job were run, one after another
 pub record HasRun (text : Bytes) (e : Execution) (sunk sunk' : Sunk) (driven driven' : Driven) : Type 0 where
-  pub output : Appends sunk sunk' (text ++ output_of e.main e.rows.reactions)
+  pub output : Appends sunk sunk' text
   pub ran : driven' ≡ after_jobs driven_by (window_jobs (one_job e)) driven
 
+-- what was to be made is made
+abbrev pub IsMade : Given → Sunk → Sunk → Driven → Driven → Type 0
+IsMade (written text) sunk sunk' driven driven' = Appends sunk sunk' text × (driven' ≡ driven)
+IsMade (printed text e) sunk sunk' driven driven' = HasRun (text ++ output_of e.main e.rows.reactions) e sunk sunk' driven driven'
+IsMade (executed e) sunk sunk' driven driven' = HasRun (output_of e.main e.rows.reactions) e sunk sunk' driven driven'
+IsMade (summed e text) sunk sunk' driven driven' = HasRun text e sunk sunk' driven driven'
+
+-- Done of any command: what was to be made of the files that are told is made.
 abbrev pub DoneRuns : Type 0
-DoneRuns = (command : Option Command) (held held' : Held) (sunk sunk' : Sunk) (driven driven' : Driven) (text : Bytes) (e : Execution)
-    → Replies command held held' sunk sunk' driven driven' done → outcome held.told (plan_of command) ≡ Some (Ok (printed text e)) → HasRun text e sunk sunk' driven driven'
+DoneRuns = (command : Option Command) (held held' : Held) (sunk sunk' : Sunk) (driven driven' : Driven) (given : Given)
+    → Replies command held held' sunk sunk' driven driven' done → outcome held.told (plan_of command) ≡ Some (Ok given) → IsMade given sunk sunk' driven driven'

@@ -3,8 +3,8 @@
 //! Each law is the contract of a function that does nothing, or calls other laws alone.
 #![tactic(auto)]
 
-ghost use Rattle.top_plans.specs.Meaning.{AcceptedRunTrue, LoadsRunTrue, WindowsAreRun, WindowsWriteTheOutput};
-ghost use Rattle.top_plans.specs.Replies.{CommandsReply, DoneRuns, PlainCommandsReply};
+ghost use Rattle.top_plans.specs.Meaning.{AcceptedRunTrue, WindowsAreRun, WindowsWriteTheOutput};
+ghost use Rattle.top_plans.specs.Replies.{CommandsReply, DoneRuns, LoadsKeep, PlainCommandsReply};
 
 use phase_laws::{runs_end, runs_take_rows, windows_make_the_run};
 
@@ -18,8 +18,8 @@ pub fn windows_are_run()
     ensures { WindowsAreRun }
 {}
 
-/// Whatever a run makes that is accepted runs true: in every interleaving each state is what its counts tell
-/// and is fresh, some sequence is enabled until all is done, and each row that is taken is what the
+/// Whatever a command makes that is accepted runs true: in every interleaving each state is what its counts
+/// tell and is fresh, some sequence is enabled until all is done, and each row that is taken is what the
 /// algorithm's actuators take.
 pub fn accepted_run_true()
     ensures { AcceptedRunTrue }
@@ -29,28 +29,28 @@ pub fn accepted_run_true()
     windows_make_the_run();
 }
 
-/// So does what a load makes of its texts.
-pub fn loads_run_true()
-    ensures { LoadsRunTrue }
-{
-    runs_end();
-    runs_take_rows();
-    windows_make_the_run();
-}
-
 /// What was carried out of the plan of the words replies.
 pub fn commands_reply()
     ensures { CommandsReply }
-{}
+{
+    accepted_run_true();
+}
 
-/// What was carried out of it without driving anything replies plainly: nothing is driven, and with any
-/// ending but done and a fault of the output nothing is appended.
+/// What was carried out, without driving anything, of the plan of words that run no job replies plainly:
+/// nothing is driven, and with any ending but done and a fault of the output nothing is appended.
 pub fn plain_commands_reply()
     ensures { PlainCommandsReply }
+{
+    accepted_run_true();
+}
+
+/// A load appends nothing either with any ending but done and a fault of the output.
+pub fn loads_keep()
+    ensures { LoadsKeep }
 {}
 
-/// Done of a run: the text before it and the whole output were appended, and the windows of the one job over
-/// all rows were run.
+/// Done of any command: what was to be made is made. Of a run the text before it and the whole output were
+/// appended, and the windows of the one job over all rows were run.
 pub fn done_runs()
     ensures { DoneRuns }
 {}

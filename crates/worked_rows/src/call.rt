@@ -7,10 +7,12 @@ use std::alloc::{AllocError, Global};
 use std::io;
 use std::io::Write;
 use std::rt::Files;
+use std::str;
 use std::sync::Wait;
 use std::thread::Threads;
 use syn_base::Items;
 use syndex_program::syndex;
+use word_table::Driven;
 
 /// Calls the program with these words, and writes the call and its answers into the transcript.
 pub fn call<R: Files + Print + AllocGlobal + Threads + Wait + Sync>(
@@ -25,12 +27,25 @@ pub fn call<R: Files + Print + AllocGlobal + Threads + Wait + Sync>(
     let mut shelf = shelf_for(rt, files, &given, &holds.shelf_fails)?;
     let mut out = holds.out.sink(alloc)?;
     let mut err = holds.err.sink(alloc)?;
-    let status = syndex(rt, alloc, &given, &mut shelf, &mut out, &mut err, &GateFree);
+    let mut driven = Driven::new(alloc);
+    let status = syndex(
+        rt,
+        alloc,
+        &given,
+        &mut shelf,
+        &mut out,
+        &mut err,
+        &GateFree,
+        &mut driven,
+    );
     write_output(rt, files, holds, out.bytes())?;
     write_line(rt, err.bytes())?;
     println!(rt; "= {}", status.number())?;
     if holds.counts {
         write_counts(rt, &shelf, &out)?;
+    }
+    if holds.driven {
+        write_driven(rt, &driven)?;
     }
     Ok(())
 }
@@ -77,7 +92,34 @@ fn write_output<R: Files + Print + AllocGlobal>(
             }
         }
     }
+    if let Some(name) = &holds.has {
+        if let Some(wanted) = bytes_of(rt, files, name.as_str())? {
+            if has_lines(output, &wanted) {
+                return println!(rt; "(has {name})");
+            }
+        }
+    }
     write_ended(rt, output)
+}
+
+/// Whether these lines are among those of the output, in the same order.
+fn has_lines(output: &[u8], wanted: &[u8]) -> bool {
+    match (str::from_utf8(output), str::from_utf8(wanted)) {
+        (Ok(output), Ok(wanted)) => are_among(output, wanted),
+        _ => false,
+    }
+}
+
+/// Whether these lines are among those of the output, in the same order.
+fn are_among(output: &str, wanted: &str) -> bool {
+    let mut left = wanted.lines();
+    let mut next = left.next();
+    for line in output.lines() {
+        if next == Some(line) {
+            next = left.next();
+        }
+    }
+    next.is_none()
 }
 
 /// Writes what stands on the error stream after `! `, where anything does.
@@ -103,4 +145,13 @@ fn write_counts(rt: &impl Print, shelf: &ShelfMem, out: &SinkMem) -> io::Result<
     let shelf = shelf.calls;
     let out = out.calls();
     println!(rt; "calls: shelf {shelf}, out {out}")
+}
+
+/// Writes what was driven: the number of micro-steps, and the counts of the last table.
+fn write_driven(rt: &impl Print, driven: &Driven) -> io::Result<()> {
+    print!(rt; "driven: {}, counts", driven.number())?;
+    for count in driven.counts() {
+        print!(rt; " {count}")?;
+    }
+    println!(rt; ", words {}", driven.words().len())
 }

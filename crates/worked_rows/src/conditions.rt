@@ -38,7 +38,9 @@ pub struct Conditions {
     pub out: SinkSays,
     pub err: SinkSays,
     pub output: Option<String>,
+    pub has: Option<String>,
     pub counts: bool,
+    pub driven: bool,
 }
 
 impl Conditions {
@@ -49,7 +51,9 @@ impl Conditions {
             out: SinkSays::new(alloc),
             err: SinkSays::new(alloc),
             output: None,
+            has: None,
             counts: false,
+            driven: false,
         }
     }
 
@@ -63,7 +67,9 @@ impl Conditions {
             Condition::ErrFails(call) => self.err.fails.push(call)?,
             Condition::ErrTakes(most) => self.err.takes = most,
             Condition::Count => self.counts = true,
+            Condition::Driven => self.driven = true,
             Condition::Output(name) => self.output = Some(String::from_str(alloc, name)?),
+            Condition::Has(name) => self.has = Some(String::from_str(alloc, name)?),
         }
         Ok(())
     }

@@ -50,8 +50,13 @@ pub enum Condition<'a> {
     ErrTakes(usize),
     /// `count calls`: the numbers of calls on the shelf and on the output are told.
     Count,
+    /// `tell driven`: the number of micro-steps that were driven is told, with the counts of the last table.
+    Driven,
     /// `output NAME`: where the output is what this file holds, its name stands in the transcript.
     Output(&'a str),
+    /// `has NAME`: where the lines of this file are among those of the output, in the same order, `(has NAME)`
+    /// stands in the transcript.
+    Has(&'a str),
 }
 
 /// What a line asks for.
@@ -100,7 +105,9 @@ fn counted(rest: &str) -> Option<(u64, &str)> {
 fn condition_of<'a>(word: &str, rest: &'a str) -> Option<Condition<'a>> {
     match word {
         "output" => Some(Condition::Output(rest)),
+        "has" => Some(Condition::Has(rest)),
         "count" => Some(Condition::Count),
+        "tell" => Some(Condition::Driven),
         _ => {
             let (verb, number) = rest.split_once(' ')?;
             limit_of(word, verb, number.parse::<u64>().ok()?)

@@ -16,4 +16,13 @@ pub returns-in-SensorsRefused : goal.returns-in-SensorsRefused
 returns-in-SensorsRefused g c = rw c.in-SensorsRefused.is c.write_sensors.ensures
 
 pub returns-in-ArchiRefused : goal.returns-in-ArchiRefused
-returns-in-ArchiRefused g c = rw c.in-ArchiRefused.is c.write_architecture.ensures
+returns-in-ArchiRefused g c = rw c.in-ArchiRefused.is c.write_described.ensures
+
+pub returns-in-CodeRefused : goal.returns-in-CodeRefused
+returns-in-CodeRefused g c = rw c.in-CodeRefused.is c.write_code.ensures
+
+pub returns-in-CheckRefused : goal.returns-in-CheckRefused
+returns-in-CheckRefused g c = rw c.in-CheckRefused.is c.write_check.ensures
+
+pub returns-in-ActualRefused : goal.returns-in-ActualRefused
+returns-in-ActualRefused g c = rw c.in-ActualRefused.is c.write_durations.ensures

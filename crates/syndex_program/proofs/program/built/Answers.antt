@@ -1,10 +1,10 @@
-use Rattle.std.proofs.Common.{◌≡◌, ◌∙◌, ap, subst, length, sym}
+use Rattle.std.proofs.Common.{◌≡◌, ◌∙◌, ap, subst, length}
 use Rattle.std.specs.Prelude.{None, Some}
 use Rattle.std.proofs.lemmas.Result.{err_from_is_err_and}
 use Rattle.durations.specs.Table.{entry_in}
 use Rattle.executive_program.specs.declared.program.Program.{Program}
 use Rattle.schedule.specs.declared.decision.Schedule.{Schedule}
-use Rattle.sequence_build_laws.specs.Built.{program_of}
+use Rattle.sequence_build_laws.specs.Built.{order_of, program_of}
 use Rattle.sequence_build.specs.Limit.{program_limit}
 use Rattle.command_plan.proofs.Makes.{memory}
 use Rattle.top_plans.specs.Plans.{program_by, program_plan}
@@ -25,7 +25,7 @@ returns-in-Ok c =
     let given = c.args.architecture.now in
     let a = given.text.archi in
     let ok = c.in-Ok.ensures.ok in
-    let same = ok.is ∙ ap (program_of given.flat a) c.in_ok-schedule.ensures.run in (same, subst (λ (p : Program). program_limit p (length a.media) ≡ None) same ok.within)
+    let same = ok.is ∙ ap (program_of given.flat a) c.in_ok-schedule.ensures.run in (same, subst (λ (p : Program). program_limit p (length a.media) ≡ None) same ok.within, (order_of given.flat a c.in_ok-schedule.schedule, ok.formed))
 
 pub returns-in-Err-Limit : goal.returns-in-Err-Limit
 returns-in-Err-Limit c = λ held next.

@@ -1,5 +1,4 @@
 use Rattle.syndex_program.specs.Reads.{described}
-use Rattle.route_laws.specs.Routes.{table_of}
 use Rattle.syndex_program.proofs.program.scheduled.Goals as goal
 
 pub adequation-requires : goal.adequation-requires

@@ -9,7 +9,7 @@ use Rattle.syndex_program.proofs.Steps.{rows_went_on, went_on}
 use Rattle.syndex_program.proofs.sim.sim_text.Goals as goal
 
 pub text_over-requires : goal.text_over-requires
-text_over-requires g c = c.in_ok-rows.ensures.reads.3
+text_over-requires g c = c.in_ok-rows.ensures.reads.2.1
 
 pub returns-in_err-rows-clause-makes : goal.returns-in_err-rows-clause-makes
 returns-in_err-rows-clause-makes g c =

@@ -1,0 +1,105 @@
+//! The lines of refused macro-code: by its text, and by the check of its program.
+ghost use Rattle.std.specs.Prelude.{◌≡◌, is_ok};
+ghost use Rattle.outside.specs.Sink.{Wrote};
+ghost use Rattle.command_status.specs.Lines.{check_detail, check_head, check_line, check_word, code_detail, code_line, code_word, stop_text, stops_line};
+
+use crate::line::{write_head, write_word};
+use check_cause::{CheckCause, Stop};
+use code_text::{CodeCause, CodeFault};
+use itoa::Buffer;
+use outside::{Failed, Sink, write_pieces, write_whole};
+
+/// Where a text of macro-code is refused, for which cause, and what stands behind it.
+pub fn write_code<E: Sink>(err: &mut E, fault: &CodeFault) -> Result<(), Failed>
+    ensures { Wrote (E.sunk err.old) (E.sunk err.new) (code_line fault.now) (is_ok result) }
+{
+    let word = code_word(&fault.cause);
+    write_head(err, b"code line ", u64::from(fault.line), word)?;
+    write_code_detail(err, &fault.cause)
+}
+
+fn code_word(cause: &CodeCause) -> &'static [u8]
+    ensures { result.now ≡ code_word cause.now }
+{
+    match cause {
+        CodeCause::BadLine => b"C1 BadLine",
+        CodeCause::UnknownMacro(_) => b"C2 UnknownMacro",
+        CodeCause::BadArgument => b"C3 BadArgument",
+        CodeCause::UnknownName(_) => b"C4 UnknownName",
+    }
+}
+
+/// What stands behind the cause's word.
+fn write_code_detail<E: Sink>(err: &mut E, cause: &CodeCause) -> Result<(), Failed>
+    ensures { Wrote (E.sunk err.old) (E.sunk err.new) (code_detail cause.now) (is_ok result) }
+{
+    match cause {
+        CodeCause::BadLine | CodeCause::BadArgument => write_whole(err, b"\n"),
+        CodeCause::UnknownMacro(word) | CodeCause::UnknownName(word) => {
+            write_word(err, word.as_slice())
+        }
+    }
+}
+
+/// For which cause a program fails its check, and what stands behind it.
+pub fn write_check<E: Sink>(err: &mut E, cause: &CheckCause) -> Result<(), Failed>
+    ensures { Wrote (E.sunk err.old) (E.sunk err.new) (check_line cause.now) (is_ok result) }
+{
+    let word = check_word(cause);
+    write_check_head(err, word)?;
+    write_check_detail(err, cause)
+}
+
+fn write_check_head<E: Sink>(err: &mut E, word: &[u8]) -> Result<(), Failed>
+    ensures { Wrote (E.sunk err.old) (E.sunk err.new) (check_head word.now) (is_ok result) }
+{
+    write_pieces(err, &[b"code check: ", word])
+}
+
+fn check_word(cause: &CheckCause) -> &'static [u8]
+    ensures { result.now ≡ check_word cause.now }
+{
+    match cause {
+        CheckCause::Sequences => b"K1 Sequences",
+        CheckCause::Calls => b"K2 Calls",
+        CheckCause::Transfers => b"K3 Transfers",
+        CheckCause::Buffers => b"K4 Buffers",
+        CheckCause::Pairs => b"K5 Pairs",
+        CheckCause::Prologue => b"K6 Prologue",
+        CheckCause::Stuck(_) => b"K7 Stuck",
+    }
+}
+
+/// The places at which the run of a program stops, and the end of the line.
+fn write_check_detail<E: Sink>(err: &mut E, cause: &CheckCause) -> Result<(), Failed>
+    ensures { Wrote (E.sunk err.old) (E.sunk err.new) (check_detail cause.now) (is_ok result) }
+{
+    match cause {
+        CheckCause::Stuck(stops) => write_stops(err, stops.as_slice()),
+        CheckCause::Sequences
+        | CheckCause::Calls
+        | CheckCause::Transfers
+        | CheckCause::Buffers
+        | CheckCause::Pairs
+        | CheckCause::Prologue => write_whole(err, b"\n"),
+    }
+}
+
+fn write_stops<E: Sink>(err: &mut E, stops: &[Stop]) -> Result<(), Failed>
+    ensures { Wrote (E.sunk err.old) (E.sunk err.new) (stops_line stops.now) (is_ok result) }
+{
+    for stop in stops {
+        write_stop(err, stop)?;
+    }
+    write_whole(err, b"\n")
+}
+
+fn write_stop<E: Sink>(err: &mut E, stop: &Stop) -> Result<(), Failed>
+    ensures { Wrote (E.sunk err.old) (E.sunk err.new) (stop_text stop.now) (is_ok result) }
+{
+    let mut first = Buffer::new();
+    let mut second = Buffer::new();
+    let sequence = first.format(stop.sequence).as_bytes();
+    let at = second.format(stop.at).as_bytes();
+    write_pieces(err, &[b" ", sequence, b".", at])
+}

@@ -1,0 +1,101 @@
+-- Words give a number of reactions that is at most 1,000.
+use Rattle.std.proofs.Common.{◌≡◌, ℕ, ◌≤◌, Bool, true, false, ◌&&◌, List, [], ◌∷◌, length, Option, Some, None, refl}
+use Rattle.std.specs.Prelude.{codes, if◌then◌else◌, nat_le}
+use Rattle.std.specs.List.{list_all}
+use Rattle.std.specs.Str.{bytes_eq}
+use Rattle.std.proofs.lemmas.Bool.{and_parts, leb-true}
+use Rattle.syn_base.specs.Name.{is_digit}
+use Rattle.syn_base.specs.Integer.{number_of}
+use Rattle.command_words.specs.Command.{Arguments, Bytes, Command, check, sim, flat, chart, code, run, exec, arguments_of, command_by, command_of, counted, dated, exec_by, four, loaded, number_up_to, one, one_or_two, plain, plain_by, run_by, three, two, with_count}
+use Rattle.syndex_program.specs.Counts.{AreCounted}
+
+either : (b : Bool) (x y : Option Command) → AreCounted x → AreCounted y → AreCounted (if b then x else y)
+either true x y h k = h
+either false x y h k = k
+
+by_plain : (go : List Bytes → Option Command) → ((ws : List Bytes) → AreCounted (go ws)) → (o : Option Arguments) → AreCounted (plain_by go o)
+by_plain go h None = tt
+by_plain go h (Some a) = h a.plain
+
+by_one : (go : Bytes → Option Command) → ((a : Bytes) → AreCounted (go a)) → (ws : List Bytes) → AreCounted (one go ws)
+by_one go h [] = tt
+by_one go h (a ∷ []) = h a
+by_one go h (a ∷ b ∷ ws) = tt
+
+by_two : (go : Bytes → Bytes → Option Command) → ((a b : Bytes) → AreCounted (go a b)) → (ws : List Bytes) → AreCounted (two go ws)
+by_two go h [] = tt
+by_two go h (a ∷ []) = tt
+by_two go h (a ∷ b ∷ []) = h a b
+by_two go h (a ∷ b ∷ c ∷ ws) = tt
+
+by_one_or_two : (go : Bytes → Option Bytes → Option Command) → ((a : Bytes) (b : Option Bytes) → AreCounted (go a b)) → (ws : List Bytes) → AreCounted (one_or_two go ws)
+by_one_or_two go h [] = tt
+by_one_or_two go h (a ∷ []) = h a None
+by_one_or_two go h (a ∷ b ∷ []) = h a (Some b)
+by_one_or_two go h (a ∷ b ∷ c ∷ ws) = tt
+
+by_three : (go : Bytes → Bytes → Bytes → Option Command) → ((a b c : Bytes) → AreCounted (go a b c)) → (ws : List Bytes) → AreCounted (three go ws)
+by_three go h [] = tt
+by_three go h (a ∷ []) = tt
+by_three go h (a ∷ b ∷ []) = tt
+by_three go h (a ∷ b ∷ c ∷ []) = h a b c
+by_three go h (a ∷ b ∷ c ∷ d ∷ ws) = tt
+
+by_four : (go : Bytes → Bytes → Bytes → Bytes → Option Command) → ((a b c d : Bytes) → AreCounted (go a b c d)) → (ws : List Bytes) → AreCounted (four go ws)
+by_four go h [] = tt
+by_four go h (a ∷ []) = tt
+by_four go h (a ∷ b ∷ []) = tt
+by_four go h (a ∷ b ∷ c ∷ []) = tt
+by_four go h (a ∷ b ∷ c ∷ d ∷ []) = h a b c d
+by_four go h (a ∷ b ∷ c ∷ d ∷ e ∷ ws) = tt
+
+by_count : (go : Option ℕ → Option Command) → ((o : Option ℕ) → AreCounted (go o)) → (o : Option ℕ) → AreCounted (with_count go o)
+by_count go h None = tt
+by_count go h (Some n) = h (Some n)
+
+by_workers : (go : Option ℕ → Option Command) → ((o : Option ℕ) → AreCounted (go o)) → (ws : List Bytes) → AreCounted (counted go ws)
+by_workers go h [] = h None
+by_workers go h (w ∷ []) = by_count go h (number_up_to 80 w)
+by_workers go h (w ∷ v ∷ ws) = tt
+
+by_run : (o : Option Arguments) → AreCounted (run_by o)
+by_run None = tt
+by_run (Some a) =
+    by_workers (λ workers. three (λ alg archi sensors. Some (run alg archi sensors workers)) a.plain)
+    (λ workers. by_three (λ alg archi sensors. Some (run alg archi sensors workers)) (λ alg archi sensors. tt) a.plain) a.workers
+
+by_exec : (o : Option Arguments) → AreCounted (exec_by o)
+by_exec None = tt
+by_exec (Some a) =
+    by_workers (λ workers. four (λ alg archi text sensors. Some (exec alg archi text sensors workers)) a.plain)
+    (λ workers. by_four (λ alg archi text sensors. Some (exec alg archi text sensors workers)) (λ alg archi text sensors. tt) a.plain) a.workers
+
+by_load : (o : Option ℕ) → AreCounted (loaded o)
+by_load None = tt
+by_load (Some n) = tt
+
+by_dates : (a h g w : Bytes) → AreCounted (dated a h g (number_up_to 1000 w))
+by_dates a h g w = by (nat_le 1 (length w) && list_all is_digit w && nat_le 1 (number_of w) && nat_le (number_of w) 1000) refl
+  where
+    by : (b : Bool) → (nat_le 1 (length w) && list_all is_digit w && nat_le 1 (number_of w) && nat_le (number_of w) 1000) ≡ b → AreCounted (dated a h g (if b then Some (number_of w) else None))
+    by true e = leb-true (number_of w) 1000 (and_parts (nat_le 1 (length w) && list_all is_digit w && nat_le 1 (number_of w)) (nat_le (number_of w) 1000) e).1
+    by false e = tt
+
+by_name : (name : Bytes) (ws : List Bytes) → AreCounted (command_by name ws)
+by_name name ws =
+    let none = arguments_of false false ws in
+    let some = arguments_of true false ws in
+    either (bytes_eq name (codes "check")) _ _ (by_plain (one_or_two (λ a h. Some (check a h))) (by_one_or_two (λ a h. Some (check a h)) (λ a h. tt)) none)
+    (either (bytes_eq name (codes "sim")) _ _ (by_plain (two (λ a s. Some (sim a s))) (by_two (λ a s. Some (sim a s)) (λ a s. tt)) none)
+    (either (bytes_eq name (codes "flat")) _ _ (by_plain (one (λ a. Some (flat a))) (by_one (λ a. Some (flat a)) (λ a. tt)) none)
+    (either (bytes_eq name (codes "chart")) _ _ (by_plain (two (λ a h. Some (chart a h))) (by_two (λ a h. Some (chart a h)) (λ a h. tt)) none)
+    (either (bytes_eq name (codes "code")) _ _ (by_plain (two (λ a h. Some (code a h))) (by_two (λ a h. Some (code a h)) (λ a h. tt)) none)
+    (either (bytes_eq name (codes "run")) _ _ (by_run some)
+    (either (bytes_eq name (codes "load")) _ _ (by_plain (one (λ n. loaded (number_up_to 1000 n))) (by_one (λ n. loaded (number_up_to 1000 n)) (λ n. by_load (number_up_to 1000 n))) none)
+    (either (bytes_eq name (codes "exec")) _ _ (by_exec some)
+    (either (bytes_eq name (codes "dates")) _ _ (by_plain (four (λ a h g n. dated a h g (number_up_to 1000 n))) (by_four (λ a h g n. dated a h g (number_up_to 1000 n)) by_dates) none) tt))))))))
+
+pub counted_words : (words : List Bytes) → AreCounted (command_of words)
+counted_words [] = tt
+counted_words (program ∷ []) = tt
+counted_words (program ∷ name ∷ ws) = by_name name ws

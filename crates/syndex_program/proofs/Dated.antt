@@ -1,0 +1,50 @@
+-- The plan of dates, part by part.
+use Rattle.std.proofs.Common.{◌≡◌, ℕ, List, Result, Ok, Err, subst}
+use Rattle.std.specs.Prelude.{Vec}
+use Rattle.outside.specs.Bytes.{Bytes}
+use Rattle.outside.specs.Shelf.{Held}
+use Rattle.flat_graph.specs.Graph.{Graph}
+use Rattle.archi_graph.specs.Archi.{Architecture as Archi}
+use Rattle.durations.specs.Table.{Table}
+use Rattle.schedule.specs.declared.decision.Schedule.{Schedule}
+use Rattle.actual_defs.specs.declared.fault.ActualError.{ActualError}
+use Rattle.actual_defs.specs.declared.fault.ActualError.TheVariants as error
+use Rattle.actual_durations.specs.Actual.{actual_of}
+use Rattle.actual_durations.specs.Answers as answers
+use Rattle.algo_tree.specs.Tree.{Vertex}
+use Rattle.archi_defs.specs.Text.{Described}
+use Rattle.flat_laws.specs.FlatOf.{flat_of}
+use Rattle.outside.specs.declared.file.File.TheVariants.{Durations}
+use Rattle.dates_text.specs.Listing.{dates_text}
+use Rattle.command_plan.specs.Plan.{after, give}
+use Rattle.command_plan.specs.Run.{Makes}
+use Rattle.command_plan.proofs.Makes.{after_err, memory}
+use Rattle.command_status.specs.Status.{ending_of, of_durations, status_of_durations}
+use Rattle.top_plans.specs.Given.{written}
+use Rattle.top_plans.specs.Plans.{Made, durations_in, program_plan, read_file, schedule_of}
+use Rattle.syndex_program.specs.Dates.{dated_in}
+
+-- a text of actual durations is refused
+durations_refused : (A : Type 0) (g : Graph) (a : Archi) (t : Table) (s : Schedule) (text : Bytes) → s ≡ schedule_of g a t → (held : Held) (next : List ℕ → Made) (e : ActualError)
+    → answers.Gives {A = A} (Err e) (actual_of g a t s text) → Makes held held (durations_in text g a t next) (Err (ending_of (status_of_durations e)))
+durations_refused A g a t s text run held next e h = by e (subst (λ (u : Schedule). answers.Gives {A = A} (Err e) (actual_of g a t u text)) run h)
+  where
+    by : (e : ActualError) → answers.Gives {A = A} (Err e) (actual_of g a t (schedule_of g a t) text) → Makes held held (durations_in text g a t next) (Err (ending_of (status_of_durations e)))
+    by (error.Refused fault) h = after_err held of_durations (actual_of g a t (schedule_of g a t) text) next (error.Refused fault) h
+    by (error.Limit fault) h = after_err held of_durations (actual_of g a t (schedule_of g a t) text) next (error.Limit fault) h
+    by error.OutOfMemory h = memory held held (after of_durations (actual_of g a t (schedule_of g a t) text) next)
+
+-- the same of what was answered
+pub refused_by : {A : Type 0} (g : Graph) (a : Archi) (t : Table) (s : Schedule) (text : Bytes) → s ≡ schedule_of g a t → (r : Result (Vec ℕ A) ActualError) → answers.Gives r (actual_of g a t s text)
+    → (e : ActualError) → r ≡ Err e → (held : Held) (next : List ℕ → Made) → Makes held held (durations_in text g a t next) (Err (ending_of (status_of_durations e)))
+refused_by {A = A} g a t s text run r h e was held next =
+    durations_refused A g a t s text run held next e (subst (λ (q : Result (Vec ℕ A) ActualError). answers.Gives {A = A} q (actual_of g a t s text)) was h)
+
+-- what is made of a text with these ticks
+module _ (g : Graph) (a : Archi) (t : Table) (n : ℕ) where
+  abbrev pub behind : List ℕ → Made
+  behind ticks = program_plan g a t (λ p. give (written (dates_text g a (schedule_of g a t) ticks n)))
+
+-- what is made behind an architecture
+abbrev pub behind_architecture : Bytes → ℕ → Vertex → Described → Table → Made
+behind_architecture name n main d t = read_file Durations name (λ text. dated_in text (flat_of main) d.archi t n)

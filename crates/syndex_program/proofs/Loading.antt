@@ -1,0 +1,59 @@
+-- Carrying out the plan of texts that are executed.
+use Rattle.std.proofs.Common.{List, Result, Ok, Err}
+use Rattle.outside.specs.Bytes.{Bytes}
+use Rattle.outside.specs.Shelf.{Held}
+use Rattle.csv.specs.Reading.{default_config, records, strip_bom}
+use Rattle.syn_base.specs.Rows.{Reactions}
+use Rattle.algo_defs.specs.declared.definition.Defs.{Defs}
+use Rattle.algo_defs.specs.declared.fault.AlgoError.{AlgoError}
+use Rattle.algo_tree.specs.Tree.{Vertex}
+use Rattle.archi_defs.specs.Text.{Described}
+use Rattle.archi_defs.specs.declared.fault.ArchiError.{ArchiError}
+use Rattle.durations.specs.Table.{Table}
+use Rattle.sensor_table.specs.SensorTable.{rows_of}
+use Rattle.sensor_table.specs.declared.fault.SensorError.{SensorError}
+use Rattle.command_plan.specs.Ending.{Ending}
+use Rattle.command_plan.specs.Run.{Makes}
+use Rattle.command_status.specs.Status.{Refusal, ending_of, status_of_algorithm, status_of_architecture, status_of_sensors}
+use Rattle.top_plans.specs.Given.{Given, Execution}
+use Rattle.top_plans.specs.Plans.{Made, architecture_in, table_in}
+use Rattle.syndex_program.specs.Executes.{rest_plan, texts_plan}
+use Rattle.syndex_program.specs.Reads.{IsAlgorithm, IsArchitecture, MakesAlgorithm, MakesArchitecture, MakesTable, described}
+use Rattle.syndex_program.specs.declared.algorithm.Algorithm.{Algorithm}
+use Rattle.syndex_program.specs.declared.architecture.Architecture.{Architecture}
+use Rattle.syndex_program.proofs.Steps as steps
+use Rattle.syndex_program.proofs.Architectures as architectures
+
+module _ (next : Execution → Given) (held : Held) (a h s : Bytes) where
+  abbrev behind_table : Vertex → Described → Table → Made
+  behind_table main d t = table_in main s (λ rows. rest_plan next main d.archi t rows)
+
+  abbrev behind_algorithm : Defs → Vertex → Made
+  behind_algorithm defs main = architecture_in h main (behind_table main)
+
+  pub algorithm_refused : (e : AlgoError) → MakesAlgorithm a (Err e) → Makes held held (texts_plan next a h s) (Err (ending_of (status_of_algorithm e)))
+  algorithm_refused e m = steps.refused_so a behind_algorithm held e m
+
+  module _ (algorithm : Algorithm) (is : IsAlgorithm a algorithm) where
+    pub architecture_refused : (e : ArchiError) → MakesArchitecture algorithm.tree h (Err e) → Makes held held (texts_plan next a h s) (Err (ending_of (status_of_architecture e)))
+    architecture_refused e m =
+        steps.resolved_so a behind_algorithm held held algorithm (Err (ending_of (status_of_architecture e))) is
+        (architectures.refused_so algorithm.tree h (behind_table algorithm.tree) held e m)
+
+    module _ (architecture : Architecture) (says : IsArchitecture algorithm.tree h architecture) where
+      -- both texts were accepted, and then the plan went on with the table
+      both_so : (made : Result Given (Ending Refusal)) → Makes held held (behind_table algorithm.tree (described architecture.text) architecture.durations) made → Makes held held (texts_plan next a h s) made
+      both_so made m =
+          steps.resolved_so a behind_algorithm held held algorithm made is
+          (architectures.described_so algorithm.tree h (behind_table algorithm.tree) held held architecture made says m)
+
+      pub table_refused : (e : SensorError) → MakesTable algorithm.tree s (Err e) → Makes held held (texts_plan next a h s) (Err (ending_of (status_of_sensors e)))
+      table_refused e m =
+          both_so (Err (ending_of (status_of_sensors e)))
+          (steps.table_refused held (rows_of algorithm.tree (records default_config (strip_bom s))) (λ (rows : Reactions). rest_plan next algorithm.tree architecture.text.archi architecture.durations rows) e m)
+
+      pub rows_so : (rows : Reactions) (made : Result Given (Ending Refusal)) → MakesTable algorithm.tree s (Ok rows)
+          → Makes held held (rest_plan next algorithm.tree architecture.text.archi architecture.durations rows) made → Makes held held (texts_plan next a h s) made
+      rows_so rows made m go =
+          both_so made
+          (steps.rows_so algorithm.tree s held held rows (λ (rs : Reactions). rest_plan next algorithm.tree architecture.text.archi architecture.durations rs) made m.0 go)

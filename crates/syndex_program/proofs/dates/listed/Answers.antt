@@ -1,0 +1,18 @@
+use Rattle.std.proofs.Common.{◌≡◌, ◌∙◌, ℕ, List, All, length, replicate, ap, subst, sym}
+use Rattle.durations.specs.Table.{entry_in}
+use Rattle.schedule.specs.Acts.{acts}
+use Rattle.self_timed_laws.specs.Entries.{AreWithin}
+use Rattle.self_timed.specs.Told.{HaveEntries, entries_of}
+use Rattle.dates_text.specs.Listing.{all_dates, dated_text}
+use Rattle.syndex_program.proofs.dates.listed.Goals as goal
+
+pub dates_text-requires-clause-valid : goal.dates_text-requires-clause-valid
+dates_text-requires-clause-valid c = record { durations = c.args.architecture.now.durations; rows = c.operators-operators.ensures.valid; valid = c.requires.valid }
+
+pub dates_text-requires-clause-entries : goal.dates_text-requires-clause-entries
+dates_text-requires-clause-entries c =
+    subst (λ (rows : List (List ℕ)). HaveEntries (entries_of c.args.architecture.now.flat c.args.schedule.now) rows) (sym c.in_ok-actual.ensures) c.requires.entries
+
+pub dates_text-requires-clause-within : goal.dates_text-requires-clause-within
+dates_text-requires-clause-within c =
+    subst (λ (rows : List (List ℕ)). AreWithin c.args.architecture.now.flat.vertices (acts c.args.schedule.now) rows) (sym c.in_ok-actual.ensures) c.requires.within

@@ -1,0 +1,100 @@
+use Rattle.std.proofs.Common.{◌≡◌, ◌≤◌, ◌∙◌, ℕ, length, refl, subst, sym}
+use Rattle.std.specs.Prelude.{Ok, Err}
+use Rattle.std.proofs.lemmas.Result.{err_from_is_err_and}
+use Rattle.csv.specs.Reading.{default_config, records, strip_bom}
+use Rattle.outside.specs.Bytes.{Bytes}
+use Rattle.outside.specs.Shelf.{file_bound}
+use Rattle.durations.specs.Table.{durations_of}
+use Rattle.flat_graph.specs.Graph.{Graph}
+use Rattle.load_texts.specs.Algorithm.{algorithm_text}
+use Rattle.load_texts.specs.Architecture.{architecture_text}
+use Rattle.load_texts.specs.Table.{table_text}
+use Rattle.command_plan.proofs.Makes.{memory}
+use Rattle.top_plans.specs.Loads.{load_algorithm, load_architecture, load_table}
+use Rattle.syndex_program.specs.Executes.{made_of, texts_plan}
+use Rattle.syndex_program.specs.Reads.{MakesAlgorithm, MakesArchitecture, MakesTable, described}
+use Rattle.syndex_program.proofs.Loading as loading
+use Rattle.syndex_program.proofs.Loads.{short_algorithm, short_architecture}
+use Rattle.syndex_program.proofs.Tables.{few_rows}
+use Rattle.syndex_program.proofs.execution.load_execution.Goals as goal
+
+-- a text is the one that the contract names
+algorithm_is : (n : ℕ) → algorithm_text n ≡ load_algorithm n
+unfolding load_algorithm
+algorithm_is n = refl
+
+architecture_is : architecture_text ≡ load_architecture
+unfolding load_architecture
+architecture_is = refl
+
+table_is : (n : ℕ) → table_text n ≡ load_table n
+unfolding load_table
+table_is n = refl
+
+pub algorithm_of-requires : goal.algorithm_of-requires
+algorithm_of-requires c = subst (λ (t : Bytes). length t ≤ file_bound) (sym (c.deref.ensures.value ∙ c.in_ok-algorithm.ensures.algorithm)) (short_algorithm c.args.n)
+
+pub architecture_of-requires-clause-short : goal.architecture_of-requires-clause-short
+architecture_of-requires-clause-short c = subst (λ (t : Bytes). length t ≤ file_bound) (sym (c.deref-2.ensures.value ∙ c.in_ok-algorithm.ensures.architecture)) short_architecture
+
+pub within_limits-requires-clause-flat : goal.within_limits-requires-clause-flat
+within_limits-requires-clause-flat c = c.in_ok-architecture.ensures.flattens
+
+pub within_limits-requires-clause-lasts : goal.within_limits-requires-clause-lasts
+within_limits-requires-clause-lasts c =
+    let given = c.in_ok-architecture.architecture in
+    let is = c.in_ok-architecture.ensures in
+    subst (λ (f : Graph). durations_of f (described given.text) ≡ Ok given.durations) (sym is.flattens) is.lasts
+
+pub within_limits-requires-clause-has : goal.within_limits-requires-clause-has
+within_limits-requires-clause-has c =
+    let is = c.in_ok-algorithm-2.ensures in
+    c.accepted_have_flat.ensures c.deref.result.now c.in_ok-algorithm-2.algorithm.defs c.in_ok-algorithm-2.algorithm.tree is.says is.resolves
+
+pub within_limits-requires-clause-lens : goal.within_limits-requires-clause-lens
+within_limits-requires-clause-lens c = c.in_ok-rows.ensures.1
+
+pub within_limits-requires-clause-few : goal.within_limits-requires-clause-few
+within_limits-requires-clause-few c = few_rows c.in_ok-algorithm-2.algorithm.tree (records default_config (strip_bom c.deref-3.result.now)) c.in_ok-rows.rows c.in_ok-rows.ensures.0
+
+pub returns-in_err-algorithm-clause-makes : goal.returns-in_err-algorithm-clause-makes
+returns-in_err-algorithm-clause-makes c =
+    let p = err_from_is_err_and c.from_residual.result c.from_residual.ensures.1 in
+    rw (p.1, p.2) (λ next held. memory held held (texts_plan next (load_algorithm c.args.n) load_architecture (load_table c.args.n)))
+
+pub returns-in_err-algorithm-2-clause-makes : goal.returns-in_err-algorithm-2-clause-makes
+returns-in_err-algorithm-2-clause-makes c =
+    let e = c.in_err-algorithm-2.field-0.0 in
+    let p = err_from_is_err_and c.from_residual-in_err-algorithm-2.result c.from_residual-in_err-algorithm-2.ensures.1 in
+    let m = subst (λ (t : Bytes). MakesAlgorithm t (Err e)) (c.deref.ensures.value ∙ (c.in_ok-algorithm.ensures.algorithm ∙ algorithm_is c.args.n)) c.in_err-algorithm-2.ensures in
+    rw (p.1, p.2) (λ next held. loading.algorithm_refused next held (load_algorithm c.args.n) load_architecture (load_table c.args.n) e m)
+
+pub returns-in_err-architecture-clause-makes : goal.returns-in_err-architecture-clause-makes
+returns-in_err-architecture-clause-makes c =
+    let e = c.in_err-architecture.field-0.0 in
+    let algorithm = c.in_ok-algorithm-2.algorithm in
+    let p = err_from_is_err_and c.from_residual-in_err-architecture.result c.from_residual-in_err-architecture.ensures.1 in
+    let is = subst (λ (t : Bytes). MakesAlgorithm t (Ok algorithm)) (c.deref.ensures.value ∙ (c.in_ok-algorithm.ensures.algorithm ∙ algorithm_is c.args.n)) c.in_ok-algorithm-2.ensures in
+    let m = subst (λ (t : Bytes). MakesArchitecture algorithm.tree t (Err e)) (c.deref-2.ensures.value ∙ (c.in_ok-algorithm.ensures.architecture ∙ architecture_is)) c.in_err-architecture.ensures in
+    rw (p.1, p.2) (λ next held. loading.architecture_refused next held (load_algorithm c.args.n) load_architecture (load_table c.args.n) algorithm is e m)
+
+pub returns-in_err-rows-clause-makes : goal.returns-in_err-rows-clause-makes
+returns-in_err-rows-clause-makes c =
+    let e = c.in_err-rows.field-0.0 in
+    let algorithm = c.in_ok-algorithm-2.algorithm in
+    let architecture = c.in_ok-architecture.architecture in
+    let p = err_from_is_err_and c.from_residual-in_err-rows.result c.from_residual-in_err-rows.ensures.1 in
+    let is = subst (λ (t : Bytes). MakesAlgorithm t (Ok algorithm)) (c.deref.ensures.value ∙ (c.in_ok-algorithm.ensures.algorithm ∙ algorithm_is c.args.n)) c.in_ok-algorithm-2.ensures in
+    let says = subst (λ (t : Bytes). MakesArchitecture algorithm.tree t (Ok architecture)) (c.deref-2.ensures.value ∙ (c.in_ok-algorithm.ensures.architecture ∙ architecture_is)) c.in_ok-architecture.ensures in
+    let m = subst (λ (t : Bytes). MakesTable algorithm.tree t (Err e)) (c.deref-3.ensures.value ∙ (c.in_ok-algorithm.ensures.table ∙ table_is c.args.n)) c.in_err-rows.ensures in
+    rw (p.1, p.2) (λ next held. loading.table_refused next held (load_algorithm c.args.n) load_architecture (load_table c.args.n) algorithm is architecture says e m)
+
+pub returns-clause-makes : goal.returns-clause-makes
+returns-clause-makes c = λ next held.
+    let algorithm = c.in_ok-algorithm-2.algorithm in
+    let architecture = c.in_ok-architecture.architecture in
+    let rows = c.in_ok-rows.rows in
+    let is = subst (λ (t : Bytes). MakesAlgorithm t (Ok algorithm)) (c.deref.ensures.value ∙ (c.in_ok-algorithm.ensures.algorithm ∙ algorithm_is c.args.n)) c.in_ok-algorithm-2.ensures in
+    let says = subst (λ (t : Bytes). MakesArchitecture algorithm.tree t (Ok architecture)) (c.deref-2.ensures.value ∙ (c.in_ok-algorithm.ensures.architecture ∙ architecture_is)) c.in_ok-architecture.ensures in
+    let m = subst (λ (t : Bytes). MakesTable algorithm.tree t (Ok rows)) (c.deref-3.ensures.value ∙ (c.in_ok-algorithm.ensures.table ∙ table_is c.args.n)) c.in_ok-rows.ensures in
+    loading.rows_so next held (load_algorithm c.args.n) load_architecture (load_table c.args.n) algorithm is architecture says rows (made_of next c.within_limits.result) m (c.within_limits.ensures.makes next held)

@@ -1,0 +1,25 @@
+use Rattle.syndex_program.specs.Executes.{made_of}
+use Rattle.top_plans.specs.Given.{printed, summed}
+use Rattle.top_plans.specs.Plans.{head, summary}
+use Rattle.syndex_program.proofs.jobs.status_for.Goals as goal
+
+pub returns-in-Run-clause-ran : goal.returns-in-Run-clause-ran
+returns-in-Run-clause-ran g c = rw c.in-Run.is (made_of (λ e. printed (head e) e) c.read_execution-made.result, c.read_execution-made.ensures.makes (λ e. printed (head e) e), c.run_made.ensures)
+
+pub returns-in-Load-clause-ran : goal.returns-in-Load-clause-ran
+returns-in-Load-clause-ran g c = rw c.in-Load.is (made_of (λ e. summed e (summary e)) c.load_execution-made.result, c.load_execution-made.ensures.makes (λ e. summed e (summary e)) (g.S.Shelf.held c.args.shelf.now), c.load_made.ensures)
+
+pub unreachable-requires : goal.unreachable-requires
+unreachable-requires g c = rw c.in-Check.is at c.requires.jobs
+
+pub unreachable-requires-in-Sim : goal.unreachable-requires-in-Sim
+unreachable-requires-in-Sim g c = rw c.in-Sim.is at c.requires.jobs
+
+pub unreachable-requires-in-Flat : goal.unreachable-requires-in-Flat
+unreachable-requires-in-Flat g c = rw c.in-Flat.is at c.requires.jobs
+
+pub unreachable-requires-in-Chart : goal.unreachable-requires-in-Chart
+unreachable-requires-in-Chart g c = rw c.in-Chart.is at c.requires.jobs
+
+pub unreachable-requires-in-Code : goal.unreachable-requires-in-Code
+unreachable-requires-in-Code g c = rw c.in-Code.is at c.requires.jobs

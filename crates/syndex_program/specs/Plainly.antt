@@ -1,0 +1,35 @@
+-- What the commands that run no job answer.
+use Rattle.std.specs.Prelude.{◌≡◌, Option, Some, None, Result, Vec, ℕ}
+use Rattle.outside.specs.Shelf.{Held}
+use Rattle.outside.specs.Sink.{Sunk}
+use Rattle.command_plan.specs.Ending.{Ending}
+use Rattle.command_plan.specs.Run.{Makes, Ran}
+use Rattle.command_status.specs.Status.{Refusal, ending_of}
+use Rattle.command_status.specs.declared.status.Status.{Status}
+use Rattle.command_words.specs.Command.{Command}
+use Rattle.word_rule.specs.Driven.{Driven, driven_by}
+use Rattle.top_plans.specs.Given.{stages}
+use Rattle.top_plans.specs.Names.{RunsJobs}
+use Rattle.top_plans.specs.Plans.{plan_for}
+use Rattle.top_plans.specs.Replies.{PlainReplies}
+use Rattle.syndex_program.specs.Reads.{text_in}
+
+-- a command that runs jobs is left as it is; what any other one makes is what its plan says
+abbrev pub MakesOrLeaves : {A : Type 0} → Command → Held → Held → Option (Result (Vec ℕ A) Status) → Type 0
+MakesOrLeaves command held held' None = RunsJobs command × (held' ≡ held)
+MakesOrLeaves command held held' (Some made) = ¬ RunsJobs command × Makes held held' (plan_for command) (text_in made)
+
+-- a command that runs jobs is left as it is; the plan of any other one was carried out, whatever is driven
+abbrev pub IsRunOrPlain : Command → Held → Held → Sunk → Sunk → Option Status → Type 0
+IsRunOrPlain command held held' sunk sunk' None = RunsJobs command × (held' ≡ held) × (sunk' ≡ sunk)
+IsRunOrPlain command held held' sunk sunk' (Some status) =
+    ¬ RunsJobs command × ((driven : Driven) → Ran driven_by stages (plan_for command) held held' sunk sunk' driven driven (ending_of status))
+
+-- the ending that a status stands for, if there is one
+abbrev pub ending_in : Option Status → Option (Ending Refusal)
+ending_in None = None
+ending_in (Some status) = Some (ending_of status)
+
+-- what is answered for the words, where nothing is written to the error stream
+abbrev pub RepliesOrLeaves : Option Command → Held → Held → Sunk → Sunk → Option Status → Type 0
+RepliesOrLeaves command held held' sunk sunk' answer = (err : Sunk) → PlainReplies command held held' sunk sunk' err err (ending_in answer)

@@ -1,0 +1,105 @@
+//! A program that is executed on an architecture over rows, within all limits.
+ghost use Rattle.std.specs.Prelude.{◌≡◌, ◌≤◌, IfOk, Ok, length};
+ghost use Rattle.accepted_laws.specs.Flat.{HasFlat};
+ghost use Rattle.algo_tree.specs.Ends.{sensor_lengths};
+ghost use Rattle.command_plan.specs.Run.{Makes};
+ghost use Rattle.durations.specs.Table.{durations_of};
+ghost use Rattle.flat_laws.specs.FlatOf.{flat_of};
+ghost use Rattle.outside.specs.Shelf.{Held, Stays};
+ghost use Rattle.top_plans.specs.Given.{Given, Execution as Executed};
+ghost use Rattle.top_plans.specs.Loads.{load_algorithm, load_architecture, load_table};
+ghost use Rattle.syndex_program.specs.Executes.{IsExecuted, files_plan, made_of, rest_plan, texts_plan};
+ghost use Rattle.syndex_program.specs.Reads.{described};
+
+use crate::algorithm::{algorithm_of, read_algorithm};
+use crate::architecture::{Architecture, architecture_of, read_architecture};
+use crate::program::built;
+use crate::table::{read_table, table_of};
+use accepted_laws::accepted_have_flat;
+use algo_tree::Tree;
+use command_status::Status;
+use executive_program::Program;
+use load_texts::load_texts;
+use outside::Shelf;
+use semaphore_core::run_limit;
+use std::alloc::Global;
+use syn_base::SensorRows;
+
+/// A program with the algorithm and the architecture that it was built of, and the rows over which it is
+/// executed.
+#[derive(Drop)]
+pub struct Execution {
+    pub tree: Tree,
+    pub architecture: Architecture,
+    pub program: Program,
+    pub rows: SensorRows,
+    /// The micro-steps of its one job over all rows.
+    pub steps: u64,
+}
+
+/// What the files of a run say is to be executed, or the first refusal.
+pub fn read_execution<S: Shelf>(
+    alloc: Global,
+    shelf: &mut S,
+    algorithm: &str,
+    architecture: &str,
+    sensors: &str,
+) -> Result<Execution, Status>
+    ensures stays { Stays (S.held shelf.old) (S.held shelf.new) }
+    ensures makes { (next : Executed → Given) → Makes (S.held shelf.old) (S.held shelf.new) (files_plan next algorithm.now architecture.now sensors.now) (made_of next result) }
+    ensures executed { IfOk result IsExecuted }
+{
+    accepted_have_flat();
+    let algorithm = read_algorithm(alloc, shelf, algorithm)?;
+    let architecture = read_architecture(alloc, shelf, architecture, &algorithm.tree)?;
+    let rows = read_table(alloc, shelf, sensors, &algorithm.tree)?;
+    within_limits(alloc, algorithm.tree, architecture, rows)
+}
+
+/// What the texts of load `n` say is to be executed, or the first refusal.
+pub fn load_execution(alloc: Global, n: u32) -> Result<Execution, Status>
+    requires from { 1 ≤ n }
+    requires to { n ≤ 1000 }
+    ensures makes { (next : Executed → Given) (held : Held) → Makes held held (texts_plan next (load_algorithm n) load_architecture (load_table n)) (made_of next result) }
+    ensures executed { IfOk result IsExecuted }
+{
+    let (algorithm, architecture, table) = load_texts(alloc, n)?;
+    accepted_have_flat();
+    let algorithm = algorithm_of(alloc, &algorithm)?;
+    let architecture = architecture_of(alloc, &architecture, &algorithm.tree)?;
+    let rows = table_of(alloc, &table, &algorithm.tree)?;
+    within_limits(alloc, algorithm.tree, architecture, rows)
+}
+
+/// The program of the schedule over these rows, or the first limit that refuses it.
+fn within_limits(
+    alloc: Global,
+    tree: Tree,
+    architecture: Architecture,
+    rows: SensorRows,
+) -> Result<Execution, Status>
+    requires flat { architecture.flat ≡ flat_of tree }
+    requires lasts { durations_of architecture.flat (described architecture.text) ≡ Ok architecture.durations }
+    requires has { HasFlat tree }
+    requires lens { rows.lens ≡ sensor_lengths tree }
+    requires few { length rows.reactions ≤ 10000 }
+    ensures makes { (next : Executed → Given) (held : Held) → Makes held held (rest_plan next tree architecture.text.archi architecture.durations rows) (made_of next result) }
+    ensures executed { IfOk result IsExecuted }
+{
+    let program = built(alloc, &architecture)?;
+    match run_limit(
+        &program,
+        &architecture.flat,
+        &architecture.text.archi,
+        &rows,
+    ) {
+        Ok(steps) => Ok(Execution {
+            tree,
+            architecture,
+            program,
+            rows,
+            steps,
+        }),
+        Err(limit) => Err(Status::Limit(limit)),
+    }
+}

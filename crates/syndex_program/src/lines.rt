@@ -1,0 +1,87 @@
+//! The windows of an execution, each with its lines, and the loop that runs and writes them.
+ghost use Rattle.std.specs.Prelude.{◌≡◌};
+ghost use Rattle.algo_tree.specs.Ends.{actuator_lengths};
+ghost use Rattle.command_plan.specs.Run.{Performs};
+ghost use Rattle.command_status.specs.Status.{Refusal};
+ghost use Rattle.phase_laws.specs.Ended.{all_acts};
+ghost use Rattle.semaphore_core.specs.Job.{actuator_lens};
+ghost use Rattle.word_rule.specs.Driven.{driven_by};
+ghost use Rattle.top_plans.specs.Given.{acts_of};
+ghost use Rattle.syndex_program.specs.Left.{stages_left};
+ghost use Rattle.syndex_program.specs.Stopped.{GoesOn, ending_of};
+
+use act_text::acts_text_from;
+use algo_tree::Tree;
+use job_windows::{Drive, JobWindows};
+use outside::{Gate, Sink, write_whole};
+use std::alloc::Global;
+use std::sync::Wait;
+use std::thread::Threads;
+use syn_base::OutOfMemory;
+use word_table::Driven;
+
+/// Why windows stopped.
+#[derive(Clone, Copy, Debug, PartialEq, Eq)]
+pub enum Stopped {
+    /// Not all of a text was written.
+    Unwritten,
+    /// An allocation failed.
+    OutOfMemory,
+}
+
+/// The windows that are still to be run, each with the lines of what its actuators take.
+#[derive(Drop)]
+pub struct Lines<'a> {
+    pub tree: &'a Tree,
+    pub windows: JobWindows<'a>,
+    ghost lens: { actuator_lens windows.job.graph windows.job.graph.vertices ≡ actuator_lengths tree.now },
+    ghost acts: { all_acts windows.job ≡ acts_of tree.now windows.job.sensors },
+}
+
+impl<'a> Lines<'a> {
+    /// Runs the next window to its end, and gives its lines; or None, where no window is left.
+    fn next<R: Threads + Wait + Sync, G: Gate>(
+        &mut self,
+        alloc: Global,
+        drive: &Drive<R, G>,
+        driven: &mut Driven,
+    ) -> Result<Option<Vec<u8>>, OutOfMemory>
+        ensures { GoesOn (stages_left self.old.tree.now self.old.windows) (stages_left self.new.tree.now self.new.windows) driven.old driven.new result }
+    {
+        let first = self.windows.first();
+        match self.windows.run_next(alloc, drive, driven) {
+            Ok(Some(closed)) => {
+                let text = acts_text_from(alloc, self.tree, closed.rows(), first)?;
+                self.windows.go_on(closed);
+                Ok(Some(text))
+            }
+            Ok(None) => Ok(None),
+            Err(want) => Err(want),
+        }
+    }
+}
+
+/// Runs all windows that are left in order, and appends the lines of each once it has been run. It stops at
+/// the first window whose lines could not be made or were not all written; those of the windows before
+/// that one were appended.
+pub fn write_windows<R: Threads + Wait + Sync, K: Sink, G: Gate>(
+    alloc: Global,
+    lines: &mut Lines,
+    out: &mut K,
+    drive: &Drive<R, G>,
+    driven: &mut Driven,
+) -> Result<(), Stopped>
+    ensures { Performs {R = Refusal} driven_by (stages_left lines.old.tree.now lines.old.windows) (K.sunk out.old) (K.sunk out.new) driven.old driven.new (ending_of result) }
+{
+    'windows: loop {
+        let Ok(next) = lines.next(alloc, drive, driven) else {
+            return Err(Stopped::OutOfMemory);
+        };
+        let Some(text) = next else {
+            return Ok(());
+        };
+        if write_whole(out, &text).is_err() {
+            return Err(Stopped::Unwritten);
+        }
+    }
+}

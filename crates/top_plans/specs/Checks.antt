@@ -1,0 +1,27 @@
+-- The check of a program of any origin, as it is told.
+use Rattle.std.specs.Prelude.{map, length, Option, option_map}
+use Rattle.flat_graph.specs.Graph.{Graph}
+use Rattle.archi_graph.specs.Archi.{Architecture}
+use Rattle.archi_graph.specs.Sequences.{sequences}
+use Rattle.executive_program.specs.declared.program.Program.{Program}
+use Rattle.check_cause.specs.declared.cause.CheckCause.{CheckCause}
+use Rattle.check_cause.specs.declared.cause.CheckCause.TheVariants.{Sequences, Calls, Transfers, Buffers, Pairs, Prologue, Stuck}
+use Rattle.check_cause.specs.declared.cause.Stop.{Stop}
+use Rattle.check_laws.specs.Run.{Place}
+use Rattle.check_laws.specs.Tests.{Cause, cause, sequences_differ, calls_wrong, transfers_wrong, buffers_wrong, pairs_wrong, prologue_wrong, stuck_at}
+
+abbrev pub stop_of : Place → Stop
+stop_of y = record { sequence = y.sequence; at = y.at }
+
+abbrev pub told : Cause → CheckCause
+told sequences_differ = Sequences
+told calls_wrong = Calls
+told transfers_wrong = Transfers
+told buffers_wrong = Buffers
+told pairs_wrong = Pairs
+told prologue_wrong = Prologue
+told (stuck_at places) = Stuck (map stop_of places)
+
+-- the first that a program lacks to be well formed
+abbrev pub lacking : Graph → Architecture → Program → Option CheckCause
+lacking g a p = option_map told (cause p g.vertices (sequences a) (length a.operators) (length a.media))
