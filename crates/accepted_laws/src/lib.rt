@@ -23,7 +23,7 @@ pub fn flat_takes_the_same()
     ensures { FlatTakesTheSame }
 {}
 
-/// The definitions of an accepted text resolve to a tree whose flat graph is valid and means the same.
+/// The definitions of an accepted text make a tree whose flat graph is valid and means the same.
 pub fn accepted_have_flat()
     ensures { AcceptedHaveFlat }
 {}

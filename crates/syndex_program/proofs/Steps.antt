@@ -7,7 +7,7 @@ use Rattle.algo_defs.specs.declared.fault.AlgoError.{AlgoError}
 use Rattle.algo_defs.specs.declared.fault.AlgoError.TheVariants as error
 use Rattle.algo_text.specs.Text.{definitions_of}
 use Rattle.algo_rules.specs.Placed.{Gives}
-use Rattle.algo_rules.specs.Resolved.{resolution_of}
+use Rattle.elaboration.specs.Elaborated.{elaboration_of}
 use Rattle.algo_tree.specs.Tree.{Vertex}
 use Rattle.csv.specs.Reading.{default_config, records, strip_bom}
 use Rattle.sensor_table.specs.Answers as table
@@ -35,13 +35,13 @@ module _ {X : Type 0} (held : Held) (answer : Result X AlgoError) (next : X → 
 
 module _ (text : Bytes) (next : Defs → Vertex → Made) where
   abbrev behind : Made
-  behind = after of_algorithm (definitions_of text) (λ defs. after of_algorithm (resolution_of defs.defs) (next defs))
+  behind = after of_algorithm (definitions_of text) (λ defs. after of_algorithm (elaboration_of defs) (next defs))
 
   is_refused : (held : Held) (e : AlgoError) → IsRefused text e → Makes held held behind (Err (ending_of (status_of_algorithm e)))
-  is_refused held e (says_none is) = by_error held (definitions_of text) (λ defs. after of_algorithm (resolution_of defs.defs) (next defs)) e is
+  is_refused held e (says_none is) = by_error held (definitions_of text) (λ defs. after of_algorithm (elaboration_of defs) (next defs)) e is
   is_refused held e (resolves_none defs says is) =
-      after_ok held held of_algorithm (definitions_of text) (λ ds. after of_algorithm (resolution_of ds.defs) (next ds)) (Err (ending_of (status_of_algorithm e))) defs says
-      (by_error held (resolution_of defs.defs) (next defs) e is)
+      after_ok held held of_algorithm (definitions_of text) (λ ds. after of_algorithm (elaboration_of ds) (next ds)) (Err (ending_of (status_of_algorithm e))) defs says
+      (by_error held (elaboration_of defs) (next defs) e is)
 
   pub refused_so : (held : Held) (e : AlgoError) → MakesAlgorithm text (Err e) → Makes held held behind (Err (ending_of (status_of_algorithm e)))
   refused_so held (error.Refused fault) h = is_refused held (error.Refused fault) h
@@ -50,8 +50,8 @@ module _ (text : Bytes) (next : Defs → Vertex → Made) where
 
   pub resolved_so : (old new : Held) (algorithm : Algorithm) (made : Result Given (Ending Refusal)) → IsAlgorithm text algorithm → Makes old new (next algorithm.defs algorithm.tree) made → Makes old new behind made
   resolved_so old new algorithm made is m =
-      after_ok old new of_algorithm (definitions_of text) (λ ds. after of_algorithm (resolution_of ds.defs) (next ds)) made algorithm.defs is.says
-      (after_ok old new of_algorithm (resolution_of algorithm.defs.defs) (next algorithm.defs) made algorithm.tree is.resolves m)
+      after_ok old new of_algorithm (definitions_of text) (λ ds. after of_algorithm (elaboration_of ds) (next ds)) made algorithm.defs is.says
+      (after_ok old new of_algorithm (elaboration_of algorithm.defs) (next algorithm.defs) made algorithm.tree is.resolves m)
 
 -- an algorithm was read, and then the plan went on with it
 pub went_on : (name : Bytes) (a b c : Held) (algorithm : Algorithm) (next : Defs → Vertex → Made) (made : Result Given (Ending Refusal))
@@ -85,7 +85,7 @@ pub is_within : (old new : Held) (o : Option LimitFault) (next : Made) (made : R
 is_within old new o next made is m = subst (λ (x : Option LimitFault). Makes old new (unless x next) made) (sym is) m
 
 -- the definitions of a text are refused
-pub by_definitions : (text : Bytes) (defs : Defs) (e : AlgoError) → definitions_of text ≡ Ok defs → Gives {A = Vertex} (Err e) (resolution_of defs.defs) → MakesAlgorithm text (Err e)
+pub by_definitions : (text : Bytes) (defs : Defs) (e : AlgoError) → definitions_of text ≡ Ok defs → Gives {A = Vertex} (Err e) (elaboration_of defs) → MakesAlgorithm text (Err e)
 by_definitions text defs (error.Refused fault) says h = resolves_none defs says h
 by_definitions text defs (error.Limit fault) says h = resolves_none defs says h
 by_definitions text defs error.OutOfMemory says h = tt

@@ -9,7 +9,7 @@ use Rattle.algo_defs.specs.declared.definition.Defs.{Defs}
 use Rattle.algo_defs.specs.declared.fault.AlgoError.{AlgoError}
 use Rattle.algo_defs.specs.declared.fault.AlgoError.TheVariants as error
 use Rattle.algo_text.specs.Text.{definitions_of}
-use Rattle.algo_rules.specs.Resolved.{resolution_of}
+use Rattle.elaboration.specs.Elaborated.{elaboration_of}
 use Rattle.algo_tree.specs.Tree.{Vertex}
 use Rattle.archi_defs.specs.Text.{Described, description_of}
 use Rattle.archi_defs.specs.declared.text.ArchiText.{ArchiText}
@@ -38,17 +38,17 @@ module _ {A : Type 0} where
   text_in (Ok text) = Ok (written text.items)
   text_in (Err status) = Err (ending_of status)
 
--- the definitions of a text, and what they resolve to
+-- the definitions of a text, and the tree that they mean
 pub record IsAlgorithm (text : Bytes) (algorithm : Algorithm) : Type 0 where
   pub says : definitions_of text ≡ Ok algorithm.defs
-  pub resolves : resolution_of algorithm.defs.defs ≡ Ok algorithm.tree
+  pub resolves : elaboration_of algorithm.defs ≡ Ok algorithm.tree
   pub named : HasNames algorithm.tree
   pub bounded : HasBounds algorithm.tree
 
 -- the first refusal of a text, by itself or by its definitions
 pub data IsRefused (text : Bytes) (error : AlgoError) : Type 0 where
   says_none : definitions_of text ≡ Err error → IsRefused text error
-  resolves_none : (defs : Defs) → definitions_of text ≡ Ok defs → resolution_of defs.defs ≡ Err error → IsRefused text error
+  resolves_none : (defs : Defs) → definitions_of text ≡ Ok defs → elaboration_of defs ≡ Err error → IsRefused text error
 
 -- the algorithm of a text or its first refusal; want of memory may come in place of either
 abbrev pub MakesAlgorithm : Bytes → Result Algorithm AlgoError → Type 0

@@ -1,4 +1,4 @@
-//! The algorithm of a file: its definitions and their tree.
+//! The algorithm of a file: its definitions and the tree that they mean.
 ghost use Rattle.std.specs.Prelude.{◌≤◌, length};
 ghost use Rattle.outside.specs.Shelf.{Stays, file_bound};
 ghost use Rattle.syndex_program.specs.Reads.{IsAlgorithm, MakesAlgorithm, ReadsAlgorithm};
@@ -7,14 +7,14 @@ use crate::files::read_file;
 use algo_defs::{AlgoError, Defs};
 use algo_print::canonical_text_reads_back;
 use algo_reader::read_algo;
-use algo_resolve::resolve;
 use algo_tree::Tree;
 use command_status::Status;
+use elaboration::elaborate;
 use outside::{File, Shelf};
-use reading_laws::accepted_are_well_read;
+use reading_laws::{accepted_are_well_read, accepted_have_periods};
 use std::alloc::Global;
 
-/// What a text says, and what its definitions resolve to.
+/// What a text says, and the tree that its definitions mean.
 #[derive(Drop)]
 pub struct Algorithm {
     pub defs: Defs,
@@ -41,7 +41,8 @@ pub fn algorithm_of(alloc: Global, text: &[u8]) -> Result<Algorithm, AlgoError>
 {
     let defs = read_algo(alloc, text)?;
     accepted_are_well_read();
+    accepted_have_periods();
     canonical_text_reads_back();
-    let tree = resolve(alloc, &defs)?;
+    let tree = elaborate(alloc, &defs)?;
     Ok(Algorithm { defs, tree })
 }

@@ -22,7 +22,7 @@ use Rattle.actual_defs.specs.declared.fault.ActualError.{ActualError}
 use Rattle.actual_defs.specs.declared.fault.ActualError.TheVariants as actual
 use Rattle.actual_durations.specs.Actual.{actual_of}
 use Rattle.dates_text.specs.Listing.{dates_text}
-use Rattle.algo_rules.specs.Resolved.{resolution_of}
+use Rattle.elaboration.specs.Elaborated.{elaboration_of}
 use Rattle.algo_tree.specs.Tree.{Vertex}
 use Rattle.archi_graph.specs.Archi.{Architecture as Archi}
 use Rattle.archi_defs.specs.Text.{Described, description_of}
@@ -53,7 +53,7 @@ pub record IsAccepted (e : Execution) : Type 0 where
   pub text : Bytes
   pub defs : Defs
   pub says : definitions_of text ≡ Ok defs
-  pub resolves : resolution_of defs.defs ≡ Ok e.main
+  pub resolves : elaboration_of defs ≡ Ok e.main
   pub lines : Bytes
   pub described : Described
   pub describes : description_of lines ≡ Ok described
@@ -112,8 +112,8 @@ module _ (Q : Made → Type 0) (refused : (r : Refusal) → ¬ (r ≡ usage) →
   unless_within (Some f) next h = refused (above f) (λ q. cc)
   unless_within None next h = h refl
 
-  algorithm_so : (text : Bytes) (next : Defs → Vertex → Made) → ((defs : Defs) (main : Vertex) → definitions_of text ≡ Ok defs → resolution_of defs.defs ≡ Ok main → Q (next defs main)) → Q (algorithm_in text next)
-  algorithm_so text next h = after_so of_algorithm algorithm_not (definitions_of text) (λ defs. after of_algorithm (resolution_of defs.defs) (next defs)) (λ defs p. after_so of_algorithm algorithm_not (resolution_of defs.defs) (next defs) (λ main q. h defs main p q))
+  algorithm_so : (text : Bytes) (next : Defs → Vertex → Made) → ((defs : Defs) (main : Vertex) → definitions_of text ≡ Ok defs → elaboration_of defs ≡ Ok main → Q (next defs main)) → Q (algorithm_in text next)
+  algorithm_so text next h = after_so of_algorithm algorithm_not (definitions_of text) (λ defs. after of_algorithm (elaboration_of defs) (next defs)) (λ defs p. after_so of_algorithm algorithm_not (elaboration_of defs) (next defs) (λ main q. h defs main p q))
 
   architecture_so : (text : Bytes) (main : Vertex) (next : Described → Table → Made) → ((d : Described) (t : Table) → description_of text ≡ Ok d → durations_of (flat_of main) d ≡ Ok t → Q (next d t))
       → Q (architecture_in text main next)
@@ -144,7 +144,7 @@ module _ (Q : Made → Type 0) (refused : (r : Refusal) → ¬ (r ≡ usage) →
 
   -- an execution of the program that the pressure run gives
   execution_so : (text : Bytes) (defs : Defs) (main : Vertex) (lines : Bytes) (d : Described) (t : Table) (table : Bytes) (rows : Reactions) (what : Execution → Given)
-      → definitions_of text ≡ Ok defs → resolution_of defs.defs ≡ Ok main → description_of lines ≡ Ok d → durations_of (flat_of main) d ≡ Ok t → rows_of main (records default_config (strip_bom table)) ≡ Ok rows
+      → definitions_of text ≡ Ok defs → elaboration_of defs ≡ Ok main → description_of lines ≡ Ok d → durations_of (flat_of main) d ≡ Ok t → rows_of main (records default_config (strip_bom table)) ≡ Ok rows
       → ((e : Execution) → IsAccepted e → Q (give (what e))) → Q (program_plan (flat_of main) d.archi t (λ p. execution_plan (execution main d.archi p rows) what))
   execution_so text defs main lines d t table rows what says resolves describes lasts tells h =
       let e = execution main d.archi (program_by (flat_of main) d.archi t) rows in
@@ -165,7 +165,7 @@ module _ (Q : Made → Type 0) (refused : (r : Refusal) → ¬ (r ≡ usage) →
 
   -- an execution of a program that was checked
   checked_so : (text : Bytes) (defs : List Def) (main : Vertex) (lines : Bytes) (d : Described) (p : Program) (table : Bytes) (rows : Reactions)
-      → definitions_of text ≡ Ok defs → resolution_of defs ≡ Ok main → description_of lines ≡ Ok d → lacking (flat_of main) d.archi p ≡ None → rows_of main (records default_config (strip_bom table)) ≡ Ok rows
+      → definitions_of text ≡ Ok defs → elaboration_of defs ≡ Ok main → description_of lines ≡ Ok d → lacking (flat_of main) d.archi p ≡ None → rows_of main (records default_config (strip_bom table)) ≡ Ok rows
       → ((e : Execution) → IsAccepted e → Q (give (executed e))) → Q (execution_plan (execution main d.archi p rows) executed)
   checked_so text defs main lines d p table rows says resolves describes whole tells h =
       let e = execution main d.archi p rows in

@@ -16,7 +16,7 @@ use Rattle.level_meaning.specs.Level.{Values, all_joined}
 use Rattle.body_lang.specs.Expr.{total}
 use Rattle.algo_defs.specs.declared.definition.Defs.{Defs}
 use Rattle.algo_text.specs.Text.{definitions_of}
-use Rattle.algo_rules.specs.Resolved.{resolution_of}
+use Rattle.elaboration.specs.Elaborated.{elaboration_of}
 use Rattle.algo_print.specs.Canonical.{canonical_text}
 use Rattle.algo_tree.specs.Tree.{Vertex}
 use Rattle.algo_tree.specs.Ends.{actuator_lengths}
@@ -65,7 +65,7 @@ unless None next = next
 
 -- what a text says of an algorithm, and then what its definitions resolve to
 abbrev pub algorithm_in : Bytes → (Defs → Vertex → Made) → Made
-algorithm_in text next = after of_algorithm (definitions_of text) (λ defs. after of_algorithm (resolution_of defs.defs) (next defs))
+algorithm_in text next = after of_algorithm (definitions_of text) (λ defs. after of_algorithm (elaboration_of defs) (next defs))
 
 -- what a text says of an architecture
 abbrev pub described_in : Bytes → (Described → Made) → Made

@@ -1,0 +1,52 @@
+-- What definitions resolve to, and what becomes of it.
+use Rattle.std.proofs.Common.{◌≡◌, List, [], Option, Some, None, Result, Ok, Err, refl, sym, ap, subst, ◌∙◌}
+use Rattle.algo_tree.specs.Tree.{Vertex}
+use Rattle.algo_tree.specs.Valid.{IsTree}
+use Rattle.algo_defs.specs.declared.definition.Def.{Def}
+use Rattle.algo_defs.specs.declared.fault.AlgoError.{AlgoError}
+use Rattle.algo_rules.specs.Resolved.{tree_of, refusal, resolution_of, resolved_by as told_by}
+use Rattle.algo_rules.specs.WellRead.{AreWellRead}
+use Rattle.path_text.specs.Bounded.{HasBounds}
+use Rattle.path_text.specs.Named.{HasNames}
+use Rattle.tree_laws.proofs.Bounds.{have_bounds}
+use Rattle.tree_laws.proofs.Names.{have_names}
+use Rattle.tree_laws.proofs.Trees.{make_a_tree}
+use Rattle.multi_period.specs.declared.mark.Mark.{Mark}
+use Rattle.multi_period.specs.Within.{made_within}
+use Rattle.period_marks.specs.Marking.{marking_of}
+use Rattle.elaboration.specs.Elaborated.{made_by, marked_by, resolved_by}
+
+abbrev pub gives : Vertex → Result Vertex AlgoError
+gives u = Ok u
+
+abbrev stops : AlgoError → Result Vertex AlgoError
+stops e = Err e
+
+pub same_tree : (x y : Vertex) → gives x ≡ gives y → x ≡ y
+same_tree x y e = cc
+
+pub not_given : (x : AlgoError) (y : Vertex) → stops x ≡ gives y → ⊥
+not_given x y e = cc
+
+-- what definitions resolve to is their tree, and they have no refusal
+told : (ds : List Def) (o : Option AlgoError) (main : Vertex) → told_by ds o ≡ Ok main → (o ≡ None) × (tree_of ds ≡ main)
+told ds None main e = (refl, same_tree (tree_of ds) main e)
+told ds (Some fault) main e = absurd (not_given fault main e)
+
+pub not_refused : (ds : List Def) (main : Vertex) → resolution_of ds ≡ Ok main → refusal ds ≡ None
+not_refused ds main e = (told ds (refusal ds) main e).0
+
+-- so it is a tree, with names and bounds
+pub record IsSound (main : Vertex) : Type 0 where
+  pub tree : IsTree main
+  pub named : HasNames main
+  pub bounded : HasBounds main
+
+pub sound : (ds : List Def) (main : Vertex) → AreWellRead ds → resolution_of ds ≡ Ok main → IsSound main
+sound ds main read e =
+    let r = told ds (refusal ds) main e in
+    subst IsSound r.1 (record { tree = make_a_tree ds read r.0; named = have_names ds read r.0; bounded = have_bounds ds read r.0 })
+
+-- what is made of a tree and marks that were told
+pub elaborated_is : (ds : List Def) (main : Vertex) (marks : List Mark) → resolution_of ds ≡ Ok main → marking_of ds ≡ Ok marks → resolved_by ds (resolution_of ds) ≡ made_by (made_within marks main)
+elaborated_is ds main marks r m = ap (resolved_by ds) r ∙ ap (marked_by main) m

@@ -1,0 +1,78 @@
+-- The tree of an accepted text.
+use Rattle.std.proofs.Common.{◌≡◌, ℕ, ◌≤◌, Bool, true, false, List, [], ◌∷◌, Option, Some, None, Result, Ok, Err, refl, sym, ap, subst, ◌∙◌, nat_lt, if◌then◌else◌}
+use Rattle.std.specs.List.{All}
+use Rattle.std.proofs.lemmas.Bool.{ltb-false}
+use Rattle.syn_base.specs.declared.limits.LimitKind.TheVariants.{Operations}
+use Rattle.syn_base.specs.Limits.{bound_of}
+use Rattle.algo_tree.specs.Tree.{Vertex}
+use Rattle.algo_tree.specs.Counted.{operations}
+use Rattle.algo_defs.specs.declared.definition.Def.{Def}
+use Rattle.algo_defs.specs.declared.definition.Reference.{Reference}
+use Rattle.algo_defs.specs.declared.fault.AlgoError.{AlgoError}
+use Rattle.algo_defs.specs.declared.fault.AlgoError.TheVariants as error
+use Rattle.algo_rules.specs.Resolved.{resolution_of}
+use Rattle.algo_rules.specs.WellRead.{AreWellRead}
+use Rattle.reading_laws.specs.Periods as text
+use Rattle.reading_laws.proofs.Lines.{accepted_well}
+use Rattle.reading_laws.proofs.Marks.{accepted_marked}
+use Rattle.multi_period.specs.declared.fault.PeriodError.TheVariants.{Limit}
+use Rattle.multi_period.specs.declared.mark.Mark.{Mark}
+use Rattle.multi_period.specs.Periods.{periods}
+use Rattle.multi_period.specs.Within.{made_within}
+use Rattle.multi_period.proofs.Main.{periods-keep}
+use Rattle.multi_period.proofs.Names.{names-keep, bounds-keep}
+use Rattle.multi_period.proofs.Trees.{tree-made}
+use Rattle.period_marks.specs.Marking.{marking_of, references_of}
+use Rattle.period_marks.specs.Stand.{IsPeriod, HavePeriods}
+use Rattle.period_marks.proofs.Trees.{marks_stand}
+use Rattle.elaboration.specs.Elaborated.{made_by, marked_by, resolved_by}
+use Rattle.elaboration.specs.Laws.{AcceptedAreElaborated, IsElaborated}
+use Rattle.elaboration.proofs.Resolved.{not_given, same_tree, sound}
+
+module _ (ds : List Def) (read : AreWellRead ds) (have : HavePeriods ds) where
+  module _ (resolved : Vertex) (marks : List Mark) (r : resolution_of ds ≡ Ok resolved) (m : marking_of ds ≡ Ok marks) where
+    whole : operations (periods marks resolved) ≤ 2048 → IsElaborated ds (periods marks resolved)
+    whole few =
+        let s = sound ds resolved read r in
+        let stand = marks_stand ds resolved marks read have r m in
+        record {
+          resolved = resolved;
+          marks = marks;
+          resolves = r;
+          marked = m;
+          meaning = periods-keep marks resolved s.tree stand.may.stand;
+          tree = tree-made marks resolved s.tree stand.may.stand few;
+          named = names-keep marks resolved stand.may.stand stand.named s.named;
+          bounded = bounds-keep marks resolved s.bounded;
+        }
+
+    by_size : (made : Vertex) (b : Bool) → nat_lt 2048 (operations (periods marks resolved)) ≡ b
+        → made_by (if b then Err (Limit (record { which = Operations; count = operations (periods marks resolved); bound = bound_of Operations })) else Ok (periods marks resolved)) ≡ Ok made
+        → IsElaborated ds made
+    by_size made true t e = absurd (not_given (error.Limit (record { which = Operations; count = operations (periods marks resolved); bound = bound_of Operations })) made e)
+    by_size made false f e = subst (IsElaborated ds) (same_tree (periods marks resolved) made e) (whole (ltb-false 2048 (operations (periods marks resolved)) f))
+
+  by_marks : (resolved : Vertex) → resolution_of ds ≡ Ok resolved → (o : Result (List Mark) AlgoError) → marking_of ds ≡ o → (made : Vertex) → marked_by resolved o ≡ Ok made → IsElaborated ds made
+  by_marks resolved r (Ok marks) m made e = by_size resolved marks r m made (nat_lt 2048 (operations (periods marks resolved))) refl e
+  by_marks resolved r (Err fault) m made e = absurd (not_given fault made e)
+
+  by_tree : (o : Result Vertex AlgoError) → resolution_of ds ≡ o → (made : Vertex) → resolved_by ds o ≡ Ok made → IsElaborated ds made
+  by_tree (Ok resolved) r made e = by_marks resolved r (marking_of ds) refl made e
+  by_tree (Err fault) r made e = absurd (not_given fault made e)
+
+-- what the text says of its marks, version by version, without the version
+period : (version : ℕ) (o : Option ℕ) → text.IsPeriod version o → IsPeriod o
+period version None h = tt
+period version (Some n) h = h.1
+
+each_period : (version : ℕ) (rs : List Reference) → All (λ r. text.IsPeriod version r.every) rs → All (λ r. IsPeriod r.every) rs
+each_period version [] h = h
+each_period version (r ∷ rs) h = (period version r.every h.0, each_period version rs h.1)
+
+pub have_periods : (version : ℕ) (ds : List Def) → All (λ d. text.HasPeriods version d.body) ds → HavePeriods ds
+have_periods version [] h = h
+have_periods version (d ∷ ds) h = (each_period version (references_of d.body) h.0, have_periods version ds h.1)
+
+pub accepted_elaborated : AcceptedAreElaborated
+accepted_elaborated text defs made says e =
+    by_tree defs.defs (accepted_well text defs says) (have_periods defs.version defs.defs (accepted_marked text defs says)) (resolution_of defs.defs) refl made e

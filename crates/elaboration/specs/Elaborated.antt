@@ -1,0 +1,34 @@
+-- The tree that the definitions of a text mean, or their first refusal.
+use Rattle.std.specs.Prelude.{List, Result, Ok, Err}
+use Rattle.algo_tree.specs.Tree.{Vertex}
+use Rattle.algo_defs.specs.declared.definition.Def.{Def}
+use Rattle.algo_defs.specs.declared.definition.Defs.{Defs}
+use Rattle.algo_defs.specs.declared.fault.AlgoError.{AlgoError}
+use Rattle.algo_defs.specs.declared.fault.AlgoError.TheVariants.{Limit, OutOfMemory}
+use Rattle.algo_rules.specs.Resolved.{resolution_of}
+use Rattle.multi_period.specs.declared.fault.PeriodError.{PeriodError}
+use Rattle.multi_period.specs.declared.fault.PeriodError.TheVariants as period
+use Rattle.multi_period.specs.declared.mark.Mark.{Mark}
+use Rattle.multi_period.specs.Within.{made_within}
+use Rattle.period_marks.specs.Marking.{marking_of}
+
+-- a refusal of the made tree, as one of the text
+abbrev pub of_periods : PeriodError → AlgoError
+of_periods (period.Limit fault) = Limit fault
+of_periods period.OutOfMemory = OutOfMemory
+
+abbrev pub made_by : Result Vertex PeriodError → Result Vertex AlgoError
+made_by (Ok made) = Ok made
+made_by (Err e) = Err (of_periods e)
+
+abbrev pub marked_by : Vertex → Result (List Mark) AlgoError → Result Vertex AlgoError
+marked_by main (Ok marks) = made_by (made_within marks main)
+marked_by main (Err e) = Err e
+
+abbrev pub resolved_by : List Def → Result Vertex AlgoError → Result Vertex AlgoError
+resolved_by ds (Ok main) = marked_by main (marking_of ds)
+resolved_by ds (Err e) = Err e
+
+-- Definitions resolve to a tree; then each mark has to stand where one may; and then the marked references become graphs, within the bound on operations.
+abbrev pub elaboration_of : Defs → Result Vertex AlgoError
+elaboration_of defs = resolved_by defs.defs (resolution_of defs.defs)

@@ -1,0 +1,29 @@
+-- What the tree of an accepted text is.
+use Rattle.std.specs.Prelude.{◌≡◌, List, Ok}
+use Rattle.outside.specs.Bytes.{Bytes}
+use Rattle.algo_tree.specs.Tree.{Vertex}
+use Rattle.algo_tree.specs.Valid.{IsTree}
+use Rattle.algo_defs.specs.declared.definition.Def.{Def}
+use Rattle.algo_defs.specs.declared.definition.Defs.{Defs}
+use Rattle.algo_text.specs.Text.{definitions_of}
+use Rattle.algo_rules.specs.Resolved.{resolution_of}
+use Rattle.path_text.specs.Bounded.{HasBounds}
+use Rattle.path_text.specs.Named.{HasNames}
+use Rattle.multi_period.specs.declared.mark.Mark.{Mark}
+use Rattle.multi_period.specs.Laws.{DoesAsMarked}
+use Rattle.period_marks.specs.Marking.{marking_of}
+use Rattle.elaboration.specs.Elaborated.{elaboration_of}
+
+-- The tree that the definitions resolve to, and their marks: the made tree is a tree with names and bounds, and its actuators take what the meaning says that looks back over the reactions.
+pub record IsElaborated (ds : List Def) (made : Vertex) : Type 0 where
+  pub resolved : Vertex
+  pub marks : List Mark
+  pub resolves : resolution_of ds ≡ Ok resolved
+  pub marked : marking_of ds ≡ Ok marks
+  pub meaning : DoesAsMarked marks resolved made
+  pub tree : IsTree made
+  pub named : HasNames made
+  pub bounded : HasBounds made
+
+abbrev pub AcceptedAreElaborated : Type 0
+AcceptedAreElaborated = (text : Bytes) (defs : Defs) (made : Vertex) → definitions_of text ≡ Ok defs → elaboration_of defs ≡ Ok made → IsElaborated defs.defs made

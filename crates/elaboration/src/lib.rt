@@ -1,0 +1,60 @@
+//! The tree that an algorithm text means: what its definitions resolve to, in which each reference that runs
+//! in every nth reaction has become a graph. `elaborate` makes it of the definitions that were read, and the
+//! law says what the tree of an accepted text is. `syndex_program` calls it, and `accepted_laws` stands on the law.
+#![tactic(auto)]
+
+ghost use Rattle.std.specs.Prelude.{◌≡◌, ◌≤◌, IfOk, length};
+ghost use Rattle.algo_rules.specs.Placed.{Gives};
+ghost use Rattle.algo_rules.specs.WellRead.{AreWellRead};
+ghost use Rattle.path_text.specs.Bounded.{HasBounds};
+ghost use Rattle.path_text.specs.Named.{HasNames};
+ghost use Rattle.period_marks.specs.Stand.{HavePeriods};
+ghost use Rattle.elaboration.specs.Elaborated.{elaboration_of, of_periods};
+ghost use Rattle.elaboration.specs.Laws.{AcceptedAreElaborated};
+
+use algo_defs::{AlgoError, Defs};
+use algo_resolve::resolve;
+use algo_tree::Tree;
+use multi_period::{PeriodError, periods};
+use period_marks::{accepted_marks_stand, marks};
+use std::alloc::Global;
+
+/// The tree of the definitions of a text, or their first refusal: those of resolving, then a mark where none
+/// may stand, and then the limit on the operations of the tree in which the marked references have become
+/// graphs. OutOfMemory may come in place of any answer.
+pub fn elaborate(alloc: Global, defs: &Defs) -> Result<Tree, AlgoError>
+    requires read { AreWellRead defs.now.defs }
+    requires periods { HavePeriods defs.now.defs }
+    requires few { length defs.now.defs ≤ 4000000000 }
+    ensures gives { Gives result (elaboration_of defs.now) }
+    ensures named { IfOk result (λ t. HasNames t) }
+    ensures bounded { IfOk result (λ t. HasBounds t) }
+{
+    let tree = resolve(alloc, defs)?;
+    let marks = marks(alloc, defs)?;
+    if marks.is_empty() {
+        return Ok(tree);
+    }
+    accepted_marks_stand();
+    match periods(alloc, &tree, &marks) {
+        Ok(made) => Ok(made),
+        Err(error) => Err(refusal_of(error)),
+    }
+}
+
+/// A refusal of the made tree, as one of the text.
+fn refusal_of(error: PeriodError) -> AlgoError
+    ensures { result ≡ of_periods error }
+{
+    match error {
+        PeriodError::Limit(fault) => AlgoError::Limit(fault),
+        PeriodError::OutOfMemory => AlgoError::OutOfMemory,
+    }
+}
+
+/// The tree of an accepted text is a tree, with names and bounds, and its actuators take what the meaning of
+/// the tree that the definitions resolve to says with their marks: in a reaction that its number does not divide
+/// a marked reference gives what it gave in the last that it divides, and its delays stand still.
+pub fn accepted_are_elaborated()
+    ensures { AcceptedAreElaborated }
+{}
