@@ -35,5 +35,5 @@ returns g c =
       K c.write_whole.new.sink,
       wrote_as (K c.args.out.now) (K c.write_whole.new.sink) c.deref.result.now (head e) _ true (c.deref.ensures.value ∙ c.in-Ok.ensures) (c.is_err.ensures.negation ∙ ap not c.if-is_err.false) c.write_whole.ensures,
       subst (λ (xs : List (Stage JobData)). Performs {R = Refusal} driven_by xs (K c.write_whole.new.sink) (K c.write_windows.new.out) c.args.driven.now c.write_windows.new.driven (windows.ending_of c.write_windows.result))
-      (ap (λ (v : WindowsData). stages_left e.main v) c.in-Ok-windows_of.ensures ∙ all_stages e) c.write_windows.ensures,
+          (ap (λ (v : WindowsData). stages_left e.main v) c.in-Ok-windows_of.ensures ∙ all_stages e) c.write_windows.ensures,
     )
