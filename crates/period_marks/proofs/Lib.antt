@@ -1,0 +1,4 @@
+pub mod Outer
+pub mod Numbers
+pub mod Trees
+pub mod Walks
