@@ -1,0 +1,5 @@
+pub mod Outer
+pub mod Numbers
+pub mod Trees
+pub mod Walks
+pub mod Worked

@@ -1,0 +1,104 @@
+//! Where marks may stand.
+ghost use Rattle.std.specs.Prelude.{◌≡◌, ◌&&◌, map, slice_get};
+ghost use Rattle.algo_defs.specs.declared.fault.AlgoCause.TheVariants.{BadEvery};
+ghost use Rattle.algo_rules.specs.Links.{fault, is_main as names_main, links_of, may_be_inner as inner};
+ghost use Rattle.algo_rules.specs.Placed.{Checks};
+ghost use Rattle.algo_rules.specs.Links.{mentions};
+ghost use Rattle.algo_links.specs.Placing.{Tells, places_of};
+ghost use Rattle.period_marks.specs.Marking.{may_be_marked, may_stand as stands};
+ghost use Rattle.period_marks.specs.Walked.{bad_all, bad_in, bad_of, places_in};
+
+use algo_defs::{AlgoCause, AlgoError, AlgoFault, Body, Def, Reference};
+use std::alloc::Global;
+use syn_base::{Items, Name};
+
+/// The mark of this reference may not stand there.
+fn bad_every(alloc: Global, line: u32, name: &Name) -> AlgoError
+    ensures { Tells result (fault line (BadEvery name.now)) }
+{
+    match name.copy(alloc) {
+        Ok(name) => AlgoError::Refused(AlgoFault {
+            line,
+            cause: AlgoCause::BadEvery(name),
+        }),
+        Err(_) => AlgoError::OutOfMemory,
+    }
+}
+
+fn is_main(name: &Name) -> bool
+    ensures { result ≡ names_main name.now }
+{
+    name.as_bytes() == b"main".as_slice()
+}
+
+/// What may have a mark: neither a sensor nor an actuator, a constant or a delay.
+fn may_be_inner(body: &Body) -> bool
+    ensures { result ≡ inner body.now }
+{
+    matches!(
+        body,
+        Body::Function { .. } | Body::Graph { .. } | Body::Switch { .. } | Body::Repeat { .. }
+    )
+}
+
+/// A reference of this owner to the definition at a place may have a mark.
+fn may_have(owner: &Name, defs: &[Def], place: usize) -> bool
+    ensures { result ≡ (names_main owner.now && may_be_marked (slice_get defs.now place)) }
+{
+    is_main(owner) && place < defs.len() && may_be_inner(&defs[place].body)
+}
+
+/// A reference of this owner to the definition at a place has no mark, or may have one.
+fn may_stand(owner: &Name, reference: &Reference, defs: &[Def], place: usize) -> bool
+    ensures { result ≡ stands owner.now reference.now (slice_get defs.now place) }
+{
+    match reference.every {
+        Some(_) => may_have(owner, defs, place),
+        None => true,
+    }
+}
+
+/// The first reference of the owner with a mark that may have none. The places are those of the definitions
+/// that the references name.
+fn check_references(
+    alloc: Global,
+    owner: &Name,
+    references: &[Reference],
+    places: &[u32],
+    defs: &[Def],
+) -> Result<(), AlgoError>
+    requires { places.now ≡ places_in defs.now references.now }
+    ensures { Checks result (bad_in defs.now owner.now references.now) }
+{
+    for k in 0..references.len() {
+        let reference = &references[k];
+        if !may_stand(owner, reference, defs, places[k] as usize) {
+            return Err(bad_every(alloc, reference.line, &reference.name));
+        }
+    }
+    Ok(())
+}
+
+/// The same of a definition.
+fn check_def(alloc: Global, def: &Def, places: &[u32], defs: &[Def]) -> Result<(), AlgoError>
+    requires { places.now ≡ places_of defs.now (mentions def.now) }
+    ensures { Checks result (bad_of defs.now def.now) }
+{
+    match &def.body {
+        Body::Graph { references, .. } => {
+            check_references(alloc, &def.name, references.as_slice(), places, defs)
+        }
+        _ => Ok(()),
+    }
+}
+
+/// The first reference of any definition with a mark that may have none.
+pub fn check_marks(alloc: Global, defs: &[Def], links: &[Items<u32>]) -> Result<(), AlgoError>
+    requires { links.now ≡ links_of defs.now }
+    ensures { Checks result (bad_all defs.now defs.now) }
+{
+    for i in 0..defs.len() {
+        check_def(alloc, &defs[i], links[i].as_slice(), defs)?;
+    }
+    Ok(())
+}
