@@ -27,10 +27,10 @@ lines =
 
 abbrev references : List Reference
 references =
-    record { name = codes "s"; def = codes "S"; line = 15 }
-    ∷ record { name = codes "t"; def = codes "S"; line = 16 }
-    ∷ record { name = codes "r"; def = codes "R"; line = 17 }
-    ∷ record { name = codes "a"; def = codes "A"; line = 18 } ∷ []
+    record { name = codes "s"; def = codes "S"; every = None; line = 15 }
+    ∷ record { name = codes "t"; def = codes "S"; every = None; line = 16 }
+    ∷ record { name = codes "r"; def = codes "R"; every = None; line = 17 }
+    ∷ record { name = codes "a"; def = codes "A"; every = None; line = 18 } ∷ []
 
 abbrev edge : Bytes → Bytes → Bytes → Bytes → Edge
 edge r p s q = record { from = record { owner = Some r; port = p }; to = record { owner = Some s; port = q }; line = 19 }
