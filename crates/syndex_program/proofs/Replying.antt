@@ -8,7 +8,7 @@ use Rattle.command_plan.specs.Run.{refuses}
 use Rattle.command_plan.proofs.Makes.{memory}
 use Rattle.command_status.specs.Status.{Refusal, ending_of, usage}
 use Rattle.command_status.specs.declared.status.Status.{Status}
-use Rattle.command_words.specs.Command.{Command, check, sim, flat, chart, code, run, load}
+use Rattle.command_words.specs.Command.{Command, check, sim, flat, chart, code, run, load, exec, dates}
 use Rattle.word_rule.specs.Driven.{Driven}
 use Rattle.top_plans.specs.Names.{IsPlain}
 use Rattle.top_plans.specs.Plans.{plan_of}
@@ -40,6 +40,8 @@ module _ (law : PlainCommandsReply) (held : Held) (sunk err : Sunk) where
   wanted (Some (code a h)) = plainly (Some (code a h)) (λ x. x)
   wanted (Some (run a h s workers)) = inr (refl, (tt, refl, refl))
   wanted (Some (load n)) = inr (refl, (tt, refl, refl))
+  wanted (Some (exec a h c s workers)) = inr (refl, (tt, refl, refl))
+  wanted (Some (dates a h g n)) = plainly (Some (dates a h g n)) (λ x. x)
 
 -- nothing was read, written or driven: memory ran out
 pub wants : CommandsReply → (o : Option Command) (held : Held) (sunk : Sunk) (driven : Driven) → Replies o held held sunk sunk driven driven no_memory

@@ -89,7 +89,10 @@ pub fn syndex<R: Threads + Wait + Sync, S: Shelf, K: Sink, E: Sink, G: Gate>(
         Some(status) => status,
         None => {
             let drive = Drive { rt, gate };
-            told(err, jobs::status_of(alloc, words, shelf, out, &drive, driven))
+            told(
+                err,
+                jobs::status_of(alloc, words, shelf, out, &drive, driven),
+            )
         }
     }
 }

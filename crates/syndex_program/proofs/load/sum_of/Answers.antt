@@ -97,8 +97,7 @@ windows-preserved g c =
     let before = c.windows.invariant in
     let s = to_z w64 c.windows.sum-bits in
     let e : to_z w64 (of_z w64 c.with_rows-sum.result) ≡ c.with_rows-sum.result = search (rules, to_z-of_z) in
-    let is = ap (λ (r : Reactions). r.reactions) c.rows.ensures ∙ made.2.rows ∙ made.3 in
-    (
+    let is = ap (λ (r : Reactions). r.reactions) c.rows.ensures ∙ made.2.rows ∙ made.3 in (
       ap (λ (x : WindowsData). x.job) c.go_on.ensures ∙ before.0,
       ap (λ (n : ℤ). wrapped (n +ℤ total_left w')) e ∙ sum_next s c.with_rows-sum.result w w' c.rows.result.now.reactions is c.go_on.ensures c.with_rows-sum.ensures ∙ before.1,
       jobs_after w made.0 w' c.windows.driven c.run_next.new.driven c.go_on.ensures made.1 ∙ before.2,
