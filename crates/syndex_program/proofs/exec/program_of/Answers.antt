@@ -8,7 +8,7 @@ use Rattle.syndex_program.proofs.Coded.{check_refused, code_refused, is_program}
 use Rattle.syndex_program.proofs.exec.program_of.Goals as goal
 
 pub returns-in-Ok : goal.returns-in-Ok
-returns-in-Ok c = is_program c.args.flat.now c.args.archi.now c.args.text.now c.in-Ok.program c.operators-_operators.ensures.valid c.in-Ok.ensures.0 c.in-Ok.ensures.1
+returns-in-Ok c = is_program c.args.flat.now c.args.archi.now c.args.text.now c.in-Ok.program c.operators-operators.ensures.valid c.in-Ok.ensures.0 c.in-Ok.ensures.1
 
 pub returns-in-Err-Text : goal.returns-in-Err-Text
 returns-in-Err-Text c = λ held next.

@@ -9,6 +9,16 @@ use Rattle.syndex_program.specs.Left.{stages_left}
 use Rattle.syndex_program.proofs.Leaving.{all_stages, same_acts}
 use Rattle.syndex_program.proofs.windows.lines_of.Goals as goal
 
+pub invariant_of-result-clause-lens : goal.invariant_of-result-clause-lens
+invariant_of-result-clause-lens c =
+    let x = c.args.execution.now in
+    subst (λ (v : WindowsData). actuator_lens v.job.graph v.job.graph.vertices ≡ actuator_lengths x.tree) (sym c.in_ok-windows.ensures) c.requires.has.lengths.actuators
+
+pub invariant_of-result-clause-acts : goal.invariant_of-result-clause-acts
+invariant_of-result-clause-acts c =
+    let x = c.args.execution.now in
+    subst (λ (v : WindowsData). all_acts v.job ≡ acts_of x.tree v.job.sensors) (sym c.in_ok-windows.ensures) (same_acts (executed x) c.requires.has)
+
 pub returns : goal.returns
 returns c =
     let e = executed c.args.execution.now in
