@@ -164,8 +164,8 @@ module _ (Q : Made → Type 0) (refused : (r : Refusal) → ¬ (r ≡ usage) →
       })))
 
   -- an execution of a program that was checked
-  checked_so : (text : Bytes) (defs : List Def) (main : Vertex) (lines : Bytes) (d : Described) (p : Program) (table : Bytes) (rows : Reactions)
-      → definitions_of text ≡ Ok defs → resolution_of defs ≡ Ok main → description_of lines ≡ Ok d → lacking (flat_of main) d.archi p ≡ None → rows_of main (records default_config (strip_bom table)) ≡ Ok rows
+  checked_so : (text : Bytes) (defs : Defs) (main : Vertex) (lines : Bytes) (d : Described) (p : Program) (table : Bytes) (rows : Reactions)
+      → definitions_of text ≡ Ok defs → resolution_of defs.defs ≡ Ok main → description_of lines ≡ Ok d → lacking (flat_of main) d.archi p ≡ None → rows_of main (records default_config (strip_bom table)) ≡ Ok rows
       → ((e : Execution) → IsAccepted e → Q (give (executed e))) → Q (execution_plan (execution main d.archi p rows) executed)
   checked_so text defs main lines d p table rows says resolves describes whole tells h =
       let e = execution main d.archi p rows in
