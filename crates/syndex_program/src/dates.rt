@@ -87,7 +87,12 @@ fn built_by(
     ensures builds { BuildsProgram architecture.now.flat architecture.now.text.archi architecture.now.durations result }
     ensures program { IfOk result (λ p. p ≡ program_of architecture.now.flat architecture.now.text.archi schedule.now) }
 {
-    match build(alloc, &architecture.flat, &architecture.text.archi, schedule) {
+    match build(
+        alloc,
+        &architecture.flat,
+        &architecture.text.archi,
+        schedule,
+    ) {
         Ok(program) => Ok(program),
         Err(BuildError::Limit(limit)) => Err(Status::Limit(limit)),
         Err(BuildError::OutOfMemory) => Err(Status::OutOfMemory),

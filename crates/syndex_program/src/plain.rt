@@ -8,6 +8,7 @@ ghost use Rattle.command_words.specs.View.{view_of};
 ghost use Rattle.outside.specs.Shelf.{Stays};
 ghost use Rattle.word_rule.specs.Driven.{Driven, driven_by};
 ghost use Rattle.top_plans.specs.Given.{stages, written};
+ghost use Rattle.syndex_program.specs.Counts.{IsCounted};
 ghost use Rattle.syndex_program.specs.Plainly.{IsRunOrPlain, MakesOrLeaves, RepliesOrLeaves};
 ghost use Rattle.syndex_program.specs.Reads.{text_in};
 ghost use Rattle.syndex_program.specs.Unread.{LeavesUnread};
@@ -50,6 +51,7 @@ fn status_for<S: Shelf, K: Sink>(
     shelf: &mut S,
     out: &mut K,
 ) -> Option<Status>
+    requires { IsCounted (view_of command.now) }
     ensures ran { IsRunOrPlain (view_of command.now) (S.held shelf.old) (S.held shelf.new) (K.sunk out.old) (K.sunk out.new) result }
     ensures stays { Stays (S.held shelf.old) (S.held shelf.new) }
     ensures unread { LeavesUnread (Some (view_of command.now)) (S.held shelf.old) (S.held shelf.new) }
@@ -66,6 +68,7 @@ fn text_of<S: Shelf>(
     command: &Command,
     shelf: &mut S,
 ) -> Option<Result<Vec<u8>, Status>>
+    requires { IsCounted (view_of command.now) }
     ensures makes { MakesOrLeaves (view_of command.now) (S.held shelf.old) (S.held shelf.new) result }
     ensures stays { Stays (S.held shelf.old) (S.held shelf.new) }
     ensures unread { LeavesUnread (Some (view_of command.now)) (S.held shelf.old) (S.held shelf.new) }
@@ -92,14 +95,7 @@ fn text_of<S: Shelf>(
             architecture,
             durations,
             reactions,
-        } => Some(dates_listing(
-            alloc,
-            shelf,
-            algorithm,
-            architecture,
-            durations,
-            *reactions,
-        )),
+        } => Some(dates_listing(alloc, shelf, algorithm, architecture, durations, *reactions)),
         Command::Exec { .. } => None,
     }
 }

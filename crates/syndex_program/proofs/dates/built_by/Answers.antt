@@ -3,7 +3,7 @@ use Rattle.std.specs.Prelude.{None, Some}
 use Rattle.durations.specs.Table.{entry_in}
 use Rattle.executive_program.specs.declared.program.Program.{Program}
 use Rattle.schedule.specs.declared.decision.Schedule.{Schedule}
-use Rattle.sequence_build_laws.specs.Built.{program_of}
+use Rattle.sequence_build_laws.specs.Built.{order_of, program_of}
 use Rattle.sequence_build.specs.Limit.{program_limit}
 use Rattle.command_plan.proofs.Makes.{memory}
 use Rattle.top_plans.specs.Plans.{program_by, program_plan}
@@ -18,7 +18,7 @@ returns-in-Ok-clause-builds c =
     let given = c.args.architecture.now in
     let a = given.text.archi in
     let ok = c.in-Ok.ensures.ok in
-    let same = ok.is ∙ ap (program_of given.flat a) c.requires.run in (same, subst (λ (p : Program). program_limit p (length a.media) ≡ None) same ok.within)
+    let same = ok.is ∙ ap (program_of given.flat a) c.requires.run in (same, subst (λ (p : Program). program_limit p (length a.media) ≡ None) same ok.within, (order_of given.flat a c.args.schedule.now, ok.formed))
 
 pub returns-in-Ok-clause-program : goal.returns-in-Ok-clause-program
 returns-in-Ok-clause-program c = c.in-Ok.ensures.ok.is

@@ -1,8 +1,8 @@
 use Rattle.std.proofs.Common.{◌≡◌, subst, sym}
-use Rattle.std.specs.Prelude.{List, Ok, Err}
+use Rattle.std.specs.Prelude.{Ok, Err}
 use Rattle.std.proofs.lemmas.Result.{err_from_is_err_and}
 use Rattle.outside.specs.Bytes.{Bytes}
-use Rattle.algo_defs.specs.declared.definition.Def.{Def}
+use Rattle.algo_defs.specs.declared.definition.Defs.{Defs}
 use Rattle.algo_tree.specs.Tree.{Vertex}
 use Rattle.durations.specs.Table.{durations_of}
 use Rattle.flat_graph.specs.Graph.{Graph}
@@ -29,7 +29,7 @@ returns-in_err-architecture-clause-makes g c =
     let p = err_from_is_err_and c.from_residual-in_err-architecture.result c.from_residual-in_err-architecture.ensures.1 in
     rw (p.1, p.2) (
     went_on c.args.algorithm.now (H c.args.shelf.now) (H c.read_algorithm.new.shelf) (H c.read_architecture.new.shelf) c.in_ok-algorithm.algorithm
-    (λ (defs : List Def) (main : Vertex). architecture_plan c.args.architecture.now main (behind_architecture c.args.durations.now c.args.reactions main)) (Err (ending_of c.in_err-architecture.field-0.0))
+    (λ (defs : Defs) (main : Vertex). architecture_plan c.args.architecture.now main (behind_architecture c.args.durations.now c.args.reactions main)) (Err (ending_of c.in_err-architecture.field-0.0))
     c.in_ok-algorithm.ensures.reads (c.in_err-architecture.ensures.reads _)
     )
 
@@ -46,7 +46,7 @@ returns-in_err-text-clause-makes g c =
     let p = err_from_is_err_and c.from_residual-in_err-text.result c.from_residual-in_err-text.ensures.1 in
     rw (p.1, p.2) (
     went_on c.args.algorithm.now (H c.args.shelf.now) (H c.read_algorithm.new.shelf) (H c.read_file.new.shelf) algorithm
-    (λ (defs : List Def) (main : Vertex). architecture_plan c.args.architecture.now main (behind_architecture c.args.durations.now c.args.reactions main)) (Err (ending_of c.in_err-text.field-0.0))
+    (λ (defs : Defs) (main : Vertex). architecture_plan c.args.architecture.now main (behind_architecture c.args.durations.now c.args.reactions main)) (Err (ending_of c.in_err-text.field-0.0))
     c.in_ok-algorithm.ensures.reads
     (architecture.went_on algorithm.tree c.args.architecture.now (H c.read_algorithm.new.shelf) (H c.read_architecture.new.shelf) (H c.read_file.new.shelf) c.in_ok-architecture.architecture
     (behind_architecture c.args.durations.now c.args.reactions algorithm.tree) (Err (ending_of c.in_err-text.field-0.0)) c.in_ok-architecture.ensures.reads
@@ -62,7 +62,7 @@ returns-clause-makes g c =
     let made = text_in c.dated.result in
     let n = c.args.reactions in
     went_on c.args.algorithm.now (H c.args.shelf.now) (H c.read_algorithm.new.shelf) held algorithm
-    (λ (defs : List Def) (main : Vertex). architecture_plan c.args.architecture.now main (behind_architecture c.args.durations.now n main)) made c.in_ok-algorithm.ensures.reads
+    (λ (defs : Defs) (main : Vertex). architecture_plan c.args.architecture.now main (behind_architecture c.args.durations.now n main)) made c.in_ok-algorithm.ensures.reads
     (architecture.went_on algorithm.tree c.args.architecture.now (H c.read_algorithm.new.shelf) (H c.read_architecture.new.shelf) held given
     (behind_architecture c.args.durations.now n algorithm.tree) made c.in_ok-architecture.ensures.reads
     (was_read held c.in_ok-text.text.items c.in_ok-text.ensures.read

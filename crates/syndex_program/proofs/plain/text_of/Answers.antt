@@ -1,6 +1,9 @@
 use Rattle.std.proofs.Common.{refl}
 use Rattle.syndex_program.proofs.plain.text_of.Goals as goal
 
+pub dates_listing-requires : goal.dates_listing-requires
+dates_listing-requires g c = record { few = rw c.in-Dates.is at c.requires }
+
 pub returns-in-Check-clause-makes : goal.returns-in-Check-clause-makes
 returns-in-Check-clause-makes g c = rw c.in-Check.is ((λ h. h), c.check_texts.ensures.makes)
 
@@ -21,3 +24,9 @@ returns-in-Run-clause-makes g c = rw c.in-Run.is (tt, refl)
 
 pub returns-in-Load-clause-makes : goal.returns-in-Load-clause-makes
 returns-in-Load-clause-makes g c = rw c.in-Load.is (tt, refl)
+
+pub returns-in-Dates-clause-makes : goal.returns-in-Dates-clause-makes
+returns-in-Dates-clause-makes g c = rw c.in-Dates.is ((λ h. h), c.dates_listing.ensures.makes)
+
+pub returns-in-Exec-clause-makes : goal.returns-in-Exec-clause-makes
+returns-in-Exec-clause-makes g c = rw c.in-Exec.is (tt, refl)
