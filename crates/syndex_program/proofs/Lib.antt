@@ -11,3 +11,4 @@ pub mod Loading
 pub mod Going
 pub mod Dated
 pub mod Counts
+pub mod Coded

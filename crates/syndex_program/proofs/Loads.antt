@@ -7,7 +7,7 @@ use Rattle.std.specs.Str.{bytes_eq}
 use Rattle.std.proofs.lemmas.Bool.{leb-true}
 use Rattle.syn_base.specs.Name.{is_digit}
 use Rattle.syn_base.specs.Integer.{number_of}
-use Rattle.command_words.specs.Command.{Arguments, Bytes, Command, check, sim, flat, chart, code, run, number_up_to, arguments_of, one, two, one_or_two, three, loaded, with_count, counted, plain_by, run_by, plain, command_by, command_of}
+use Rattle.command_words.specs.Command.{Arguments, Bytes, Command, check, sim, flat, chart, code, run, exec, dates, number_up_to, arguments_of, one, two, one_or_two, three, four, loaded, dated, with_count, counted, plain_by, run_by, exec_by, plain, command_by, command_of}
 use Rattle.outside.specs.Shelf.{file_bound}
 use Rattle.load_texts.specs.Algorithm.{algorithm_text, compound_definitions, main_graph, vector_definitions}
 use Rattle.load_texts.specs.Architecture.{architecture_text}
@@ -53,25 +53,45 @@ either_so go h (a ∷ []) = h a None
 either_so go h (a ∷ b ∷ []) = h a (Some b)
 either_so go h (a ∷ b ∷ c ∷ ws) = tt
 
-three_so : (workers : Option ℕ) (ws : List Bytes) → IsFitIn (three (λ alg archi sensors. Some (run alg archi sensors workers)) ws)
-three_so workers [] = tt
-three_so workers (a ∷ []) = tt
-three_so workers (a ∷ b ∷ []) = tt
-three_so workers (a ∷ b ∷ c ∷ []) = tt
-three_so workers (a ∷ b ∷ c ∷ d ∷ ws) = tt
+three_so : (go : Bytes → Bytes → Bytes → Option Command) → ((u v w : Bytes) → IsFitIn (go u v w)) → (ws : List Bytes) → IsFitIn (three go ws)
+three_so go h [] = tt
+three_so go h (a ∷ []) = tt
+three_so go h (a ∷ b ∷ []) = tt
+three_so go h (a ∷ b ∷ c ∷ []) = h a b c
+three_so go h (a ∷ b ∷ c ∷ d ∷ ws) = tt
 
-with_so : (plain : List Bytes) (o : Option ℕ) → IsFitIn (with_count (λ workers. three (λ alg archi sensors. Some (run alg archi sensors workers)) plain) o)
-with_so plain None = tt
-with_so plain (Some n) = three_so (Some n) plain
+four_so : (go : Bytes → Bytes → Bytes → Bytes → Option Command) → ((t u v w : Bytes) → IsFitIn (go t u v w)) → (ws : List Bytes) → IsFitIn (four go ws)
+four_so go h [] = tt
+four_so go h (a ∷ []) = tt
+four_so go h (a ∷ b ∷ []) = tt
+four_so go h (a ∷ b ∷ c ∷ []) = tt
+four_so go h (a ∷ b ∷ c ∷ d ∷ []) = h a b c d
+four_so go h (a ∷ b ∷ c ∷ d ∷ e ∷ ws) = tt
 
-workers_so : (plain ws : List Bytes) → IsFitIn (counted (λ workers. three (λ alg archi sensors. Some (run alg archi sensors workers)) plain) ws)
-workers_so plain [] = three_so None plain
-workers_so plain (w ∷ []) = with_so plain (number_up_to 80 w)
-workers_so plain (w ∷ v ∷ ws) = tt
+with_so : (go : Option ℕ → Option Command) → ((o : Option ℕ) → IsFitIn (go o)) → (o : Option ℕ) → IsFitIn (with_count go o)
+with_so go h None = tt
+with_so go h (Some n) = h (Some n)
+
+workers_so : (go : Option ℕ → Option Command) → ((o : Option ℕ) → IsFitIn (go o)) → (ws : List Bytes) → IsFitIn (counted go ws)
+workers_so go h [] = h None
+workers_so go h (w ∷ []) = with_so go h (number_up_to 80 w)
+workers_so go h (w ∷ v ∷ ws) = tt
 
 run_so : (o : Option Arguments) → IsFitIn (run_by o)
 run_so None = tt
-run_so (Some a) = workers_so a.plain a.workers
+run_so (Some a) =
+    workers_so (λ workers. three (λ alg archi sensors. Some (run alg archi sensors workers)) a.plain)
+    (λ workers. three_so (λ alg archi sensors. Some (run alg archi sensors workers)) (λ alg archi sensors. tt) a.plain) a.workers
+
+exec_so : (o : Option Arguments) → IsFitIn (exec_by o)
+exec_so None = tt
+exec_so (Some a) =
+    workers_so (λ workers. four (λ alg archi text sensors. Some (exec alg archi text sensors workers)) a.plain)
+    (λ workers. four_so (λ alg archi text sensors. Some (exec alg archi text sensors workers)) (λ alg archi text sensors. tt) a.plain) a.workers
+
+dates_so : (a h g : Bytes) (o : Option ℕ) → IsFitIn (dated a h g o)
+dates_so a h g None = tt
+dates_so a h g (Some n) = tt
 
 by_name : (name : Bytes) (ws : List Bytes) → IsFitIn (command_by name ws)
 by_name name ws =
@@ -81,7 +101,9 @@ by_name name ws =
     (by_test (bytes_eq name (codes "chart")) _ _ (plain_so _ (two_so (λ a h. Some (chart a h)) (λ a h. tt)) (arguments_of false false ws))
     (by_test (bytes_eq name (codes "code")) _ _ (plain_so _ (two_so (λ a h. Some (code a h)) (λ a h. tt)) (arguments_of false false ws))
     (by_test (bytes_eq name (codes "run")) _ _ (run_so (arguments_of true false ws))
-    (by_test (bytes_eq name (codes "load")) _ None (plain_so _ (one_so _ number_so) (arguments_of false false ws)) tt))))))
+    (by_test (bytes_eq name (codes "load")) _ _ (plain_so _ (one_so _ number_so) (arguments_of false false ws))
+    (by_test (bytes_eq name (codes "exec")) _ _ (exec_so (arguments_of true false ws))
+    (by_test (bytes_eq name (codes "dates")) _ None (plain_so _ (four_so _ (λ a h g n. dates_so a h g (number_up_to 1000 n))) (arguments_of false false ws)) tt))))))))
 
 pub loads_are_fit : (words : List Bytes) → IsFitIn (command_of words)
 loads_are_fit [] = tt

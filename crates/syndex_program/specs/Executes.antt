@@ -1,7 +1,9 @@
 -- Programs that are executed: what is asked of their parts, and what reading them answers.
-use Rattle.std.specs.Prelude.{◌≡◌, ℕ, List, [], length, map, None, Result, Ok, Err}
+use Rattle.std.specs.Prelude.{◌≡◌, ◌⊎◌, ℕ, List, [], length, map, None, Result, Ok, Err}
 use Rattle.outside.specs.Bytes.{Bytes}
 use Rattle.outside.specs.Shelf.{Held}
+use Rattle.outside.specs.Sink.{Sunk}
+use Rattle.outside.specs.declared.file.File.TheVariants.{Architecture, Code}
 use Rattle.syn_base.specs.Rows.{Reactions}
 use Rattle.algo_defs.specs.declared.definition.Def.{Def}
 use Rattle.algo_tree.specs.Tree.{Vertex}
@@ -12,27 +14,29 @@ use Rattle.flat_laws.specs.FlatOf.{flat_of}
 use Rattle.accepted_laws.specs.Flat.{HasFlat}
 use Rattle.semaphore_core.specs.Job.{total_steps}
 use Rattle.semaphore_core.specs.IsJob.{FitTogether, limit_of}
-use Rattle.command_plan.specs.Ending.{Ending}
-use Rattle.command_plan.specs.Run.{Makes}
+use Rattle.command_plan.specs.Ending.{Ending, no_memory}
+use Rattle.command_plan.specs.Run.{Ends, Makes}
 use Rattle.command_status.specs.Status.{Refusal, ending_of}
 use Rattle.command_status.specs.declared.status.Status.{Status}
-use Rattle.top_plans.specs.Given.{Given, Execution as Executed, one_job}
-use Rattle.top_plans.specs.Plans.{Made, algorithm_in, algorithm_plan, architecture_in, architecture_plan, table_in, table_plan, program_plan, execution, execution_plan}
+use Rattle.word_rule.specs.Driven.{Driven, driven_by}
+use Rattle.top_plans.specs.Given.{Given, Execution as Executed, one_job, stages}
+use Rattle.top_plans.specs.Plans.{Made, algorithm_in, algorithm_plan, architecture_in, architecture_plan, code_in, described_in, read_file, table_in, table_plan, program_plan, execution, execution_plan}
 use Rattle.syndex_program.specs.declared.execution.Execution.{Execution}
 
 -- what is executed
 abbrev pub executed : Execution → Executed
-executed x = execution x.tree x.architecture.text.archi x.program x.rows
+executed x = execution x.tree x.text.archi x.program x.rows
 
 -- The flat graph is the algorithm's, which is valid and means the same; the parts make a job over all rows, which meets no limit and has so many micro-steps.
 pub record IsExecuted (x : Execution) : Type 0 where
-  pub flat : x.architecture.flat ≡ flat_of x.tree
+  pub flat : x.flat ≡ flat_of x.tree
   pub has : HasFlat x.tree
-  pub fits : FitTogether x.architecture.text.archi (one_job (executed x))
+  pub fits : FitTogether x.text.archi (one_job (executed x))
   pub limit : limit_of (one_job (executed x)) ≡ None
   pub steps : x.steps ≡ total_steps x.program (length x.rows.reactions)
 
--- The plan of a program that is executed, whatever is made of it: over a table's rows, over files, and over texts.
+-- The plan of a program that is executed, whatever is made of it: of one that is built, over a table's rows, over files, and over texts; and of
+-- one that stands in a file of macro-code.
 module _ (next : Executed → Given) where
   abbrev pub rest_plan : Vertex → Archi → Table → Reactions → Made
   rest_plan main a t rows = program_plan (flat_of main) a t (λ p. execution_plan (execution main a p rows) next)
@@ -43,7 +47,15 @@ module _ (next : Executed → Given) where
   abbrev pub texts_plan : Bytes → Bytes → Bytes → Made
   texts_plan a h s = algorithm_in a (λ defs main. architecture_in h main (λ d t. table_in main s (λ rows. rest_plan main d.archi t rows)))
 
+  abbrev pub foreign_plan : Bytes → Bytes → Bytes → Bytes → Made
+  foreign_plan a h c s = algorithm_plan a (λ defs main. read_file Architecture h (λ lines. described_in lines (λ d. read_file Code c (λ text.
+      code_in text (flat_of main) d.archi (λ p. table_plan main s (λ rows. execution_plan (execution main d.archi p rows) next))))))
+
   -- what is made of an execution, or the ending that a status stands for
   abbrev pub made_of : Result Execution Status → Result Given (Ending Refusal)
   made_of (Ok x) = Ok (next (executed x))
   made_of (Err status) = Err (ending_of status)
+
+-- what was made is performed; or memory ran out before anything was written and any job was run
+abbrev pub EndsOrWants : Result Given (Ending Refusal) → Sunk → Sunk → Driven → Driven → Ending Refusal → Type 0
+EndsOrWants made sunk sunk' d d' ending = Ends driven_by stages made sunk sunk' d d' ending ⊎ Ends driven_by stages (Err no_memory) sunk sunk' d d' ending

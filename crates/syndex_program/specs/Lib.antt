@@ -1,6 +1,7 @@
 pub mod Reads
 pub mod Builds
 pub mod Executes
+pub mod Foreign
 pub mod Stopped
 pub mod Left
 pub mod Sums

@@ -28,7 +28,7 @@ use Rattle.command_plan.specs.Ending.{Ending}
 use Rattle.command_status.specs.Status.{Refusal, ending_of}
 use Rattle.command_status.specs.declared.status.Status.{Status}
 use Rattle.top_plans.specs.Given.{Given, written}
-use Rattle.top_plans.specs.Plans.{Made, algorithm_plan, architecture_plan, table_plan}
+use Rattle.top_plans.specs.Plans.{Made, algorithm_plan, architecture_plan, described_in, read_file, table_plan}
 use Rattle.syndex_program.specs.declared.algorithm.Algorithm.{Algorithm}
 use Rattle.syndex_program.specs.declared.architecture.Architecture.{Architecture}
 
@@ -65,6 +65,12 @@ ReadsAlgorithm name old new (Err status) = (next : Defs → Vertex → Made) →
 -- what a text describes
 abbrev pub described : ArchiText → Described
 described text = record { version = text.version; archi = text.archi; durations = text.lines }
+
+-- the file has a text that describes this; or carrying on from it ends so, whatever follows
+abbrev pub ReadsText : Bytes → Held → Held → Result ArchiText Status → Type 0
+ReadsText name old new (Ok text) = (bytes : Bytes) × WasRead file.Architecture name old new bytes × (description_of bytes ≡ Ok (described text))
+ReadsText name old new (Err status) =
+    (next : Described → Made) → Makes old new (read_file file.Architecture name (λ bytes. described_in bytes next)) (Err (ending_of status))
 
 -- what a text describes, the flat graph of this algorithm, and how long its operations last by the text
 pub record IsArchitecture (main : Vertex) (text : Bytes) (architecture : Architecture) : Type 0 where

@@ -3,7 +3,7 @@ ghost use Rattle.std.specs.Prelude.{◌≤◌, length};
 ghost use Rattle.outside.specs.Shelf.{Stays, file_bound};
 ghost use Rattle.path_text.specs.Bounded.{HasBounds};
 ghost use Rattle.path_text.specs.Named.{HasNames};
-ghost use Rattle.syndex_program.specs.Reads.{MakesArchitecture, ReadsArchitecture};
+ghost use Rattle.syndex_program.specs.Reads.{MakesArchitecture, ReadsArchitecture, ReadsText};
 
 use crate::files::read_file;
 use algo_tree::Tree;
@@ -23,6 +23,15 @@ pub struct Architecture {
     pub text: ArchiText,
     pub flat: Flat,
     pub durations: Durations,
+}
+
+/// What the text of a file describes, whatever its durations are; or why there is nothing.
+pub fn read_text<S: Shelf>(alloc: Global, shelf: &mut S, name: &str) -> Result<ArchiText, Status>
+    ensures stays { Stays (S.held shelf.old) (S.held shelf.new) }
+    ensures reads { ReadsText name.now (S.held shelf.old) (S.held shelf.new) result }
+{
+    let text = read_file(alloc, shelf, File::Architecture, name)?;
+    Ok(read_archi(alloc, &text)?)
 }
 
 /// The architecture of a file for this algorithm, or why there is none.

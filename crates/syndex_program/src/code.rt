@@ -10,8 +10,10 @@ ghost use Rattle.top_plans.specs.Plans.{code_plan, macro_plan};
 use crate::algorithm::read_algorithm;
 use crate::architecture::{Architecture, read_architecture};
 use crate::program::built;
+use archi_graph::Archi;
 use command_status::Status;
 use executive_program::Program;
+use flat_graph::Flat;
 use macro_code::print_code;
 use outside::Shelf;
 use std::alloc::Global;
@@ -38,24 +40,24 @@ fn code_of(alloc: Global, architecture: &Architecture) -> Result<Vec<u8>, Status
     ensures { (held : Held) → Makes held held (macro_plan architecture.now.flat architecture.now.text.archi architecture.now.durations) (text_in result) }
 {
     let program = built(alloc, architecture)?;
-    Ok(coded(alloc, architecture, &program)?)
+    Ok(coded(
+        alloc,
+        &program,
+        &architecture.flat,
+        &architecture.text.archi,
+    )?)
 }
 
 /// The macro-code of a program.
 pub fn coded(
     alloc: Global,
-    architecture: &Architecture,
     program: &Program,
+    flat: &Flat,
+    archi: &Archi,
 ) -> Result<Vec<u8>, OutOfMemory>
-    ensures { IfOk result (λ text. text.items ≡ macro_code program.now architecture.now.flat architecture.now.text.archi) }
+    ensures { IfOk result (λ text. text.items ≡ macro_code program.now flat.now archi.now) }
 {
     let mut text = Vec::new(alloc);
-    print_code(
-        alloc,
-        program,
-        &architecture.flat,
-        &architecture.text.archi,
-        &mut text,
-    )?;
+    print_code(alloc, program, flat, archi, &mut text)?;
     Ok(text)
 }

@@ -1,40 +1,37 @@
 //! The command `exec A H C S`: macro-code of any hand, checked and executed.
+ghost use Rattle.std.specs.Prelude.{◌≡◌, ◌≤◌, IfOk, Ok, length};
+ghost use Rattle.command_plan.specs.Run.{Makes};
+ghost use Rattle.command_status.specs.Status.{ending_of};
+ghost use Rattle.outside.specs.Shelf.{Stays};
+ghost use Rattle.text_lines.specs.Text.{lines_of};
+ghost use Rattle.top_plans.specs.Given.{Given, Execution as Executed, executed as alone};
+ghost use Rattle.syndex_program.specs.Executes.{EndsOrWants, IsExecuted, executed, foreign_plan, made_of};
+ghost use Rattle.syndex_program.specs.Foreign.{MakesProgram, ReadsProgram};
 
 use crate::algorithm::read_algorithm;
+use crate::architecture::read_text;
+use crate::execution::{Execution, limited};
 use crate::files::read_file;
-use crate::lines::{Lines, Stopped, write_windows};
+use crate::lines::{status_of, write_windows};
 use crate::table::read_table;
-use algo_tree::Tree;
-use archi_defs::ArchiText;
-use archi_reader::read_archi;
+use crate::windows::lines_of;
+use accepted_laws::accepted_have_flat;
+use archi_graph::Archi;
 use checked_code::{CheckedError, read_checked};
 use command_status::Status;
 use executive_program::Program;
 use flat_graph::Flat;
 use hierarchy::flatten;
-use job_windows::{Drive, JobWindows};
+use job_windows::Drive;
 use outside::{File, Gate, Shelf, Sink};
-use semaphore_core::run_limit;
 use std::alloc::Global;
 use std::sync::Wait;
 use std::thread::Threads;
-use syn_base::{OutOfMemory, SensorRows};
 use word_table::Driven;
 
-/// A program of a text, well formed for the flat graph of an algorithm and an architecture, and the rows over
-/// which it is executed.
-#[derive(Drop)]
-pub struct Foreign {
-    pub tree: Tree,
-    pub flat: Flat,
-    pub text: ArchiText,
-    pub program: Program,
-    pub rows: SensorRows,
-}
-
 /// What the files of an execution say is to be executed, or the first refusal. The durations of the
-/// architecture are passed over; the macro-code and its check come before the rows, and these before the limits of
-/// the run.
+/// architecture are passed over; the macro-code and its check come before the rows, and these before the limits
+/// of the run.
 pub fn read_foreign<S: Shelf>(
     alloc: Global,
     shelf: &mut S,
@@ -42,83 +39,63 @@ pub fn read_foreign<S: Shelf>(
     architecture: &str,
     code: &str,
     sensors: &str,
-) -> Result<Foreign, Status> {
+) -> Result<Execution, Status>
+    ensures stays { Stays (S.held shelf.old) (S.held shelf.new) }
+    ensures makes { (next : Executed → Given) → Makes (S.held shelf.old) (S.held shelf.new) (foreign_plan next algorithm.now architecture.now code.now sensors.now) (made_of next result) }
+    ensures executed { IfOk result IsExecuted }
+{
+    accepted_have_flat();
     let algorithm = read_algorithm(alloc, shelf, algorithm)?;
-    let text = described(alloc, shelf, architecture)?;
+    let text = read_text(alloc, shelf, architecture)?;
     let flat = flatten(alloc, &algorithm.tree)?;
-    let program = read_program(alloc, shelf, code, &flat, &text)?;
+    let program = read_program(alloc, shelf, code, &flat, &text.archi)?;
     let rows = read_table(alloc, shelf, sensors, &algorithm.tree)?;
-    match run_limit(&program, &flat, &text.archi, &rows) {
-        Ok(_) => Ok(Foreign {
-            tree: algorithm.tree,
-            flat,
-            text,
-            program,
-            rows,
-        }),
-        Err(limit) => Err(Status::Limit(limit)),
-    }
+    limited(algorithm.tree, flat, text, program, rows)
 }
 
-/// What the text of an architecture describes, or its first refusal.
-fn described<S: Shelf>(alloc: Global, shelf: &mut S, name: &str) -> Result<ArchiText, Status> {
-    let text = read_file(alloc, shelf, File::Architecture, name)?;
-    Ok(read_archi(alloc, &text)?)
-}
-
-/// The program of a text of macro-code, if it is well formed, or the first refusal.
+/// The program of a file of macro-code that is well formed, or why there is none.
 fn read_program<S: Shelf>(
     alloc: Global,
     shelf: &mut S,
     name: &str,
     flat: &Flat,
-    text: &ArchiText,
-) -> Result<Program, Status> {
-    let code = read_file(alloc, shelf, File::Code, name)?;
-    match read_checked(alloc, &code, flat, &text.archi) {
+    archi: &Archi,
+) -> Result<Program, Status>
+    ensures stays { Stays (S.held shelf.old) (S.held shelf.new) }
+    ensures reads { ReadsProgram flat.now archi.now name.now (S.held shelf.old) (S.held shelf.new) result }
+{
+    let text = read_file(alloc, shelf, File::Code, name)?;
+    program_of(alloc, &text, flat, archi)
+}
+
+/// The program of a text of macro-code that is well formed, or the first refusal.
+fn program_of(alloc: Global, text: &[u8], flat: &Flat, archi: &Archi) -> Result<Program, Status>
+    requires { length (lines_of text.now) ≤ 4000000000 }
+    ensures { MakesProgram flat.now archi.now text.now result }
+{
+    // By this call the proof knows that the architecture is valid.
+    let _operators = archi.operators();
+    match read_checked(alloc, text, flat, archi) {
         Ok(program) => Ok(program),
         Err(CheckedError::Text(error)) => Err(Status::from(error)),
         Err(CheckedError::Lacks(cause)) => Err(Status::CheckRefused(cause)),
     }
 }
 
-/// All windows of an execution, to be run by so many workers, or by one for each sequence; 1 to 80.
-fn windows_of<'a>(
-    alloc: Global,
-    foreign: &'a Foreign,
-    workers: Option<u32>,
-) -> Result<JobWindows<'a>, OutOfMemory> {
-    let sequences = foreign.program.seqs.as_slice().len();
-    let workers = workers.unwrap_or(sequences.min(80) as u32);
-    JobWindows::new(
-        alloc,
-        &foreign.program,
-        &foreign.flat,
-        &foreign.text.archi,
-        &foreign.rows,
-        workers.clamp(1, 80),
-    )
-}
-
 /// Runs the windows of an execution, and writes the lines of each.
 pub fn write_exec<R: Threads + Wait + Sync, K: Sink, G: Gate>(
     alloc: Global,
-    foreign: &Foreign,
+    execution: &Execution,
     out: &mut K,
     drive: &Drive<R, G>,
     workers: Option<u32>,
     driven: &mut Driven,
-) -> Status {
-    let Ok(windows) = windows_of(alloc, foreign, workers) else {
-        return Status::OutOfMemory;
-    };
-    let mut lines = Lines {
-        tree: &foreign.tree,
-        windows,
-    };
-    match write_windows(alloc, &mut lines, out, drive, driven) {
-        Ok(()) => Status::Done,
-        Err(Stopped::Unwritten) => Status::WriteFault,
-        Err(Stopped::OutOfMemory) => Status::OutOfMemory,
+) -> Status
+    requires { IsExecuted execution.now }
+    ensures { EndsOrWants (Ok (alone (executed execution.now))) (K.sunk out.old) (K.sunk out.new) driven.old driven.new (ending_of result) }
+{
+    match lines_of(alloc, execution, workers) {
+        Ok(mut lines) => status_of(write_windows(alloc, &mut lines, out, drive, driven)),
+        Err(_) => Status::OutOfMemory,
     }
 }

@@ -2,12 +2,15 @@
 ghost use Rattle.std.specs.Prelude.{◌≡◌, ◌≤◌, IfOk, Ok, length};
 ghost use Rattle.accepted_laws.specs.Flat.{HasFlat};
 ghost use Rattle.algo_tree.specs.Ends.{sensor_lengths};
+ghost use Rattle.archi_graph.specs.Sequences.{sequences};
 ghost use Rattle.command_plan.specs.Run.{Makes};
 ghost use Rattle.durations.specs.Table.{durations_of};
+ghost use Rattle.executive_program.specs.WellFormed.{IsWellFormed};
 ghost use Rattle.flat_laws.specs.FlatOf.{flat_of};
 ghost use Rattle.outside.specs.Shelf.{Held, Stays};
 ghost use Rattle.top_plans.specs.Given.{Given, Execution as Executed};
 ghost use Rattle.top_plans.specs.Loads.{load_algorithm, load_architecture, load_table};
+ghost use Rattle.top_plans.specs.Plans.{execution, execution_plan};
 ghost use Rattle.syndex_program.specs.Executes.{IsExecuted, files_plan, made_of, rest_plan, texts_plan};
 ghost use Rattle.syndex_program.specs.Reads.{described};
 
@@ -17,20 +20,23 @@ use crate::program::built;
 use crate::table::{read_table, table_of};
 use accepted_laws::accepted_have_flat;
 use algo_tree::Tree;
+use archi_defs::ArchiText;
 use command_status::Status;
 use executive_program::Program;
+use flat_graph::Flat;
 use load_texts::load_texts;
 use outside::Shelf;
 use semaphore_core::run_limit;
 use std::alloc::Global;
 use syn_base::SensorRows;
 
-/// A program with the algorithm and the architecture that it was built of, and the rows over which it is
-/// executed.
+/// A program that is well formed for the flat graph of an algorithm and the architecture of a text, and the rows
+/// over which it is executed.
 #[derive(Drop)]
 pub struct Execution {
     pub tree: Tree,
-    pub architecture: Architecture,
+    pub flat: Flat,
+    pub text: ArchiText,
     pub program: Program,
     pub rows: SensorRows,
     /// The micro-steps of its one job over all rows.
@@ -87,15 +93,31 @@ fn within_limits(
     ensures executed { IfOk result IsExecuted }
 {
     let program = built(alloc, &architecture)?;
-    match run_limit(
-        &program,
-        &architecture.flat,
-        &architecture.text.archi,
-        &rows,
-    ) {
+    let Architecture { text, flat, .. } = architecture;
+    limited(tree, flat, text, program, rows)
+}
+
+/// The execution of these parts, or the first limit that refuses it.
+pub fn limited(
+    tree: Tree,
+    flat: Flat,
+    text: ArchiText,
+    program: Program,
+    rows: SensorRows,
+) -> Result<Execution, Status>
+    requires same { flat ≡ flat_of tree }
+    requires has { HasFlat tree }
+    requires formed { IsWellFormed program flat (sequences text.archi) (length text.archi.media) }
+    requires lens { rows.lens ≡ sensor_lengths tree }
+    requires few { length rows.reactions ≤ 10000 }
+    ensures makes { (next : Executed → Given) (held : Held) → Makes held held (execution_plan (execution tree text.archi program rows) next) (made_of next result) }
+    ensures executed { IfOk result IsExecuted }
+{
+    match run_limit(&program, &flat, &text.archi, &rows) {
         Ok(steps) => Ok(Execution {
             tree,
-            architecture,
+            flat,
+            text,
             program,
             rows,
             steps,

@@ -7,11 +7,11 @@ ghost use Rattle.command_words.specs.Command.{command_of};
 ghost use Rattle.command_words.specs.View.{view_of};
 ghost use Rattle.outside.specs.Shelf.{Stays};
 ghost use Rattle.word_rule.specs.Driven.{driven_by};
-ghost use Rattle.top_plans.specs.Given.{printed, stages, summed};
+ghost use Rattle.top_plans.specs.Given.{executed as alone, printed, stages, summed};
 ghost use Rattle.top_plans.specs.Names.{RunsJobs};
 ghost use Rattle.top_plans.specs.Plans.{head, plan_for, summary};
 ghost use Rattle.top_plans.specs.Replies.{Replies};
-ghost use Rattle.syndex_program.specs.Executes.{IsExecuted, made_of};
+ghost use Rattle.syndex_program.specs.Executes.{EndsOrWants, IsExecuted, made_of};
 ghost use Rattle.syndex_program.specs.Jobs.{IsFit, RunsIn};
 ghost use Rattle.syndex_program.specs.Unread.{LeavesUnread};
 
@@ -86,16 +86,16 @@ fn status_for<R: Threads + Wait + Sync, S: Shelf, K: Sink, G: Gate>(
             code,
             sensors,
             workers,
-        } => match read_foreign(alloc, shelf, algorithm, architecture, code, sensors) {
-            Ok(foreign) => write_exec(alloc, &foreign, out, drive, *workers, driven),
-            Err(refused) => refused,
-        },
-        Command::Dates { .. } => unreachable!(),
+        } => {
+            let made = read_foreign(alloc, shelf, algorithm, architecture, code, sensors);
+            exec_made(alloc, made, out, drive, *workers, driven)
+        }
         Command::Check { .. } => unreachable!(),
         Command::Sim { .. } => unreachable!(),
         Command::Flat { .. } => unreachable!(),
         Command::Chart { .. } => unreachable!(),
         Command::Code { .. } => unreachable!(),
+        Command::Dates { .. } => unreachable!(),
     }
 }
 
@@ -130,6 +130,24 @@ fn load_made<R: Threads + Wait + Sync, K: Sink, G: Gate>(
 {
     match made {
         Ok(execution) => write_load(alloc, &execution, out, drive, driven),
+        Err(refused) => refused,
+    }
+}
+
+/// Runs what is to be executed, and writes its lines; or answers why there is nothing.
+fn exec_made<R: Threads + Wait + Sync, K: Sink, G: Gate>(
+    alloc: Global,
+    made: Result<Execution, Status>,
+    out: &mut K,
+    drive: &Drive<R, G>,
+    workers: Option<u32>,
+    driven: &mut Driven,
+) -> Status
+    requires { IfOk made IsExecuted }
+    ensures { EndsOrWants (made_of alone made) (K.sunk out.old) (K.sunk out.new) driven.old driven.new (ending_of result) }
+{
+    match made {
+        Ok(execution) => write_exec(alloc, &execution, out, drive, workers, driven),
         Err(refused) => refused,
     }
 }

@@ -2,7 +2,7 @@
 ghost use Rattle.std.specs.Prelude.{◌≡◌};
 ghost use Rattle.algo_tree.specs.Ends.{actuator_lengths};
 ghost use Rattle.command_plan.specs.Run.{Performs};
-ghost use Rattle.command_status.specs.Status.{Refusal};
+ghost use Rattle.command_status.specs.Status.{Refusal, ending_of as status_ending};
 ghost use Rattle.phase_laws.specs.Ended.{all_acts};
 ghost use Rattle.semaphore_core.specs.Job.{actuator_lens};
 ghost use Rattle.word_rule.specs.Driven.{driven_by};
@@ -12,6 +12,7 @@ ghost use Rattle.syndex_program.specs.Stopped.{GoesOn, ending_of};
 
 use act_text::acts_text_from;
 use algo_tree::Tree;
+use command_status::Status;
 use job_windows::{Drive, JobWindows};
 use outside::{Gate, Sink, write_whole};
 use std::alloc::Global;
@@ -83,5 +84,16 @@ pub fn write_windows<R: Threads + Wait + Sync, K: Sink, G: Gate>(
         if write_whole(out, &text).is_err() {
             return Err(Stopped::Unwritten);
         }
+    }
+}
+
+/// How a command ends whose windows went so.
+pub fn status_of(answer: Result<(), Stopped>) -> Status
+    ensures { status_ending result ≡ ending_of answer }
+{
+    match answer {
+        Ok(()) => Status::Done,
+        Err(Stopped::Unwritten) => Status::WriteFault,
+        Err(Stopped::OutOfMemory) => Status::OutOfMemory,
     }
 }

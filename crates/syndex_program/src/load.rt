@@ -131,7 +131,7 @@ fn summary_with(alloc: Global, execution: &Execution, sum: i64) -> Result<Vec<u8
 {
     let mut text = Vec::new(alloc);
     append(&mut text, b"operations ")?;
-    append_count(&mut text, execution.architecture.flat.vertices().len())?;
+    append_count(&mut text, execution.flat.vertices().len())?;
     append(&mut text, b"\nsequences ")?;
     append_count(&mut text, execution.program.seqs.as_slice().len())?;
     append(&mut text, b"\nsteps ")?;

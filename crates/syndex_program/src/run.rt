@@ -10,8 +10,8 @@ ghost use Rattle.syndex_program.specs.Executes.{IsExecuted, executed};
 
 use crate::code::coded;
 use crate::execution::Execution;
-use crate::lines::{Lines, Stopped, write_windows};
-use crate::windows::windows_of;
+use crate::lines::{Stopped, status_of, write_windows};
+use crate::windows::lines_of;
 use command_status::Status;
 use job_windows::Drive;
 use outside::{Gate, Sink, write_whole};
@@ -34,11 +34,7 @@ pub fn write_run<R: Threads + Wait + Sync, K: Sink, G: Gate>(
     requires { IsExecuted execution.now }
     ensures { let e = executed execution.now in Performs driven_by (stages (printed (head e) e)) (K.sunk out.old) (K.sunk out.new) driven.old driven.new (ending_of result) }
 {
-    match write_parts(alloc, execution, out, drive, workers, driven) {
-        Ok(()) => Status::Done,
-        Err(Stopped::Unwritten) => Status::WriteFault,
-        Err(Stopped::OutOfMemory) => Status::OutOfMemory,
-    }
+    status_of(write_parts(alloc, execution, out, drive, workers, driven))
 }
 
 /// Writes the text before the output, and then window after window.
@@ -56,16 +52,12 @@ fn write_parts<R: Threads + Wait + Sync, K: Sink, G: Gate>(
     let Ok(head) = head(alloc, execution) else {
         return Err(Stopped::OutOfMemory);
     };
-    let Ok(windows) = windows_of(alloc, execution, workers) else {
+    let Ok(mut lines) = lines_of(alloc, execution, workers) else {
         return Err(Stopped::OutOfMemory);
     };
     if write_whole(out, &head).is_err() {
         return Err(Stopped::Unwritten);
     }
-    let mut lines = Lines {
-        tree: &execution.tree,
-        windows,
-    };
     write_windows(alloc, &mut lines, out, drive, driven)
 }
 
@@ -74,7 +66,12 @@ fn head(alloc: Global, execution: &Execution) -> Result<Vec<u8>, OutOfMemory>
     requires { IsExecuted execution.now }
     ensures { IfOk result (λ text. text.items ≡ head (executed execution.now)) }
 {
-    let mut text = coded(alloc, &execution.architecture, &execution.program)?;
+    let mut text = coded(
+        alloc,
+        &execution.program,
+        &execution.flat,
+        &execution.text.archi,
+    )?;
     text.push(b'\n')?;
     Ok(text)
 }

@@ -1,6 +1,8 @@
 use Rattle.syndex_program.specs.Executes.{made_of}
-use Rattle.top_plans.specs.Given.{printed, summed}
-use Rattle.top_plans.specs.Plans.{head, summary}
+use Rattle.command_status.specs.Status.{ending_of}
+use Rattle.top_plans.specs.Given.{executed, printed, summed}
+use Rattle.top_plans.specs.Plans.{exec_plan, head, summary}
+use Rattle.syndex_program.proofs.Coded.{ran_so}
 use Rattle.syndex_program.proofs.jobs.status_for.Goals as goal
 
 pub returns-in-Run-clause-ran : goal.returns-in-Run-clause-ran
@@ -8,6 +10,15 @@ returns-in-Run-clause-ran g c = rw c.in-Run.is (made_of (λ e. printed (head e) 
 
 pub returns-in-Load-clause-ran : goal.returns-in-Load-clause-ran
 returns-in-Load-clause-ran g c = rw c.in-Load.is (made_of (λ e. summed e (summary e)) c.load_execution-made.result, c.load_execution-made.ensures.makes (λ e. summed e (summary e)) (g.S.Shelf.held c.args.shelf.now), c.load_made.ensures)
+
+pub returns-in-Exec-clause-ran : goal.returns-in-Exec-clause-ran
+returns-in-Exec-clause-ran g c =
+    let H = g.S.Shelf.held in
+    let K = g.K.Sink.sunk in
+    let x = c.in-Exec in
+    rw c.in-Exec.is
+    (ran_so (exec_plan x.algorithm.now x.architecture.now x.code.now x.sensors.now) (made_of executed c.read_foreign-made.result) (H c.args.shelf.now) (H c.read_foreign-made.new.shelf) (K c.args.out.now) (K c.exec_made.new.out)
+    c.args.driven.now c.exec_made.new.driven (ending_of c.exec_made.result) (c.read_foreign-made.ensures.makes executed) c.exec_made.ensures)
 
 pub unreachable-requires : goal.unreachable-requires
 unreachable-requires g c = rw c.in-Check.is at c.requires.jobs
@@ -23,3 +34,6 @@ unreachable-requires-in-Chart g c = rw c.in-Chart.is at c.requires.jobs
 
 pub unreachable-requires-in-Code : goal.unreachable-requires-in-Code
 unreachable-requires-in-Code g c = rw c.in-Code.is at c.requires.jobs
+
+pub unreachable-requires-in-Dates : goal.unreachable-requires-in-Dates
+unreachable-requires-in-Dates g c = rw c.in-Dates.is at c.requires.jobs

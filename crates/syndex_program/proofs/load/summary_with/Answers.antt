@@ -36,7 +36,7 @@ as_many p g a media h = sym (length-map p.seqs (λ (q : SeqCode). q.seq)) ∙ ap
 pub returns : goal.returns
 returns c =
     let x = c.args.execution.now in
-    let a = x.architecture.text.archi in
+    let a = x.text.archi in
     let operations : length c.vertices.result.now ≡ length (flat_of x.tree).vertices = ap length (c.vertices.ensures.same ∙ ap (λ (g : Graph). g.vertices) c.requires.flat) in
     let many : length c.as_slice.result.now ≡ length (sequences a) = ap length c.as_slice.ensures ∙ as_many x.program (flat_of x.tree) a (length a.media) c.requires.fits.formed in
     let same : to_z w64 (of_z w64 c.args.sum) ≡ c.args.sum = search (rules, to_z-of_z) in

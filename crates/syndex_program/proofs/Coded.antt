@@ -1,0 +1,110 @@
+-- Carrying out the plan of macro-code of any hand, part by part.
+use Rattle.std.proofs.Common.{◌≡◌, ◌∙◌, List, [], ◌∷◌, map, length, Option, Some, None, Result, Ok, Err, refl, sym, ap, subst, inl, inr}
+use Rattle.std.specs.Prelude.{IsTrue}
+use Rattle.outside.specs.Bytes.{Bytes}
+use Rattle.outside.specs.Shelf.{Held}
+use Rattle.outside.specs.Sink.{Sunk}
+use Rattle.outside.specs.declared.file.File.TheVariants.{Architecture, Code}
+use Rattle.archi_defs.specs.Text.{Described, description_of}
+use Rattle.archi_defs.specs.declared.text.ArchiText.{ArchiText}
+use Rattle.archi_defs.specs.declared.fault.ArchiError.{ArchiError}
+use Rattle.archi_defs.specs.declared.fault.ArchiError.TheVariants as architecture
+use Rattle.archi_reader.specs.Given as reader
+use Rattle.archi_graph.specs.Archi.{Architecture as Archi, is_archi}
+use Rattle.archi_graph.specs.Sequences.{sequences}
+use Rattle.flat_graph.specs.Graph.{Graph}
+use Rattle.executive_program.specs.declared.program.Program.{Program}
+use Rattle.executive_program.specs.WellFormed.{IsWellFormed}
+use Rattle.code_text.specs.Text.{program_in}
+use Rattle.code_text.specs.declared.fault.CodeError.{CodeError}
+use Rattle.code_text.specs.declared.fault.CodeError.TheVariants as code
+use Rattle.code_reader.specs.Given.{Fails}
+use Rattle.check_cause.specs.declared.cause.CheckCause.{CheckCause}
+use Rattle.check_cause.specs.declared.cause.CheckCause.TheVariants.{Sequences, Calls, Transfers, Buffers, Pairs, Prologue, Stuck}
+use Rattle.check_cause.specs.declared.cause.Stop.{Stop}
+use Rattle.checked_code.specs.Checked.{IsLacking}
+use Rattle.macro_check.specs.Awaiting.{place_of}
+use Rattle.macro_check.specs.Causes.{cause_of}
+use Rattle.word_rule.specs.Driven.{Driven, driven_by}
+use Rattle.command_plan.specs.Ending.{Ending, no_memory, refused}
+use Rattle.command_plan.specs.Plan.{after}
+use Rattle.command_plan.specs.Run.{Makes, Ran, WasRead, refuses, was_read}
+use Rattle.command_plan.proofs.Makes.{after_err, after_ok, memory}
+use Rattle.command_status.specs.Status.{Refusal, ending_of, failed_check, of_architecture, of_code, status_of_architecture, status_of_code}
+use Rattle.command_status.specs.declared.status.Status.{Status}
+use Rattle.top_plans.specs.Checks.{lacking, stop_of, told}
+use Rattle.top_plans.proofs.Checks.{lacks, lacks_nothing}
+use Rattle.top_plans.specs.Given.{Given, stages}
+use Rattle.top_plans.specs.Plans.{Made, code_in, described_in, read_file, unless_lacking}
+use Rattle.syndex_program.specs.Executes.{EndsOrWants}
+use Rattle.syndex_program.specs.Foreign.{IsProgram, MakesProgram, ReadsProgram}
+use Rattle.syndex_program.specs.Reads.{ReadsText, described}
+
+-- a text of an architecture is refused
+pub text_refused : (held : Held) (bytes : Bytes) (next : Described → Made) (e : ArchiError) → reader.Fails e (description_of bytes)
+    → Makes held held (described_in bytes next) (Err (ending_of (status_of_architecture e)))
+text_refused held bytes next (architecture.Refused fault) is = after_err held of_architecture (description_of bytes) next (architecture.Refused fault) is
+text_refused held bytes next (architecture.Limit fault) is = after_err held of_architecture (description_of bytes) next (architecture.Limit fault) is
+text_refused held bytes next architecture.OutOfMemory is = memory held held (described_in bytes next)
+
+-- a text of an architecture was read, and then the plan went on with what it describes
+pub text_went_on : (name : Bytes) (a b c : Held) (text : ArchiText) (next : Described → Made) (made : Result Given (Ending Refusal))
+    → ReadsText name a b (Ok text) → Makes b c (next (described text)) made → Makes a c (read_file Architecture name (λ bytes. described_in bytes next)) made
+text_went_on name a b c text next made (bytes, read, is) m = was_read b bytes read (after_ok b c of_architecture (description_of bytes) next made (described text) is m)
+
+-- a cause is told as it is
+same_stops : (ys : List Stop) → map stop_of (map place_of ys) ≡ ys
+same_stops [] = refl
+same_stops (y ∷ ys) = ap (λ (zs : List Stop). y ∷ zs) (same_stops ys)
+
+same_cause : (c : CheckCause) → told (cause_of c) ≡ c
+same_cause Sequences = refl
+same_cause Calls = refl
+same_cause Transfers = refl
+same_cause Buffers = refl
+same_cause Pairs = refl
+same_cause Prologue = refl
+same_cause (Stuck ys) = ap (λ (zs : List Stop). Stuck zs) (same_stops ys)
+
+module _ (g : Graph) (a : Archi) where
+  -- a program that is well formed lacks nothing
+  pub is_program : (text : Bytes) (p : Program) → IsTrue (is_archi a.operators a.media) → program_in text g a ≡ Ok p → IsWellFormed p g (sequences a) (length a.media) → IsProgram g a text p
+  is_program text p valid says formed = record { says = says; whole = lacks_nothing g a p valid formed; formed = formed }
+
+  module _ (text : Bytes) (next : Program → Made) where
+    abbrev checked : Program → Made
+    checked p = unless_lacking (lacking g a p) (next p)
+
+    -- a text is refused
+    pub code_refused : (held : Held) (e : CodeError) → Fails e (program_in text g a) → Makes held held (code_in text g a next) (Err (ending_of (status_of_code e)))
+    code_refused held (code.Refused fault) is = after_err held of_code (program_in text g a) checked (code.Refused fault) is
+    code_refused held (code.Limit fault) is = after_err held of_code (program_in text g a) checked (code.Limit fault) is
+    code_refused held code.OutOfMemory is = memory held held (code_in text g a next)
+
+    -- its program fails the check
+    pub check_refused : (held : Held) (c : CheckCause) → IsLacking text g a c → Makes held held (code_in text g a next) (Err (refused (failed_check c)))
+    check_refused held c (p, says, wants) =
+        let is : lacking g a p ≡ Some c = lacks g a p (cause_of c) wants ∙ ap Some (same_cause c) in
+        after_ok held held of_code (program_in text g a) checked (Err (refused (failed_check c))) p says
+        (subst (λ (o : Option CheckCause). Makes held held (unless_lacking o (next p)) (Err (refused (failed_check c)))) (sym is) (refuses (inl (refl, λ file name. refl))))
+
+    -- its program lacks nothing, and then the plan went on with it
+    program_so : (old new : Held) (p : Program) (made : Result Given (Ending Refusal)) → IsProgram g a text p → Makes old new (next p) made → Makes old new (code_in text g a next) made
+    program_so old new p made is m =
+        after_ok old new of_code (program_in text g a) checked made p is.says
+        (subst (λ (o : Option CheckCause). Makes old new (unless_lacking o (next p)) made) (sym is.whole) m)
+
+  -- a file was read, and its text gives a program or is refused
+  pub program_read : (name : Bytes) (old new : Held) (text : Bytes) (r : Result Program Status) → WasRead Code name old new text → MakesProgram g a text r → ReadsProgram g a name old new r
+  program_read name old new text (Ok p) read is = (text, read, is)
+  program_read name old new text (Err status) read h = λ next. was_read new text read (h new next)
+
+  pub program_went_on : (name : Bytes) (old mid new : Held) (p : Program) (next : Program → Made) (made : Result Given (Ending Refusal))
+      → ReadsProgram g a name old mid (Ok p) → Makes mid new (next p) made → Makes old new (read_file Code name (λ text. code_in text g a next)) made
+  program_went_on name old mid new p next made (text, read, is) m = was_read mid text read (program_so text next mid new p made is m)
+
+-- memory may run out before anything is performed
+pub ran_so : (plan : Made) (made : Result Given (Ending Refusal)) (held held' : Held) (sunk sunk' : Sunk) (d d' : Driven) (ending : Ending Refusal)
+    → Makes held held' plan made → EndsOrWants made sunk sunk' d d' ending → Ran driven_by stages plan held held' sunk sunk' d d' ending
+ran_so plan made held held' sunk sunk' d d' ending m (inl h) = (made, m, h)
+ran_so plan made held held' sunk sunk' d d' ending m (inr h) = (Err no_memory, memory held held' plan, h)
