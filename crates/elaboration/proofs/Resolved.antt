@@ -1,6 +1,8 @@
 -- What definitions resolve to, and what becomes of it.
-use Rattle.std.proofs.Common.{◌≡◌, List, [], Option, Some, None, Result, Ok, Err, refl, sym, ap, subst, ◌∙◌}
+use Rattle.std.proofs.Common.{◌≡◌, suc, ◌≤◌, ◌==◌, true, List, [], ◌∷◌, length, Option, Some, None, Result, Ok, Err, refl, sym, ap, subst, ◌∙◌, arith}
+use Rattle.std.proofs.lemmas.Bool.{eqb-true}
 use Rattle.algo_tree.specs.Tree.{Vertex}
+use Rattle.algo_tree.specs.Counted.{operations}
 use Rattle.algo_tree.specs.Valid.{IsTree}
 use Rattle.algo_defs.specs.declared.definition.Def.{Def}
 use Rattle.algo_defs.specs.declared.fault.AlgoError.{AlgoError}
@@ -13,6 +15,8 @@ use Rattle.tree_laws.proofs.Names.{have_names}
 use Rattle.tree_laws.proofs.Trees.{make_a_tree}
 use Rattle.multi_period.specs.declared.mark.Mark.{Mark}
 use Rattle.multi_period.specs.Within.{made_within}
+use Rattle.multi_period.proofs.Main.{unmarked-stays}
+use Rattle.multi_period.proofs.Passed.{gives_made}
 use Rattle.period_marks.specs.Marking.{marking_of}
 use Rattle.elaboration.specs.Elaborated.{made_by, marked_by, resolved_by}
 
@@ -50,3 +54,13 @@ sound ds main read e =
 -- what is made of a tree and marks that were told
 pub elaborated_is : (ds : List Def) (main : Vertex) (marks : List Mark) → resolution_of ds ≡ Ok main → marking_of ds ≡ Ok marks → resolved_by ds (resolution_of ds) ≡ made_by (made_within marks main)
 elaborated_is ds main marks r m = ap (resolved_by ds) r ∙ ap (marked_by main) m
+
+nothing : (marks : List Mark) → (length marks == 0) ≡ true → marks ≡ []
+nothing [] e = refl
+nothing (m ∷ ms) e = let h = eqb-true (suc (length ms)) 0 e in absurd (omega (arith, h))
+
+-- without marks it is the tree itself
+pub unmarked_is : (ds : List Def) (main : Vertex) (marks : List Mark) → AreWellRead ds → resolution_of ds ≡ Ok main → marking_of ds ≡ Ok marks → (length marks == 0) ≡ true → resolved_by ds (resolution_of ds) ≡ Ok main
+unmarked_is ds main marks read r m e =
+    let few = subst (λ (u : Vertex). operations u ≤ 2048) (sym (unmarked-stays main)) (sound ds main read r).tree.few in
+    elaborated_is ds main marks r m ∙ ap (λ ms. made_by (made_within ms main)) (nothing marks e) ∙ ap made_by (gives_made [] main few) ∙ ap gives (unmarked-stays main)

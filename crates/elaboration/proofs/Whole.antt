@@ -1,5 +1,5 @@
 -- The tree of an accepted text.
-use Rattle.std.proofs.Common.{◌≡◌, ℕ, ◌≤◌, Bool, true, false, List, [], ◌∷◌, Option, Some, None, Result, Ok, Err, refl, sym, ap, subst, ◌∙◌, nat_lt, if◌then◌else◌}
+use Rattle.std.proofs.Common.{◌≡◌, ℕ, ◌≤◌, Bool, true, false, List, get_or, Option, Some, None, Result, Ok, Err, refl, subst, nat_lt, if◌then◌else◌}
 use Rattle.std.specs.List.{All}
 use Rattle.std.proofs.lemmas.Bool.{ltb-false}
 use Rattle.syn_base.specs.declared.limits.LimitKind.TheVariants.{Operations}
@@ -18,7 +18,6 @@ use Rattle.reading_laws.proofs.Marks.{accepted_marked}
 use Rattle.multi_period.specs.declared.fault.PeriodError.TheVariants.{Limit}
 use Rattle.multi_period.specs.declared.mark.Mark.{Mark}
 use Rattle.multi_period.specs.Periods.{periods}
-use Rattle.multi_period.specs.Within.{made_within}
 use Rattle.multi_period.proofs.Main.{periods-keep}
 use Rattle.multi_period.proofs.Names.{names-keep, bounds-keep}
 use Rattle.multi_period.proofs.Trees.{tree-made}
@@ -63,15 +62,13 @@ module _ (ds : List Def) (read : AreWellRead ds) (have : HavePeriods ds) where
 -- what the text says of its marks, version by version, without the version
 period : (version : ℕ) (o : Option ℕ) → text.IsPeriod version o → IsPeriod o
 period version None h = tt
-period version (Some n) h = h.1
+period version (Some n) h = (h.1, h.2)
 
 each_period : (version : ℕ) (rs : List Reference) → All (λ r. text.IsPeriod version r.every) rs → All (λ r. IsPeriod r.every) rs
-each_period version [] h = h
-each_period version (r ∷ rs) h = (period version r.every h.0, each_period version rs h.1)
+each_period version rs h = λ k d lt. period version (get_or rs k d).every (h k d lt)
 
 pub have_periods : (version : ℕ) (ds : List Def) → All (λ d. text.HasPeriods version d.body) ds → HavePeriods ds
-have_periods version [] h = h
-have_periods version (d ∷ ds) h = (each_period version (references_of d.body) h.0, have_periods version ds h.1)
+have_periods version ds h = λ k d lt. each_period version (references_of (get_or ds k d).body) (h k d lt)
 
 pub accepted_elaborated : AcceptedAreElaborated
 accepted_elaborated text defs made says e =

@@ -32,7 +32,7 @@ pub fn elaborate(alloc: Global, defs: &Defs) -> Result<Tree, AlgoError>
 {
     let tree = resolve(alloc, defs)?;
     let marks = marks(alloc, defs)?;
-    if marks.is_empty() {
+    if marks.as_slice().is_empty() {
         return Ok(tree);
     }
     accepted_marks_stand();
