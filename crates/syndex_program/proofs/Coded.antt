@@ -1,5 +1,5 @@
 -- Carrying out the plan of macro-code of any hand, part by part.
-use Rattle.std.proofs.Common.{◌≡◌, ◌∙◌, List, [], ◌∷◌, map, length, Option, Some, None, Result, Ok, Err, refl, sym, ap, subst, inl, inr}
+use Rattle.std.proofs.Common.{◌≡◌, ◌∙◌, List, [], ◌∷◌, map, length, Option, Some, Result, Ok, Err, refl, sym, ap, subst, inl, inr}
 use Rattle.std.specs.Prelude.{IsTrue}
 use Rattle.outside.specs.Bytes.{Bytes}
 use Rattle.outside.specs.Shelf.{Held}
@@ -27,7 +27,6 @@ use Rattle.macro_check.specs.Awaiting.{place_of}
 use Rattle.macro_check.specs.Causes.{cause_of}
 use Rattle.word_rule.specs.Driven.{Driven, driven_by}
 use Rattle.command_plan.specs.Ending.{Ending, no_memory, refused}
-use Rattle.command_plan.specs.Plan.{after}
 use Rattle.command_plan.specs.Run.{Makes, Ran, WasRead, refuses, was_read}
 use Rattle.command_plan.proofs.Makes.{after_err, after_ok, memory}
 use Rattle.command_status.specs.Status.{Refusal, ending_of, failed_check, of_architecture, of_code, status_of_architecture, status_of_code}

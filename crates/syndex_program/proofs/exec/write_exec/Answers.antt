@@ -1,4 +1,4 @@
-use Rattle.std.proofs.Common.{◌≡◌, List, inl, inr, refl, subst, sym}
+use Rattle.std.proofs.Common.{List, inl, inr, refl, subst, sym}
 use Rattle.command_plan.specs.Ending.{Ending}
 use Rattle.command_plan.specs.Run.{Performs}
 use Rattle.command_plan.specs.Stage.{Stage}
