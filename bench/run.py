@@ -117,6 +117,8 @@ def main():
             bench.take(lanes(15), operators_for(16, ring), SENSORS, 1_000)
             bench.told(f"lanes, 2,048 operations, 16 operators {where}, 1,000 reactions")
             bench.told_workers(f"lanes, 2,048 operations, 16 operators {where}, 1,000 reactions")
+        bench.take(lanes(15), operators_for(16, depth=2), SENSORS, 1_000)
+        bench.told("lanes, 2,048 operations, 16 operators at a bus, buffers of two places, 1,000 reactions")
         before = None
         for reactions in REACTIONS:
             bench.take(lanes(0), operators_for(16, True), SENSORS, reactions)

@@ -114,10 +114,12 @@ def lanes(layers):
     return "\n".join(lines + ["end", ""])
 
 
-def operators_for(operators, ring=False):
-    """The architecture of so many operators, not all equally fast, at one bus or in a ring, for the lanes and the chain of `flat.py`."""
+def operators_for(operators, ring=False, depth=1):
+    """The architecture of so many operators, not all equally fast, at one bus or in a ring, for the lanes and the chain of `flat.py`; its buffers
+    that are shared have so many places."""
     names = [f"o{k}" for k in range(operators)]
-    lines = ["architecture 1"] + [f"operator {name}" for name in names]
+    lines = ["architecture 1"] if depth == 1 else ["architecture 2", f"depth {depth}"]
+    lines += [f"operator {name}" for name in names]
     if operators > 1 and ring:
         for k in range(operators):
             lines += [f"medium m{k} p2p 1 1", f"connect m{k} {names[k]}", f"connect m{k} {names[(k + 1) % operators]}"]
