@@ -10,7 +10,7 @@ import subprocess
 import sys
 import tempfile
 
-from program import built_program, TOP
+from program import built_program, written, TOP
 
 PROGRAM = built_program()
 SIZES = (512, 1024, 2048)
@@ -110,13 +110,6 @@ def compared(plain, files, command, what, before):
     growth = f", x{took / before:.1f}" if before else ""
     print(f"{command}, {what}: status {status}, {took:.3f} s, {took / other:.2f} times the plain program's {other:.3f} s{growth}", flush=True)
     return took
-
-
-def written(room, name, text):
-    file = os.path.join(room, name)
-    with open(file, "w", encoding="ascii") as it:
-        it.write(text)
-    return file
 
 
 def main():

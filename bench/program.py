@@ -1,4 +1,5 @@
-"""The built program, which the scripts beside this file time: not the script `syndex`, which first looks whether it is current."""
+"""The built program, which the scripts beside this file time: not the script `syndex`, which first looks whether it is current. And
+the files that they give it."""
 import os
 import sys
 
@@ -10,3 +11,11 @@ def built_program():
     if not os.access(program, os.X_OK):
         sys.exit("bench: the program is not built: run ./build first")
     return program
+
+
+def written(room, name, text):
+    """The name of a file of this folder, with this text."""
+    file = os.path.join(room, name)
+    with open(file, "w", encoding="ascii") as it:
+        it.write(text)
+    return file

@@ -1,6 +1,8 @@
-"""Algorithm texts whose trees or checks would be large if anything were done once for each use."""
+"""Texts that are timed: algorithms whose trees or checks would be large if anything were done once for each use, and one whose
+operations stand on all operators; an architecture and a sensor table for these."""
 
 HEAD = "algorithm 1\n"
+LANES, LANE = 16, 8
 
 
 def long_expression():
@@ -71,3 +73,64 @@ def nested_repetitions():
         parts.append(f"repeat {name} 64 {inner}\nend\n")
         inner = name
     return "".join(parts + [f"graph main\nref r {inner}\nend\n"])
+
+
+def lane():
+    """A function of the lane's own value and its neighbour's, and a chain of functions behind it."""
+    refs = ["ref g Mix"] + [f"ref f{i} Next" for i in range(LANE - 1)]
+    edges = ["edge x g.x", "edge y g.y", "edge g.z f0.x"]
+    edges += [f"edge f{i}.y f{i + 1}.x" for i in range(LANE - 2)] + [f"edge f{LANE - 2}.y z"]
+    return ["graph Lane", "in x 1", "in y 1", "out z 1", *refs, *edges, "end"]
+
+
+def layer():
+    """The lanes beside each other; each also takes its neighbour's value."""
+    lines = ["graph Layer"] + [f"in x{i} 1" for i in range(LANES)] + [f"out z{i} 1" for i in range(LANES)]
+    lines += [f"ref l{i} Lane" for i in range(LANES)]
+    for i in range(LANES):
+        lines += [f"edge x{i} l{i}.x", f"edge x{(i + 1) % LANES} l{i}.y", f"edge l{i}.z z{i}"]
+    return lines + ["end"]
+
+
+def keeping():
+    """Each lane's value beside what a delay kept of it, and some functions more."""
+    lines = ["graph Keep", "in x 1", "out z 1", "ref d Kept", "ref g Mix", "ref a Next", "ref b Next", "ref c Next"]
+    lines += ["edge x g.x", "edge d.o g.y", "edge g.z a.x", "edge a.y b.x", "edge b.y c.x", "edge c.y d.i"]
+    return lines + ["edge c.y z", "end"]
+
+
+def lanes(layers):
+    """16 sensors, up to 16 layers, a delay and four functions for each lane, and 16 actuators: 128 operations, and 128 for each layer."""
+    lines = ["algorithm 1", "sensor Sense 1", "actuator Act 1", "delay Kept = 1"]
+    lines += ["function Mix", "in x 1", "in y 1", "out z 1 = sub(mul(3,x[0]),y[0])", "end"]
+    lines += ["function Next", "in x 1", "out y 1 = add(x[0],1)", "end"]
+    lines += lane() + layer() + keeping() + ["graph main"]
+    lines += [f"ref l{n} Layer" for n in range(layers)]
+    for i in range(LANES):
+        lines += [f"ref s{i} Sense", f"ref k{i} Keep", f"ref a{i} Act"]
+    for i in range(LANES):
+        ends = [f"s{i}.o"] + [f"l{n}.z{i}" for n in range(layers)]
+        lines += [f"edge {ends[n]} l{n}.x{i}" for n in range(layers)] + [f"edge {ends[-1]} k{i}.x", f"edge k{i}.z a{i}.i"]
+    return "\n".join(lines + ["end", ""])
+
+
+def operators_for(operators, ring=False, depth=1):
+    """The architecture of so many operators, not all equally fast, at one bus or in a ring, for the lanes and the chain of `flat.py`; its buffers
+    that are shared have so many places."""
+    names = [f"o{k}" for k in range(operators)]
+    lines = ["architecture 1"] if depth == 1 else ["architecture 2", f"depth {depth}"]
+    lines += [f"operator {name}" for name in names]
+    if operators > 1 and ring:
+        for k in range(operators):
+            lines += [f"medium m{k} p2p 1 1", f"connect m{k} {names[k]}", f"connect m{k} {names[(k + 1) % operators]}"]
+    elif operators > 1:
+        lines += ["medium bus multi 1 1"] + [f"connect bus {name}" for name in names]
+    for definition in ("S", "A", "F", "Sense", "Act", "Mix", "Next"):
+        lines += [f"duration {definition} {name} {20 + 7 * k % 5}" for k, name in enumerate(names)]
+    return "\n".join(lines + [""])
+
+
+def table(names, reactions):
+    """A sensor table with these columns."""
+    rows = ([str(k)] + [str((k * 7 + j * 13) % 199 - 99) for j in range(len(names))] for k in range(reactions))
+    return "\n".join(",".join(row) for row in [["k", *names], *rows]) + "\n"

@@ -15,7 +15,8 @@ import subprocess
 import tempfile
 
 from flat import algorithm as chain
-from program import built_program, TOP
+from program import built_program, written, TOP
+from shapes import table
 
 PROGRAM = built_program()
 RUNS, LENGTH, REFERENCES = 5, 64, 3
@@ -43,11 +44,6 @@ def vectors():
     return "\n".join(lines + ["edge m59.y l.x", "edge l.y a.i", "end", ""])
 
 
-def table(names, reactions):
-    rows = ([str(k)] + [str((k * 7 + j * 13) % 199 - 99) for j in range(len(names))] for k in range(reactions))
-    return "\n".join(",".join(row) for row in [["k", *names], *rows]) + "\n"
-
-
 def seconds(words):
     """The least processor time of several runs, and what they wrote."""
     best, said = None, None
@@ -58,13 +54,6 @@ def seconds(words):
         took = after.ru_utime - before.ru_utime + after.ru_stime - before.ru_stime
         best = took if best is None else min(best, took)
     return best, said
-
-
-def written(room, name, text):
-    file = os.path.join(room, name)
-    with open(file, "w", encoding="ascii") as it:
-        it.write(text)
-    return file
 
 
 def told(what, plain, files, before=None):

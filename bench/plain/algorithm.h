@@ -61,17 +61,19 @@ static Def *def_of(const char *name) {
     exit(2);
 }
 
-static char *whole(const char *name) {
+static char *whole_of(const char *name, size_t *length) {
     FILE *f = fopen(name, "rb");
     if (!f) exit(2);
     fseek(f, 0, SEEK_END);
-    long n = ftell(f);
+    *length = (size_t)ftell(f);
     rewind(f);
-    char *text = made((size_t)n + 1);
-    if (fread(text, 1, (size_t)n, f) != (size_t)n) exit(2);
+    char *text = made(*length + 1);
+    if (fread(text, 1, *length, f) != *length) exit(2);
     fclose(f);
     return text;
 }
+
+static char *whole(const char *name) { size_t length; return whole_of(name, &length); }
 
 static void end_of_edge(char *to) {
     int n = 0;

@@ -2,6 +2,7 @@
    operations in an order in which each stands after what it reads, and evaluates these reaction by
    reaction over one table of values. */
 #include "algorithm.h"
+#include "expression.h"
 
 /* where the inputs begin in the table, and where the outputs do; of a sensor, where its values begin in a row */
 typedef struct { Def *def; int in[PORTS], out[PORTS], row; } Op;
@@ -12,44 +13,6 @@ static struct { const char *name; int op; } acts[REFS];
 static int act_count;
 static Op ops[OPS];
 static int64_t table[1 << 20];
-static int64_t applied(int op, int64_t a, int64_t b) {
-    uint64_t x = (uint64_t)a, y = (uint64_t)b;
-    switch (op) {
-    case 0: return (int64_t)(x + y);
-    case 1: return (int64_t)(x - y);
-    case 2: return (int64_t)(x * y);
-    case 3: return b == 0 ? 0 : b == -1 ? (int64_t)(0 - x) : a / b;
-    case 4: return b == 0 ? a : b == -1 ? 0 : a % b;
-    case 5: return a == b;
-    case 6: return a != b;
-    case 7: return a < b;
-    case 8: return a <= b;
-    case 9: return a > b;
-    case 10: return a >= b;
-    case 11: return a < b ? a : b;
-    default: return a > b ? a : b;
-    }
-}
-
-static int64_t value(const Expr *e, const Op *op, int64_t j) {
-    switch (e->form) {
-    case LITERAL: return e->value;
-    case INDEX: return j;
-    case ELEMENT: {
-        int64_t i = value(e->a, op, j);
-        return i < 0 || i >= op->def->in[e->port].len ? 0 : table[op->in[e->port] + i];
-    }
-    case SUM: {
-        uint64_t sum = 0;
-        for (int i = 0; i < op->def->in[e->port].len; i++) sum += (uint64_t)table[op->in[e->port] + i];
-        return (int64_t)sum;
-    }
-    case NEG: return (int64_t)(0 - (uint64_t)value(e->a, op, j));
-    case SELECT: return value(value(e->a, op, j) ? e->b : e->c, op, j);
-    default: return applied(e->op, value(e->a, op, j), value(e->b, op, j));
-    }
-}
-
 /* where the value of a source begins */
 static int place(const int *own, int (*outs)[PORTS], Source s) { return s.ref < 0 ? own[s.port] : outs[s.ref][s.port]; }
 
@@ -116,7 +79,7 @@ static void react(const int64_t *row, int64_t **kept) {
         case DELAY: memcpy(&table[op->out[0]], kept[i], (size_t)d->len * 8); break;
         case FUNCTION:
             for (int p = 0; p < d->outs; p++)
-                for (int j = 0; j < d->out[p].len; j++) table[op->out[p] + j] = value(d->out[p].expr, op, j);
+                for (int j = 0; j < d->out[p].len; j++) table[op->out[p] + j] = value(d->out[p].expr, d, op->in, table, j);
             break;
         default: break;
         }

@@ -14,6 +14,8 @@ mod gates;
 #[cfg(test)]
 mod limits;
 #[cfg(test)]
+mod nine_kinds;
+#[cfg(test)]
 mod refused;
 #[cfg(test)]
 mod runs;

@@ -279,8 +279,11 @@ fn run(
     match job(rt, program, flat, archi, &rows, opening, &ORDER) {
         Ok(job) => {
             the_greatest_first(rt, alloc, &job, steps)?;
-            drive(rt, alloc, &job, 2, end)?;
-            drive(rt, alloc, &job, 1, end)
+            for groups in [1, 2] {
+                let closed = drive(rt, alloc, &job, groups, end)?;
+                expect(rt, closed.rows(), &[[6, 6], [0, 0], [1, 1]]);
+            }
+            Ok(())
         }
         Err(_) => panic!(rt; "a limit"),
     }
