@@ -4,15 +4,23 @@ use crate::conditions::Conditions;
 use crate::file::{File, bytes_of};
 use outside::{GateFree, ShelfMem, SinkMem};
 use std::alloc::{AllocError, Global};
-use std::io;
 use std::io::Write;
 use std::rt::Files;
-use std::str;
 use std::sync::Wait;
 use std::thread::Threads;
+use std::{io, str};
 use syn_base::Items;
 use syndex_program::syndex;
 use word_table::Driven;
+
+/// What a call reads and writes, and what it drives.
+#[derive(Drop)]
+struct Outside {
+    shelf: ShelfMem,
+    out: SinkMem,
+    err: SinkMem,
+    driven: Driven,
+}
 
 /// Calls the program with these words, and writes the call and its answers into the transcript.
 pub fn call<R: Files + Print + AllocGlobal + Threads + Wait + Sync>(
@@ -22,30 +30,64 @@ pub fn call<R: Files + Print + AllocGlobal + Threads + Wait + Sync>(
     holds: &Conditions,
 ) -> io::Result<()> {
     println!(rt; "$ {words}")?;
+    let given = words_of(rt.alloc(), words)?;
+    let mut outside = outside_for(rt, files, &given, holds)?;
+    let number = answered(rt, &given, &mut outside);
+    write_answers(rt, files, holds, &outside, number)
+}
+
+/// The files that the words name, and sinks of which this is said.
+fn outside_for<R: Files + AllocGlobal>(
+    rt: &R,
+    files: &[File],
+    words: &[String],
+    holds: &Conditions,
+) -> io::Result<Outside> {
     let alloc = rt.alloc();
-    let given = words_of(alloc, words)?;
-    let mut shelf = shelf_for(rt, files, &given, &holds.shelf_fails)?;
-    let mut out = holds.out.sink(alloc)?;
-    let mut err = holds.err.sink(alloc)?;
-    let mut driven = Driven::new(alloc);
-    let status = syndex(
-        rt,
-        alloc,
-        &given,
-        &mut shelf,
-        &mut out,
-        &mut err,
-        &GateFree,
-        &mut driven,
-    );
-    write_output(rt, files, holds, out.bytes())?;
-    write_line(rt, err.bytes())?;
-    println!(rt; "= {}", status.number())?;
+    let out = holds.out.sink(alloc)?;
+    let err = holds.err.sink(alloc)?;
+    let shelf = shelf_for(rt, files, words, &holds.shelf_fails)?;
+    Ok(Outside {
+        shelf,
+        out,
+        err,
+        driven: Driven::new(alloc),
+    })
+}
+
+/// The number of the status with which the program answers these words, where no gate holds a step back. It
+/// stands by itself, so that whoever calls it has no clause of the top call to carry along.
+fn answered<R: AllocGlobal + Threads + Wait + Sync>(
+    rt: &R,
+    words: &[String],
+    outside: &mut Outside,
+) -> u8 {
+    let alloc = rt.alloc();
+    let Outside {
+        shelf,
+        out,
+        err,
+        driven,
+    } = outside;
+    syndex(rt, alloc, words, shelf, out, err, &GateFree, driven).number()
+}
+
+/// Writes the output of a call, its line, its status, and what else is asked for.
+fn write_answers<R: Files + Print + AllocGlobal>(
+    rt: &R,
+    files: &[File],
+    holds: &Conditions,
+    outside: &Outside,
+    number: u8,
+) -> io::Result<()> {
+    write_output(rt, files, holds, outside.out.bytes())?;
+    write_line(rt, outside.err.bytes())?;
+    println!(rt; "= {number}")?;
     if holds.counts {
-        write_counts(rt, &shelf, &out)?;
+        write_counts(rt, &outside.shelf, &outside.out)?;
     }
     if holds.driven {
-        write_driven(rt, &driven)?;
+        write_driven(rt, &outside.driven)?;
     }
     Ok(())
 }
