@@ -132,11 +132,10 @@ impl<'e, 'a, R: Wait, G: Ask> Lead<Group<'a>, Returns<'a>> for Chief<'e, 'a, R, 
     }
 }
 
-/// Waits a while where no step was made.
+/// Waits a while where no step was made. A step does not begin the waiting anew: where there are more workers
+/// than processors, each soon yields at once when it cannot go on, and one that can is not kept waiting by others that spin.
 fn pause(backoff: &Backoff, progress: Progress) {
     if progress.steps == 0 {
         backoff.snooze();
-    } else {
-        backoff.reset();
     }
 }

@@ -10,8 +10,6 @@ mod copies;
 #[cfg(test)]
 mod four_operators;
 #[cfg(test)]
-mod gates;
-#[cfg(test)]
 mod limits;
 #[cfg(test)]
 mod nine_kinds;

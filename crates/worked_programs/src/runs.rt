@@ -1,6 +1,5 @@
 //! A job run to its end by threads, and by one driver alone: its rows, counts and words are the same whoever
 //! drives, each sequence is driven by the worker of its group, and the gate is asked once for each step.
-use crate::gates::{Counting, Holding, Meeting};
 use crate::two_operators::{ORDER, expect, graph_of_two, job, program, sensed, two_operators};
 use executive_run::{prepare, run_alone, run_ready};
 use outside::{Gate, GateFree};
@@ -11,6 +10,7 @@ use std::sync::Wait;
 use std::test::Fail;
 use std::thread::Threads;
 use word_table::{Closed, Driven};
+use worked_gates::{Counting, Holding, Meeting};
 
 /// Who drives a job.
 #[derive(Clone, Copy, Debug)]

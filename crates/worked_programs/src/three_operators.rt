@@ -16,6 +16,7 @@ use std::alloc::Global;
 use std::process::Abort;
 use std::test::Fail;
 use syn_base::{Items, Name, SensorRows};
+use word_table::{Driver, Fabric, MicroAnswer, weave};
 
 const ORDER: [u32; 27] = [
     0, 0, 0, 0, 0, 1, 1, 1, 2, 2, 2, 4, 4, 4, 6, 6, 6, 0, 0, 3, 3, 3, 3, 5, 5, 5, 5,
@@ -185,6 +186,53 @@ fn run_ahead(rt: &impl Abort, alloc: Global, job: &Job, ahead: Ahead) -> Result<
     Ok(())
 }
 
+/// Tries a sequence of the one driver of a table so many times, with the same answer each time.
+fn try_all<'a>(
+    rt: &impl Abort,
+    fabric: &Fabric<'a>,
+    driver: &mut Driver<'a>,
+    seq: u32,
+    times: u32,
+    wanted: MicroAnswer,
+)
+    requires { driver.old.fabric ≡ fabric.now }
+    ensures { driver.new.fabric ≡ fabric.now }
+{
+    assert!(rt; seq < fabric.sequences());
+    assert!(rt; fabric.groups() == 1 && driver.group() == 0);
+    for _ in 0..times {
+        assert_eq!(rt; fabric.try_micro(driver, seq), wanted);
+    }
+}
+
+/// As `run_ahead`, by one driver on a table of words.
+fn lead_ahead<'a>(rt: &impl Abort, fabric: &Fabric<'a>, driver: &mut Driver<'a>, ahead: Ahead)
+    requires { driver.old.fabric ≡ fabric.now }
+{
+    try_all(rt, fabric, driver, 1, ahead.depth, MicroAnswer::Stepped);
+    try_all(rt, fabric, driver, 2, ahead.depth, MicroAnswer::Stepped);
+    let computation = ahead.depth.saturating_mul(ahead.computation);
+    try_all(rt, fabric, driver, 0, computation, MicroAnswer::Stepped);
+    try_all(rt, fabric, driver, 0, 1, MicroAnswer::NotYet);
+    try_all(
+        rt,
+        fabric,
+        driver,
+        1,
+        ahead.communicator,
+        MicroAnswer::Stepped,
+    );
+    try_all(rt, fabric, driver, 0, ahead.take, MicroAnswer::Stepped);
+    try_all(rt, fabric, driver, 0, 1, MicroAnswer::NotYet);
+}
+
+fn run_ahead_on_words(rt: &impl Abort, alloc: Global, job: &Job, ahead: Ahead) -> Result<(), Fail> {
+    let (fabric, mut drivers) = weave(alloc, job, 1)?;
+    assert_eq!(rt; drivers.len(), 1);
+    lead_ahead(rt, &fabric, &mut drivers[0], ahead);
+    Ok(())
+}
+
 /// Rows in which the one sensor gives 5, 7 and 9.
 fn sensed(rt: &impl Abort, alloc: Global, flat: &Flat) -> Result<SensorRows, Fail>
     ensures { IfOk result (λ rows. rows.lens ≡ sensor_lens flat.now.vertices) }
@@ -209,7 +257,10 @@ fn run(
     let rows = sensed(rt, alloc, flat)?;
     let opening = opening_of(alloc, flat)?;
     match job(rt, program, flat, archi, &rows, opening, &ORDER) {
-        Ok(job) => run_ahead(rt, alloc, &job, ahead),
+        Ok(job) => {
+            run_ahead(rt, alloc, &job, ahead)?;
+            run_ahead_on_words(rt, alloc, &job, ahead)
+        }
         Err(_) => panic!(rt; "a limit"),
     }
 }

@@ -2,7 +2,8 @@
 
 use crate::conditions::Conditions;
 use crate::file::{File, bytes_of};
-use outside::{GateFree, ShelfMem, SinkMem};
+use crate::gate::answered_at;
+use outside::{Gate, ShelfMem, SinkMem};
 use std::alloc::{AllocError, Global};
 use std::io::Write;
 use std::rt::Files;
@@ -15,7 +16,7 @@ use word_table::Driven;
 
 /// What a call reads and writes, and what it drives.
 #[derive(Drop)]
-struct Outside {
+pub struct Outside {
     shelf: ShelfMem,
     out: SinkMem,
     err: SinkMem,
@@ -32,8 +33,9 @@ pub fn call<R: Files + Print + AllocGlobal + Threads + Wait + Sync>(
     println!(rt; "$ {words}")?;
     let given = words_of(rt.alloc(), words)?;
     let mut outside = outside_for(rt, files, &given, holds)?;
-    let number = answered(rt, &given, &mut outside);
-    write_answers(rt, files, holds, &outside, number)
+    let (number, seen) = answered_at(rt, &given, &mut outside, holds.gate);
+    write_answers(rt, files, holds, &outside, number)?;
+    seen.write(rt)
 }
 
 /// The files that the words name, and sinks of which this is said.
@@ -55,12 +57,13 @@ fn outside_for<R: Files + AllocGlobal>(
     })
 }
 
-/// The number of the status with which the program answers these words, where no gate holds a step back. It
-/// stands by itself, so that whoever calls it has no clause of the top call to carry along.
-fn answered<R: AllocGlobal + Threads + Wait + Sync>(
+/// The number of the status with which the program answers these words, where this gate is asked before each
+/// step. It stands by itself, so that whoever calls it has no clause of the top call to carry along.
+pub fn answered<R: AllocGlobal + Threads + Wait + Sync, G: Gate>(
     rt: &R,
     words: &[String],
     outside: &mut Outside,
+    gate: &G,
 ) -> u8 {
     let alloc = rt.alloc();
     let Outside {
@@ -69,7 +72,7 @@ fn answered<R: AllocGlobal + Threads + Wait + Sync>(
         err,
         driven,
     } = outside;
-    syndex(rt, alloc, words, shelf, out, err, &GateFree, driven).number()
+    syndex(rt, alloc, words, shelf, out, err, gate, driven).number()
 }
 
 /// Writes the output of a call, its line, its status, and what else is asked for.

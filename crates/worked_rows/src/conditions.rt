@@ -1,6 +1,6 @@
 //! What holds for the next call.
 
-use crate::script::Condition;
+use crate::script::{Condition, GateKind};
 use outside::SinkMem;
 use std::alloc::{AllocError, Global};
 
@@ -41,6 +41,7 @@ pub struct Conditions {
     pub has: Option<String>,
     pub counts: bool,
     pub driven: bool,
+    pub gate: GateKind,
 }
 
 impl Conditions {
@@ -54,6 +55,7 @@ impl Conditions {
             has: None,
             counts: false,
             driven: false,
+            gate: GateKind::Free,
         }
     }
 
@@ -68,6 +70,7 @@ impl Conditions {
             Condition::ErrTakes(most) => self.err.takes = most,
             Condition::Count => self.counts = true,
             Condition::Driven => self.driven = true,
+            Condition::Gate(gate) => self.gate = gate,
             Condition::Output(name) => self.output = Some(String::from_str(alloc, name)?),
             Condition::Has(name) => self.has = Some(String::from_str(alloc, name)?),
         }

@@ -13,6 +13,7 @@
 mod call;
 mod conditions;
 mod file;
+mod gate;
 mod player;
 mod script;
 

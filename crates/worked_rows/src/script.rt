@@ -33,6 +33,19 @@ pub enum Edit<'a> {
     Pad(usize),
 }
 
+/// Which gate is asked before each step.
+#[derive(Clone, Copy)]
+pub enum GateKind {
+    /// One that holds nothing back.
+    Free,
+    /// One at which sequences 0 and 1 wait for each other before their first steps.
+    Meeting,
+    /// One that counts the steps of sequences 0 to 3 that it is asked for.
+    Counting,
+    /// One that holds sequence 1 before its step 1 until sequence 0 was asked for its step 6.
+    Holding,
+}
+
 /// What holds for the next call alone. Calls of the outside are counted from 0.
 #[derive(Clone, Copy)]
 pub enum Condition<'a> {
@@ -52,6 +65,8 @@ pub enum Condition<'a> {
     Count,
     /// `tell driven`: the number of micro-steps that were driven is told, with the counts of the last table.
     Driven,
+    /// `gate KIND`, with `meeting`, `counting` or `holding`: this gate is asked before each step, and what it has seen is told.
+    Gate(GateKind),
     /// `output NAME`: where the output is what this file holds, its name stands in the transcript.
     Output(&'a str),
     /// `has NAME`: where the lines of this file are among those of the output, in the same order, `(has NAME)`
@@ -108,10 +123,21 @@ fn condition_of<'a>(word: &str, rest: &'a str) -> Option<Condition<'a>> {
         "has" => Some(Condition::Has(rest)),
         "count" => Some(Condition::Count),
         "tell" => Some(Condition::Driven),
+        "gate" => Some(Condition::Gate(gate_of(rest)?)),
         _ => {
             let (verb, number) = rest.split_once(' ')?;
             limit_of(word, verb, number.parse::<u64>().ok()?)
         }
+    }
+}
+
+/// The gate of this name.
+fn gate_of(name: &str) -> Option<GateKind> {
+    match name {
+        "meeting" => Some(GateKind::Meeting),
+        "counting" => Some(GateKind::Counting),
+        "holding" => Some(GateKind::Holding),
+        _ => None,
     }
 }
 

@@ -1,4 +1,7 @@
-//! Gates that show which steps are asked for, by which threads, and in what order.
+//! Gates that show which steps are asked for, by which threads, and in what order. Tests of runs hold them, and the
+//! script of `worked_rows` names them.
+#![tactic(auto)]
+
 use outside::Gate;
 use std::hint;
 use std::sync::atomic::{AtomicU64, Ordering};
@@ -20,13 +23,13 @@ fn waits(word: &AtomicU64, least: u64) -> bool {
 /// Before their first steps the sequences 0 and 1 wait for each other. So where one thread drives both, the
 /// one that is asked for first waits in vain.
 #[derive(Drop)]
-pub(crate) struct Meeting {
+pub struct Meeting {
     marks: [AtomicU64; 2],
     given_up: AtomicU64,
 }
 
 impl Meeting {
-    pub(crate) fn new() -> Meeting {
+    pub fn new() -> Meeting {
         Meeting {
             marks: [AtomicU64::new(0), AtomicU64::new(0)],
             given_up: AtomicU64::new(0),
@@ -34,12 +37,12 @@ impl Meeting {
     }
 
     /// Both were asked for their first steps.
-    pub(crate) fn has_marks(&self) -> bool {
+    pub fn has_marks(&self) -> bool {
         self.marks[0].load(Ordering::SeqCst) == 1 && self.marks[1].load(Ordering::SeqCst) == 1
     }
 
     /// How often a sequence waited in vain.
-    pub(crate) fn given_up(&self) -> u64 {
+    pub fn given_up(&self) -> u64 {
         self.given_up.load(Ordering::SeqCst)
     }
 }
@@ -58,13 +61,13 @@ impl Gate for Meeting {
 
 /// Counts the steps of each of four sequences that it is asked for, and those that come out of turn.
 #[derive(Drop)]
-pub(crate) struct Counting {
+pub struct Counting {
     asked: [AtomicU64; 4],
     out_of_turn: AtomicU64,
 }
 
 impl Counting {
-    pub(crate) fn new() -> Counting {
+    pub fn new() -> Counting {
         Counting {
             asked: [
                 AtomicU64::new(0),
@@ -77,7 +80,7 @@ impl Counting {
     }
 
     /// How many steps of each sequence it was asked for.
-    pub(crate) fn asked(&self) -> [u64; 4] {
+    pub fn asked(&self) -> [u64; 4] {
         [
             self.asked[0].load(Ordering::SeqCst),
             self.asked[1].load(Ordering::SeqCst),
@@ -87,7 +90,7 @@ impl Counting {
     }
 
     /// How often a step was not the one after the last step of its sequence.
-    pub(crate) fn out_of_turn(&self) -> u64 {
+    pub fn out_of_turn(&self) -> u64 {
         self.out_of_turn.load(Ordering::SeqCst)
     }
 }
@@ -106,14 +109,14 @@ impl Gate for Counting {
 
 /// Holds sequence 1 before its step 1 until sequence 0 was asked for its step 6.
 #[derive(Drop)]
-pub(crate) struct Holding {
+pub struct Holding {
     /// The last step of sequence 0 that was asked for, and what it was when sequence 1 was let go.
     first: AtomicU64,
     at_release: AtomicU64,
 }
 
 impl Holding {
-    pub(crate) fn new() -> Holding {
+    pub fn new() -> Holding {
         Holding {
             first: AtomicU64::new(0),
             at_release: AtomicU64::new(0),
@@ -121,7 +124,7 @@ impl Holding {
     }
 
     /// The last step of sequence 0 that was asked for when sequence 1 was let go; 0 where that did not come.
-    pub(crate) fn at_release(&self) -> u64 {
+    pub fn at_release(&self) -> u64 {
         self.at_release.load(Ordering::SeqCst)
     }
 }

@@ -1,0 +1,92 @@
+//! What the gate of a call has seen.
+
+use crate::call::{Outside, answered};
+use crate::script::GateKind;
+use outside::GateFree;
+use std::io;
+use std::sync::Wait;
+use std::thread::Threads;
+use worked_gates::{Counting, Holding, Meeting};
+
+/// What a gate has seen.
+#[derive(Clone, Copy)]
+pub enum Seen {
+    /// Nothing is told of it.
+    Nothing,
+    /// Whether sequences 0 and 1 were both asked for their first steps, and how often one waited in vain.
+    Meeting { both: bool, given_up: u64 },
+    /// How many steps it was asked for of each sequence, and how many of these came out of turn.
+    Counting { asked: [u64; 4], out_of_turn: u64 },
+    /// For which step sequence 0 was asked last when sequence 1 was let go.
+    Holding { at_release: u64 },
+}
+
+impl Seen {
+    /// Writes it into the transcript, where anything is told.
+    pub fn write(&self, rt: &impl Print) -> io::Result<()> {
+        match self {
+            Seen::Nothing => Ok(()),
+            Seen::Meeting {
+                both: true,
+                given_up,
+            } => println!(rt; "gate: both came, {given_up} gave up"),
+            Seen::Meeting {
+                both: false,
+                given_up,
+            } => println!(rt; "gate: one came, {given_up} gave up"),
+            Seen::Counting {
+                asked: [a, b, c, d],
+                out_of_turn,
+            } => { println!(rt; "gate: asked {a} {b} {c} {d}, out of turn {out_of_turn}") }
+            Seen::Holding { at_release } => println!(rt; "gate: let go at step {at_release}"),
+        }
+    }
+}
+
+/// The number of the status with which the program answers these words, and what the gate of this kind has seen.
+pub fn answered_at<R: AllocGlobal + Threads + Wait + Sync>(
+    rt: &R,
+    words: &[String],
+    outside: &mut Outside,
+    kind: GateKind,
+) -> (u8, Seen) {
+    match kind {
+        GateKind::Free => (answered(rt, words, outside, &GateFree), Seen::Nothing),
+        GateKind::Meeting => answered_at_meeting(rt, words, outside),
+        GateKind::Counting => answered_at_counting(rt, words, outside),
+        GateKind::Holding => answered_at_holding(rt, words, outside),
+    }
+}
+
+fn answered_at_meeting<R: AllocGlobal + Threads + Wait + Sync>(
+    rt: &R,
+    words: &[String],
+    outside: &mut Outside,
+) -> (u8, Seen) {
+    let gate = Meeting::new();
+    let number = answered(rt, words, outside, &gate);
+    let (both, given_up) = (gate.has_marks(), gate.given_up());
+    (number, Seen::Meeting { both, given_up })
+}
+
+fn answered_at_counting<R: AllocGlobal + Threads + Wait + Sync>(
+    rt: &R,
+    words: &[String],
+    outside: &mut Outside,
+) -> (u8, Seen) {
+    let gate = Counting::new();
+    let number = answered(rt, words, outside, &gate);
+    let (asked, out_of_turn) = (gate.asked(), gate.out_of_turn());
+    (number, Seen::Counting { asked, out_of_turn })
+}
+
+fn answered_at_holding<R: AllocGlobal + Threads + Wait + Sync>(
+    rt: &R,
+    words: &[String],
+    outside: &mut Outside,
+) -> (u8, Seen) {
+    let gate = Holding::new();
+    let number = answered(rt, words, outside, &gate);
+    let at_release = gate.at_release();
+    (number, Seen::Holding { at_release })
+}
