@@ -110,6 +110,10 @@ bus_late = schedule (placed 0 0 0 1 [] ∷ placed 1 0 1 11 [] ∷ placed 2 1 4 1
 bus_late_waits : (is_valid bus_graph bus_archi bus_ticks bus_late ≡ true) × (is_tight bus_graph bus_late ≡ false)
 bus_late_waits = (refl, refl)
 
+-- from 12 to 22 it ends after what reads it has begun
+bus_moved : (is_valid bus_graph bus_archi bus_ticks (bus_schedule 3 13) ≡ true) × (is_valid bus_graph bus_archi bus_ticks (bus_schedule 12 22) ≡ false)
+bus_moved = (refl, refl)
+
 -- after the sensor and the first function
 abbrev bus_begun : List Act
 bus_begun = acts_of (placed 0 0 0 1 [] ∷ placed 1 0 1 11 [] ∷ [])
