@@ -12,7 +12,7 @@ one_more true k n h e = lt-ltb 0 (suc n) (omega arith)
 one_more false k n h e = let same : nat_lt (1 + k) (suc n) ≡ nat_lt k n = grind (arith, nat_tests) in same ∙ e
 
 -- an element passes exactly where the first that does stands within the list
-stands : {X : Type 0} (p : X → Bool) (xs : List X) → nat_lt (position_or_len p xs) (length xs) ≡ list_any p xs
+pub stands : {X : Type 0} (p : X → Bool) (xs : List X) → nat_lt (position_or_len p xs) (length xs) ≡ list_any p xs
 stands p [] = refl
 stands p (x ∷ xs) = one_more (p x) (position_or_len p xs) (length xs) (list_any p xs) (stands p xs)
 

@@ -6,7 +6,7 @@ abbrev pub behind : List ℕ → Option (List ℕ) → Option (List ℕ)
 behind ns None = None
 behind ns (Some ms) = Some (ns ++ ms)
 
-one_first : (ns : List ℕ) (n : ℕ) (o : Option (List ℕ)) → behind (ns ++ n ∷ []) o ≡ behind ns (with_first (Some n) o)
+pub one_first : (ns : List ℕ) (n : ℕ) (o : Option (List ℕ)) → behind (ns ++ n ∷ []) o ≡ behind ns (with_first (Some n) o)
 one_first ns n None = refl
 one_first ns n (Some ms) = ap Some (append_assoc ns (n ∷ []) ms)
 

@@ -3,6 +3,8 @@ pub mod Each
 pub mod Following
 pub mod Found
 pub mod LineCounts
+pub mod LineWords
+pub mod Lists
 pub mod Naming
 pub mod Placing
 pub mod Wholes

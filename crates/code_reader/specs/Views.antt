@@ -1,5 +1,5 @@
 -- What contracts see of the values that the reader handles.
-use Rattle.std.specs.Prelude.{◌≡◌, ℕ, Bool, true, false, List, map, Option, Some, None, Result, Ok, Err}
+use Rattle.std.specs.Prelude.{◌≡◌, ◌<◌, ℕ, Bool, true, false, List, [], ◌∷◌, length, map, Option, Some, None, Result, Ok, Err}
 use Rattle.std.specs.List.{list_any}
 use Rattle.std.specs.Global.{Vec}
 use Rattle.std.specs.Borrow.{Bor}
@@ -16,7 +16,10 @@ use Rattle.code_reader.specs.declared.written.Written.TheVariants as written
 use Rattle.code_reader.specs.declared.written.WrittenCode.{WrittenCode}
 use Rattle.code_reader.specs.declared.instruction.Operation.{Operation}
 use Rattle.code_reader.specs.Given.{Fails}
-use Rattle.code_text.specs.Forms.{Bytes, Form, bare, listed, call, before, after, inside, is_closed, Declaration}
+use Rattle.text_lines.specs.Text.{words_of}
+use Rattle.code_reader.specs.declared.word.LineWords.{LineWords}
+use Rattle.code_reader.specs.declared.word.LineWords.TheVariants as told
+use Rattle.code_text.specs.Forms.{Bytes, Form, arguments_of, bare, listed, call, before, after, inside, is_closed, Declaration}
 use Rattle.code_text.specs.Text.{Two, call_line, call_of, Reading}
 
 -- a text is cut at the first byte that passes
@@ -40,6 +43,25 @@ abbrev pub IsWord : Option (Bor Bytes) → Option Bytes → Type 0
 IsWord None asked = asked ≡ None
 IsWord (Some w) asked = asked ≡ Some w.now
 
+-- a word, if there is one, unless memory ran out
+abbrev pub HasWord : Result (Option (Bor Bytes)) CodeError → Option Bytes → Type 0
+HasWord (Ok w) asked = IsWord w asked
+HasWord (Err OutOfMemory) asked = Unit {0}
+HasWord (Err (Refused f)) asked = ⊥
+HasWord (Err (Limit f)) asked = ⊥
+
+-- the first word of a text, and what stands behind it, if there is a word
+abbrev pub IsFirstWord : Option (Bor Bytes × Bor Bytes) → Bytes → Type 0
+IsFirstWord None text = words_of text ≡ []
+IsFirstWord (Some p) text = words_of text ≡ p.0.now ∷ words_of p.1.now
+
+-- the words of a line, which are told where there are no more than two
+abbrev pub AreWords : LineWords → List Bytes → Type 0
+AreWords told.Blank ws = ws ≡ []
+AreWords (told.One w) ws = ws ≡ w.now ∷ []
+AreWords (told.Two w v) ws = ws ≡ w.now ∷ v.now ∷ []
+AreWords told.Many ws = 2 < length ws
+
 abbrev pub AreTwo : Option (Bor Bytes × Bor Bytes) → Option Two → Type 0
 AreTwo None asked = asked ≡ None
 AreTwo (Some p) asked = asked ≡ Some (record { first = p.0.now; second = p.1.now })
@@ -55,12 +77,6 @@ form_view (read.Call operation ins outs) = call operation.now ins.now outs.now
 abbrev pub IsForm : Option declared_form.Form → Option Form → Type 0
 IsForm None asked = asked ≡ None
 IsForm (Some f) asked = asked ≡ Some (form_view f)
-
-abbrev pub HasForm : Result (Option declared_form.Form) CodeError → Option Form → Type 0
-HasForm (Ok f) asked = IsForm f asked
-HasForm (Err OutOfMemory) asked = Unit {0}
-HasForm (Err (Refused f)) asked = ⊥
-HasForm (Err (Limit f)) asked = ⊥
 
 -- an instruction, and the code of a sequence
 abbrev pub instr_of : Written → Instr
@@ -97,10 +113,10 @@ HasNumbers (Err (Limit f)) asked = ⊥
 
 -- an operation, as its line has it
 abbrev pub call_in : List Bytes → ℕ → List ℕ → Operation → Result Instr CodeError
-call_in operations line here o = call_of operations line here o.name.now (texts_of o.ins.now) (texts_of o.outs.now)
+call_in operations line here o = call_of operations line here o.name.now (arguments_of o.ins.now) (arguments_of o.outs.now)
 
 abbrev pub operation_line : List Bytes → Reading → ℕ → Operation → Result Reading CodeError
-operation_line operations r line o = call_line operations r line o.name.now (texts_of o.ins.now) (texts_of o.outs.now)
+operation_line operations r line o = call_line operations r line o.name.now (arguments_of o.ins.now) (arguments_of o.outs.now)
 
 abbrev pub declaration_view : declared_declaration.Declaration → Declaration
 declaration_view d = record { number = d.number; len = d.len; depth = d.depth }

@@ -1,12 +1,13 @@
 //! The arguments of a line.
-ghost use Rattle.std.specs.Prelude.{◌≡◌, None, Some, IfOk, MatchOption, is_none, map};
-ghost use Rattle.std.specs.List.{slice_split};
+ghost use Rattle.std.specs.Prelude.{◌≡◌, ◌+◌, ◌≤◌, None, Some, IfOk, MatchOption, drop, is_none, length, map, position};
+ghost use Rattle.std.specs.List.{position_or_len, slice_split};
 ghost use Rattle.archi_graph.specs.Archi.{ascends_from};
 ghost use Rattle.code_text.specs.Forms.{arguments_of, buffer_in, declared_by, declaration_in, each_in, is_comma, number_in};
 ghost use Rattle.code_text.specs.Text.{one_of, two_of};
 ghost use Rattle.code_reader.specs.Given.{Has};
 ghost use Rattle.code_reader.specs.Views.{AreTwo, HasNumbers, HasWords, IsDeclaration, IsWord, texts_of};
 
+use crate::form::cut_at;
 use crate::word::{read_buffer, read_length, read_number, read_places};
 use code_text::CodeError;
 use std::alloc::{AllocError, Global};
@@ -15,15 +16,16 @@ use std::marker::Model;
 /// The arguments of a line, or that it has no parentheses. Contracts see the words, where there are parentheses.
 #[derive(Drop)]
 pub struct Arguments<'a> {
-    words: Option<Vec<&'a [u8]>>,
+    list: Option<&'a [u8]>,
 }
 
 impl<'a> Model for Arguments<'a> {
-    ghost use Rattle.std.specs.Prelude.{List, ℕ, map, Option, option_map};
+    ghost use Rattle.std.specs.Prelude.{List, ℕ, Option, option_map};
+    ghost use Rattle.code_text.specs.Forms.{arguments_of};
 
     ghost Value = { Option (List (List ℕ)) };
 
-    ghost view = { λ s. option_map (λ v. map (λ w. w.now) v.items) s.words };
+    ghost view = { λ s. option_map (λ l. arguments_of l.now) s.list };
 }
 
 /// What commas separate; nothing is no argument.
@@ -48,31 +50,28 @@ impl<'a> Arguments<'a> {
     pub fn none() -> Self
         ensures { result ≡ None }
     {
-        Arguments { words: None }
+        Arguments { list: None }
     }
 
     /// What stands between the parentheses of a line.
-    pub fn of(words: Vec<&'a [u8]>) -> Self
-        ensures { result ≡ Some (texts_of words.entry.items) }
+    pub fn of(list: &'a [u8]) -> Self
+        ensures { result ≡ Some (arguments_of list.now) }
     {
-        Arguments { words: Some(words) }
+        Arguments { list: Some(list) }
     }
 
     /// There are no parentheses.
     pub fn is_absent(&self) -> bool
         ensures { result ≡ is_none self.now }
     {
-        self.words.is_none()
+        self.list.is_none()
     }
 
-    /// The words between the parentheses.
-    pub fn list(&self) -> Option<&[&'a [u8]]>
-        ensures { MatchOption result (self.now ≡ None) (λ v. self.now ≡ Some (texts_of v.now)) }
+    /// What stands between the parentheses.
+    pub fn list(&self) -> Option<&'a [u8]>
+        ensures { MatchOption result (self.now ≡ None) (λ l. self.now ≡ Some (arguments_of l.now)) }
     {
-        match &self.words {
-            Some(words) => Some(words.as_slice()),
-            None => None,
-        }
+        self.list
     }
 
     /// The one argument.
@@ -80,8 +79,8 @@ impl<'a> Arguments<'a> {
         ensures { IsWord result (one_of self.now) }
     {
         match self.list() {
-            Some([word]) => Some(word),
-            _ => None,
+            Some(list) => one_word(list),
+            None => None,
         }
     }
 
@@ -90,9 +89,35 @@ impl<'a> Arguments<'a> {
         ensures { AreTwo result (two_of self.now) }
     {
         match self.list() {
-            Some([first, second]) => Some((first, second)),
-            _ => None,
+            Some(list) => two_words(list),
+            None => None,
         }
+    }
+}
+
+/// The one word of a list.
+fn one_word(list: &[u8]) -> Option<&[u8]>
+    ensures { IsWord result (one_of (Some (arguments_of list.now))) }
+{
+    if list.is_empty() {
+        return None;
+    }
+    match cut_at(list, b',') {
+        None => Some(list),
+        Some(_) => None,
+    }
+}
+
+/// The two words of a list.
+fn two_words(list: &[u8]) -> Option<(&[u8], &[u8])>
+    ensures { AreTwo result (two_of (Some (arguments_of list.now))) }
+{
+    let Some((first, second)) = cut_at(list, b',') else {
+        return None;
+    };
+    match cut_at(second, b',') {
+        None => Some((first, second)),
+        Some(_) => None,
     }
 }
 
@@ -110,18 +135,49 @@ pub fn numbers(alloc: Global, words: &[&[u8]]) -> Result<Option<Vec<u64>>, CodeE
     Ok(Some(numbers))
 }
 
-/// The numbers of the buffers that these words name, if each names one.
-pub fn buffers(alloc: Global, words: &[&[u8]]) -> Result<Option<Vec<u64>>, CodeError>
-    ensures { HasNumbers result (each_in buffer_in (texts_of words.now)) }
+/// The numbers of the buffers that the words of a list name, if each names one.
+pub fn buffers(alloc: Global, list: &[u8]) -> Result<Option<Vec<u64>>, CodeError>
+    ensures { HasNumbers result (each_in buffer_in (arguments_of list.now)) }
+{
+    if list.is_empty() {
+        return Ok(Some(Vec::new(alloc)));
+    }
+    piece_buffers(alloc, list)
+}
+
+fn piece_buffers(alloc: Global, list: &[u8]) -> Result<Option<Vec<u64>>, CodeError>
+    ensures { HasNumbers result (each_in buffer_in (slice_split is_comma list.now)) }
 {
     let mut numbers = Vec::new(alloc);
-    for word in words {
-        match read_buffer(word) {
+    let mut from = 0;
+    while from <= list.len() {
+        let to = piece_end(list, from);
+        match read_buffer(&list[from..to]) {
             Some(number) => numbers.push(number)?,
             None => return Ok(None),
         }
+        from = to + 1;
     }
     Ok(Some(numbers))
+}
+
+/// The place of the next comma, or the end.
+#[tactic(auto, using(text_lines::proofs::Places::found_at, text_lines::proofs::Places::missing_at))]
+fn piece_end(list: &[u8], from: usize) -> usize
+    requires { from ≤ length list.now }
+    ensures next { result ≡ from + position_or_len is_comma (drop from list.now) }
+    ensures within { result ≤ length list.now }
+{
+    match comma_in(&list[from..]) {
+        Some(n) => from + n,
+        None => list.len(),
+    }
+}
+
+fn comma_in(list: &[u8]) -> Option<usize>
+    ensures { result ≡ position is_comma list.now }
+{
+    list.iter().position(|byte| *byte == b',')
 }
 
 /// Each number is above the one before it.
@@ -147,15 +203,18 @@ pub struct Declaration {
 }
 
 /// bN,LEN or bN,LEN,PLACES
-pub fn read_declaration(words: &[&[u8]]) -> Option<Declaration>
-    ensures { IsDeclaration result (declaration_in (texts_of words.now)) }
+pub fn read_declaration(list: &[u8]) -> Option<Declaration>
+    ensures { IsDeclaration result (declaration_in (arguments_of list.now)) }
 {
-    match words {
-        [buffer, len] => declared(read_buffer(buffer), read_length(len), Some(1)),
-        [buffer, len, places] => {
-            declared(read_buffer(buffer), read_length(len), read_places(places))
-        }
-        _ => None,
+    let Some((buffer, rest)) = cut_at(list, b',') else {
+        return None;
+    };
+    let Some((len, places)) = cut_at(rest, b',') else {
+        return declared(read_buffer(buffer), read_length(rest), Some(1));
+    };
+    match cut_at(places, b',') {
+        None => declared(read_buffer(buffer), read_length(len), read_places(places)),
+        Some(_) => None,
     }
 }
 

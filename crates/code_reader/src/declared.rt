@@ -4,7 +4,7 @@ ghost use Rattle.code_text.specs.Text.{declaration_of, numbered, pairs_of};
 ghost use Rattle.code_reader.specs.Given.{GivesNumbers};
 ghost use Rattle.code_reader.specs.Views.{GivesDeclaration};
 
-use crate::arguments::{Arguments, Declaration, ascends, numbers, read_declaration};
+use crate::arguments::{Arguments, Declaration, ascends, cut_list, numbers, read_declaration};
 use crate::fault::bad_argument;
 use crate::numbers::Numbers;
 use code_text::{CodeError, Numbered};
@@ -15,10 +15,11 @@ use syn_base::OutOfMemory;
 pub fn read_pairs(alloc: Global, line: u32, arguments: &Arguments) -> Result<Vec<u64>, CodeError>
     ensures { GivesNumbers result (pairs_of line arguments.now) }
 {
-    let Some(words) = arguments.list() else {
+    let Some(list) = arguments.list() else {
         return Err(bad_argument(line));
     };
-    let Some(pairs) = numbers(alloc, words)? else {
+    let words = cut_list(alloc, list)?;
+    let Some(pairs) = numbers(alloc, words.as_slice())? else {
         return Err(bad_argument(line));
     };
     if ascends(pairs.as_slice()) {
@@ -59,10 +60,10 @@ pub fn read_buffer_line(
 ) -> Result<Declaration, CodeError>
     ensures { GivesDeclaration result (declaration_of line here.now arguments.now) }
 {
-    let Some(words) = arguments.list() else {
+    let Some(list) = arguments.list() else {
         return Err(bad_argument(line));
     };
-    let Some(declared) = read_declaration(words) else {
+    let Some(declared) = read_declaration(list) else {
         return Err(bad_argument(line));
     };
     if here.are_followed_by(declared.number) {

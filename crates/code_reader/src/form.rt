@@ -1,13 +1,10 @@
 //! The forms of a line.
 ghost use Rattle.std.specs.Prelude.{◌≡◌, ◌==◌, ◌<◌, length, position, IfSome};
 ghost use Rattle.std.specs.List.{list_any};
-ghost use Rattle.code_text.specs.Forms.{call_form, form_of, is_mark, is_unmarked, list_form, lists_form, may_name, name_form, op_form, operation_form, word_form};
-ghost use Rattle.code_reader.specs.Given.{Has};
-ghost use Rattle.code_reader.specs.Views.{HasForm, IsCutAt, IsForm, IsInside, texts_of};
+ghost use Rattle.code_text.specs.Forms.{call_form, is_mark, is_unmarked, list_form, lists_form, may_name, name_form, op_form, operation_form, word_form};
+ghost use Rattle.code_reader.specs.Views.{IsCutAt, IsForm, IsInside};
 
 use crate::word::is_name;
-use code_text::CodeError;
-use std::alloc::Global;
 
 /// A line, whose lists are not cut yet.
 #[derive(Drop)]
@@ -24,19 +21,8 @@ pub enum Form<'a> {
     },
 }
 
-/// The form of a line with these words, if it has one.
-pub fn read_form<'a>(alloc: Global, words: &[&'a [u8]]) -> Result<Option<Form<'a>>, CodeError>
-    ensures { HasForm result (form_of (texts_of words.now)) }
-{
-    match words {
-        [word] => word_form(alloc, word),
-        [op, word] => Ok(op_form(op, word)),
-        _ => Ok(None),
-    }
-}
-
 /// `op` and OPERATION(INS;OUTS)
-fn op_form<'a>(op: &[u8], word: &'a [u8]) -> Option<Form<'a>>
+pub fn op_form<'a>(op: &[u8], word: &'a [u8]) -> Option<Form<'a>>
     ensures { IsForm result (op_form op.now word.now) }
 {
     if op == b"op".as_slice() {
@@ -47,38 +33,34 @@ fn op_form<'a>(op: &[u8], word: &'a [u8]) -> Option<Form<'a>>
 }
 
 /// NAME or NAME(LIST)
-fn word_form<'a>(alloc: Global, word: &'a [u8]) -> Result<Option<Form<'a>>, CodeError>
-    ensures { HasForm result (word_form word.now) }
+pub fn word_form(word: &[u8]) -> Option<Form<'_>>
+    ensures { IsForm result (word_form word.now) }
 {
     match cut_at(word, b'(') {
-        Some((name, rest)) => list_form(alloc, name, rest),
-        None => name_form(alloc, word),
+        Some((name, rest)) => list_form(name, rest),
+        None => name_form(word),
     }
 }
 
-fn name_form<'a>(alloc: Global, word: &'a [u8]) -> Result<Option<Form<'a>>, CodeError>
-    ensures { HasForm result (name_form word.now) }
+fn name_form(word: &[u8]) -> Option<Form<'_>>
+    ensures { IsForm result (name_form word.now) }
 {
-    if may_name(alloc, word)? {
-        Ok(Some(Form::Bare(word)))
+    if may_name(word) {
+        Some(Form::Bare(word))
     } else {
-        Ok(None)
+        None
     }
 }
 
-fn list_form<'a>(
-    alloc: Global,
-    name: &'a [u8],
-    rest: &'a [u8],
-) -> Result<Option<Form<'a>>, CodeError>
-    ensures { HasForm result (list_form name.now rest.now) }
+fn list_form<'a>(name: &'a [u8], rest: &'a [u8]) -> Option<Form<'a>>
+    ensures { IsForm result (list_form name.now rest.now) }
 {
-    if !may_name(alloc, name)? {
-        return Ok(None);
+    if !may_name(name) {
+        return None;
     }
     match closed(rest) {
-        Some(list) if is_unmarked(list) => Ok(Some(Form::Listed(name, list))),
-        _ => Ok(None),
+        Some(list) if is_unmarked(list) => Some(Form::Listed(name, list)),
+        _ => None,
     }
 }
 
@@ -118,10 +100,10 @@ fn lists_form<'a>(operation: &'a [u8], lists: &'a [u8]) -> Option<Form<'a>>
 }
 
 /// A name that may be that of a macro.
-fn may_name(alloc: Global, word: &[u8]) -> Result<bool, CodeError>
-    ensures { Has result (may_name word.now) }
+fn may_name(word: &[u8]) -> bool
+    ensures { result ≡ may_name word.now }
 {
-    Ok(is_name(alloc, word)? && word != b"op".as_slice())
+    is_name(word) && word != b"op".as_slice()
 }
 
 /// Neither a parenthesis nor a semicolon stands there.
@@ -146,7 +128,7 @@ fn closed(text: &[u8]) -> Option<&[u8]>
 }
 
 /// What stands before the first mark, and what stands after it.
-fn cut_at(text: &[u8], mark: u8) -> Option<(&[u8], &[u8])>
+pub fn cut_at(text: &[u8], mark: u8) -> Option<(&[u8], &[u8])>
     ensures { IsCutAt (λ b. b == mark) result text.now }
 {
     match place_of(text, mark) {

@@ -1,11 +1,12 @@
 //! Lines of instructions.
-ghost use Rattle.std.specs.Prelude.{◌≡◌};
-ghost use Rattle.code_text.specs.Forms.{buffer_in};
-ghost use Rattle.code_text.specs.Text.{declared_buffer, ends_of, first_unknown, is_known, moved_of, pair_of};
+ghost use Rattle.std.specs.Prelude.{◌≡◌, Some};
+ghost use Rattle.std.specs.List.{list_all};
+ghost use Rattle.code_text.specs.Forms.{arguments_of, buffer_in, each_in};
+ghost use Rattle.code_text.specs.Text.{declared_buffer, ends_of, first_unknown, is_among, is_known, moved_of, pair_of};
 ghost use Rattle.code_reader.specs.Given.{Gives, GivesEnds, GivesMoved};
-ghost use Rattle.code_reader.specs.Views.{GivesInstr, IsWord, call_in, texts_of};
+ghost use Rattle.code_reader.specs.Views.{GivesInstr, HasWord, IsWord, call_in, texts_of};
 
-use crate::arguments::{Arguments, buffers};
+use crate::arguments::{Arguments, buffers, cut_list};
 use crate::fault::{bad_argument, unknown_name};
 use crate::known::Known;
 use crate::numbers::Numbers;
@@ -29,12 +30,12 @@ pub struct Ends {
     pub to: u32,
 }
 
-/// An operation with the words for the buffers that it reads and those that it writes.
+/// An operation with the list of the buffers that it reads and that of those that it writes.
 #[derive(Clone, Copy)]
 pub struct Operation<'a> {
     pub name: &'a [u8],
-    pub ins: &'a [&'a [u8]],
-    pub outs: &'a [&'a [u8]],
+    pub ins: &'a [u8],
+    pub outs: &'a [u8],
 }
 
 /// Suc0_(q) and its like, of a pair that is declared here.
@@ -92,7 +93,7 @@ pub fn read_transfer(
     let Some(number) = read_buffer(first) else {
         return Err(bad_argument(line));
     };
-    if !is_name(alloc, second)? {
+    if !is_name(second) {
         return Err(bad_argument(line));
     }
     let buffer = declared_buffer(alloc, line, here, first, number)?;
@@ -112,10 +113,10 @@ pub fn read_sync(
     let Some((first, second)) = arguments.two() else {
         return Err(bad_argument(line));
     };
-    if !is_name(alloc, first)? {
+    if !is_name(first) {
         return Err(bad_argument(line));
     }
-    if !is_name(alloc, second)? {
+    if !is_name(second) {
         return Err(bad_argument(line));
     }
     let from = known.operator(alloc, line, first)?;
@@ -145,6 +146,31 @@ fn first_unknown<'a>(here: &Numbers, words: &[&'a [u8]]) -> Option<&'a [u8]>
     None
 }
 
+/// All of these buffers are declared here.
+fn are_known(here: &Numbers, buffers: &[u64]) -> bool
+    ensures { result ≡ list_all (is_among here.now) buffers.now }
+{
+    buffers.iter().all(|buffer| here.has(*buffer))
+}
+
+/// The first word of a list, which names these buffers, whose buffer is not declared here. The list is cut into
+/// words only where there is one.
+fn first_unlisted<'a>(
+    alloc: Global,
+    here: &Numbers,
+    list: &'a [u8],
+    buffers: &[u64],
+) -> Result<Option<&'a [u8]>, CodeError>
+    requires { each_in buffer_in (arguments_of list.now) ≡ Some buffers.now }
+    ensures { HasWord result (first_unknown here.now (arguments_of list.now)) }
+{
+    if are_known(here, buffers) {
+        return Ok(None);
+    }
+    let words = cut_list(alloc, list)?;
+    Ok(first_unknown(here, words.as_slice()))
+}
+
 /// op OPERATION(INS;OUTS)
 pub fn read_call(
     alloc: Global,
@@ -164,10 +190,10 @@ pub fn read_call(
     let Some(vertex) = known.operation(operation.name) else {
         return Err(unknown_name(alloc, line, operation.name));
     };
-    if let Some(word) = first_unknown(here, operation.ins) {
+    if let Some(word) = first_unlisted(alloc, here, operation.ins, ins.as_slice())? {
         return Err(unknown_name(alloc, line, word));
     }
-    if let Some(word) = first_unknown(here, operation.outs) {
+    if let Some(word) = first_unlisted(alloc, here, operation.outs, outs.as_slice())? {
         return Err(unknown_name(alloc, line, word));
     }
     Ok(Written::Call {

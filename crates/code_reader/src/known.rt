@@ -149,7 +149,7 @@ impl<'a> Known<'a> {
     ) -> Result<u32, CodeError>
         ensures { Gives result (processor_of self.now.archi line last arguments.now) }
     {
-        let word = name_of(alloc, line, arguments)?;
+        let word = name_of(line, arguments)?;
         let operator = self.operator(alloc, line, word)?;
         if follows(last, operator) {
             Ok(operator)
@@ -178,7 +178,7 @@ impl<'a> Known<'a> {
     ) -> Result<Joined<'b>, CodeError>
         ensures { GivesJoined result (medium_of self.now.archi line media.now arguments.now) }
     {
-        let word = name_of(alloc, line, arguments)?;
+        let word = name_of(line, arguments)?;
         let medium = self.medium(alloc, line, word)?;
         if are_followed_by(media, medium) {
             Ok(Joined { word, medium })
@@ -208,13 +208,13 @@ impl<'a> Known<'a> {
 }
 
 /// The one argument of a line, which is a name.
-fn name_of<'a>(alloc: Global, line: u32, arguments: &Arguments<'a>) -> Result<&'a [u8], CodeError>
+fn name_of<'a>(line: u32, arguments: &Arguments<'a>) -> Result<&'a [u8], CodeError>
     ensures { GivesWord result (name_of line arguments.now) }
 {
     let Some(word) = arguments.one() else {
         return Err(bad_argument(line));
     };
-    if !is_name(alloc, word)? {
+    if !is_name(word) {
         return Err(bad_argument(line));
     }
     Ok(word)

@@ -1,19 +1,19 @@
 //! The lines of a text, one after the other.
-ghost use Rattle.std.specs.Prelude.{◌≤◌, length};
+ghost use Rattle.std.specs.Prelude.{◌≤◌, ◌∷◌, [], length};
 ghost use Rattle.text_lines.specs.Text.{lines_of};
 ghost use Rattle.code_text.specs.Text.{line_of, macro_line, named_line, next_line, placed_line, program_in, rest_of, start, words_line};
 ghost use Rattle.code_reader.specs.Given.{Gives, Steps};
-ghost use Rattle.code_reader.specs.Views.{form_view, operation_line, texts_of};
+ghost use Rattle.code_reader.specs.Views.{form_view, operation_line};
 ghost use Rattle.code_reader.specs.Read.{reading};
 
-use crate::arguments::{Arguments, cut_list};
+use crate::arguments::Arguments;
 use crate::fault::{bad_line, unknown_macro};
-use crate::form::{Form, read_form};
+use crate::form::{Form, op_form, word_form};
 use crate::instruction::{Operation, read_call};
 use crate::known::Known;
 use crate::macros::find_macro;
 use crate::reader::Reader;
-use crate::word::words;
+use crate::word::{LineWords, has_foreign, words};
 use archi_graph::Archi;
 use code_text::CodeError;
 use executive_program::Program;
@@ -114,33 +114,39 @@ impl Reader {
     {
         match form {
             Form::Bare(name) => self.named_line(known, line, name, &Arguments::none()),
-            Form::Listed(name, list) => {
-                let words = cut_list(self.alloc, list)?;
-                self.named_line(known, line, name, &Arguments::of(words))
-            }
+            Form::Listed(name, list) => self.named_line(known, line, name, &Arguments::of(list)),
             Form::Call {
                 operation,
                 ins,
                 outs,
             } => {
-                let ins = cut_list(self.alloc, ins)?;
-                let outs = cut_list(self.alloc, outs)?;
                 let operation = Operation {
                     name: operation,
-                    ins: ins.as_slice(),
-                    outs: outs.as_slice(),
+                    ins,
+                    outs,
                 };
                 self.call_line(known, line, &operation)
             }
         }
     }
 
-    /// A line with these words, of which there are some.
-    fn words_line(&mut self, known: &Known, line: u32, words: &[&[u8]]) -> Result<(), CodeError>
+    /// A line of one word.
+    fn word_line(&mut self, known: &Known, line: u32, word: &[u8]) -> Result<(), CodeError>
         ensures { Steps result (reading self.new)
-            (words_line known.now.operations known.now.archi (reading self.old) line (texts_of words.now)) }
+            (words_line known.now.operations known.now.archi (reading self.old) line (word.now ∷ [])) }
     {
-        match read_form(self.alloc, words)? {
+        match word_form(word) {
+            Some(form) => self.line_of(known, line, &form),
+            None => Err(bad_line(line)),
+        }
+    }
+
+    /// A line of two words.
+    fn op_line(&mut self, known: &Known, line: u32, op: &[u8], word: &[u8]) -> Result<(), CodeError>
+        ensures { Steps result (reading self.new)
+            (words_line known.now.operations known.now.archi (reading self.old) line (op.now ∷ word.now ∷ [])) }
+    {
+        match op_form(op, word) {
             Some(form) => self.line_of(known, line, &form),
             None => Err(bad_line(line)),
         }
@@ -151,14 +157,16 @@ impl Reader {
         ensures { Steps result (reading self.new)
             (next_line known.now.operations known.now.archi (reading self.old) line text.now) }
     {
-        if text_lines::foreign(text).is_some() {
+        let code = text_lines::code(text);
+        if has_foreign(code) {
             return Err(bad_line(line));
         }
-        let words = words(self.alloc, text_lines::code(text))?;
-        if words.is_empty() {
-            return Ok(());
+        match words(code) {
+            LineWords::Blank => Ok(()),
+            LineWords::One(word) => self.word_line(known, line, word),
+            LineWords::Two(op, word) => self.op_line(known, line, op, word),
+            LineWords::Many => Err(bad_line(line)),
         }
-        self.words_line(known, line, words.as_slice())
     }
 }
 

@@ -1,38 +1,125 @@
 //! What the words of a line are.
-ghost use Rattle.std.specs.Prelude.{◌≡◌, ◌≤◌, ◌<◌, ◌++◌, ◌∷◌, [], map, length, drop, slice_index_or};
-ghost use Rattle.syn_base.specs.Name.{is_name};
-ghost use Rattle.syn_base.specs.Integer.{integer_of};
-ghost use Rattle.text_lines.specs.Text.{words_of};
+ghost use Rattle.std.specs.Prelude.{◌≡◌, ◌+◌, ◌≤◌, IfSome, length, drop, position};
+ghost use Rattle.std.specs.List.{list_all, list_any, position_or_len};
+ghost use Rattle.syn_base.specs.Name.{begins_name, is_digit, is_name, is_name_byte};
+ghost use Rattle.text_lines.specs.Text.{is_blank, is_foreign, words_of};
 ghost use Rattle.code_text.specs.Forms.{at_least, buffer_in, from_to, natural, number_in};
-ghost use Rattle.code_reader.specs.Given.{Has};
-ghost use Rattle.code_reader.specs.Views.{HasWords};
+ghost use Rattle.code_reader.specs.Views.{AreWords, IsFirstWord};
 
-use code_text::CodeError;
-use std::alloc::Global;
-use syn_base::{Name, NameFault, read_int};
-use text_lines::spans;
+use syn_base::read_int;
 
-/// The words of a line without comment.
-pub fn words<'a>(alloc: Global, code: &'a [u8]) -> Result<Vec<&'a [u8]>, CodeError>
-    ensures { HasWords result (words_of code.now) }
-{
-    let spans = spans(alloc, code)?;
-    let mut words = Vec::new(alloc);
-    for span in &spans {
-        words.push(&code[span.from..span.to])?;
-    }
-    Ok(words)
+/// The most bytes of a name.
+const LONGEST: usize = 32;
+
+/// The words of a line. No line of more than two has a form, so that the words of such a line are not told.
+#[derive(Clone, Copy)]
+pub enum LineWords<'a> {
+    Blank,
+    One(&'a [u8]),
+    Two(&'a [u8], &'a [u8]),
+    Many,
 }
 
-/// Whether a word is a name.
-pub fn is_name(alloc: Global, word: &[u8]) -> Result<bool, CodeError>
-    ensures { Has result (is_name word.now) }
+/// The words of a line without comment. It takes no memory.
+pub fn words(code: &[u8]) -> LineWords<'_>
+    ensures { AreWords result (words_of code.now) }
 {
-    match Name::new(alloc, word) {
-        Ok(_) => Ok(true),
-        Err(NameFault::BadName) => Ok(false),
-        Err(NameFault::OutOfMemory) => Err(CodeError::OutOfMemory),
+    let Some((first, rest)) = first_word(code) else {
+        return LineWords::Blank;
+    };
+    let Some((second, rest)) = first_word(rest) else {
+        return LineWords::One(first);
+    };
+    match first_word(rest) {
+        Some(_) => LineWords::Many,
+        None => LineWords::Two(first, second),
     }
+}
+
+/// The first word, and what stands behind it.
+fn first_word(code: &[u8]) -> Option<(&[u8], &[u8])>
+    ensures { IsFirstWord result code.now }
+{
+    let mut from = 0;
+    while from < code.len() {
+        if !is_blank(code[from]) {
+            let to = word_end(code, from);
+            return Some((&code[from..to], &code[to..]));
+        }
+        from += 1;
+    }
+    None
+}
+
+#[tactic(auto, using(text_lines::proofs::Places::found_at, text_lines::proofs::Places::missing_at))]
+fn word_end(code: &[u8], from: usize) -> usize
+    requires { from ≤ length code.now }
+    ensures next { result ≡ from + position_or_len is_blank (drop from code.now) }
+    ensures within { result ≤ length code.now }
+{
+    match blank_in(&code[from..]) {
+        Some(n) => from + n,
+        None => code.len(),
+    }
+}
+
+fn blank_in(code: &[u8]) -> Option<usize>
+    ensures { result ≡ position is_blank code.now }
+{
+    code.iter().position(|byte| is_blank(*byte))
+}
+
+fn is_blank(byte: u8) -> bool
+    ensures { result ≡ is_blank byte }
+{
+    byte == b'\t' || byte == b'\r' || byte == b' '
+}
+
+/// Whether a byte stands there that may not stand in a line.
+pub fn has_foreign(code: &[u8]) -> bool
+    ensures { result ≡ list_any is_foreign code.now }
+{
+    code.iter().any(|byte| is_foreign(*byte))
+}
+
+fn is_foreign(byte: u8) -> bool
+    ensures { result ≡ is_foreign byte }
+{
+    !(is_blank(byte) || (33 <= byte && byte <= 126))
+}
+
+/// Whether a word is a name. It takes no memory, unlike making one.
+pub fn is_name(word: &[u8]) -> bool
+    ensures { result ≡ is_name word.now }
+{
+    begins_name(word) && word.len() <= LONGEST && has_name_bytes(word)
+}
+
+fn begins_name(word: &[u8]) -> bool
+    ensures { result ≡ begins_name word.now }
+{
+    match word {
+        [] => false,
+        [first, ..] => !is_digit(*first),
+    }
+}
+
+fn has_name_bytes(word: &[u8]) -> bool
+    ensures { result ≡ list_all is_name_byte word.now }
+{
+    word.iter().all(|byte| is_name_byte(*byte))
+}
+
+fn is_name_byte(byte: u8) -> bool
+    ensures { result ≡ is_name_byte byte }
+{
+    byte.is_ascii_alphabetic() || is_digit(byte) || byte == b'_'
+}
+
+fn is_digit(byte: u8) -> bool
+    ensures { result ≡ is_digit byte }
+{
+    byte.is_ascii_digit()
 }
 
 /// The number from 0 on that a word is.

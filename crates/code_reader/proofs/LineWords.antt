@@ -1,0 +1,51 @@
+-- What a line says by its words.
+use Rattle.std.proofs.Common.{◌≡◌, ℕ, ◌<◌, ◌+◌, ◌-◌, Bool, true, false, cond, List, [], ◌∷◌, length, length-drop, get_or, take, drop, position, Option, Some, None, Result, Ok, if◌then◌else◌, nat_eq, refl, sym, ap, ◌∙◌, arith}
+use Rattle.std.specs.List.{list_any, position_or_len}
+use Rattle.archi_graph.specs.Archi.{Architecture}
+use Rattle.text_lines.specs.Text.{code_of, foreign_place, is_foreign, words_of}
+use Rattle.code_text.specs.declared.fault.CodeError.{CodeError}
+use Rattle.code_text.specs.declared.fault.CodeCause.TheVariants.{BadLine}
+use Rattle.code_text.specs.Forms.{Bytes}
+use Rattle.code_text.specs.Text.{Reading, line_by, next_line, refused, words_line}
+use Rattle.code_reader.proofs.Cuts.{stands}
+use Rattle.text_lines.specs.Text.{is_blank}
+use Rattle.text_lines.proofs.Reading.{Word, word_read, word_within}
+use Rattle.std.proofs.Math.Seq.{take-length}
+use Rattle.std.proofs.lemmas.List.{take_all}
+use Rattle.std.proofs.lemmas.Bool.Decides.{nat_tests}
+
+-- the first word, and what stands behind it
+pub first_read : (code : List ℕ) (from to : ℕ) → from < length code → is_blank (get_or code from 0) ≡ false → to ≡ from + position_or_len is_blank (drop from code) → words_of (drop from code) ≡ words_of code
+    → words_of code ≡ take (to - from) (drop from code) ∷ words_of (take (length code - to) (drop to code))
+first_read code from to inside letter next so_far =
+    let w : Word code code (length code) from to = record { code_is = sym (take-length code); inside = inside; letter = letter; next = next } in
+    let all : take (length code - to) (drop to code) ≡ drop to code = take_all (length code - to) (drop to code) (omega (arith, length-drop to code)) in
+    rw all (sym so_far ∙ word_read code code (length code) from to w)
+
+place_by : (xs : List ℕ) (any : Bool) → list_any is_foreign xs ≡ any → position is_foreign xs ≡ cond any (Some (position_or_len is_foreign xs)) None
+place_by xs any h = ap (λ (b : Bool). cond b (Some (position_or_len is_foreign xs)) None) (stands is_foreign xs ∙ h)
+
+module _ (operations : List Bytes) (a : Architecture) where
+  abbrev by_words : Reading → ℕ → List Bytes → Result Reading CodeError
+  by_words r n ws = if nat_eq (length ws) 0 then Ok r else words_line operations a r n ws
+
+  pub foreign_line : (r : Reading) (n : ℕ) (line code : Bytes) → code ≡ code_of line → list_any is_foreign code ≡ true → next_line operations a r n line ≡ refused n BadLine
+  foreign_line r n line code is h =
+      let any : list_any is_foreign (code_of line) ≡ true = ap (list_any is_foreign) (sym is) ∙ h in
+      ap (line_by operations a r n line) (place_by (code_of line) true any)
+
+  pub clean_line : (r : Reading) (n : ℕ) (line code : Bytes) (ws : List Bytes) → code ≡ code_of line → list_any is_foreign code ≡ false → words_of code ≡ ws → next_line operations a r n line ≡ by_words r n ws
+  clean_line r n line code ws is h words =
+      let none : list_any is_foreign (code_of line) ≡ false = ap (list_any is_foreign) (sym is) ∙ h in
+      ap (line_by operations a r n line) (place_by (code_of line) false none) ∙ ap (by_words r n) (ap words_of (sym is) ∙ words)
+
+  long : (r : Reading) (n : ℕ) (ws : List Bytes) → 2 < length ws → by_words r n ws ≡ refused n BadLine
+  long r n [] h = absurd (omega arith)
+  long r n (w ∷ []) h = absurd (omega arith)
+  long r n (w ∷ v ∷ []) h = absurd (omega arith)
+  long r n (w ∷ v ∷ u ∷ ws) h =
+      let no : nat_eq (length (w ∷ v ∷ u ∷ ws)) 0 ≡ false = grind (arith, nat_tests) in
+      ap (λ (b : Bool). cond b (Ok r) (words_line operations a r n (w ∷ v ∷ u ∷ ws))) no
+
+  pub long_line : (r : Reading) (n : ℕ) (line code : Bytes) (ws : List Bytes) → code ≡ code_of line → list_any is_foreign code ≡ false → words_of code ≡ ws → 2 < length ws → next_line operations a r n line ≡ refused n BadLine
+  long_line r n line code ws is h words many = clean_line r n line code ws is h words ∙ long r n ws many
