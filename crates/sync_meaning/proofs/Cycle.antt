@@ -15,9 +15,9 @@ use Rattle.algo_tree.specs.declared.vertex.Kind.TheVariants.{Sensor, Actuator, C
 use Rattle.sync_meaning.specs.declared.store.Store.{Store, out-Store}
 use Rattle.level_order.specs.Order.{MayRun, IsOrder, nodes_of}
 use Rattle.level_order.proofs.Nodes.{length-nodes_of}
-use Rattle.sync_meaning.specs.Store.{AreOf, Fits, lengths}
+use Rattle.sync_meaning.specs.Store.{is_delay, AreOf, Fits, lengths}
 use Rattle.sync_meaning.specs.Sound.{IsSound, AreSound, IsAlone}
-use Rattle.sync_meaning.specs.Run.{InRun, RunsAt, NodeReacts, CaseReacts, given, in_lengths, is_delay}
+use Rattle.sync_meaning.specs.Run.{InRun, RunsAt, NodeReacts, CaseReacts, given, in_lengths}
 use Rattle.sync_meaning.proofs.Nodes.{not_delay}
 use Rattle.sync_meaning.proofs.Stores.{view_out, label_is}
 use Rattle.sync_meaning.proofs.Lists.{length-map, length_at, length_like}

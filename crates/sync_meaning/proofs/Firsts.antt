@@ -20,9 +20,9 @@ use Rattle.algo_tree.specs.declared.vertex.Kind as declared
 use Rattle.algo_tree.specs.declared.vertex.Kind.TheVariants.{Sensor, Actuator, Constant, Delay, Function, Explode, Implode, Merge, Graph, Switch, Repeat}
 use Rattle.sync_meaning.specs.declared.store.Store.{Store, roll-Store}
 use Rattle.sync_meaning.specs.declared.store.Store.TheOpen.{Store-F}
-use Rattle.level_order.specs.Order.{IsOrder, nodes_of}
+use Rattle.level_order.specs.Order.{nodes_of}
 use Rattle.level_order.proofs.Nodes.{nodes_view}
-use Rattle.sync_meaning.specs.Store.{Fits, FitsKind, AllFit, CopiesFit, state_of, state_in, state_of_copies, copy_state, lengths, kept_here, kept_inside, kept_at}
+use Rattle.sync_meaning.specs.Store.{HasTurns, delay_flags, Fits, FitsKind, AllFit, CopiesFit, state_of, state_in, state_of_copies, copy_state, lengths, kept_here, kept_inside, kept_at}
 use Rattle.sync_meaning.specs.Run.{in_lengths}
 use Rattle.sync_meaning.specs.First.{IsFirst, AreFirst, AreCopies}
 use Rattle.sync_meaning.proofs.Stores.{view_out, label_is, state_out, state-roll, fits-roll}
@@ -125,9 +125,9 @@ module _ (u : Declared) (lens : List ℕ) (x : Store-F Store) (ins : x.ins ≡ m
       at_path [] = rw is kept
       at_path (p ∷ q) = rw (is, empty) (none_kept us p q)
 
-  pub first-graph : (sources : List Source) → (out-Vertex u).kind ≡ Graph sources → IsOrder (nodes_of (out-Vertex u).inner.items) x.order.items → map lengths x.outs.items ≡ outs_of us
+  pub first-graph : (sources : List Source) → (out-Vertex u).kind ≡ Graph sources → HasTurns (nodes_of (out-Vertex u).inner.items) (delay_flags us) x.turns → map lengths x.outs.items ≡ outs_of us
       → AreFirst lens (outs_of us) (out-Vertex u).inner.items x.inner.items → IsFirst lens (view u) (roll-Store x)
-  first-graph sources is order table first = first_of (rw is ((subst (λ cs. IsOrder cs x.order.items) (sym (nodes_view (out-Vertex u).inner.items)) order, table), all_fit lens (outs_of us) (out-Vertex u).inner.items x.inner.items first)) at_path
+  first-graph sources is turns table first = first_of (rw is ((subst (λ cs. HasTurns cs (delay_flags us) x.turns) (sym (nodes_view (out-Vertex u).inner.items)) turns, table), all_fit lens (outs_of us) (out-Vertex u).inner.items x.inner.items first)) at_path
     where
       at_path : (q : Path) → state_out l us x q ≡ kind_initial l.kind (nodes us) q
       at_path [] = rw is refl

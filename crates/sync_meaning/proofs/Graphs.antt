@@ -16,9 +16,9 @@ use Rattle.algo_tree.specs.declared.vertex.Vertex.{Vertex as Declared, out-Verte
 use Rattle.algo_tree.specs.declared.vertex.Kind.TheVariants.{Graph}
 use Rattle.sync_meaning.specs.declared.store.Store.{Store, out-Store, roll-Store}
 use Rattle.sync_meaning.specs.declared.store.Store.TheOpen.{Store-F}
-use Rattle.level_order.specs.Order.{IsOrder, nodes_of}
+use Rattle.level_order.specs.Order.{nodes_of}
 use Rattle.level_order.proofs.Nodes.{nodes_view}
-use Rattle.sync_meaning.specs.Store.{Fits, FitsKind, AllFit, CopiesFit, state_of, lengths}
+use Rattle.sync_meaning.specs.Store.{HasTurns, delay_flags, Fits, FitsKind, AllFit, CopiesFit, state_of, lengths}
 use Rattle.sync_meaning.specs.Sound.{IsSound, AreSound, SensorsFit}
 use Rattle.sync_meaning.specs.Run.{Reacts, LevelReacts, given, level_state, level_look}
 use Rattle.sync_meaning.proofs.Stores.{view_out, state_out, state-roll, fits-roll}
@@ -67,13 +67,13 @@ module _ (u : Declared) (sources : List Source) (is : (out-Vertex u).kind ≡ Gr
       let here = rw e at well in
       subst (λ cs. IsAcyclic cs × HasDistinctParts cs) (nodes_view inner) here.1
 
-  fit_kind : (lens : List ℕ) (k : Store) → Fits lens (view u) k → (IsOrder (nodes us) (out-Store k).order.items × (map lengths (out-Store k).outs.items ≡ outs_of us)) × AllFit lens (outs_of us) us (out-Store k).inner.items
+  fit_kind : (lens : List ℕ) (k : Store) → Fits lens (view u) k → (HasTurns (nodes us) (delay_flags us) (out-Store k).turns × (map lengths (out-Store k).outs.items ≡ outs_of us)) × AllFit lens (outs_of us) us (out-Store k).inner.items
   fit_kind lens k h =
       let fit = (subst (λ v. Fits lens v k) (view_out u) h).1 in
       rw e at fit
 
-  pub graph_order : (lens : List ℕ) (k : Store) → Fits lens (view u) k → IsOrder (nodes_of inner) (out-Store k).order.items
-  graph_order lens k h = subst (λ cs. IsOrder cs (out-Store k).order.items) (nodes_view inner) (fit_kind lens k h).0.0
+  pub graph_turns : (lens : List ℕ) (k : Store) → Fits lens (view u) k → HasTurns (nodes_of inner) (delay_flags us) (out-Store k).turns
+  graph_turns lens k h = subst (λ cs. HasTurns cs (delay_flags us) (out-Store k).turns) (nodes_view inner) (fit_kind lens k h).0.0
 
   pub graph_table : (lens : List ℕ) (k : Store) → Fits lens (view u) k → map lengths (out-Store k).outs.items ≡ outs_of us
   graph_table lens k h = (fit_kind lens k h).0.1
@@ -90,7 +90,7 @@ module _ (u : Declared) (sources : List Source) (is : (out-Vertex u).kind ≡ Gr
     ks = (out-Store k).inner.items
 
     abbrev after : Store-F Store
-    after = record { ins = ins; kept = (out-Store k).kept; order = (out-Store k).order; outs = table; inner = new }
+    after = record { ins = ins; kept = (out-Store k).kept; turns = (out-Store k).turns; outs = table; inner = new }
 
     abbrev L : Source → Vector
     L = level_look inner row ins ks

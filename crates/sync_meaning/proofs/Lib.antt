@@ -5,6 +5,7 @@ pub mod Nodes
 pub mod Levels
 pub mod Index
 pub mod Steps
+pub mod Delays
 pub mod Graphs
 pub mod Switches
 pub mod Cycle

@@ -12,8 +12,8 @@ use Rattle.algo_tree.specs.declared.vertex.Kind as declared
 use Rattle.algo_tree.specs.declared.vertex.Kind.TheVariants.{Sensor, Actuator, Constant, Delay, Function, Explode, Implode, Merge, Graph, Switch, Repeat}
 use Rattle.sync_meaning.specs.declared.store.Store.{Store, out-Store, roll-Store, out-roll-Store}
 use Rattle.sync_meaning.specs.declared.store.Store.TheOpen.{Store-F}
-use Rattle.sync_meaning.specs.Store.{Fits, FitsKind, state_of, lengths}
-use Rattle.sync_meaning.specs.Run.{Reacts, NodeReacts, Runs, RunsAt, is_delay, given}
+use Rattle.sync_meaning.specs.Store.{is_delay, Fits, FitsKind, state_of, lengths}
+use Rattle.sync_meaning.specs.Run.{Reacts, NodeReacts, Runs, RunsAt, given}
 use Rattle.sync_meaning.proofs.Lists.{length-zeros}
 use Rattle.sync_meaning.proofs.Stores.{view_out, state_out, state-roll, fits-roll}
 
@@ -50,7 +50,7 @@ lengths-zeros [] = refl
 lengths-zeros (n ∷ ns) = ap (λ m. m ∷ lengths (map zeros ns)) (length-zeros n) ∙ ap (λ ms. n ∷ ms) (lengths-zeros ns)
 
 abbrev pub with_ins : Store → Values → Store-F Store
-with_ins k ins = record { ins = ins; kept = (out-Store k).kept; order = (out-Store k).order; outs = (out-Store k).outs; inner = (out-Store k).inner }
+with_ins k ins = record { ins = ins; kept = (out-Store k).kept; turns = (out-Store k).turns; outs = (out-Store k).outs; inner = (out-Store k).inner }
 
 same_state_at : (l : Label) (us : Vertices) (k : Store) (ins : Values) (q : Path) → state_out l us (with_ins k ins) q ≡ state_of (vertex l us) k q
 same_state_at l us k ins [] = refl

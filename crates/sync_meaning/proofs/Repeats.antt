@@ -231,7 +231,7 @@ module _ (u b : Declared) (sensors : List ℕ) (n : ℕ) (feeds : List Feed) (gi
   us' = vertices_view (out-Vertex u).inner.items
 
   abbrev after : Store-F Store
-  after = record { ins = ins; kept = (out-Store k).kept; order = (out-Store k).order; outs = table; inner = new }
+  after = record { ins = ins; kept = (out-Store k).kept; turns = (out-Store k).turns; outs = table; inner = new }
 
   asks : RepeatAsks u b sensors (lengths ins) n feeds gives k
   asks = repeat_asks u sensors (lengths ins) n feeds gives is k b at sound fit

@@ -100,11 +100,11 @@ not_main u h no_graph = let g = graph_of (out-Vertex u).kind (main_kind u h) in 
 -- one reaction of the main graph, by its level
 pub main_reacts : (u : Declared) (sources : List Source) → (out-Vertex u).kind ≡ Graph sources → (row : Values) (k : Store) (table : Vec Ins Global) (new : Vec Store Global) → HasNoPorts (label_of (view u)) → IsWell (view u) → IsTyped [] (view u) → Fits [] (view u) k
     → LevelReacts (out-Vertex u).inner.items row (out-Store k).ins (outs_of (vertices_view (out-Vertex u).inner.items)) (out-Store k).inner.items new.items table.items
-    → MainReacts (view u) row k (roll-Store (record { ins = (out-Store k).ins; kept = (out-Store k).kept; order = (out-Store k).order; outs = table; inner = new }))
+    → MainReacts (view u) row k (roll-Store (record { ins = (out-Store k).ins; kept = (out-Store k).kept; turns = (out-Store k).turns; outs = table; inner = new }))
 main_reacts u sources is row k table new portless well typed fit level =
     let lens : lengths (out-Store k).ins ≡ [] = fit_lens u [] k fit in
     let none : (out-Store k).ins ≡ [] = none_long (out-Store k).ins lens in
-    let x : Store-F Store = record { ins = (out-Store k).ins; kept = (out-Store k).kept; order = (out-Store k).order; outs = table; inner = new } in
+    let x : Store-F Store = record { ins = (out-Store k).ins; kept = (out-Store k).kept; turns = (out-Store k).turns; outs = table; inner = new } in
     let after : Store = roll-Store x in
     let inner = (out-Vertex u).inner.items in
     let us = vertices_view inner in

@@ -1,5 +1,5 @@
 -- The vertices of a level run one after another.
-use Rattle.std.proofs.Common.{◌≡◌, ◌≢◌, ℕ, zero, suc, ◌+◌, ◌<◌, ◌≤◌, inl, inr, List, [], ◌∷◌, ◌++◌, length, get_or, set, map, Bool, true, false, cond, Option, Some, None, slice_get, refl, sym, ap, ◌∙◌, arith, get_or-set_other, get_or-set_same, length-set}
+use Rattle.std.proofs.Common.{◌≡◌, ℕ, zero, suc, ◌<◌, ◌≤◌, inl, inr, List, [], ◌∷◌, ◌++◌, length, get_or, set, map, Bool, true, false, cond, Option, Some, None, slice_get, refl, sym, ap, ◌∙◌, arith, get_or-set_other, get_or-set_same, length-set}
 use mathlib.Core.Path.{fun_ext}
 use Rattle.std.proofs.lemmas.Bool.{false≢true, cases_lt}
 use Rattle.std.proofs.lemmas.List.{get_or_default, get_or_past}
@@ -18,8 +18,8 @@ use Rattle.algo_tree.specs.declared.vertex.Vertex.{Vertex as Declared}
 use Rattle.sync_meaning.specs.declared.store.Store.{Store}
 use Rattle.level_order.specs.Order.{is_among, MayRun, nodes_of}
 use Rattle.level_order.proofs.Nodes.{slice_get-at, node_at, length-nodes_of}
-use Rattle.sync_meaning.specs.Store.{AllFit, state_of, lengths}
-use Rattle.sync_meaning.specs.Run.{InRun, KeptAt, Runs, RunsAt, Advances, AllAdvance, LevelReacts, is_delay, next_but_delay, given, level_state, level_out, level_look, in_lengths}
+use Rattle.sync_meaning.specs.Store.{is_delay, AllFit, state_of, lengths}
+use Rattle.sync_meaning.specs.Run.{InRun, KeptAt, Runs, RunsAt, AllAdvance, LevelReacts, next_but_delay, given, level_state, level_out, level_look, in_lengths}
 use Rattle.sync_meaning.proofs.Lists.{length-map}
 use Rattle.sync_meaning.proofs.Levels.{state_at}
 use Rattle.level_order.proofs.Among.{eqb_cases, among_end, among_other}
@@ -228,28 +228,3 @@ module _ (us : List Declared) (row own : Values) (ks : List Store) (acyclic : Is
             step.state row ∙ ap (λ f. cond (is_delay (label_of v).kind) (node_next row (state_of v (get_or mid r k)) f (node v)) (state_of v (get_or mid r k))) look in
             by_delay (is_delay (label_of v).kind) (state_of v (get_or ks r k)) (state_of v (get_or mid r k)) (state_of v (get_or new r k)) (λ s. node_next row s L (node v)) mid_is new_is;
       }
-
--- the delays below r have advanced
-module _ (own : List ℕ) (outs : List (List ℕ)) (us : List Declared) (look : Source → Vector) (old cur : List Store) (r : ℕ) where
-  abbrev pub Before : Type 0
-  Before = (q : ℕ) (u : Declared) (k : Store) → q < r → Advances (view (get_or us q u)) (in_lengths own outs (view (get_or us q u))) look (get_or old q k) (get_or cur q k)
-
-  abbrev pub After : Type 0
-  After = (q : ℕ) (k : Store) → r ≤ q → get_or cur q k ≡ get_or old q k
-
-  pub advance_before : (u : Declared) (k k' : Store) → r < length us → length cur ≡ length us → length old ≡ length us → u ≡ get_or us r u → k ≡ get_or cur r k
-      → Advances (view u) (in_lengths own outs (view u)) look k k' → Before → After
-      → (q : ℕ) (v : Declared) (j : Store) → q < r + 1 → Advances (view (get_or us q v)) (in_lengths own outs (view (get_or us q v))) look (get_or old q j) (get_or (set cur r k') q j)
-  advance_before u k k' lt long longer us_at cur_at step before after q v j h =
-      elim (cases_lt q r) [
-        | inl lower ↦ let other : q ≢ r = omega arith in rw (get_or-set_other cur r q k' j other) (before q v j lower)
-        | inr above ↦
-            let here : q ≡ r = omega arith in
-            let new : get_or (set cur r k') q j ≡ k' = rw here (get_or-set_same cur r k' j (omega arith)) in
-            let was : get_or old q j ≡ k = sym (after q j (omega arith)) ∙ rw here (get_or_default cur r j k (omega arith) ∙ sym cur_at) in
-            let at : get_or us q v ≡ u = rw here (get_or_default us r v u lt ∙ sym us_at) in
-            rw (at, was, new) step
-      ]
-
-  pub advance_after : (k' : Store) → After → (q : ℕ) (j : Store) → r + 1 ≤ q → get_or (set cur r k') q j ≡ get_or old q j
-  advance_after k' after q j h = let other : q ≢ r = omega arith in rw (get_or-set_other cur r q k' j other) (after q j (omega arith))

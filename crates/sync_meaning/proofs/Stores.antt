@@ -52,7 +52,7 @@ module _ (l : Label) (us : Vertices) where
 -- a delay, by what it keeps
 module _ (l : Label) (us : Vertices) (vs : List (List ℤ)) (e : l.kind ≡ delay vs) (row : Values) (k : Store) (kept outs : Values) where
   abbrev then : Store-F Store
-  then = record { ins = (out-Store k).ins; kept = kept; order = (out-Store k).order; outs = (out-Store k).outs; inner = (out-Store k).inner }
+  then = record { ins = (out-Store k).ins; kept = kept; turns = (out-Store k).turns; outs = (out-Store k).outs; inner = (out-Store k).inner }
 
   delay_next_at : kept ≡ drop 1 (out-Store k).kept ++ get_or (out-Store k).ins 0 [] ∷ [] → (q : Path) → state_out l us then q ≡ kind_next l.kind (nodes us) row (state_of (vertex l us) k) (out-Store k).ins q
   delay_next_at keeps [] = rw e keeps
@@ -73,11 +73,11 @@ module _ (l : Label) (us : Vertices) (vs : List (List ℤ)) (e : l.kind ≡ dela
 
 pub reacts-delay : (u : Declared) (vs : List (List ℤ)) → (out-Vertex u).kind ≡ Delay vs → (row : Values) (k : Store) (kept outs : Values) → Fits (lengths (out-Store k).ins) (view u) k → lengths outs ≡ (label_of (view u)).outs
     → outs ≡ get_or (out-Store k).kept 0 [] ∷ [] → kept ≡ drop 1 (out-Store k).kept ++ get_or (out-Store k).ins 0 [] ∷ [] → lengths kept ≡ lengths (out-Store k).kept
-    → Reacts (view u) row k (roll-Store (record { ins = (out-Store k).ins; kept = kept; order = (out-Store k).order; outs = (out-Store k).outs; inner = (out-Store k).inner })) outs
+    → Reacts (view u) row k (roll-Store (record { ins = (out-Store k).ins; kept = kept; turns = (out-Store k).turns; outs = (out-Store k).outs; inner = (out-Store k).inner })) outs
 reacts-delay u vs is row k kept outs fit lens gives keeps same =
     let l = label_view (out-Vertex u) in
     let us = vertices_view (out-Vertex u).inner.items in
-    let then : Store = roll-Store (record { ins = (out-Store k).ins; kept = kept; order = (out-Store k).order; outs = (out-Store k).outs; inner = (out-Store k).inner }) in
+    let then : Store = roll-Store (record { ins = (out-Store k).ins; kept = kept; turns = (out-Store k).turns; outs = (out-Store k).outs; inner = (out-Store k).inner }) in
     subst (λ w. Reacts w row k then outs) (sym (view_out u))
     (reacts-delay-at l us vs (ap kind_view is) row k kept outs (subst (λ w. Fits (lengths (out-Store k).ins) w k) (view_out u) fit) (subst (λ w. lengths outs ≡ (label_of w).outs) (view_out u) lens) gives keeps same)
 

@@ -100,7 +100,7 @@ module _ (u : Declared) (values : List ℤ) (names : List (List ℕ)) (is : (out
     ks = (out-Store k).inner.items
 
     abbrev after : Store-F Store
-    after = record { ins = ins; kept = (out-Store k).kept; order = (out-Store k).order; outs = (out-Store k).outs; inner = new }
+    after = record { ins = ins; kept = (out-Store k).kept; turns = (out-Store k).turns; outs = (out-Store k).outs; inner = new }
 
     abbrev st : State
     st = level_state inner ks

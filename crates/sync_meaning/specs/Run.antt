@@ -1,17 +1,17 @@
 -- What holds while the vertices of a level run.
-use Rattle.std.specs.Prelude.{◌≡◌, ℕ, ◌<◌, ◌≤◌, ℤ, Some, slice_get, replicate, List, [], ◌∷◌, map, length, Bool, true, false, if◌then◌else◌, slice_index_or, slice_set}
+use Rattle.std.specs.Prelude.{◌≡◌, ℕ, ◌<◌, ◌≤◌, ℤ, Some, slice_get, replicate, List, [], ◌∷◌, map, length, Bool, true, if◌then◌else◌, slice_index_or, slice_set}
 use Rattle.level_meaning.specs.declared.source.Source.{Source}
 use Rattle.level_meaning.specs.Level.{Vector, Values, State, vector_at, selected, case_look, node_outputs, node_next, out, level_value, copy_input, copy_outputs, copy_before}
 use Rattle.level_meaning.specs.declared.frontier.Feed.{Feed}
 use Rattle.syn_base.specs.Rows.{Reactions}
-use Rattle.algo_tree.specs.Tree.{Kind, delay, Vertex}
+use Rattle.algo_tree.specs.Tree.{Vertex}
 use Rattle.algo_tree.specs.Meaning.{behaviour, node}
 use Rattle.algo_tree.specs.Typed.{label_of, source_length, fed_length}
 use Rattle.algo_tree.specs.View.{view, vertices_view}
 use Rattle.algo_tree.specs.declared.vertex.Vertex.{Vertex as Declared}
 use Rattle.sync_meaning.specs.declared.store.Store.{Store, out-Store}
 use Rattle.level_order.specs.Order.{is_among, nodes_of}
-use Rattle.sync_meaning.specs.Store.{Fits, AllFit, state_of, state_in, copy_state, lengths}
+use Rattle.sync_meaning.specs.Store.{Fits, AllFit, is_delay, state_of, state_in, copy_state, lengths}
 
 -- the sensors' vectors of a reaction
 abbrev pub row_of : Reactions → ℕ → Values
@@ -27,10 +27,6 @@ pub record Reacts (u : Vertex) (row : Values) (old new : Store) (outs : Values) 
   pub lens : lengths outs ≡ (label_of u).outs
   pub outputs : outs ≡ (behaviour u).outputs row (state_of u old) (out-Store old).ins
   pub next : state_of u new ≡ (behaviour u).next row (state_of u old) (out-Store old).ins
-
-abbrev pub is_delay : Kind → Bool
-is_delay (delay vs) = true
-is_delay _ = false
 
 -- what is kept next, but for a delay, which advances after all vertices have run
 abbrev pub next_but_delay : Values → State → (Source → Vector) → Vertex → State

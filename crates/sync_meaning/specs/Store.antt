@@ -1,12 +1,14 @@
 -- What a store beside a vertex stands for, and when it fits the vertex.
-use Rattle.std.specs.Prelude.{◌≡◌, ℕ, ◌<◌, List, [], ◌∷◌, length, map, replicate, if◌then◌else◌, Option, Some, None, slice_get, slice_index_or}
+use Rattle.std.specs.Prelude.{◌≡◌, ℕ, ◌<◌, Bool, true, false, take, List, [], ◌∷◌, length, map, replicate, if◌then◌else◌, Option, Some, None, slice_get, slice_index_or}
 use Rattle.level_meaning.specs.declared.part.Part.{Part}
 use Rattle.level_meaning.specs.declared.part.Part.TheVariants.{Named, Numbered, Port}
 use Rattle.level_meaning.specs.Level.{Vector, State, same_part}
-use Rattle.level_order.specs.Order.{IsOrder}
+use Rattle.level_meaning.specs.Level.{Node}
+use Rattle.level_order.specs.Order.{IsOrder, is_among}
 use Rattle.algo_tree.specs.Tree.{Kind, delay, graph, switch, repeat, Vertex, vertex, Vertices, no_vertices, and_vertex}
 use Rattle.algo_tree.specs.Meaning.{nodes}
 use Rattle.algo_tree.specs.Typed.{label_of, outs_of, source_length, fed_length}
+use Rattle.sync_meaning.specs.declared.store.Turns.{Turns}
 use Rattle.sync_meaning.specs.declared.store.Store.{Store, out-Store}
 use Rattle.sync_meaning.specs.declared.store.Store.TheOpen.{Store-F}
 
@@ -53,11 +55,31 @@ lengths vs = map length vs
 abbrev pub AreOf : ℕ → List Vector → Type 0
 AreOf n vs = (lengths vs ≡ replicate (length vs) n) × (0 < length vs)
 
+abbrev pub is_delay : Kind → Bool
+is_delay (delay vs) = true
+is_delay _ = false
+
+-- which vertices are delays
+abbrev pub delay_flags : Vertices → List Bool
+delay_flags no_vertices = []
+delay_flags (and_vertex u us) = is_delay (label_of u).kind ∷ delay_flags us
+
+-- places below n, each once, with all that have a flag among them
+pub record AreDelays (flags : List Bool) (n : ℕ) (places : List ℕ) : Type 0 where
+  pub each : (i : ℕ) → i < length places → is_among (take i places) (slice_index_or places i 0) ≡ false
+  pub below : (r : ℕ) → is_among places r ≡ true → r < n
+  pub all : (r : ℕ) → r < n → slice_index_or flags r false ≡ true → is_among places r ≡ true
+
+-- the turns of a level with these flags
+pub record HasTurns (cs : List Node) (flags : List Bool) (turns : Turns) : Type 0 where
+  pub order : IsOrder cs turns.order.items
+  pub delays : AreDelays flags (length cs) turns.delays.items
+
 -- what a kind asks of a store, of those of a level inside with such own inputs and outputs, and of those of copies with such inputs
 abbrev pub FitsKind : Kind → List ℕ → Vertices → Store-F Store → (List ℕ → List (List ℕ) → Type 0) → (List ℕ → Type 0) → Type 0
 FitsKind (delay vs) lens us k level copies = lengths k.kept ≡ replicate (length vs) (slice_index_or lens 0 0)
 FitsKind (graph sources) lens us k level copies =
-    (IsOrder (nodes us) k.order.items × (map lengths k.outs.items ≡ outs_of us)) × level lens (outs_of us)
+    (HasTurns (nodes us) (delay_flags us) k.turns × (map lengths k.outs.items ≡ outs_of us)) × level lens (outs_of us)
 FitsKind (switch values names) lens us k level copies = level lens []
 FitsKind (repeat n feeds gives) lens us k level copies =
     ((length k.inner.items ≡ n) × (map lengths k.outs.items ≡ replicate n (slice_index_or (outs_of us) 0 []))) × copies (map (fed_length lens) feeds)

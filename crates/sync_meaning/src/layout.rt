@@ -5,12 +5,14 @@ ghost use Rattle.algo_tree.specs.declared.vertex.Vertex.{out-Vertex};
 ghost use Rattle.algo_tree.specs.View.{view, vertices_view};
 ghost use Rattle.algo_tree.specs.Typed.{source_length, fed_length, outs_of, label_of, IsTyped, AllTyped, IsBodyTyped};
 ghost use Rattle.algo_tree.specs.Well.{IsWell, AllWell, IsOne};
-ghost use Rattle.sync_meaning.specs.Store.{lengths};
+ghost use Rattle.level_meaning.specs.Order.{IsAcyclic};
+ghost use Rattle.level_order.specs.Order.{nodes_of};
+ghost use Rattle.sync_meaning.specs.Store.{AreDelays, HasTurns, delay_flags, lengths};
 ghost use Rattle.sync_meaning.specs.declared.store.Store.{Store};
 ghost use Rattle.sync_meaning.specs.First.{IsFirst, AreFirst, AreCopies};
 
 use crate::lengths::length_of;
-use crate::store::Store;
+use crate::store::{Store, Turns};
 use algo_tree::{Kind, Vertex};
 use body_lang::Ins;
 use level_meaning::{Feed, Source};
@@ -69,6 +71,38 @@ fn copies_outputs(alloc: Global, body: &Vertex, count: u32) -> Result<Vec<Ins>, 
         table.push(Ins::new(alloc, body.outs.as_slice())?)?;
     }
     Ok(table)
+}
+
+/// The turns of what has no level inside.
+fn no_turns(alloc: Global) -> Turns {
+    Turns {
+        order: Vec::new(alloc),
+        delays: Vec::new(alloc),
+    }
+}
+
+/// The turns of a level.
+fn turns_of(alloc: Global, vertices: &Vec<Vertex>) -> Result<Turns, OutOfMemory>
+    requires { IsAcyclic (nodes_of vertices.now.items) }
+    ensures { IfOk result (HasTurns (nodes_of vertices.now.items) (delay_flags (vertices_view vertices.now.items))) }
+{
+    Ok(Turns {
+        order: find_order(alloc, vertices)?,
+        delays: delay_places(alloc, vertices)?,
+    })
+}
+
+/// The places of the delays of a level.
+fn delay_places(alloc: Global, vertices: &Vec<Vertex>) -> Result<Vec<usize>, OutOfMemory>
+    ensures { IfOk result (λ places. AreDelays (delay_flags (vertices_view vertices.now.items)) (length vertices.now.items) places.items) }
+{
+    let mut places = Vec::new(alloc);
+    for r in 0..vertices.len() {
+        if let Kind::Delay(_) = &vertices[r].kind {
+            places.push(r)?;
+        }
+    }
+    Ok(places)
 }
 
 /// The initial values of a delay.
@@ -162,21 +196,21 @@ pub fn new_store(alloc: Global, vertex: &Vertex, lens: &[u32]) -> Result<Store, 
         Kind::Delay(groups) => Ok(Store {
             ins: Ins::new(alloc, lens)?,
             kept: initial_values(alloc, lens[0], groups.as_slice())?,
-            order: Vec::new(alloc),
+            turns: no_turns(alloc),
             outs: Vec::new(alloc),
             inner: Vec::new(alloc),
         }),
         Kind::Graph(_) => Ok(Store {
             ins: Ins::new(alloc, lens)?,
             kept: Ins::new(alloc, &[])?,
-            order: find_order(alloc, &vertex.inner)?,
+            turns: turns_of(alloc, &vertex.inner)?,
             outs: level_outputs(alloc, &vertex.inner)?,
             inner: level_stores(alloc, &vertex.inner, lens, &vertex.inner)?,
         }),
         Kind::Switch(_, _) => Ok(Store {
             ins: Ins::new(alloc, lens)?,
             kept: Ins::new(alloc, &[])?,
-            order: Vec::new(alloc),
+            turns: no_turns(alloc),
             outs: Vec::new(alloc),
             inner: level_stores(alloc, &vertex.inner, lens, &[])?,
         }),
@@ -185,7 +219,7 @@ pub fn new_store(alloc: Global, vertex: &Vertex, lens: &[u32]) -> Result<Store, 
             Ok(Store {
                 ins: Ins::new(alloc, lens)?,
                 kept: Ins::new(alloc, &[])?,
-                order: Vec::new(alloc),
+                turns: no_turns(alloc),
                 outs,
                 inner,
             })
@@ -193,7 +227,7 @@ pub fn new_store(alloc: Global, vertex: &Vertex, lens: &[u32]) -> Result<Store, 
         _ => Ok(Store {
             ins: Ins::new(alloc, lens)?,
             kept: Ins::new(alloc, &[])?,
-            order: Vec::new(alloc),
+            turns: no_turns(alloc),
             outs: Vec::new(alloc),
             inner: Vec::new(alloc),
         }),

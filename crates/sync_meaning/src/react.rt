@@ -7,14 +7,14 @@ ghost use Rattle.algo_tree.specs.declared.vertex.Vertex.{out-Vertex};
 ghost use Rattle.algo_tree.specs.View.{view, vertices_view};
 ghost use Rattle.algo_tree.specs.Typed.{outs_of, label_of, source_length, AreLengths, AreGuardsTyped, IsTyped, AllTyped, AllGive, AllFed, fed_length};
 ghost use Rattle.sync_meaning.specs.declared.store.Store.{out-Store};
-ghost use Rattle.level_order.specs.Order.{IsOrder, nodes_of};
-ghost use Rattle.sync_meaning.specs.Store.{AreOf, Fits, AllFit, lengths};
+ghost use Rattle.level_order.specs.Order.{nodes_of};
+ghost use Rattle.sync_meaning.specs.Store.{AreDelays, AreOf, Fits, AllFit, HasTurns, delay_flags, lengths};
 ghost use Rattle.sync_meaning.specs.Sound.{IsSound, AreSound, IsAlone};
 ghost use Rattle.sync_meaning.specs.Run.{Reacts, NodeReacts, RunsAt, LevelReacts, CaseReacts, Advances, AllAdvance, CopiesReact, CopiesAllFit, row_of, given, in_lengths, selected_at};
 
 use crate::frontier::{feed, write_gives};
 use crate::leaf::{clear, write_function, write_joined, write_only, write_parts};
-use crate::store::Store;
+use crate::store::{Store, Turns};
 use crate::values::{do_guards_hold, fill, selected, value_of};
 use algo_tree::{Kind, Vertex};
 use body_lang::Ins;
@@ -98,12 +98,12 @@ pub fn react(vertex: &Vertex, rows: &SensorRows, k: usize, store: &mut Store, ou
         Kind::Graph(sources) => {
             let Store {
                 ins,
-                order,
+                turns,
                 outs: table,
                 inner,
                 ..
             } = store;
-            run_level(&vertex.inner, rows, k, ins, order, table, inner);
+            run_level(&vertex.inner, rows, k, ins, turns, table, inner);
             fill(outs, sources.as_slice(), ins, table);
         }
         Kind::Switch(values, _) => react_case(
@@ -217,7 +217,7 @@ pub fn run_level(
     rows: &SensorRows,
     k: usize,
     own: &Ins,
-    order: &Vec<usize>,
+    turns: &Turns,
     table: &mut Vec<Ins>,
     stores: &mut Vec<Store>,
 )
@@ -225,16 +225,16 @@ pub fn run_level(
     requires acyclic { IsAcyclic (nodes_of vertices.now.items) }
     requires distinct { HasDistinctParts (nodes_of vertices.now.items) }
     requires reaction { k < length rows.now.reactions }
-    requires order { IsOrder (nodes_of vertices.now.items) order.now.items }
+    requires turns { HasTurns (nodes_of vertices.now.items) (delay_flags (vertices_view vertices.now.items)) turns.now }
     requires lens { map lengths table.old.items ≡ outs_of (vertices_view vertices.now.items) }
     requires fit { AllFit (lengths own.now) (map lengths table.old.items) (vertices_view vertices.now.items) stores.old.items }
     ensures { LevelReacts vertices.now.items (row_of rows.now k) own.now (outs_of (vertices_view vertices.now.items)) stores.old.items stores.new.items table.new.items }
 {
-    for r in order {
+    for r in &turns.order {
         let at = *r;
         run_node(&vertices[at], rows, k, own, table, at, &mut stores[at]);
     }
-    advance_delays(vertices, own, table, stores);
+    advance_delays(vertices, &turns.delays, own, table, stores);
 }
 
 /// A vertex of a level runs, where the table has all that it asks for.
@@ -270,13 +270,21 @@ fn run_node(
 }
 
 /// Each delay of a level takes the value at its input.
-fn advance_delays(vertices: &Vec<Vertex>, own: &Ins, table: &Vec<Ins>, stores: &mut Vec<Store>)
+fn advance_delays(
+    vertices: &Vec<Vertex>,
+    delays: &Vec<usize>,
+    own: &Ins,
+    table: &Vec<Ins>,
+    stores: &mut Vec<Store>,
+)
+    requires delays { AreDelays (delay_flags (vertices_view vertices.now.items)) (length vertices.now.items) delays.now.items }
     requires typed { AllTyped (lengths own.now) (map lengths table.now.items) (vertices_view vertices.now.items) }
     requires fit { AllFit (lengths own.now) (map lengths table.now.items) (vertices_view vertices.now.items) stores.old.items }
     ensures { AllAdvance (lengths own.now) (map lengths table.now.items) vertices.now.items (source_value own.now (given table.now.items)) stores.old.items stores.new.items }
 {
-    for r in 0..vertices.len() {
-        advance(&vertices[r], own, table, &mut stores[r]);
+    for r in delays {
+        let at = *r;
+        advance(&vertices[at], own, table, &mut stores[at]);
     }
 }
 

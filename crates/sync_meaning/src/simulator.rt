@@ -33,12 +33,12 @@ fn react_main(main: &Vertex, rows: &SensorRows, k: usize, store: &mut Store)
     if let Kind::Graph(_) = &main.kind {
         let Store {
             ins,
-            order,
+            turns,
             outs: table,
             inner,
             ..
         } = store;
-        run_level(&main.inner, rows, k, ins, order, table, inner);
+        run_level(&main.inner, rows, k, ins, turns, table, inner);
     }
 }
 

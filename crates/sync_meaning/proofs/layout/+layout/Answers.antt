@@ -1,4 +1,4 @@
-use Rattle.std.proofs.Common.{◌≡◌, ◌<◌, ◌∷◌, [], ℕ, replicate, List, length, get_or, map, arith, rules, sym, ap, ◌∙◌, subst, length-append}
+use Rattle.std.proofs.Common.{◌≡◌, ◌<◌, ◌∷◌, [], ℕ, List, length, get_or, map, arith, rules, sym, ap, ◌∙◌, subst, length-append}
 use Rattle.algo_tree.specs.Typed.{outs_of, source_length, fed_length, IsTyped}
 use Rattle.algo_tree.specs.Well.{IsWell}
 use Rattle.algo_tree.specs.View.{view, vertices_view}
@@ -45,8 +45,8 @@ copy_stores-loop-i-preserved t c = record {
 pub new_store-initial_values-requires : goal.new_store-initial_values-requires
 new_store-initial_values-requires t c = rw c.as_slice.ensures (delay_lens c.args.vertex.now c.in-Delay.groups c.args.lens.now c.in-Delay.is c.requires.typed).like
 
-pub new_store-find_order-requires : goal.new_store-find_order-requires
-new_store-find_order-requires t c = (graph_level c.args.vertex.now c.in-Graph.field-0 c.in-Graph.is c.requires.well).0
+pub new_store-turns_of-requires : goal.new_store-turns_of-requires
+new_store-turns_of-requires t c = (graph_level c.args.vertex.now c.in-Graph.field-0 c.in-Graph.is c.requires.well).0
 
 pub new_store-level_stores-requires : goal.new_store-level_stores-requires
 new_store-level_stores-requires t c =
@@ -87,12 +87,12 @@ pub new_store-returns-in_ok-initial_values-in-Delay : goal.new_store-returns-in_
 new_store-returns-in_ok-initial_values-in-Delay t c =
     let u = c.args.vertex.now in
     first-delay u c.args.lens.now _ c.in_ok-new-in-Delay.ensures c.in-Delay.groups c.in-Delay.is (rw c.as_slice.ensures at c.in_ok-initial_values-in-Delay.ensures)
-    (delay_lens u c.in-Delay.groups c.args.lens.now c.in-Delay.is c.requires.typed).like c.new-in-Delay-3.ensures.items
+    (delay_lens u c.in-Delay.groups c.args.lens.now c.in-Delay.is c.requires.typed).like c.new-in-Delay-2.ensures.items
 
 pub new_store-returns-in_ok-level_stores-in-Graph : goal.new_store-returns-in_ok-level_stores-in-Graph
 new_store-returns-in_ok-level_stores-in-Graph t c =
     let u = c.args.vertex.now in
-    first-graph u c.args.lens.now _ c.in_ok-new-in-Graph.ensures c.in-Graph.field-0 c.in-Graph.is c.in_ok-find_order-in-Graph.ensures c.in_ok-level_outputs-in-Graph.ensures
+    first-graph u c.args.lens.now _ c.in_ok-new-in-Graph.ensures c.in-Graph.field-0 c.in-Graph.is c.in_ok-turns_of-in-Graph.ensures c.in_ok-level_outputs-in-Graph.ensures
     (rw c.deref.ensures.value at c.in_ok-level_stores-in-Graph.ensures)
 
 pub new_store-returns-in_ok-level_stores-in-Switch : goal.new_store-returns-in_ok-level_stores-in-Switch
@@ -106,7 +106,7 @@ new_store-returns-in_ok-new-in-Repeat-2 t c =
 
 pub new_store-returns-in_ok-new-in_default-2 : goal.new_store-returns-in_ok-new-in_default-2
 new_store-returns-in_ok-new-in_default-2 t c =
-    first-alone c.args.vertex.now c.args.lens.now _ c.in_ok-new-in_default.ensures c.in_default.not-Delay c.in_default.not-Graph c.in_default.not-Switch c.in_default.not-Repeat c.new-in_default-5.ensures.items
+    first-alone c.args.vertex.now c.args.lens.now _ c.in_ok-new-in_default.ensures c.in_default.not-Delay c.in_default.not-Graph c.in_default.not-Switch c.in_default.not-Repeat c.new-in_default-4.ensures.items
 
 pub new_store-bounds-lens-0 : goal.new_store-bounds-lens-0
 new_store-bounds-lens-0 t c = let long = ap length (delay_lens c.args.vertex.now c.in-Delay.groups c.args.lens.now c.in-Delay.is c.requires.typed).one in omega (arith, long)

@@ -7,14 +7,14 @@ use Rattle.algo_tree.specs.declared.vertex.Vertex.{out-Vertex, the_lemmas}
 use Rattle.sync_meaning.specs.declared.store.Store.{out-Store, roll-Store, out-roll-Store}
 use Rattle.sync_meaning.specs.declared.store.Store.TheOpen.{Store-F}
 use Rattle.sync_meaning.specs.declared.store.Store.{Store}
-use Rattle.sync_meaning.specs.Store.{Fits, AllFit, lengths}
+use Rattle.sync_meaning.specs.Store.{AreDelays, Fits, AllFit, delay_flags, lengths}
 use Rattle.sync_meaning.specs.Sound.{IsSound, AreSound}
 use Rattle.sync_meaning.specs.Run.{row_of, given, in_lengths, selected_at, InRun, AllAdvance}
 use Rattle.sync_meaning.proofs.Nodes.{active, runs-other, runs_at, with_ins}
 use Rattle.level_order.proofs.Nodes.{length-nodes_of}
 use Rattle.sync_meaning.proofs.Index.{fits_count, fits_at, fits_in, guards_at, sound_at, outs_at, length-outs_of}
 use Rattle.sync_meaning.proofs.Steps.{run_none, level_reacts}
-use Rattle.sync_meaning.proofs.Graphs.{graph_sound, graph_level, graph_order, graph_table, graph_fit, reacts-graph}
+use Rattle.sync_meaning.proofs.Graphs.{graph_sound, graph_level, graph_turns, graph_table, graph_fit, reacts-graph}
 use Rattle.sync_meaning.proofs.Switches.{switch_sound, switch_conditioned, switch_gives, switch_count, switch_fit, reacts-switch, give_at}
 use Rattle.sync_meaning.proofs.Cycle.{alone_by, next_there, next_guards, next_sound, next_fit, next_lens, next_run, all_among, case_step, conditioned_there, fit_lens, guards_are, not_delay_at, delay_keeps, first_kept}
 use Rattle.sync_meaning.proofs.Repeats.{copies_none, copies_count, copy_fit, copy_lens, copy_step, replicate_at, fits-ins_at, repeat_asks, table_many, table_same, gives_lens, reacts-repeat}
@@ -44,7 +44,7 @@ react-run_level-requires t c =
     let us = vertices_view (out-Vertex u).inner.items in
     let sound : AreSound c.args.rows.now.lens lens (map lengths (out-Store k).outs.items) us = rw table (graph_sound u ss is c.args.rows.now.lens lens c.requires.sound) in
     let fit : AllFit lens (map lengths (out-Store k).outs.items) us (out-Store k).inner.items = rw table (graph_fit u ss is lens k c.requires.fit) in
-    (search (rules, the_lemmas), (sound, (level.0, (level.1, (c.requires.reaction, (graph_order u ss is lens k c.requires.fit, (table, fit)))))))
+    (search (rules, the_lemmas), (sound, (level.0, (level.1, (c.requires.reaction, (graph_turns u ss is lens k c.requires.fit, (table, fit)))))))
 
 pub react-returns-in-Graph : goal.react-returns-in-Graph
 react-returns-in-Graph t c =
@@ -110,14 +110,14 @@ run_case-returns t c =
 
 pub run_level-index-requires : goal.run_level-index-requires
 run_level-index-requires t c =
-    let there = next_there c.args.vertices.now.items (row_of c.args.rows.now c.args.k) c.args.own.now c.args.stores.now.items c.args.order.now.items c.loop-r.r-index c.loop-r.table.items c.loop-r.stores.items
-    c.loop-r.invariant c.requires.order (omega (arith, c.deref-r-items.ensures.len)) in
+    let there = next_there c.args.vertices.now.items (row_of c.args.rows.now c.args.k) c.args.own.now c.args.stores.now.items c.args.turns.now.order.items c.loop-r.r-index c.loop-r.table.items c.loop-r.stores.items
+    c.loop-r.invariant c.requires.turns.order (omega (arith, c.deref-r-items.ensures.len)) in
     rw c.deref-r-items.ensures.value (omega (arith, there))
 
 pub run_level-index_mut-requires : goal.run_level-index_mut-requires
 run_level-index_mut-requires t c =
-    let there = next_there c.args.vertices.now.items (row_of c.args.rows.now c.args.k) c.args.own.now c.args.stores.now.items c.args.order.now.items c.loop-r.r-index c.loop-r.table.items c.loop-r.stores.items
-    c.loop-r.invariant c.requires.order (omega (arith, c.deref-r-items.ensures.len)) in
+    let there = next_there c.args.vertices.now.items (row_of c.args.rows.now c.args.k) c.args.own.now c.args.stores.now.items c.args.turns.now.order.items c.loop-r.r-index c.loop-r.table.items c.loop-r.stores.items
+    c.loop-r.invariant c.requires.turns.order (omega (arith, c.deref-r-items.ensures.len)) in
     rw c.deref-r-items.ensures.value (omega (arith, there, c.loop-r.invariant.keeps))
 
 pub run_level-loop-r-init : goal.run_level-loop-r-init
@@ -130,7 +130,7 @@ pub run_level-run_node-requires : goal.run_level-run_node-requires
 run_level-run_node-requires t c =
     let us = c.args.vertices.now.items in
     let own = c.args.own.now in
-    let order = c.args.order.now.items in
+    let order = c.args.turns.now.order.items in
     let l = c.loop-r in
     let lt : l.r-index < length order = omega (arith, c.deref-r-items.ensures.len) in
     let row = row_of c.args.rows.now c.args.k in
@@ -141,20 +141,20 @@ run_level-run_node-requires t c =
     let at : u ≡ get_or us (get_or order l.r-index 0) u = rw items at c.index.ensures in
     let is : k ≡ get_or l.stores.items (get_or order l.r-index 0) k = rw items at c.index_mut.ensures.value in
     let sound : AreSound c.args.rows.now.lens (lengths own) (outs_of (vertices_view us)) (vertices_view us) = rw c.requires.lens at c.requires.sound in
-    let there = next_there us row own ks order l.r-index l.table.items l.stores.items l.invariant c.requires.order lt in
+    let there = next_there us row own ks order l.r-index l.table.items l.stores.items l.invariant c.requires.turns.order lt in
     let place : get_or c.deref-r-items.result.now l.r-index 0 < length l.table.items = rw items (omega (arith, there, l.invariant.count)) in (
       search (rules, the_lemmas),
       (
         place,
         (
-          next_guards us row own ks order l.r-index l.table.items l.stores.items l.invariant c.requires.order lt u sound.typed at,
+          next_guards us row own ks order l.r-index l.table.items l.stores.items l.invariant c.requires.turns.order lt u sound.typed at,
           (
-            next_sound us row own ks order l.r-index l.table.items l.stores.items l.invariant c.requires.order lt c.args.rows.now.lens u sound at,
+            next_sound us row own ks order l.r-index l.table.items l.stores.items l.invariant c.requires.turns.order lt c.args.rows.now.lens u sound at,
             (
               c.requires.reaction,
               (
-                next_fit us row own ks order l.r-index l.table.items l.stores.items l.invariant c.requires.order lt u k at is,
-                rw items (next_lens us row own ks order l.r-index l.table.items l.stores.items l.invariant c.requires.order lt u at),
+                next_fit us row own ks order l.r-index l.table.items l.stores.items l.invariant c.requires.turns.order lt u k at is,
+                rw items (next_lens us row own ks order l.r-index l.table.items l.stores.items l.invariant c.requires.turns.order lt u at),
               ),
             ),
           ),
@@ -165,7 +165,7 @@ run_level-run_node-requires t c =
 pub run_level-loop-r-preserved : goal.run_level-loop-r-preserved
 run_level-loop-r-preserved t c =
     let us = c.args.vertices.now.items in
-    let order = c.args.order.now.items in
+    let order = c.args.turns.now.order.items in
     let l = c.loop-r in
     let lt : l.r-index < length order = omega (arith, c.deref-r-items.ensures.len) in
     let u = c.index.result.now in
@@ -174,8 +174,13 @@ run_level-loop-r-preserved t c =
     let at : u ≡ get_or us (get_or order l.r-index 0) u = rw items at c.index.ensures in
     let is : k ≡ get_or l.stores.items (get_or order l.r-index 0) k = rw items at c.index_mut.ensures.value in
     let ran = rw items at c.run_node.ensures in
-    rw items (next_run us (row_of c.args.rows.now c.args.k) c.args.own.now c.args.stores.now.items order l.r-index l.table.items l.stores.items l.invariant c.requires.order lt
+    rw items (next_run us (row_of c.args.rows.now c.args.k) c.args.own.now c.args.stores.now.items order l.r-index l.table.items l.stores.items l.invariant c.requires.turns.order lt
     c.requires.acyclic c.requires.distinct u k c.run_node.new.store c.run_node.new.table.items at is ran)
+
+pub run_level-advance_delays-requires-clause-delays : goal.run_level-advance_delays-requires-clause-delays
+run_level-advance_delays-requires-clause-delays t c =
+    let us = c.args.vertices.now.items in
+    subst (λ n. AreDelays (delay_flags (vertices_view us)) n c.args.turns.now.delays.items) (length-nodes_of us) c.requires.turns.delays
 
 pub run_level-advance_delays-requires-clause-typed : goal.run_level-advance_delays-requires-clause-typed
 run_level-advance_delays-requires-clause-typed t c = let typed = rw c.requires.lens at c.requires.sound.typed in rw c.loop-r.invariant.lens typed
@@ -188,7 +193,7 @@ run_level-advance_delays-requires-clause-fit t c =
 pub run_level-returns : goal.run_level-returns
 run_level-returns t c =
     let us = c.args.vertices.now.items in
-    let order = c.args.order.now.items in
+    let order = c.args.turns.now.order.items in
     let own = c.args.own.now in
     let ks = c.args.stores.now.items in
     let l = c.loop-r in
@@ -197,7 +202,7 @@ run_level-returns t c =
     let run : InRun us row own (outs_of (vertices_view us)) ks order l.table.items l.stores.items = rw whole at l.invariant in
     let advance : AllAdvance (lengths own) (outs_of (vertices_view us)) us (source_value own (given l.table.items)) l.stores.items c.advance_delays.new.stores.items = rw run.lens at c.advance_delays.ensures in
     level_reacts us row own ks c.requires.acyclic c.requires.distinct order l.table.items l.stores.items c.advance_delays.new.stores.items run
-    (λ r lt. c.requires.order.all r (omega (arith, length-nodes_of us))) advance
+    (λ r lt. c.requires.turns.order.all r (omega (arith, length-nodes_of us))) advance
 
 pub run_node-do_guards_hold-requires : goal.run_node-do_guards_hold-requires
 run_node-do_guards_hold-requires t c =

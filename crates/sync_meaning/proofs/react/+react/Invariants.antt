@@ -6,7 +6,7 @@ use Rattle.sync_meaning.proofs.react.+react.Given as goal
 
 abbrev pub invariant-run_level-loop-r : goal.invariant-run_level-loop-r
 invariant-run_level-loop-r l =
-    InRun l.vertices.items (row_of l.rows l.k) l.own (outs_of (vertices_view l.vertices.items)) l.initial.stores.items (take l.r-index l.order.items) l.table.items l.stores.items
+    InRun l.vertices.items (row_of l.rows l.k) l.own (outs_of (vertices_view l.vertices.items)) l.initial.stores.items (take l.r-index l.turns.order.items) l.table.items l.stores.items
 
 abbrev pub invariant-react_copies-loop-i : goal.invariant-react_copies-loop-i
 invariant-react_copies-loop-i l = CopiesReact l.i (view l.body) l.feeds (row_of l.rows l.k) l.own l.initial.stores.items l.stores.items l.table.items

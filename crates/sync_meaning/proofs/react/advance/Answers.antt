@@ -1,4 +1,4 @@
-use Rattle.std.proofs.Common.{◌≡◌, ℕ, List, length, map, get_or, sym, ap, ◌∙◌, subst, arith}
+use Rattle.std.proofs.Common.{length, map, get_or, sym, ap, ◌∙◌, subst, arith}
 use Rattle.algo_tree.specs.Typed.{source_length, label_of}
 use Rattle.algo_tree.specs.View.{view}
 use Rattle.sync_meaning.specs.Store.{AreOf, lengths}

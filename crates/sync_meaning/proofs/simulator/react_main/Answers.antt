@@ -2,7 +2,7 @@ use Rattle.std.proofs.Common.{◌≡◌, []}
 use Rattle.sync_meaning.specs.declared.store.Store.{out-Store}
 use Rattle.sync_meaning.specs.Store.{lengths}
 use Rattle.sync_meaning.specs.Run.{row_of}
-use Rattle.sync_meaning.proofs.Graphs.{graph_sound, graph_level, graph_order, graph_table, graph_fit}
+use Rattle.sync_meaning.proofs.Graphs.{graph_sound, graph_level, graph_turns, graph_table, graph_fit}
 use Rattle.sync_meaning.proofs.Cycle.{fit_lens}
 use Rattle.sync_meaning.proofs.Simulating.{main_reacts, not_main}
 use Rattle.sync_meaning.proofs.simulator.react_main.Goals as goal
@@ -20,8 +20,8 @@ run_level-requires-clause-acyclic c = (graph_level c.args.main.now c.in-Graph.fi
 pub run_level-requires-clause-distinct : goal.run_level-requires-clause-distinct
 run_level-requires-clause-distinct c = (graph_level c.args.main.now c.in-Graph.field-0 c.in-Graph.is c.requires.sound.well).1
 
-pub run_level-requires-clause-order : goal.run_level-requires-clause-order
-run_level-requires-clause-order c = graph_order c.args.main.now c.in-Graph.field-0 c.in-Graph.is [] c.args.store.now c.requires.fit
+pub run_level-requires-clause-turns : goal.run_level-requires-clause-turns
+run_level-requires-clause-turns c = graph_turns c.args.main.now c.in-Graph.field-0 c.in-Graph.is [] c.args.store.now c.requires.fit
 
 pub run_level-requires-clause-lens : goal.run_level-requires-clause-lens
 run_level-requires-clause-lens c = graph_table c.args.main.now c.in-Graph.field-0 c.in-Graph.is [] c.args.store.now c.requires.fit
