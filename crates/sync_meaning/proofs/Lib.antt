@@ -15,5 +15,6 @@ pub mod Appends
 pub mod Parts
 pub mod Copies
 pub mod Repeats
+pub mod InPlace
 pub mod Typing
 pub mod OutLengths

@@ -4,6 +4,7 @@
 //! writes them over in each reaction. `syndex_program` calls it for `sim`.
 #![tactic(auto)]
 
+mod apply;
 mod frontier;
 mod layout;
 mod leaf;

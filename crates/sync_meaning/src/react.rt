@@ -12,6 +12,7 @@ ghost use Rattle.sync_meaning.specs.Store.{AreDelays, AreOf, Fits, AllFit, HasTu
 ghost use Rattle.sync_meaning.specs.Sound.{IsSound, AreSound, IsAlone};
 ghost use Rattle.sync_meaning.specs.Run.{Reacts, NodeReacts, RunsAt, LevelReacts, CaseReacts, Advances, AllAdvance, CopiesReact, CopiesAllFit, row_of, given, in_lengths, selected_at};
 
+use crate::apply::run_function;
 use crate::frontier::{feed, write_gives};
 use crate::leaf::{clear, write_function, write_joined, write_only, write_parts};
 use crate::store::{Store, Turns};
@@ -262,6 +263,14 @@ fn run_node(
     }
     match &vertex.kind {
         Kind::Delay(_) => write_only(&mut table[at], store.kept.vector(0)),
+        Kind::Function(body) => run_function(
+            body.outputs(),
+            vertex.ins.as_slice(),
+            own,
+            table,
+            at,
+            &mut store.ins,
+        ),
         _ => {
             fill(&mut store.ins, vertex.ins.as_slice(), own, table);
             react(vertex, rows, k, store, &mut table[at]);

@@ -9,10 +9,10 @@ pub struct Turns {
     pub delays: Vec<usize>,
 }
 
-/// What stands beside a vertex: its inputs in this reaction, the values that it keeps where it is a
-/// delay, and for what is inside it when that runs, its outputs in this reaction and its stores. A
-/// graph has turns, and the outputs of each of its vertices. A repetition has the outputs and the
-/// store of each copy.
+/// What stands beside a vertex: a place for its inputs, which a function leaves as it is where it
+/// reads them from the table, the values that it keeps where it is a delay, and for what is inside
+/// it when that runs, its outputs in this reaction and its stores. A graph has turns, and the outputs
+/// of each of its vertices. A repetition has the outputs and the store of each copy.
 #[derive(Drop)]
 pub struct Store {
     pub ins: Ins,

@@ -1,4 +1,4 @@
-use Rattle.std.proofs.Common.{◌≡◌, ◌+◌, ◌-◌, ◌<◌, ℕ, List, [], ◌∷◌, length, get_or, map, take, refl, sym, ap, ◌∙◌, subst, arith, rules}
+use Rattle.std.proofs.Common.{◌≡◌, ◌+◌, ◌-◌, ◌<◌, ℕ, List, [], ◌∷◌, length, get_or, set, map, take, refl, sym, ap, ◌∙◌, subst, arith, rules}
 use Rattle.std.proofs.lemmas.List.{get_or_default}
 use Rattle.level_meaning.specs.Level.{source_value, case_look}
 use Rattle.algo_tree.specs.Typed.{label_of, outs_of, fed_length, AreLengths, AllGive, IsTyped}
@@ -21,6 +21,13 @@ use Rattle.sync_meaning.proofs.Repeats.{copies_none, copies_count, copy_fit, cop
 use Rattle.sync_meaning.proofs.Stores.{view_out, label_is}
 use Rattle.sync_meaning.proofs.Firsts.{repeat_there}
 use Rattle.sync_meaning.proofs.Typing.{typed_lengths}
+use Rattle.body_lang.specs.Expr.{view as expression, function_outputs}
+use Rattle.algo_tree.specs.Typed.{source_length, AllPortsBelow}
+use Rattle.sync_meaning.proofs.Lists.{length-map}
+use Rattle.sync_meaning.proofs.Typing.{function_count, function_ports}
+use Rattle.sync_meaning.proofs.Simulating.{source_value_length}
+use Rattle.sync_meaning.proofs.Cycle.{ins_are}
+use Rattle.sync_meaning.proofs.InPlace.{lengths-function, lengths-values, runs-function}
 use Rattle.sync_meaning.proofs.react.+react.Goals as goal
 
 pub react-react_alone-requires : goal.react-react_alone-requires
@@ -220,6 +227,55 @@ run_node-write_only-requires t c =
     let table = c.args.table.now.items in
     let here : c.index_mut-in-Delay.result.now ≡ get_or table c.args.at [] = c.index_mut-in-Delay.ensures.value ∙ get_or_default table c.args.at c.index_mut-in-Delay.result.now [] c.requires.place in
     ap lengths here ∙ c.requires.lens ∙ long ∙ ap (λ v. length v ∷ []) (sym c.vector.ensures)
+
+pub run_node-run_function-requires-clause-count : goal.run_node-run_function-requires-clause-count
+run_node-run_function-requires-clause-count t c =
+    let u = c.args.vertex.now in
+    let table = c.args.table.now.items in
+    let lens = in_lengths (lengths c.args.own.now) (map lengths table) (view u) in
+    let k = c.args.store.now in
+    let typed : IsTyped (lengths (out-Store k).ins) (view u) = subst (λ ns. IsTyped ns (view u)) (sym (fit_lens u lens k c.requires.fit)) c.requires.sound.typed in
+    sym (length-map expression c.outputs.result.now) ∙ ap length c.outputs.ensures ∙ function_count u (out-Store k).ins (get_or table c.args.at []) typed c.requires.lens c.in-Function.body c.in-Function.is
+
+pub run_node-run_function-requires-clause-ports : goal.run_node-run_function-requires-clause-ports
+run_node-run_function-requires-clause-ports t c =
+    let u = c.args.vertex.now in
+    let table = c.args.table.now.items in
+    let f = source_length (lengths c.args.own.now) (map lengths table) in
+    let lens = in_lengths (lengths c.args.own.now) (map lengths table) (view u) in
+    let k = c.args.store.now in
+    let ins = (out-Store k).ins in
+    let same = fit_lens u lens k c.requires.fit in
+    let typed : IsTyped (lengths ins) (view u) = subst (λ ns. IsTyped ns (view u)) (sym same) c.requires.sound.typed in
+    let ports = function_ports u ins (get_or table c.args.at []) typed c.requires.lens c.in-Function.body c.in-Function.is in
+    let many : length ins ≡ length c.as_slice-in-Function.result.now = sym (length-map length ins) ∙ ap length same ∙ length-map f (label_of (view u)).ins ∙ ap length (ins_are u ∙ sym c.as_slice-in-Function.ensures) in
+    subst (λ n. AllPortsBelow n (map expression c.outputs.result.now)) many (subst (AllPortsBelow (length ins)) (sym c.outputs.ensures) ports)
+
+pub run_node-returns-in-Function : goal.run_node-returns-in-Function
+run_node-returns-in-Function t c =
+    let u = c.args.vertex.now in
+    let own = c.args.own.now in
+    let table = c.args.table.now.items in
+    let old = get_or table c.args.at [] in
+    let lens = in_lengths (lengths own) (map lengths table) (view u) in
+    let row = row_of c.args.rows.now c.args.k in
+    let look = source_value own (given table) in
+    let k = c.args.store.now in
+    let same = fit_lens u lens k c.requires.fit in
+    let on = rw (c.as_slice.ensures, c.deref.ensures.value) at (sym c.if-not-do_guards_hold.ensures) in
+    let es = c.in-Function.body in
+    let x = map look (out-Vertex u).ins in
+    let outs = function_outputs (lengths old) es x in
+    let written : c.run_function.new.table.items ≡ set table c.args.at outs = rw (c.as_slice-in-Function.ensures, c.outputs.ensures) at c.run_function.ensures.values in
+    let typed : IsTyped (lengths (out-Store k).ins) (view u) = subst (λ ns. IsTyped ns (view u)) (sym same) c.requires.sound.typed in
+    let count = function_count u (out-Store k).ins old typed c.requires.lens es c.in-Function.is in
+    let outs_lens : lengths outs ≡ (label_of (view u)).outs = lengths-function (lengths old) es x (count ∙ sym (length-map length old)) ∙ c.requires.lens in
+    let f = source_length (lengths own) (map lengths table) in
+    let x_lens : lengths x ≡ lens = lengths-values look f (source_value_length own table) (out-Vertex u).ins ∙ ap (map f) (sym (ins_are u)) in
+    let gives : outs ≡ function_outputs (out-Vertex u).outs es x = ap (λ ns. function_outputs ns es x) (c.requires.lens ∙ ap (λ l. l.outs) (label_is u)) in
+    let y = c.run_function.new.ins in
+    runs_at (view u) lens row look k (roll-Store (with_ins k y)) c.args.at table c.run_function.new.table.items outs c.requires.place written
+    (runs-function u es c.in-Function.is lens row look k c.requires.fit on x y refl x_lens (c.run_function.ensures.lens ∙ same) outs outs_lens gives)
 
 pub run_node-returns-in_default : goal.run_node-returns-in_default
 run_node-returns-in_default t c =
