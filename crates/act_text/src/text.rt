@@ -91,26 +91,3 @@ fn append_values(text: &mut Vec<u8>, values: &[i64]) -> Result<(), OutOfMemory>
     }
     Ok(())
 }
-
-#[cfg(test)]
-mod tests {
-    use super::*;
-    use std::test::Fail;
-
-    #[test]
-    fn writes_a_line_for_each_actuator(rt: HostRuntime) -> Result<(), Fail> {
-        let alloc = rt.alloc();
-        let names: [&[u8]; 2] = [b"a", b"b"];
-        let mut rows = ActRows::new(alloc, &[1, 2])?;
-        for row in [[5, -7, 0], [-1, 9, i64::MIN]] {
-            assert_eq!(rt; rows.lens(), [1, 2].as_slice());
-            rows.push(&row)?;
-        }
-        assert!(rt; names.len() <= rows.lens().len());
-        assert_eq!(rt; rows.count(), 2);
-        let text = output(alloc, &names, &rows, 255)?;
-        let lines = b"255 a 5\n255 b -7 0\n256 a -1\n256 b 9 -9223372036854775808\n";
-        assert_eq!(rt; text.as_slice(), lines.as_slice());
-        Ok(())
-    }
-}

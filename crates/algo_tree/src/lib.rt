@@ -7,8 +7,6 @@
 
 mod count;
 mod size;
-#[cfg(test)]
-mod tests;
 mod tree;
 mod vertex;
 

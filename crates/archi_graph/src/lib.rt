@@ -16,6 +16,3 @@ pub use joined::reached;
 pub use laws::routes_are_found;
 pub use medium::{Hop, Medium, Seq};
 pub use valid::is_archi;
-
-#[cfg(test)]
-mod tests;

@@ -6,7 +6,6 @@ pub mod Connecting
 pub mod Counted
 pub mod Endings
 pub mod Following
-pub mod LineCounts
 pub mod Listed
 pub mod Named
 pub mod Placed

@@ -12,8 +12,6 @@ mod names;
 mod print;
 mod reader;
 mod stands;
-#[cfg(test)]
-mod tests;
 mod whole;
 mod word;
 mod words;

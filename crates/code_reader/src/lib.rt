@@ -16,8 +16,6 @@ mod numbers;
 mod places;
 mod reader;
 mod stage;
-#[cfg(test)]
-mod tests;
 mod whole;
 mod word;
 mod written;

@@ -14,6 +14,3 @@ pub use given::Given;
 pub use laws::{accepted_are_durations, durations_fit};
 pub use rows::{durations_of, entry};
 pub use table::Durations;
-
-#[cfg(test)]
-mod tests;

@@ -25,6 +25,3 @@ pub use laws::{
 pub use operation::fire;
 pub use valid::is_flat;
 pub use vertex::{Guard, Kind, Source, Vertex};
-
-#[cfg(test)]
-mod tests;

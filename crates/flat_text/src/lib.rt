@@ -6,7 +6,5 @@
 mod line;
 mod list;
 mod listing;
-#[cfg(test)]
-mod tests;
 
 pub use listing::print_flat;

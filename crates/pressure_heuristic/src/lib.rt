@@ -12,6 +12,3 @@ pub use laws::{
     tails_are_greatest, tasks_are_given,
 };
 pub use steps::adequation;
-
-#[cfg(test)]
-mod tests;

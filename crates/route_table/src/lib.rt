@@ -8,6 +8,3 @@ mod table;
 
 pub use rounds::routes_of;
 pub use table::Routes;
-
-#[cfg(test)]
-mod tests;

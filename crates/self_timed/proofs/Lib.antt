@@ -11,4 +11,3 @@ pub mod Reacting
 pub mod Following
 pub mod Deepest
 pub mod Dated
-pub mod WorkedDates

@@ -3,4 +3,3 @@ pub mod Laid
 pub mod Running
 pub mod Told
 pub mod Depths
-pub mod Worked

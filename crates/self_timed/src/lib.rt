@@ -13,6 +13,3 @@ mod reaction;
 pub use actual::Actual;
 pub use compute::dates_of;
 pub use dates::{Dates, Span};
-
-#[cfg(test)]
-mod tests;

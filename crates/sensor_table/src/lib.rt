@@ -7,8 +7,6 @@ mod header;
 mod records;
 mod rows;
 mod table;
-#[cfg(test)]
-mod tests;
 
 pub use fault::{SensorCause, SensorError, SensorFault};
 pub use table::read_sensors;

@@ -15,6 +15,3 @@ mod uses;
 
 pub use error::BuildError;
 pub use program::build;
-
-#[cfg(test)]
-mod tests;
