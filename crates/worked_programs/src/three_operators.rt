@@ -3,6 +3,7 @@
 ghost use Rattle.std.specs.Prelude.{◌≡◌, IfOk};
 ghost use Rattle.flat_graph.specs.Laws.{sensor_lens};
 ghost use Rattle.semaphore_core.specs.Held.{IsOpened};
+ghost use Rattle.word_table.specs.Driver.{AreDrivers};
 
 use crate::two_operators::{
     archi, call, code, first_element, flat, job, make, of, on, opening, sum, vertex,
@@ -226,10 +227,16 @@ fn lead_ahead<'a>(rt: &impl Abort, fabric: &Fabric<'a>, driver: &mut Driver<'a>,
     try_all(rt, fabric, driver, 0, 1, MicroAnswer::NotYet);
 }
 
+fn lead_first<'a>(rt: &impl Abort, fabric: &Fabric<'a>, drivers: &mut Vec<Driver<'a>>, ahead: Ahead)
+    requires { AreDrivers fabric.now drivers.old.items }
+{
+    assert_eq!(rt; drivers.len(), 1);
+    lead_ahead(rt, fabric, &mut drivers[0], ahead);
+}
+
 fn run_ahead_on_words(rt: &impl Abort, alloc: Global, job: &Job, ahead: Ahead) -> Result<(), Fail> {
     let (fabric, mut drivers) = weave(alloc, job, 1)?;
-    assert_eq!(rt; drivers.len(), 1);
-    lead_ahead(rt, &fabric, &mut drivers[0], ahead);
+    lead_first(rt, &fabric, &mut drivers, ahead);
     Ok(())
 }
 
