@@ -4,7 +4,33 @@ use Rattle.std.proofs.lemmas.Slice.Eq.{bytes_eq-Decides}
 use Rattle.std.specs.Str.{bytes_eq}
 use Rattle.macro_code.specs.declared.macros.Macro.{Macro}
 use Rattle.macro_code.specs.Macros.{word_of}
-use Rattle.code_text.specs.Forms.{Bytes, found_in}
+use Rattle.macro_code.specs.declared.macros.Macro.TheVariants.{Processor, Semaphores, Alloc, Thread, EndThread, Main, EndMain, SpawnThread, WaitEndThread, Loop, EndLoop, Suc0, Suc1, Pre0, Pre1, Send, Recv, Sync}
+use Rattle.code_text.specs.Forms.{Bytes, found_in, macro_of, macros}
+
+-- each macro is the first that has its name
+named : (m : Macro) → found_in macros (word_of m) ≡ Some m
+named Processor = refl
+named Semaphores = refl
+named Alloc = refl
+named Thread = refl
+named EndThread = refl
+named Main = refl
+named EndMain = refl
+named SpawnThread = refl
+named WaitEndThread = refl
+named Loop = refl
+named EndLoop = refl
+named Suc0 = refl
+named Suc1 = refl
+named Pre0 = refl
+named Pre1 = refl
+named Send = refl
+named Recv = refl
+named Sync = refl
+
+pub found_by_name : (m : Macro) (p : Bytes) → bytes_eq p (word_of m) ≡ true → macro_of p ≡ Some m
+unfolding macro_of
+found_by_name m p h = ap (found_in macros) ((bytes_eq-Decides p (word_of m)).0 h) ∙ named m
 
 -- no macro has the name
 abbrev IsNone : List Macro → Bytes → Option Macro → Type 0

@@ -12,7 +12,6 @@ use Rattle.text_lines.specs.Text.{is_blank}
 use Rattle.text_lines.proofs.Reading.{Word, word_read, word_within}
 use Rattle.std.proofs.Math.Seq.{take-length}
 use Rattle.std.proofs.lemmas.List.{take_all}
-use Rattle.std.proofs.lemmas.Bool.Decides.{nat_tests}
 
 -- the first word, and what stands behind it
 pub first_read : (code : List ℕ) (from to : ℕ) → from < length code → is_blank (get_or code from 0) ≡ false → to ≡ from + position_or_len is_blank (drop from code) → words_of (drop from code) ≡ words_of code
@@ -38,14 +37,3 @@ module _ (operations : List Bytes) (a : Architecture) where
   clean_line r n line code ws is h words =
       let none : list_any is_foreign (code_of line) ≡ false = ap (list_any is_foreign) (sym is) ∙ h in
       ap (line_by operations a r n line) (place_by (code_of line) false none) ∙ ap (by_words r n) (ap words_of (sym is) ∙ words)
-
-  long : (r : Reading) (n : ℕ) (ws : List Bytes) → 2 < length ws → by_words r n ws ≡ refused n BadLine
-  long r n [] h = absurd (omega arith)
-  long r n (w ∷ []) h = absurd (omega arith)
-  long r n (w ∷ v ∷ []) h = absurd (omega arith)
-  long r n (w ∷ v ∷ u ∷ ws) h =
-      let no : nat_eq (length (w ∷ v ∷ u ∷ ws)) 0 ≡ false = grind (arith, nat_tests) in
-      ap (λ (b : Bool). cond b (Ok r) (words_line operations a r n (w ∷ v ∷ u ∷ ws))) no
-
-  pub long_line : (r : Reading) (n : ℕ) (line code : Bytes) (ws : List Bytes) → code ≡ code_of line → list_any is_foreign code ≡ false → words_of code ≡ ws → 2 < length ws → next_line operations a r n line ≡ refused n BadLine
-  long_line r n line code ws is h words many = clean_line r n line code ws is h words ∙ long r n ws many

@@ -124,7 +124,7 @@ next_by list from to false h le next =
 next_piece : (list : List ℕ) (from to : ℕ) → from ≤ length list → to ≡ from + position_or_len is_comma (drop from list) → pieces list from ≡ take (to - from) (drop from list) ∷ pieces list (to + 1)
 next_piece list from to le next = next_by list from to (list_any is_comma (drop from list)) refl le next
 
--- The buffers of a list, of which one more is read, one is none, or all were read.
+-- The buffers of a list: one more is read, or one is none.
 pub one_more : (list : List ℕ) (from to n : ℕ) (ns new : List ℕ) (all : Option (List ℕ)) → from ≤ length list → to ≡ from + position_or_len is_comma (drop from list)
     → Some n ≡ buffer_in (take (to - from) (drop from list)) → new ≡ ns ++ n ∷ [] → behind ns (each_in buffer_in (pieces list from)) ≡ all → behind new (each_in buffer_in (pieces list (to + 1))) ≡ all
 one_more list from to n ns new all le next is made so_far =
@@ -140,13 +140,6 @@ no_more list from to ns all le next is so_far =
     sym so_far
     ∙ ap (λ (ws : List Bytes). behind ns (each_in buffer_in ws)) (next_piece list from to le next)
     ∙ sym (ap (λ (o : Option ℕ). behind ns (with_first o (each_in buffer_in (pieces list (to + 1))))) is)
-
-with_nothing : (ns : List ℕ) → ns ++ [] ≡ ns
-with_nothing [] = refl
-with_nothing (n ∷ ns) = ap (λ (ms : List ℕ). n ∷ ms) (with_nothing ns)
-
-pub all_read : (list : List ℕ) (from : ℕ) (ns : List ℕ) (all : Option (List ℕ)) → length list < from → behind ns (each_in buffer_in (pieces list from)) ≡ all → all ≡ Some ns
-all_read list from ns all lt so_far = sym so_far ∙ ap (λ (ws : List Bytes). behind ns (each_in buffer_in ws)) (past list from lt) ∙ ap Some (with_nothing ns)
 
 -- where all buffers are declared, no word names another one
 pub all_declared : (here : List ℕ) (ws : List Bytes) (ns : List ℕ) → each_in buffer_in ws ≡ Some ns → list_all (is_among here) ns ≡ true → first_unknown here ws ≡ None

@@ -148,7 +148,7 @@ pub fn buffers(alloc: Global, list: &[u8]) -> Result<Option<Vec<u64>>, CodeError
 fn piece_buffers(alloc: Global, list: &[u8]) -> Result<Option<Vec<u64>>, CodeError>
     ensures { HasNumbers result (each_in buffer_in (slice_split is_comma list.now)) }
 {
-    let mut numbers = Vec::new(alloc);
+    let mut numbers = Vec::with_capacity(alloc, commas(list) + 1)?;
     let mut from = 0;
     while from <= list.len() {
         let to = piece_end(list, from);
@@ -159,6 +159,17 @@ fn piece_buffers(alloc: Global, list: &[u8]) -> Result<Option<Vec<u64>>, CodeErr
         from = to + 1;
     }
     Ok(Some(numbers))
+}
+
+/// How many commas stand in a list.
+fn commas(list: &[u8]) -> usize
+    ensures { result ≤ length list.now }
+{
+    let mut commas = 0;
+    for byte in list {
+        commas += usize::from(*byte == b',');
+    }
+    commas
 }
 
 /// The place of the next comma, or the end.

@@ -1,13 +1,52 @@
 //! The macros by their names.
-ghost use Rattle.std.specs.Prelude.{◌≡◌, map, slice_get};
+ghost use Rattle.std.specs.Prelude.{◌≡◌, IfSome, Some, bytes_eq, map, slice_get};
 ghost use Rattle.macro_code.specs.Macros.{word_of};
 ghost use Rattle.code_text.specs.Forms.{macro_of, macros};
 
 use case_table::{CaseTable, case_arms};
 use macro_code::Macro;
 
-/// The macro of this name.
+/// The macros of instructions, with which most lines begin.
+const OF_INSTRUCTIONS: [Macro; 7] = [
+    Macro::Suc0,
+    Macro::Suc1,
+    Macro::Pre0,
+    Macro::Pre1,
+    Macro::Send,
+    Macro::Recv,
+    Macro::Sync,
+];
+
+/// The macro of this name. Those of instructions are tried before a table of all is made.
 pub fn find_macro(name: &[u8]) -> Option<Macro>
+    ensures { result ≡ macro_of name.now }
+{
+    match find_instruction(name) {
+        Some(found) => Some(found),
+        None => find_any(name),
+    }
+}
+
+/// The macro of an instruction of this name.
+fn find_instruction(name: &[u8]) -> Option<Macro>
+    ensures { IfSome result (λ found. macro_of name.now ≡ Some found) }
+{
+    for found in &OF_INSTRUCTIONS {
+        if is_name_of(name, *found) {
+            return Some(*found);
+        }
+    }
+    None
+}
+
+fn is_name_of(name: &[u8], found: Macro) -> bool
+    ensures { result ≡ bytes_eq name.now (word_of found) }
+{
+    name == found.word().as_bytes()
+}
+
+/// The macro of this name, of all macros.
+fn find_any(name: &[u8]) -> Option<Macro>
     ensures { result ≡ macro_of name.now }
 {
     match macro_table().find(name) {

@@ -3,7 +3,7 @@ use Rattle.code_text.specs.declared.fault.CodeError.{CodeError}
 use Rattle.code_text.specs.Text.{Reading}
 use Rattle.code_reader.specs.Given.{Steps}
 use Rattle.code_reader.specs.Read.{reading}
-use Rattle.code_reader.proofs.LineWords.{clean_line, foreign_line, long_line}
+use Rattle.code_reader.proofs.LineWords.{clean_line, foreign_line}
 use Rattle.code_reader.proofs.reader.Reader.next_line.Goals as goal
 
 pub returns-then-has_foreign : goal.returns-then-has_foreign

@@ -2,7 +2,7 @@
 use Rattle.std.proofs.Common.{◌∙◌, sym}
 use Rattle.code_text.specs.Forms.{macros, macro_of}
 use Rattle.code_reader.proofs.Found.{found_at, not_found}
-use Rattle.code_reader.proofs.macros.find_macro.Goals as goal
+use Rattle.code_reader.proofs.macros.find_any.Goals as goal
 
 pub returns-in-Some : goal.returns-in-Some
 unfolding macro_of
