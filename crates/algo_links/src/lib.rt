@@ -8,8 +8,6 @@ mod links;
 mod mention;
 mod names;
 mod standing;
-#[cfg(test)]
-mod tests;
 
 pub use laws::links_lead_to_definitions;
 pub use links::links_of;

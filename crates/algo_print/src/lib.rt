@@ -6,8 +6,6 @@ mod blocks;
 mod laws;
 mod lines;
 mod print;
-#[cfg(test)]
-mod tests;
 mod words;
 
 pub use laws::{canonical_text_reads_back, lines_do_not_matter};

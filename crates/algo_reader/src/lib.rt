@@ -12,8 +12,6 @@ mod ports;
 mod reader;
 mod repetition;
 mod switch;
-#[cfg(test)]
-mod tests;
 mod values;
 mod word;
 mod words;

@@ -15,7 +15,5 @@ mod plan;
 mod resolution;
 mod size;
 mod sources;
-#[cfg(test)]
-mod tests;
 
 pub use resolution::resolve;

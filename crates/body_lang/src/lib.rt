@@ -10,8 +10,6 @@ mod evaluate;
 mod expression;
 mod inputs;
 mod layout;
-#[cfg(test)]
-mod tests;
 
 pub use body::Body;
 pub use evaluate::{has_ports_below, value};

@@ -8,8 +8,6 @@ mod fault;
 mod laws;
 mod print;
 mod read;
-#[cfg(test)]
-mod tests;
 mod token;
 mod word;
 

@@ -6,8 +6,6 @@ mod code;
 mod durations;
 mod line;
 mod status;
-#[cfg(test)]
-mod tests;
 
 pub use line::say;
 pub use status::Status;

@@ -11,8 +11,6 @@ ghost use Rattle.command_words.specs.View.{view_of};
 
 mod given;
 mod number;
-#[cfg(test)]
-mod tests;
 
 use given::{Given, given_words};
 use number::number_up_to;

@@ -6,8 +6,6 @@ mod fault;
 mod lookup;
 mod repetition;
 mod switch;
-#[cfg(test)]
-mod tests;
 
 pub use body_ports::ports_of_body;
 pub use repetition::check_repeat;

@@ -15,8 +15,6 @@ mod generator;
 mod layers;
 mod lines;
 mod table;
-#[cfg(test)]
-mod tests;
 
 use std::alloc::Global;
 use syn_base::OutOfMemory;

@@ -124,6 +124,3 @@ pub fn write_pieces<K: Sink>(sink: &mut K, pieces: &[&[u8]]) -> Result<(), Faile
     }
     Ok(())
 }
-
-#[cfg(test)]
-mod tests;

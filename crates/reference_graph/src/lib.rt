@@ -14,6 +14,3 @@ pub use depths::{Depths, depths_of};
 pub use laws::{depths_are_one_deeper, links_are_enough};
 pub use links::are_inside;
 pub use search::reaching;
-
-#[cfg(test)]
-mod tests;

@@ -9,8 +9,6 @@ mod memory;
 mod name;
 mod rows;
 mod shape;
-#[cfg(test)]
-mod tests;
 
 pub use arithmetic::{Op, apply};
 pub use integer::{NumFault, print_int, printed_reads_back, read_int};

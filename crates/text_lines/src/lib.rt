@@ -123,19 +123,3 @@ pub fn spans(alloc: Global, code: &[u8]) -> Result<Vec<Span>, OutOfMemory>
     }
     Ok(spans)
 }
-
-#[cfg(test)]
-mod tests {
-    use super::*;
-    use std::test::Fail;
-
-    #[test]
-    fn a_line_is_cut_into_words(rt: HostRuntime) -> Result<(), Fail> {
-        let line = b" ref\ts Sense\r# of speed\x01".as_slice();
-        assert_eq!(rt; foreign(line), None);
-        let spans = spans(rt.alloc(), code(line))?;
-        assert_eq!(rt; spans.len(), 3);
-        assert_eq!(rt; (spans[1].from, spans[1].to), (5, 6));
-        Ok(())
-    }
-}

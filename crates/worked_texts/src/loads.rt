@@ -1,5 +1,5 @@
 //! The texts of load 1: their lengths, and lines of them worked by hand.
-use crate::load_texts;
+use load_texts::load_texts;
 use std::test::Fail;
 
 #[test]
