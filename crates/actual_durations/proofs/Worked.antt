@@ -31,7 +31,7 @@ vertex def k ins outs twin = record { name = def; def = def; kind = k; guards = 
 abbrev placed : ℕ → ℕ → List Transfer → Decision
 placed v o transfers = record { op = v; operator = o; start = 0; end = 0; transfers = transfers }
 
--- a sensor that a function reads on each of two operators, and an actuator behind each function
+-- a sensor that a function reads on each of two operators, and an actuator after each function
 abbrev graph : Graph
 graph = record {
   vertices = vertex (codes "Sense") (Sensor 0) [] (1 ∷ []) None ∷ vertex (codes "F") (Function 0) (source 0 ∷ []) (1 ∷ []) None ∷ vertex (codes "F") (Function 0) (source 0 ∷ []) (1 ∷ []) None

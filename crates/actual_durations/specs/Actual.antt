@@ -53,7 +53,7 @@ duration_fault def None _ = None
 abbrev pub operator_of : List Decision → ℕ → Option ℕ
 operator_of ds v = option_map (λ d. d.operator) (find (λ d. d.op == v) ds)
 
--- by number the operator of each of so many operations
+-- by number the operator of each of this many operations
 abbrev pub operators_of : List Decision → ℕ → List (Option ℕ)
 operators_of ds n = map (operator_of ds) (range_with_len 0 n)
 
@@ -83,7 +83,7 @@ abbrev pub operations_ticks : List DurationLine → List Vertex → List (Option
 operations_ticks lines (x ∷ xs) (o ∷ os) = operation_ticks lines x o ∷ operations_ticks lines xs os
 operations_ticks lines _ _ = []
 
--- so many elements over a medium
+-- this many elements over a medium
 abbrev pub carrying_ticks : ℕ → Option Medium → ℕ
 carrying_ticks n None = 0
 carrying_ticks n (Some m) = m.fixed + n * m.per

@@ -24,6 +24,6 @@ Gives (Err (Refused f)) defined = defined ≡ Err (Refused f)
 Gives (Err (Limit f)) defined = defined ≡ Err (Limit f)
 Gives (Err OutOfMemory) defined = Unit {0}
 
--- where it is on an operator, that is one of so many
+-- where it is on an operator, that is one of this many
 abbrev pub IsOneOf : ℕ → Option ℕ → Type 0
 IsOneOf operators o = IfSome o (λ p. p < operators)

@@ -6,7 +6,7 @@ use schedule::Decision;
 use std::alloc::Global;
 use syn_base::OutOfMemory;
 
-/// The operator of each of so many operations, by number, in proportion to the decisions.
+/// The operator of each of this many operations, by number, in proportion to the decisions.
 pub fn operators_of(
     alloc: Global,
     operations: usize,

@@ -26,12 +26,12 @@ abbrev pub next_from : List Def → List ℕ → ℕ → List Def → List ℕ
 next_from ds counts k [] = []
 next_from ds counts k (d ∷ rest) = count_here (sum_by (slice_index counts) (row ds k)) d.body ∷ next_from ds counts (suc k) rest
 
--- no definition has more after so many rounds
+-- no definition has more after this many rounds
 abbrev pub most : ℕ → ℕ
 most zero = 1
 most (suc n) = 200 * most n
 
--- After so many rounds: the count of each definition, followed so often, which is bounded.
+-- After this many rounds: the count of each definition, followed so often, which is bounded.
 pub record AreCounts (ds : List Def) (round : ℕ) (counts : List ℕ) : Type 0 where
   pub rows : length counts ≡ length ds
   pub bounded : All (λ n. n ≤ most round) counts

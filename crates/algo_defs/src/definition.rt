@@ -109,7 +109,7 @@ pub enum Body {
         otherwise: Name,
         otherwise_line: u32,
     },
-    /// So many copies of a definition.
+    /// This many copies of a definition.
     Repeat {
         copies: u32,
         def: Name,

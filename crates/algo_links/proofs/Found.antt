@@ -19,7 +19,7 @@ found_by : (b : Bool) (d : Def) (o : Option Def) (ds : List Def) (p : ℕ) → o
 found_by true d o ds p h = refl
 found_by false d o ds p h = let next : 1 + p ≡ suc p = omega arith in rw next h
 
--- The definition of a name stands at its place, and there is none where that is behind the last.
+-- The definition of a name stands at its place, and there is none where that is after the last.
 pub found : (ds : List Def) (w : Bytes) → definition ds w ≡ slice_get ds (position_or_len (λ e. bytes_eq w e.name) ds)
 found [] w = refl
 found (d ∷ ds) w = found_by (bytes_eq w d.name) d (definition ds w) ds (position_or_len (λ e. bytes_eq w e.name) ds) (found ds w)

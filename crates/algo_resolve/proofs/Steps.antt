@@ -24,7 +24,7 @@ use Rattle.algo_rules.specs.Resolved.{Making, cases_from, inner_by, is_actuator,
 use Rattle.algo_rules.specs.declared.ports.Ports.{Ports}
 use Rattle.algo_resolve.specs.declared.build.Seat.{Seat}
 
--- one vertex behind those that are made
+-- one vertex after those that are made
 pub pushed : {A B : Type 0} (f : A → B) (xs : List A) (x : A) (y : B) (rest : List B) → f x ≡ y → map f (xs ++ x ∷ []) ++ rest ≡ map f xs ++ (y ∷ rest)
 pushed f [] x y rest is = ap (λ z. z ∷ rest) is
 pushed f (z ∷ xs) x y rest is = ap (λ zs. f z ∷ zs) (pushed f xs x y rest is)
@@ -75,7 +75,7 @@ module _ (ds : List Def) where
         ∙ ap (λ (k : ℕ). v ∷ references_from ds make ins all edges k (a + is_actuator (definition ds r.def)) (drop (i + 1) rs)) (sym sensors)
         ∙ ap (λ (k : ℕ). v ∷ references_from ds make ins all edges t k (drop (i + 1) rs)) (sym actuators)
 
-    -- the vertex of the next reference, behind those that are made
+    -- the vertex of the next reference, after those that are made
     pub one_reference : (ins : List Port) (all : List Reference) (edges : List Edge) (rs : List Reference) (i : ℕ) (r : Reference) (s a t b : ℕ) (us : List Vertex) (v : Vertex) (whole : List tree.Vertex)
         → i < length rs → r ≡ get_or rs i r → t ≡ s + is_sensor (definition ds r.def) → b ≡ a + is_actuator (definition ds r.def)
         → view v ≡ make (Named r.name) r.def (sources_to (ports_of ds) ins all edges (Some r.name) (ports_of ds r.def).ins) s a

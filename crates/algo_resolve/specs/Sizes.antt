@@ -23,7 +23,7 @@ next_from ds sizes k [] = []
 next_from ds sizes k (d ∷ rest) =
     min (size_by (min (sum_by (slice_index sizes) (row ds k)) (2 ^ 64 - 1)) d.body) (2 ^ 64 - 1) ∷ next_from ds sizes (suc k) rest
 
--- After so many rounds: the size of each definition, followed so often.
+-- After this many rounds: the size of each definition, followed so often.
 pub record AreSizes (ds : List Def) (round : ℕ) (sizes : List ℕ) : Type 0 where
   pub rows : length sizes ≡ length ds
   pub within : (k : ℕ) (w : Bytes) → IsLinked ds w k → slice_index sizes k ≡ min (made_within ds round w) (2 ^ 64 - 1)

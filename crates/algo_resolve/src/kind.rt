@@ -82,7 +82,7 @@ impl<'a> Checked<'a> {
     }
 }
 
-/// The first so many values, or all.
+/// The first values, as many as are asked for, or all.
 #[tactic(auto, using(std::proofs::lemmas::List::take_min))]
 fn front(values: &[i64], len: usize) -> &[i64]
     ensures { result.now ≡ take len values.now }
@@ -90,7 +90,7 @@ fn front(values: &[i64], len: usize) -> &[i64]
     &values[..len.min(values.len())]
 }
 
-/// The values after so many, or none.
+/// The values after this many, or none.
 #[tactic(auto, using(std::proofs::lemmas::List::drop_min))]
 fn behind(values: &[i64], len: usize) -> &[i64]
     ensures { result.now ≡ drop len values.now }

@@ -29,7 +29,7 @@ use tree_laws::{accepted_make_a_tree, vertices_are_counted};
 ///
 /// OutOfMemory may come in place of any answer. It comes also where the tree would be made of more than
 /// `MOST_VERTICES`, each copy of the body of a repetition counted, before anything is made; a tree of
-/// at most so many is always made, as far as there is memory.
+/// at most this many is always made, as far as there is memory.
 pub fn resolve(alloc: Global, defs: &Defs) -> Result<Tree, AlgoError>
     requires read { AreWellRead defs.now.defs }
     requires few { length defs.now.defs ≤ 4000000000 }

@@ -37,7 +37,7 @@ number_of ps w = position_or_len (λ p. bytes_eq w p.name) ps
 abbrev pub lens_of : List Port → List ℕ
 lens_of ps = map (λ p. p.len) ps
 
--- The outer ports of a frontier line, in so many copies of a body with these ports.
+-- The outer ports of a frontier line, in this many copies of a body with these ports.
 abbrev pub outer_ins : ℕ → Ports → Frontier → List Port
 outer_ins copies inner (Fork p x) = one_port p (copies * len_of inner.ins x)
 outer_ins copies inner (Diffuse p x) = one_port p (len_of inner.ins x)

@@ -152,7 +152,7 @@ abbrev pub vertex : Part → Bytes → List Source → List Port → tree.Kind �
 vertex part def ins outs kind inner =
     tree.vertex (record { part = part; definition = def; ins = ins; guards = []; outs = lens_of outs; names = map (λ p. p.name) outs; kind = kind }) (vertices_of inner)
 
--- values cut into so many groups of this length
+-- values cut into this many groups of this length
 abbrev pub groups : ℕ → ℕ → List ℤ → List (List ℤ)
 groups zero len values = []
 groups (suc n) len values = take len values ∷ groups n len (drop len values)
@@ -177,14 +177,14 @@ module _ (ds : List Def) (make : Making) where
   abbrev pub of : Bytes → Ports
   of w = ports_of ds w
 
-  -- the references of a graph in order, behind so many sensors and actuators
+  -- the references of a graph in order, after this many sensors and actuators
   abbrev pub references_from : List Port → List Reference → List Edge → ℕ → ℕ → List Reference → List tree.Vertex
   references_from ins all edges sensors actuators [] = []
   references_from ins all edges sensors actuators (r ∷ rs) =
       make (Named r.name) r.def (sources_to of ins all edges (Some r.name) (of r.def).ins) sensors actuators
       ∷ references_from ins all edges (sensors + is_sensor (definition ds r.def)) (actuators + is_actuator (definition ds r.def)) rs
 
-  -- cases take the inputs of their switch behind the conditioning one
+  -- cases take the inputs of their switch after the conditioning one
   abbrev pub cases_from : ℕ → ℕ → List Bytes → List tree.Vertex
   cases_from ins c [] = []
   cases_from ins c (w ∷ ws) = make (Numbered c) w (owns 1 ins) 0 0 ∷ cases_from ins (suc c) ws

@@ -12,7 +12,7 @@ abbrev mutual
   size_all no_vertices = 0
   size_all (and_vertex u us) = size u + size_all us
 
--- A vertex of this kind and all inside it, where those inside it become so many: in a repetition once for each copy,
+-- A vertex of this kind and all inside it, where those inside it become this many: in a repetition once for each copy,
 -- beside an explode for each fork line and an implode for each join line.
 abbrev pub made_by : Kind → ℕ → ℕ
 made_by (repeat n feeds gives) inner = suc (length (fork_names feeds) + n * inner + length (join_names gives))

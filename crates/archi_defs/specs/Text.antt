@@ -188,7 +188,7 @@ line_by r n line None =
 abbrev pub next_line : Reading → ℕ → Bytes → Result Reading ArchiError
 next_line r n line = line_by r n line (foreign_place line)
 
--- so many operators may stand at a medium
+-- this many operators may stand at a medium
 abbrev pub has_stands : Medium → Bool
 has_stands m = if m.multi then nat_le 2 (length m.stands) else length m.stands == 2
 

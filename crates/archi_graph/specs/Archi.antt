@@ -19,12 +19,12 @@ abbrev pub ascends_from : ℕ → List ℕ → Bool
 ascends_from least [] = true
 ascends_from least (x ∷ xs) = nat_le least x && ascends_from (x + 1) xs
 
--- so many operators may stand at a medium
+-- this many operators may stand at a medium
 abbrev pub may_stand : Bool → ℕ → Bool
 may_stand true n = nat_le 2 n
 may_stand false n = n == 2
 
--- a valid medium, where there are so many operators
+-- a valid medium, where there are this many operators
 abbrev pub is_medium : ℕ → Medium → Bool
 is_medium operators m =
     may_stand m.multi (length m.stands) && ascends_from 0 m.stands && list_all (λ o. nat_lt o operators) m.stands && nat_le m.fixed 1000000 && nat_le m.per 1000000
@@ -46,7 +46,7 @@ stands_in_all media = sum_by (λ m. length m.stands) media
 abbrev pub stands_at : Medium → ℕ → Bool
 stands_at m o = list_any (nat_eq o) m.stands
 
--- at most so many hops lead from operator 0 to the operator
+-- at most this many hops lead from operator 0 to the operator
 abbrev pub reached_within : List Medium → ℕ → ℕ → Bool
 reached_within media zero o = o == 0
 reached_within media (suc hops) o =

@@ -9,7 +9,7 @@ use crate::medium::Medium;
 /// A flag for each operator.
 type Flags = [bool; 16];
 
-/// Whether each of so many operators is reached from operator 0.
+/// Whether each of this many operators is reached from operator 0.
 pub fn are_joined(operators: usize, media: &[Medium]) -> bool
     requires few { operators ≤ 16 }
     requires known { AreOperators 16 media.now }
@@ -19,7 +19,7 @@ pub fn are_joined(operators: usize, media: &[Medium]) -> bool
     are_all_set(&reached[..operators])
 }
 
-/// A flag for each of 16 operators: whether at most so many hops lead to it from operator 0.
+/// A flag for each of 16 operators: whether at most this many hops lead to it from operator 0.
 pub fn reached(hops: usize, media: &[Medium]) -> [bool; 16]
     requires { AreOperators 16 media.now }
     ensures { (o : ℕ) → o < 16 → slice_index_or result o false ≡ reached_within media.now hops o }

@@ -8,7 +8,7 @@ use crate::medium::{Medium, Seq};
 use std::alloc::Global;
 use syn_base::OutOfMemory;
 
-/// The sequences of so many operators at these media.
+/// The sequences of this many operators at these media.
 pub fn all_sequences(
     alloc: Global,
     operators: usize,

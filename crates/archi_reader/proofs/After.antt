@@ -4,7 +4,7 @@ use Rattle.archi_defs.specs.declared.fault.ArchiError.{ArchiError}
 use Rattle.archi_defs.specs.Text.{Reading, and_then, next_line, rest_of, whole}
 use Rattle.archi_reader.specs.Canonical.{Words, joined}
 
--- the reading behind these lines
+-- the reading after these lines
 abbrev pub after : Reading → ℕ → List Words → Result Reading ArchiError
 after r n [] = Ok r
 after r n (ws ∷ lines) = and_then (next_line r n (joined ws)) (λ s. after s (n + 1) lines)
@@ -33,7 +33,7 @@ after_append (ws ∷ lines) more r n =
     append_behind (next_line r n (joined ws)) n lines more (λ s. after_append lines more s (n + 1))
     ∙ ap (λ (k : ℕ). and_then (after r n (ws ∷ lines)) (λ s. after s k more)) (let e : n + 1 + length lines ≡ n + suc (length lines) = omega arith in e)
 
--- lines behind others
+-- lines after others
 pub then_lines : (lines more : List Words) (r s : Reading) (n : ℕ) → after r n lines ≡ Ok s → after r n (lines ++ more) ≡ after s (n + length lines) more
 then_lines lines more r s n is = after_append lines more r n ∙ ap (λ read. and_then read (λ t. after t (n + length lines) more)) is
 

@@ -92,7 +92,7 @@ pub record Opening : Type 0 where
   pub version : ℕ
   pub depth : Option ℕ
 
--- the reading after the first lines and so many operators
+-- the reading after the first lines and this many operators
 abbrev pub at_operators : Opening → List Bytes → Reading
 at_operators opening operators = record start { version = Some opening.version; depth = opening.depth; operators = operators }
 
@@ -107,7 +107,7 @@ operators_back opening (w ∷ operators) done more n distinct named few =
     (let long = length_push done w in omega (arith, few, long))
     ∙ ap (λ (l : List Bytes). Ok (at_operators opening l)) (append_assoc done (w ∷ []) operators)
 
--- the reading after so many media, at which nothing stands yet
+-- the reading after this many media, at which nothing stands yet
 abbrev pub at_media : Opening → List Bytes → List Medium → List ℕ → Reading
 at_media opening operators media lines = record start { version = Some opening.version; depth = opening.depth; operators = operators; media = media; lines = lines }
 

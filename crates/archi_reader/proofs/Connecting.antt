@@ -21,7 +21,7 @@ use Rattle.archi_reader.proofs.Spelled.{name_word, described_back}
 use Rattle.archi_reader.proofs.After.{after, then_line, then_lines}
 use Rattle.archi_reader.proofs.Back.{fresh_at, bare, Opening}
 
--- the first that passes stands behind those that fail
+-- the first that passes stands after those that fail
 place_first : (p : Bytes → Bool) (xs ys : List Bytes) (w : Bytes) → list_any p xs ≡ false → p w ≡ true → position p (xs ++ w ∷ ys) ≡ Some (length xs)
 place_first p [] ys w none is = position_cons p w ys ∙ ap (λ b. first_or b (position p ys)) is
 place_first p (x ∷ xs) ys w none is =
@@ -75,7 +75,7 @@ set_seam : (done rest : List Medium) (m new : Medium) → slice_set (done ++ m �
 set_seam [] rest m new = refl
 set_seam (x ∷ done) rest m new = ap (λ l. x ∷ l) (set_seam done rest m new)
 
--- the reading after so many connections
+-- the reading after this many connections
 abbrev pub at_connections : Opening → List Bytes → List Medium → List ℕ → ℕ → Reading
 at_connections opening operators media lines connections =
     record start { version = Some opening.version; depth = opening.depth; operators = operators; media = media; lines = lines; connections = connections }
@@ -95,7 +95,7 @@ connect_read r s n version m o medium operator versioned a b at found is =
 connected_steps : (twice many : Bool) (a b x : Result Reading ArchiError) → twice ≡ false → many ≡ false → (if twice then a else if many then b else x) ≡ x
 connected_steps twice many a b x e f = rw (e, f) refl
 
--- one connection, at the medium behind these
+-- one connection, at the medium after these
 one_connection : (opening : Opening) (operators : List Bytes) (done rest : List Medium) (m : Medium) (lines : List ℕ) (c n o : ℕ) (w : Bytes)
     → with_stand o m.stands ≡ m.stands ++ o ∷ [] → list_any (λ p. p == o) m.stands ≡ false → c < 64
     → connected (at_connections opening operators (done ++ m ∷ rest) lines c) n w (length done) o ≡ Ok (at_connections opening operators (done ++ record m { stands = m.stands ++ o ∷ [] } ∷ rest) lines (c + 1))

@@ -44,7 +44,7 @@ sound_line r n line None h =
     either (length (words_of (code_of line)) == 0) _ _ (record { holds = h })
     (by_version r.version (sound_version r n (words_of (code_of line)) h) (λ version. sound_described r n version (words_of (code_of line)) h))
 
--- what holds of a reading holds behind each line
+-- what holds of a reading holds after each line
 pub sound_next : (r new : Reading) (n : ℕ) (line : Bytes) → IsSound r → next_line r n line ≡ Ok new → IsSound new
 sound_next r new n line h is = let kept : Keeps IsSound (next_line r n line) = sound_line r n line (foreign_place line) h in subst (Holds IsSound) is kept.holds
 

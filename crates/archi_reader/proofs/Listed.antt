@@ -22,7 +22,7 @@ abbrev pub AreNew : List DurationLine → List DurationLine → Type 0
 AreNew done [] = Unit {0}
 AreNew done (d ∷ ds) = (is_given done d.def d.operator ≡ false) × AreNew (done ++ d ∷ []) ds
 
--- a duration that some line says, where there are so many operators
+-- a duration that some line says, where there are this many operators
 abbrev pub is_spelled : ℕ → DurationLine → Bool
 is_spelled operators d = is_name d.def && nat_lt d.operator operators && nat_le d.ticks 1000000000
 
@@ -40,7 +40,7 @@ duration_read r n version ticks o def operator versioned a b low found new =
     (number_back 1000000000 ticks low (omega (arith, small))) found
     (once (is_given r.durations def o) _ _ new)
 
--- the reading after so many durations
+-- the reading after this many durations
 abbrev pub at_durations : Opening → List Bytes → List Medium → List ℕ → ℕ → List DurationLine → Reading
 at_durations opening operators media lines connections durations =
     record start { version = Some opening.version; depth = opening.depth; operators = operators; media = media; lines = lines; connections = connections; durations = durations }

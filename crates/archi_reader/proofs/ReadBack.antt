@@ -89,7 +89,7 @@ is_whole r n d h = by r.version refl h
     by None e k = cc
     by (Some version) e k = whole_is_of r version d e k
 
--- lines behind others
+-- lines after others
 chained : (lines more : List Words) (r s : Reading) (t : Result Reading ArchiError) (n : ℕ) → after r n lines ≡ Ok s → after s (n + length lines) more ≡ t → after r n (lines ++ more) ≡ t
 chained lines more r s t n first second = after_append lines more r n ∙ ap (λ read. and_then read (λ u. after u (n + length lines) more)) first ∙ second
 

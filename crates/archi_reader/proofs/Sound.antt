@@ -127,7 +127,7 @@ sound_depth r n version ws h = keeps_if (not (length ws == 2) || (version == 1) 
   };
 }))
 
--- so many operators, and more
+-- this many operators, and more
 begun_more : (n : ℕ) (m : Medium) → is_begun n m ≡ true → is_begun (n + 1) m ≡ true
 begun_more n m h =
     let a = and_parts _ (nat_le m.per 1000000) h in
@@ -168,7 +168,7 @@ sound_operator r n ws h =
               (distinct_with r.operators (medium_names r) (word ws 1) fresh h.distinct);
         }
 
--- so many fixed ticks and ticks for each element
+-- this many fixed ticks and ticks for each element
 abbrev medium_of : List Bytes → ℕ → ℕ → Medium
 medium_of ws fixed per = record { name = word ws 1; multi = bytes_eq (word ws 2) (codes "multi"); fixed = fixed; per = per; stands = [] }
 

@@ -6,7 +6,7 @@ ghost use Rattle.archi_graph.specs.Routes.{AreOperators};
 
 use archi_graph::{Medium, reached};
 
-/// The least of so many operators to which no route leads from operator 0.
+/// The least of this many operators to which no route leads from operator 0.
 pub fn apart(operators: usize, media: &[Medium]) -> Option<usize>
     requires few { operators ≤ 16 }
     requires known { AreOperators 16 media.now }

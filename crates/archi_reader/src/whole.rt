@@ -14,7 +14,7 @@ use archi_graph::{Archi, Medium};
 use std::alloc::Global;
 use syn_base::Name;
 
-/// So many operators as its kind asks for stand at the medium.
+/// This many operators as its kind asks for stand at the medium.
 fn has_stands(medium: &Medium) -> bool
     ensures { result ≡ has_stands medium.now }
 {

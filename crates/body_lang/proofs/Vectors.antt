@@ -25,7 +25,7 @@ cut-zeros (len ∷ lens) =
     ∙ ap₂ (λ a b. a ∷ cut lens b) (take-replicate len (len + sum lens) (pos 0) (omega arith)) (drop-replicate len (len + sum lens) (pos 0) ∙ ap (λ n. replicate n (pos 0)) (let e : len + sum lens - len ≡ sum lens = omega arith in e))
     ∙ ap (λ vs. zeros len ∷ vs) (cut-zeros lens)
 
--- a row whose first vector is a, with what is written behind it
+-- a row whose first vector is a, with what is written after it
 put_behind : (lens : List ℕ) (a b vector rest : List ℤ) (s : ℕ) → cut (length a ∷ lens) (take (length a + s) (a ++ b) ++ rest) ≡ a ∷ cut lens (take s b ++ rest)
 put_behind lens a b vector rest s =
     ap (λ r. cut (length a ∷ lens) (r ++ rest)) (take-append-add a b s)

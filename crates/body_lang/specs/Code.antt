@@ -24,7 +24,7 @@ heads (negation e) = is_negation ∷ heads e
 heads (apply op a b) = is_apply op ∷ (heads a ++ heads b)
 heads (select c a b) = is_select ∷ (heads c ++ (heads a ++ heads b))
 
--- a head takes as many of the expressions behind it as it has inside
+-- a head takes as many of the expressions after it as it has inside
 abbrev pub around : (Expr → Expr) → List Expr → List Expr
 around f [] = []
 around f (e ∷ es) = f e ∷ es

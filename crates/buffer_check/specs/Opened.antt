@@ -27,7 +27,7 @@ module _ (p : Program) where
   abbrev pub opens : ℕ → Reader → Bool
   opens q x = nat_lt q (length p.pairs) && all_at (signals_right q x) 0 p.seqs
 
-  -- the prologues signal in ascending order, where there are so many pairs
+  -- the prologues signal in ascending order, where there are this many pairs
   abbrev pub rise : Option ℕ → Bool
   rise None = false
   rise (Some n) = list_all (λ (q : SeqCode). rises n 0 q.prologue) p.seqs

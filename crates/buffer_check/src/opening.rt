@@ -60,7 +60,7 @@ fn all_signal(program: &Program, pair: usize, reading: Reading) -> bool
     true
 }
 
-/// The number behind the pairs of a buffer, of which the first is `first`, if each is there and opened.
+/// The number after the pairs of a buffer, of which the first is `first`, if each is there and opened.
 fn behind_readers(program: &Program, first: usize, buffer: usize) -> Option<usize>
     ensures { result ≡ passed (opens program.now) first (readers_from 0 program.now.seqs buffer) }
 {

@@ -9,7 +9,7 @@ use Rattle.executive_program.specs.Places.{opening_of, reader, signals_empty, si
 use Rattle.buffer_tables.specs.declared.readings.Reading.{Reading}
 use Rattle.buffer_tables.specs.Readings.{reading_of}
 
--- the list begins with so many signals of the empty semaphore of pair q
+-- the list begins with this many signals of the empty semaphore of pair q
 abbrev pub opens_next : ℕ → ℕ → List Instr → Bool
 opens_next q n xs = nat_le n (length xs) && list_all (signals_empty q) (take n xs)
 
@@ -17,7 +17,7 @@ opens_next q n xs = nat_le n (length xs) && list_all (signals_empty q) (take n x
 abbrev pub AreOpened : Program → Type 0
 AreOpened p = (s : ℕ) → s < length p.seqs → prologue p s ≡ opening_of p s
 
--- Of each prologue so many instructions were passed: the signals for the pairs before q.
+-- Of each prologue this many instructions were passed: the signals for the pairs before q.
 pub record IsPassed (p : Program) (q : ℕ) (passed : List ℕ) : Type 0 where
   pub many : length passed ≡ length p.seqs
   pub within : (s : ℕ) → s < length p.seqs → slice_index passed s ≤ length (prologue p s)

@@ -23,7 +23,7 @@ made_from (Received b) further = further b
 made_from Nowhere further = false
 
 module _ (p : Program) where
-  -- what the instruction names is there, among so many operations and operators
+  -- what the instruction names is there, among this many operations and operators
   abbrev pub NamesThere : ℕ → ℕ → Instr → Type 0
   NamesThere operations operators (Suc0 q) = q < length p.pairs
   NamesThere operations operators (Suc1 q) = q < length p.pairs
@@ -59,7 +59,7 @@ module _ (p : Program) where
     pub counts : (s m : ℕ) → medium p s ≡ Some m → count_by is_communication (turn p s) ≡ transfers p m
     pub transfers : (m t : ℕ) → m < media → t < transfers p m → IsTransferred m t
 
-  -- following receives back from the buffer, to so many buffers at most, meets a call
+  -- following receives back from the buffer, to this many buffers at most, meets a call
   abbrev pub is_made : ℕ → ℕ → Bool
   is_made zero b = false
   is_made (suc hops) b = made_from (origin p b) (λ c. is_made hops c)
@@ -107,7 +107,7 @@ module _ (p : Program) where
   abbrev pub AreOpened : Type 0
   AreOpened = (s : ℕ) → s < length p.seqs → prologue p s ≡ opening_of p s
 
-  -- all of it, for a flat graph and an architecture with these sequences, so many operators and so many media
+  -- all of it, for a flat graph and an architecture with these sequences, this many operators and this many media
   pub record HasItems (g : Graph) (seqs : List Seq) (operators media : ℕ) : Type 0 where
     pub named : AreNamed (length g.vertices) operators seqs
     pub called : (v : ℕ) (x : Vertex) → slice_get g.vertices v ≡ Some x → IsCalledOnce v x

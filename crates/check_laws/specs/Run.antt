@@ -18,7 +18,7 @@ pub record Place : Type 0 where
 abbrev pub made : List ℕ → ℕ → ℕ
 made order s = count_by (λ t. nat_eq t s) order
 
--- the lowest of so many numbers from s on that passes
+-- the lowest of this many numbers from s on that passes
 abbrev pub lowest : (ℕ → Bool) → ℕ → ℕ → Option ℕ
 lowest test s zero = None
 lowest test s (suc n) = cond (test s) (Some s) (lowest test (suc s) n)
@@ -80,7 +80,7 @@ module _ (p : Program) where
   abbrev pub run : List ℕ
   run = run_from (sum_below (λ s. length (turn p s)) (length p.seqs)) []
 
-  -- of so many sequences from s on those that are not at their end after these entries, each with the place of its next instruction
+  -- of this many sequences from s on those that are not at their end after these entries, each with the place of its next instruction
   abbrev pub left_from : List ℕ → ℕ → ℕ → List Place
   left_from order s zero = []
   left_from order s (suc n) = cond (nat_lt (made order s) (length (turn p s))) (record { sequence = s; at = made order s } ∷ left_from order (suc s) n) (left_from order (suc s) n)

@@ -117,7 +117,7 @@ from_least media (suc n) o least l =
     (and_from (test (computation o)) (list_all test (communicators o 0 media)) own (communicators_at o 0 media test (λ m. own)))
     (from_least media n (o + 1) least (omega (arith, l)))
 
--- and there are so many operators
+-- and there are this many operators
 pub below_bound : (media : List Medium) (n o bound : ℕ) → o + n ≤ bound → list_all (λ (s : Seq). nat_lt s.operator bound) (seqs_from media o n) ≡ true
 below_bound media zero o bound l = refl
 below_bound media (suc n) o bound l =

@@ -28,7 +28,7 @@ use Rattle.code_laws.proofs.ReadLines.{Reads}
 abbrev pub is_there : List ℕ → ℕ → Bool
 is_there here n = is_among here n && is_small n
 
--- what an instruction names is there: pairs and buffers are declared here, and there are so many operators and operations
+-- what an instruction names is there: pairs and buffers are declared here, and there are this many operators and operations
 module _ (operators vertices : ℕ) (pairs buffers : List ℕ) where
   abbrev pub is_readable : Instr → Bool
   is_readable (Suc0 q) = is_there pairs q

@@ -49,7 +49,7 @@ more_numbers ds es xs o e f = map-append (λ (d : Numbered). d.number) ds es ∙
 abbrev pub places_of : List Buffer → List ℕ
 places_of xs = map (λ (x : Buffer). x.operator) xs
 
--- what a sequence's instructions name is declared on this operator, where there are so many operators and operations
+-- what a sequence's instructions name is declared on this operator, where there are this many operators and operations
 abbrev pub readable_at : ℕ → ℕ → Program → ℕ → SeqCode → Bool
 readable_at operators vertices p o q =
     list_all (is_readable operators vertices (pairs_on o 0 p.pairs) (pairs_on o 0 (places_of p.buffers))) q.prologue
@@ -106,11 +106,11 @@ module _ (g : Graph) (a : Architecture) (known_names : AreNamed g a) where
   not_below : (ms : List ℕ) → nat_lt (length ms) (length ms) ≡ false
   not_below ms = le-ltb (length ms) (length ms) (omega arith)
 
-  -- behind a processor
+  -- after a processor
   abbrev pub closed : Reading → ℕ → List SeqCode → Reading
   closed r o qs = record r { stage = Outside; operator = Some o; seqs = qs; threads = []; prologue = []; turn = [] }
 
-  -- The main part of an operator, behind its threads.
+  -- The main part of an operator, after its threads.
   main_reads : (r : Reading) (n o : ℕ) (stage : Stage) (medium : Option ℕ) (ms : List ℕ) (threads : List SeqCode) (main : SeqCode) → may_begin g a known_names stage ≡ true → main.seq ≡ computation o → AreThreads o threads ms
       → list_all (λ (m : ℕ). nat_lt m (length a.media)) ms ≡ true → ascends_from 0 ms ≡ true → code_readable g a known_names r main ≡ true
       → Read g a known_names (threaded g a known_names r o stage medium ms threads) n

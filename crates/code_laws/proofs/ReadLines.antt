@@ -1,4 +1,4 @@
--- Reading a text line by line: what each printed line says, and texts one behind the other.
+-- Reading a text line by line: what each printed line says, and texts one after the other.
 use Rattle.std.proofs.Common.{subst, ◌≡◌, ℕ, ◌+◌, true, nat_eq, if◌then◌else◌, List, [], ◌∷◌, ◌++◌, length, refl, sym, ap, ◌∙◌, None, Some, Result, Ok, append_assoc}
 use Rattle.std.specs.Prelude.{codes, Option}
 use Rattle.std.specs.List.{list_all}
@@ -69,7 +69,7 @@ module _ (operations : List Bytes) (a : Architecture) where
   words_read r n l ws is w =
       ap (line_by operations a r n l) is.own ∙ ap (λ (c : Bytes). by_words r n (words_of c)) is.code ∙ ap (by_words r n) w
 
-  -- A text is read from a state at a line, up to a state at a line behind it.
+  -- A text is read from a state at a line, up to a state at a line after it.
   pub record Reads (r : Reading) (n : ℕ) (t : Bytes) (s : Reading) : Type 0 where
     pub k : ℕ
     pub reads : (more : Bytes) → rest_of operations a r n (lines_of (t ++ more)) ≡ rest_of operations a s k (lines_of more)

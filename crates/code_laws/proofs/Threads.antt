@@ -171,7 +171,7 @@ module _ (g : Graph) (a : Architecture) (known_names : AreNamed g a) where
             (subst (λ (ts : List SeqCode). Read g a known_names from n (thread_text (names g a) o q ++ flat_map (thread_text (names g a) o) qs) (threaded r o rest.last rest.of ((media ++ m ∷ []) ++ ms) ts)) (append_assoc threads (q ∷ []) qs) both));
       }
 
-  -- the main part before its prologue, which has started some threads, and behind its loop, which waited for some
+  -- the main part before its prologue, which has started some threads, and after its loop, which waited for some
   abbrev pub starting : Reading → ℕ → List ℕ → List ℕ → Reading
   starting r o media done = record r { stage = Prologue; operator = Some o; medium = None; media = media; spawned = done; awaited = []; prologue = []; turn = [] }
 

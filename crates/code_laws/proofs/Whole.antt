@@ -84,7 +84,7 @@ module _ (xs : List ℕ) (count : ℕ) (low : (i x : ℕ) → slice_get xs i ≡
       (λ b l. let it = got_some (z ∷ zs) b l in
       get_or_from_slice_get (z ∷ zs) b it.0 z it.1 ∙ sym (ap g (found_at f missing b ds (is_there b (omega (arith, l, long)))) ∙ is b it.0 it.1)))
 
--- What a text says that is read up to a state behind its last processor, where no number is wrong.
+-- What a text says that is read up to a state after its last processor, where no number is wrong.
 ends_as : (g : Graph) (a : Architecture) (text : Bytes) (r : Reading) (k : ℕ) (p : Program) → is_outside r.stage ≡ true
     → rest_of (operation_names g) a start 1 (lines_of (text ++ [])) ≡ whole (length a.media) r k
     → misnumbered r.pairs ≡ None → misnumbered r.buffers ≡ None

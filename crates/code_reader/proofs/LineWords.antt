@@ -13,7 +13,7 @@ use Rattle.text_lines.proofs.Reading.{Word, word_read, word_within}
 use Rattle.std.proofs.Math.Seq.{take-length}
 use Rattle.std.proofs.lemmas.List.{take_all}
 
--- the first word, and what stands behind it
+-- the first word, and what stands after it
 pub first_read : (code : List ℕ) (from to : ℕ) → from < length code → is_blank (get_or code from 0) ≡ false → to ≡ from + position_or_len is_blank (drop from code) → words_of (drop from code) ≡ words_of code
     → words_of code ≡ take (to - from) (drop from code) ∷ words_of (take (length code - to) (drop to code))
 first_read code from to inside letter next so_far =

@@ -50,7 +50,7 @@ HasWord (Err OutOfMemory) asked = Unit {0}
 HasWord (Err (Refused f)) asked = ⊥
 HasWord (Err (Limit f)) asked = ⊥
 
--- the first word of a text, and what stands behind it, if there is a word
+-- the first word of a text, and what stands after it, if there is a word
 abbrev pub IsFirstWord : Option (Bor Bytes × Bor Bytes) → Bytes → Type 0
 IsFirstWord None text = words_of text ≡ []
 IsFirstWord (Some p) text = words_of text ≡ p.0.now ∷ words_of p.1.now

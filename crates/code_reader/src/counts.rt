@@ -84,7 +84,7 @@ fn buffer_words(sizes: &[Size]) -> u128
     total
 }
 
-/// The number of elements of the wires of so many media, or the last value of the type where they are more.
+/// The number of elements of the wires of this many media, or the last value of the type where they are more.
 fn wire_words(program: &WideProgram, media: u32) -> u128
     ensures { result ≡ min (sum_below (wire_len (program_of program.now)) media) (2 ^ 128 - 1) }
 {
@@ -95,7 +95,7 @@ fn wire_words(program: &WideProgram, media: u32) -> u128
     total
 }
 
-/// How many words the table of a program has on so many media, or the last value of the type where they are more.
+/// How many words the table of a program has on this many media, or the last value of the type where they are more.
 pub fn words(program: &WideProgram, media: u32) -> u128
     ensures { result ≡ min (words (program_of program.now) media) (2 ^ 128 - 1) }
 {

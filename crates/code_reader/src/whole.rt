@@ -122,7 +122,7 @@ fn within_steps(alloc: Global, program: Program) -> Result<Program, CodeError>
     Ok(program)
 }
 
-/// The program, where its words on so many media and its micro-steps are within their bounds.
+/// The program, where its words on this many media and its micro-steps are within their bounds.
 fn limited(alloc: Global, media: u32, wide: &WideProgram) -> Result<Program, CodeError>
     ensures { Gives result (limited media (program_of wide.now)) }
 {

@@ -36,7 +36,7 @@ pub fn words(code: &[u8]) -> LineWords<'_>
     }
 }
 
-/// The first word, and what stands behind it.
+/// The first word, and what stands after it.
 fn first_word(code: &[u8]) -> Option<(&[u8], &[u8])>
     ensures { IsFirstWord result code.now }
 {

@@ -57,7 +57,7 @@ has_bytes (b ∷ bs) = true
 abbrev pub may_name : Bytes → Bool
 may_name w = is_name w && not (bytes_eq w (codes "op"))
 
--- a name and, behind its opening parenthesis, what closes
+-- a name and, after its opening parenthesis, what closes
 abbrev pub list_form : Bytes → Bytes → Option Form
 list_form name rest = if may_name name && is_closed rest && is_unmarked (inside rest) then Some (listed name (inside rest)) else None
 

@@ -436,7 +436,7 @@ place_from number place (d ∷ ds) = if nat_eq d.number number then Some place e
 abbrev pub place_of : ℕ → List Numbered → Option ℕ
 place_of number ds = place_from number 0 ds
 
--- of so many declarations, the line of the first that has a number of so many or more, or one that stands before it
+-- of this many declarations, the line of the first that has a number of this many or more, or one that stands before it
 abbrev pub first_wrong : ℕ → List Numbered → List Numbered → Option ℕ
 first_wrong count before [] = None
 first_wrong count before (d ∷ ds) =

@@ -55,7 +55,7 @@ AreArrivals w v row = (p : ℕ) → p < w.operators → slice_index_or row p 0 �
 abbrev pub row_at : List (List ℕ) → ℕ → List ℕ
 row_at rows v = slice_index_or rows v []
 
--- what is kept of so many operations
+-- what is kept of this many operations
 pub record HasSize (operations : ℕ) (c : Candidates) : Type 0 where
   pub flags : length c.flags.items ≡ operations
   pub known : length c.known.items ≡ operations

@@ -36,7 +36,7 @@ pub record IsStart (vertices : List Vertex) (count : ℕ) (b : Board) : Type 0 w
   pub busy : length b.busy ≡ 16
   pub no_busy : (o : ℕ) → slice_index_or b.busy o 0 ≡ 0
 
--- one of so many operations, and one of 64 outputs
+-- one of this many operations, and one of 64 outputs
 pub record IsThere (operations : ℕ) (x : Source) : Type 0 where
   pub vertex : x.vertex < operations
   pub port : x.port < 64

@@ -22,7 +22,7 @@ pub(crate) struct Candidates {
 }
 
 impl Candidates {
-    /// None of so many operations is a candidate.
+    /// None of this many operations is a candidate.
     pub fn new(alloc: Global, operations: usize) -> Result<Candidates, OutOfMemory>
         ensures size { IfOk result (HasSize operations) }
         ensures none { IfOk result (λ c. (v : ℕ) → flag_at c v ≡ false) }

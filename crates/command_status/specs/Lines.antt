@@ -43,7 +43,7 @@ limit_line fault =
 abbrev pub head : Bytes → ℕ → Bytes → Bytes
 head text n word = joined (text ∷ decimal n ∷ codes ": " ∷ word ∷ [])
 
--- what stands behind a cause, to the end of the line: a number, two numbers, a word, two names, or names
+-- what stands after a cause, to the end of the line: a number, two numbers, a word, two names, or names
 abbrev pub number_line : ℕ → Bytes
 number_line n = joined (codes " " ∷ decimal n ∷ codes "\n" ∷ [])
 

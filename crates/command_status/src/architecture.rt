@@ -7,7 +7,7 @@ use crate::line::{write_head, write_number, write_word};
 use archi_defs::{ArchiCause, ArchiFault};
 use outside::{Failed, Sink, write_pieces, write_whole};
 
-/// Where an architecture's text is refused, for which cause, and what stands behind it, after this text.
+/// Where an architecture's text is refused, for which cause, and what comes with it, after this text.
 pub fn write_described<E: Sink>(err: &mut E, text: &[u8], fault: &ArchiFault) -> Result<(), Failed>
     ensures { Wrote (E.sunk err.old) (E.sunk err.new) (described_line text.now fault.now) (is_ok result) }
 {
@@ -33,7 +33,7 @@ fn architecture_word(cause: &ArchiCause) -> &'static [u8]
     }
 }
 
-/// What stands behind the cause's word.
+/// What stands after the cause's word.
 fn write_architecture_detail<E: Sink>(err: &mut E, cause: &ArchiCause) -> Result<(), Failed>
     ensures { Wrote (E.sunk err.old) (E.sunk err.new) (architecture_detail cause.now) (is_ok result) }
 {

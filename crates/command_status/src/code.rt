@@ -9,7 +9,7 @@ use code_text::{CodeCause, CodeFault};
 use itoa::Buffer;
 use outside::{Failed, Sink, write_pieces, write_whole};
 
-/// Where a text of macro-code is refused, for which cause, and what stands behind it.
+/// Where a text of macro-code is refused, for which cause, and what stands after it.
 pub fn write_code<E: Sink>(err: &mut E, fault: &CodeFault) -> Result<(), Failed>
     ensures { Wrote (E.sunk err.old) (E.sunk err.new) (code_line fault.now) (is_ok result) }
 {
@@ -29,7 +29,7 @@ fn code_word(cause: &CodeCause) -> &'static [u8]
     }
 }
 
-/// What stands behind the cause's word.
+/// What stands after the cause's word.
 fn write_code_detail<E: Sink>(err: &mut E, cause: &CodeCause) -> Result<(), Failed>
     ensures { Wrote (E.sunk err.old) (E.sunk err.new) (code_detail cause.now) (is_ok result) }
 {
@@ -41,7 +41,7 @@ fn write_code_detail<E: Sink>(err: &mut E, cause: &CodeCause) -> Result<(), Fail
     }
 }
 
-/// For which cause a program fails its check, and what stands behind it.
+/// For which cause a program fails its check, and what stands after it.
 pub fn write_check<E: Sink>(err: &mut E, cause: &CheckCause) -> Result<(), Failed>
     ensures { Wrote (E.sunk err.old) (E.sunk err.new) (check_line cause.now) (is_ok result) }
 {

@@ -106,7 +106,7 @@ fn algorithm_word(cause: &AlgoCause) -> &'static [u8]
     }
 }
 
-/// What stands behind the cause's word.
+/// What stands after the cause's word.
 fn write_algorithm_detail<E: Sink>(err: &mut E, cause: &AlgoCause) -> Result<(), Failed>
     ensures { Wrote (E.sunk err.old) (E.sunk err.new) (algorithm_detail cause.now) (is_ok result) }
 {
@@ -149,7 +149,7 @@ fn sensors_word(cause: &SensorCause) -> &'static [u8]
     }
 }
 
-/// What stands behind the cause's word.
+/// What stands after the cause's word.
 fn write_sensors_detail<E: Sink>(err: &mut E, cause: &SensorCause) -> Result<(), Failed>
     ensures { Wrote (E.sunk err.old) (E.sunk err.new) (sensors_detail cause.now) (is_ok result) }
 {
@@ -170,7 +170,7 @@ fn write_counts<E: Sink>(err: &mut E, found: u64, wanted: u64) -> Result<(), Fai
     write_pieces(err, &[b" ", found, b" ", wanted, b"\n"])
 }
 
-/// A number behind the cause, and the end of the line.
+/// A number after the cause, and the end of the line.
 pub fn write_number<E: Sink>(err: &mut E, number: usize) -> Result<(), Failed>
     ensures { Wrote (E.sunk err.old) (E.sunk err.new) (number_line number) (is_ok result) }
 {
@@ -178,14 +178,14 @@ pub fn write_number<E: Sink>(err: &mut E, number: usize) -> Result<(), Failed>
     write_pieces(err, &[b" ", digits.format(number).as_bytes(), b"\n"])
 }
 
-/// A word behind the cause, and the end of the line.
+/// A word after the cause, and the end of the line.
 pub fn write_word<E: Sink>(err: &mut E, word: &[u8]) -> Result<(), Failed>
     ensures { Wrote (E.sunk err.old) (E.sunk err.new) (word_line word.now) (is_ok result) }
 {
     write_pieces(err, &[b" ", word, b"\n"])
 }
 
-/// Names behind the cause, and the end of the line.
+/// Names after the cause, and the end of the line.
 pub fn write_names<E: Sink>(err: &mut E, names: &[Name]) -> Result<(), Failed>
     ensures { Wrote (E.sunk err.old) (E.sunk err.new) (names_line names.now) (is_ok result) }
 {

@@ -46,7 +46,7 @@ pub fn shifted_sources(
     Ok(all)
 }
 
-/// The inputs of a graph under guards: the guards' sources, and behind them its own sources.
+/// The inputs of a graph under guards: the guards' sources, and after them its own sources.
 pub fn handed(
     alloc: Global,
     guards: &[Guard],
@@ -95,7 +95,7 @@ pub fn own_guards(alloc: Global, guards: &[Guard]) -> Result<Vec<Guard>, OutOfMe
     Ok(all)
 }
 
-/// The guards of an operation: those of the cases around it, outer first, and behind them its own.
+/// The guards of an operation: those of the cases around it, outer first, and after them its own.
 pub fn guards_under(
     alloc: Global,
     guards: &[Guard],
@@ -112,7 +112,7 @@ pub fn guards_under(
     Ok(all)
 }
 
-/// The guards of case number `case` of a switch, whose conditioning input stands behind those of the
+/// The guards of case number `case` of a switch, whose conditioning input stands after those of the
 /// guards around it.
 pub fn guards_of_case(
     alloc: Global,

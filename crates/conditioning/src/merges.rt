@@ -34,7 +34,7 @@ fn case_outputs(alloc: Global, cases: u32, output: u32) -> Result<Vec<Source>, O
     Ok(all)
 }
 
-/// The conditioning source, and behind it this output of each case in order.
+/// The conditioning source, and after it this output of each case in order.
 fn merge_ins(
     alloc: Global,
     condition: u32,
@@ -103,7 +103,7 @@ pub fn add_merges(
     Ok(())
 }
 
-/// The sources of the graph's outputs: each merge, which stand behind the cases.
+/// The sources of the graph's outputs: each merge, which stand after the cases.
 pub fn merge_outputs(alloc: Global, cases: u32, outputs: usize) -> Result<Vec<Source>, OutOfMemory>
     ensures { IfOk result (λ ss. ss.items ≡ merge_sources cases outputs) }
 {

@@ -19,7 +19,7 @@ use std::alloc::Global;
 use syn_base::{Items, OutOfMemory};
 
 /// The tree without cases, of the same meaning: each switch is replaced by a graph of its cases and a
-/// merge for each output behind them. Every operation and merge carries the guards of the cases
+/// merge for each output after them. Every operation and merge carries the guards of the cases
 /// around it, outer first. The tree has no repetitions.
 pub fn guard(alloc: Global, tree: &Tree) -> Result<Tree, OutOfMemory>
     requires { HasNoRepeat tree.now }
@@ -119,7 +119,7 @@ fn guard_switch(
     as_graph(alloc, guards, before, vertex, outputs, inner)
 }
 
-/// The cases of a switch, each under one guard more. Its conditioning input stands behind `handed` others.
+/// The cases of a switch, each under one guard more. Its conditioning input stands after `handed` others.
 #[cycle(guard)]
 fn guard_cases(
     alloc: Global,

@@ -49,7 +49,7 @@ long_sources : (len : Source → ℕ) (gs : List Guard) → length (map len (gua
 long_sources len [] = refl
 long_sources len (g ∷ gs) = ap suc (long_sources len gs)
 
--- inside a graph to which their sources are handed, behind these
+-- inside a graph to which their sources are handed, after these
 own-typed : (len : Source → ℕ) (xs rest : List ℕ) (outs : List (List ℕ)) (i : ℕ) (gs : List Guard) → i ≡ length xs → AreGuardsTyped len gs
     → AreGuardsTyped (source_length (xs ++ (map len (guard_sources gs) ++ rest)) outs) (own_guards i gs)
 own-typed len xs rest outs i [] e h = tt
@@ -69,7 +69,7 @@ own-typed len xs rest outs i (g ∷ gs) e h =
     long [] v = refl
     long (x ∷ xs) v = ap suc (long xs v)
 
--- A level's own inputs stand behind n further ones.
+-- A level's own inputs stand after n further ones.
 abbrev Shifted : ℕ → List ℕ → List ℕ → Type 0
 Shifted n own own' = (k : ℕ) → get_or own' (n + k) 0 ≡ get_or own k 0
 
@@ -180,7 +180,7 @@ give_at outs [] i h lt = absurd (omega arith)
 give_at outs (o ∷ os) zero h lt = h.0
 give_at outs (o ∷ os) (suc i) h lt = give_at outs os i h.1 (omega arith)
 
--- the graph that a switch becomes, whose own inputs stand behind the sources of guards
+-- the graph that a switch becomes, whose own inputs stand after the sources of guards
 module _ (gs : List Guard) (l : Label) (values : List ℤ) (names : List (List ℕ)) (us es : Vertices) (own own' : List ℕ) (shifted : Shifted (length gs) own own') (same : outs_of es ≡ outs_of us) where
   abbrev K : ℕ
   K = count_of us

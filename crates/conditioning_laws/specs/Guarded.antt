@@ -1,4 +1,4 @@
--- The tree without cases. Each switch becomes a graph: its cases in order, and behind them a merge for each output. An operation
+-- The tree without cases. Each switch becomes a graph: its cases in order, and after them a merge for each output. An operation
 -- carries a guard for each case around it, outer first. The sources of the guards are handed inward as further inputs of the
 -- graphs between: they stand before a graph's own inputs, so that these are shifted, and nothing has to be known of their number.
 use Rattle.std.specs.Prelude.{ℕ, suc, ◌+◌, ℤ, List, [], ◌∷◌, ◌++◌, length, map, slice_index_or}
@@ -26,7 +26,7 @@ abbrev pub own_guards : ℕ → List Guard → List Guard
 own_guards i [] = []
 own_guards i (g ∷ gs) = record { source = Own i; values = g.values; case = g.case } ∷ own_guards (suc i) gs
 
--- case i of a switch with these values, whose conditioning input stands behind m others
+-- case i of a switch with these values, whose conditioning input stands after m others
 abbrev pub guard_for : ℕ → List ℤ → ℕ → Guard
 guard_for m values i = record { source = Own m; values = values; case = i }
 
@@ -55,7 +55,7 @@ graph_under gs n l outs us = vertex (record {
   kind = graph outs;
 }) us
 
--- The merge of output q of the k cases of a switch of definition d, whose conditioning input stands behind m others.
+-- The merge of output q of the k cases of a switch of definition d, whose conditioning input stands after m others.
 abbrev pub merge_of : List ℕ → List Guard → ℕ → List ℤ → ℕ → ℕ → List ℕ → ℕ → Vertex
 merge_of d gs m values k q name len = vertex (record {
   part = Port name;
@@ -99,7 +99,7 @@ abbrev mutual
   guarded_all gs n no_vertices = no_vertices
   guarded_all gs n (and_vertex u us) = and_vertex (guarded gs n u) (guarded_all gs n us)
 
-  -- The cases of a switch from case i on, each under one guard more, behind those around the switch.
+  -- The cases of a switch from case i on, each under one guard more, after those around the switch.
   pub guarded_cases : List Guard → ℕ → List ℤ → ℕ → Vertices → Vertices
   guarded_cases gs m values i no_vertices = no_vertices
   guarded_cases gs m values i (and_vertex u us) = and_vertex (guarded (gs ++ guard_for m values i ∷ []) m u) (guarded_cases gs m values (suc i) us)

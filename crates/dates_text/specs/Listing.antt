@@ -35,7 +35,7 @@ module _ (when : ℕ → ℕ → Act → Span) where
   dated_from k i [] = []
   dated_from k i (x ∷ xs) = dated k (when k i x) x ∷ dated_from k (suc i) xs
 
-  -- all acts in so many reactions, reaction by reaction
+  -- all acts in this many reactions, reaction by reaction
   abbrev pub dated_in : ℕ → List Act → List Dated
   dated_in zero xs = []
   dated_in (suc k) xs = dated_in k xs ++ dated_from k 0 xs
@@ -69,7 +69,7 @@ module _ (g : Graph) (a : Architecture) where
   abbrev pub all_dates : Schedule → List (List ℕ) → List Dated
   all_dates s ticks = dated_in (λ k i x. span (start_at a.depth g s ticks k i x) (end_at a.depth g s ticks k i)) (length ticks) (acts s)
 
-  -- the same where they last as long in so many reactions
+  -- the same where they last as long in this many reactions
   abbrev pub dates_lines : Schedule → List ℕ → ℕ → List Line
   dates_lines s ticks n = dated_lines (all_dates s (replicate n ticks))
 

@@ -23,7 +23,7 @@ module _ (k : ℕ) (row : List Span) where
   dated_by next [] = []
   dated_by next (x ∷ xs) = dated k (span_in row (entry_after next x)) x ∷ dated_by (next_after next x) xs
 
--- so many reactions of acts, where so many operations stand before the transfers
+-- this many reactions of acts, where this many operations stand before the transfers
 abbrev pub told : List (List Span) → ℕ → List Act → ℕ → List Dated
 told reactions operations xs zero = []
 told reactions operations xs (suc k) = told reactions operations xs k ++ dated_by k (reaction_at reactions k) operations xs
@@ -36,7 +36,7 @@ pub record Appends (g : Graph) (a : Architecture) (old new : Bytes) (end : ℕ) 
   pub text : new ≡ old ++ lines_text g a ds
   pub latest : end ≡ latest_end ds
 
--- the entries of these decisions are among so many, where the next transfer has this one
+-- the entries of these decisions are among this many, where the next transfer has this one
 abbrev pub Fit : ℕ → ℕ → List Decision → Type 0
 Fit entries next [] = Unit {0}
 Fit entries next (d ∷ ds) = (d.op < entries) × (next + length d.transfers ≤ entries) × Fit entries (next + length d.transfers) ds

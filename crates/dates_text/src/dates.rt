@@ -15,7 +15,7 @@ use self_timed::{Actual, dates_of};
 use std::alloc::Global;
 use syn_base::OutOfMemory;
 
-/// So many reactions that last these ticks each.
+/// This many reactions that last these ticks each.
 pub fn repeated(alloc: Global, ticks: &[u64], reactions: usize) -> Result<Actual, OutOfMemory>
     ensures { IfOk result (λ actual. actual ≡ replicate reactions ticks.now) }
 {

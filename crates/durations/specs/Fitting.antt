@@ -15,7 +15,7 @@ get_half_of g v = with_vertex (slice_get g.vertices v) [] (λ x. get_half x.kind
 abbrev pub MayStand : Table → ℕ → ℕ → Type 0
 MayStand t v o = IsTrue (is_some (entry_in t v o))
 
--- Each operation has a row for so many operators, and may stand on some of them, a set half wherever its get half may.
+-- Each operation has a row for this many operators, and may stand on some of them, a set half wherever its get half may.
 pub record Fits (g : Graph) (operators : ℕ) (t : Table) : Type 0 where
   pub operations : length t.rows ≡ length g.vertices
   pub same_operators : t.operators ≡ operators

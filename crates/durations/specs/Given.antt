@@ -9,7 +9,7 @@ use Rattle.archi_defs.specs.Text.{Bytes}
 use Rattle.durations.specs.Lines.{ticks_of, AreDurations}
 use Rattle.durations.specs.Table.{Table}
 
--- the lines of a text for so many operators
+-- the lines of a text for this many operators
 pub record Lines : Type 0 where
   pub operators : ℕ
   pub lines : List DurationLine

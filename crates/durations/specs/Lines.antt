@@ -14,7 +14,7 @@ ticks_of (d ∷ lines) def o = if bytes_eq d.def def && (d.operator == o) then S
 abbrev pub is_given : List DurationLine → Bytes → Bool
 is_given lines def = list_any (λ d. bytes_eq d.def def) lines
 
--- a line is for one of so many operators, and lasts at most 1,000,000,000 ticks
+-- a line is for one of this many operators, and lasts at most 1,000,000,000 ticks
 abbrev pub IsDuration : ℕ → DurationLine → Type 0
 IsDuration operators d = (d.operator < operators) × (d.ticks ≤ 1000000000)
 

@@ -54,7 +54,7 @@ impl<'a> OnOperator<'a> {
     }
 }
 
-/// The durations of a text for so many operators. One is found in the time of its definition's name.
+/// The durations of a text for this many operators. One is found in the time of its definition's name.
 /// Contracts see the lines, and how many operators there are.
 #[derive(Drop)]
 pub struct Given<'a> {

@@ -16,7 +16,7 @@ use Rattle.executive_program.specs.Sizes.{looks_at, looks_of, looks_in, plain_of
 use Rattle.executive_program.proofs.DepthTable.{pair_depth_is}
 use Rattle.executive_program.specs.declared.steps.MicroStep.TheVariants.{Take, See, Lower}
 
--- So many times the same.
+-- This many times the same.
 pub constant : (c n : ℕ) → sum_below (λ _. c) n ≡ n * c
 constant c zero = omega arith
 constant c (suc n) = let e = constant c n in omega (arith, e)

@@ -1,4 +1,4 @@
--- A list made of blocks, one behind the other.
+-- A list made of blocks, one after the other.
 use Rattle.std.specs.Prelude.{ℕ, zero, suc, cond, nat_lt, List, [], ◌∷◌, ◌++◌}
 use Rattle.interleavings.specs.Owners.{sum_below}
 

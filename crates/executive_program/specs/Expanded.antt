@@ -18,6 +18,6 @@ AreSteps p list = list ≡ map (expanded p) p.seqs
 abbrev pub code_of : SeqSteps → Code MicroStep
 code_of q = record { prologue = q.prologue; turn = q.turn }
 
--- the next micro-step of a sequence that has made n, in a run of so many reactions
+-- the next micro-step of a sequence that has made n, in a run of this many reactions
 abbrev pub next_in : ℕ → SeqSteps → ℕ → Option MicroStep
 next_in reactions q n = cond (nat_lt n (length q.prologue + reactions * length q.turn)) (step_at (code_of q) n) None

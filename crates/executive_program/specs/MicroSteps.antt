@@ -34,7 +34,7 @@ abbrev pub is_on : ℕ → Option ℕ → Bool
 is_on m None = false
 is_on m (Some n) = nat_eq n m
 
--- the communications of the first communicator of a medium; in a well-formed program each of them has so many
+-- the communications of the first communicator of a medium; in a well-formed program each of them has this many
 abbrev pub transfers_on : List SeqCode → ℕ → ℕ
 transfers_on [] m = 0
 transfers_on (q ∷ qs) m = cond (is_on m q.seq.medium) (count_by is_communication q.turn) (transfers_on qs m)
@@ -44,7 +44,7 @@ abbrev pub sent_by : List SeqCode → ℕ → ℕ → Option ℕ
 sent_by [] m t = None
 sent_by (q ∷ qs) m t = first_of (cond (is_on m q.seq.medium) (sent_in q.turn t) None) (sent_by qs m t)
 
--- a take of semaphore x, where the pair's buffer has so many places: with one place it is one micro-step, with more a look comes first
+-- a take of semaphore x, where the pair's buffer has this many places: with one place it is one micro-step, with more a look comes first
 abbrev pub takes : ℕ → ℕ → List Micro
 takes depth x = cond (nat_eq depth 1) (taken x ∷ []) (see x ∷ sub x ∷ [])
 

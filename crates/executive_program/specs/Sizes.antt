@@ -13,7 +13,7 @@ use Rattle.executive_program.specs.Steps.{elements_in}
 abbrev pub looks_at : ℕ → ℕ
 looks_at depth = cond (nat_eq depth 1) 0 1
 
--- the looks of an instruction, and of these, where the buffers of pairs have so many places
+-- the looks of an instruction, and of these, where the buffers of pairs have this many places
 module _ (depth : ℕ → ℕ) where
   abbrev pub looks_of : Instr → ℕ
   looks_of (Suc0 q) = looks_at (depth q)

@@ -18,11 +18,11 @@ use Rattle.executive_program.specs.declared.steps.MicroStep.TheVariants.{Take, S
 use Rattle.executive_program.specs.Blocks.{blocks}
 use Rattle.executive_program.specs.Instructions.{is_communication, number_or, len_of, pair_depth}
 
--- a take of semaphore x, where the pair's buffer has so many places
+-- a take of semaphore x, where the pair's buffer has this many places
 abbrev pub take_steps : ℕ → ℕ → List MicroStep
 take_steps depth x = cond (nat_eq depth 1) (Take x ∷ []) (See x ∷ Lower x ∷ [])
 
--- load or store r of a call of v, of so many loads and micro-steps: the computation belongs to the last load, or to the first store where there is no load
+-- load or store r of a call of v, of this many loads and micro-steps: the computation belongs to the last load, or to the first store where there is no load
 abbrev pub on_load : ℕ → ℕ → ℕ → ℕ → OnLoad
 on_load v loads micros r = cond (nat_eq (r + 1) loads) (ComputeIn v r (nat_lt (r + 1) micros)) (Gather r)
 

@@ -244,7 +244,7 @@ fn push_call(
     push_all_stores(out, program, call, outs, begin)
 }
 
-/// Where a list of instructions stands: on a medium, with so many communications, of which so many stand
+/// Where a list of instructions stands: on a medium, with this many communications, of which this many stand
 /// before the instruction that is spoken of.
 #[derive(Clone, Copy, Drop)]
 struct Standing {
@@ -254,7 +254,7 @@ struct Standing {
 }
 
 impl Standing {
-    /// The wait for the half of a transfer that comes so many after the send's.
+    /// The wait for the half of a transfer that comes this many after the send's.
     fn await_half(&self, after: u64, exact: bool) -> MicroStep
         requires { after ≤ 2 × (2 * self.now.communications < 2 ^ 64) × (2 * self.now.before + 2 < 2 ^ 64) }
         ensures { result ≡ Await self.now.medium (2 * self.now.before + after) (2 * self.now.communications) exact }
@@ -277,7 +277,7 @@ pub fn depth_at(depths: &[u32], pair: u32) -> u32
     if pair < depths.len() { depths[pair] } else { 1 }
 }
 
-/// Adds the take of a semaphore of a pair whose buffer has so many places.
+/// Adds the take of a semaphore of a pair whose buffer has this many places.
 fn push_take(out: &mut Vec<MicroStep>, semaphore: u64, depth: u32) -> Result<(), OutOfMemory>
     ensures { OnOk result (out.new.items ≡ out.old.items ++ take_steps depth semaphore) }
 {

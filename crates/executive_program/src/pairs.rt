@@ -114,7 +114,7 @@ fn reader_counts(alloc: Global, program: &Program) -> Result<Vec<u64>, OutOfMemo
     Ok(counts)
 }
 
-/// Adds a number so many times.
+/// Adds a number this many times.
 fn push_times(out: &mut Vec<u32>, number: u32, times: u64) -> Result<(), OutOfMemory>
     ensures { OnOk result (out.new.items ≡ out.old.items ++ replicate times number) }
 {

@@ -187,7 +187,7 @@ fn buffer_words(program: &Program) -> u128
     total
 }
 
-/// The number of elements of the wires of so many media.
+/// The number of elements of the wires of this many media.
 fn wire_words(program: &Program, media: u32) -> u128
     ensures value { result ≡ sum_below (wire_len program.now) media }
     ensures bound { result ≤ media * 2 ^ 32 }
@@ -199,7 +199,7 @@ fn wire_words(program: &Program, media: u32) -> u128
     total
 }
 
-/// How many words the table of a program has on so many media: the two semaphores of each pair, the turn of
+/// How many words the table of a program has on this many media: the two semaphores of each pair, the turn of
 /// each medium, the elements of each buffer once for each of its places, and those of the wires.
 pub fn words(program: &Program, media: u32) -> u128
     ensures { result ≡ words program.now media }

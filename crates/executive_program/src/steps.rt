@@ -15,7 +15,7 @@ pub enum Place {
 pub enum OnLoad {
     /// A send or a receive has it on its way.
     Carry,
-    /// A call gathers it: it is the register of this number, behind those of lower numbers.
+    /// A call gathers it: it is the register of this number, after those of lower numbers.
     Gather(u64),
     /// It is the last one that a call loads, and the register of this number: the operation is computed.
     Compute {

@@ -83,7 +83,7 @@ pub each-one : {X : Type 0} (here : ℕ → X → Type 0) (xs : List X) (x : X) 
 each-one {X} here [] x e h = each-snoc here [] x (each-nil here) h
 each-one {X} here (z ∷ zs) x e h = absurd (omega (arith, e))
 
--- the elements behind the first one, counted from the next place on
+-- the elements after the first one, counted from the next place on
 pub each-behind : {X : Type 0} (here : ℕ → X → Type 0) (n : ℕ) (xs : List X) → n ≡ 1 → Each here xs → Each (λ k. here (n + k)) (drop 1 xs)
 each-behind {X} here n [] e all k y is = cc
 each-behind {X} here n (x ∷ xs) e all k y is = let P : ℕ → Type 0 = λ i. here i y in subst P (let a : suc k ≡ n + k = omega (arith, e) in a) (all (suc k) y is)

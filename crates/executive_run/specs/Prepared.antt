@@ -17,7 +17,7 @@ pub record IsReady (j : JobData) (f : FabricData) (groups : List Group) : Type 0
   pub some : 0 < f.groups
   pub are_all : AreGroups f groups
 
--- an empty list of this length has room for so many
+-- an empty list of this length has room for this many
 pub record IsRoom (count len capacity : ℕ) : Type 0 where
   pub empty : len ≡ 0
   pub enough : count ≤ capacity

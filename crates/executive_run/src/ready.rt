@@ -98,7 +98,7 @@ fn group_of<'a>(
     Ok(Group { driver, asked })
 }
 
-/// For so many sequences that the gate was asked for no step.
+/// For this many sequences that the gate was asked for no step.
 fn none_asked(alloc: Global, count: usize) -> Result<Vec<Option<u64>>, OutOfMemory>
     ensures { IfOk result (λ asked. vec_len asked ≡ count) }
 {

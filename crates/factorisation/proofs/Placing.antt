@@ -5,7 +5,7 @@ use Rattle.std.specs.List.{insert}
 use Rattle.level_meaning.specs.declared.frontier.Feed.{Feed}
 use Rattle.factorisation_laws.specs.Lines.{outer_of, put_line, in_line_order}
 
--- behind a line that stands before it
+-- after a line that stands before it
 put-later : (f g : Feed) (gs : List Feed) → outer_of g < outer_of f → put_line f (g ∷ gs) ≡ g ∷ put_line f gs
 put-later f g gs lt = ap (λ b. cond b (f ∷ g ∷ gs) (g ∷ put_line f gs)) (lt-leb (outer_of f) (outer_of g) lt)
 

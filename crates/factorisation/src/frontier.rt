@@ -100,7 +100,7 @@ pub fn begin_of(feeds: &[Feed]) -> u32
 }
 
 /// The source of an iterated input of copy `i`: the outer input for copy 0, and the body's output for
-/// the copies behind it.
+/// the copies after it.
 fn iterated(copies: Copies, i: u32, input: u32, output: u32) -> Source
     requires { copies.begin + i ≤ MOST_VERTICES }
     ensures { result ≡ (if i == 0 then Source.Own input else Source.Of (copies.begin + (i - 1)) output) }

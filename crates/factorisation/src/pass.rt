@@ -23,7 +23,7 @@ use std::alloc::Global;
 use syn_base::OutOfMemory;
 
 /// The tree without repetitions, of the same meaning: each is replaced by a graph of its copies, with
-/// an explode for each fork line before them and an implode for each join line behind them. Where
+/// an explode for each fork line before them and an implode for each join line after them. Where
 /// the tree would have more than `MOST_VERTICES` vertices the answer is want of memory, before any of it
 /// is taken.
 pub fn unroll(alloc: Global, tree: &Tree) -> Result<Tree, OutOfMemory>

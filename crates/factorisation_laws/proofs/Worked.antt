@@ -92,7 +92,7 @@ twenty_two = refl
 last_kept : past (unroll nested) twelve 1 (Named (codes "o") ∷ Numbered 2 ∷ Numbered 1 ∷ Named (codes "d") ∷ []) ≡ (pos 6 ∷ []) ∷ []
 last_kept = refl
 
--- a single copy is the body, behind an explode and before an implode
+-- a single copy is the body, after an explode and before an implode
 abbrev single : Vertex
 single = between 1 (of (Named (codes "h")) (codes "One") (Of 0 0 ∷ []) (1 ∷ []) (split 1 1) (and_vertex (hold (Numbered 0) []) no_vertices))
 

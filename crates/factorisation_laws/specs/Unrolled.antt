@@ -59,7 +59,7 @@ implodes d c n outs j (Join name y ∷ gs) = implode_of d c n name y (slice_inde
 implodes d c n outs j (Last y ∷ gs) = implodes d c n outs (suc j) gs
 
 -- The sources of the graph's outputs: an implode, or an output of the last copy. The implodes of these lines are the ones from
--- number m on among those that stand behind the copies.
+-- number m on among those that stand after the copies.
 abbrev pub give_sources : ℕ → ℕ → ℕ → List Give → List Source
 give_sources c n m [] = []
 give_sources c n m (Join name y ∷ gs) = Of (c + n + m) 0 ∷ give_sources c n (suc m) gs

@@ -149,7 +149,7 @@ within_sum vs i count l m =
     let same : sum (take (i + 1) (take count lens)) ≡ sum (take (i + 1) lens) = ap sum (take-fewer (i + 1) count lens (omega arith)) in
     omega (arith, more, fewer, same, first_joined vs (i + 1))
 
--- what is written behind what was written
+-- what is written after what was written
 pub over_behind : (done v w : Vector) (from : ℕ) → from ≡ length done → over from v (done ++ drop from w) ≡ (done ++ v) ++ drop (from + length v) w
 over_behind done v w from e =
     let front : take from (done ++ drop from w) ≡ done = ap (λ (n : ℕ). take n (done ++ drop from w)) e ∙ take-append_seam done (drop from w) in

@@ -40,7 +40,7 @@ ports_below n (negation e) = ports_below n e
 ports_below n (apply op a b) = ports_below n a && ports_below n b
 ports_below n (select c a b) = ports_below n c && (ports_below n a && ports_below n b)
 
--- an expression for each output, of which there is one at least, over so many inputs
+-- an expression for each output, of which there is one at least, over this many inputs
 abbrev pub is_body : ℕ → ℕ → Option (List Expr) → Bool
 is_body ins outs None = false
 is_body ins outs (Some es) = nat_le 1 outs && ((length es == outs) && list_all (ports_below ins) es)

@@ -9,7 +9,7 @@ pub struct Source {
 }
 
 /// The condition that a conditioning input selects a case. The one element of `source` selects the
-/// first case with that value, or the one behind the last (`otherwise`).
+/// first case with that value, or the one after the last (`otherwise`).
 #[derive(Drop)]
 pub struct Guard {
     pub source: Source,

@@ -32,7 +32,7 @@ IsTaskFit (gets v) before lens outs = (lens ≡ []) × (outs ≡ length v ∷ []
 IsTaskFit sets before lens outs = (outs ≡ []) × IsHalf before lens
 
 module _ (long : Source → ℕ) where
-  -- an operation behind this one, where there is one
+  -- an operation after this one, where there is one
   pub record IsFit (before : Option Operation) (op : Operation) : Type 0 where
     pub guards : AreGuardsTyped long op.guards
     pub ins : AreLengths (map long op.ins)

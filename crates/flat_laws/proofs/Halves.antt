@@ -1,4 +1,4 @@
--- In the flat list of a tree each set half stands right behind its get half, under the same guards.
+-- In the flat list of a tree each set half stands right after its get half, under the same guards.
 use Rattle.std.proofs.Common.{◌≡◌, ℕ, zero, suc, ◌+◌, List, [], ◌∷◌, ◌++◌, map, true, Option, Some, None, slice_get, refl, ap, ◌∙◌, subst}
 use Rattle.level_meaning.specs.declared.source.Source.{Source}
 use Rattle.level_meaning.specs.Level.{Vector, Path}
@@ -14,7 +14,7 @@ IsHalf (gets v) before op = Unit {0}
 IsHalf sets None op = ⊥
 IsHalf sets (Some get) op = (is_get get.task ≡ true) × (get.guards ≡ op.guards) × (get.ins ≡ [])
 
--- operations behind this one, where there is one
+-- operations after this one, where there is one
 abbrev pub Follow : Option Operation → List Operation → Type 0
 Follow before [] = Unit {0}
 Follow before (op ∷ ops) = IsHalf op.task before op × Follow (Some op) ops

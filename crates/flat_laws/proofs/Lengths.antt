@@ -1,5 +1,5 @@
 -- Where a source of a level leads, the value has the length that the tree gives the source. By rounds, since a source may stand
--- behind its readers, and graphs pass inputs on.
+-- after its readers, and graphs pass inputs on.
 use Rattle.std.proofs.Common.{◌≡◌, ℕ, zero, suc, ◌+◌, ◌≤◌, inl, inr, List, [], ◌∷◌, ◌++◌, length, map, slice_index_or, Bool, true, false, slice_get, refl, sym, ap, ap₂, ◌∙◌, subst, arith}
 use Rattle.std.proofs.lemmas.Bool.{cases_lt, false≢true}
 use Rattle.level_meaning.specs.declared.source.Source.{Source}

@@ -1,5 +1,5 @@
 -- No two operations of a flat list have one name: the vertices of a level have distinct parts, nothing stands below a delay, and
--- the halves of its stages differ behind its path.
+-- the halves of its stages differ after its path.
 use Rattle.std.proofs.Common.{◌≡◌, ℕ, zero, suc, ◌+◌, ◌<◌, ◌&&◌, not, true, false, List, [], ◌∷◌, ◌++◌, map, bytes_eq, refl, sym, ap, ap₂, ◌∙◌, subst, arith, ne_eqb}
 use Rattle.std.specs.List.{list_any}
 use Rattle.std.proofs.lemmas.Bool.{false≢true, and_from, or_from, not_from_false, false_from_ne_true}

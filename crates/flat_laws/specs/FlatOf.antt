@@ -41,7 +41,7 @@ flat_kind b (runs k) = kind_of b k
 flat_kind b (gets v) = Get v
 flat_kind b sets = Set
 
--- a set half stands right behind its get half
+-- a set half stands right after its get half
 abbrev pub twin_of : ℕ → Task → Option ℕ
 twin_of v (runs k) = None
 twin_of v (gets z) = Some (suc v)

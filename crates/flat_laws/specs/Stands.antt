@@ -36,7 +36,7 @@ operation_at bodies path i x = record {
   task = task_of bodies x.kind;
 }
 
--- The twin of operation v: a set half stands right behind its get half.
+-- The twin of operation v: a set half stands right after its get half.
 abbrev pub IsTwin : ℕ → Task → Option ℕ → Type 0
 IsTwin v (gets z) twin = twin ≡ Some (suc v)
 IsTwin v sets twin = (u : ℕ) × (v ≡ suc u) × (twin ≡ Some u)

@@ -53,7 +53,7 @@ module _ (of : Bytes → Ports) (ins outs : List Port) (cs : List Case) (i : ℕ
         ap (λ (o : Option AlgoError). first_of (o ∷ (case_faults of ins outs (values (take (suc i) cs)) (drop (suc i) cs) ++ rest))) (sym h)
         ∙ sym next_case ∙ so_far
 
-  -- behind the last case
+  -- after the last case
   pub only_rest : length cs ≤ i → left i ≡ first_of rest
   only_rest h = at_drop_all (λ (ks : List Case). first_of (case_faults of ins outs (values (take i cs)) ks ++ rest)) cs i h
 

@@ -38,7 +38,7 @@ pub fn check_repeat(
     Ok(())
 }
 
-/// A line behind others.
+/// A line after others.
 fn check_line(
     copies: u32,
     inner: &Ports,
@@ -55,7 +55,7 @@ fn check_line(
     }
 }
 
-/// The length of the outer port of a line behind others, its input's for an iterate. There is none
+/// The length of the outer port of a line after others, its input's for an iterate. There is none
 /// where the line uses an inner port that it may not use.
 fn outer_len(
     copies: u32,

@@ -46,7 +46,7 @@ fn ports_at(table: &[Ports], place: u32) -> &Ports
     &table[place as usize]
 }
 
-/// A case behind others, of a definition with these ports.
+/// A case after others, of a definition with these ports.
 pub fn check_case(
     ins: &[Port],
     outs: &[Port],

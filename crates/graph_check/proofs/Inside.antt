@@ -29,7 +29,7 @@ all_map P f h [] k d lt = absurd (omega arith)
 all_map P f h (x ∷ xs) zero d lt = h x
 all_map P f h (x ∷ xs) (suc k) d lt = all_map P f h xs k d (omega arith)
 
--- none of a list is none at its head and none behind
+-- none of a list is none at its head and none after
 head_none : (x : Option AlgoError) (xs : List (Option AlgoError)) → first_of (x ∷ xs) ≡ None → (x ≡ None) × (first_of xs ≡ None)
 head_none None xs h = (refl, h)
 head_none (Some e) xs h = absurd (cc)

@@ -12,7 +12,7 @@ use syn_base::OutOfMemory;
 /// The marks of a row, one for each port of a reference or of the graph.
 const ROW: usize = 65;
 
-/// So many marks, of which none is set.
+/// This many marks, of which none is set.
 fn unset(alloc: Global, len: usize) -> Result<Vec<bool>, OutOfMemory>
     ensures { IfOk result (λ marks. marks.items ≡ replicate len false) }
 {

@@ -170,7 +170,7 @@ pair_added old new w l i z sources x y text get_name set_name get set vertices b
     (subst (Brings (length old.bodies) 0) (sym kind') (record { numbered = tt; many = refl })) in
     subst (Built new) (append_assoc ops (first ∷ []) (second ∷ [])) (b (ops ++ first ∷ []) (a ops h))
 
--- The stages of a delay, from the front. Whatever stages are added behind those before stage i, all are added.
+-- The stages of a delay, from the front. Whatever stages are added after those before stage i, all are added.
 abbrev pub StagesRest : Graph → Graph → (Source → Source) → Path → Label → ℕ → List Vector → Type 0
 StagesRest old now w at l i vs = (last : Graph) → Adds now last (λ v. stages w v at l i (drop i vs)) → Adds old last (λ v. stages w v at l 0 vs)
 
@@ -191,7 +191,7 @@ input_is b i ins vs lt =
     let next : suc i ≡ i + 1 = omega arith in
     subst (λ k. stage_input b ins (drop k vs) ≡ cond (k == length vs) ins (Of (b + 2) 0 ∷ [])) next (input_behind b i ins vs lt)
 
--- the stage at a place and those behind it
+-- the stage at a place and those after it
 pub stages_from : (i : ℕ) (vs : List Vector) → i < length vs → drop i vs ≡ get_or vs i [] ∷ drop (i + 1) vs
 stages_from i vs lt = let next : suc i ≡ i + 1 = omega arith in drop-cons vs i [] lt ∙ ap (λ k. get_or vs i [] ∷ drop k vs) next
 
@@ -217,7 +217,7 @@ pub stages_end : (old now : Graph) (w : Source → Source) (at : Path) (l : Labe
 stages_end old now w at l i vs none so_far =
     so_far now (λ ops h. subst (λ us. Built now (ops ++ stages w (length ops) at l i us)) (sym none) (subst (Built now) (sym (append-nil ops)) h))
 
--- Operations of several vertices, from the front. Whatever else is added behind them, all is added.
+-- Operations of several vertices, from the front. Whatever else is added after them, all is added.
 abbrev pub AddsRest : Graph → Graph → (Source → Source) → (Path → Path) → Vertices → Vertices → Type 0
 AddsRest old now w at rest us = (last : Graph) → Adds now last (λ v. inlined_all w v at rest) → Adds old last (λ v. inlined_all w v at us)
 

@@ -28,7 +28,7 @@ abbrev pub AreBodiesThere : ℕ → List Vertex → Type 0
 AreBodiesThere n [] = Unit {0}
 AreBodiesThere n (x ∷ xs) = IsBodyThere n x.kind × AreBodiesThere n xs
 
--- Behind n bodies an operation of this kind brings m more: a function has the one that it brings.
+-- After n bodies an operation of this kind brings m more: a function has the one that it brings.
 pub record Brings (n m : ℕ) (k : Kind) : Type 0 where
   pub numbered : IsNumbered n k
   pub many : m ≡ bodies_in k
@@ -39,7 +39,7 @@ pub record Built (g : Graph) (ops : List Operation) : Type 0 where
   pub bodies : AreBodiesThere (length g.bodies) g.vertices
   pub order : HasBodiesInOrder g
 
--- Whatever was built before, these operations are added behind it, by the number of the first.
+-- Whatever was built before, these operations are added after it, by the number of the first.
 abbrev pub Adds : Graph → Graph → (ℕ → List Operation) → Type 0
 Adds old new more = (ops : List Operation) → Built old ops → Built new (ops ++ more (length ops))
 

@@ -38,7 +38,7 @@ pub fn joined(alloc: Global, path: &[u8], part: &Part) -> Result<Vec<u8>, OutOfM
     }
 }
 
-/// What stands behind the name of a half of a delay: the number of its stage, or nothing for stage 0.
+/// What stands after the name of a half of a delay: the number of its stage, or nothing for stage 0.
 pub fn stage_text(alloc: Global, number: u32) -> Result<Vec<u8>, OutOfMemory>
     ensures { IfOk result (λ text. text.items ≡ text_of_stage number) }
 {

@@ -19,7 +19,7 @@ pub fn number(count: usize) -> Result<u32, OutOfMemory>
     }
 }
 
-/// The number behind the operations of a vertex, of which the first has this number.
+/// The number after the operations of a vertex, of which the first has this number.
 fn number_behind(first: u32, vertex: &Vertex) -> Result<u32, OutOfMemory>
     ensures { IfOk result (λ n. n ≡ first + operations (view vertex.now)) }
 {

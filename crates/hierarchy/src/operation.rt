@@ -145,7 +145,7 @@ struct Stage<'a> {
 }
 
 /// What a stage of a delay with these sources takes, whose get half has number `get`: the value of the
-/// stage behind it, or the delay's input if it is the last.
+/// stage after it, or the delay's input if it is the last.
 fn stage_ins(
     alloc: Global,
     level: &Level<'_>,

@@ -13,7 +13,7 @@ use syn_base::{Items, OutOfMemory};
 pub enum Led {
     /// To those of the operation of this number.
     Operation(u32),
-    /// The outputs of a graph, each to the source behind it.
+    /// The outputs of a graph, each to the source after it.
     Graph(Items<Source>),
 }
 

@@ -193,7 +193,7 @@ module _ (F : List Node) (cells : Stages) where
     abbrev inside2 : List Source → ℕ → (Path → Path) → List Operation
     inside2 own c below' = inlined_all (wire (wirings c us) own) c below' us
 
-    -- a get half asks for no input, a set half for the get half of the stage behind it or for the delay's input
+    -- a get half asks for no input, a set half for the get half of the stage after it or for the delay's input
     behind-ends : (c i : ℕ) (vs : List Vector) → Placed (c + 2) (stages W (c + 2) (at (l.part ∷ [])) l (suc i) vs) → AllEnd (stage_input c (map W l.ins) vs)
     behind-ends c i [] m = wired-end W l.ins all
     behind-ends c i (v ∷ vs) m = (op-ends (c + 2) (operation_of W (at (l.part ∷ [])) (suc i) l [] l.outs (gets v)) m.0 (wired_guards-end W l.guards all) tt, tt)

@@ -1,4 +1,4 @@
--- A worked algorithm, inlined: a graph that passes an input to an output, sources that stand behind their readers, and a delay in
+-- A worked algorithm, inlined: a graph that passes an input to an output, sources that stand after their readers, and a delay in
 -- it that goes on while a condition holds. Numbers, order, sources and values were worked by hand.
 use Rattle.std.proofs.Common.{◌≡◌, ℕ, pos, List, [], ◌∷◌, map, refl, codes}
 use Rattle.level_meaning.specs.declared.source.Source.{Source}
@@ -101,7 +101,7 @@ deep_in_the_list = refl
 abbrev half : ℕ → List Source → List ℕ → Task → Operation
 half i ins outs task = record { path = top (codes "d"); stage = i; definition = codes "D"; ins = ins; guards = []; outs = outs; task = task }
 
--- each stage takes the value of the one behind it, and the last takes the input
+-- each stage takes the value of the one after it, and the last takes the input
 two_stages : operations (looks_back ((pos 1 ∷ []) ∷ (pos 2 ∷ []) ∷ [])) ≡
     op (top (codes "s")) (codes "Src") [] [] (1 ∷ []) (runs (sensor 0))
     ∷ half 0 [] (1 ∷ []) (gets (pos 1 ∷ []))

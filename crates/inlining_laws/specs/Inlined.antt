@@ -1,5 +1,5 @@
 -- From a tree without repetitions and cases to its operations. The operations of a graph are those of the vertices inside it, in
--- order, and a graph itself is none: a source that is an input or an output of a graph is followed to the operation behind it.
+-- order, and a graph itself is none: a source that is an input or an output of a graph is followed to the operation after it.
 use Rattle.std.specs.Prelude.{ℕ, zero, suc, ◌+◌, List, [], ◌∷◌, ◌++◌, length, map, slice_index_or, slice_get, Option, Some, None}
 use Rattle.level_meaning.specs.declared.source.Source.{Source}
 use Rattle.level_meaning.specs.declared.source.Source.TheVariants.{Own, Of}
@@ -66,7 +66,7 @@ operation_of w path i l ins outs task = record {
   task = task;
 }
 
--- What a stage takes, whose get half has number b: the value of the stage behind it, or the delay's input if it is the last.
+-- What a stage takes, whose get half has number b: the value of the stage after it, or the delay's input if it is the last.
 abbrev pub stage_input : ℕ → List Source → List Vector → List Source
 stage_input b ins [] = ins
 stage_input b ins (v ∷ vs) = Of (b + 2) 0 ∷ []

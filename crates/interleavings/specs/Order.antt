@@ -12,7 +12,7 @@ module _ {P : Type 0} (w : System P) (signaller : ℕ → Owner) (half : ℕ →
   pub record IsJoined : Type 0 where
     pub prologue : (s i : ℕ) (m : Micro) → slice_get (w.codes s).prologue i ≡ Some m → (x : ℕ) × (m ≡ signal x)
     pub takes : (s l x : ℕ) → (slice_get (w.codes s).turn l ≡ Some (take x)) ⊎ (slice_get (w.codes s).turn l ≡ Some (see x)) → (t : ℕ) × IsSemaphore w signaller x s l t
-    -- a lower stands behind the see that asked for it
+    -- a lower stands after the see that asked for it
     pub lowers : (s l x : ℕ) → slice_get (w.codes s).turn l ≡ Some (sub x) → (a : ℕ) × IsSemaphore w signaller x s a l
     pub waits : (s l m i : ℕ) → slice_get (w.codes s).turn l ≡ Some (await m i true) → IsMedium w signaller half m × IsOwnWait w signaller half s l m i
     pub syncs : (s l m i : ℕ) → slice_get (w.codes s).turn l ≡ Some (await m i false) → IsMedium w signaller half m × (0 < i) × (i ≤ w.halves m)

@@ -72,7 +72,7 @@ abbrev pub layer_references : ℕ → Bytes
 layer_references layer =
     mix_reference layer 0 ++ (mix_reference layer 1 ++ (mix_reference layer 2 ++ mix_reference layer 3))
 
--- the references of the first so many layers
+-- the references of the first layers, of which there are this many
 abbrev pub references_of_layers : ℕ → Bytes
 references_of_layers zero = []
 references_of_layers (suc below) = references_of_layers below ++ layer_references (suc below)
@@ -101,7 +101,7 @@ mix_edges below i =
 abbrev pub layer_edges : ℕ → Bytes
 layer_edges below = mix_edges below 0 ++ (mix_edges below 1 ++ (mix_edges below 2 ++ mix_edges below 3))
 
--- the edges into the first so many layers
+-- the edges into the first layers, of which there are this many
 abbrev pub edges_of_layers : ℕ → Bytes
 edges_of_layers zero = []
 edges_of_layers (suc below) = edges_of_layers below ++ layer_edges below

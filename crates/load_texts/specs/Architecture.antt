@@ -26,7 +26,7 @@ end_durations =
     ∷ codes "duration Dst o3 1"
     ∷ []
 
--- the line of a definition that lasts so many ticks on an operator
+-- the line of a definition that lasts this many ticks on an operator
 abbrev pub duration_line : Bytes → Bytes → Bytes → Bytes
 duration_line name operator ticks =
     codes "duration " ++ (name ++ (codes " " ++ (operator ++ (codes " " ++ (ticks ++ codes "\n")))))

@@ -11,7 +11,7 @@ next_state u = (u * 6364136223846793005 + 1442695040888963407) % 2 ^ 64
 abbrev pub value_of : ℕ → ℤ
 value_of u = pos (u / 2 ^ 40 % 1000) -ℤ pos 500
 
--- the state so many steps after this one
+-- the state this many steps after this one
 abbrev pub state_after : ℕ → ℕ → ℕ
 state_after zero u = u
 state_after (suc i) u = next_state (state_after i u)
@@ -35,7 +35,7 @@ value_fields u =
 abbrev pub row : ℕ → ℕ → Bytes
 row k u = decimal k ++ (value_fields u ++ codes "\n")
 
--- the rows of the first so many reactions
+-- the rows of the first reactions, of which there are this many
 abbrev pub rows : ℕ → ℕ → Bytes
 rows load zero = []
 rows load (suc k) = rows load k ++ row k (state_before load k)

@@ -60,7 +60,7 @@ fn append_short_durations(out: &mut Vec<u8>) -> Result<(), OutOfMemory>
     append_everywhere(out, b"Acc", b"1")
 }
 
-/// Appends the durations of a function that lasts so many ticks on each operator.
+/// Appends the durations of a function that lasts this many ticks on each operator.
 fn append_everywhere(out: &mut Vec<u8>, name: &[u8], ticks: &[u8]) -> Result<(), OutOfMemory>
     ensures { OnOk result (out.new.items ≡ out.old.items ++ durations_everywhere name.now ticks.now) }
 {

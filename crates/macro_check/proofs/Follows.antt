@@ -21,7 +21,7 @@ module _ (p : Program) where
   pub follow_one : (b : ℕ) → follow p 1 b ≡ origin p b
   follow_one b = one_further (origin p b)
 
-  -- so many steps, and then so many
+  -- this many steps, and then this many
   pub follow_sum : (m n b : ℕ) → follow p (m + n) b ≡ further (follow p m b) (follow p n)
   follow_sum zero n b = ap (λ (k : ℕ). follow p k b) (let z : 0 + n ≡ n = omega arith in z)
   follow_sum (suc m) n b = ap (λ (k : ℕ). follow p k b) (let z : suc m + n ≡ suc (m + n) = omega arith in z) ∙ by (origin p b) (λ c. follow_sum m n c)

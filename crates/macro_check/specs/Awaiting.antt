@@ -63,7 +63,7 @@ abbrev pub received_at : Option Crossing → Option Stand
 received_at None = None
 received_at (Some c) = Some (record { sequence = c.receiver; at = c.receive_at })
 
--- so many instructions of these sequences were made that this one was
+-- this many instructions of these sequences were made that this one was
 abbrev pub is_past_in : List ℕ → Option Stand → Bool
 is_past_in done None = true
 is_past_in done (Some y) = nat_lt y.at (slice_index done y.sequence)
@@ -72,11 +72,11 @@ abbrev pub goes_in : Program → List ℕ → ℕ → ℕ → Option Instr → B
 goes_in p done s a None = false
 goes_in p done s a (Some x) = is_past_in done (stand_or (awaited p s a x))
 
--- where so many instructions of each sequence were made, sequence s has a next one, and what it awaits was made
+-- where this many instructions of each sequence were made, sequence s has a next one, and what it awaits was made
 abbrev pub is_ready_in : Program → List ℕ → ℕ → Bool
 is_ready_in p done s = goes_in p done s (slice_index done s) (slice_get (turn p s) (slice_index done s))
 
--- of so many sequences from s on those that are not at their end
+-- of this many sequences from s on those that are not at their end
 abbrev pub left_in : Program → List ℕ → ℕ → ℕ → List Place
 left_in p done s zero = []
 left_in p done s (suc n) = cond (nat_lt (slice_index done s) (length (turn p s))) (record { sequence = s; at = slice_index done s } ∷ left_in p done (suc s) n) (left_in p done (suc s) n)

@@ -26,7 +26,7 @@ is_call (Received b) = false
 is_call Nowhere = false
 
 module _ (p : Program) where
-  -- what is met within so many steps from buffer b: a call, nothing, or the buffer at which they end
+  -- what is met within this many steps from buffer b: a call, nothing, or the buffer at which they end
   abbrev pub follow : ℕ → ℕ → Origin
   follow zero b = Received b
   follow (suc hops) b = further (origin p b) (follow hops)

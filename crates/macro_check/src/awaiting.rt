@@ -138,7 +138,7 @@ pub fn awaited(
     }
 }
 
-/// Whether a place was passed, where so many instructions of each sequence were made.
+/// Whether a place was passed, where this many instructions of each sequence were made.
 pub fn is_past(done: &[usize], awaited: Option<Stand>) -> bool
     ensures { result ≡ is_past_in done.now awaited }
 {

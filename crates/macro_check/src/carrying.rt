@@ -112,7 +112,7 @@ fn joined(alloc: Global, first: &[Origin], others: &[Origin]) -> Result<Vec<Orig
     Ok(all)
 }
 
-/// What is met within so many steps from each buffer.
+/// What is met within this many steps from each buffer.
 fn followed(
     alloc: Global,
     program: &Program,

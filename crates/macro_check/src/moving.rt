@@ -166,7 +166,7 @@ fn are_moved(
     true
 }
 
-/// Whether communications stand in communicators of so many media alone, each has one in each transfer of its
+/// Whether communications stand in communicators of this many media alone, each has one in each transfer of its
 /// medium, and each transfer has one send, one receive and the waits of the others. The tables have the places
 /// of the communications, the communicators of each medium and the transfers.
 pub fn are_transferred(

@@ -55,7 +55,7 @@ fn prologues_there(program: &Program, operations: usize, operators: usize) -> bo
     ))
 }
 
-/// Whether the sequences are those of so many operators at these media, in order, and what instructions name
+/// Whether the sequences are those of this many operators at these media, in order, and what instructions name
 /// is there, in loops and in prologues.
 pub fn are_named(program: &Program, operations: usize, operators: usize, media: &[Medium]) -> bool
     ensures { result ≡ are_named program.now operations operators (flat_map (sequences_of media.now) (range_with_len 0 operators)) }

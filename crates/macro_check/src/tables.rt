@@ -38,7 +38,7 @@ pub struct Tables {
     pub readings: Vec<Reading>,
 }
 
-/// The tables of a program, for so many operations and media.
+/// The tables of a program, for this many operations and media.
 pub fn find_tables(
     alloc: Global,
     program: &Program,

@@ -25,17 +25,17 @@ count n = made (Named (codes "count")) (Of 0 0 ∷ []) (1 ∷ []) (delay (turns 
 abbrev pub keep_name : List (List ℕ) → ℕ → List ℕ
 keep_name names i = codes "keep_" ++ slice_index_or names i []
 
--- output i of the switch behind the delays, a reaction later
+-- output i of the switch after the delays, a reaction later
 abbrev pub keep : Label → ℕ → Vertex
 keep l i =
     made (Named (keep_name l.names i)) (Of (suc (length l.outs)) i ∷ []) (slice_index_or l.outs i 0 ∷ [])
     (delay (zeros (slice_index_or l.outs i 0) ∷ [])) no_vertices
 
--- the inputs of a switch behind its conditioning one, n from number m on
+-- the inputs of a switch after its conditioning one, n from number m on
 abbrev pub inputs_from : ℕ → ℕ → List Source
 inputs_from m n = map (λ i. Own (m + i)) (numbers_below n)
 
--- the first output of each of n vertices behind the first
+-- the first output of each of n vertices after the first
 abbrev pub firsts : ℕ → List Source
 firsts n = map (λ i. Of (suc i) 0) (numbers_below n)
 

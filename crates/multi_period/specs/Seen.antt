@@ -24,7 +24,7 @@ of_seen f u = f (label_seen u) (inside_seen u)
 abbrev pub with_inner : Label → List Vertex → plain.Vertex
 with_inner l us = plain.vertex l (vertices_view us)
 
--- How many inputs and outputs. The switch stands behind the count and a delay for each output; its kept inputs stand behind the count's
+-- How many inputs and outputs. The switch stands after the count and a delay for each output; its kept inputs stand after the count's
 -- and the reference's own. These numbers have 32 bits.
 pub record ArePorts (p : Ports) (l : Label) : Type 0 where
   pub ins : p.ins ≡ length l.ins
@@ -37,6 +37,6 @@ pub record ArePorts (p : Ports) (l : Label) : Type 0 where
 abbrev pub relabelled : Label → Part → List Source → Kind → Label
 relabelled l p ins k = record { part = p; definition = l.definition; ins = ins; guards = []; outs = l.outs; names = l.names; kind = k }
 
--- the inputs of the switch behind its count
+-- the inputs of the switch after its count
 abbrev pub body_ins : ℕ → ℕ → List Source
 body_ins a q = Of 0 0 ∷ (inputs_from 0 a ++ firsts q)

@@ -8,7 +8,7 @@ use thiserror::Error;
 /// Why no tree is made. The lines that `syndex` prints are made elsewhere, from the fields.
 #[derive(Clone, Copy, Debug, PartialEq, Eq, Drop, Error)]
 pub enum PeriodError {
-    /// The made tree would stand for so many flat operations.
+    /// The made tree would stand for this many flat operations.
     #[error("{count} above {bound}", count = .0.count, bound = .0.bound)]
     Limit(LimitFault),
     #[error("out of memory")]

@@ -76,7 +76,7 @@ fn count(alloc: Global, every: u32) -> Result<Vertex, OutOfMemory>
     made(alloc, part, ins, outs, kind, Vec::new(alloc))
 }
 
-/// One group of so many zeros.
+/// One group of this many zeros.
 fn zeros(alloc: Global, len: u32) -> Result<Items<Items<i64>>, OutOfMemory>
     ensures { IfOk result (λ vs. vs ≡ zeroed len ∷ []) }
 {

@@ -14,9 +14,9 @@ use syn_base::OutOfMemory;
 pub struct Ports {
     pub ins: u32,
     pub outs: u32,
-    /// The place of the switch, behind the count and a delay for each output.
+    /// The place of the switch, after the count and a delay for each output.
     pub switch: u32,
-    /// The number of the first kept input of the switch, behind the count and the inputs of the
+    /// The number of the first kept input of the switch, after the count and the inputs of the
     /// vertex.
     pub kept: u32,
 }
@@ -50,7 +50,7 @@ pub fn ports_of(vertex: &Vertex) -> Result<Ports, OutOfMemory>
     })
 }
 
-/// So many own inputs, from this one on.
+/// This many own inputs, from this one on.
 pub fn inputs_from(alloc: Global, first: u32, count: u32) -> Result<Vec<Source>, OutOfMemory>
     requires { first + count < 2 ^ 32 }
     ensures { IfOk result (λ ss. ss.items ≡ inputs first count) }
@@ -62,7 +62,7 @@ pub fn inputs_from(alloc: Global, first: u32, count: u32) -> Result<Vec<Source>,
     Ok(all)
 }
 
-/// So many outputs of a vertex.
+/// This many outputs of a vertex.
 pub fn outputs_of(alloc: Global, vertex: u32, count: u32) -> Result<Vec<Source>, OutOfMemory>
     ensures { IfOk result (λ ss. ss.items ≡ outputs vertex count) }
 {
@@ -73,7 +73,7 @@ pub fn outputs_of(alloc: Global, vertex: u32, count: u32) -> Result<Vec<Source>,
     Ok(all)
 }
 
-/// The first outputs of so many vertices behind the first.
+/// The first outputs of this many vertices after the first.
 pub fn firsts(alloc: Global, count: u32) -> Result<Vec<Source>, OutOfMemory>
     requires { count + 1 < 2 ^ 32 }
     ensures { IfOk result (λ ss. ss.items ≡ first_outputs count) }

@@ -8,7 +8,7 @@ use crate::mark::Mark;
 use std::alloc::Global;
 use syn_base::OutOfMemory;
 
-/// No mark on any of so many references.
+/// No mark on any of this many references.
 fn unmarked(alloc: Global, count: usize) -> Result<Vec<Option<Mark>>, OutOfMemory>
     ensures { IfOk result (λ t. t.items ≡ map (mark_at []) (numbers_below count)) }
 {
@@ -19,7 +19,7 @@ fn unmarked(alloc: Global, count: usize) -> Result<Vec<Option<Mark>>, OutOfMemor
     Ok(table)
 }
 
-/// For each of so many references the mark that is on it.
+/// For each of this many references the mark that is on it.
 pub fn mark_table(
     alloc: Global,
     marks: &[Mark],

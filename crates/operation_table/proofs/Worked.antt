@@ -1,5 +1,5 @@
 -- A worked algorithm, row by row: a switch with a repetition in its first case, whose fork lines stand in another order than the inputs
--- of the body, a delay in its second and a switch in its last; and behind it a repetition in a repetition, of a switch with a delay in a case.
+-- of the body, a delay in its second and a switch in its last; and after it a repetition in a repetition, of a switch with a delay in a case.
 use Rattle.std.proofs.Common.{◌≡◌, ℕ, ℤ, pos, List, [], ◌∷◌, ◌++◌, decimal, map, refl, codes}
 use Rattle.level_meaning.specs.declared.source.Source.{Source}
 use Rattle.level_meaning.specs.declared.source.Source.TheVariants.{Own, Of}

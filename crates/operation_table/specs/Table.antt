@@ -23,7 +23,7 @@ use Rattle.inlining_laws.specs.Flat.{Task, runs, gets, sets}
 use Rattle.flat_laws.specs.Names.{half_text}
 use Rattle.factorisation_laws.specs.Lines.{in_line_order}
 
--- that a switch with these values of cases selects this one, or the one behind the last
+-- that a switch with these values of cases selects this one, or the one after the last
 pub record Condition : Type 0 where
   pub values : List ℤ
   pub case : ℕ
@@ -37,7 +37,7 @@ pub record Row : Type 0 where
   pub task : Task
 
 -- An operation is named by its path, and the halves of a stage of a delay beside that by `:get` and `:set`, with the number of the
--- stage behind it if that is not 0.
+-- stage after it if that is not 0.
 abbrev pub stage_row : Path → ℕ → List ℕ → List Condition → List ℕ → Task → Row
 stage_row p i d cs outs task = record { name = path_text p ++ half_text task i; definition = d; conditions = cs; outs = outs; task = task }
 

@@ -58,7 +58,7 @@ module _ (codes : List SeqCode) where
   abbrev passes_by : ℕ → Seq → List Seq → Bool → Bool
   passes_by n x xs b = ends_at (length codes) (cond b (passed (is_sequence codes) (n + 1) xs) None)
 
-  -- where the walk ends behind the last code, what is left of the codes has these sequences
+  -- where the walk ends after the last code, what is left of the codes has these sequences
   left_is : (n : ℕ) (xs : List Seq) → ends_at (length codes) (passed (is_sequence codes) n xs) ≡ true → listed (drop n codes) ≡ xs
   left_is n [] h =
       let e = eqb-true (length codes) n h in
@@ -73,7 +73,7 @@ module _ (codes : List SeqCode) where
           let r : listed (drop (suc n) codes) ≡ xs = subst (λ (k : ℕ). listed (drop k codes) ≡ xs) (let s : n + 1 ≡ suc n = omega arith in s) (rest h) in
           ap listed (drop_there codes n c.0 c.1) ∙ (λ i. c.2 i ∷ r i)
 
-  -- where what is left of the codes has these sequences, the walk ends behind the last code
+  -- where what is left of the codes has these sequences, the walk ends after the last code
   is_left : (n : ℕ) (xs : List Seq) → n ≤ length codes → listed (drop n codes) ≡ xs → ends_at (length codes) (passed (is_sequence codes) n xs) ≡ true
   is_left n [] l h =
       let none : length (drop n codes) ≡ 0 = sym (length-map (drop n codes) (λ (q : SeqCode). q.seq)) ∙ ap (λ (xs : List Seq). length xs) h in

@@ -23,7 +23,7 @@ seq o m = record { operator = o; medium = m }
 abbrev code : Seq → List Instr → List Instr → SeqCode
 code q p t = record { seq = q; prologue = p; turn = t }
 
--- a buffer of an operator with so many places
+-- a buffer of an operator with this many places
 abbrev with_places : ℕ → ℕ → Buffer
 with_places o depth = record { operator = o; len = 1; depth = depth }
 

@@ -17,7 +17,7 @@ abbrev pub is_at_medium : Option ℕ → List Instr → Bool
 is_at_medium None list = list_all (λ x. not (is_communication x)) list
 is_at_medium (Some m) list = true
 
--- a medium is one of so many
+-- a medium is one of this many
 abbrev pub is_medium : ℕ → Option ℕ → Bool
 is_medium media None = true
 is_medium media (Some m) = nat_lt m media
@@ -30,7 +30,7 @@ module _ (p : Program) where
   abbrev pub follows_loops : List ℕ → Bool
   follows_loops order = are_below (length p.seqs) order && counts_loops order
 
-  -- what an instruction names is there, among so many operations
+  -- what an instruction names is there, among this many operations
   abbrev pub names_in : ℕ → Instr → Bool
   names_in operations (Suc0 q) = nat_lt q (length p.pairs)
   names_in operations (Suc1 q) = nat_lt q (length p.pairs)

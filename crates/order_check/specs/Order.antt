@@ -13,7 +13,7 @@ use Rattle.order_check.specs.Sequenced.{are_sequences}
 use Rattle.value_check.specs.Transfers.{are_transfers}
 
 module _ (p : Program) where
-  -- names and numbers, where there are so many operations and media
+  -- names and numbers, where there are this many operations and media
   abbrev pub are_numbers_right : ℕ → ℕ → Bool
   are_numbers_right operations media = named p operations && communicators p && on_media p media && counts p
 

@@ -26,7 +26,7 @@ fn are_buffers(program: &Program, list: &[u32]) -> bool
     are_below(list, program.buffers.as_slice().len())
 }
 
-/// Whether what an instruction names is there, among so many operations.
+/// Whether what an instruction names is there, among this many operations.
 pub fn names_in(program: &Program, operations: usize, instr: &Instr) -> bool
     ensures { result ≡ names_in program.now operations instr.now }
 {
@@ -51,7 +51,7 @@ fn name_in(program: &Program, operations: usize, list: &[Instr]) -> bool
         .all(|instr| names_in(program, operations, instr))
 }
 
-/// Whether what the instructions name is there, among so many operations.
+/// Whether what the instructions name is there, among this many operations.
 pub fn are_named(program: &Program, operations: usize) -> bool
     ensures { result ≡ named program.now operations }
 {

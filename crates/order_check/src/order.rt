@@ -15,7 +15,7 @@ use executive_program::Program;
 use flat_graph::Flat;
 use value_check::{operations_are_called, transfers_are_right, transfers_keep_sources};
 
-/// Whether what the instructions name is there, communications stand in communicators of so many media,
+/// Whether what the instructions name is there, communications stand in communicators of this many media,
 /// and each has one in each transfer of its medium.
 fn are_numbers_right(program: &Program, operations: usize, media: usize) -> bool
     ensures { result ≡ are_numbers_right program.now operations media }
@@ -43,7 +43,7 @@ fn are_values_right(program: &Program, order: &[u32], flat: &Flat, media: usize)
         && transfers_keep_sources(program, media)
 }
 
-/// The whole test, over so many operators and these media.
+/// The whole test, over this many operators and these media.
 fn passes(program: &Program, order: &[u32], flat: &Flat, operators: usize, media: &[Medium]) -> bool
     ensures { result ≡ is_order program.now flat.now.vertices (flat_map (sequences_of media.now) (range_with_len 0 operators)) (length media.now) order.now }
 {

@@ -40,7 +40,7 @@ fn is_sequence(seqs: &[SeqCode], number: usize, operator: usize, medium: Option<
         && is_same_medium(seqs[number].seq.medium, medium)
 }
 
-/// The number behind an operator's communicators, if they are the sequences from `first` on.
+/// The number after an operator's communicators, if they are the sequences from `first` on.
 fn behind_communicators(
     seqs: &[SeqCode],
     first: usize,
@@ -61,7 +61,7 @@ fn behind_communicators(
     Some(next)
 }
 
-/// The number behind an operator's sequences, if they are the sequences from `first` on.
+/// The number after an operator's sequences, if they are the sequences from `first` on.
 fn behind_sequences(
     seqs: &[SeqCode],
     first: usize,
@@ -76,7 +76,7 @@ fn behind_sequences(
     behind_communicators(seqs, first + 1, operator, media)
 }
 
-/// Whether these are the sequences of so many operators at these media, in order.
+/// Whether these are the sequences of this many operators at these media, in order.
 pub fn are_sequences(seqs: &[SeqCode], operators: usize, media: &[Medium]) -> bool
     ensures { result ≡ are_sequences seqs.now (flat_map (sequences_of media.now) (range_with_len 0 operators)) }
 {

@@ -49,7 +49,7 @@ IsEnd (b ∷ bs) = is_name_byte b ≡ false
 no_end : (s : List ℕ) (b : ℕ) (bs : List ℕ) → IsEnd s → is_name_byte b ≡ true → s ≡ b ∷ bs → ⊥
 no_end s b bs h name e = false≢true (sym (subst IsEnd e h) ∙ name)
 
--- the bytes of a name are told from what stands behind them
+-- the bytes of a name are told from what stands after them
 cut : (xs ys s t : List ℕ) → AreNameBytes xs → AreNameBytes ys → IsEnd s → IsEnd t → xs ++ s ≡ ys ++ t → (xs ≡ ys) × (s ≡ t)
 cut [] [] s t hx hy hs ht e = (refl, e)
 cut [] (y ∷ ys) s t hx hy hs ht e = absurd (no_end s y (ys ++ t) hs (and_parts (is_name_byte y) (list_all is_name_byte ys) hy).0 e)

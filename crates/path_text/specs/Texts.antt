@@ -5,7 +5,7 @@ use Rattle.level_meaning.specs.declared.part.Part.{Part}
 use Rattle.level_meaning.specs.declared.part.Part.TheVariants.{Named, Numbered, Port}
 use Rattle.level_meaning.specs.Level.{Path}
 
--- A reference stands behind `/`, the number of a case or of a copy behind `.`, and the port of a made vertex behind `:`.
+-- A reference stands after `/`, the number of a case or of a copy after `.`, and the port of a made vertex after `:`.
 abbrev pub part_text : Part → List ℕ
 part_text (Named x) = codes "/" ++ x
 part_text (Numbered n) = codes "." ++ decimal n

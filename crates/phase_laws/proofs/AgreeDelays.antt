@@ -57,7 +57,7 @@ later_row (y ∷ ys) n (suc v) a x h e k = by y.kind h (λ m h'. later_row ys m 
     by Implode h' r = r n h'
     by (Merge z) h' r = r n h'
 
--- behind the first operation, whatever it is
+-- after the first operation, whatever it is
 abbrev Behind : ℕ → Kind → List Vertex → Type 0
 Behind n k ys = (m : ℕ) × (n ≤ m) × (actuators_from m (kinds_of ys) ≡ true)
 

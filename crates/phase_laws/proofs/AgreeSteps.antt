@@ -36,7 +36,7 @@ repeated_is x y (suc n) zero e = sym (same_Some x y e)
 repeated_is x y (suc n) (suc i) e = repeated_is x y n i e
 
 module _ (p : Program) (media s : ℕ) where
-  -- lists that match, one behind the other, and block by block
+  -- lists that match, one after the other, and block by block
   matched_append : (xs ys : List MicroStep) (cs ds : List Micro) → AreMatched p media s xs cs → AreMatched p media s ys ds → AreMatched p media s (xs ++ ys) (cs ++ ds)
   matched_append [] ys [] ds h k = k
   matched_append [] ys (c ∷ cs) ds h k = absurd h

@@ -1,4 +1,4 @@
--- Vectors one behind the other: the elements of each, and reading them back.
+-- Vectors one after the other: the elements of each, and reading them back.
 use Rattle.std.proofs.Common.{◌≡◌, ℕ, zero, suc, ◌+◌, ◌<◌, List, [], ◌∷◌, ◌++◌, length, map, take, Some, refl, sym, ap, arith, ◌∙◌, ℤ, pos, length-append, append_assoc}
 use Rattle.std.specs.Prelude.{slice_get, slice_index_or}
 use Rattle.std.proofs.lemmas.Option.{same_Some}
@@ -32,7 +32,7 @@ pub joined_length : (vs : Values) → length (all_joined vs) ≡ sum_below (len_
 joined_length [] = refl
 joined_length (x ∷ xs) = let e = joined_length xs in let f = sum_cons (len_in (x ∷ xs)) (length xs) in let a = length-append x (all_joined xs) in omega arith
 
--- a vector that lies behind others is read back
+-- a vector that lies after others is read back
 vector_back : (front v rest : Vector) → vector_in (front ++ (v ++ rest)) (length front) (length v) ≡ v
 vector_back front v rest = same_lists (vector_in (front ++ (v ++ rest)) (length front) (length v)) v long same
   where

@@ -179,7 +179,7 @@ module _ (p : Program) (w : Places) (c : Conditions p w) {P : Type 0} (reactions
   turn_low : (s l : ℕ) (d : Micro) → slice_get (code p s).turn l ≡ Some d → l < length (code p s).turn
   turn_low s l d e = slice_get_within (code p s).turn l d e
 
-  -- what stands behind a send, or a receive, stands behind its advance
+  -- what stands after a send, or a receive, stands after its advance
   module _ (m t : ℕ) (there : m < c.media) (below : t < transfers p m) (s a r l : ℕ) (low : l < length (code p s).turn) (is : l ≡ begins p s a + r) (inner : r < size p s a) where
     after_send : Before p c.order (w.transfer m t).sender (w.transfer m t).send_at s a → After (sender_half p w c reactions own m t) s l
     after_send e = let x = send_advance p w c reactions own m t there below in

@@ -28,7 +28,7 @@ module _ (p : Program) (w : Places) where
   abbrev pub signaller : ℕ → Owner
   signaller x = cond (nat_eq (x % 2) 0) (empty_owner (x / 2)) (full_owner (x / 2))
 
-  -- A send or a receive of so many elements: a wait, a load and a store for each element, and the advance.
+  -- A send or a receive of this many elements: a wait, a load and a store for each element, and the advance.
   abbrev pub half_by : ℕ → ℕ → ℕ → Half
   half_by s a len = record { sequence = s; waits = begins p s a; advances = begins p s a + suc (2 * len) }
 

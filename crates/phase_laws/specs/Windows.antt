@@ -6,11 +6,11 @@ use Rattle.semaphore_core.specs.IsJob.{limit_of}
 use Rattle.phase_laws.specs.Values.{IsSupplied}
 use Rattle.phase_laws.specs.Ended.{last_cells, all_acts}
 
--- so many elements of a list, from one on
+-- this many elements of a list, from one on
 abbrev pub window : {A : Type 0} → ℕ → ℕ → List A → List A
 window from count xs = take count (drop from xs)
 
--- the job of so many reactions, from one on
+-- the job of this many reactions, from one on
 abbrev pub window_job : JobData → ℕ → ℕ → JobData
 window_job j from count = record j { sensors = window from count j.sensors; opening = cells_after j.graph j.sensors j.opening from }
 

@@ -45,7 +45,7 @@ pub fn adequation(
     run(draft, durations, &tails, operations)
 }
 
-/// Makes so many decisions, or fewer where none is left.
+/// Makes this many decisions, or fewer where none is left.
 fn run(
     draft: Draft,
     durations: &Durations,

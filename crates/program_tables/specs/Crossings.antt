@@ -39,6 +39,6 @@ module _ (p : Program) where
   abbrev pub crossings_on : ℕ → List Crossing
   crossings_on m = map (crossing m) (range_with_len 0 (transfers p m))
 
-  -- of each of so many media
+  -- of each of this many media
   abbrev pub crossings : ℕ → List (List Crossing)
   crossings media = map crossings_on (range_with_len 0 media)

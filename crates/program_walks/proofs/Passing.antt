@@ -1,4 +1,4 @@
--- A walk over blocks, one behind the other, that counts what passes.
+-- A walk over blocks, one after the other, that counts what passes.
 use Rattle.std.proofs.Common.{◌≡◌, ℕ, zero, suc, ◌+◌, ◌-◌, ◌<◌, Bool, true, false, cond, List, [], ◌∷◌, ◌++◌, length, refl, sym, ap, subst, arith, add-zero, ◌∙◌, inl, inr}
 use Rattle.std.specs.Prelude.{Option, Some, None}
 use Rattle.std.specs.List.{flat_map, range_with_len}
@@ -24,7 +24,7 @@ module _ {X : Type 0} (test : ℕ → X → Bool) where
       by false rest = refl
 
   module _ (f : ℕ → List X) where
-    -- behind the blocks before it, the walk over a block decides
+    -- after the blocks before it, the walk over a block decides
     pub block_passed : (b k : ℕ) (o : Option ℕ) → passed test 0 (blocks f b) ≡ Some k → passed test k (f b) ≡ o → passed test 0 (blocks f (suc b)) ≡ o
     block_passed b k o h e = passed_append 0 (blocks f b) (f b) ∙ (ap (λ (z : Option ℕ). after z (f b)) h ∙ e)
 
@@ -47,7 +47,7 @@ module _ {X : Type 0} (test : ℕ → X → Bool) where
         ∙ (passed_append k (f o) (flat_map f (range_with_len (o + 1) (n - (o + 1))))
         ∙ ap (λ (z : Option ℕ). after z (flat_map f (range_with_len (o + 1) (n - (o + 1))))) e))
 
-  -- what passed did so at each element, and so many
+  -- what passed did so at each element, and this many
   pub passed_all : (n k : ℕ) (xs : List X) → passed test n xs ≡ Some k → (all_at test n xs ≡ true) × (k ≡ n + length xs)
   passed_all n k [] h = let same : n ≡ k = cc in (refl, omega (arith, same))
   passed_all n k (x ∷ xs) h = by (test n x) refl h (λ e. passed_all (n + 1) k xs e)
@@ -57,7 +57,7 @@ module _ {X : Type 0} (test : ℕ → X → Bool) where
       by true e h rest = let r = rest h in (both_true e r.0, omega (arith, r.1))
       by false e h rest = absurd (cc)
 
-  -- where the test passes at each element, the walk ends behind the last
+  -- where the test passes at each element, the walk ends after the last
   pub all_passed : (n : ℕ) (xs : List X) → all_at test n xs ≡ true → passed test n xs ≡ Some (n + length xs)
   all_passed n [] h = ap (λ (k : ℕ). Some k) (sym (add-zero n))
   all_passed n (x ∷ xs) h =

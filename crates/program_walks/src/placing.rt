@@ -4,7 +4,7 @@ ghost use Rattle.std.specs.List.{count_by};
 ghost use Rattle.executive_program.specs.WellFormed.{place_in};
 
 /// The place in an order, which names a sequence at each place, at which the instruction stands that has
-/// so many others of its sequence before it. It is the order's length where there is none.
+/// this many others of its sequence before it. It is the order's length where there is none.
 pub fn place_in(order: &[u32], sequence: usize, at: usize) -> usize
     ensures { result ≡ place_in order.now sequence at }
 {

@@ -12,7 +12,7 @@ module _ (j : JobData) where
   abbrev pub AllEnabled : List ℕ → Type 0
   AllEnabled list = AllEnabledFrom (opening j) list
 
-  -- no such list has more entries, and one of so many ends where all is done
+  -- no such list has more entries, and one of this many ends where all is done
   pub record IsBound (total : ℕ) : Type 0 where
     pub most : (list : List ℕ) → AllEnabled list → length list ≤ total
     pub ends : (list : List ℕ) → AllEnabled list → length list ≡ total → IsDone j (run j list)

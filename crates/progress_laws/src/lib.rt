@@ -30,7 +30,7 @@ pub fn first_enabled(job: &Job, state: &State) -> Option<u32>
 }
 
 /// The number of micro-steps of the prologues, and in each reaction of the loops. A list of sequence
-/// numbers in which each is enabled when its entry comes has at most so many entries, and one with so
+/// numbers in which each is enabled when its entry comes has at most this many entries, and one with so
 /// many ends where all is done. It takes no memory.
 pub fn steps_in_all(job: &Job) -> u64
     ensures total { result ≡ total_steps job.now.program (reactions job.now) }

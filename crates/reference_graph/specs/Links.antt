@@ -8,7 +8,7 @@ Links = List (List ℕ)
 abbrev pub from : Links → ℕ → List ℕ
 from links a = slice_index_or links a []
 
--- a path of at most so many links and one more leads from a to b
+-- a path of at most this many links and one more leads from a to b
 abbrev pub leads_within : Links → ℕ → ℕ → ℕ → Bool
 leads_within links zero a b = list_any (λ c. c == b) (from links a)
 leads_within links (suc n) a b = leads_within links n a b || list_any (λ c. leads_within links n c b) (from links a)

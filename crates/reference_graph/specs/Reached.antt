@@ -4,7 +4,7 @@ use Rattle.reference_graph.specs.Links.{Links, leads_within}
 use Rattle.reference_graph.specs.Answer.{Refers}
 use Rattle.reference_graph.specs.Search.{IsMarked, IsQueue}
 
--- After so many of the queue: what is marked was come to on no more links than these and one. What
+-- After this many of the queue: what is marked was come to on no more links than these and one. What
 -- the vertex and those so far in the queue refer to is marked.
 pub record IsReached (links : Links) (a : ℕ) (marks : List Bool) (queue : List ℕ) (done : ℕ) : Type 0 where
   pub is_queue : IsQueue marks queue

@@ -44,7 +44,7 @@ pub fn depth_by(links: &[Items<u32>], depths: &[u32], a: usize) -> u32
     greatest_depth(references(links, a), depths) + 1
 }
 
-/// So many open depths.
+/// This many open depths.
 pub fn open_depths(alloc: Global, count: usize) -> Result<Vec<u32>, OutOfMemory>
     ensures { IfOk result (λ v. v.items ≡ replicate count 0) }
 {

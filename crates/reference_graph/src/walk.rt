@@ -183,7 +183,7 @@ impl Walk {
     }
 }
 
-/// At most so many steps are made: each vertex is left once, and each reference followed once.
+/// At most this many steps are made: each vertex is left once, and each reference followed once.
 fn steps_of(links: &[Items<u32>]) -> usize {
     let mut steps = links.len();
     for row in links {

@@ -1,4 +1,4 @@
--- The computed routes are the least ones: they are chosen from all routes of so many hops.
+-- The computed routes are the least ones: they are chosen from all routes of this many hops.
 use Rattle.std.proofs.Common.{◌≡◌, ℕ, zero, suc, ◌+◌, ◌-◌, ◌*◌, ◌<◌, ◌≤◌, Bool, true, false, cond, ◌||◌, ◌==◌, List, [], ◌∷◌, ◌++◌, map, length, Option, Some, None, refl, sym, ap, subst, arith, ◌∙◌, ◌⊎◌, inl, inr, length-append}
 use Rattle.std.specs.Prelude.{Contains, IsSomeAnd, IsTrue, slice_get, slice_index_or, nat_eq}
 use Rattle.std.specs.List.{flat_map, list_any, range_with_len}
@@ -153,7 +153,7 @@ module _ (media : List Medium) where
       by same (inl e) = subst (λ (s : List Hop). IsRoute media from s to) e same
       by same (inr k) = absurd k
 
-  -- all routes of so many hops are there, and nothing else
+  -- all routes of this many hops are there, and nothing else
   in_routes : (hops from to : ℕ) (r : List Hop) → IsRoute media from r to → length r ≤ hops → IsIn (routes_within media hops from to) r
   in_routes zero from to [] route l = in_stay from to route
   in_routes zero from to (h ∷ r) route l = absurd (omega (arith, l))
@@ -223,7 +223,7 @@ is_least : (media : List Medium) (hops from to : ℕ) (r : List Hop) → IsRoute
 is_least media hops from to r route few =
     least_of_all media hops from to r (least_route media hops from to) route few (some_least (routes_within media hops from to) r (in_routes media hops from to r route few))
 
--- rows of one length, one behind the other
+-- rows of one length, one after the other
 module _ (f : ℕ → ℕ → List Hop) (n : ℕ) where
   abbrev row : ℕ → List (List Hop)
   row i = map (f i) (range_with_len 0 n)

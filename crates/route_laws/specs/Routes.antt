@@ -1,4 +1,4 @@
--- The least routes of an architecture, computed: of all routes of so many hops, the least one.
+-- The least routes of an architecture, computed: of all routes of this many hops, the least one.
 use Rattle.std.specs.Prelude.{ℕ, zero, suc, ◌*◌, ◌==◌, if◌then◌else◌, IsTrue, List, [], ◌∷◌, ◌++◌, map, length, Option, Some, None}
 use Rattle.std.specs.List.{flat_map, range_with_len}
 use Rattle.archi_graph.specs.declared.medium.Medium.{Medium}
@@ -21,7 +21,7 @@ abbrev pub stay : ℕ → ℕ → List (List Hop)
 stay from to = if from == to then [] ∷ [] else []
 
 module _ (media : List Medium) where
-  -- the routes of at most so many hops from an operator to another
+  -- the routes of at most this many hops from an operator to another
   abbrev pub routes_within : ℕ → ℕ → ℕ → List (List Hop)
   routes_within zero from to = stay from to
   routes_within (suc hops) from to = stay from to ++ flat_map (λ h. map (λ r. h ∷ r) (routes_within hops h.to to)) (hops_from from 0 media)

@@ -1,4 +1,4 @@
-//! The least routes of an architecture, computed: of all routes of so many hops, the least one. The law
+//! The least routes of an architecture, computed: of all routes of this many hops, the least one. The law
 //! says that the computed table is the table of the least routes, so that whatever is chosen over it is
 //! chosen over the table that `route_table` makes. The definitions of schedules that a command makes cite it.
 #![tactic(auto)]

@@ -12,7 +12,7 @@ use Rattle.archi_graph.specs.Routes.{AreOperators, IsHop, IsRoute}
 use Rattle.archi_graph.proofs.Bounds.{operators_below}
 use Rattle.route_table.proofs.Picks.{some_with, stands_of}
 
--- a route of at most so many hops
+-- a route of at most this many hops
 abbrev pub Within : List Medium → ℕ → ℕ → ℕ → Type 0
 Within media from to hops = (r : List Hop) × IsRoute media from r to × (length r ≤ hops)
 

@@ -39,7 +39,7 @@ spread true e b q c = refl
 spread false true b q c = refl
 spread false false b q c = refl
 
--- of lists of one length, each with more behind it, the first ones decide, or else what is behind them
+-- of lists of one length, each with more after it, the first ones decide, or else what is after them
 before_both : (xs ys us vs : List ℕ) → length xs ≡ length ys → comes_before (xs ++ us) (ys ++ vs) ≡ (comes_before xs ys || (are_equal xs ys && comes_before us vs))
 before_both [] [] us vs e = refl
 before_both [] (y ∷ ys) us vs e = absurd (omega arith)

@@ -17,7 +17,7 @@ use Rattle.route_table.proofs.Order.{less_not, less_turned, less_self}
 abbrev pub Beats : RouteTable → ℕ → Option Hop → Hop → Type 0
 Beats t to best g = IsSomeAnd best (λ h. is_less (through t to g) (through t to h) ≡ false)
 
--- the best hop so far has the property, and it leads to a route of so many hops
+-- the best hop so far has the property, and it leads to a route of this many hops
 abbrev pub IsFrom : RouteTable → ℕ → ℕ → (Hop → Type 0) → Option Hop → Type 0
 IsFrom t hops to P best = IfSome best (λ h. P h × (is_at t hops h.to to ≡ true))
 
@@ -154,7 +154,7 @@ module _ (t : RouteTable) (hops to : ℕ) where
         subst (λ (x : ℕ). Beats t to (pick_among t hops to from 0 None media) (record { medium = x; to = g.to })) (zero-add g.medium)
         (among_beats media 0 None g.medium g.to m.0 m.1 m.2.0 m.2.1 there)
 
-    -- the chosen hop leads from the operator to a route of so many hops
+    -- the chosen hop leads from the operator to a route of this many hops
     pub chosen_from : (media : List Medium) → IsFrom t hops to (IsHop media from) (pick_among t hops to from 0 None media)
     chosen_from media =
         among_from (IsHop media from) media 0 None tt (λ k o m e near far.

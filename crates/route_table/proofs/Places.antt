@@ -5,7 +5,7 @@ use Rattle.std.proofs.Math.Nat.{mul-le-mul_left}
 use Rattle.std.proofs.lemmas.List.{get_or-set_other}
 use Rattle.archi_graph.specs.declared.medium.Hop.{Hop}
 
--- a later row lies behind an earlier one
+-- a later row lies after an earlier one
 rows_apart : (n o p d e : ℕ) → o < p → d < n → o * n + d < p * n + e
 rows_apart n o p d e l k = let rows : o + 1 ≤ p = omega arith in omega (arith, mul-le-mul_left n rows)
 

@@ -1,4 +1,4 @@
--- One round more: what a table has of routes of so many hops, and of one hop more.
+-- One round more: what a table has of routes of this many hops, and of one hop more.
 use Rattle.std.proofs.Common.{◌≡◌, ℕ, zero, suc, ◌+◌, ◌<◌, ◌≤◌, ◌≢◌, Bool, true, false, ◌||◌, ◌==◌, List, [], ◌∷◌, length, Option, Some, None, sym, ap, subst, arith, ◌∙◌, ◌⊎◌, inl, inr}
 use Rattle.std.specs.Prelude.{All, Contains, slice_get, nat_lt}
 use Rattle.std.proofs.lemmas.Bool.{and_parts, and_from, eqb-true, eq-eqb}
@@ -40,7 +40,7 @@ true_not_false b e f = cc
 -- what is known of a hop's end, where the hop's start has no route of so few hops
 module _ (media : List Medium) (t : RouteTable) (hops from to : ℕ) (places : (from < t.operators) × (to < t.operators)) (known : AreOperators t.operators media)
     (so_far : IsKnownWithin media t hops) (absent : is_known t from to ≡ false) where
-  -- a hop to an operator from which some route has so few hops leads to a least route of exactly so many
+  -- a hop to an operator from which some route has so few hops leads to a least route of exactly this many
   at_end : (h : Hop) (r : List Hop) → IsHop media from h → IsRoute media h.to r to → length r ≤ hops
       → (is_at t hops h.to to ≡ true) × (is_less r (route_in t h.to to) ≡ false)
   at_end h r hop rest l =
@@ -141,7 +141,7 @@ module _ (media : List Medium) (t u : RouteTable) (hops from to : ℕ) (c : Hop)
           subst (λ (r : List Hop). IsLeastRoute media o r d) (sym e)
           (so_far.least o d lo ld (ap (λ (r : List Hop). (o == d) || nat_lt 0 (length r)) (sym e) ∙ known))
 
--- the route from where the chosen hop leads has so many hops
+-- the route from where the chosen hop leads has this many hops
 pub chosen_level : (media : List Medium) (t : RouteTable) (hops from to : ℕ) (c : Hop) → pick_among t hops to from 0 None media ≡ Some c → level_in t c.to to ≡ hops
 chosen_level media t hops from to c e =
     let origin : IsHop media from c × (is_at t hops c.to to ≡ true) = subst (λ (o : Option Hop). IsFrom t hops to (IsHop media from) o) e (chosen_from t hops to from media) in

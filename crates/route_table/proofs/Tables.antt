@@ -1,4 +1,4 @@
--- A table that has all routes of so many hops is the table of the architecture.
+-- A table that has all routes of this many hops is the table of the architecture.
 use Rattle.std.proofs.Common.{◌≡◌, ℕ, ◌+◌, ◌*◌, ◌<◌, ◌≤◌, [], ◌∷◌, ◌++◌, length, subst, arith, length-append}
 use Rattle.archi_graph.specs.declared.medium.Hop.{Hop}
 use Rattle.archi_graph.specs.Archi.{Architecture}

@@ -7,11 +7,11 @@ use Rattle.route_table.specs.Least.{IsLeastRoute}
 use Rattle.route_table.specs.Table.{RouteTable, route_in}
 use Rattle.route_table.specs.Search.{is_known}
 
--- where some route has at most so many hops, the least one is there
+-- where some route has at most this many hops, the least one is there
 abbrev pub Covers : List Medium → RouteTable → ℕ → ℕ → ℕ → Type 0
 Covers media t hops from to = (r : List Hop) → IsRoute media from r to → length r ≤ hops → is_known t from to ≡ true
 
--- each route that is there is the least one, and those of at most so many hops are there
+-- each route that is there is the least one, and those of at most this many hops are there
 pub record IsKnownWithin (media : List Medium) (t : RouteTable) (hops : ℕ) : Type 0 where
   pub least : (from to : ℕ) → from < t.operators → to < t.operators → is_known t from to ≡ true → IsLeastRoute media from (route_in t from to) to
   pub covers : (from to : ℕ) → from < t.operators → to < t.operators → Covers media t hops from to

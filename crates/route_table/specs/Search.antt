@@ -1,4 +1,4 @@
--- The choice of a route's first hop among those that lead to routes of so many hops.
+-- The choice of a route's first hop among those that lead to routes of this many hops.
 use Rattle.std.specs.Prelude.{ℕ, ◌+◌, Bool, true, ◌&&◌, ◌||◌, ◌==◌, nat_lt, if◌then◌else◌, List, [], ◌∷◌, Option, Some, None}
 use Rattle.archi_graph.specs.declared.medium.Medium.{Medium}
 use Rattle.archi_graph.specs.declared.medium.Hop.{Hop}
@@ -10,7 +10,7 @@ use Rattle.route_table.specs.Table.{RouteTable, route_in, level_in}
 abbrev pub is_known : RouteTable → ℕ → ℕ → Bool
 is_known t from to = (from == to) || nat_lt 0 (level_in t from to)
 
--- the route is there, and it has so many hops
+-- the route is there, and it has this many hops
 abbrev pub is_at : RouteTable → ℕ → ℕ → ℕ → Bool
 is_at t hops from to = is_known t from to && (level_in t from to == hops)
 
@@ -23,7 +23,7 @@ abbrev pub is_better : RouteTable → ℕ → Option Hop → Hop → Bool
 is_better t to None h = true
 is_better t to (Some best) h = is_less (through t to h) (through t to best)
 
--- the better one of the best hop so far and this one, which has to lead to a route of so many hops
+-- the better one of the best hop so far and this one, which has to lead to a route of this many hops
 abbrev pub pick : RouteTable → ℕ → ℕ → Option Hop → Hop → Option Hop
 pick t hops to best h = if is_at t hops h.to to && is_better t to best h then Some h else best
 

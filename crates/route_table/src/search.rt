@@ -9,7 +9,7 @@ use crate::table::Routes;
 use archi_graph::{Hop, Medium};
 
 /// The first hop of the least route from an operator to another, among the hops that lead to routes
-/// of so many hops. Whole routes are compared, since the least medium may lead to several operators
+/// of this many hops. Whole routes are compared, since the least medium may lead to several operators
 /// of the same level. It takes no memory.
 pub fn first_hop(routes: &Routes, hops: u32, from: u32, to: u32, media: &[Medium]) -> Option<Hop>
     requires to { to < routes.now.operators }

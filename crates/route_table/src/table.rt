@@ -47,7 +47,7 @@ impl Routes {
             .len() as u32
     }
 
-    /// A table of so many operators in which only the routes from operators to themselves are there.
+    /// A table of this many operators in which only the routes from operators to themselves are there.
     pub(crate) fn new(alloc: Global, operators: u32) -> Result<Routes, OutOfMemory>
         requires { operators ≤ 16 }
         ensures { IfOk result (λ t. (t.operators ≡ operators) × (length t.routes ≡ operators * operators) × ((from to : ℕ) → route_in t from to ≡ [])) }
@@ -66,7 +66,7 @@ impl Routes {
         from == to || self.level(from, to) > 0
     }
 
-    /// Whether the route is there and has so many hops. It takes no memory.
+    /// Whether the route is there and has this many hops. It takes no memory.
     pub(crate) fn is_at(&self, hops: u32, from: u32, to: u32) -> bool
         requires { (from < self.now.operators) × (to < self.now.operators) }
         ensures { result ≡ is_at self.now hops from to }

@@ -10,7 +10,7 @@ use Rattle.act_text.specs.Text.{text_from, output_text}
 abbrev pub window_bound : ℕ
 window_bound = 256
 
--- how many windows so many reactions have, and the first reaction of each
+-- how many windows this many reactions have, and the first reaction of each
 abbrev pub windows_in : ℕ → ℕ
 windows_in n = (n + (window_bound - 1)) / window_bound
 

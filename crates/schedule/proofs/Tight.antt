@@ -10,7 +10,7 @@ use Rattle.schedule.specs.Acts.{Act, acts, start_of}
 use Rattle.schedule.specs.Tight.{earliest, are_tight, TightActByAct}
 
 module _ (vertices : List Vertex) where
-  -- they are tight where the first ones are, and the others behind them
+  -- they are tight where the first ones are, and the others after them
   pub tight-append : (before xs ys : List Act) → are_tight vertices before (xs ++ ys) ≡ (are_tight vertices before xs && are_tight vertices (before ++ xs) ys)
   tight-append before [] ys = ap (λ (l : List Act). are_tight vertices l ys) (sym (append-nil before))
   tight-append before (x ∷ xs) ys = by (start_of x == earliest vertices before x)

@@ -59,7 +59,7 @@ whole_read row at old = ap (λ (l : List ℤ). map (λ (i : ℕ). element_at row
 pub length-vector_in : (row : List ℤ) (at n : ℕ) → length (vector_in row at n) ≡ n
 length-vector_in row at n = length-map-range_with_len (λ (i : ℕ). element_at row (at + i)) 0 n
 
--- vectors that are read one behind the other
+-- vectors that are read one after the other
 pub vectors-append : (row : List ℤ) (at : ℕ) (xs ys : List ℕ) → vectors_from row at (xs ++ ys) ≡ vectors_from row at xs ++ vectors_from row (at + sum xs) ys
 vectors-append row at [] ys = ap (λ (n : ℕ). vectors_from row n ys) (sym (add-zero at))
 vectors-append row at (n ∷ xs) ys = ap (λ (l : Values). vector_in row at n ∷ l) (vectors-append row (at + n) xs ys ∙ ap (λ (m : ℕ). vectors_from row (at + n) xs ++ vectors_from row m ys) (let e = sum_by-cons (λ x. x) n xs in omega arith))
@@ -136,7 +136,7 @@ reads_none row at first ins = record { read = take-zero (drop first ins) ∙ sym
     take-zero [] = refl
     take-zero (x ∷ xs) = refl
 
--- vectors one behind the other
+-- vectors one after the other
 pub joined-append : (xs ys : Values) → all_joined (xs ++ ys) ≡ all_joined xs ++ all_joined ys
 joined-append [] ys = refl
 joined-append (x ∷ xs) ys = ap (λ (l : List ℤ). x ++ l) (joined-append xs ys) ∙ sym (append_assoc x (all_joined xs) (all_joined ys))

@@ -28,7 +28,7 @@ use Rattle.executive_program.specs.WellFormed.{place_in}
 abbrev sequence : ℕ → Option ℕ → List Instr → List Instr → SeqCode
 sequence o m p t = record { seq = record { operator = o; medium = m }; prologue = p; turn = t }
 
--- with buffers of so many places where a pair guards them
+-- with buffers of this many places where a pair guards them
 abbrev program : ℕ → List Instr → List Instr → Program
 program depth first second = record {
   buffers = record { operator = 0; len = 1; depth = depth } ∷ record { operator = 0; len = 1; depth = 1 }
@@ -126,7 +126,7 @@ abbrev greatest : (j : JobData) → Core → ℕ → ℕ
 greatest j z zero = 0
 greatest j z (suc n) = cond (is_enabled j z n) n (greatest j z n)
 
--- so many steps, always of the greatest enabled sequence
+-- this many steps, always of the greatest enabled sequence
 abbrev run_greatest : (j : JobData) → ℕ → Core → Core
 run_greatest j zero z = z
 run_greatest j (suc n) z = run_greatest j n (step j z (greatest j z 4))

@@ -25,7 +25,7 @@ sequence o m p t = record { seq = record { operator = o; medium = m }; prologue 
 abbrev buffer : ℕ → ℕ → Buffer
 buffer depth o = record { operator = o; len = 1; depth = depth }
 
--- with buffers of so many places where pairs guard them
+-- with buffers of this many places where pairs guard them
 abbrev program : ℕ → Program
 program depth = record {
   buffers = buffer depth 0 ∷ buffer depth 1 ∷ buffer depth 2 ∷ buffer 1 1 ∷ buffer 1 2 ∷ buffer 1 0 ∷ [];

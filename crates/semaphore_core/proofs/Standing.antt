@@ -57,7 +57,7 @@ module _ (j : JobData) (s n : ℕ) where
     pub stands_at : step_at (steps j.program s) n ≡ Some m
     stands_at = let e = is_next in rw (lt-ltb n (full j s) not_past) at e
 
-    -- so many registers are enough where they are enough for each micro-step of the sequence
+    -- this many registers are enough where they are enough for each micro-step of the sequence
     pub fits_at : (g : Graph) (room : ℕ) → ((l : ℕ) → Fits g room (slice_get (steps j.program s).prologue l)) → ((l : ℕ) → Fits g room (slice_get (steps j.program s).turn l)) → Fits g room (Some m)
     fits_at g room before within = subst (Fits g room) stands_at (by (ltb n (length (steps j.program s).prologue)))
       where

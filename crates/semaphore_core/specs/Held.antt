@@ -115,7 +115,7 @@ module _ (g : Graph) where
   highest [] = 0
   highest (m ∷ ms) = max (top m) (highest ms)
 
-  -- so many registers are enough for the micro-step
+  -- this many registers are enough for the micro-step
   abbrev pub Fits : ℕ → Option MicroStep → Type 0
   Fits room None = Unit {0}
   Fits room (Some m) = top m < room

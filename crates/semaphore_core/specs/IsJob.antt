@@ -31,7 +31,7 @@ pub record FitTogether (a : Architecture) (j : JobData) : Type 0 where
 abbrev pub above : LimitKind → ℕ → Option LimitFault → Option LimitFault
 above which count next = cond (nat_lt (bound_of which) count) (Some (record { which = which; count = count; bound = bound_of which })) next
 
--- The limit that refuses so many reactions of a program: the elements that the actuators take, then the micro-steps in all. A number that the count's type does not hold is its last value.
+-- The limit that refuses this many reactions of a program: the elements that the actuators take, then the micro-steps in all. A number that the count's type does not hold is its last value.
 abbrev pub limit_in : Program → Graph → ℕ → Option LimitFault
 limit_in p g n = above Output (output_elements g n) (above Total (min (total_steps p n) (2 ^ 128 - 1)) None)
 

@@ -20,7 +20,7 @@ inputs_in x vs = drop (length x.guards) vs
 abbrev pub vector_in : List ℤ → ℕ → ℕ → Vector
 vector_in row at n = map (λ j. element_at row (at + j)) (range_with_len 0 n)
 
--- the vectors of these lengths, one behind the other
+-- the vectors of these lengths, one after the other
 abbrev pub vectors_from : List ℤ → ℕ → List ℕ → Values
 vectors_from row at [] = []
 vectors_from row at (n ∷ ns) = vector_in row at n ∷ vectors_from row (at + n) ns
@@ -68,7 +68,7 @@ module _ (g : Graph) where
   abbrev pub rows_left : Vertex → ℕ → Values → List Values → List Values
   rows_left x k vs rows = rows_by x.kind k (vector_at (inputs_in x vs) 0) rows
 
--- The vectors of so many ports are read from a row, from `at` on; the other ports are as they were, and the lengths too.
+-- The vectors of this many ports are read from a row, from `at` on; the other ports are as they were, and the lengths too.
 pub record ReadsPorts (row : List ℤ) (at first count : ℕ) (old new : Values) : Type 0 where
   pub read : take count (drop first new) ≡ vectors_from row at (take count (drop first (map length old)))
   pub before : take first new ≡ take first old

@@ -16,14 +16,14 @@ use flat_graph::{Flat, Kind, Source, Vertex};
 use std::alloc::Global;
 use syn_base::{ActRows, Items, OutOfMemory};
 
-/// So many zeros.
+/// This many zeros.
 pub fn zeros(alloc: Global, len: usize) -> Result<Items<i64>, OutOfMemory>
     ensures { IfOk result (λ s. s ≡ zeros len) }
 {
     Ok(Items::new(vec![in alloc; 0; len]?))
 }
 
-/// So many times this word.
+/// This many times this word.
 pub fn words_of(alloc: Global, word: u64, len: usize) -> Result<Vec<u64>, OutOfMemory>
     ensures { IfOk result (λ s. s.items ≡ replicate len word) }
 {
@@ -137,7 +137,7 @@ pub fn actuator_lens(alloc: Global, flat: &Flat) -> Result<Items<u32>, OutOfMemo
     Ok(Items::new(lens))
 }
 
-/// So many lengths of 0.
+/// This many lengths of 0.
 fn push_empty(count: usize, lens: &mut Vec<u32>) -> Result<(), OutOfMemory>
     ensures { OnOk result (lens.new.items ≡ lens.old.items ++ replicate count 0) }
 {
@@ -147,7 +147,7 @@ fn push_empty(count: usize, lens: &mut Vec<u32>) -> Result<(), OutOfMemory>
     Ok(())
 }
 
-/// The lengths of some sources, or so many lengths of 0.
+/// The lengths of some sources, or this many lengths of 0.
 fn push_lens_if(
     flat: &Flat,
     sources: &[Source],
@@ -217,7 +217,7 @@ pub fn sensor_lens(alloc: Global, flat: &Flat) -> Result<Items<u32>, OutOfMemory
     Ok(Items::new(lens))
 }
 
-/// Rows of zeros: vectors of these lengths in each of so many reactions. A row that memory cannot
+/// Rows of zeros: vectors of these lengths in each of this many reactions. A row that memory cannot
 /// hold is answered as want of it.
 pub fn zero_rows(alloc: Global, lens: &[u32], reactions: usize) -> Result<ActRows, OutOfMemory>
     ensures { IfOk result (λ s. s ≡ record { lens = lens.now; reactions = replicate reactions (map zeros lens.now) }) }

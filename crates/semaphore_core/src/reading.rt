@@ -18,8 +18,8 @@ fn read_vector(ins: &mut Ins, port: usize, registers: &Registers, at: u128)
     }
 }
 
-/// Puts registers, from this one on, in the vectors of so many ports, and gives the number of the
-/// register behind them.
+/// Puts registers, from this one on, in the vectors of this many ports, and gives the number of the
+/// register after them.
 pub fn read_ports(ins: &mut Ins, first: u32, count: u32, registers: &Registers, at: u128) -> u128
     requires ports { first + count ≤ length ins.old }
     requires fits { at ≤ 2 ^ 100 }

@@ -27,7 +27,7 @@ impl Model for Registers {
 }
 
 impl Registers {
-    /// Room for so many registers, of which none is in use.
+    /// Room for this many registers, of which none is in use.
     pub fn new(alloc: Global, room: usize) -> Result<Registers, OutOfMemory>
         ensures { IfOk result (λ s. s ≡ record { values = []; room = room }) }
     {
@@ -87,7 +87,7 @@ impl Registers {
         }
     }
 
-    /// Puts the vectors of all ports in the registers, one behind the other. It takes no memory.
+    /// Puts the vectors of all ports in the registers, one after the other. It takes no memory.
     pub fn fill(&mut self, vectors: &Ins)
         requires { sum (map length vectors.now) ≤ self.old.room }
         ensures { self.new ≡ record self.old { values = all_joined vectors.now } }

@@ -52,7 +52,7 @@ fn taken_elements(flat: &Flat) -> u128
     total
 }
 
-/// The number of elements that the actuators take in so many reactions.
+/// The number of elements that the actuators take in this many reactions.
 fn output_elements(flat: &Flat, reactions: usize) -> u128
     requires { reactions ≤ 10000 }
     ensures { result ≡ output_elements flat.now reactions }
@@ -60,7 +60,7 @@ fn output_elements(flat: &Flat, reactions: usize) -> u128
     reactions as u128 * taken_elements(flat)
 }
 
-/// The number of micro-steps of so many reactions of all sequences of a well-formed program, or the last
+/// The number of micro-steps of this many reactions of all sequences of a well-formed program, or the last
 /// value of the type where it is more. A take of a deep pair is two micro-steps, and in each reaction each
 /// pair is taken twice.
 pub fn total_steps(program: &Program, reactions: usize) -> u128
@@ -88,7 +88,7 @@ fn above(which: LimitKind, count: u128) -> Option<LimitFault>
     }
 }
 
-/// The limit that refuses so many reactions of a program: that of the elements that the actuators
+/// The limit that refuses this many reactions of a program: that of the elements that the actuators
 /// take, and else that of the micro-steps.
 pub fn limit_fault(program: &Program, flat: &Flat, reactions: usize) -> Option<LimitFault>
     requires looks { CountsLooks program.now }
@@ -125,7 +125,7 @@ pub fn run_limit(
     }
 }
 
-/// A program that meets no limit over so many reactions meets none over fewer, as in each of its windows. It
+/// A program that meets no limit over this many reactions meets none over fewer, as in each of its windows. It
 /// does nothing.
 pub fn fewer_reactions_meet_no_limit()
     ensures { FewerMeetNone }

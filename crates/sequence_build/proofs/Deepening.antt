@@ -10,7 +10,7 @@ use Rattle.sequence_build_laws.specs.Guarded.{guarded_buffers}
 use Rattle.sequence_build.specs.declared.pairs.Pair.{Pair}
 use Rattle.sequence_build.specs.Pairs.{deep_buffer, deepened, reader_of}
 
--- with so many places, where the test says so
+-- with this many places, where the test says so
 abbrev deep : ℕ → Bool → Option Buffer → Option Buffer
 deep depth t None = None
 deep depth t (Some x) = Some (record { operator = x.operator; len = x.len; depth = cond t depth x.depth })

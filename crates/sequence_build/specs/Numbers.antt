@@ -14,7 +14,7 @@ place c = cond (covers c) ((c.source.vertex * 64 + c.source.port) * 16 + c.opera
 abbrev pub number_in : List ℕ → ℕ → Copy → ℕ
 number_in table count c = slice_index_or table (place c) count
 
--- the copy is of an output of one of so many operations
+-- the copy is of an output of one of this many operations
 pub record IsCovered (operations : ℕ) (c : Copy) : Type 0 where
   pub vertex : c.source.vertex < operations
   pub port : c.source.port < 64

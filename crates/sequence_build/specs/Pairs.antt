@@ -28,12 +28,12 @@ pairs_below uses writes n = blocks (λ b. pairs_with b (write_at writes b) (uses
 abbrev pub reader_of : Pair → Reader
 reader_of p = record { buffer = p.buffer; sequence = p.reader }
 
--- a buffer with so many places, if it is there
+-- a buffer with this many places, if it is there
 abbrev pub deep_buffer : ℕ → Option Buffer → List Buffer → ℕ → List Buffer
 deep_buffer depth None xs b = xs
 deep_buffer depth (Some x) xs b = slice_set xs b (record { operator = x.operator; len = x.len; depth = depth })
 
--- the buffers of these pairs have so many places
+-- the buffers of these pairs have this many places
 abbrev pub deepened : ℕ → List Pair → List Buffer → List Buffer
 deepened depth [] xs = xs
 deepened depth (p ∷ ps) xs = deepened depth ps (deep_buffer depth (slice_get xs p.buffer) xs p.buffer)

@@ -12,7 +12,7 @@ use Rattle.sequence_build.specs.Pairs.{deepened, plain_pairs}
 use Rattle.sequence_build.specs.Around.{codes_with}
 use Rattle.sequence_build.specs.Limit.{above, program_limit}
 
--- the buffers of the pairs have so many places
+-- the buffers of the pairs have this many places
 abbrev pub paired : ℕ → List Pair → Program → Program
 paired depth pairs p = record {
   buffers = deepened depth pairs p.buffers;
@@ -34,7 +34,7 @@ abbrev pub IsLong : Program → BuildError → Type 0
 IsLong p (Limit fault) = steps_limit p ≡ Some fault
 IsLong p OutOfMemory = Unit {0}
 
--- it is that program, which no limit refuses on so many media
+-- it is that program, which no limit refuses on this many media
 pub record IsAssembled (depth : ℕ) (plain : Program) (media : ℕ) (p : Program) : Type 0 where
   pub is : p ≡ assembled depth plain
   pub within : program_limit p media ≡ None

@@ -207,7 +207,7 @@ fn all_between(
     Ok(Items::new(out))
 }
 
-/// Adds so many signals of a pair's empty semaphore.
+/// Adds this many signals of a pair's empty semaphore.
 fn push_signals(out: &mut Vec<Instr>, pair: u32, depth: u32) -> Result<(), OutOfMemory>
     ensures { OnOk result (out.new.items ≡ out.old.items ++ replicate depth (Pre0 pair)) }
 {

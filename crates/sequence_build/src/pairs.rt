@@ -99,7 +99,7 @@ pub fn operators_of(
     Ok(operators)
 }
 
-/// Gives a buffer so many places.
+/// Gives a buffer this many places.
 fn deepen(buffers: &mut [Buffer], buffer: u32, depth: u32)
     ensures { buffers.new ≡ deep_buffer depth (slice_get buffers.old buffer) buffers.old buffer }
 {
@@ -109,7 +109,7 @@ fn deepen(buffers: &mut [Buffer], buffer: u32, depth: u32)
     }
 }
 
-/// Gives the buffers of these pairs so many places.
+/// Gives the buffers of these pairs this many places.
 pub fn deepen_all(buffers: &mut [Buffer], pairs: &[Pair], depth: u32)
     ensures { buffers.new ≡ deepened depth pairs.now buffers.old }
 {

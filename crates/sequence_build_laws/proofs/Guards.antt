@@ -1,4 +1,4 @@
--- The pairs of the plain order are those of the program, each buffer is written once and read behind that, and each pair guards its buffer.
+-- The pairs of the plain order are those of the program, each buffer is written once and read after that, and each pair guards its buffer.
 use Rattle.std.proofs.Common.{◌≡◌, ℕ, zero, suc, ◌+◌, ◌-◌, ◌<◌, ◌≤◌, ◌⊎◌, Bool, true, false, ◌&&◌, not, cond, nat_eq, List, [], ◌∷◌, ◌++◌, length, map, take, drop, Option, Some, refl, sym, ap, subst, inl, inr, arith, ◌∙◌, eq-eqb}
 use Rattle.std.specs.Prelude.{slice_get}
 use Rattle.std.specs.List.{flat_map, list_any, position_or_len, filter}

@@ -86,7 +86,7 @@ module _ (pairs : List Reader) (v : Standing Step) where
   list_length : (test : Reader → Bool) (f : ℕ → Instr) → length (map f (numbers test)) ≡ length (numbers test)
   list_length test f = length-map (numbers test) f
 
-  -- behind the instruction
+  -- after the instruction
   signals : List Instr
   signals = map Pre0 (numbers (reads_last v)) ++ map Pre1 (numbers (is_filled v))
 

@@ -1,4 +1,4 @@
--- A program over a plain order whose reads stand behind the writes: what the semaphore lines are proved from.
+-- A program over a plain order whose reads stand after the writes: what the semaphore lines are proved from.
 use Rattle.std.proofs.Common.{◌≡◌, ℕ, suc, ◌+◌, ◌<◌, ◌⊎◌, Bool, true, false, ◌||◌, nat_eq, List, [], ◌∷◌, length, map, take, drop, Some, refl, sym, ap, subst, inl, inr, ◌∙◌, eq-eqb}
 use Rattle.std.specs.Prelude.{slice_get}
 use Rattle.std.specs.List.{flat_map, list_any}
@@ -37,14 +37,14 @@ pub record Setting : Type 0 where
   pub buffers_without : length without.buffers ≡ length copies
   pub buffers_many : length program.buffers ≡ length copies
   pub buffers_are : (b : ℕ) (c : Copy) → slice_get copies b ≡ Some c → slice_get program.buffers b ≡ Some (record { operator = c.operator; len = len c; depth = depth b })
-  -- a buffer that a pair guards has so many places, and its pair is opened as often
+  -- a buffer that a pair guards has this many places, and its pair is opened as often
   pub guarded : (q : ℕ) (r : Reader) → slice_get pairs q ≡ Some r → depth r.buffer ≡ many
   pub opened : (s : ℕ) → prologues s ≡ flat_map (λ q. repeated (Pre0 q) many) (pairs_where pairs (λ r. nat_eq r.sequence s))
   pub pair_operators : program.pairs ≡ map (λ (r : Reader). operator_in (slice_get copies r.buffer)) pairs
   -- each step is in a sequence that is there
   pub low : (i : ℕ) (y : Step) → slice_get plain i ≡ Some y → y.sequence < length seqs
   pub plain_only : (i : ℕ) (y : Step) → slice_get plain i ≡ Some y → is_plain y.instr ≡ true
-  -- each buffer is written once, and read behind that
+  -- each buffer is written once, and read after that
   pub written : (b : ℕ) → b < length copies → (c : ℕ) × (y : Step) × (k : ℕ) × (slice_get plain c ≡ Some y) × WritesAt y.instr k b
   pub written_once : (c e k h b : ℕ) (y z : Step) → slice_get plain c ≡ Some y → slice_get plain e ≡ Some z → WritesAt y.instr k b → WritesAt z.instr h b → (c ≡ e) × (k ≡ h)
   pub read_behind : (c k b : ℕ) (y : Step) → slice_get plain c ≡ Some y → ReadsAt y.instr k b → (e : ℕ) × (z : Step) × (h : ℕ) × (e < c) × (slice_get plain e ≡ Some z) × WritesAt z.instr h b

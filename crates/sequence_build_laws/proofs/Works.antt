@@ -1,4 +1,4 @@
--- What a valid schedule's acts have done: each copy is made by one act, and is read behind it.
+-- What a valid schedule's acts have done: each copy is made by one act, and is read after it.
 use Rattle.std.proofs.Common.{◌≡◌, ℕ, zero, suc, ◌+◌, ◌<◌, ◌≤◌, true, false, ◌&&◌, not, nat_eq, List, [], ◌∷◌, ◌++◌, length, take, Option, Some, None, refl, sym, ap, inl, inr, arith, ◌∙◌, eq-eqb}
 use Rattle.std.specs.Prelude.{slice_get, nat_lt, nat_le}
 use Rattle.std.specs.List.{list_any, list_all, range_with_len}

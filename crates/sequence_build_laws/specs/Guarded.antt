@@ -47,7 +47,7 @@ abbrev pub guarded_codes : ℕ → List Reader → ℕ → List SeqCode → List
 guarded_codes depth pairs s [] = []
 guarded_codes depth pairs s (q ∷ qs) = record { seq = q.seq; prologue = opening pairs s depth; turn = guarded_loop pairs s q.turn } ∷ guarded_codes depth pairs (suc s) qs
 
--- the buffers of pairs have so many places, and the others one
+-- the buffers of pairs have this many places, and the others one
 abbrev pub guarded_buffers : ℕ → List Reader → ℕ → List Buffer → List Buffer
 guarded_buffers depth pairs b [] = []
 guarded_buffers depth pairs b (x ∷ xs) =
@@ -57,7 +57,7 @@ abbrev pub operator_in : Option Buffer → ℕ
 operator_in None = 0
 operator_in (Some x) = x.operator
 
--- the program with semaphores, where buffers of pairs have so many places
+-- the program with semaphores, where buffers of pairs have this many places
 abbrev pub guarded : ℕ → Program → Program
 guarded depth p = record {
   buffers = guarded_buffers depth (readers p) 0 p.buffers;

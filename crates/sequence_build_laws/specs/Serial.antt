@@ -102,7 +102,7 @@ module _ (g : Graph) (a : Architecture) (s : Schedule) where
   abbrev pub plain_steps : List Step
   plain_steps = flat_map steps_of (acts s)
 
-  -- a buffer that a pair guards has so many places, and any other one
+  -- a buffer that a pair guards has this many places, and any other one
   abbrev pub buffer : ℕ → Copy → Buffer
   buffer depth c = record { operator = c.operator; len = len_of g.vertices c.source; depth = depth }
 

@@ -13,7 +13,7 @@ pub all_digits : (from : ℕ) (bs : List ℕ) → first_other from bs ≡ None �
 all_digits from [] h = refl
 all_digits from (b ∷ bs) h = both (is_digit b) from (first_other (suc from) bs) (list_all is_digit bs) (all_digits (suc from) bs) h
 
--- what stands behind a number makes it no smaller
+-- what stands after a number makes it no smaller
 pub number_grows : (n : ℕ) (bs : List ℕ) → n ≤ number_after n bs
 number_grows n [] = omega arith
 number_grows n (b ∷ bs) = omega (arith, number_grows (10 * n + (b - 48)) bs)

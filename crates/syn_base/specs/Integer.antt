@@ -9,7 +9,7 @@ abbrev pub first_other : ℕ → List ℕ → Option ℕ
 first_other at [] = None
 first_other at (b ∷ bs) = if is_digit b then first_other (suc at) bs else Some at
 
--- the number that digits write behind those of n
+-- the number that digits write after those of n
 abbrev pub number_after : ℕ → List ℕ → ℕ
 number_after n [] = n
 number_after n (b ∷ bs) = number_after (10 * n + (b - 48)) bs

@@ -131,7 +131,7 @@ impl SensorRows {
         self.rows.lens()
     }
 
-    /// Adds a reaction, its vectors one behind the other. After want of memory all is as before.
+    /// Adds a reaction, its vectors one after the other. After want of memory all is as before.
     pub fn push(&mut self, row: &[i64]) -> Result<(), OutOfMemory>
         requires { length row.now ≡ sum self.old.lens }
         ensures ok { OnOk result (self.new ≡ record self.old { reactions = self.old.reactions ++ cut self.old.lens row.now ∷ [] }) }
@@ -217,7 +217,7 @@ impl ActRows {
         self.rows.lens()
     }
 
-    /// Adds a reaction, its vectors one behind the other. After want of memory all is as before.
+    /// Adds a reaction, its vectors one after the other. After want of memory all is as before.
     pub fn push(&mut self, row: &[i64]) -> Result<(), OutOfMemory>
         requires { length row.now ≡ sum self.old.lens }
         ensures ok { OnOk result (self.new ≡ record self.old { reactions = self.old.reactions ++ cut self.old.lens row.now ∷ [] }) }

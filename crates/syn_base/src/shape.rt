@@ -5,7 +5,7 @@ use crate::memory::OutOfMemory;
 use std::alloc::Global;
 use std::marker::Model;
 
-/// The lengths of vectors that lie one behind the other in a flat row, with the place at which each
+/// The lengths of vectors that lie one after the other in a flat row, with the place at which each
 /// begins.
 #[derive(Drop)]
 pub struct Shape {

@@ -167,7 +167,7 @@ pub length-zeros : (n : ℕ) → length (zeros n) ≡ n
 length-zeros zero = refl
 length-zeros (suc n) = ap suc (length-zeros n)
 
--- Vector by vector, each takes the place of the one before it: y1 .. yi, then x and what stands behind it as it was.
+-- Vector by vector, each takes the place of the one before it: y1 .. yi, then x and what stands after it as it was.
 pub moved_up : (i : ℕ) (x : List ℤ) (ys : List (List ℤ)) → i < length ys
     → set (take i ys ++ drop i (x ∷ ys)) i (get_or (take i ys ++ drop i (x ∷ ys)) (suc i) []) ≡ take (suc i) ys ++ drop (suc i) (x ∷ ys)
 moved_up i x [] lt = absurd (omega arith)

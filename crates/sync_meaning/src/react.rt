@@ -22,7 +22,7 @@ use body_lang::Ins;
 use level_meaning::{Feed, Source};
 use syn_base::SensorRows;
 
-/// A delay gives the first of its kept values, and keeps its input behind the others.
+/// A delay gives the first of its kept values, and keeps its input after the others.
 fn react_delay(kept: &mut Ins, ins: &Ins, outs: &mut Ins)
     requires ins { lengths ins.now ≡ length (slice_index_or ins.now 0 []) ∷ [] }
     requires kept { AreOf (length (slice_index_or ins.now 0 [])) kept.old }
@@ -36,7 +36,7 @@ fn react_delay(kept: &mut Ins, ins: &Ins, outs: &mut Ins)
     keep_last(kept, ins.vector(0));
 }
 
-/// Drops the first of the kept values, and keeps this one behind the others. It takes no memory.
+/// Drops the first of the kept values, and keeps this one after the others. It takes no memory.
 fn keep_last(kept: &mut Ins, last: &[i64])
     requires { AreOf (length last.now) kept.old }
     ensures kept { kept.new ≡ drop 1 kept.old ++ last.now ∷ [] }
@@ -312,7 +312,7 @@ fn advance(vertex: &Vertex, own: &Ins, table: &[Ins], store: &mut Store)
     }
 }
 
-/// A delay keeps the value at its input behind the others.
+/// A delay keeps the value at its input after the others.
 fn take_input(kept: &mut Ins, sources: &[Source], own: &Ins, table: &[Ins])
     requires some { 0 < length sources.now }
     requires there { AreLengths (map (source_length (lengths own.now) (map lengths table.now)) sources.now) }

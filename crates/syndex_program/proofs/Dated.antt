@@ -45,6 +45,6 @@ module _ (g : Graph) (a : Archi) (t : Table) (n : ℕ) where
   abbrev pub behind : List ℕ → Made
   behind ticks = program_plan g a t (λ p. give (written (dates_text g a (schedule_of g a t) ticks n)))
 
--- what is made behind an architecture
+-- what is made after an architecture
 abbrev pub behind_architecture : Bytes → ℕ → Vertex → Described → Table → Made
 behind_architecture name n main d t = read_file Durations name (λ text. dated_in text (flat_of main) d.archi t n)

@@ -27,7 +27,7 @@ use Rattle.syndex_program.specs.declared.execution.Execution.{Execution}
 abbrev pub executed : Execution → Executed
 executed x = execution x.tree x.text.archi x.program x.rows
 
--- The flat graph is the algorithm's, which is valid and means the same; the parts make a job over all rows, which meets no limit and has so many micro-steps.
+-- The flat graph is the algorithm's, which is valid and means the same; the parts make a job over all rows, which meets no limit and has this many micro-steps.
 pub record IsExecuted (x : Execution) : Type 0 where
   pub flat : x.flat ≡ flat_of x.tree
   pub has : HasFlat x.tree

@@ -17,7 +17,7 @@ use outside::Shelf;
 use std::alloc::Global;
 use syn_base::OutOfMemory;
 
-/// The canonical text of an algorithm, and behind an empty line that of an architecture where one is
+/// The canonical text of an algorithm, and after an empty line that of an architecture where one is
 /// named; or why there is none.
 pub fn check_texts<S: Shelf>(
     alloc: Global,

@@ -28,7 +28,7 @@ use sequence_build::{BuildError, build};
 use std::alloc::Global;
 use syn_base::OutOfMemory;
 
-/// The dates of so many reactions of an algorithm on an architecture, where operations and transfers last as
+/// The dates of this many reactions of an algorithm on an architecture, where operations and transfers last as
 /// long as a text of durations says, or why there are none.
 pub fn dates_listing<S: Shelf>(
     alloc: Global,
@@ -49,7 +49,7 @@ pub fn dates_listing<S: Shelf>(
     dated(alloc, &architecture, &schedule, &text, reactions)
 }
 
-/// The dates of so many reactions of the schedule by the text of the durations, or why there are none.
+/// The dates of this many reactions of the schedule by the text of the durations, or why there are none.
 fn dated(
     alloc: Global,
     architecture: &Architecture,
@@ -99,7 +99,7 @@ fn built_by(
     }
 }
 
-/// The text of the dates of so many reactions that last these ticks each.
+/// The text of the dates of this many reactions that last these ticks each.
 fn listed(
     alloc: Global,
     architecture: &Architecture,

@@ -53,7 +53,7 @@ fn output_width(alloc: Global, tree: &Tree) -> Result<usize, OutOfMemory>
     Ok(shape.width())
 }
 
-/// Whether so many reactions of so many elements are more than an output may have.
+/// Whether this many reactions of this many elements are more than an output may have.
 fn excess(reactions: usize, width: usize) -> Option<LimitFault>
     ensures { result ≡ excess (reactions * width) }
 {

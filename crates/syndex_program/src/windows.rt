@@ -11,7 +11,7 @@ use job_windows::JobWindows;
 use std::alloc::Global;
 use syn_base::OutOfMemory;
 
-/// All windows of an execution with their lines, to be run by so many workers, or by one for each sequence.
+/// All windows of an execution with their lines, to be run by this many workers, or by one for each sequence.
 pub fn lines_of<'a>(
     alloc: Global,
     execution: &'a Execution,
@@ -27,7 +27,7 @@ pub fn lines_of<'a>(
     })
 }
 
-/// All windows of an execution, to be run by so many workers, or by one for each sequence.
+/// All windows of an execution, to be run by this many workers, or by one for each sequence.
 pub fn windows_of<'a>(
     alloc: Global,
     execution: &'a Execution,
@@ -46,7 +46,7 @@ pub fn windows_of<'a>(
     )
 }
 
-/// How many workers there are: so many as are asked for, or one for each sequence; 1 to 80.
+/// How many workers there are: this many as are asked for, or one for each sequence; 1 to 80.
 fn workers_for(execution: &Execution, workers: Option<u32>) -> u32
     ensures from { 1 ≤ result }
     ensures to { result ≤ 80 }

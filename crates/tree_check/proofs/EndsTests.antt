@@ -31,7 +31,7 @@ as_long : (n : ℕ) → length (numbers_below n) ≡ n
 as_long zero = refl
 as_long (suc n) = omega (arith, length-append (numbers_below n) (n ∷ []), as_long n)
 
--- the element behind a list
+-- the element after a list
 behind : (xs ys : List ℕ) (y : ℕ) → get_or (xs ++ y ∷ ys) (length xs) 0 ≡ y
 behind [] ys y = refl
 behind (x ∷ xs) ys y = behind xs ys y

@@ -59,7 +59,7 @@ reads ms a (p ∷ ps) h =
     ap₂ (λ (n : ℕ) (ns : List ℕ). n ∷ ns) (subst (λ (k : ℕ). get_or ms k 0 ≡ p.len) first (h 0))
     (reads ms (a + 1) ps (λ k. let next : a + suc k ≡ (a + 1) + k = omega arith in subst (λ (j : ℕ). get_or ms j 0 ≡ get_or (lens_of ps) k 0) next (h (suc k))))
 
--- behind the conditioning input
+-- after the conditioning input
 pub case_lengths : (n : ℕ) (ps : List Port) → map (source_length (n ∷ lens_of ps) []) (owns 1 (length ps)) ≡ lens_of ps
 case_lengths n ps = reads (n ∷ lens_of ps) 1 ps (λ k. let next : 1 + k ≡ suc k = omega arith in rw next refl)
 

@@ -57,7 +57,7 @@ Counts ks one n = ((one ≡ 1) × (ks ≡ n ∷ [])) ⊎ ((one ≡ 0) × (ks ≡
 one_more : (n : ℕ) (xs : List ℕ) → numbers_below (suc n) ++ xs ≡ numbers_below (suc n + length xs) → numbers_below n ++ n ∷ xs ≡ numbers_below (n + length (n ∷ xs))
 one_more n xs h = sym (append_assoc (numbers_below n) (n ∷ []) xs) ∙ h ∙ ap numbers_below (let e : suc n + length xs ≡ n + length (n ∷ xs) = omega arith in e)
 
--- one vertex in front of those that are numbered behind it
+-- one vertex in front of those that are numbered after it
 in_front : (ks : List ℕ) (one n : ℕ) (xs : List ℕ) → Counts ks one n → numbers_below (n + one) ++ xs ≡ numbers_below ((n + one) + length xs)
     → numbers_below n ++ (ks ++ xs) ≡ numbers_below (n + length (ks ++ xs))
 in_front ks one n xs (inl c) h =

@@ -75,6 +75,6 @@ module _ (p : Program) where
     abbrev pub is_transfer : ℕ → ℕ → Bool
     is_transfer m t = is_transfer_between m t (sender_of m t) (receiver_of m t)
 
-    -- of each transfer of so many media
+    -- of each transfer of this many media
     abbrev pub are_transfers : ℕ → Bool
     are_transfers media = all_below (λ m. all_below (λ t. is_transfer m t) (transfers p m)) media

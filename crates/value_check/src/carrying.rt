@@ -182,7 +182,7 @@ fn are_kept_on(program: &Program, medium: usize) -> bool
     (0..transfers(program, medium)).all(|number| is_kept(program, Crossing { medium, number }))
 }
 
-/// Whether each received buffer carries what the sent one does, in each transfer of so many media.
+/// Whether each received buffer carries what the sent one does, in each transfer of this many media.
 pub fn are_kept(program: &Program, media: usize) -> bool
     ensures { result ≡ are_kept program.now media }
 {

@@ -25,7 +25,7 @@ pub fn operations_are_called(program: &Program, flat: &Flat, order: &[u32]) -> b
     are_called(program, flat.vertices())
 }
 
-/// Whether each transfer of so many media has its send, its receive and the waits of the other
+/// Whether each transfer of this many media has its send, its receive and the waits of the other
 /// communicators, in this order and before the next send, and receives into a buffer as long as the one
 /// that is sent.
 pub fn transfers_are_right(program: &Program, order: &[u32], media: usize) -> bool
@@ -36,7 +36,7 @@ pub fn transfers_are_right(program: &Program, order: &[u32], media: usize) -> bo
     are_transfers(program, order, media)
 }
 
-/// Whether each received buffer carries what the sent one does, in each transfer of so many media.
+/// Whether each received buffer carries what the sent one does, in each transfer of this many media.
 pub fn transfers_keep_sources(program: &Program, media: usize) -> bool
     ensures test { result ≡ are_kept program.now media }
     ensures sound { result ≡ true → (m t : ℕ) → m < media → t < transfers program.now m → carried program.now (transfer program.now m t).received ≡ carried program.now (transfer program.now m t).sent }

@@ -331,7 +331,7 @@ fn are_transfers_on(program: &Program, order: &[u32], medium: usize) -> bool
     ))
 }
 
-/// Whether each transfer of so many media has its send, its receive and the waits of the others in order,
+/// Whether each transfer of this many media has its send, its receive and the waits of the others in order,
 /// each before the next, and receives into a buffer as long as the one that is sent.
 pub fn are_transfers(program: &Program, order: &[u32], media: usize) -> bool
     ensures { result ≡ are_transfers program.now order.now media }

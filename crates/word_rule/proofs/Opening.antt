@@ -28,7 +28,7 @@ replicate_map : {A B : Type 0} (f : A → B) (n : ℕ) (x : A) → map f (replic
 replicate_map f zero x = refl
 replicate_map f (suc n) x = ap (λ l. f x ∷ l) (replicate_map f n x)
 
--- lists of zeros, one behind the other
+-- lists of zeros, one after the other
 joined_zeros : (xss : List (List ℤ)) → ((h : ℕ) → get_or xss h [] ≡ zeros (length (get_or xss h []))) → all_joined xss ≡ zeros (sum (map length xss))
 joined_zeros [] z = refl
 joined_zeros (xs ∷ xss) z = (λ i. z 0 i ++ joined_zeros xss (λ h. z (suc h)) i) ∙ replicate_more (length xs) (sum (map length xss)) (pos 0) ∙ ap zeros (sym (sum-cons (length xs) (map length xss)))

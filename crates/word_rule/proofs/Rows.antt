@@ -70,7 +70,7 @@ at_end = refl
 at_opening : table_of (opening (job single)) ≡ 0 ∷ 0 ∷ 0 ∷ 0 ∷ 0 ∷ 0 ∷ 0 ∷ 0 ∷ 0 ∷ 0 ∷ 0 ∷ []
 at_opening = refl
 
--- the semaphores stand from word 1 on, the turn at word 5, buffer b at word 6 + b, and the wire at word 10; the second place of a buffer stands behind the first
+-- the semaphores stand from word 1 on, the turn at word 5, buffer b at word 6 + b, and the wire at word 10; the second place of a buffer stands after the first
 places : (word_at (job single) 0 (Take 2) ≡ 3) × (turn_word (job single) 0 ≡ 5) × (element_word (job single) (Buffer 3 0) 1 ≡ 9) × (element_word (job single) (Wire 0 0) 1 ≡ 10)
     × (element_word (job double) (Buffer 0 0) 1 ≡ 7) × (element_word (job double) (Buffer 2 0) 1 ≡ 10)
 places = (refl, refl, refl, refl, refl, refl)

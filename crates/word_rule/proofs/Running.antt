@@ -45,7 +45,7 @@ sum_member f (suc n) s l = by (cases_eq s n) (λ k. sum_member f n s k)
     by (inl q) r = let e = ap f q in omega (arith, e)
     by (inr q) r = let e = r (omega arith) in omega (arith, e)
 
--- place q of so many elements each
+-- place q of this many elements each
 digit_inside : (q n l d : ℕ) → q < d → n < l → q * l + n < d * l
 digit_inside q n l d h k = let c = suc-mul q l in let m = mul-le-mul_right l h in omega (arith, c, m, k)
 

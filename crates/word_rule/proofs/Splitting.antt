@@ -41,7 +41,7 @@ picked_on test (x ∷ xs) s n t h = by (test x.seq) refl (cases_eq x.seq s) (pic
     by false e (inl q) r = absurd (true_false (sym t ∙ ap test (sym q) ∙ e))
     by false e (inr q) r = let a : count_in xs s ≡ Some n = rw (ne_eqb x.seq s q) at h in r a
 
--- two lists of sequences, one behind the other
+-- two lists of sequences, one after the other
 pub both_back : (xs ys : List Count) (s n : ℕ) → count_in (xs ++ ys) s ≡ Some n → (count_in xs s ≡ Some n) ⊎ (count_in ys s ≡ Some n)
 both_back [] ys s n h = inr h
 both_back (x ∷ xs) ys s n h = by (cases_eq x.seq s) (both_back xs ys s n)

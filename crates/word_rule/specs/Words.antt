@@ -58,7 +58,7 @@ module _ (j : JobData) where
   abbrev pub table_len : ℕ
   table_len = suc (2 * length j.program.pairs + (j.media + sum element_lens))
 
--- where these lists begin one behind the other, the first at this word, and where the last one ends
+-- where these lists begin one after the other, the first at this word, and where the last one ends
 abbrev pub starts_from : ℕ → List (List ℤ) → List ℕ
 starts_from first [] = []
 starts_from first (xs ∷ xss) = first ∷ starts_from (first + length xs) xss

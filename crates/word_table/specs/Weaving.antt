@@ -27,7 +27,7 @@ pub record IsNewView (j : JobData) (k : Knowledge) : Type 0 where
   pub there : (s n : ℕ) → count_in k.driven s ≡ Some n → s < length j.program.seqs
   pub none_made : (s n : ℕ) → count_in k.driven s ≡ Some n → n ≡ 0
 
--- Driver number g of so many: it drives the sequences whose number leaves g, and none has made a micro-step.
+-- Driver number g of this many: it drives the sequences whose number leaves g, and none has made a micro-step.
 abbrev pub DrivesGroup : JobData → ℕ → ℕ → View → Type 0
 DrivesGroup j groups g Spent = ⊥
 DrivesGroup j groups g (Holds k) = IsNewView j k × ((s : ℕ) → s < length j.program.seqs → s % groups ≡ g → count_in k.driven s ≡ Some 0) × ((s n : ℕ) → count_in k.driven s ≡ Some n → s % groups ≡ g)

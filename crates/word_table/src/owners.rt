@@ -32,7 +32,7 @@ fn put_calls(turn: &[Instr], seq: u32, callers: &mut Vec<u32>)
     }
 }
 
-/// The sequence that calls each of so many operations: the first one whose loop has a call of it.
+/// The sequence that calls each of this many operations: the first one whose loop has a call of it.
 pub fn callers_of(
     alloc: Global,
     program: &Program,

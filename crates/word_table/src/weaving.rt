@@ -17,7 +17,7 @@ use std::alloc::Global;
 use syn_base::{Items, OutOfMemory};
 use word_rule::{WordSeat, WordTable, job_runs_on_words};
 
-/// What is laid out for the end of a table of so many words and the spare one.
+/// What is laid out for the end of a table of this many words and the spare one.
 fn remains_of(alloc: Global, job: &Job, len: usize) -> Result<Remains, OutOfMemory>
     requires { len ≡ table_len job.now }
     ensures { IfOk result (λ r. AreLaid job.now r) }

@@ -6,7 +6,7 @@ use outside::Gate;
 use std::hint;
 use std::sync::atomic::{AtomicU64, Ordering};
 
-/// After so many turns of waiting a gate gives up.
+/// After this many turns of waiting a gate gives up.
 const TURNS: u32 = 50_000_000;
 
 /// Waits until the word is at least this, and says whether it was.

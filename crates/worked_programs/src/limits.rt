@@ -37,7 +37,7 @@ fn program(alloc: Global, buffers: Vec<Buffer>, turn: Vec<Instr>) -> Result<Prog
     })
 }
 
-/// Rows with so many reactions of zeros.
+/// Rows with this many reactions of zeros.
 fn with_zeros(mut rows: SensorRows, reactions: u32) -> Result<SensorRows, Fail>
     requires { sum rows.lens ≡ 64 }
     ensures { IfOk result (λ all. all.lens ≡ rows.lens) }

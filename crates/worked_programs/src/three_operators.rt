@@ -142,7 +142,7 @@ fn program(alloc: Global, depth: u32) -> Result<Program, Fail> {
     })
 }
 
-/// Makes so many micro-steps of a sequence.
+/// Makes this many micro-steps of a sequence.
 fn make_all(rt: &impl Abort, job: &Job, state: &mut State, seq: u32, times: u32)
     requires { IsOpened job.now state.old }
     ensures { IsOpened job.now state.new }
@@ -187,7 +187,7 @@ fn run_ahead(rt: &impl Abort, alloc: Global, job: &Job, ahead: Ahead) -> Result<
     Ok(())
 }
 
-/// Tries a sequence of the one driver of a table so many times, with the same answer each time.
+/// Tries a sequence of the one driver of a table this many times, with the same answer each time.
 fn try_all<'a>(
     rt: &impl Abort,
     fabric: &Fabric<'a>,

@@ -98,7 +98,7 @@ pub(crate) fn code(
     }
 }
 
-/// A buffer of one element in so many places.
+/// A buffer of one element in this many places.
 pub(crate) fn on(operator: u32, depth: u32) -> Buffer {
     Buffer {
         operator,
@@ -107,7 +107,7 @@ pub(crate) fn on(operator: u32, depth: u32) -> Buffer {
     }
 }
 
-/// The prologue that tells so many times that the buffer of a pair is empty.
+/// The prologue that tells this many times that the buffer of a pair is empty.
 pub(crate) fn opening(alloc: Global, pair: u32, depth: u32) -> Result<Vec<Instr>, Fail> {
     let mut prologue = Vec::new(alloc);
     for _ in 0..depth {
@@ -189,7 +189,7 @@ fn receiver(alloc: Global) -> Result<SeqCode, Fail> {
     Ok(code(1, Some(0), Vec::new(alloc), turn))
 }
 
-/// The program, with buffers of so many places where pairs guard them.
+/// The program, with buffers of this many places where pairs guard them.
 pub(crate) fn program(alloc: Global, depth: u32) -> Result<Program, Fail> {
     let mut seqs = Vec::new(alloc);
     seqs.push(first_computation(alloc)?)?;
@@ -300,7 +300,7 @@ pub(crate) fn graph_of_two(rt: &impl Abort, alloc: Global) -> Result<Flat, Fail>
     Ok(flat(rt, vertices(alloc)?, vec![in alloc; one_more]?))
 }
 
-/// Three reactions of the program, with buffers of so many places, have so many micro-steps in all.
+/// Three reactions of the program, with buffers of this many places, have this many micro-steps in all.
 fn run_all(rt: &impl Abort, alloc: Global, depth: u32, steps: u64, end: &End) -> Result<(), Fail> {
     let flat = graph_of_two(rt, alloc)?;
     let archi = two_operators(rt, alloc)?;

@@ -5,7 +5,7 @@ use Rattle.program_walks.specs.Walks.{all_at}
 use Rattle.buffer_check.specs.Pairs.{guards}
 use Rattle.buffer_check.proofs.guarding.are_guarded.Given as goal
 
--- the pairs of the buffers before this one are right, and so many
+-- the pairs of the buffers before this one are right, and this many
 abbrev pub invariant-loop-buffer : goal.invariant-loop-buffer
 invariant-loop-buffer l = record {
   right : all_at (guards l.program l.order) 0 (blocks (readers_from 0 l.program.seqs) l.buffer) ≡ true;

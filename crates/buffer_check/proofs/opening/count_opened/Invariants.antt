@@ -6,6 +6,6 @@ use Rattle.program_walks.specs.Walks.{passed}
 use Rattle.buffer_check.specs.Opened.{opens}
 use Rattle.buffer_check.proofs.opening.count_opened.Given as goal
 
--- the pairs of the buffers before this one are opened, and so many
+-- the pairs of the buffers before this one are opened, and this many
 abbrev pub invariant-loop-buffer : goal.invariant-loop-buffer
 invariant-loop-buffer l = passed (opens l.program) 0 (blocks (readers_from 0 l.program.seqs) l.buffer) ≡ Some l.pair

@@ -3,6 +3,6 @@ use Rattle.std.specs.Prelude.{replicate}
 use Rattle.executive_program.specs.declared.program.Instr.TheVariants.{Pre0}
 use Rattle.sequence_build.proofs.around.push_signals.Given as goal
 
--- so many were added
+-- this many were added
 abbrev pub invariant-loop : goal.invariant-loop
 invariant-loop l = l.out.items ≡ l.initial.out.items ++ replicate l.counter (Pre0 l.pair)
