@@ -7,8 +7,6 @@
 mod acyclic;
 mod ends;
 mod lens;
-#[cfg(test)]
-mod tests;
 mod tree;
 mod typed;
 mod well;
