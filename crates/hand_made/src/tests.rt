@@ -3,10 +3,11 @@ ghost use Rattle.std.specs.Prelude.{◌≡◌, IfOk};
 ghost use Rattle.algo_tree.specs.Ends.{sensor_lengths};
 ghost use Rattle.algo_tree.specs.View.{view};
 
+use crate::parts::{delay, function, graph, leaf, vertex};
 use act_text::acts_text;
 use algo_tree::{Kind, Tree, Vertex};
-use body_lang::{Body, Expr};
-use level_meaning::{Part, Source};
+use body_lang::Expr;
+use level_meaning::Source;
 use std::alloc::Global;
 use std::process::Abort;
 use std::test::Fail;
@@ -14,70 +15,29 @@ use syn_base::{Items, Op, SensorRows};
 use sync_meaning::simulate;
 use tree_check::is_tree;
 
-fn vertex(
-    alloc: Global,
-    name: &[u8],
-    kind: Kind,
-    ins: &[Source],
-    outs: &[u32],
-    inner: Vec<Vertex>,
-) -> Result<Vertex, Fail> {
-    Ok(Vertex {
-        part: Part::Named(Items::new(Vec::from_slice(alloc, name)?)),
-        definition: Items::new(Vec::from_slice(alloc, b"D")?),
-        ins: Items::new(Vec::from_slice(alloc, ins)?),
-        guards: Items::new(Vec::new(alloc)),
-        outs: Items::new(Vec::from_slice(alloc, outs)?),
-        names: Items::new(Vec::new(alloc)),
-        kind,
-        inner,
-    })
-}
-
-/// A vertex with nothing inside.
-fn leaf(
-    alloc: Global,
-    name: &[u8],
-    kind: Kind,
-    ins: &[Source],
-    outs: &[u32],
-) -> Result<Vertex, Fail> {
-    vertex(alloc, name, kind, ins, outs, Vec::new(alloc))
-}
-
-/// A graph without ports.
-fn graph(alloc: Global, name: &[u8], inner: Vec<Vertex>) -> Result<Vertex, Fail> {
-    let kind = Kind::Graph(Items::new(Vec::new(alloc)));
-    vertex(alloc, name, kind, &[], &[], inner)
-}
-
 fn element(alloc: Global, at: i64) -> Result<Expr, Fail> {
     Ok(Expr::Elem(0, Box::new(alloc, Expr::Lit(at))?))
 }
 
 /// The first element without twice the second: `sub(x[0],mul(2,x[1]))`.
-fn body(alloc: Global) -> Result<Body, Fail> {
+fn difference(alloc: Global) -> Result<Expr, Fail> {
     let two = Box::new(alloc, Expr::Lit(2))?;
     let second = Box::new(alloc, element(alloc, 1)?)?;
     let twice = Box::new(alloc, Expr::Apply(Op::Mul, two, second))?;
     let first = Box::new(alloc, element(alloc, 0)?)?;
-    let outputs = vec![in alloc; Expr::Apply(Op::Sub, first, twice)]?;
-    Ok(Body::new(alloc, outputs)?)
+    Ok(Expr::Apply(Op::Sub, first, twice))
 }
 
 /// A sensor of length 2, declared after all that it reaches, a function of it, a delay of that with
 /// the initial value 3, an actuator of the delay and one of the function.
 fn delayed(alloc: Global) -> Result<Vertex, Fail> {
-    let of_function = [Source::Of(2, 0)];
-    let of_delay = [Source::Of(3, 0)];
-    let group = Items::new(vec![in alloc; 3]?);
-    let held = Items::new(vec![in alloc; group]?);
+    let of_function = Source::Of(2, 0);
+    let of_delay = Source::Of(3, 0);
     let mut inner = Vec::new(alloc);
-    inner.push(leaf(alloc, b"a", Kind::Actuator(0), &of_delay, &[])?)?;
-    inner.push(leaf(alloc, b"b", Kind::Actuator(1), &of_function, &[])?)?;
-    let function = Kind::Function(body(alloc)?);
-    inner.push(leaf(alloc, b"f", function, &[Source::Of(4, 0)], &[1])?)?;
-    inner.push(leaf(alloc, b"d", Kind::Delay(held), &of_function, &[1])?)?;
+    inner.push(leaf(alloc, b"a", Kind::Actuator(0), &[of_delay], &[])?)?;
+    inner.push(leaf(alloc, b"b", Kind::Actuator(1), &[of_function], &[])?)?;
+    inner.push(function(alloc, difference(alloc)?, Source::Of(4, 0))?)?;
+    inner.push(delay(alloc, &[3], of_function)?)?;
     inner.push(leaf(alloc, b"s", Kind::Sensor(0), &[], &[2])?)?;
     graph(alloc, b"main", inner)
 }

@@ -38,8 +38,6 @@ mod program;
 mod run;
 mod sim;
 mod table;
-#[cfg(test)]
-mod tests;
 mod windows;
 
 pub use command_status::Status;

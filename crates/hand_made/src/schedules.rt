@@ -1,0 +1,95 @@
+//! What is no valid schedule, beside what is one.
+ghost use Rattle.std.specs.Prelude.{IfOk, length};
+ghost use Rattle.durations.specs.Lines.{AreDurations};
+
+use crate::graphs::{bus, operations, operators};
+use archi_defs::ArchiText;
+use archi_graph::{Archi, is_archi};
+use durations::durations_of;
+use flat_graph::{Flat, Source, is_flat};
+use schedule::{Decision, Schedule, Transfer, is_valid};
+use std::alloc::Global;
+use std::process::Abort;
+use std::test::Fail;
+use syn_base::Items;
+
+/// A constant that is passed on.
+fn passed_on(rt: &impl Abort, alloc: Global) -> Result<Flat, Fail> {
+    let operations = operations(alloc, 0)?;
+    let bodies = Vec::new(alloc);
+    assert!(rt; is_flat(&operations, &bodies));
+    Ok(Flat::new(operations, bodies))
+}
+
+/// Two operators on a bus, and no durations.
+fn two_operators(rt: &impl Abort, alloc: Global) -> Result<ArchiText, Fail>
+    ensures { IfOk result (λ text. AreDurations (length text.archi.operators) text.lines) }
+{
+    let operators = operators(alloc, &[b"P", b"Q"])?;
+    let media = vec![in alloc; bus(alloc)?]?;
+    assert!(rt; is_archi(&operators, &media));
+    Ok(ArchiText {
+        version: 1,
+        archi: Archi::new(operators, media),
+        lines: Items::new(Vec::new(alloc)),
+    })
+}
+
+/// An operation that lasts no time.
+fn placed(op: u32, operator: u32, at: u64, transfers: Vec<Transfer>) -> Decision {
+    Decision {
+        op,
+        operator,
+        start: at,
+        end: at,
+        transfers: Items::new(transfers),
+    }
+}
+
+/// The constant is made on the first operator at 0, brought to the second one until 2, and passed on there at
+/// this date.
+fn schedule(alloc: Global, at: u64) -> Result<Schedule, Fail> {
+    let transfer = Transfer {
+        source: Source { vertex: 0, port: 0 },
+        medium: 0,
+        from: 0,
+        to: 1,
+        start: 0,
+        end: 2,
+    };
+    let made = placed(0, 0, 0, Vec::new(alloc));
+    let passed = placed(1, 1, at, vec![in alloc; transfer]?);
+    Ok(Schedule {
+        decisions: Items::new(vec![in alloc; made, passed]?),
+    })
+}
+
+/// Whether the constant may be passed on at this date.
+fn may_be_passed_on(
+    rt: &impl Abort,
+    alloc: Global,
+    flat: &Flat,
+    text: &ArchiText,
+    at: u64,
+) -> Result<bool, Fail>
+    requires { AreDurations (length text.now.archi.operators) text.now.lines }
+{
+    let durations = durations_of(alloc, flat, text)?;
+    assert_eq!(rt; durations.operations(), flat.vertices().len());
+    assert_eq!(rt;
+        durations.operators() as usize,
+        text.archi.operators().len()
+    );
+    let schedule = schedule(alloc, at)?;
+    Ok(is_valid(flat, &text.archi, &durations, &schedule))
+}
+
+#[test]
+fn an_operation_waits_for_what_it_reads(rt: HostRuntime) -> Result<(), Fail> {
+    let alloc = rt.alloc();
+    let flat = passed_on(&rt, alloc)?;
+    let text = two_operators(&rt, alloc)?;
+    assert_eq!(rt; may_be_passed_on(&rt, alloc, &flat, &text, 2)?, true);
+    assert_eq!(rt; may_be_passed_on(&rt, alloc, &flat, &text, 1)?, false);
+    Ok(())
+}
