@@ -40,7 +40,15 @@ static void __attribute__((destructor)) tell(void) {
 """
 
 
-def commands():
+def code_of(room, name, words):
+    """The file of the macro-code that the program writes for an example."""
+    file = f"{room}/{name}.code"
+    with open(file, "wb") as it:
+        subprocess.run([PROGRAM, "code", *words], stdout=it, stdin=subprocess.DEVNULL, check=True)
+    return file
+
+
+def commands(room):
     """The words of each command over each example, and some that are refused."""
     for name in sorted(os.listdir(f"{TOP}/examples")):
         a, h, s = (f"{TOP}/examples/{name}/{it}" for it in ("algorithm.txt", "architecture.txt", "sensors.csv"))
@@ -51,6 +59,10 @@ def commands():
                 yield words
         if os.path.exists(h) and os.path.exists(s):
             yield ["run", a, h, s, "--workers", "2"]
+            yield ["exec", a, h, code_of(room, name, [a, h]), s, "--workers", "2"]
+            yield ["exec", a, h, h, s]
+            yield ["dates", a, h, h, "3"]
+            yield ["dates", a, h, a, "3"]
             yield ["sim", a, h]
     yield from (["check", "absent"], ["load", "1"], ["load", "0"], ["help"], [])
 
@@ -76,7 +88,7 @@ def main():
     wrong = 0
     with tempfile.TemporaryDirectory() as room:
         runs = Runs(room)
-        for words in commands():
+        for words in commands(room):
             right, calls = runs.answer(words)
             wants = 0
             for number in range(1, calls + 1):
