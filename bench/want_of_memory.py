@@ -1,6 +1,6 @@
 #!/usr/bin/env python3
 """Makes each allocation of the built program fail in turn, for each command over the examples: the answer has to be the right
-one, or want of memory with nothing written. Prints a line a command with the number of its allocations; ends with status 1
+one, or want of memory with nothing written; of `run` and `exec`, which write window by window, with the first part of what is right. Prints a line a command with the number of its allocations; ends with status 1
 where an answer is wrong.
 
 The program is the one that ./build makes. A small library in C, compiled with `cc` and loaded before the C library, lets the Nth
@@ -37,6 +37,8 @@ static void __attribute__((destructor)) tell(void) {
     int file = path ? open(path, O_WRONLY | O_TRUNC | O_CREAT, 0600) : -1;
     if (file >= 0) { int n = snprintf(text, sizeof text, "%ld", calls); if (write(file, text, n) < 0) abort(); close(file); }
 }
+/* The program may end by this call, which runs no destructor. */
+void _exit(int status) { static void (*next)(int); tell(); NEXT("_exit"); next(status); __builtin_unreachable(); }
 """
 
 
@@ -84,6 +86,13 @@ class Runs:
             return (done.returncode, done.stdout, done.stderr), int(it.read())
 
 
+def is_want(words, got, right):
+    """Whether this is want of memory, with nothing written but what the command may write before it."""
+    status, output, line = got
+    may_begin = words[:1] in (["run"], ["exec"])
+    return (status, b"", line) == WANT and (not output or may_begin and right[1].startswith(output))
+
+
 def main():
     wrong = 0
     with tempfile.TemporaryDirectory() as room:
@@ -93,8 +102,8 @@ def main():
             wants = 0
             for number in range(1, calls + 1):
                 got = runs.answer(words, number)[0]
-                wants += got == WANT
-                if got not in (WANT, right):
+                wants += is_want(words, got, right)
+                if got != right and not is_want(words, got, right):
                     wrong += 1
                     print(f"WRONG with allocation {number}: {' '.join(words)}: {got}")
             shown = " ".join(os.path.relpath(it, f"{TOP}/examples") if "/" in it else it for it in words)
