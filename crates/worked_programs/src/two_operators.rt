@@ -279,7 +279,7 @@ fn run(
     match job(rt, program, flat, archi, &rows, opening, &ORDER) {
         Ok(job) => {
             the_greatest_first(rt, alloc, &job, steps)?;
-            for groups in [1, 2] {
+            for groups in [1, 2, 3, 4, 80] {
                 let closed = drive(rt, alloc, &job, groups, end)?;
                 expect(rt, closed.rows(), &[[6, 6], [0, 0], [1, 1]]);
             }
