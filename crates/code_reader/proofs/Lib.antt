@@ -2,7 +2,6 @@ pub mod Cuts
 pub mod Each
 pub mod Following
 pub mod Found
-pub mod LineCounts
 pub mod LineWords
 pub mod Lists
 pub mod Naming
