@@ -1,7 +1,7 @@
 #!/usr/bin/env python3
 """The processor time of the gate, crate by crate: for its proof, its tests and its must-fail edits.
 
-    bench/gate.py ci            runs `rt ci` and measures it: while it runs, the time of each process of the prover is looked at
+    bench/gate.py ci [NAME..]   runs `rt ci` and measures it: while it runs, the time of each process of the prover is looked at
                                 every half second, and booked on the crate and the kind of work that its words name.
                                 A process's last half second is not seen.
     bench/gate.py parts [NAME..] measures the parts themselves, one crate at a time, in a copy of the repository: the tests from nothing,
@@ -115,10 +115,10 @@ def watch(process):
     return table
 
 
-def measure_ci():
+def measure_ci(names):
     """Runs the gate with its own output, and prints the table."""
     start = time.monotonic()
-    with subprocess.Popen(["rt", "ci"], cwd=TOP, stdin=subprocess.DEVNULL) as process:
+    with subprocess.Popen(["rt", "ci", *names], cwd=TOP, stdin=subprocess.DEVNULL) as process:
         try:
             table = watch(process)
         except (OSError, ValueError, IndexError) as fault:
@@ -187,10 +187,11 @@ def measure(table, name, folder, top):
 
 
 def main(words):
-    if words == ["ci"]:
-        return measure_ci()
-    if words[:1] == ["parts"] and all(it in crates() for it in words[1:]):
-        return measure_parts(words[1:])
+    part, names = words[:1], words[1:]
+    if part == ["ci"] and all(it in crates() for it in names):
+        return measure_ci(names)
+    if part == ["parts"] and all(it in crates() for it in names):
+        return measure_parts(names)
     print(__doc__, file=sys.stderr)
     return 2
 
