@@ -22,7 +22,8 @@ use Rattle.semaphore_core.specs.Operation.{delay_of}
 use Rattle.semaphore_core.specs.AtOpening.{AreDesks}
 use Rattle.semaphore_core.specs.Job.{JobData, reactions, total_steps, actuator_lens}
 use Rattle.semaphore_core.specs.IsJob.{IsJob}
-use Rattle.semaphore_core.specs.Held.{Kept, AreReady, HasRow, NeedsReaction}
+use Rattle.semaphore_core.specs.Parts.{Kept}
+use Rattle.semaphore_core.specs.Held.{AreReady, HasRow, NeedsReaction}
 use Rattle.semaphore_core.proofs.Numbered.{actuator_at, sensor_at, delay_cell, no_delay}
 use Rattle.semaphore_core.proofs.Limits.{limits_kept}
 use Rattle.semaphore_core.proofs.Prologues.{opening_bare}

@@ -18,8 +18,9 @@ use Rattle.semaphore_core.specs.Job.{JobData}
 use Rattle.semaphore_core.specs.IsJob.{IsJob}
 use Rattle.semaphore_core.specs.Core.{Core, opening}
 use Rattle.semaphore_core.specs.Held.{Held, IsOpened, AreReady, HasRow, Fits, highest}
-use Rattle.semaphore_core.specs.AtOpening.{room_of, all_registers}
-use Rattle.semaphore_core.proofs.Viewing.{values_of, rooms_of}
+use Rattle.semaphore_core.specs.Parts.{Kept, Parts}
+use Rattle.semaphore_core.specs.AtOpening.{room_of, all_registers, AreAtOpening}
+use Rattle.semaphore_core.proofs.Viewing.{values_of, rooms_of, parts_of}
 use Rattle.semaphore_core.proofs.Jobs.{has_places, few_steps, prologue_bare}
 
 zero_at : (n i : ℕ) → ◌≡◌ {A = ℕ} (slice_index_or (replicate n 0) i 0) 0
@@ -88,21 +89,24 @@ rooms_empty : (g : Graph) (code : List SeqSteps) → rooms_of (all_registers g c
 rooms_empty g [] = refl
 rooms_empty g (q ∷ code) = λ i. room_of g q ∷ rooms_empty g code i
 
-module _ (j : JobData) (p : Program) (same : p ≡ j.program) (code : List SeqSteps) (are : AreSteps p code) (regs : List RegisterFile) (empty : regs ≡ all_registers j.graph code) where
-  pub steps_of_job : AreSteps j.program code
+pub at_opening : (j : JobData) (g : Graph) → g ≡ j.graph → (code : List SeqSteps) (files : List RegisterFile) → files ≡ all_registers g code → (kept : Kept) → kept.cells ≡ j.opening → AreReady j kept
+    → AreAtOpening j code (parts_of files kept)
+at_opening j g same code files e kept cells ready = record {
+  registers = ap values_of e ∙ values_empty g code;
+  rooms = ap rooms_of e ∙ rooms_empty g code ∙ ap (λ (h : Graph). map (room_of h) code) same;
+  cells = cells;
+  ready = ready;
+}
+
+module _ (j : JobData) (p : Program) (same : p ≡ j.program) (code : List SeqSteps) (are : AreSteps p code) (own : Parts) (at : AreAtOpening j code own) where
+  steps_of_job : AreSteps j.program code
   steps_of_job = subst (λ (q : Program). AreSteps q code) same are
 
-  code_long : length code ≡ length j.program.seqs
-  code_long = ap (λ (l : List SeqSteps). length l) steps_of_job ∙ length-map j.program.seqs (expanded j.program)
-
-  pub registers_empty : values_of regs ≡ replicate (length j.program.seqs) []
-  registers_empty = ap values_of empty ∙ values_empty j.graph code ∙ ap (λ (n : ℕ). replicate n []) code_long
+  pub registers_empty : own.registers ≡ replicate (length j.program.seqs) []
+  registers_empty = at.registers ∙ ap (λ (n : ℕ). replicate n []) (ap (λ (l : List SeqSteps). length l) steps_of_job ∙ length-map j.program.seqs (expanded j.program))
 
   -- a state with these parts is open
-  pub state_open : IsJob j → (core : Core) (lens : List ℕ) (desks : List DeskLens) → ((v : ℕ) → HasRow j lens v) → core ≡ opening j → AreReady j (record { cells = core.cells; rows = core.rows; lens = lens; desks = desks })
-      → IsOpened j (record { core = core; steps = code; rooms = rooms_of regs; lens = lens; desks = desks })
-  state_open job core lens desks laid_out e ready = subst (λ (h : Held). IsOpened j h) (λ i. record { core = sym e i; steps = code; rooms = sym rooms i; lens = lens; desks = desks })
-      (opening_open j code steps_of_job job lens desks laid_out (subst (λ (z : Core). AreReady j (record { cells = z.cells; rows = z.rows; lens = lens; desks = desks })) e ready))
-    where
-      rooms : rooms_of regs ≡ map (room_of j.graph) code
-      rooms = ap rooms_of empty ∙ rooms_empty j.graph code
+  pub state_open : IsJob j → (core : Core) → ((v : ℕ) → HasRow j own.kept.lens v) → core ≡ opening j → AreReady j (record { cells = core.cells; rows = core.rows; lens = own.kept.lens; desks = own.kept.desks })
+      → IsOpened j (record { core = core; steps = code; rooms = own.rooms; lens = own.kept.lens; desks = own.kept.desks })
+  state_open job core laid_out e ready = subst (λ (h : Held). IsOpened j h) (λ i. record { core = sym e i; steps = code; rooms = sym at.rooms i; lens = own.kept.lens; desks = own.kept.desks })
+      (opening_open j code steps_of_job job own.kept.lens own.kept.desks laid_out (subst (λ (z : Core). AreReady j (record { cells = z.cells; rows = z.rows; lens = own.kept.lens; desks = own.kept.desks })) e ready))

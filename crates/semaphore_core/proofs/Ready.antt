@@ -15,7 +15,8 @@ use Rattle.executive_program.specs.declared.steps.OnStore.TheVariants.{Give, Car
 use Rattle.semaphore_core.specs.Operation.{vectors_from, lens_in, conditions_in, inputs_in, delay_of, HasCell, cell_at, with_cell, rows_by}
 use Rattle.semaphore_core.specs.Registers.{Own, compute_by, absorb_by, after_by, gathered, with_registers}
 use Rattle.semaphore_core.specs.Job.{JobData}
-use Rattle.semaphore_core.specs.Held.{Kept, AreReady, HasRow, LoadHasRow, StoreHasRow, with_kept}
+use Rattle.semaphore_core.specs.Parts.{Kept, with_kept}
+use Rattle.semaphore_core.specs.Held.{AreReady, HasRow, LoadHasRow, StoreHasRow}
 use Rattle.semaphore_core.proofs.Operate.{cell_fits, kept_len}
 
 pub has_cell : (j : JobData) (k : Kept) → AreReady j k → (v : ℕ) (x : Vertex) → slice_get j.graph.vertices v ≡ Some x → HasCell k.cells (delay_of j.graph v x) (cell_len j.graph v)

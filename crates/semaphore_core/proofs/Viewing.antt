@@ -1,4 +1,4 @@
--- What a load, a store and the other micro-steps leave of a state, by its parts.
+-- What a load and a store leave of the parts of the sequences, and of a state.
 use Rattle.std.proofs.Common.{◌≡◌, ℕ, ◌+◌, ◌<◌, List, [], map, length, get_or, refl, sym, ap, ◌∙◌, ℤ}
 use Rattle.std.specs.Prelude.{slice_set}
 use Rattle.std.specs.Option.{option_map}
@@ -11,11 +11,12 @@ use Rattle.executive_program.specs.declared.steps.OnStore.{OnStore}
 use Rattle.executive_program.specs.declared.expand.SeqSteps.{SeqSteps}
 use Rattle.executive_program.specs.declared.program.Program.{Program}
 use Rattle.semaphore_core.specs.RegisterFile.{RegisterFile}
-use Rattle.semaphore_core.specs.Registers.{Own, absorb_by, emit_by, after_by}
+use Rattle.semaphore_core.specs.Registers.{Own}
 use Rattle.semaphore_core.specs.Elements.{element_in, with_element_in}
 use Rattle.semaphore_core.specs.Job.{JobData}
-use Rattle.semaphore_core.specs.Core.{Core, home_of, slot_of, own, element_of, with_element, with_own, load_by, store_by}
-use Rattle.semaphore_core.specs.Held.{Held, Kept, own_of, with_values, with_kept, absorbed, emitted, left}
+use Rattle.semaphore_core.specs.Parts.{Kept, Parts, own_of, own_at, with_values, with_kept, with_own, with_load, with_store, value_stored}
+use Rattle.semaphore_core.specs.Core.{Core, home_of, slot_of, element_of, load_by, store_by}
+use Rattle.semaphore_core.specs.Held.{Held}
 
 -- an element that was read by an index
 pub read_at : {A : Type 0} (xs : List A) (s : ℕ) (x d : A) → s < length xs → x ≡ get_or xs s x → get_or xs s d ≡ x
@@ -30,70 +31,47 @@ values_of regs = map (λ (r : RegisterFile). r.values) regs
 abbrev pub rooms_of : List RegisterFile → List ℕ
 rooms_of regs = map (λ (r : RegisterFile). r.room) regs
 
--- the state that has these parts
-abbrev pub core_of : List ℕ → List ℕ → List ℕ → List (List ℤ) → List RegisterFile → Kept → Core
-core_of counts semaphores turns elements regs kept = record { counts = counts; semaphores = semaphores; turns = turns; elements = elements; registers = values_of regs; cells = kept.cells; rows = kept.rows }
+abbrev pub parts_of : List RegisterFile → Kept → Parts
+parts_of files kept = record { registers = values_of files; rooms = rooms_of files; kept = kept }
 
-abbrev pub held_of : List ℕ → List ℕ → List ℕ → List (List ℤ) → List RegisterFile → Kept → List SeqSteps → Held
-held_of counts semaphores turns elements regs kept steps = record { core = core_of counts semaphores turns elements regs kept; steps = steps; rooms = rooms_of regs; lens = kept.lens; desks = kept.desks }
+module _ (files : List RegisterFile) (kept : Kept) (s : ℕ) (r r' : RegisterFile) (there : s < length files) (r_is : r ≡ get_or files s r) where
+  pub own_is : own_of r kept ≡ own_at (parts_of files kept) s
+  own_is = ap (λ (l : List ℤ). record { registers = l; cells = kept.cells; rows = kept.rows }) (sym (read_map (λ (f : RegisterFile). f.values) files s r [] there r_is))
 
-module _ (j : JobData) (counts semaphores turns : List ℕ) (elements : List (List ℤ)) (regs : List RegisterFile) (kept : Kept) (steps : List SeqSteps) (s k n : ℕ) (r r' : RegisterFile)
-    (few : s < length counts) (there : s < length regs) (n_is : n ≡ get_or counts s n) (r_is : r ≡ get_or regs s r) where
-  abbrev z : Core
-  z = core_of counts semaphores turns elements regs kept
-
-  own_is : own j z s ≡ own_of r kept
-  own_is = ap (λ (l : List ℤ). record { registers = l; cells = kept.cells; rows = kept.rows }) (read_map (λ (f : RegisterFile). f.values) regs s r [] there r_is)
-
-  -- the sequence has this of its own now
-  left_by : (elements' more : List (List ℤ)) (kept' : Kept) (o o' : Own) → o ≡ o' → r' ≡ with_values r o → kept' ≡ with_kept kept o → elements' ≡ more
-      → held_of (slice_set counts s (n + 1)) semaphores turns elements' (slice_set regs s r') kept' steps ≡ record { core = with_own j z s more o'; steps = steps; rooms = rooms_of regs; lens = kept.lens; desks = kept.desks }
-  left_by elements' more kept' o o' q a b e = λ i. record {
-    core = record {
-      counts = slice_set counts s (count_is i + 1);
-      semaphores = semaphores;
-      turns = turns;
-      elements = e i;
-      registers = registers_are i;
-      cells = cells_are i;
-      rows = rows_are i;
-    };
-    steps = steps;
-    rooms = rooms_are i;
-    lens = lens_are i;
-    desks = desks_are i;
-  }
+  -- the registers of s, and what the operations keep, were changed as this says
+  pub changed : (kept' : Kept) (f : Own → Own) → r' ≡ with_values r (f (own_of r kept)) → kept' ≡ with_kept kept (f (own_of r kept))
+      → parts_of (slice_set files s r') kept' ≡ with_own (parts_of files kept) s (f (own_at (parts_of files kept) s))
+  changed kept' f a b = λ i. record { registers = registers_are i; rooms = rooms_are i; kept = (b ∙ ap (λ (c : Own). with_kept kept (f c)) own_is) i }
     where
-      cells_are : kept'.cells ≡ o'.cells
-      cells_are = ap (λ (c : Kept). c.cells) b ∙ ap (λ (c : Own). c.cells) q
+      registers_are : values_of (slice_set files s r') ≡ slice_set (values_of files) s (f (own_at (parts_of files kept) s)).registers
+      registers_are = map-set (λ (f : RegisterFile). f.values) files s r'
+          ∙ ap (λ (v : RegisterFile). slice_set (values_of files) s v.values) (a ∙ ap (λ (c : Own). with_values r (f c)) own_is)
 
-      rows_are : kept'.rows ≡ o'.rows
-      rows_are = ap (λ (c : Kept). c.rows) b ∙ ap (λ (c : Own). c.rows) q
+      rooms_are : rooms_of (slice_set files s r') ≡ rooms_of files
+      rooms_are = map-set_same (λ (f : RegisterFile). f.room) files s r' r (ap (λ (f : RegisterFile). f.room) a ∙ ap (λ (f : RegisterFile). f.room) r_is)
 
-      lens_are : kept'.lens ≡ kept.lens
-      lens_are = ap (λ (c : Kept). c.lens) b
+-- the state that has these parts
+abbrev pub core_of : List ℕ → List ℕ → List ℕ → List (List ℤ) → Parts → Core
+core_of counts semaphores turns elements p = record { counts = counts; semaphores = semaphores; turns = turns; elements = elements; registers = p.registers; cells = p.kept.cells; rows = p.kept.rows }
 
-      desks_are : kept'.desks ≡ kept.desks
-      desks_are = ap (λ (c : Kept). c.desks) b
+abbrev pub held_of : List ℕ → List ℕ → List ℕ → List (List ℤ) → Parts → List SeqSteps → Held
+held_of counts semaphores turns elements p steps = record { core = core_of counts semaphores turns elements p; steps = steps; rooms = p.rooms; lens = p.kept.lens; desks = p.kept.desks }
 
-      count_is : n ≡ get_or counts s 0
-      count_is = sym (read_at counts s n 0 few n_is)
+module _ (j : JobData) (counts semaphores turns : List ℕ) (elements : List (List ℤ)) (p : Parts) (steps : List SeqSteps) (s k n : ℕ) (few : s < length counts) (n_is : n ≡ get_or counts s n) where
+  abbrev z : Core
+  z = core_of counts semaphores turns elements p
 
-      registers_are : values_of (slice_set regs s r') ≡ slice_set (values_of regs) s o'.registers
-      registers_are = map-set (λ (f : RegisterFile). f.values) regs s r' ∙ ap (λ (l : List ℤ). slice_set (values_of regs) s l) (ap (λ (f : RegisterFile). f.values) a ∙ ap (λ (c : Own). c.registers) q)
+  count_is : n ≡ get_or counts s 0
+  count_is = sym (read_at counts s n 0 few n_is)
 
-      rooms_are : rooms_of (slice_set regs s r') ≡ rooms_of regs
-      rooms_are = map-set_same (λ (f : RegisterFile). f.room) regs s r' r (ap (λ (f : RegisterFile). f.room) a ∙ ap (λ (f : RegisterFile). f.room) r_is)
+  pub loaded : (x : Place) (then : OnLoad) (v : ℤ) (p' : Parts) → v ≡ element_of j z x k → p' ≡ with_load j p s k then v
+      → held_of (slice_set counts s (n + 1)) semaphores turns elements p' steps ≡ record { core = load_by j z s x then k; steps = steps; rooms = p.rooms; lens = p.kept.lens; desks = p.kept.desks }
+  loaded x then v p' e q = λ i. held_of (slice_set counts s (count_is i + 1)) semaphores turns elements ((q ∙ ap (with_load j p s k then) e) i) steps
 
-  pub loaded : (x : Place) (then : OnLoad) (v : ℤ) (kept' : Kept) → v ≡ element_of j z x k → r' ≡ with_values r (absorbed j then k r kept v) → kept' ≡ with_kept kept (absorbed j then k r kept v)
-      → held_of (slice_set counts s (n + 1)) semaphores turns elements (slice_set regs s r') kept' steps ≡ record { core = load_by j z s x then k; steps = steps; rooms = rooms_of regs; lens = kept.lens; desks = kept.desks }
-  loaded x then v kept' e a b = left_by elements elements kept' _ _ (λ i. absorb_by j.graph j.sensors then k (sym own_is i) (e i)) a b refl
-
-  pub stored : (x : Place) (what : OnStore) (v : ℤ) (home slot : ℕ) (elements' : List (List ℤ)) (kept' : Kept) → v ≡ emitted j what k r kept → home ≡ home_of j.program x → slot ≡ slot_of j.program x k
-      → elements' ≡ with_element_in elements home slot v → r' ≡ with_values r (left j what k r kept) → kept' ≡ with_kept kept (left j what k r kept)
-      → held_of (slice_set counts s (n + 1)) semaphores turns elements' (slice_set regs s r') kept' steps ≡ record { core = store_by j z s x what k; steps = steps; rooms = rooms_of regs; lens = kept.lens; desks = kept.desks }
-  stored x what v home slot elements' kept' e h t f a b = left_by elements' (with_element j z x k (emit_by j.graph j.sensors what k (own j z s))) kept' _ _ (λ i. after_by j.graph j.sensors what k (sym own_is i)) a b
-      (f ∙ (λ i. with_element_in elements (h i) (t i) ((e ∙ ap (emit_by j.graph j.sensors what k) (sym own_is)) i)))
+  pub stored : (x : Place) (what : OnStore) (v : ℤ) (home slot : ℕ) (elements' : List (List ℤ)) (p' : Parts) → v ≡ value_stored j p s k what → home ≡ home_of j.program x → slot ≡ slot_of j.program x k
+      → elements' ≡ with_element_in elements home slot v → p' ≡ with_store j p s k what
+      → held_of (slice_set counts s (n + 1)) semaphores turns elements' p' steps ≡ record { core = store_by j z s x what k; steps = steps; rooms = p.rooms; lens = p.kept.lens; desks = p.kept.desks }
+  stored x what v home slot elements' p' e h t f q = λ i. held_of (slice_set counts s (count_is i + 1)) semaphores turns ((f ∙ (λ l. with_element_in elements (h l) (t l) (e l))) i) (q i) steps
 
 -- an element that was read where it lies
 pub found : (j : JobData) (z : Core) (p : Program) (x : Place) (k home slot : ℕ) (lists : List (List ℤ)) (w v : ℤ) → p ≡ j.program → lists ≡ z.elements → home ≡ home_of p x → slot ≡ slot_of p x k → w ≡ element_in lists home slot → v ≡ w

@@ -1,5 +1,5 @@
 -- What a state holds beside the state of a run: the micro-steps of its program, laid out, and the room of its registers.
-use Rattle.std.specs.Prelude.{◌≡◌, ℕ, ◌+◌, ◌<◌, ◌≤◌, ◌^◌, cond, true, max, nat_lt, sum, List, [], ◌∷◌, length, Option, Some, None, slice_get, slice_index_or, ℤ}
+use Rattle.std.specs.Prelude.{◌≡◌, ℕ, ◌+◌, ◌<◌, ◌≤◌, ◌^◌, cond, true, max, nat_lt, sum, List, [], ◌∷◌, length, Option, Some, None, slice_get, slice_index_or}
 use Rattle.interleavings.specs.Owners.{sum_below}
 use Rattle.executive_program.specs.declared.steps.OnLoad.{OnLoad}
 use Rattle.executive_program.specs.declared.steps.OnLoad.TheVariants.{Gather, Carry as CarryIn, Compute as ComputeIn}
@@ -9,7 +9,7 @@ use Rattle.executive_program.specs.declared.steps.MicroStep.{MicroStep}
 use Rattle.executive_program.specs.declared.steps.MicroStep.TheVariants.{Signal, Advance, Load, Store}
 use Rattle.executive_program.specs.declared.expand.SeqSteps.{SeqSteps}
 use Rattle.executive_program.specs.Expanded.{AreSteps}
-use Rattle.level_meaning.specs.Level.{Values, vector_at}
+use Rattle.level_meaning.specs.Level.{vector_at}
 use Rattle.flat_graph.specs.declared.vertex.Vertex.{Vertex}
 use Rattle.flat_graph.specs.declared.vertex.Kind.TheVariants.{Actuator, Sensor}
 use Rattle.flat_graph.specs.Valid.{is_flat}
@@ -17,43 +17,13 @@ use Rattle.semaphore_core.specs.Operation.{delay_of}
 use Rattle.flat_graph.specs.Graph.{Graph, lens_of}
 use Rattle.flat_graph.specs.Fire.{out_lens, cell_len, seen_len}
 use Rattle.semaphore_core.specs.Desk.{DeskLens, IsDesk}
-use Rattle.semaphore_core.specs.RegisterFile.{RegisterFile}
-use Rattle.semaphore_core.specs.Registers.{Own, compute, absorb_by, emit_by, after_by}
+use Rattle.semaphore_core.specs.Parts.{Kept}
 use Rattle.executive_program.specs.Steps.{steps}
 use Rattle.executive_program.specs.Instructions.{HasPlaces}
 use Rattle.semaphore_core.specs.Job.{JobData, reactions, total_steps}
 use Rattle.semaphore_core.specs.Core.{Core, count, full, is_enabled, IsReached}
 use Rattle.semaphore_core.specs.declared.answer.StepAnswer.{StepAnswer}
 use Rattle.semaphore_core.specs.declared.answer.StepAnswer.TheVariants.{Stepped, NotYet, Finished}
-
--- the delays' cells, the actuators' rows with the lengths of their vectors, and the operations' desks
-pub record Kept : Type 0 where
-  pub cells : Values
-  pub rows : List Values
-  pub lens : List ℕ
-  pub desks : List DeskLens
-
-abbrev pub own_of : RegisterFile → Kept → Own
-own_of r k = record { registers = r.values; cells = k.cells; rows = k.rows }
-
--- the registers, cells and rows of this, and the rest as it is
-abbrev pub with_values : RegisterFile → Own → RegisterFile
-with_values r c = record r { values = c.registers }
-
-abbrev pub with_kept : Kept → Own → Kept
-with_kept kept c = record kept { cells = c.cells; rows = c.rows }
-
-abbrev pub computed : JobData → ℕ → ℕ → RegisterFile → Kept → Own
-computed j v k r kept = compute j.graph j.sensors v k r.values (own_of r kept)
-
-abbrev pub absorbed : JobData → OnLoad → ℕ → RegisterFile → Kept → ℤ → Own
-absorbed j then k r kept z = absorb_by j.graph j.sensors then k (own_of r kept) z
-
-abbrev pub emitted : JobData → OnStore → ℕ → RegisterFile → Kept → ℤ
-emitted j what k r kept = emit_by j.graph j.sensors what k (own_of r kept)
-
-abbrev pub left : JobData → OnStore → ℕ → RegisterFile → Kept → Own
-left j what k r kept = after_by j.graph j.sensors what k (own_of r kept)
 
 -- Operations can be computed: each has its desk, and what it keeps and senses has the lengths of its kind.
 pub record AreReady (j : JobData) (k : Kept) : Type 0 where

@@ -5,6 +5,7 @@ pub mod Rows
 pub mod RegisterFile
 pub mod Registers
 pub mod Job
+pub mod Parts
 pub mod IsJob
 pub mod Totals
 pub mod Core

@@ -4,10 +4,10 @@
 //! `Job::new` takes a well-formed program with what it runs on, and `run_limit` tells its limits alone;
 //! `State::new` opens a state, `try_step` and `run_list` step it. The laws of runs, the steps on shared words
 //! and the top call stand on this crate. For steps on other words than a state's own there are the parts of a
-//! step: `next_in` and `reaction_at` find the next micro-step of a sequence, `home` and `slot` where an element
-//! lies, and `Operations` with `Registers` are what a sequence has of its own, which `absorb` and `emit`
-//! change; its rows can be laid out for some operations alone. `into_parts` hands its cells and rows out, and
-//! `put_row` puts rows together.
+//! step: `next_in` and `reaction_at` find the next micro-step of a sequence, and `home` and `slot` where an
+//! element lies. `OwnParts` is what the sequences of a state or of a driver have of their own: `absorb` does
+//! with an element what a load does, and `emit` gives what a store stores. Its rows can be laid out for some
+//! operations alone, `into_parts` hands its cells and rows out, and `put_row` puts rows together.
 #![tactic(auto)]
 
 mod answer;
@@ -16,6 +16,7 @@ mod job;
 mod laying;
 mod opening;
 mod operations;
+mod own_parts;
 mod reading;
 mod registers;
 mod rooms;
@@ -27,9 +28,8 @@ pub use answer::StepAnswer;
 pub use job::Job;
 pub use laying::small;
 pub use opening::{actuator_lens, opening_of, sensor_lens, words_of, zero_elements};
-pub use operations::{Operations, put_row};
-pub use registers::Registers;
-pub use rooms::all_registers;
+pub use operations::{cells_and_rows, put_row};
+pub use own_parts::OwnParts;
 pub use state::{State, home, run_list, slot, try_step};
 pub use totals::{fewer_reactions_meet_no_limit, run_limit};
 pub use words::{next_in, reaction_at, turn_reached};

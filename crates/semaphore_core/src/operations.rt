@@ -10,9 +10,11 @@ ghost use Rattle.flat_graph.specs.Fire.{fired_at, kept_at, cell_len, seen_len, o
 ghost use Rattle.semaphore_core.specs.Operation.{cell_at, with_cell, rows_by, HasCell, delay_of};
 ghost use Rattle.semaphore_core.specs.Desk.{IsDesk, lens_of_desk};
 ghost use Rattle.semaphore_core.specs.Job.{actuator_lens, zero_rows};
+ghost use Rattle.semaphore_core.specs.IsJob.{IsJob};
 ghost use Rattle.semaphore_core.specs.Registers.{compute_by};
 ghost use Rattle.semaphore_core.specs.Rows.{with_vector, TakesRow};
-ghost use Rattle.semaphore_core.specs.Held.{AreReady, HasRow, LoadHasRow, StoreHasRow, outputs_len, computed, top_load, top_store, absorbed, emitted, left, with_values, with_kept};
+ghost use Rattle.semaphore_core.specs.Held.{AreReady, HasRow, LoadHasRow, StoreHasRow, outputs_len, top_load, top_store};
+ghost use Rattle.semaphore_core.specs.Parts.{own_of, computed, absorbed, emitted, left, with_values, with_kept};
 
 use crate::desk::Desk;
 use crate::job::Job;
@@ -99,6 +101,19 @@ fn operate(
     take_row(rows, x, reaction, desk);
 }
 
+/// The opening cells of a job's delays, and rows of zeros of all its actuators.
+pub fn cells_and_rows(alloc: Global, job: &Job) -> Result<(Vec<Vec<i64>>, ActRows), OutOfMemory>
+    ensures cells { IfOk result (λ t. map (λ c. c.items) t.0.items ≡ job.now.opening) }
+    ensures lens { IfOk result (λ t. t.1.lens ≡ actuator_lens job.now.graph job.now.graph.vertices) }
+    ensures rows { IfOk result (λ t. t.1.reactions ≡ zero_rows job.now) }
+    ensures job { IsJob job.now }
+{
+    let cells = copy_of(alloc, job.opening())?;
+    let lens = actuator_lens(alloc, job.flat())?;
+    let rows = zero_rows(alloc, lens.as_slice(), job.reactions())?;
+    Ok((cells, rows))
+}
+
 /// The cells of the delays, the rows of the actuators, and a desk for each operation.
 #[derive(Drop)]
 pub struct Operations {
@@ -109,7 +124,7 @@ pub struct Operations {
 
 impl Model for Operations {
     ghost use Rattle.std.specs.Prelude.{map};
-    ghost use Rattle.semaphore_core.specs.Held.{Kept};
+    ghost use Rattle.semaphore_core.specs.Parts.{Kept};
     ghost use Rattle.semaphore_core.specs.Desk.{lens_of_desk};
 
     ghost Value = { Kept };
@@ -126,12 +141,9 @@ impl Operations {
         ensures ready { IfOk result (λ k. AreReady job.now k) }
         ensures laid_out { IfOk result (λ k. (v : ℕ) → HasRow job.now k.lens v) }
     {
-        let lens = actuator_lens(alloc, job.flat())?;
-        Ok(Operations {
-            cells: copy_of(alloc, job.opening())?,
-            rows: zero_rows(alloc, lens.as_slice(), job.reactions())?,
-            desks: desks_of(alloc, job.flat())?,
-        })
+        let (cells, rows) = cells_and_rows(alloc, job)?;
+        let desks = desks_of(alloc, job.flat())?;
+        Ok(Operations { cells, rows, desks })
     }
 
     /// The operations of a job before any is made, with rows laid out for some of them alone: `mine` says
@@ -180,8 +192,8 @@ impl Operations {
         requires row { LoadHasRow job.now self.old.lens then }
         requires reaction { reaction < length job.now.sensors }
         requires room { top_load job.now.graph then < registers.old.room }
-        ensures registers { registers.new ≡ with_values registers.old (absorbed job.now then reaction registers.old self.old value) }
-        ensures kept { self.new ≡ with_kept self.old (absorbed job.now then reaction registers.old self.old value) }
+        ensures registers { registers.new ≡ with_values registers.old (absorbed job.now then reaction (own_of registers.old self.old) value) }
+        ensures kept { self.new ≡ with_kept self.old (absorbed job.now then reaction (own_of registers.old self.old) value) }
     {
         match then {
             OnLoad::Carry => registers.put(0, value),
@@ -210,9 +222,9 @@ impl Operations {
         requires row { StoreHasRow job.now self.old.lens what }
         requires reaction { reaction < length job.now.sensors }
         requires room { top_store job.now.graph what < registers.old.room }
-        ensures value { result ≡ emitted job.now what reaction registers.old self.old }
-        ensures registers { registers.new ≡ with_values registers.old (left job.now what reaction registers.old self.old) }
-        ensures kept { self.new ≡ with_kept self.old (left job.now what reaction registers.old self.old) }
+        ensures value { result ≡ emitted job.now what reaction (own_of registers.old self.old) }
+        ensures registers { registers.new ≡ with_values registers.old (left job.now what reaction (own_of registers.old self.old)) }
+        ensures kept { self.new ≡ with_kept self.old (left job.now what reaction (own_of registers.old self.old)) }
     {
         match what {
             OnStore::Carry => {
@@ -241,8 +253,8 @@ impl Operations {
         requires row { HasRow job.now self.old.lens vertex }
         requires reaction { reaction < length job.now.sensors }
         requires room { outputs_len job.now.graph vertex < registers.old.room }
-        ensures registers { registers.new ≡ with_values registers.old (computed job.now vertex reaction registers.old self.old) }
-        ensures kept { self.new ≡ with_kept self.old (computed job.now vertex reaction registers.old self.old) }
+        ensures registers { registers.new ≡ with_values registers.old (computed job.now vertex reaction (own_of registers.old self.old)) }
+        ensures kept { self.new ≡ with_kept self.old (computed job.now vertex reaction (own_of registers.old self.old)) }
     {
         let vertices = job.flat().vertices();
         if (vertex as usize) < vertices.len() {

@@ -8,9 +8,7 @@ use crate::answer::StepAnswer;
 use crate::job::Job;
 use crate::laying::small;
 use crate::opening::{words_of, zero_elements};
-use crate::operations::Operations;
-use crate::registers::Registers;
-use crate::rooms::all_registers;
+use crate::own_parts::OwnParts;
 use crate::words;
 use executive_program::{
     MicroStep, OnLoad, OnStore, Place, Program, SeqSteps, buffer_depth, buffer_len, micro_steps_of,
@@ -27,12 +25,10 @@ pub struct State {
     semaphores: Vec<u64>,
     turns: Vec<u64>,
     elements: Vec<Items<i64>>,
-    registers: Vec<Registers>,
-    operations: Operations,
+    own: OwnParts,
 }
 
 impl Model for State {
-    ghost use Rattle.std.specs.Prelude.{map};
     ghost use Rattle.semaphore_core.specs.Held.{Held};
 
     ghost Value = { Held };
@@ -43,14 +39,14 @@ impl Model for State {
         semaphores = s.semaphores.items;
         turns = s.turns.items;
         elements = s.elements.items;
-        registers = map (λ r. r.values) s.registers.items;
-        cells = s.operations.cells;
-        rows = s.operations.rows;
+        registers = s.own.registers;
+        cells = s.own.kept.cells;
+        rows = s.own.kept.rows;
       };
       steps = s.steps.items;
-      rooms = map (λ r. r.room) s.registers.items;
-      lens = s.operations.lens;
-      desks = s.operations.desks;
+      rooms = s.own.rooms;
+      lens = s.own.kept.lens;
+      desks = s.own.kept.desks;
     } };
 }
 
@@ -101,15 +97,14 @@ impl State {
         let program = job.program();
         let sequences = program.seqs.as_slice().len();
         let steps = micro_steps_of(alloc, program)?;
-        let registers = all_registers(alloc, job.flat(), steps.as_slice())?;
+        let own = OwnParts::new(alloc, job, steps.as_slice())?;
         Ok(State {
             steps,
             counts: words_of(alloc, 0, sequences)?,
             semaphores: words_of(alloc, 0, 2 * program.pairs.as_slice().len())?,
             turns: words_of(alloc, 0, job.media())?,
             elements: zero_elements(alloc, program, small(job.media())?)?,
-            registers,
-            operations: Operations::new(alloc, job)?,
+            own,
         })
     }
 
@@ -147,9 +142,7 @@ impl State {
         let at = slot(program, place, reaction);
         let value = words::element_in(&self.elements, home(program, place), at);
         self.counts[seq] += 1;
-        let registers = &mut self.registers[seq];
-        self.operations
-            .absorb(job, reaction, then, value, registers);
+        self.own.absorb(job, seq, reaction, then, value);
     }
 
     /// Makes a store of a sequence.
@@ -163,8 +156,7 @@ impl State {
         ensures { self.new ≡ record self.old { core = store_by job.now self.old.core seq place what reaction } }
     {
         self.counts[seq] += 1;
-        let registers = &mut self.registers[seq];
-        let value = self.operations.emit(job, reaction, what, registers);
+        let value = self.own.emit(job, seq, reaction, what);
         let program = job.program();
         words::put_element(
             &mut self.elements,
@@ -251,7 +243,7 @@ impl State {
     pub fn rows(&self) -> &ActRows
         ensures { result.now ≡ record { lens = self.now.lens; reactions = self.now.core.rows } }
     {
-        self.operations.rows()
+        self.own.rows()
     }
 
     /// The next micro-step of a sequence.

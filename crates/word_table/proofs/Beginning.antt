@@ -9,10 +9,9 @@ use Rattle.flat_graph.specs.declared.vertex.Kind.TheVariants.{Actuator}
 use Rattle.flat_graph.specs.Graph.{Graph, lens_of}
 use Rattle.executive_program.specs.declared.expand.SeqSteps.{SeqSteps}
 use Rattle.executive_program.specs.Expanded.{AreSteps, expanded}
-use Rattle.semaphore_core.specs.AtOpening.{room_of, empty_registers, all_registers, lens_for}
-use Rattle.semaphore_core.specs.RegisterFile.{RegisterFile}
+use Rattle.semaphore_core.specs.AtOpening.{room_of, lens_for, AreAtOpening}
 use Rattle.semaphore_core.specs.Registers.{Own}
-use Rattle.semaphore_core.specs.Held.{AreReady, HasRow}
+use Rattle.semaphore_core.specs.Held.{HasRow}
 use Rattle.semaphore_core.specs.Job.{JobData, zero_rows, actuator_len, actuator_lens, reactions}
 use Rattle.semaphore_core.specs.Core.{opening}
 use Rattle.semaphore_core.specs.Told.{own_after}
@@ -25,18 +24,14 @@ use Rattle.word_rule.specs.declared.view.View.TheVariants.{Spent, Holds}
 use Rattle.word_rule.specs.Views.{count_in}
 use Rattle.word_rule.specs.Given.{RunsOnWords}
 use Rattle.word_table.specs.declared.share.Share.{Share}
-use Rattle.word_table.specs.Share.{HasOwn, IsDriver, IsShare, values_of, rooms_of, last_look, share_view}
+use Rattle.word_table.specs.Share.{HasOwn, IsDriver, IsShare, last_look, share_view}
 use Rattle.word_table.specs.Driver.{IsNew}
 use Rattle.word_table.specs.Weaving.{IsNewView, DrivesGroup}
 
-rooms_empty : (g : Graph) (code : List SeqSteps) → map (λ (r : RegisterFile). r.room) (all_registers g code) ≡ map (room_of g) code
-rooms_empty g [] = refl
-rooms_empty g (q ∷ code) = ap (λ l. room_of g q ∷ l) (rooms_empty g code)
-
-values_none : (g : Graph) (code : List SeqSteps) (s : ℕ) → get_or (map (λ (r : RegisterFile). r.values) (all_registers g code)) s [] ≡ []
-values_none g [] s = refl
-values_none g (q ∷ code) zero = refl
-values_none g (q ∷ code) (suc s) = values_none g code s
+none_used : (n s : ℕ) → get_or (replicate {A = List ℤ} n []) s [] ≡ []
+none_used zero s = refl
+none_used (suc n) zero = refl
+none_used (suc n) (suc s) = none_used n s
 
 count_zero : (n s : ℕ) → get_or (replicate {A = ℕ} n 0) s 0 ≡ 0
 count_zero zero s = refl
@@ -62,17 +57,16 @@ zero_row (suc n) lens (suc k) a m l e = zero_row n lens k a m l e
 module _ (j : JobData) (g : RunsOnWords j) (code : List SeqSteps) (are : AreSteps j.program code) (callers : List ℕ) (called : (v : ℕ) → v < length j.graph.vertices → get_or callers v 0 ≡ caller j v) (callers_there : length callers ≡ length j.graph.vertices)
     (k : Knowledge) (d : Share) (job : d.job.now ≡ j) (new : IsNewView j k) (drives : (s : ℕ) → s < length j.program.seqs → s % d.groups ≡ d.group → count_in k.driven s ≡ Some 0) (only : (s n : ℕ) → count_in k.driven s ≡ Some n → s % d.groups ≡ d.group)
     (holds : d.seat.view ≡ Holds k) (mine : List Bool) (mine_is : mine ≡ map (λ s. nat_eq (s % d.groups) d.group) callers)
-    (counts : d.counts.items ≡ replicate (length j.program.seqs) 0) (registers : d.registers.items ≡ all_registers j.graph code) (ready : AreReady j d.operations)
-    (cells : d.operations.cells ≡ j.opening) (lens : d.operations.lens ≡ lens_for j.graph (λ v. get_or mine v false) 0 j.graph.vertices)
-    (rows : d.operations.rows ≡ replicate (reactions j) (map zeros d.operations.lens)) (laid : (v : ℕ) → get_or mine v false ≡ true → HasRow j d.operations.lens v) where
-  rooms : rooms_of d ≡ map (room_of j.graph) code
-  rooms = ap (map (λ (r : RegisterFile). r.room)) registers ∙ rooms_empty j.graph code
+    (counts : d.counts.items ≡ replicate (length j.program.seqs) 0) (at : AreAtOpening j code d.own) (lens : d.own.kept.lens ≡ lens_for j.graph (λ v. get_or mine v false) 0 j.graph.vertices)
+    (rows : d.own.kept.rows ≡ replicate (reactions j) (map zeros d.own.kept.lens)) (laid : (v : ℕ) → get_or mine v false ≡ true → HasRow j d.own.kept.lens v) where
+  code_long : length code ≡ length j.program.seqs
+  code_long = ap (length {A = SeqSteps}) are ∙ length-map j.program.seqs (expanded j.program)
 
   first : (s n : ℕ) → count_in k.driven s ≡ Some n → own_after j s n ≡ record { registers = []; cells = j.opening; rows = zero_rows j }
   first s n c = ap (own_after j s) (new.none_made s n c) ∙ g.values.first s
 
   -- rows are laid out for what the group calls
-  rows_laid : (v : ℕ) → caller j v % d.groups ≡ d.group → HasRow j d.operations.lens v
+  rows_laid : (v : ℕ) → caller j v % d.groups ≡ d.group → HasRow j d.own.kept.lens v
   rows_laid v q x a is e = laid v own x a is e
     where
       there : v < length j.graph.vertices
@@ -82,19 +76,19 @@ module _ (j : JobData) (g : RunsOnWords j) (code : List SeqSteps) (are : AreStep
       own = ap (λ (l : List Bool). get_or l v false) mine_is ∙ get_or-map (λ s. nat_eq (s % d.groups) d.group) callers v 0 false (let t = there in let w = callers_there in omega (arith, t, w))
           ∙ eq-eqb (get_or callers v 0 % d.groups) d.group (ap (λ (s : ℕ). s % d.groups) (called v there) ∙ q)
 
-  row_first : (s n v a i : ℕ) (x : Vertex) → count_in k.driven s ≡ Some n → slice_get j.graph.vertices v ≡ Some x → x.kind ≡ Actuator a → caller j v ≡ s → row_at d.operations.rows i a ≡ row_at (zero_rows j) i a
+  row_first : (s n v a i : ℕ) (x : Vertex) → count_in k.driven s ≡ Some n → slice_get j.graph.vertices v ≡ Some x → x.kind ≡ Actuator a → caller j v ≡ s → row_at d.own.kept.rows i a ≡ row_at (zero_rows j) i a
   row_first s n v a i x c is e w =
-      let q = rows_laid v (ap (λ (t : ℕ). t % d.groups) w ∙ only s n c) x a is e in let p = actuator_at j.graph ready.valid v a x is e in
-      ap (λ (l : List Values). row_at l i a) rows ∙ zero_row (reactions j) d.operations.lens i a (get_or (lens_of j.graph.vertices x.ins) 0 0) q.0 q.1
+      let q = rows_laid v (ap (λ (t : ℕ). t % d.groups) w ∙ only s n c) x a is e in let p = actuator_at j.graph at.ready.valid v a x is e in
+      ap (λ (l : List Values). row_at l i a) rows ∙ zero_row (reactions j) d.own.kept.lens i a (get_or (lens_of j.graph.vertices x.ins) 0 0) q.0 q.1
       ∙ sym (zero_row (reactions j) (actuator_lens j.graph j.graph.vertices) i a (get_or (lens_of j.graph.vertices x.ins) 0 0) p.0 p.1)
 
-  own_first : HasOwn j k (values_of d) d.operations.cells d.operations.rows
+  own_first : HasOwn j k d.own.registers d.own.kept.cells d.own.kept.rows
   own_first = record {
-    cells_there = ap (length {A = List ℤ}) cells;
-    rows_there = ap (map (length {A = List ℤ})) rows ∙ same_rows (reactions j) d.operations.lens (actuator_lens j.graph j.graph.vertices)
+    cells_there = ap (length {A = List ℤ}) at.cells;
+    rows_there = ap (map (length {A = List ℤ})) rows ∙ same_rows (reactions j) d.own.kept.lens (actuator_lens j.graph j.graph.vertices)
         (ap (length {A = ℕ}) lens ∙ lens_many j.graph (λ v. get_or mine v false) 0 j.graph.vertices);
-    own_registers = λ s n c. ap (λ l. get_or (map (λ (r : RegisterFile). r.values) l) s []) registers ∙ values_none j.graph code s ∙ ap (λ (o : Own). o.registers) (sym (first s n c));
-    own_cells = λ s n v q x c i e w. ap (λ (l : Values). vector_at l q) cells ∙ ap (λ (o : Own). vector_at o.cells q) (sym (first s n c));
+    own_registers = λ s n c. ap (λ (l : List (List ℤ)). get_or l s []) at.registers ∙ none_used (length code) s ∙ ap (λ (o : Own). o.registers) (sym (first s n c));
+    own_cells = λ s n v q x c i e w. ap (λ (l : Values). vector_at l q) at.cells ∙ ap (λ (o : Own). vector_at o.cells q) (sym (first s n c));
     own_rows = λ s n v a i x c e q w. row_first s n v a i x c e q w ∙ ap (λ (o : Own). row_at o.rows i a) (sym (first s n c));
   }
 
@@ -105,32 +99,33 @@ module _ (j : JobData) (g : RunsOnWords j) (code : List SeqSteps) (are : AreStep
     holds = holds;
     job = new.job;
     counts_there = ap (length {A = ℕ}) counts ∙ length-replicate (length j.program.seqs) 0;
-    registers_there = ap (length {A = RegisterFile}) registers ∙ length-map code (empty_registers j.graph) ∙ ap (length {A = SeqSteps}) are ∙ length-map j.program.seqs (expanded j.program);
+    registers_there = ap (length {A = List ℤ}) at.registers ∙ length-replicate (length code) [] ∙ code_long;
+    rooms_there = ap (length {A = ℕ}) at.rooms ∙ length-map code (room_of j.graph) ∙ code_long;
     there = new.there;
     within = λ s n c. let z = new.none_made s n c in omega (arith, z);
     counted = λ s n c. ap (λ (l : List ℕ). get_or l s 0) counts ∙ count_zero (length j.program.seqs) s ∙ sym (new.none_made s n c);
     only = only;
     all = λ s l q. (0, drives s l q);
     reaches = record { counts = (opening j).counts; reached = ([], refl); agree = λ s n c. count_zero (length j.program.seqs) s ∙ sym (new.none_made s n c) };
-    ready = ready;
+    ready = at.ready;
     rows_laid = rows_laid;
-    in_prologue = rw rooms (prologue_fits j code are);
-    in_turn = rw rooms (turn_fits j code are);
+    in_prologue = rw at.rooms (prologue_fits j code are);
+    in_turn = rw at.rooms (turn_fits j code are);
     own = own_first;
   }
 
 -- the share of a driver of its group
 pub begins_by : (j : JobData) → RunsOnWords j → (code : List SeqSteps) → AreSteps j.program code → (callers : List ℕ) → ((v : ℕ) → v < length j.graph.vertices → get_or callers v 0 ≡ caller j v) → length callers ≡ length j.graph.vertices
     → (d : Share) → d.job.now ≡ j → DrivesGroup j d.groups d.group d.seat.view → (mine : List Bool) → mine ≡ map (λ s. nat_eq (s % d.groups) d.group) callers
-    → d.counts.items ≡ replicate (length j.program.seqs) 0 → d.registers.items ≡ all_registers j.graph code → AreReady j d.operations
-    → d.operations.cells ≡ j.opening → d.operations.lens ≡ lens_for j.graph (λ v. get_or mine v false) 0 j.graph.vertices
-    → d.operations.rows ≡ replicate (reactions j) (map zeros d.operations.lens) → ((v : ℕ) → get_or mine v false ≡ true → HasRow j d.operations.lens v)
+    → d.counts.items ≡ replicate (length j.program.seqs) 0 → AreAtOpening j code d.own
+    → d.own.kept.lens ≡ lens_for j.graph (λ v. get_or mine v false) 0 j.graph.vertices
+    → d.own.kept.rows ≡ replicate (reactions j) (map zeros d.own.kept.lens) → ((v : ℕ) → get_or mine v false ≡ true → HasRow j d.own.kept.lens v)
     → IsShare d × IsNew (share_view d)
-begins_by j g code are callers called there d job new mine mine_is counts registers ready cells lens rows laid = by d.seat.view refl new
+begins_by j g code are callers called there d job new mine mine_is counts at lens rows laid = by d.seat.view refl new
   where
     by : (v : View) → d.seat.view ≡ v → DrivesGroup j d.groups d.group v → IsShare d × IsNew (share_view d)
     by Spent e n = absurd n
     by (Holds k) e n = (
-      (k, subst (λ (i : JobData). IsDriver i d.seat.table k d) (sym job) (begins j g code are callers called there k d job n.0 n.1 n.2 e mine mine_is counts registers ready cells lens rows laid)),
+      (k, subst (λ (i : JobData). IsDriver i d.seat.table k d) (sym job) (begins j g code are callers called there k d job n.0 n.1 n.2 e mine mine_is counts at lens rows laid)),
       record { counts = counts ∙ ap (λ (i : JobData). replicate (length i.program.seqs) 0) (sym job); look = ap (λ (v : View). (last_look v).number) e ∙ n.0.looks },
     )

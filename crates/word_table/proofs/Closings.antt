@@ -123,5 +123,5 @@ pub seat_all : (j : JobData) (table : TableId) (groups : ℕ) (counts : List ℕ
 seat_all j table groups counts s many h = record { long = many; each = λ i l. h.1.inside i l (omega arith) }
 
 -- the rows of the actuators of a driver's group are laid out
-pub own_laid : (d : Share) (r : Remains) → IsShare d → FitsTo d r → (v : ℕ) → get_or r.callers.items v 0 % d.groups ≡ d.group → HasRow d.job.now d.operations.lens v
+pub own_laid : (d : Share) (r : Remains) → IsShare d → FitsTo d r → (v : ℕ) → get_or r.callers.items v 0 % d.groups ≡ d.group → HasRow d.job.now d.own.kept.lens v
 own_laid d r (k, i) f v q x a is e = i.rows_laid v (ap (λ (s : ℕ). s % d.groups) (sym (f.callers v (slice_get_within d.job.now.graph.vertices v x is))) ∙ q) x a is e

@@ -1,5 +1,5 @@
 -- The share of a driver stays one with each of its steps.
-use Rattle.std.proofs.Common.{◌≡◌, ℕ, ◌+◌, ◌%◌, ◌<◌, ◌^◌, ◌⊎◌, inl, inr, ⊎_elim, Bool, true, false, cond, List, map, length, get_or, set, Some, refl, sym, ap, subst, arith, ◌∙◌, length-set, get_or-set_same, get_or-set_other}
+use Rattle.std.proofs.Common.{◌≡◌, ℕ, ◌+◌, ◌%◌, ◌<◌, ◌^◌, ◌⊎◌, inl, inr, ⊎_elim, Bool, true, false, cond, List, length, get_or, set, Some, refl, sym, ap, subst, arith, ◌∙◌, length-set, get_or-set_same, get_or-set_other}
 use Rattle.std.proofs.lemmas.Bool.{cases_eq}
 use Rattle.std.proofs.lemmas.Option.{same_Some}
 use Rattle.atomic_table.specs.Seated.{TableId}
@@ -32,7 +32,7 @@ use Rattle.word_table.specs.declared.share.Share.{Share}
 use Rattle.word_table.specs.declared.woven.Woven.{Woven}
 use Rattle.word_table.specs.Answers.{is_recorded, next_look, Steps}
 use Rattle.word_table.specs.Driver.{InSome}
-use Rattle.word_table.specs.Share.{HasOwn, Reaches, IsDriver, IsWoven, IsOf, SameDriver, CanMake, CountsOneMore, values_of, rooms_of, last_look, share_view}
+use Rattle.word_table.specs.Share.{HasOwn, Reaches, IsDriver, IsWoven, IsOf, SameDriver, CanMake, CountsOneMore, last_look, share_view}
 use Rattle.word_table.proofs.Own.{IsQuiet, after_quiet}
 
 -- which sequence it is, and its count, after one more micro-step of s
@@ -70,6 +70,7 @@ unmoved j t k l d seat i of_table holds job driven = record {
   job = job ∙ i.job;
   counts_there = i.counts_there;
   registers_there = i.registers_there;
+  rooms_there = i.rooms_there;
   there = λ s n c. i.there s n (was s n c);
   within = λ s n c. i.within s n (was s n c);
   counted = λ s n c. i.counted s n (was s n c);
@@ -94,8 +95,8 @@ unmoved j t k l d seat i of_table holds job driven = record {
 
 -- one micro-step more of s
 pub moved_on : (j : JobData) (t : TableId) (k l : Knowledge) (d e : Share) (s n : ℕ) → IsDriver j t k d → SameDriver d e → e.seat.view ≡ Holds l → l.job ≡ k.job → l.driven ≡ raised k.driven s
-    → count_in k.driven s ≡ Some n → n < full j s → CountsOneMore d e s → length e.registers.items ≡ length d.registers.items → rooms_of e ≡ rooms_of d
-    → Reaches j l → AreReady j e.operations → e.operations.lens ≡ d.operations.lens → HasOwn j l (values_of e) e.operations.cells e.operations.rows → IsDriver j t l e
+    → count_in k.driven s ≡ Some n → n < full j s → CountsOneMore d e s → length e.own.registers ≡ length d.own.registers → e.own.rooms ≡ d.own.rooms
+    → Reaches j l → AreReady j e.own.kept → e.own.kept.lens ≡ d.own.kept.lens → HasOwn j l e.own.registers e.own.kept.cells e.own.kept.rows → IsDriver j t l e
 moved_on j t k l d e s n i same holds job driven mine more counts registers rooms reaches ready lens own = record {
   of_table = same.table ∙ i.of_table;
   of_job = same.job ∙ i.of_job;
@@ -103,6 +104,7 @@ moved_on j t k l d e s n i same holds job driven mine more counts registers room
   job = job ∙ i.job;
   counts_there = ap (length {A = ℕ}) counts ∙ length-set d.counts.items s (get_or d.counts.items s 0 + 1) ∙ i.counts_there;
   registers_there = registers ∙ i.registers_there;
+  rooms_there = ap (length {A = ℕ}) rooms ∙ i.rooms_there;
   there = λ h m c. ⊎_elim (λ q. subst (λ (a : ℕ). a < length j.program.seqs) (sym q.0) (i.there s n mine)) (λ q. i.there h m q.1) (at h m c);
   within = λ h m c. ⊎_elim (λ q. let b = q.1 in let f = ap (full j) q.0 in omega (arith, b, more, f)) (λ q. i.within h m q.1) (at h m c);
   counted = λ h m c. ap (λ xs. get_or xs h 0) counts ∙ ⊎_elim
@@ -205,8 +207,8 @@ module _ (f : Woven) (d : Share) (next : Next) (is : IsWoven f) (c : CanMake f d
   in_some P counts t agree p = some_at d J c.driver.of_job P counts t.reached (shaped J is.runs counts t).counts (own_counts counts agree) p
 
   -- the private part after a micro-step that changes none of it
-  pub quiet_own : (l : Knowledge) → l.driven ≡ raised K.driven next.seq → IsQuiet next.step → HasOwn J l (values_of d) d.operations.cells d.operations.rows
-  quiet_own l driven q = after_quiet J is.runs.formed is.runs.values K (values_of d) d.operations.cells d.operations.rows c.driver.own next.seq c.count next.reaction c.drives here c.more c.in_reaction l driven next.step c.next_step q
+  pub quiet_own : (l : Knowledge) → l.driven ≡ raised K.driven next.seq → IsQuiet next.step → HasOwn J l d.own.registers d.own.kept.cells d.own.kept.rows
+  quiet_own l driven q = after_quiet J is.runs.formed is.runs.values K d.own.registers d.own.kept.cells d.own.kept.rows c.driver.own next.seq c.count next.reaction c.drives here c.more c.in_reaction l driven next.step c.next_step q
 
   pub reaches_next : (counts : List ℕ) → AreTold J counts → ((s n : ℕ) → count_in K.driven s ≡ Some n → get_or counts s 0 ≡ n) → enabled_in (told J counts) next.reaction next.step ≡ true → (l : Knowledge) → l.driven ≡ raised K.driven next.seq → Reaches J l
   reaches_next counts t agree on l driven = reaches_on J is.runs K l counts t agree next.seq c.count next.reaction next.step c.drives here c.more c.next_step c.in_reaction on driven
@@ -223,17 +225,16 @@ module _ (f : Woven) (d : Share) (next : Next) (is : IsWoven f) (c : CanMake f d
     now_holds = seat ∙ ap (λ (v : View). after (λ k. stepped k next.seq) v) c.driver.holds
 
     -- where the private part is what it is to be
-    pub free_driver : length e.registers.items ≡ length d.registers.items → rooms_of e ≡ rooms_of d → AreReady f.job.now e.operations → e.operations.lens ≡ d.operations.lens
-        → HasOwn f.job.now (stepped c.knowledge next.seq) (values_of e) e.operations.cells e.operations.rows → IsOf f e
+    pub free_driver : length e.own.registers ≡ length d.own.registers → e.own.rooms ≡ d.own.rooms → AreReady f.job.now e.own.kept → e.own.kept.lens ≡ d.own.kept.lens
+        → HasOwn f.job.now (stepped c.knowledge next.seq) e.own.registers e.own.kept.cells e.own.kept.rows → IsOf f e
     free_driver registers rooms ready lens own = (
       L,
       moved_on J f.table.table K L d e next.seq c.count c.driver same now_holds refl refl c.drives c.more counts registers rooms
           (reaches_next T.0 (agreed T.0 T.1) T.1.agree (free.always (told J T.0) next.reaction) L refl) ready lens own,
     )
 
-    pub quiet_driver : IsQuiet next.step → e.registers ≡ d.registers → e.operations ≡ d.operations → IsOf f e
-    quiet_driver q registers operations = free_driver (ap (λ r. length r.items) registers) (ap (λ r. map (λ x. x.room) r.items) registers) (rw operations c.driver.ready) (ap (λ o. o.lens) operations)
-        (rw (registers, operations) (quiet_own L refl q))
+    pub quiet_driver : IsQuiet next.step → e.own ≡ d.own → IsOf f e
+    quiet_driver q own = free_driver (ap (λ o. length o.registers) own) (ap (λ o. o.rooms) own) (rw own c.driver.ready) (ap (λ o. o.kept.lens) own) (rw own (quiet_own L refl q))
 
     pub free_steps : Steps (share_view d) (share_view e) next.seq next.reaction next.step
     free_steps = record {

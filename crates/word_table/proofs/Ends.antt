@@ -113,12 +113,12 @@ module _ (j : JobData) (g : RunsOnWords j) (groups m : ℕ) (counts : List ℕ) 
       rows.here v a n x is e (ap (λ (s : ℕ). s % d.groups) (called v x is) ∙ to_own (caller j v) q)
       ∙ i.own.own_rows (caller j v) c.0 v a n x c.1 is e refl ∙ ap (λ (n' : ℕ). row_at (own_after j (caller j v) n').rows n a) c.2
     where
-      rows : TakesRows j old.rows new.rows (record { lens = d.operations.lens; reactions = d.operations.rows }) old.callers.items d.groups d.group
-      rows = subst (λ (j' : JobData). TakesRows j' old.rows new.rows (record { lens = d.operations.lens; reactions = d.operations.rows }) old.callers.items d.groups d.group) i.of_job t.rows
+      rows : TakesRows j old.rows new.rows (record { lens = d.own.kept.lens; reactions = d.own.kept.rows }) old.callers.items d.groups d.group
+      rows = subst (λ (j' : JobData). TakesRows j' old.rows new.rows (record { lens = d.own.kept.lens; reactions = d.own.kept.rows }) old.callers.items d.groups d.group) i.of_job t.rows
   row_now v a n x is e (inr h) = rows.else v a n x is e (λ q. not_own (caller j v) h (ap (λ (s : ℕ). s % d.groups) (sym (called v x is)) ∙ q)) ∙ r.rows v a n x is e h
     where
-      rows : TakesRows j old.rows new.rows (record { lens = d.operations.lens; reactions = d.operations.rows }) old.callers.items d.groups d.group
-      rows = subst (λ (j' : JobData). TakesRows j' old.rows new.rows (record { lens = d.operations.lens; reactions = d.operations.rows }) old.callers.items d.groups d.group) i.of_job t.rows
+      rows : TakesRows j old.rows new.rows (record { lens = d.own.kept.lens; reactions = d.own.kept.rows }) old.callers.items d.groups d.group
+      rows = subst (λ (j' : JobData). TakesRows j' old.rows new.rows (record { lens = d.own.kept.lens; reactions = d.own.kept.rows }) old.callers.items d.groups d.group) i.of_job t.rows
 
   pub gathered_more : IsGathered j groups m counts new
   gathered_more = record {

@@ -1,5 +1,4 @@
 pub mod Own
-pub mod Files
 pub mod Drivers
 pub mod Making
 pub mod Standing

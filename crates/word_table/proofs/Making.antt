@@ -1,9 +1,9 @@
 -- Looks, loads and stores of a driver.
-use Rattle.std.proofs.Common.{◌≡◌, ℕ, ◌+◌, ◌%◌, ◌<◌, ◌⊎◌, inl, inr, Bool, true, false, cond, List, length, map, get_or, Some, refl, sym, ap, subst, arith, ◌∙◌, ℤ, ◌*◌}
+use Rattle.std.proofs.Common.{◌≡◌, ℕ, ◌+◌, ◌%◌, ◌<◌, ◌⊎◌, inl, inr, Bool, true, false, cond, List, length, get_or, Some, refl, sym, ap, subst, arith, ◌∙◌, ℤ, ◌*◌}
 use Rattle.std.specs.Prelude.{nat_eq, nat_le}
 use Rattle.std.specs.Int.{w64, cast_signed}
 use Rattle.std.proofs.lemmas.Bool.{lt-ltb}
-use Rattle.std.proofs.lemmas.List.{length-map}
+use Rattle.std.proofs.lemmas.List.{length-set}
 use Rattle.consistent_cuts.specs.Sites.{step_at, reaction_at}
 use Rattle.executive_program.specs.declared.steps.Place.{Place}
 use Rattle.executive_program.specs.declared.steps.OnLoad.{OnLoad}
@@ -15,8 +15,8 @@ use Rattle.executive_program.specs.declared.steps.MicroStep.TheVariants.{Take, S
 use Rattle.executive_program.specs.Steps.{steps}
 use Rattle.semaphore_core.specs.Job.{JobData, reactions}
 use Rattle.semaphore_core.specs.Core.{Core, full, own, element_of, enabled_in, turn_reached}
-use Rattle.semaphore_core.specs.RegisterFile.{RegisterFile}
-use Rattle.semaphore_core.specs.Registers.{Own, emit_by}
+use Rattle.semaphore_core.specs.Registers.{emit_by}
+use Rattle.semaphore_core.specs.Parts.{own_at, absorbed, left, with_load, with_store, value_stored}
 use Rattle.semaphore_core.specs.Held.{NeedsReaction, Fits, LoadHasRow, StoreHasRow}
 use Rattle.semaphore_core.specs.Told.{told}
 use Rattle.semaphore_core.proofs.Ready.{absorb_ready, after_ready}
@@ -37,8 +37,7 @@ use Rattle.word_rule.proofs.Further.{shaped}
 use Rattle.word_table.specs.declared.share.Share.{Share}
 use Rattle.word_table.specs.declared.woven.Woven.{Woven}
 use Rattle.word_table.specs.Answers.{is_recorded, next_look, Steps, Misses}
-use Rattle.word_table.specs.Files.{own_at, Changed, Becomes, own_loaded, own_stored, value_stored}
-use Rattle.word_table.specs.Share.{IsWoven, IsOf, SameDriver, CanMake, CountsOneMore, Looked, values_of, rooms_of, last_look, share_view}
+use Rattle.word_table.specs.Share.{IsWoven, IsOf, SameDriver, CanMake, CountsOneMore, Looked, last_look, share_view}
 use Rattle.word_table.proofs.Own.{after_load, after_store, emits, loads_here, stores_here}
 use Rattle.word_table.proofs.Drivers.{here, agreed, in_some, reaches_next, quiet_own, unmoved, moved_on, looks_quietly, loads_freely, stores_freely, free_driver}
 
@@ -56,8 +55,8 @@ module _ (f : Woven) (d : Share) (next : Next) (is : IsWoven f) (c : CanMake f d
   is_next = let l = c.more in rw (lt-ltb c.count (full Jo S) l) c.next_step
 
   -- there are registers enough
-  pub room : Fits Jo.graph (get_or (rooms_of d) next.seq 0) (Some next.step)
-  room = fits_at Jo S c.count next.step is_next Jo.graph (get_or (rooms_of d) S 0) (c.driver.in_prologue S) (c.driver.in_turn S)
+  pub room : Fits Jo.graph (get_or d.own.rooms next.seq 0) (Some next.step)
+  room = fits_at Jo S c.count next.step is_next Jo.graph (get_or d.own.rooms S 0) (c.driver.in_prologue S) (c.driver.in_turn S)
 
   -- a load or a store is made within the reactions
   pub needs : NeedsReaction next.step next.reaction (reactions f.job.now)
@@ -66,11 +65,11 @@ module _ (f : Woven) (d : Share) (next : Next) (is : IsWoven f) (c : CanMake f d
   pub there : next.seq < length f.job.now.program.seqs
   there = here f d next is c
 
-  pub has_registers : next.seq < length d.registers.items
+  has_registers : S < length d.own.registers
   has_registers = let a = there in let b = c.driver.registers_there in omega (arith, a, b)
 
-  has_values : S < length (values_of d)
-  has_values = let a = has_registers in let b = length-map d.registers.items (λ (x : RegisterFile). x.values) in omega (arith, a, b)
+  pub has_room : next.seq < length d.own.rooms
+  has_room = let a = there in let b = c.driver.rooms_there in omega (arith, a, b)
 
   inside : IsThere Jo next.step
   inside = is.runs.there S c.count next.step c.next_step
@@ -79,18 +78,18 @@ module _ (f : Woven) (d : Share) (next : Next) (is : IsWoven f) (c : CanMake f d
   grouped v e = ap (λ (s : ℕ). s % d.groups) e ∙ c.driver.only S c.count c.drives
 
   -- what the sequence computes has its rows
-  pub load_row : (x : Place) (then : OnLoad) → next.step ≡ Load x then → LoadHasRow f.job.now d.operations.lens then
+  pub load_row : (x : Place) (then : OnLoad) → next.step ≡ Load x then → LoadHasRow f.job.now d.own.kept.lens then
   load_row x then e = by then (loads_here Jo is.runs.formed is.runs.values S c.count x then (c.next_step ∙ ap (λ (i : MicroStep). Some i) e))
     where
-      by : (then : OnLoad) → LoadsHere Jo.program Jo.media S then → LoadHasRow Jo d.operations.lens then
+      by : (then : OnLoad) → LoadsHere Jo.program Jo.media S then → LoadHasRow Jo d.own.kept.lens then
       by CarryIn h = tt
       by (Gather r) h = tt
       by (ComputeIn v r more) h = c.driver.rows_laid v (grouped v h)
 
-  pub store_row : (x : Place) (what : OnStore) → next.step ≡ Store x what → StoreHasRow f.job.now d.operations.lens what
+  pub store_row : (x : Place) (what : OnStore) → next.step ≡ Store x what → StoreHasRow f.job.now d.own.kept.lens what
   store_row x what e = by what (stores_here Jo is.runs.formed is.runs.values S c.count x what (c.next_step ∙ ap (λ (i : MicroStep). Some i) e))
     where
-      by : (what : OnStore) → StoresHere Jo.program Jo.media S what → StoreHasRow Jo d.operations.lens what
+      by : (what : OnStore) → StoresHere Jo.program Jo.media S what → StoreHasRow Jo d.own.kept.lens what
       by CarryOut h = tt
       by (Give r more) h = tt
       by (ComputeOut v more) h = c.driver.rows_laid v (grouped v h)
@@ -114,12 +113,12 @@ module _ (f : Woven) (d : Share) (next : Next) (is : IsWoven f) (c : CanMake f d
   }
 
   -- what is stored
-  pub stores : (x : Place) (what : OnStore) → next.step ≡ Store x what → (value : ℤ) → value ≡ value_stored f.job.now next d.registers.items d.operations what → Stores d.seat.view next.seq next.reaction next.step value
+  pub stores : (x : Place) (what : OnStore) → next.step ≡ Store x what → (value : ℤ) → value ≡ value_stored f.job.now d.own next.seq next.reaction what → Stores d.seat.view next.seq next.reaction next.step value
   stores x what e value v = subst (λ u. Stores u S R next.step value) (sym c.driver.holds) (x, what, e, λ counts a. all counts a)
     where
       all : (counts : List ℕ) → Agree c.knowledge counts → emit_by c.knowledge.job.graph c.knowledge.job.sensors what R (own c.knowledge.job (told c.knowledge.job counts) S) ≡ value
       all counts a = subst (λ (i : JobData). AreTold i counts → emit_by i.graph i.sensors what R (own i (told i counts) S) ≡ value) (sym c.driver.job)
-          (λ t. emits Jo is.runs.formed is.runs.values c.knowledge (values_of d) d.operations.cells d.operations.rows c.driver.own S c.count R c.drives there c.more c.in_reaction (stepped c.knowledge S) refl x what
+          (λ t. emits Jo is.runs.formed is.runs.values c.knowledge d.own.registers d.own.kept.cells d.own.kept.rows c.driver.own S c.count R c.drives there c.more c.in_reaction (stepped c.knowledge S) refl x what
           (c.next_step ∙ ap (λ (i : MicroStep). Some i) e) counts (shaped Jo is.runs counts t).counts (a.agree S c.count c.drives) ∙ sym v) a.are_told
 
   -- what was found at the word
@@ -142,25 +141,24 @@ module _ (f : Woven) (d : Share) (next : Next) (is : IsWoven f) (c : CanMake f d
         ∙ element_get Jo (told Jo (has found finds).counts) (shaped Jo is.runs (has found finds).counts (its_counts found finds)) x R (subst (IsThere Jo) e inside)) ∙ (its_counts found finds).exact _ _
 
   module _ (v : Share) (same : SameDriver d v) (seat : v.seat.view ≡ after (λ k. stepped k next.seq) d.seat.view) (counts : CountsOneMore d v next.seq) where
-    files_long : (o : Own) → Changed d.registers.items v.registers.items S o.registers → length v.registers.items ≡ length d.registers.items
-    files_long o ch = sym (length-map v.registers.items (λ (y : RegisterFile). y.room)) ∙ ap (length {A = ℕ}) ch.rooms_are ∙ length-map d.registers.items (λ (y : RegisterFile). y.room)
-
     pub loaded_driver : (x : Place) (then : OnLoad) → next.step ≡ Load x then → (found : ℕ) → FindsBy d.seat.view next.word found → (value : ℤ) → value ≡ cast_signed w64 found
-        → Becomes next.seq (own_loaded f.job.now next d.registers.items d.operations then value) d.registers.items v.registers.items d.operations v.operations → IsOf f v
-    loaded_driver x then e found finds value q b = let o : Own = own_loaded Jo next d.registers.items d.operations then value in
-        free_driver f d next is c v same seat counts (loads_freely x then next.step e) (finds_told found finds) (files_long o b.files) b.files.rooms_are
-        (rw b.kept_is (absorb_ready Jo d.operations then R (own_at d.registers.items d.operations S) value c.driver.ready)) (ap (λ k. k.lens) b.kept_is)
-        (rw (b.kept_is, b.files.values_are) (after_load Jo is.runs.formed is.runs.values c.knowledge (values_of d) d.operations.cells d.operations.rows c.driver.own S c.count R c.drives there c.more c.in_reaction (stepped c.knowledge S) refl
-        is.runs (has found finds).counts (its_counts found finds) ((has found finds).agree.agree S c.count c.drives) x then (c.next_step ∙ ap (λ (i : MicroStep). Some i) e) has_values value
+        → v.own ≡ with_load f.job.now d.own next.seq next.reaction then value → IsOf f v
+    loaded_driver x then e found finds value q b =
+        free_driver f d next is c v same seat counts (loads_freely x then next.step e) (finds_told found finds)
+        (ap (λ o. length o.registers) b ∙ length-set d.own.registers S (absorbed Jo then R (own_at d.own S) value).registers) (ap (λ o. o.rooms) b)
+        (rw b (absorb_ready Jo d.own.kept then R (own_at d.own S) value c.driver.ready)) (ap (λ o. o.kept.lens) b)
+        (rw b (after_load Jo is.runs.formed is.runs.values c.knowledge d.own.registers d.own.kept.cells d.own.kept.rows c.driver.own S c.count R c.drives there c.more c.in_reaction (stepped c.knowledge S) refl
+        is.runs (has found finds).counts (its_counts found finds) ((has found finds).agree.agree S c.count c.drives) x then (c.next_step ∙ ap (λ (i : MicroStep). Some i) e) has_registers value
         (sym (found_is x then e found finds) ∙ sym q)))
 
     pub stored_driver : (x : Place) (what : OnStore) → next.step ≡ Store x what → InTold d.seat.view (λ z. Unit {0})
-        → Becomes next.seq (own_stored f.job.now next d.registers.items d.operations what) d.registers.items v.registers.items d.operations v.operations → IsOf f v
-    stored_driver x what e told_by b = let o : Own = own_stored Jo next d.registers.items d.operations what in
-        free_driver f d next is c v same seat counts (stores_freely x what next.step e) told_by (files_long o b.files) b.files.rooms_are
-        (rw b.kept_is (after_ready Jo d.operations what R (own_at d.registers.items d.operations S) c.driver.ready)) (ap (λ k. k.lens) b.kept_is)
-        (rw (b.kept_is, b.files.values_are) (after_store Jo is.runs.formed is.runs.values c.knowledge (values_of d) d.operations.cells d.operations.rows c.driver.own S c.count R c.drives there c.more c.in_reaction (stepped c.knowledge S) refl
-        x what (c.next_step ∙ ap (λ (i : MicroStep). Some i) e) has_values))
+        → v.own ≡ with_store f.job.now d.own next.seq next.reaction what → IsOf f v
+    stored_driver x what e told_by b =
+        free_driver f d next is c v same seat counts (stores_freely x what next.step e) told_by
+        (ap (λ o. length o.registers) b ∙ length-set d.own.registers S (left Jo what R (own_at d.own S)).registers) (ap (λ o. o.rooms) b)
+        (rw b (after_ready Jo d.own.kept what R (own_at d.own S) c.driver.ready)) (ap (λ o. o.kept.lens) b)
+        (rw b (after_store Jo is.runs.formed is.runs.values c.knowledge d.own.registers d.own.kept.cells d.own.kept.rows c.driver.own S c.count R c.drives there c.more c.in_reaction (stepped c.knowledge S) refl
+        x what (c.next_step ∙ ap (λ (i : MicroStep). Some i) e) has_registers))
 
 pub true_false : ◌≡◌ {A = Bool} true false → ⊥
 true_false h = cc
@@ -227,15 +225,15 @@ module _ (f : Woven) (d : Share) (next : Next) (is : IsWoven f) (c : CanMake f d
     view_is : e.seat.view ≡ after (look_of next.seq E next.word l.found) d.seat.view
     view_is = ap (λ s. s.view) l.seat
 
-    pub made_driver : e.registers ≡ d.registers → e.operations ≡ d.operations → IsOf f e
-    made_driver registers operations = let h = has f d next is c l.found l.finds in let t = its_counts f d next is c l.found l.finds in let q = looks_quietly next.step kind in (
+    pub made_driver : e.own ≡ d.own → IsOf f e
+    made_driver own = let h = has f d next is c l.found l.finds in let t = its_counts f d next is c l.found l.finds in let q = looks_quietly next.step kind in (
       Seen l.found,
       moved_on f.job.now f.table.table c.knowledge (Seen l.found) d e next.seq c.count c.driver same (holds_now e.seat.view l.found view_is)
           (look_job c.knowledge next.seq E next.word l.found) (look_on c.knowledge next.seq E next.word l.found on) c.drives c.more (l.made refl)
-          (ap (λ r. length r.items) registers) (ap (λ r. map (λ x. x.room) r.items) registers)
+          (ap (λ o. length o.registers) own) (ap (λ o. o.rooms) own)
           (reaches_next f d next is c h.counts t h.agree.agree (test_is l.found l.finds ∙ on) (Seen l.found) (look_on c.knowledge next.seq E next.word l.found on))
-          (rw operations c.driver.ready) (ap (λ o. o.lens) operations)
-          (rw (registers, operations) (quiet_own f d next is c (Seen l.found) (look_on c.knowledge next.seq E next.word l.found on) q)),
+          (rw own c.driver.ready) (ap (λ o. o.kept.lens) own)
+          (rw own (quiet_own f d next is c (Seen l.found) (look_on c.knowledge next.seq E next.word l.found on) q)),
     )
 
     pub made_steps : Steps (share_view d) (share_view e) next.seq next.reaction next.step

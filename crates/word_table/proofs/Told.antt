@@ -17,7 +17,7 @@ use Rattle.word_table.specs.declared.share.Share.{Share}
 use Rattle.word_table.specs.declared.woven.Woven.{Woven}
 use Rattle.word_table.specs.Answers.{Answers, AnswersAlone, HasNext, answer_by, answer_in}
 use Rattle.word_table.specs.Driver.{FabricData, DriverData, Drives, AgreeWith, InSome, IsTold}
-use Rattle.word_table.specs.Share.{IsDriver, IsShare, IsWoven, IsOf, Reaches, values_of, share_view, woven_view}
+use Rattle.word_table.specs.Share.{IsDriver, IsShare, IsWoven, IsOf, Reaches, share_view, woven_view}
 use Rattle.word_table.proofs.Own.{told_is, IsOwnOf}
 
 -- the registers, cells and rows of a driver
@@ -28,8 +28,8 @@ is_told d (k, i) g counts a = record {
   rows = λ v b n x is e q. let r = i.all (caller d.job.now v) q.there q.grouped in own.same_rows (caller d.job.now v) r.0 v b n x r.1 is e refl;
 }
   where
-    own : IsOwnOf d.job.now k (values_of d) d.operations.cells d.operations.rows (told d.job.now counts)
-    own = told_is d.job.now g.formed g.values k (values_of d) d.operations.cells d.operations.rows i.there i.own counts a.many
+    own : IsOwnOf d.job.now k d.own.registers d.own.kept.cells d.own.kept.rows (told d.job.now counts)
+    own = told_is d.job.now g.formed g.values k d.own.registers d.own.kept.cells d.own.kept.rows i.there i.own counts a.many
         (λ s n c. a.agree s (record { there = i.there s n c; grouped = i.only s n c }) ∙ i.counted s n c)
 
 -- a driver of a fabric, and its own share

@@ -65,8 +65,8 @@ pub record FitsTo (d : Share) (r : Remains) : Type 0 where
 -- what the share has of its own is taken over
 pub record Gathers (d : Share) (old new : Remains) : Type 0 where
   pub counts : TakesCounts old.counts.items new.counts.items d.counts.items d.groups d.group
-  pub cells : TakesCells old.cells.items new.cells.items d.operations.cells old.cell_owners.items d.groups d.group
-  pub rows : TakesRows d.job.now old.rows new.rows (record { lens = d.operations.lens; reactions = d.operations.rows }) old.callers.items d.groups d.group
+  pub cells : TakesCells old.cells.items new.cells.items d.own.kept.cells old.cell_owners.items d.groups d.group
+  pub rows : TakesRows d.job.now old.rows new.rows (record { lens = d.own.kept.lens; reactions = d.own.kept.rows }) old.callers.items d.groups d.group
   pub words : new.words ≡ old.words
   pub callers : new.callers ≡ old.callers
   pub owners : new.cell_owners ≡ old.cell_owners

@@ -2,7 +2,6 @@ pub mod Driver
 pub mod Answers
 pub mod Closed
 pub mod Owners
-pub mod Files
 pub mod Share
 pub mod Weaving
 pub mod Ends

@@ -45,13 +45,6 @@ module _ (j : JobData) where
     pub reached : AreReached j counts
     pub agree : (s n : ℕ) → count_in k.driven s ≡ Some n → slice_index_or counts s 0 ≡ n
 
--- what a driver has in its fields
-abbrev pub values_of : Share → List (List ℤ)
-values_of d = map (λ r. r.values) d.registers.items
-
-abbrev pub rooms_of : Share → List ℕ
-rooms_of d = map (λ r. r.room) d.registers.items
-
 -- It is the share of a driver of the job, on this table, and its seat holds this.
 pub record IsDriver (j : JobData) (table : TableId) (k : Knowledge) (d : Share) : Type 0 where
   pub of_table : d.seat.table ≡ table
@@ -59,7 +52,8 @@ pub record IsDriver (j : JobData) (table : TableId) (k : Knowledge) (d : Share) 
   pub holds : d.seat.view ≡ Holds k
   pub job : k.job ≡ j
   pub counts_there : length d.counts.items ≡ length j.program.seqs
-  pub registers_there : length d.registers.items ≡ length j.program.seqs
+  pub registers_there : length d.own.registers ≡ length j.program.seqs
+  pub rooms_there : length d.own.rooms ≡ length j.program.seqs
   -- of the sequences that are driven
   pub there : (s n : ℕ) → count_in k.driven s ≡ Some n → s < length j.program.seqs
   pub within : (s n : ℕ) → count_in k.driven s ≡ Some n → n ≤ full j s
@@ -68,12 +62,12 @@ pub record IsDriver (j : JobData) (table : TableId) (k : Knowledge) (d : Share) 
   pub only : (s n : ℕ) → count_in k.driven s ≡ Some n → s % d.groups ≡ d.group
   pub all : (s : ℕ) → s < length j.program.seqs → s % d.groups ≡ d.group → (n : ℕ) × (count_in k.driven s ≡ Some n)
   pub reaches : Reaches j k
-  pub ready : AreReady j d.operations
+  pub ready : AreReady j d.own.kept
   -- rows are laid out for the actuators that its sequences call
-  pub rows_laid : (v : ℕ) → caller j v % d.groups ≡ d.group → HasRow j d.operations.lens v
-  pub in_prologue : (s l : ℕ) → Fits j.graph (slice_index_or (rooms_of d) s 0) (slice_get (steps j.program s).prologue l)
-  pub in_turn : (s l : ℕ) → Fits j.graph (slice_index_or (rooms_of d) s 0) (slice_get (steps j.program s).turn l)
-  pub own : HasOwn j k (values_of d) d.operations.cells d.operations.rows
+  pub rows_laid : (v : ℕ) → caller j v % d.groups ≡ d.group → HasRow j d.own.kept.lens v
+  pub in_prologue : (s l : ℕ) → Fits j.graph (slice_index_or d.own.rooms s 0) (slice_get (steps j.program s).prologue l)
+  pub in_turn : (s l : ℕ) → Fits j.graph (slice_index_or d.own.rooms s 0) (slice_get (steps j.program s).turn l)
+  pub own : HasOwn j k d.own.registers d.own.kept.cells d.own.kept.rows
 
 -- the share of a driver of its own job, on the table of its seat
 abbrev pub IsShare : Share → Type 0
@@ -116,9 +110,9 @@ share_view d = record {
   group = d.group;
   counts = d.counts.items;
   look = last_look d.seat.view;
-  registers = values_of d;
-  cells = d.operations.cells;
-  rows = d.operations.rows;
+  registers = d.own.registers;
+  cells = d.own.kept.cells;
+  rows = d.own.kept.rows;
 }
 
 -- It is the share of a driver of the fabric.

@@ -106,11 +106,10 @@ fn gather<'a>(remains: &mut Remains, share: Share<'a>) -> WordSeat<'a>
         groups,
         group,
         counts,
-        registers: _,
-        operations,
+        own,
     } = share;
     take_counts(&mut remains.counts, counts.as_slice(), groups, group);
-    let (cells, rows) = operations.into_parts();
+    let (cells, rows) = own.into_parts();
     take_cells(
         &mut remains.cells,
         cells,

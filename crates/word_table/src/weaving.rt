@@ -12,7 +12,7 @@ use crate::remains::Remains;
 use crate::share::Share;
 use crate::woven::Woven;
 use executive_program::micro_steps_of;
-use semaphore_core::{Job, Operations, all_registers, small, words_of, zero_elements};
+use semaphore_core::{Job, OwnParts, cells_and_rows, small, words_of, zero_elements};
 use std::alloc::Global;
 use syn_base::{Items, OutOfMemory};
 use word_rule::{WordSeat, WordTable, job_runs_on_words};
@@ -23,7 +23,7 @@ fn remains_of(alloc: Global, job: &Job, len: usize) -> Result<Remains, OutOfMemo
     ensures { IfOk result (λ r. AreLaid job.now r) }
 {
     let vertices = job.flat().vertices();
-    let (cells, rows) = Operations::new(alloc, job)?.into_parts();
+    let (cells, rows) = cells_and_rows(alloc, job)?;
     let callers = callers_of(alloc, job.program(), vertices.len())?;
     let cell_owners = cell_owners(alloc, vertices, callers.as_slice())?;
     Ok(Remains {
@@ -117,16 +117,14 @@ fn driver_of<'a>(
     let called = called_in(alloc, woven.remains.callers.as_slice(), woven.groups, group)?;
     let sequences = job.program().seqs.as_slice().len();
     let counts = words_of(alloc, 0, sequences)?;
-    let registers = all_registers(alloc, job.flat(), woven.steps.as_slice())?;
-    let operations = Operations::for_some(alloc, job, called.as_slice())?;
+    let own = OwnParts::for_some(alloc, job, woven.steps.as_slice(), called.as_slice())?;
     Ok(Share {
         seat,
         job,
         groups: woven.groups,
         group,
         counts,
-        registers,
-        operations,
+        own,
     })
 }
 

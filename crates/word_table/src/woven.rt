@@ -9,7 +9,7 @@ ghost use Rattle.word_table.specs.Share.{IsWoven, IsOf, SameDriver, CanMake, Loo
 
 use crate::answer::MicroAnswer;
 use crate::remains::Remains;
-use crate::share::{Share, absorb, count_up, emit};
+use crate::share::{Share, count_up};
 use executive_program::{MicroStep, OnLoad, OnStore, Place, SeqSteps};
 use semaphore_core::{Job, home, next_in, reaction_at, slot, turn_reached};
 use word_rule::{Next, WordTable};
@@ -103,11 +103,10 @@ impl<'a> Woven<'a> {
     {
         let found = self.table.load(&mut share.seat, next);
         count_up(&mut share.counts, next.seq);
-        absorb(
+        share.own.absorb(
             self.job,
-            &mut share.operations,
-            &mut share.registers,
-            next,
+            next.seq as usize,
+            next.reaction,
             then,
             found.cast_signed(),
         );
@@ -122,13 +121,9 @@ impl<'a> Woven<'a> {
         ensures same { SameDriver share.old share.new }
         ensures made { Steps (share_view share.old) (share_view share.new) next.seq next.reaction next.step }
     {
-        let value = emit(
-            self.job,
-            &mut share.operations,
-            &mut share.registers,
-            next,
-            what,
-        );
+        let value = share
+            .own
+            .emit(self.job, next.seq as usize, next.reaction, what);
         self.table.store(&mut share.seat, next, value);
         count_up(&mut share.counts, next.seq);
     }

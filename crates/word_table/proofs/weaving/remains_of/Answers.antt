@@ -1,6 +1,5 @@
 use Rattle.std.proofs.Common.{◌≡◌, ℕ, ◌-◌, ◌∙◌, length, ap, arith}
 use Rattle.std.proofs.lemmas.List.{length-replicate}
-use Rattle.syn_base.specs.Rows.{Reactions}
 use Rattle.flat_graph.specs.declared.vertex.Vertex.{Vertex}
 use Rattle.flat_graph.specs.Graph.{Graph}
 use Rattle.executive_program.specs.declared.program.SeqCode.{SeqCode}
@@ -14,9 +13,9 @@ returns c = record {
   counts_there = ap (length {A = ℕ}) c.in_ok-words_of.ensures ∙ length-replicate (length c.as_slice-2.result.now) 0
       ∙ ap (length {A = SeqCode}) (c.as_slice-2.ensures ∙ ap (λ (p : Program). p.seqs) c.program-2.ensures.same);
   words_there = let l = ap (length {A = ℕ}) c.in_ok-words_of-2.ensures ∙ length-replicate (c.args.len - 1) 0 in let r = c.requires in omega (arith, l, r);
-  cells = c.in_ok-items_of.ensures ∙ c.into_parts-cells.ensures.cells ∙ c.in_ok-new.ensures.cells;
-  lens = ap (λ (r : Reactions). r.lens) c.into_parts-cells.ensures.rows ∙ c.in_ok-new.ensures.lens;
-  rows = ap (λ (r : Reactions). r.reactions) c.into_parts-cells.ensures.rows ∙ c.in_ok-new.ensures.rows;
+  cells = c.in_ok-items_of.ensures ∙ c.in_ok-cells.ensures.cells;
+  lens = c.in_ok-cells.ensures.lens;
+  rows = c.in_ok-cells.ensures.rows;
   callers_there = c.in_ok-callers.ensures.long ∙ many;
   callers = λ v l. c.in_ok-callers.ensures.each v (omega (arith, l, many)) ∙ ap (λ (p : Program). caller_of p v) c.program.ensures.same;
   cell_owners = c.in_ok-cell_owners.ensures ∙ (λ i. owners (c.as_slice.ensures.value i) (vertices i));

@@ -1,7 +1,5 @@
 -- The parts of the state after a load.
 use Rattle.std.proofs.Common.{◌<◌, ap, sym, subst, arith, rules, length, w64, to_z, of_z}
-use Rattle.std.proofs.lemmas.List.{length-map}
-use Rattle.semaphore_core.specs.RegisterFile.{RegisterFile}
 use Rattle.std.proofs.lemmas.Int.{to_z-of_z}
 use mir.Val.{SFits}
 use Rattle.semaphore_core.specs.Held.{Held, AreReady, LoadHasRow, kept_of}
@@ -13,15 +11,14 @@ pub returns : goal.returns
 returns c = rw (← c.self.view_is) (
     let f : SFits w64 c.element_in-value.result = search rules in
     let s = c.self.inside in
-    let a = ap (λ (h : Held). length h.core.counts) c.self.view_is in let b = ap (λ (h : Held). length h.rooms) c.self.view_is in
+    let a = ap (λ (h : Held). length h.core.counts) c.self.view_is in
     let few : c.args.seq < length s.counts.items = let d = c.requires.counted.0 in omega arith in
-    let there : c.args.seq < length s.registers.items = let d = c.requires.room.0 in let e = length-map s.registers.items (λ (f : RegisterFile). f.room) in omega arith in
-    loaded c.args.job.now s.counts.items s.semaphores.items s.turns.items s.elements.items s.registers.items s.operations s.steps.items
-    c.args.seq c.args.reaction c.index_mut.result.now c.index_mut-registers.result.now c.absorb.new.registers few there c.index_mut.ensures.value c.index_mut-registers.ensures.value
+    loaded c.args.job.now s.counts.items s.semaphores.items s.turns.items s.elements.items s.own s.steps.items
+    c.args.seq c.args.reaction c.index_mut.result.now few c.index_mut.ensures.value
     c.args.place c.args.then (to_z w64 (of_z w64 c.element_in-value.result)) c.absorb.new.self
-    (found c.args.job.now (core_of s.counts.items s.semaphores.items s.turns.items s.elements.items s.registers.items s.operations) c.program-program.result.now c.args.place c.args.reaction c.home.result c.slot-at.result c.deref.result.now c.element_in-value.result _
+    (found c.args.job.now (core_of s.counts.items s.semaphores.items s.turns.items s.elements.items s.own) c.program-program.result.now c.args.place c.args.reaction c.home.result c.slot-at.result c.deref.result.now c.element_in-value.result _
     c.program-program.ensures.same c.deref.ensures.value c.home.ensures c.slot-at.ensures c.element_in-value.ensures (to_z-of_z w64 c.element_in-value.result f))
-    c.absorb.ensures.registers c.absorb.ensures.kept)
+    c.absorb.ensures)
 
 pub absorb-requires-clause-ready : goal.absorb-requires-clause-ready
 absorb-requires-clause-ready c = subst (λ (h : Held). AreReady c.args.job.now (kept_of h)) (sym c.self.view_is) c.requires.ready

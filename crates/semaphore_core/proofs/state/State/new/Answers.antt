@@ -1,18 +1,19 @@
 -- The parts are those of the opening, and the state is open.
-use Rattle.std.proofs.Common.{◌≡◌, ℕ, ◌*◌, ◌++◌, ◌∙◌, List, [], length, replicate, ap}
+use Rattle.std.proofs.Common.{◌≡◌, ℕ, ◌*◌, ◌++◌, ◌∙◌, List, [], length, replicate, ap, subst}
 use Rattle.executive_program.specs.declared.program.Program.{Program}
 use Rattle.executive_program.specs.declared.program.SeqCode.{SeqCode}
 use Rattle.semaphore_core.specs.Core.{opening, buffer_zeros, wire_zeros}
-use Rattle.semaphore_core.specs.AtOpening.{all_registers}
-use Rattle.semaphore_core.proofs.Viewing.{core_of, values_of}
+use Rattle.executive_program.specs.declared.expand.SeqSteps.{SeqSteps}
+use Rattle.semaphore_core.specs.AtOpening.{AreAtOpening}
+use Rattle.semaphore_core.proofs.Viewing.{core_of}
 use Rattle.semaphore_core.proofs.OpenStates.{registers_empty, state_open}
 use Rattle.semaphore_core.proofs.state.State.new.Goals as goal
 
-files_are : (c : goal.In_ok-new) → c.in_ok-registers.registers.items ≡ all_registers c.args.job.now.graph c.in_ok-steps.steps.items
-files_are c = c.in_ok-registers.ensures ∙ (λ i. all_registers (c.flat.ensures i) (c.as_slice.ensures.value i))
+is_opening : (c : goal.In_ok-zero_elements) → AreAtOpening c.args.job.now c.in_ok-steps.steps.items c.in_ok-own.own
+is_opening c = subst (λ (l : List SeqSteps). AreAtOpening c.args.job.now l c.in_ok-own.own) c.as_slice.ensures.value c.in_ok-own.ensures.opening
 
-core_is : (c : goal.In_ok-new) → core_of c.in_ok-words_of.field-0.items c.in_ok-words_of-2.field-0.items c.in_ok-words_of-3.field-0.items c.in_ok-zero_elements.field-0.items c.in_ok-registers.registers.items c.in_ok-new.field-0 ≡ opening c.args.job.now
-core_is c = λ i. record { counts = counts i; semaphores = semaphores i; turns = turns i; elements = elements i; registers = registers i; cells = c.in_ok-new.ensures.cells i; rows = c.in_ok-new.ensures.rows i }
+core_is : (c : goal.In_ok-zero_elements) → core_of c.in_ok-words_of.field-0.items c.in_ok-words_of-2.field-0.items c.in_ok-words_of-3.field-0.items c.in_ok-zero_elements.field-0.items c.in_ok-own.own ≡ opening c.args.job.now
+core_is c = λ i. record { counts = counts i; semaphores = semaphores i; turns = turns i; elements = elements i; registers = registers i; cells = c.in_ok-own.ensures.opening.cells i; rows = c.in_ok-own.ensures.rows i }
   where
     same : c.program-program.result.now ≡ c.args.job.now.program
     same = c.program-program.ensures.same
@@ -29,13 +30,13 @@ core_is c = λ i. record { counts = counts i; semaphores = semaphores i; turns =
     elements : c.in_ok-zero_elements.field-0.items ≡ buffer_zeros c.args.job.now.program ++ wire_zeros c.args.job.now.program c.args.job.now.media
     elements = c.in_ok-zero_elements.ensures ∙ (λ i. buffer_zeros (same i) ++ wire_zeros (same i) ((c.in_ok-small.ensures ∙ c.media-2.ensures) i))
 
-    registers : values_of c.in_ok-registers.registers.items ≡ replicate (length c.args.job.now.program.seqs) []
-    registers = registers_empty c.args.job.now c.program-program.result.now same c.in_ok-steps.steps.items c.in_ok-steps.ensures c.in_ok-registers.registers.items (files_are c)
+    registers : c.in_ok-own.own.registers ≡ replicate (length c.args.job.now.program.seqs) []
+    registers = registers_empty c.args.job.now c.program-program.result.now same c.in_ok-steps.steps.items c.in_ok-steps.ensures c.in_ok-own.own (is_opening c)
 
 pub returns-clause-core : goal.returns-clause-core
 returns-clause-core c = core_is c
 
 pub returns-clause-opened : goal.returns-clause-opened
-returns-clause-opened c = state_open c.args.job.now c.program-program.result.now c.program-program.ensures.same c.in_ok-steps.steps.items c.in_ok-steps.ensures c.in_ok-registers.registers.items (files_are c) c.program-program.ensures.job
-    (core_of c.in_ok-words_of.field-0.items c.in_ok-words_of-2.field-0.items c.in_ok-words_of-3.field-0.items c.in_ok-zero_elements.field-0.items c.in_ok-registers.registers.items c.in_ok-new.field-0)
-    c.in_ok-new.field-0.lens c.in_ok-new.field-0.desks c.in_ok-new.ensures.laid_out (core_is c) c.in_ok-new.ensures.ready
+returns-clause-opened c = state_open c.args.job.now c.program-program.result.now c.program-program.ensures.same c.in_ok-steps.steps.items c.in_ok-steps.ensures c.in_ok-own.own (is_opening c) c.program-program.ensures.job
+    (core_of c.in_ok-words_of.field-0.items c.in_ok-words_of-2.field-0.items c.in_ok-words_of-3.field-0.items c.in_ok-zero_elements.field-0.items c.in_ok-own.own)
+    c.in_ok-own.ensures.laid_out (core_is c) c.in_ok-own.ensures.opening.ready

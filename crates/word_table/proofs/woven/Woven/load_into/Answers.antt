@@ -5,7 +5,7 @@ use Rattle.executive_program.specs.declared.steps.MicroStep.{MicroStep}
 use Rattle.semaphore_core.specs.Held.{NeedsReaction}
 use Rattle.semaphore_core.specs.Job.{reactions}
 use Rattle.word_table.proofs.Drivers.{can_count, loads_freely, free_steps}
-use Rattle.word_table.proofs.Making.{can_step, needs, room, has_registers, load_row, finds_told, loaded_driver}
+use Rattle.word_table.proofs.Making.{can_step, needs, room, has_room, load_row, finds_told, loaded_driver}
 use Rattle.word_table.proofs.woven.Woven.load_into.Goals as goal
 
 pub load-found-requires-clause-can : goal.load-found-requires-clause-can
@@ -28,7 +28,7 @@ absorb-requires-clause-reaction c = let q = c.requires in let a = c.args in
     subst (λ (m : MicroStep). NeedsReaction m a.next.reaction (reactions a.self.now.job.now)) q.kind (needs a.self.now a.share.now a.next q.woven q.can)
 
 pub absorb-requires-clause-there : goal.absorb-requires-clause-there
-absorb-requires-clause-there c = let q = c.requires in let a = c.args in has_registers a.self.now a.share.now a.next q.woven q.can
+absorb-requires-clause-there c = let q = c.requires in let a = c.args in has_room a.self.now a.share.now a.next q.woven q.can
 
 pub absorb-requires-clause-room : goal.absorb-requires-clause-room
 absorb-requires-clause-room c = let q = c.requires in let a = c.args in let r = room a.self.now a.share.now a.next q.woven q.can in rw q.kind at r
@@ -41,5 +41,5 @@ returns-clause-of c = let q = c.requires in let a = c.args in let l = c.load-fou
 
 pub returns-clause-made : goal.returns-clause-made
 returns-clause-made c = let q = c.requires in let a = c.args in let l = c.load-found.ensures in
-    free_steps a.self.now a.share.now a.next q.woven q.can (record a.share.now { seat = c.load-found.new.seat; counts = c.count_up.new.counts; registers = c.absorb.new.registers; operations = c.absorb.new.operations }) (record { table = ap (λ s. s.table) l.seat; job = refl; groups = refl; group = refl }) (ap (λ s. s.view) l.seat) c.count_up.ensures (loads_freely a.place a.then a.next.step q.kind)
+    free_steps a.self.now a.share.now a.next q.woven q.can (record a.share.now { seat = c.load-found.new.seat; counts = c.count_up.new.counts; own = c.absorb.new.self }) (record { table = ap (λ s. s.table) l.seat; job = refl; groups = refl; group = refl }) (ap (λ s. s.view) l.seat) c.count_up.ensures (loads_freely a.place a.then a.next.step q.kind)
     (finds_told a.self.now a.share.now a.next q.woven q.can c.load-found.result l.found)

@@ -13,7 +13,7 @@ count_up-requires c = let q = c.requires in let a = c.args in can_count a.self.n
 pub returns-then-ready-clause-of : goal.returns-then-ready-clause-of
 returns-then-ready-clause-of c = let q = c.requires in let a = c.args in let l = c.look-found.ensures in
     made_driver a.self.now a.share.now a.next q.woven q.can q.kind _ (record { table = ap (λ s. s.table) l.seat; job = refl; groups = refl; group = refl })
-    (record { found = c.look-found.result; is = sym c.if-ready.true ∙ c.enables-ready.ensures; finds = l.found; seat = l.seat; made = λ e. c.count_up.ensures; missed = λ e. absurd (true_false e) }) refl refl
+    (record { found = c.look-found.result; is = sym c.if-ready.true ∙ c.enables-ready.ensures; finds = l.found; seat = l.seat; made = λ e. c.count_up.ensures; missed = λ e. absurd (true_false e) }) refl
 
 pub returns-else-ready-clause-of : goal.returns-else-ready-clause-of
 returns-else-ready-clause-of c = let q = c.requires in let a = c.args in let l = c.look-found.ensures in

@@ -11,7 +11,7 @@ count_up-requires c = let q = c.requires in let a = c.args in can_count a.self.n
 
 pub returns-clause-of : goal.returns-clause-of
 returns-clause-of c = let q = c.requires in let a = c.args in let m = lowers_freely a.next.step q.kind in
-    quiet_driver a.self.now a.share.now a.next q.woven q.can _ (record { table = ap (λ s. s.table) c.lower.ensures.seat; job = refl; groups = refl; group = refl }) (ap (λ s. s.view) c.lower.ensures.seat) c.count_up.ensures m.0 c.lower.ensures.agree m.1 refl refl
+    quiet_driver a.self.now a.share.now a.next q.woven q.can _ (record { table = ap (λ s. s.table) c.lower.ensures.seat; job = refl; groups = refl; group = refl }) (ap (λ s. s.view) c.lower.ensures.seat) c.count_up.ensures m.0 c.lower.ensures.agree m.1 refl
 
 pub returns-clause-made : goal.returns-clause-made
 returns-clause-made c = let q = c.requires in let a = c.args in let m = lowers_freely a.next.step q.kind in

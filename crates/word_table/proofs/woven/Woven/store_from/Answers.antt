@@ -5,7 +5,7 @@ use Rattle.executive_program.specs.declared.steps.MicroStep.{MicroStep}
 use Rattle.semaphore_core.specs.Held.{NeedsReaction}
 use Rattle.semaphore_core.specs.Job.{reactions}
 use Rattle.word_table.proofs.Drivers.{can_count, stores_freely, free_steps}
-use Rattle.word_table.proofs.Making.{can_step, needs, room, has_registers, store_row, stores, stored_driver}
+use Rattle.word_table.proofs.Making.{can_step, needs, room, has_room, store_row, stores, stored_driver}
 use Rattle.word_table.proofs.woven.Woven.store_from.Goals as goal
 
 pub emit-value-requires-clause-ready : goal.emit-value-requires-clause-ready
@@ -19,7 +19,7 @@ emit-value-requires-clause-reaction c = let q = c.requires in let a = c.args in
     subst (λ (m : MicroStep). NeedsReaction m a.next.reaction (reactions a.self.now.job.now)) q.kind (needs a.self.now a.share.now a.next q.woven q.can)
 
 pub emit-value-requires-clause-there : goal.emit-value-requires-clause-there
-emit-value-requires-clause-there c = let q = c.requires in let a = c.args in has_registers a.self.now a.share.now a.next q.woven q.can
+emit-value-requires-clause-there c = let q = c.requires in let a = c.args in has_room a.self.now a.share.now a.next q.woven q.can
 
 pub emit-value-requires-clause-room : goal.emit-value-requires-clause-room
 emit-value-requires-clause-room c = let q = c.requires in let a = c.args in let r = room a.self.now a.share.now a.next q.woven q.can in rw q.kind at r
@@ -40,4 +40,4 @@ returns-clause-of c = let q = c.requires in let a = c.args in
 
 pub returns-clause-made : goal.returns-clause-made
 returns-clause-made c = let q = c.requires in let a = c.args in
-    free_steps a.self.now a.share.now a.next q.woven q.can (record a.share.now { seat = c.store.new.seat; counts = c.count_up.new.counts; registers = c.emit-value.new.registers; operations = c.emit-value.new.operations }) (record { table = ap (λ s. s.table) c.store.ensures.seat; job = refl; groups = refl; group = refl }) (ap (λ s. s.view) c.store.ensures.seat) c.count_up.ensures (stores_freely a.place a.what a.next.step q.kind) c.store.ensures.agree
+    free_steps a.self.now a.share.now a.next q.woven q.can (record a.share.now { seat = c.store.new.seat; counts = c.count_up.new.counts; own = c.emit-value.new.self }) (record { table = ap (λ s. s.table) c.store.ensures.seat; job = refl; groups = refl; group = refl }) (ap (λ s. s.view) c.store.ensures.seat) c.count_up.ensures (stores_freely a.place a.what a.next.step q.kind) c.store.ensures.agree

@@ -1,0 +1,67 @@
+-- What the sequences of a state or of a driver have of their own, and what the loads and stores of one of them leave of it.
+use Rattle.std.specs.Prelude.{ℕ, List, [], slice_index_or, slice_set, ℤ}
+use Rattle.level_meaning.specs.Level.{Values}
+use Rattle.executive_program.specs.declared.steps.OnLoad.{OnLoad}
+use Rattle.executive_program.specs.declared.steps.OnStore.{OnStore}
+use Rattle.semaphore_core.specs.Desk.{DeskLens}
+use Rattle.semaphore_core.specs.RegisterFile.{RegisterFile}
+use Rattle.semaphore_core.specs.Registers.{Own, compute, absorb_by, emit_by, after_by}
+use Rattle.semaphore_core.specs.Job.{JobData}
+
+-- the delays' cells, the actuators' rows with the lengths of their vectors, and the operations' desks
+pub record Kept : Type 0 where
+  pub cells : Values
+  pub rows : List Values
+  pub lens : List ℕ
+  pub desks : List DeskLens
+
+pub record Parts : Type 0 where
+  -- by sequence: the registers that are in use, and how many it has room for
+  pub registers : List (List ℤ)
+  pub rooms : List ℕ
+  -- of the operations that the sequences call
+  pub kept : Kept
+
+-- what one sequence has of its own: that with these registers, and sequence s
+abbrev pub own_of : RegisterFile → Kept → Own
+own_of r k = record { registers = r.values; cells = k.cells; rows = k.rows }
+
+abbrev pub own_at : Parts → ℕ → Own
+own_at p s = record { registers = slice_index_or p.registers s []; cells = p.kept.cells; rows = p.kept.rows }
+
+-- the registers, cells and rows of this, and the rest as it is
+abbrev pub with_values : RegisterFile → Own → RegisterFile
+with_values r c = record r { values = c.registers }
+
+abbrev pub with_kept : Kept → Own → Kept
+with_kept kept c = record kept { cells = c.cells; rows = c.rows }
+
+-- sequence s has this of its own now
+abbrev pub with_own : Parts → ℕ → Own → Parts
+with_own p s c = record { registers = slice_set p.registers s c.registers; rooms = p.rooms; kept = with_kept p.kept c }
+
+module _ (j : JobData) where
+  -- what a sequence has of its own after operation v was computed in reaction k, and after a load of element z
+  abbrev pub computed : ℕ → ℕ → Own → Own
+  computed v k c = compute j.graph j.sensors v k c.registers c
+
+  abbrev pub absorbed : OnLoad → ℕ → Own → ℤ → Own
+  absorbed then k c z = absorb_by j.graph j.sensors then k c z
+
+  -- what it stores, and what it has after that
+  abbrev pub emitted : OnStore → ℕ → Own → ℤ
+  emitted what k c = emit_by j.graph j.sensors what k c
+
+  abbrev pub left : OnStore → ℕ → Own → Own
+  left what k c = after_by j.graph j.sensors what k c
+
+  -- after sequence s has loaded element z in reaction k, and after it has stored
+  abbrev pub with_load : Parts → ℕ → ℕ → OnLoad → ℤ → Parts
+  with_load p s k then z = with_own p s (absorbed then k (own_at p s) z)
+
+  abbrev pub with_store : Parts → ℕ → ℕ → OnStore → Parts
+  with_store p s k what = with_own p s (left what k (own_at p s))
+
+  -- what it stores
+  abbrev pub value_stored : Parts → ℕ → ℕ → OnStore → ℤ
+  value_stored p s k what = emitted what k (own_at p s)
