@@ -1,9 +1,7 @@
 //! The sequences of one driver, which are driven in turn.
-ghost use Rattle.std.specs.Prelude.{◌≡◌, ◌≢◌, ◌+◌, ◌<◌, ◌%◌, ℕ, false, length, slice_index_or, vec_len, None, Some};
-ghost use Rattle.semaphore_core.specs.Core.{full, is_enabled};
-ghost use Rattle.semaphore_core.specs.Told.{told};
+ghost use Rattle.std.specs.Prelude.{◌≡◌, ◌≢◌, ◌<◌, ◌%◌, ℕ, length, slice_index_or, vec_len};
 ghost use Rattle.word_table.specs.Answers.{Answers, AnswersAlone};
-ghost use Rattle.word_table.specs.Driver.{Drives, IsFinished};
+ghost use Rattle.word_table.specs.Driver.{IsFinished};
 ghost use Rattle.executive_run.specs.Going.{GoesOn, GoesTo, IsHalted, IsStuck};
 
 use crate::progress::Progress;
