@@ -1,6 +1,9 @@
 -- One micro-step more of a sequence, and what tries answer.
-use Rattle.std.proofs.Common.{◌≡◌, ◌≢◌, ℕ, suc, zero, ◌+◌, ◌%◌, ◌<◌, ◌≤◌, Bool, true, false, cond, List, [], ◌∷◌, length, get_or, set, min, refl, sym, subst, ap, ◌∙◌, arith, below_more, Option, Some, None}
+use Rattle.std.proofs.Common.{◌≡◌, ◌≢◌, ℕ, suc, zero, ◌+◌, ◌*◌, ◌/◌, ◌%◌, ◌<◌, ◌≤◌, inl, inr, Bool, true, false, cond, List, [], ◌∷◌, length, get_or, set, min, refl, sym, subst, ap, ◌∙◌, arith, below_more, Option, Some, None}
+use Rattle.std.proofs.Math.Nat.{lt_of_mul-lt-mul_right, mul-le-mul_right, suc-mul}
+use Rattle.std.proofs.lemmas.Bool.{cases_lt}
 use Rattle.std.proofs.lemmas.List.{get_or-set_other, length-set}
+use Rattle.std.proofs.lemmas.Nat.{div-add-mod'}
 use Rattle.executive_program.specs.declared.steps.MicroStep.{MicroStep}
 use Rattle.semaphore_core.specs.Job.{JobData}
 use Rattle.semaphore_core.specs.Core.{Core, full, next, is_enabled, enabled_in, reaction, AreReached}
@@ -10,7 +13,16 @@ use Rattle.word_table.specs.Driver.{FabricData, DriverData, Drives, IsFinished}
 use Rattle.word_table.specs.declared.answer.MicroAnswer.{MicroAnswer}
 use Rattle.word_table.specs.declared.answer.MicroAnswer.TheVariants.{Stepped, NotYet}
 use Rattle.word_table.specs.Answers.{AnswersAlone, answer_in, answer_by}
-use Rattle.executive_run.specs.Going.{left_from, steps_left, GoesOn, IsHalted, IsStuck}
+use Rattle.executive_run.specs.Going.{left_from, steps_left, GoesOn, GoesTo, IsHalted, IsStuck}
+
+-- two numbers that leave the same when they are divided by g are at least g apart
+apart : (g n s : ℕ) → n % g ≡ s % g → n < s → n + g ≤ s
+apart g n s same l =
+    let from : n / g * g + n % g ≡ n = div-add-mod' n g in
+    let to : s / g * g + s % g ≡ s = div-add-mod' s g in
+    let below : n / g < s / g = lt_of_mul-lt-mul_right g (omega arith) in
+    let past : suc (n / g) * g ≤ s / g * g = mul-le-mul_right g (omega arith) in
+    omega (arith, suc-mul (n / g) g)
 
 -- one more of a count that is not full: one micro-step fewer is left
 pub left-one_more : (j : JobData) (k : ℕ) (counts : List ℕ) (i : ℕ) → i < length counts → get_or counts i 0 < full j (k + i)
@@ -132,15 +144,63 @@ short_more old new n (suc w) v k e l f counts was there now =
       more = subst (λ (c : List ℕ). get_or c short.seq 0 < full new.fabric.job short.seq) (sym counts) (subst (λ (x : FabricData). get_or old.counts short.seq 0 < full x.job short.seq) (sym f) short.more);
     }
 
+-- no other sequence of the driver stands before the next one of its group
+pub finished_up_to : (d : DriverData) (n m : ℕ) → n % d.fabric.groups ≡ d.group → m ≤ n + d.fabric.groups → FinishedBelow d (n + 1) → FinishedBelow d m
+finished_up_to d n m own near below s l drives =
+    elim (cases_lt s (n + 1)) [
+      | inl less ↦ below s less drives
+      | inr more ↦ absurd (let far : n + d.fabric.groups ≤ s = apart d.fabric.groups n s (own ∙ sym drives.grouped) (omega arith) in omega arith)
+    ]
+
+-- how far a turn of a driver came: its sequences below n went as far as they go
+pub record HasTurnedBelow (first d : DriverData) (steps waiting n : ℕ) : Type 0 where
+  pub goes : GoesOn first d steps
+  pub finished : waiting ≡ 0 → FinishedBelow d n
+  pub halted : d.fabric.groups ≡ 1 → steps ≡ 0 → (s : ℕ) → s < n → IsHalted d s
+  pub short : steps ≡ 0 → 0 < waiting → IsShort d
+
+-- before its first sequence
+pub turn_begins : (d : DriverData) (n : ℕ) → n ≡ d.group → d.group < d.fabric.groups → HasTurnedBelow d d 0 0 n
+turn_begins d n first few = record {
+  goes = stays d;
+  finished = λ none s l drives. absurd (let own = drives.grouped in omega arith);
+  halted = λ one none s l. absurd (omega arith);
+  short = λ none some. absurd (omega arith);
+}
+
+-- one of its sequences more
+pub turned_more : (f : FabricData) (first old new : DriverData) (steps more all waits wait waiting n m : ℕ) → new.fabric ≡ f
+    → HasTurnedBelow first old steps waits n → GoesOn old new more → ((s : ℕ) → s ≢ n → get_or new.counts s 0 ≡ get_or old.counts s 0)
+    → GoesTo new n wait → (f.groups ≡ 1 → IsHalted new n)
+    → all ≡ min (steps + more) 18446744073709551615 → waiting ≡ min (waits + wait) 18446744073709551615
+    → n < length f.job.program.seqs → n % f.groups ≡ old.group → m ≤ n + f.groups
+    → HasTurnedBelow first new all waiting m
+turned_more f first old new steps more all waits wait waiting n m of p goes others to alone made left there own near = record {
+  goes = goes_then first old new steps more all p.goes goes made;
+  finished = λ none.
+      finished_up_to new n m (ap (λ g. n % g) groups ∙ (own ∙ sym goes.group)) (omega (arith, near, groups))
+      (finished_more old new n goes.fabric goes.group others (p.finished (omega (arith, none, left))) (λ drives. to.finished (omega (arith, none, left))));
+  halted = λ one none s l.
+      below_more (λ s. IsHalted new s) n
+      (λ s l. halted_as old new s (p.halted (ap (λ (x : FabricData). x.groups) (sym goes.fabric) ∙ one) (omega (arith, made, none)) s l) goes.fabric (goes.idle (omega (arith, made, none))))
+      (alone (sym groups ∙ one)) s (omega (arith, groups, near, one, l));
+  short = λ none some.
+      short_more old new n waits wait waiting left some goes.fabric (goes.idle (omega (arith, made, none))) (p.short (omega (arith, made, none)))
+      (omega (arith, there, ap (λ (x : FabricData). length x.job.program.seqs) of)) to.more;
+}
+  where
+    groups : new.fabric.groups ≡ f.groups
+    groups = ap (λ (x : FabricData). x.groups) of
+
 -- all sequences of the driver
-pub finished_all : (d : DriverData) (n : ℕ) → n ≡ length d.fabric.job.program.seqs → FinishedBelow d n → IsFinished d
-finished_all d n e below s drives = below s (omega (arith, e, drives.there)) drives
+pub finished_all : (d : DriverData) (n : ℕ) → length d.fabric.job.program.seqs ≤ n → FinishedBelow d n → IsFinished d
+finished_all d n all below s drives = below s (omega (arith, all, drives.there)) drives
 
 -- no step was made by a turn of a driver of all sequences
-pub stuck : (d : DriverData) → ((s : ℕ) → s < length d.fabric.job.program.seqs → IsHalted d s) → IsShort d → IsStuck d
-stuck d all short = record {
-  reached = (all short.seq short.there).reached;
-  disabled = λ s l. (all s l).disabled;
+pub stuck : (d : DriverData) (n : ℕ) → length d.fabric.job.program.seqs ≤ n → ((s : ℕ) → s < n → IsHalted d s) → IsShort d → IsStuck d
+stuck d n all halts short = record {
+  reached = (halts short.seq (omega (arith, all, short.there))).reached;
+  disabled = λ s l. (halts s (omega (arith, all, l))).disabled;
   seq = short.seq;
   there = short.there;
   more = short.more;

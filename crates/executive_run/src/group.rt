@@ -1,9 +1,7 @@
 //! The sequences of one driver, which are driven in turn.
-ghost use Rattle.std.specs.Prelude.{◌≡◌, ◌≢◌, ◌+◌, ◌<◌, ◌%◌, ℕ, false, length, slice_index_or, vec_len, None, Some};
-ghost use Rattle.semaphore_core.specs.Core.{full, is_enabled};
-ghost use Rattle.semaphore_core.specs.Told.{told};
+ghost use Rattle.std.specs.Prelude.{◌≡◌, ◌≢◌, ◌<◌, ◌%◌, ℕ, length, slice_index_or, vec_len};
 ghost use Rattle.word_table.specs.Answers.{Answers, AnswersAlone};
-ghost use Rattle.word_table.specs.Driver.{Drives, IsFinished};
+ghost use Rattle.word_table.specs.Driver.{IsFinished};
 ghost use Rattle.executive_run.specs.Going.{GoesOn, GoesTo, IsHalted, IsStuck};
 
 use crate::progress::Progress;
@@ -15,27 +13,27 @@ pub trait Ask {
     fn ask(&self, seq: u32, n: u64);
 }
 
-/// The sequences of a driver, with the step of each for which the gate was asked last.
+/// The sequences of a driver, and of each whether the gate was asked for its next step.
 #[derive(Drop)]
 pub struct Group<'a> {
     pub driver: Driver<'a>,
-    pub asked: Vec<Option<u64>>,
+    pub asked: Vec<bool>,
     ghost many_asked: { vec_len asked ≡ length driver.fabric.job.program.seqs },
     ghost many_counts: { length driver.counts ≡ length driver.fabric.job.program.seqs },
 }
 
-/// Asks the gate for a step of a sequence, if it was not asked for it.
-fn ask_once<A: Ask>(gate: &A, asked: &mut Vec<Option<u64>>, seq: u32, step: u64)
-    requires { seq < vec_len asked.old }
-    ensures { vec_len asked.new ≡ vec_len asked.old }
-{
-    if asked[seq as usize] != Some(step) {
-        gate.ask(seq, step);
-        asked[seq as usize] = Some(step);
-    }
-}
-
 impl<'a> Group<'a> {
+    /// Asks the gate for the next step of a sequence, if it has one.
+    fn ask_for_next<A: Ask>(&self, fabric: &Fabric<'a>, gate: &A, seq: u32)
+        requires of { self.now.driver.fabric ≡ fabric.now }
+        requires there { seq < length fabric.now.job.program.seqs }
+        requires drives { seq % fabric.now.groups ≡ self.now.driver.group }
+    {
+        if let Some(step) = fabric.next_step(&self.driver, seq) {
+            gate.ask(seq, step);
+        }
+    }
+
     /// Tries a sequence once, and asks the gate before the first try of each step.
     fn try_step<A: Ask>(&mut self, fabric: &Fabric<'a>, gate: &A, seq: u32) -> MicroAnswer
         requires of { self.old.driver.fabric ≡ fabric.now }
@@ -46,10 +44,12 @@ impl<'a> Group<'a> {
         ensures answer { Answers self.old.driver self.new.driver seq result }
         ensures alone { fabric.now.groups ≡ 1 → AnswersAlone self.old.driver self.new.driver seq result }
     {
-        if let Some(step) = fabric.next_step(&self.driver, seq) {
-            ask_once(gate, &mut self.asked, seq, step);
+        if !self.asked[seq as usize] {
+            self.ask_for_next(fabric, gate, seq);
         }
-        fabric.try_micro(&mut self.driver, seq)
+        let answer = fabric.try_micro(&mut self.driver, seq);
+        self.asked[seq as usize] = answer != MicroAnswer::Stepped;
+        answer
     }
 
     /// Drives a sequence as far as it goes.
@@ -72,23 +72,6 @@ impl<'a> Group<'a> {
         }
     }
 
-    /// Drives a sequence as far as it goes, if it is one of its own.
-    fn go_on_with<A: Ask>(&mut self, fabric: &Fabric<'a>, gate: &A, seq: u32) -> Progress
-        requires of { self.old.driver.fabric ≡ fabric.now }
-        requires there { seq < length fabric.now.job.program.seqs }
-        requires group { self.old.driver.group < fabric.now.groups }
-        ensures goes { GoesOn self.old.driver self.new.driver result.steps }
-        ensures others { (s : ℕ) → s ≢ seq → slice_index_or self.new.driver.counts s 0 ≡ slice_index_or self.old.driver.counts s 0 }
-        ensures finished { result.waiting ≡ 0 → Drives self.new.driver seq → slice_index_or self.new.driver.counts seq 0 ≡ full self.new.driver.fabric.job seq }
-        ensures more { 0 < result.waiting → slice_index_or self.new.driver.counts seq 0 < full self.new.driver.fabric.job seq }
-        ensures alone { fabric.now.groups ≡ 1 → IsHalted self.new.driver seq }
-    {
-        if seq % fabric.groups() != self.driver.group() {
-            return Progress::NONE;
-        }
-        self.go_on(fabric, gate, seq)
-    }
-
     /// Drives each of its sequences in turn, as far as it goes.
     pub fn turn<A: Ask>(&mut self, fabric: &Fabric<'a>, gate: &A) -> Progress
         requires of { self.old.driver.fabric ≡ fabric.now }
@@ -97,9 +80,11 @@ impl<'a> Group<'a> {
         ensures finished { result.waiting ≡ 0 → IsFinished self.new.driver }
         ensures alone { fabric.now.groups ≡ 1 → result.steps ≡ 0 → 0 < result.waiting → IsStuck self.new.driver }
     {
+        let first = self.driver.group();
+        let groups = fabric.groups() as usize;
         let mut progress = Progress::NONE;
-        for seq in 0..fabric.sequences() {
-            progress = progress.and(self.go_on_with(fabric, gate, seq));
+        for seq in (first..fabric.sequences()).step_by(groups) {
+            progress = progress.and(self.go_on(fabric, gate, seq));
         }
         progress
     }

@@ -98,13 +98,13 @@ fn group_of<'a>(
     Ok(Group { driver, asked })
 }
 
-/// For this many sequences that the gate was asked for no step.
-fn none_asked(alloc: Global, count: usize) -> Result<Vec<Option<u64>>, OutOfMemory>
+/// For this many sequences that the gate was not asked for a step.
+fn none_asked(alloc: Global, count: usize) -> Result<Vec<bool>, OutOfMemory>
     ensures { IfOk result (λ asked. vec_len asked ≡ count) }
 {
     let mut asked = Vec::with_capacity(alloc, count)?;
     'sequences: for _sequence in 0..count {
-        asked.push(None)?;
+        asked.push(false)?;
     }
     Ok(asked)
 }

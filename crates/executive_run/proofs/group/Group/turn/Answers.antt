@@ -1,23 +1,49 @@
-use Rattle.std.proofs.Common.{◌≡◌, length, ap, ◌∙◌, arith, below_more}
+use Rattle.std.proofs.Common.{rules, ◌+◌, length, ap, sym, ◌∙◌, arith}
+use Rattle.std.proofs.Math.Nat.{add-mod_right}
 use Rattle.word_table.specs.Driver.{FabricData}
-use Rattle.executive_run.specs.Going.{IsHalted}
-use Rattle.executive_run.proofs.Goings.{goes_then, finished_more, halted_as, short_more}
+use Rattle.executive_run.proofs.Goings.{turn_begins, turned_more, finished_all, stuck}
 use Rattle.executive_run.proofs.group.Group.turn.Goals as goal
+
+pub loop-seq-init : goal.loop-seq-init
+loop-seq-init g c = record {
+  turned = turn_begins c.args.self.now.driver c.group-first.result c.group-first.ensures (omega (arith, ap (λ (f : FabricData). f.groups) c.requires.of));
+  own = search rules;
+}
 
 pub loop-seq-preserved : goal.loop-seq-preserved
 loop-seq-preserved g c =
     let p = c.loop-seq.invariant in
-    let q = c.go_on_with.ensures in
-    let made = c.and-progress.ensures.steps in
-    let waits = c.and-progress.ensures.waiting in
-    let same : length c.go_on_with.new.self.driver.fabric.job.program.seqs ≡ length c.args.fabric.now.job.program.seqs =
-    ap (λ (f : FabricData). length f.job.program.seqs) (q.goes.fabric ∙ (p.0.fabric ∙ c.requires.of)) in (
-      goes_then _ c.loop-seq.self.driver c.go_on_with.new.self.driver c.loop-seq.progress.steps c.go_on_with.result.steps _ p.0 q.goes made,
-      (λ none. finished_more c.loop-seq.self.driver c.go_on_with.new.self.driver c.loop-seq.seq q.goes.fabric q.goes.group q.others
-          (p.1 (omega (arith, waits, none))) (q.finished (omega (arith, waits, none)))),
-      (λ one none. below_more (λ s. IsHalted c.go_on_with.new.self.driver s) c.loop-seq.seq
-          (λ s l. halted_as c.loop-seq.self.driver c.go_on_with.new.self.driver s (p.2 one (omega (arith, made, none)) s l) q.goes.fabric (q.goes.idle (omega (arith, made, none))))
-          (q.alone one)),
-      λ none some. short_more c.loop-seq.self.driver c.go_on_with.new.self.driver c.loop-seq.seq c.loop-seq.progress.waiting c.go_on_with.result.waiting _ waits some
-          q.goes.fabric (q.goes.idle (omega (arith, made, none))) (p.3 (omega (arith, made, none))) (omega arith) q.more,
-    )
+    let q = c.go_on.ensures in record {
+      turned = turned_more c.args.fabric.now c.args.self.now.driver c.loop-seq.self.driver c.go_on.new.self.driver
+          c.loop-seq.progress.steps c.go_on.result.steps c.and-progress.result.steps c.loop-seq.progress.waiting c.go_on.result.waiting c.and-progress.result.waiting
+          c.loop-seq.seq (c.loop-seq.seq + c.groups-groups.result)
+          (q.goes.fabric ∙ (p.turned.goes.fabric ∙ c.requires.of)) p.turned q.goes q.others q.ends q.alone c.and-progress.ensures.steps c.and-progress.ensures.waiting (omega arith) p.own (omega arith);
+      own = let at = c.groups-groups.ensures in rw at (add-mod_right c.loop-seq.seq c.args.fabric.now.groups ∙ p.own ∙ sym q.goes.group);
+    }
+
+pub returns-2 : goal.returns-2
+returns-2 g c =
+    let p = c.loop-seq.invariant in
+    let q = c.go_on.ensures in
+    let same = q.goes.fabric ∙ (p.turned.goes.fabric ∙ c.requires.of) in
+    let seqs = ap (λ (f : FabricData). length f.job.program.seqs) same in
+    let turned = turned_more c.args.fabric.now c.args.self.now.driver c.loop-seq.self.driver c.go_on.new.self.driver
+    c.loop-seq.progress.steps c.go_on.result.steps c.and-progress.result.steps c.loop-seq.progress.waiting c.go_on.result.waiting c.and-progress.result.waiting
+    c.loop-seq.seq c.sequences-seq-end.result
+    same p.turned q.goes q.others q.ends q.alone c.and-progress.ensures.steps c.and-progress.ensures.waiting (omega arith) p.own (omega arith) in record {
+      goes = turned.goes;
+      finished = λ none. finished_all c.go_on.new.self.driver c.sequences-seq-end.result (omega (arith, seqs)) (turned.finished none);
+      alone = λ one none some. stuck c.go_on.new.self.driver c.sequences-seq-end.result (omega (arith, seqs))
+          (turned.halted (ap (λ (f : FabricData). f.groups) same ∙ one) none) (turned.short none some);
+    }
+
+pub returns : goal.returns
+returns g c =
+    let turned = c.loop-seq.invariant.turned in
+    let same = turned.goes.fabric ∙ c.requires.of in
+    let seqs = ap (λ (f : FabricData). length f.job.program.seqs) same in record {
+      goes = turned.goes;
+      finished = λ none. finished_all c.loop-seq.self.driver c.loop-seq.seq (omega (arith, seqs)) (turned.finished none);
+      alone = λ one none some. stuck c.loop-seq.self.driver c.loop-seq.seq (omega (arith, seqs))
+          (turned.halted (ap (λ (f : FabricData). f.groups) same ∙ one) none) (turned.short none some);
+    }
