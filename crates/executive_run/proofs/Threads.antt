@@ -12,8 +12,7 @@ use Rattle.flat_graph.proofs.vertex.Vertex.TheSendSync as vertex
 use Rattle.flat_graph.specs.contracts.flat.Flat as Flat
 use Rattle.executive_program.proofs.program.Program.TheSendSync as program
 use Rattle.executive_program.proofs.expand.SeqSteps.TheSendSync as steps
-use Rattle.semaphore_core.proofs.operations.Operations.TheSendSync as operations
-use Rattle.semaphore_core.proofs.registers.Registers.TheSendSync as registers
+use Rattle.semaphore_core.proofs.own_parts.OwnParts.TheSendSync as own
 use Rattle.semaphore_core.specs.contracts.job.Job as Job
 use Rattle.word_rule.proofs.table.WordSeat.TheSendSync as seat
 use Rattle.word_rule.proofs.table.WordTable.TheSendSync as table
@@ -36,7 +35,7 @@ Job-sync : (a : NamedLft) → IsSync (Job.the_row a)
 Job-sync a = search (sendable, std.crosses, program.the_sync, sensors.the_sync, items.the_sync, Flat-sync) depth 40
 
 Share-send : (a : NamedLft) → IsSend (Share.the_row a)
-Share-send a = search (sendable, std.crosses, seat.the_send, operations.the_send, registers.the_send, Job-sync) depth 40
+Share-send a = search (sendable, std.crosses, seat.the_send, own.the_send, Job-sync) depth 40
 
 Woven-sync : (a : NamedLft) → IsSync (Woven.the_row a)
 Woven-sync a = search (sendable, std.crosses, table.the_sync, steps.the_sync, Job-sync) depth 40
