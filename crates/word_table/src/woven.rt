@@ -1,5 +1,5 @@
 //! The table of a job with its micro-steps laid out, and one micro-step of a driver on it.
-ghost use Rattle.std.specs.Prelude.{◌≡◌, ◌<◌, ◌%◌, ◌⊎◌, IfNone, IfSome, true, false, length, slice_index_or};
+ghost use Rattle.std.specs.Prelude.{◌≡◌, ◌+◌, ◌*◌, ◌<◌, ◌%◌, ◌⊎◌, IfNone, IfSome, true, false, length, slice_index_or};
 ghost use Rattle.semaphore_core.specs.Core.{full};
 ghost use Rattle.executive_program.specs.declared.steps.MicroStep.TheVariants.{Load, Store};
 ghost use Rattle.word_rule.specs.Given.{IsThere, IsHere, IsTake, Waits, AddsOne, IsLower, enables};
@@ -46,6 +46,15 @@ fn enables(reaction: u64, step: MicroStep, found: u64) -> bool
         ),
         _ => true,
     }
+}
+
+/// The number of all micro-steps of a sequence in this many reactions.
+fn full_in(steps: &SeqSteps, reactions: u64) -> u128
+    ensures { result ≡ length steps.now.prologue + reactions * length steps.now.turn }
+{
+    let prologue = steps.prologue.as_slice();
+    let turn = steps.turn.as_slice();
+    prologue.len() as u128 + reactions as u128 * turn.len() as u128
 }
 
 impl<'a> Woven<'a> {
@@ -203,9 +212,10 @@ impl<'a> Woven<'a> {
     {
         let count = share.counts[seq as usize];
         let code = &self.steps[seq as usize];
-        match next_in(code, self.job.reactions() as u64, count) {
-            None => None,
-            Some(_) => Some(count),
+        if (count as u128) < full_in(code, self.job.reactions() as u64) {
+            Some(count)
+        } else {
+            None
         }
     }
 
