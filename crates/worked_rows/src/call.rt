@@ -1,6 +1,7 @@
 //! One call of the program, and what the transcript has of it.
 
 use crate::conditions::Conditions;
+use crate::cuts::call_cuts;
 use crate::file::{File, bytes_of};
 use crate::gate::answered_at;
 use outside::{Gate, ShelfMem, SinkMem};
@@ -18,8 +19,8 @@ use word_table::Driven;
 #[derive(Drop)]
 pub struct Outside {
     shelf: ShelfMem,
-    out: SinkMem,
-    err: SinkMem,
+    pub out: SinkMem,
+    pub err: SinkMem,
     driven: Driven,
 }
 
@@ -32,14 +33,27 @@ pub fn call<R: Files + Print + AllocGlobal + Threads + Wait + Sync>(
 ) -> io::Result<()> {
     println!(rt; "$ {words}")?;
     let given = words_of(rt.alloc(), words)?;
-    let mut outside = outside_for(rt, files, &given, holds)?;
-    let (number, seen) = answered_at(rt, &given, &mut outside, holds.gate);
+    match &holds.cuts {
+        Some(name) => call_cuts(rt, files, &given, holds, name.as_str()),
+        None => call_once(rt, files, &given, holds),
+    }
+}
+
+/// Calls the program with these words, and writes its answers into the transcript.
+fn call_once<R: Files + Print + AllocGlobal + Threads + Wait + Sync>(
+    rt: &R,
+    files: &[File],
+    words: &[String],
+    holds: &Conditions,
+) -> io::Result<()> {
+    let mut outside = outside_for(rt, files, words, holds)?;
+    let (number, seen) = answered_at(rt, words, &mut outside, holds.gate);
     write_answers(rt, files, holds, &outside, number)?;
     seen.write(rt)
 }
 
 /// The files that the words name, and sinks of which this is said.
-fn outside_for<R: Files + AllocGlobal>(
+pub fn outside_for<R: Files + AllocGlobal>(
     rt: &R,
     files: &[File],
     words: &[String],
@@ -124,7 +138,7 @@ fn shelf_for<R: Files + AllocGlobal>(
 }
 
 /// Writes the output, or the name of the file that holds it.
-fn write_output<R: Files + Print + AllocGlobal>(
+pub fn write_output<R: Files + Print + AllocGlobal>(
     rt: &R,
     files: &[File],
     holds: &Conditions,
@@ -177,7 +191,7 @@ fn write_line(rt: &impl Print, line: &[u8]) -> io::Result<()> {
 }
 
 /// Writes bytes as they are, and `\c` with a line feed where they end with none.
-fn write_ended(rt: &impl Print, bytes: &[u8]) -> io::Result<()> {
+pub fn write_ended(rt: &impl Print, bytes: &[u8]) -> io::Result<()> {
     io::writer(rt).write_all(bytes)?;
     match bytes.last() {
         None | Some(b'\n') => Ok(()),

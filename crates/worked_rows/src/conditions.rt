@@ -39,6 +39,7 @@ pub struct Conditions {
     pub err: SinkSays,
     pub output: Option<String>,
     pub has: Option<String>,
+    pub cuts: Option<String>,
     pub counts: bool,
     pub driven: bool,
     pub gate: GateKind,
@@ -53,6 +54,7 @@ impl Conditions {
             err: SinkSays::new(alloc),
             output: None,
             has: None,
+            cuts: None,
             counts: false,
             driven: false,
             gate: GateKind::Free,
@@ -73,6 +75,7 @@ impl Conditions {
             Condition::Gate(gate) => self.gate = gate,
             Condition::Output(name) => self.output = Some(String::from_str(alloc, name)?),
             Condition::Has(name) => self.has = Some(String::from_str(alloc, name)?),
+            Condition::Cuts(name) => self.cuts = Some(String::from_str(alloc, name)?),
         }
         Ok(())
     }

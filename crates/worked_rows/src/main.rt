@@ -12,6 +12,7 @@
 
 mod call;
 mod conditions;
+mod cuts;
 mod file;
 mod gate;
 mod player;

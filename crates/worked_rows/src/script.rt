@@ -72,6 +72,9 @@ pub enum Condition<'a> {
     /// `has NAME`: where the lines of this file are among those of the output, in the same order, `(has NAME)`
     /// stands in the transcript.
     Has(&'a str),
+    /// `cuts NAME`: the call is made once for each length of this file, from 0 up to the whole, with the file cut there.
+    /// `cuts` has what then stands in the transcript. Nothing is held back, and nothing else is told.
+    Cuts(&'a str),
 }
 
 /// What a line asks for.
@@ -121,6 +124,7 @@ fn condition_of<'a>(word: &str, rest: &'a str) -> Option<Condition<'a>> {
     match word {
         "output" => Some(Condition::Output(rest)),
         "has" => Some(Condition::Has(rest)),
+        "cuts" => Some(Condition::Cuts(rest)),
         "count" => Some(Condition::Count),
         "tell" => Some(Condition::Driven),
         "gate" => Some(Condition::Gate(gate_of(rest)?)),
