@@ -22,7 +22,7 @@ pub record Parts : Type 0 where
   -- of the operations that the sequences call
   pub kept : Kept
 
--- what one sequence has of its own: that with these registers, and sequence s
+-- what one sequence has of its own: the one with these registers, and sequence s
 abbrev pub own_of : RegisterFile → Kept → Own
 own_of r k = record { registers = r.values; cells = k.cells; rows = k.rows }
 

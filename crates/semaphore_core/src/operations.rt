@@ -192,8 +192,10 @@ impl Operations {
         requires row { LoadHasRow job.now self.old.lens then }
         requires reaction { reaction < length job.now.sensors }
         requires room { top_load job.now.graph then < registers.old.room }
-        ensures registers { registers.new ≡ with_values registers.old (absorbed job.now then reaction (own_of registers.old self.old) value) }
-        ensures kept { self.new ≡ with_kept self.old (absorbed job.now then reaction (own_of registers.old self.old) value) }
+        ensures registers { registers.new ≡ with_values registers.old
+            (absorbed job.now then reaction (own_of registers.old self.old) value) }
+        ensures kept { self.new ≡ with_kept self.old
+            (absorbed job.now then reaction (own_of registers.old self.old) value) }
     {
         match then {
             OnLoad::Carry => registers.put(0, value),
@@ -223,8 +225,10 @@ impl Operations {
         requires reaction { reaction < length job.now.sensors }
         requires room { top_store job.now.graph what < registers.old.room }
         ensures value { result ≡ emitted job.now what reaction (own_of registers.old self.old) }
-        ensures registers { registers.new ≡ with_values registers.old (left job.now what reaction (own_of registers.old self.old)) }
-        ensures kept { self.new ≡ with_kept self.old (left job.now what reaction (own_of registers.old self.old)) }
+        ensures registers { registers.new ≡ with_values registers.old
+            (left job.now what reaction (own_of registers.old self.old)) }
+        ensures kept { self.new ≡ with_kept self.old
+            (left job.now what reaction (own_of registers.old self.old)) }
     {
         match what {
             OnStore::Carry => {
@@ -253,8 +257,10 @@ impl Operations {
         requires row { HasRow job.now self.old.lens vertex }
         requires reaction { reaction < length job.now.sensors }
         requires room { outputs_len job.now.graph vertex < registers.old.room }
-        ensures registers { registers.new ≡ with_values registers.old (computed job.now vertex reaction (own_of registers.old self.old)) }
-        ensures kept { self.new ≡ with_kept self.old (computed job.now vertex reaction (own_of registers.old self.old)) }
+        ensures registers { registers.new ≡ with_values registers.old
+            (computed job.now vertex reaction (own_of registers.old self.old)) }
+        ensures kept { self.new ≡ with_kept self.old
+            (computed job.now vertex reaction (own_of registers.old self.old)) }
     {
         let vertices = job.flat().vertices();
         if (vertex as usize) < vertices.len() {

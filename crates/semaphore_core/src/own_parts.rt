@@ -40,7 +40,8 @@ impl OwnParts {
     /// What sequences with these micro-steps have before any is made, with the rows of all operations.
     pub fn new(alloc: Global, job: &Job, steps: &[SeqSteps]) -> Result<OwnParts, OutOfMemory>
         ensures opening { IfOk result (λ p. AreAtOpening job.now steps.now p) }
-        ensures lens { IfOk result (λ p. p.kept.lens ≡ actuator_lens job.now.graph job.now.graph.vertices) }
+        ensures lens { IfOk result (λ p. p.kept.lens
+            ≡ actuator_lens job.now.graph job.now.graph.vertices) }
         ensures rows { IfOk result (λ p. p.kept.rows ≡ zero_rows job.now) }
         ensures laid_out { IfOk result (λ p. (v : ℕ) → HasRow job.now p.kept.lens v) }
     {
@@ -59,9 +60,12 @@ impl OwnParts {
         mine: &[bool],
     ) -> Result<OwnParts, OutOfMemory>
         ensures opening { IfOk result (λ p. AreAtOpening job.now steps.now p) }
-        ensures lens { IfOk result (λ p. p.kept.lens ≡ lens_for job.now.graph (λ v. slice_index_or mine.now v false) 0 job.now.graph.vertices) }
-        ensures rows { IfOk result (λ p. p.kept.rows ≡ replicate (length job.now.sensors) (map zeros p.kept.lens)) }
-        ensures laid_out { IfOk result (λ p. (v : ℕ) → slice_index_or mine.now v false ≡ true → HasRow job.now p.kept.lens v) }
+        ensures lens { IfOk result (λ p. p.kept.lens
+            ≡ lens_for job.now.graph (λ v. slice_index_or mine.now v false) 0 job.now.graph.vertices) }
+        ensures rows { IfOk result (λ p. p.kept.rows
+            ≡ replicate (length job.now.sensors) (map zeros p.kept.lens)) }
+        ensures laid_out { IfOk result (λ p. (v : ℕ)
+            → slice_index_or mine.now v false ≡ true → HasRow job.now p.kept.lens v) }
     {
         Ok(OwnParts {
             registers: all_registers(alloc, job.flat(), steps)?,
