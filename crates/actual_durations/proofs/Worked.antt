@@ -50,6 +50,7 @@ abbrev stated : Table
 stated = record {
   operators = 2;
   rows = (Some 1 ∷ None ∷ []) ∷ (Some 10 ∷ Some 10 ∷ []) ∷ (Some 10 ∷ Some 10 ∷ []) ∷ (Some 1 ∷ Some 1 ∷ []) ∷ (Some 1 ∷ Some 1 ∷ []) ∷ [];
+  halves = None ∷ None ∷ None ∷ None ∷ None ∷ [];
 }
 
 -- the second function and its actuator stand on the second operator, to which the sensor's value is carried
@@ -140,7 +141,7 @@ three = record {
 }
 
 abbrev lin_joins : Bytes → Result (List ℕ) ActualError
-lin_joins operator = actual_of (record { vertices = []; bodies = [] }) three (record { operators = 3; rows = [] }) (record { decisions = [] }) (text (codes "architecture 1" ∷ codes "operator P" ∷ codes "operator Q" ∷ codes "operator R"
+lin_joins operator = actual_of (record { vertices = []; bodies = [] }) three (record { operators = 3; rows = []; halves = [] }) (record { decisions = [] }) (text (codes "architecture 1" ∷ codes "operator P" ∷ codes "operator Q" ∷ codes "operator R"
     ∷ codes "medium can multi 1 1" ∷ codes "medium lin multi 1 1" ∷ codes "connect can R" ∷ codes "connect can Q" ∷ codes "connect can P" ∷ codes "connect lin P" ∷ operator ∷ []))
 
 the_same_connections : lin_joins (codes "connect lin Q") ≡ Ok []
@@ -171,7 +172,7 @@ made_graph = record {
   bodies = [];
 }
 
-made_last_no_time : actual_of made_graph (record { operators = codes "P" ∷ []; media = []; depth = 1 }) (record { operators = 1; rows = (Some 0 ∷ []) ∷ (Some 0 ∷ []) ∷ (Some 0 ∷ []) ∷ [] })
+made_last_no_time : actual_of made_graph (record { operators = codes "P" ∷ []; media = []; depth = 1 }) (record { operators = 1; rows = (Some 0 ∷ []) ∷ (Some 0 ∷ []) ∷ (Some 0 ∷ []) ∷ []; halves = None ∷ None ∷ Some 1 ∷ [] })
     (record { decisions = placed 0 0 [] ∷ placed 1 0 [] ∷ placed 2 0 [] ∷ [] }) (text (codes "architecture 1" ∷ codes "operator P" ∷ codes "duration C P 5" ∷ codes "duration D P 5" ∷ []))
     ≡ Ok (0 ∷ 0 ∷ 0 ∷ [])
 made_last_no_time = refl

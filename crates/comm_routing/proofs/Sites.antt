@@ -1,26 +1,26 @@
 -- The first state of a draft, and facts of its parts.
-use Rattle.std.proofs.Common.{◌≡◌, ℕ, zero, suc, ◌+◌, ◌*◌, ◌<◌, ◌≤◌, Bool, true, false, ◌&&◌, List, [], ◌∷◌, ◌++◌, map, length, Option, Some, None, refl, sym, ap, subst, arith, ◌∙◌, inl, inr}
-use Rattle.std.specs.Prelude.{All, IfSome, IsTrue, is_some, nat_eq, nat_lt, nat_le, slice_get, slice_index_or, Contains}
+use Rattle.std.proofs.Common.{◌≡◌, ℕ, zero, suc, ◌+◌, ◌<◌, ◌≤◌, Bool, true, ◌&&◌, List, [], ◌∷◌, map, length, Option, Some, None, refl, sym, ap, subst, arith, ◌∙◌, inl, inr}
+use Rattle.std.specs.Prelude.{All, IfSome, is_some, nat_eq, nat_le, slice_get, slice_index_or}
 use Rattle.std.specs.List.{list_all, list_any}
 use Rattle.std.proofs.lemmas.Bool.{false≢true, and_parts, or_cases, lt-ltb}
-use Rattle.std.proofs.lemmas.Option.{same_Some}
 use Rattle.flat_graph.specs.declared.vertex.Source.{Source}
 use Rattle.flat_graph.specs.declared.vertex.Vertex.{Vertex}
 use Rattle.flat_graph.specs.Graph.{Graph, with_vertex, len_of}
 use Rattle.flat_graph.specs.Order.{get_half}
 use Rattle.flat_graph.specs.Valid.{is_flat}
 use Rattle.archi_graph.specs.Archi.{Architecture, is_archi}
-use Rattle.route_table.specs.Table.{RouteTable, route_in, IsTableOf}
-use Rattle.durations.specs.Table.{Table, entry_in, row_in, IsRow}
+use Rattle.route_table.specs.Table.{RouteTable, IsTableOf}
+use Rattle.durations.specs.Table.{Table, entry_in, IsRow, StandBeside}
+use Rattle.durations.specs.Fitting.{IsOf}
+use Rattle.durations.proofs.SetHalves.{half_of_graph}
 use Rattle.schedule.specs.Acts.{sources_of}
 use Rattle.schedule.proofs.Copies.{few_outputs, sources_have_len, output_there}
 use Rattle.schedule.proofs.Decided.{few_operations}
 use Rattle.schedule.proofs.Archis.{few_operators, few_media}
-use Rattle.comm_routing.specs.Given.{IsTask}
 use Rattle.comm_routing.specs.Board.{Board, on_in}
 use Rattle.comm_routing.specs.Placing.{ticks_in}
 use Rattle.comm_routing.specs.Start.{firsts_from, HasFewOutputs, IsStart, IsThere, AreThere, reads_of}
-use Rattle.comm_routing.specs.Draft.{Drafted, IsSite, IsTold, FitsTable, task_of}
+use Rattle.comm_routing.specs.Draft.{Drafted, IsSite, IsTold, task_of}
 use Rattle.comm_routing.specs.Candidates.{flag_at}
 use Rattle.comm_routing.specs.Progress.{may_stand_in, may_place_in}
 use Rattle.comm_routing.specs.declared.candidates.Candidates.{Candidates}
@@ -76,25 +76,25 @@ row_some (x ∷ os) h = elim (or_cases (is_some x) (list_any is_some os) h) [
 ]
 
 -- the parts make a site
-pub site_of : (g : Graph) (a : Architecture) (r : RouteTable) (table : Table) → is_flat g ≡ true → is_archi a.operators a.media ≡ true → IsTableOf a r → FitsTable g a table → All (IsRow table.operators) table.rows
-    → IsSite (record { graph = g; archi = a; routes = r; durations = table; decisions = [] })
-site_of g a r table flat archi routes fits rows = record {
+pub site_of : (g : Graph) (a : Architecture) (r : RouteTable) (table : Table) → is_flat g ≡ true → is_archi a.operators a.media ≡ true → IsTableOf a r → IsOf g a table → All (IsRow table.operators) table.rows
+    → StandBeside table → IsSite (record { graph = g; archi = a; routes = r; durations = table; decisions = [] })
+site_of g a r table flat archi routes fits rows beside = record {
   given = record {
     flat = flat;
     archi = archi;
     routes = λ from to f o. (let same = routes.operators in routes.least from to (omega arith) (omega arith));
     somewhere = λ v l.
-        let n = fits.rows in
+        let n = fits.operations in
         let row = rows v [] (omega arith) in
         let s = row_some (slice_index_or table.rows v []) row.some in
         let e = row.each in
         let c = fits.operators in
         let low = s.1 in
         (s.0, (omega arith), s.2);
-    beside = fits.beside;
+    beside = λ v u o h l may. (let c = fits.operators in beside v u o (half_of_graph g a table fits v u h) (omega arith) may);
   };
   routes = routes;
-  rows = fits.rows;
+  rows = fits.operations;
   columns = fits.operators;
   bounded = bound;
   operations = few_operations g flat;

@@ -1,14 +1,13 @@
 -- A draft: what is placed on what, and the decisions so far.
-use Rattle.std.specs.Prelude.{◌≡◌, ℕ, zero, suc, ◌+◌, ◌*◌, ◌<◌, ◌≤◌, true, IsTrue, List, [], ◌∷◌, ◌++◌, All, length, map, is_some, is_none, if◌then◌else◌, Option, None, slice_get, slice_index_or, refl}
+use Rattle.std.specs.Prelude.{◌≡◌, ℕ, ◌+◌, ◌*◌, ◌<◌, ◌≤◌, true, List, [], ◌∷◌, ◌++◌, All, length, map, is_none, if◌then◌else◌, Option, None, slice_index_or, refl}
 use Rattle.std.specs.Coded.{Coded, code_by, coded×}
 use Rattle.flat_graph.specs.declared.vertex.Source.{Source}
-use Rattle.flat_graph.specs.Graph.{Graph, with_vertex}
-use Rattle.flat_graph.specs.Order.{get_half}
+use Rattle.flat_graph.specs.Graph.{Graph}
 use Rattle.archi_graph.specs.Archi.{Architecture}
 use Rattle.route_table.specs.Table.{RouteTable, route_in, IsTableOf}
 use Rattle.schedule.specs.declared.decision.Decision.{Decision}
 use Rattle.schedule.specs.Acts.{acts_of}
-use Rattle.durations.specs.Table.{Table, entry_in, IsRow}
+use Rattle.durations.specs.Table.{Table, entry_in}
 use Rattle.comm_routing.specs.Task.{Task}
 use Rattle.comm_routing.specs.Given.{IsTask}
 use Rattle.comm_routing.specs.Laws.{AreRight}
@@ -35,17 +34,6 @@ draft_code graph archi routes durations decisions = code_by (Graph × (Architect
 -- what is scheduled in it
 abbrev pub task_of : Drafted → Task
 task_of d = record { graph = d.graph; archi = d.archi; route = route_in d.routes; ticks = entry_in d.durations }
-
--- a set half may stand wherever its get half may
-abbrev pub StandBeside : Graph → Architecture → Table → Type 0
-StandBeside g a d = (v u o : ℕ) → with_vertex (slice_get g.vertices v) [] (λ x. get_half x.kind x.twin) ≡ u ∷ [] → o < length a.operators
-    → IsTrue (is_some (entry_in d u o)) → IsTrue (is_some (entry_in d v o))
-
--- the table has an entry for each operation and each operator
-pub record FitsTable (g : Graph) (a : Architecture) (d : Table) : Type 0 where
-  pub rows : length d.rows ≡ length g.vertices
-  pub operators : d.operators ≡ length a.operators
-  pub beside : StandBeside g a d
 
 -- what is given once, whatever was decided
 pub record IsSite (d : Drafted) : Type 0 where

@@ -42,12 +42,13 @@ impl<'a> Draft<'a> {
     ghost use Rattle.std.specs.Prelude.{◌≡◌, ◌^◌, ◌<◌, [], IfOk, IsTrue, OnErr, OnOk, length};
     ghost use Rattle.std.specs.List.{filter, range_with_len};
     ghost use Rattle.route_table.specs.Table.{IsTableOf};
+    ghost use Rattle.durations.specs.Fitting.{IsOf};
     ghost use Rattle.schedule.specs.Acts.{acts_of};
     ghost use Rattle.comm_routing.specs.Placing.{arrival, is_candidate, may_place, start};
-    ghost use Rattle.comm_routing.specs.Draft.{FitsTable, after_placing, task_of};
+    ghost use Rattle.comm_routing.specs.Draft.{after_placing, task_of};
 
-    /// Nothing is decided so far. The durations are those of the flat graph and the architecture, in
-    /// which a set half may stand wherever its get half may, and the routes are the architecture's.
+    /// Nothing is decided so far. The durations are those of the flat graph and the architecture, and the
+    /// routes are the architecture's.
     pub fn new(
         alloc: Global,
         flat: &'a Flat,
@@ -55,7 +56,7 @@ impl<'a> Draft<'a> {
         durations: &'a Durations,
         routes: &'a Routes,
     ) -> Result<Draft<'a>, OutOfMemory>
-        requires fits { FitsTable flat.now archi.now durations.now }
+        requires fits { IsOf flat.now archi.now durations.now }
         requires routes { IsTableOf archi.now routes.now }
         ensures { IfOk result (λ d. d ≡ record { graph = flat.now; archi = archi.now; routes = routes.now; durations = durations.now; decisions = [] }) }
     {

@@ -1,28 +1,16 @@
--- How durations fit the flat graph that they are of.
-use Rattle.std.specs.Prelude.{◌≡◌, ℕ, ◌<◌, IsTrue, List, [], ◌∷◌, length, is_some, slice_get, Ok}
-use Rattle.flat_graph.specs.Graph.{Graph, with_vertex}
-use Rattle.flat_graph.specs.Order.{get_half}
-use Rattle.archi_graph.specs.Archi.{is_archi}
+-- How durations stand to the flat graph and the architecture that they are of.
+use Rattle.std.specs.Prelude.{◌≡◌, length, map, Ok}
+use Rattle.flat_graph.specs.Graph.{Graph}
+use Rattle.archi_graph.specs.Archi.{Architecture}
 use Rattle.archi_defs.specs.Text.{Described}
-use Rattle.durations.specs.Lines.{AreDurations}
-use Rattle.durations.specs.Table.{Table, entry_in, durations_of}
+use Rattle.durations.specs.Table.{Table, StandBeside, durations_of, get_half_of}
 
--- the get half of an operation that is a set half
-abbrev pub get_half_of : Graph → ℕ → List ℕ
-get_half_of g v = with_vertex (slice_get g.vertices v) [] (λ x. get_half x.kind x.twin)
-
--- the operation may stand on the operator
-abbrev pub MayStand : Table → ℕ → ℕ → Type 0
-MayStand t v o = IsTrue (is_some (entry_in t v o))
-
--- Each operation has a row for this many operators, and may stand on some of them, a set half wherever its get half may.
-pub record Fits (g : Graph) (operators : ℕ) (t : Table) : Type 0 where
+-- The table has the graph's operations, with their get halves, and the architecture's operators.
+pub record IsOf (g : Graph) (a : Architecture) (t : Table) : Type 0 where
   pub operations : length t.rows ≡ length g.vertices
-  pub same_operators : t.operators ≡ operators
-  pub somewhere : (v : ℕ) → v < length g.vertices → (o : ℕ) × (o < operators) × MayStand t v o
-  pub beside : (v u o : ℕ) → get_half_of g v ≡ u ∷ [] → o < operators → MayStand t u o → MayStand t v o
+  pub operators : t.operators ≡ length a.operators
+  pub halves : t.halves ≡ map get_half_of g.vertices
 
--- the durations of a text fit the flat graph
+-- the durations of a text are those of the flat graph and the text's architecture, and a set half may stand wherever its get half may
 abbrev pub DurationsFit : Type 0
-DurationsFit = (g : Graph) (d : Described) (t : Table) → IsTrue (is_archi d.archi.operators d.archi.media) → AreDurations (length d.archi.operators) d.durations
-    → durations_of g d ≡ Ok t → Fits g (length d.archi.operators) t
+DurationsFit = (g : Graph) (d : Described) (t : Table) → durations_of g d ≡ Ok t → IsOf g d.archi t × StandBeside t

@@ -1,8 +1,8 @@
 -- How long each operation lasts on each operator.
-use Rattle.std.specs.Prelude.{◌≡◌, ℕ, ◌≤◌, Bool, true, false, ◌&&◌, not, if◌then◌else◌, List, [], ◌∷◌, length, map, min, slice_index_or, Option, Some, None, is_some, IfSome, Result, Ok, All, Contains}
+use Rattle.std.specs.Prelude.{◌≡◌, ℕ, ◌<◌, ◌≤◌, IsTrue, Bool, true, false, ◌&&◌, not, if◌then◌else◌, List, [], ◌∷◌, length, map, min, slice_index_or, Option, Some, None, is_some, IfSome, Result, Ok, All, Contains}
 use Rattle.std.specs.List.{list_any, range_with_len}
 use Rattle.flat_graph.specs.declared.vertex.Kind.{Kind}
-use Rattle.flat_graph.specs.declared.vertex.Kind.TheVariants.{Sensor, Actuator, Function}
+use Rattle.flat_graph.specs.declared.vertex.Kind.TheVariants.{Sensor, Actuator, Function, Set}
 use Rattle.flat_graph.specs.declared.vertex.Vertex.{Vertex}
 use Rattle.flat_graph.specs.Graph.{Graph}
 use Rattle.archi_defs.specs.declared.text.DurationLine.{DurationLine}
@@ -11,10 +11,14 @@ use Rattle.archi_defs.specs.declared.fault.ArchiCause.TheVariants.{NoDuration}
 use Rattle.archi_defs.specs.Text.{Bytes, Described, refused}
 use Rattle.durations.specs.Lines.{ticks_of, is_given}
 
--- For each operation a row: the ticks on each operator, where it may stand there.
+-- For each operation a row, the ticks on each operator, where it may stand there; and its get half, where it is a set half.
 pub record Table : Type 0 where
   pub operators : ℕ
   pub rows : List (List (Option ℕ))
+  pub halves : List (Option ℕ)
+
+abbrev pub of_columns : ℕ → List (List (Option ℕ)) → List (Option ℕ) → Table
+of_columns operators rows halves = record { operators = operators; rows = rows; halves = halves }
 
 -- sensors, actuators and functions last as long as the text says
 abbrev pub is_timed : Kind → Bool
@@ -30,8 +34,17 @@ entry lines x o = if is_timed x.kind then ticks_of lines x.def o else Some 0
 abbrev pub row : ℕ → List DurationLine → Vertex → List (Option ℕ)
 row operators lines x = map (entry lines x) (range_with_len 0 operators)
 
+-- the twin of a set half is its get half, and nothing else has a get half
+abbrev pub half_by : Kind → Option ℕ → Option ℕ
+half_by Set twin = twin
+half_by _ twin = None
+
+-- the get half of an operation that is a set half
+abbrev pub get_half_of : Vertex → Option ℕ
+get_half_of x = half_by x.kind x.twin
+
 abbrev pub table : List Vertex → ℕ → List DurationLine → Table
-table vertices operators lines = record { operators = operators; rows = map (row operators lines) vertices }
+table vertices operators lines = of_columns operators (map (row operators lines) vertices) (map get_half_of vertices)
 
 -- its definition has no duration on any operator, and needs one
 abbrev pub is_missing : List DurationLine → Vertex → Bool
@@ -63,6 +76,24 @@ row_in t v = slice_index_or t.rows v []
 
 abbrev pub entry_in : Table → ℕ → ℕ → Option ℕ
 entry_in t v o = slice_index_or (row_in t v) o None
+
+-- the get half of an operation, by its number
+abbrev pub half_in : Table → ℕ → Option ℕ
+half_in t v = slice_index_or t.halves v None
+
+-- the operation may stand on the operator
+abbrev pub MayStand : Table → ℕ → ℕ → Type 0
+MayStand t v o = IsTrue (is_some (entry_in t v o))
+
+-- a set half may stand wherever its get half may
+abbrev pub StandBeside : Table → Type 0
+StandBeside t = (v u o : ℕ) → half_in t v ≡ Some u → o < t.operators → MayStand t u o → MayStand t v o
+
+-- Each operation may stand on some operator, for a bounded time, and a set half wherever its get half may.
+pub record IsTable (t : Table) : Type 0 where
+  pub rows : All (IsRow t.operators) t.rows
+  pub halves : length t.halves ≡ length t.rows
+  pub beside : StandBeside t
 
 -- the lesser of two entries, where they are there
 abbrev pub lesser : Option ℕ → Option ℕ → Option ℕ

@@ -8,8 +8,8 @@ pub fn accepted_are_durations()
     ensures { AcceptedAreDurations }
 {}
 
-/// The durations of a flat graph by a text fit it: each operation may stand on some operator, and the set half of
-/// a delay wherever its get half may. So whoever places operations need not ask for it.
+/// The durations of a text are those of their flat graph and of the text's architecture, and the set half of a delay
+/// may stand wherever its get half may.
 pub fn durations_fit()
     ensures { DurationsFit }
 {}

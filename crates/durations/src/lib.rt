@@ -5,6 +5,7 @@
 #![tactic(auto)]
 
 mod given;
+mod halves;
 mod laws;
 mod missing;
 mod rows;

@@ -1,13 +1,14 @@
 //! The rows of the table.
-ghost use Rattle.std.specs.Prelude.{◌≡◌, ◌<◌, IfOk, length, map};
+ghost use Rattle.std.specs.Prelude.{◌≡◌, ◌<◌, ◌≤◌, IfOk, None, length, map};
 ghost use Rattle.flat_graph.specs.Graph.{Graph};
 ghost use Rattle.archi_defs.specs.Text.{described_by};
 ghost use Rattle.durations.specs.Lines.{AreDurations};
-ghost use Rattle.durations.specs.Table.{durations_of, entry, row};
+ghost use Rattle.durations.specs.Table.{durations_of, entry, missing, row, table};
 ghost use Rattle.durations.specs.Given.{Gives, IsRefused};
-ghost use Rattle.durations.specs.Fitting.{Fits};
+ghost use Rattle.durations.specs.Fitting.{IsOf};
 
 use crate::given::Given;
+use crate::halves::halves;
 use crate::missing::{is_timed, missing};
 use crate::table::Durations;
 use archi_defs::{ArchiCause, ArchiError, ArchiFault, ArchiText};
@@ -19,12 +20,11 @@ use syn_base::{Items, Name, OutOfMemory};
 /// text says for its definition, and may not stand on an operator for which the text says nothing. A constant,
 /// and whatever else flattening makes, lasts 0 ticks on every operator. Durations of other definitions are
 /// passed over. NoDuration, at line 0, comes exactly where some sensor, actuator or function has a definition
-/// without any duration, and has that of the least such operation. Otherwise each operation may stand on some
-/// operator, and the set half of a delay wherever its get half may.
+/// without any duration, and has that of the least such operation.
 pub fn durations_of(alloc: Global, flat: &Flat, text: &ArchiText) -> Result<Durations, ArchiError>
     requires { AreDurations (length text.now.archi.operators) text.now.lines }
     ensures gives { Gives result (durations_of flat.now (described_by text.now)) }
-    ensures fits { IfOk result (Fits flat.now (length text.now.archi.operators)) }
+    ensures fits { IfOk result (IsOf flat.now text.now.archi) }
 {
     let operators = text.archi.operators().len() as u32;
     let Ok(given) = Given::new(alloc, operators, text.lines.as_slice()) else {
@@ -33,8 +33,8 @@ pub fn durations_of(alloc: Global, flat: &Flat, text: &ArchiText) -> Result<Dura
     if let Some(def) = missing(&given, flat.vertices()) {
         return Err(no_duration(alloc, def));
     }
-    match rows(alloc, &given, flat.vertices()) {
-        Ok(rows) => Ok(Durations::new(operators, rows)),
+    match table(alloc, &given, flat.vertices()) {
+        Ok(durations) => Ok(durations),
         Err(_) => Err(ArchiError::OutOfMemory),
     }
 }
@@ -49,6 +49,17 @@ fn no_duration(alloc: Global, def: &Name) -> ArchiError
         }),
         Err(_) => ArchiError::OutOfMemory,
     }
+}
+
+/// The table for these operations, of which none lacks a duration.
+fn table(alloc: Global, given: &Given, vertices: &[Vertex]) -> Result<Durations, OutOfMemory>
+    requires operators { 1 ≤ given.now.operators }
+    requires none_missing { missing given.now.lines vertices.now ≡ None }
+    ensures { IfOk result (λ t. t ≡ table vertices.now given.now.operators given.now.lines) }
+{
+    let rows = rows(alloc, given, vertices)?;
+    let halves = halves(alloc, vertices)?;
+    Ok(Durations::new(given.operators(), rows, halves))
 }
 
 fn rows(

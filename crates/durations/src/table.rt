@@ -1,44 +1,54 @@
 //! The table of durations.
 ghost use Rattle.std.specs.Prelude.{◌≡◌, ◌<◌, ◌≤◌, Some, All, IfSome, length};
-ghost use Rattle.durations.specs.Table.{entry_in, least_of, lesser, row_in, IsLeast, IsRow};
+ghost use Rattle.durations.specs.Table.{entry_in, half_in, least_of, lesser, of_columns, row_in, IsLeast, IsRow, IsTable, StandBeside};
 
 use std::marker::Model;
 use syn_base::Items;
 
 /// For each operation of a flat graph the ticks that it lasts on each operator, where it may stand there.
 /// Operations and operators are numbered from 0, as in the flat graph and the architecture. Every operation
-/// has an entry on some operator, and no entry is above 1,000,000,000. Contracts see the rows of the
-/// operations, and how many operators there are.
+/// has an entry on some operator, and no entry is above 1,000,000,000. The set half of a delay has one on each
+/// operator on which its get half has one. Contracts see the rows of the operations, the get halves of those
+/// that are set halves, and how many operators there are.
 #[derive(Drop)]
 pub struct Durations {
     operators: u32,
     rows: Vec<Items<Option<u64>>>,
+    halves: Vec<Option<u32>>,
 }
 
 impl Model for Durations {
-    ghost use Rattle.std.specs.Prelude.{All};
-    ghost use Rattle.durations.specs.Table.{Table, IsRow};
+    ghost use Rattle.durations.specs.Table.{Table, IsTable, of_columns};
 
     ghost Value = { Table };
 
-    ghost view = { λ s. record { operators = s.operators; rows = s.rows.items } };
+    ghost view = { λ s. of_columns s.operators s.rows.items s.halves.items };
 
-    ghost invariant = { λ s. All (IsRow s.operators) s.rows.items };
+    ghost invariant = { λ s. IsTable (of_columns s.operators s.rows.items s.halves.items) };
 }
 
 impl Durations {
-    /// The table of these rows. It takes no memory.
-    pub(crate) fn new(operators: u32, rows: Vec<Items<Option<u64>>>) -> Durations
-        requires { All (IsRow operators) rows.items }
-        ensures { result ≡ record { operators = operators; rows = rows.items } }
+    /// The table of these rows and get halves. It takes no memory.
+    pub(crate) fn new(
+        operators: u32,
+        rows: Vec<Items<Option<u64>>>,
+        halves: Vec<Option<u32>>,
+    ) -> Durations
+        requires { IsTable (of_columns operators rows.items halves.items) }
+        ensures { result ≡ of_columns operators rows.items halves.items }
     {
-        Durations { operators, rows }
+        Durations {
+            operators,
+            rows,
+            halves,
+        }
     }
 
     /// How many operations there are.
     pub fn operations(&self) -> usize
         ensures count { result ≡ length self.now.rows }
         ensures valid { All (IsRow self.now.operators) self.now.rows }
+        ensures beside { StandBeside self.now }
     {
         self.rows.len()
     }
@@ -47,8 +57,19 @@ impl Durations {
     pub fn operators(&self) -> u32
         ensures count { result ≡ self.now.operators }
         ensures valid { All (IsRow self.now.operators) self.now.rows }
+        ensures beside { StandBeside self.now }
     {
         self.operators
+    }
+
+    /// The get half of an operation that is a set half. It takes no memory.
+    pub fn get_half(&self, op: u32) -> Option<u32>
+        ensures { result ≡ half_in self.now op }
+    {
+        match self.halves.get(op as usize) {
+            Some(half) => *half,
+            None => None,
+        }
     }
 
     /// The ticks that the operation lasts on the operator, at most 1,000,000,000. None exactly where the

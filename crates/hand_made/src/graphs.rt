@@ -37,6 +37,19 @@ pub fn operations(alloc: Global, passed: u32) -> Result<Vec<Vertex>, Fail> {
     Ok(both)
 }
 
+/// A constant, and both halves of a delay that keeps it.
+pub fn delayed(alloc: Global) -> Result<Vec<Vertex>, Fail> {
+    let values = Items::new(Vec::from_slice(alloc, &[7])?);
+    let initial = Items::new(Vec::from_slice(alloc, &[0])?);
+    let source = Source { vertex: 0, port: 0 };
+    let made = operation(alloc, b"c", Kind::Constant(values), &[], &[1])?;
+    let mut get = operation(alloc, b"d:get", Kind::Get(initial), &[], &[1])?;
+    get.twin = Some(2);
+    let mut set = operation(alloc, b"d:set", Kind::Set, &[source], &[])?;
+    set.twin = Some(1);
+    Ok(vec![in alloc; made, get, set]?)
+}
+
 #[test]
 fn an_operation_does_not_read_itself(rt: HostRuntime) -> Result<(), Fail> {
     let alloc = rt.alloc();

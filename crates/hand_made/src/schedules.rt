@@ -2,7 +2,7 @@
 ghost use Rattle.std.specs.Prelude.{IfOk, length};
 ghost use Rattle.durations.specs.Lines.{AreDurations};
 
-use crate::graphs::{bus, operations, operators};
+use crate::graphs::{bus, delayed, operations, operators};
 use archi_defs::ArchiText;
 use archi_graph::{Archi, is_archi};
 use durations::durations_of;
@@ -91,5 +91,20 @@ fn an_operation_waits_for_what_it_reads(rt: HostRuntime) -> Result<(), Fail> {
     let text = two_operators(&rt, alloc)?;
     assert_eq!(rt; may_be_passed_on(&rt, alloc, &flat, &text, 2)?, true);
     assert_eq!(rt; may_be_passed_on(&rt, alloc, &flat, &text, 1)?, false);
+    Ok(())
+}
+
+#[test]
+fn only_a_set_half_has_a_get_half(rt: HostRuntime) -> Result<(), Fail> {
+    let alloc = rt.alloc();
+    let operations = delayed(alloc)?;
+    let bodies = Vec::new(alloc);
+    assert!(rt; is_flat(&operations, &bodies));
+    let flat = Flat::new(operations, bodies);
+    let durations = durations_of(alloc, &flat, &two_operators(&rt, alloc)?)?;
+    assert_eq!(rt; durations.get_half(0), None);
+    assert_eq!(rt; durations.get_half(1), None);
+    assert_eq!(rt; durations.get_half(2), Some(1));
+    assert_eq!(rt; durations.get_half(3), None);
     Ok(())
 }

@@ -8,7 +8,7 @@ mod steps;
 mod tails;
 
 pub use laws::{
-    choices_are_first, runs_are_chosen, runs_are_tight, runs_are_valid, tables_fit,
-    tails_are_greatest, tasks_are_given,
+    choices_are_first, runs_are_chosen, runs_are_tight, runs_are_valid, tails_are_greatest,
+    tasks_are_given,
 };
 pub use steps::adequation;

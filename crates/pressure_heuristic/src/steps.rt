@@ -1,9 +1,10 @@
 //! Adequation: the pressure run from its first decision to its last.
 ghost use Rattle.std.specs.Prelude.{◌≡◌, ◌≤◌, [], IfOk, IsTrue, length};
+ghost use Rattle.durations.specs.Fitting.{IsOf};
 ghost use Rattle.durations.specs.Table.{entry_in};
 ghost use Rattle.schedule.specs.Tight.{is_tight};
 ghost use Rattle.schedule.specs.Valid.{is_valid};
-ghost use Rattle.comm_routing.specs.Draft.{FitsTable, task_of};
+ghost use Rattle.comm_routing.specs.Draft.{task_of};
 ghost use Rattle.pressure_heuristic.specs.Adequation.{IsPressureRun, IsRunOfAny};
 ghost use Rattle.pressure_heuristic.specs.Choosing.{IsGuide};
 ghost use Rattle.pressure_heuristic.specs.Pressure.{pressure_run};
@@ -21,16 +22,16 @@ use syn_base::OutOfMemory;
 
 /// The schedule of a flat graph on an architecture by greedy choice: in each step the candidate of
 /// greatest pressure is placed on its operator of least pressure, ties to the lower number. The
-/// durations are those of the flat graph and the architecture, in which a set half may stand wherever
-/// its get half may. The schedule is valid, so every operation is placed; and it is tight, so none
-/// waits longer than for what comes before it on its operator and for what it reads.
+/// durations are those of the flat graph and the architecture. The schedule is valid, so every
+/// operation is placed; and it is tight, so none waits longer than for what comes before it on its
+/// operator and for what it reads.
 pub fn adequation(
     alloc: Global,
     flat: &Flat,
     archi: &Archi,
     durations: &Durations,
 ) -> Result<Schedule, OutOfMemory>
-    requires { FitsTable flat.now archi.now durations.now }
+    requires { IsOf flat.now archi.now durations.now }
     ensures run { IfOk result (λ s. IsPressureRun flat.now archi.now durations.now s) }
     ensures any { IfOk result (λ s. IsRunOfAny flat.now archi.now durations.now s) }
     ensures valid { IfOk result (λ s. IsTrue (is_valid flat.now archi.now (entry_in durations.now) s)) }

@@ -8,8 +8,9 @@ ghost use Rattle.top_plans.specs.Plans.{schedule_of};
 
 use crate::architecture::Architecture;
 use command_status::Status;
+use durations::durations_fit;
 use executive_program::Program;
-use pressure_heuristic::{adequation, tables_fit};
+use pressure_heuristic::adequation;
 use route_laws::routes_are_least;
 use schedule::Schedule;
 use sequence_build::{BuildError, build};
@@ -25,7 +26,7 @@ pub fn scheduled(alloc: Global, architecture: &Architecture) -> Result<Schedule,
     let flat = &architecture.flat;
     let archi = &architecture.text.archi;
     let _operators = archi.operators();
-    tables_fit();
+    durations_fit();
     routes_are_least();
     adequation(alloc, flat, archi, &architecture.durations)
 }
