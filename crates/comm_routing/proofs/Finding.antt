@@ -1,18 +1,18 @@
 -- What a draft's tables tell of a candidate: whether it may be placed, its arrival and its start.
-use Rattle.std.proofs.Common.{◌≡◌, ℕ, zero, suc, ◌+◌, ◌*◌, ◌<◌, ◌≤◌, ◌^◌, Bool, true, false, ◌&&◌, cond, nat_eq, List, [], ◌∷◌, map, length, Option, Some, None, refl, sym, ap, subst, arith, ◌∙◌}
-use Rattle.std.specs.Prelude.{IsTrue, is_some, max, not, nat_lt, slice_get, slice_index_or}
+use Rattle.std.proofs.Common.{◌≡◌, ℕ, suc, ◌+◌, ◌<◌, ◌^◌, Bool, true, false, ◌&&◌, cond, nat_eq, List, [], ◌∷◌, map, length, Option, Some, None, refl, sym, ap, arith, ◌∙◌}
+use Rattle.std.specs.Prelude.{is_some, max, not, nat_lt, slice_get, slice_index_or}
 use Rattle.std.specs.List.{list_all, filter, range_with_len}
-use Rattle.std.proofs.lemmas.Bool.{false≢true, and_parts, lt-ltb, ltb-true}
+use Rattle.std.proofs.lemmas.Bool.{false≢true, and_parts, ltb-true}
 use Rattle.flat_graph.specs.declared.vertex.Vertex.{Vertex}
 use Rattle.flat_graph.specs.declared.vertex.Source.{Source}
 use Rattle.flat_graph.specs.Graph.{with_vertex}
 use Rattle.flat_graph.specs.Order.{get_half}
 use Rattle.durations.specs.Table.{entry_in}
-use Rattle.schedule.specs.Acts.{Act, acts_of, is_on, runs}
+use Rattle.schedule.specs.Acts.{acts_of, runs}
 use Rattle.comm_routing.specs.Placing.{last_end, is_placed, operator_of, greatest, halves, needs, is_candidate, may_stand, may_place, arrival, start, ticks_in}
 use Rattle.comm_routing.specs.Board.{Board, on_in}
-use Rattle.comm_routing.specs.Draft.{Drafted, Keeps, IsTold, task_of, rise}
-use Rattle.comm_routing.specs.Candidates.{flag_at, row_at, places_from, ready_in}
+use Rattle.comm_routing.specs.Draft.{Drafted, Keeps, task_of}
+use Rattle.comm_routing.specs.Candidates.{flag_at, places_from, ready_in}
 use Rattle.comm_routing.specs.Progress.{may_stand_in, may_place_in}
 use Rattle.comm_routing.specs.declared.candidates.Candidates.{Candidates}
 use Rattle.comm_routing.proofs.Right.{candidate_given, stands}
@@ -87,9 +87,9 @@ module _ (d : Drafted) (b : Board) (reads : List (List Source)) (c : Candidates)
 
   -- those that are ready are the candidates
   pub ready_are : ready_in c ≡ filter (is_candidate (task_of d) (acts_of d.decisions)) (range_with_len 0 (length d.graph.vertices))
-  ready_are = k.ready ∙ from 0 c.flags.items (λ i l. (let s = k.size.flags in flags_at i (omega arith))) ∙ ap (λ (n : ℕ). filter (is_candidate (task_of d) (acts_of d.decisions)) (range_with_len 0 n)) k.size.flags
+  ready_are = k.ready ∙ from 0 c.ready.flags.items (λ i l. (let s = k.size.flags in flags_at i (omega arith))) ∙ ap (λ (n : ℕ). filter (is_candidate (task_of d) (acts_of d.decisions)) (range_with_len 0 n)) k.size.flags
     where
-      flags_at : (i : ℕ) → i < length d.graph.vertices → slice_index_or c.flags.items i false ≡ is_candidate (task_of d) (acts_of d.decisions) (0 + i)
+      flags_at : (i : ℕ) → i < length d.graph.vertices → slice_index_or c.ready.flags.items i false ≡ is_candidate (task_of d) (acts_of d.decisions) (0 + i)
       flags_at i l = k.flags i l ∙ (let e : i ≡ 0 + i = omega arith in ap (is_candidate (task_of d) (acts_of d.decisions)) e)
 
       from : (a : ℕ) (fs : List Bool) → ((i : ℕ) → i < length fs → slice_index_or fs i false ≡ is_candidate (task_of d) (acts_of d.decisions) (a + i))

@@ -21,3 +21,6 @@ pub mod Given
 pub mod Placed
 pub mod Sizes
 pub mod Lands
+pub mod Depending
+pub mod Ordered
+pub mod Renewal

@@ -1,15 +1,17 @@
 -- Candidates by the tables, and the arrivals that are kept of them.
-use Rattle.std.specs.Prelude.{◌≡◌, ℕ, ◌+◌, ◌<◌, ◌≤◌, Bool, true, false, ◌&&◌, not, if◌then◌else◌, List, [], ◌∷◌, length, All, None, is_some, take, slice_get, slice_index_or}
-use Rattle.std.specs.List.{list_all}
+use Rattle.std.specs.Prelude.{◌≡◌, ◌≢◌, ◌⊎◌, nat_eq, ℕ, ◌+◌, ◌<◌, ◌≤◌, Bool, true, false, ◌&&◌, not, if◌then◌else◌, List, [], ◌∷◌, length, All, None, is_some, take, slice_get, slice_index_or}
+use Rattle.std.specs.List.{list_all, list_any}
 use Rattle.flat_graph.specs.declared.vertex.Source.{Source}
 use Rattle.flat_graph.specs.declared.vertex.Vertex.{Vertex}
 use Rattle.flat_graph.specs.Graph.{with_vertex}
 use Rattle.flat_graph.specs.Order.{depends_on}
 use Rattle.route_table.specs.Table.{route_in}
 use Rattle.comm_routing.specs.Board.{Board, FitsAll, HasWay, held_in, on_in, time_in}
+use Rattle.comm_routing.specs.Dependents.{AreDependents}
 use Rattle.comm_routing.specs.Walk.{fetch_all, walk}
 use Rattle.comm_routing.specs.declared.reach.Walks.{Walks}
 use Rattle.comm_routing.specs.declared.candidates.Candidates.{Candidates}
+use Rattle.comm_routing.specs.declared.candidates.Ready.{Ready}
 
 abbrev pub is_placed_in : Board → ℕ → Bool
 is_placed_in b v = is_some (slice_index_or b.places v None)
@@ -17,6 +19,9 @@ is_placed_in b v = is_some (slice_index_or b.places v None)
 -- it is not placed, and all that it depends on is
 abbrev pub is_free_in : Board → ℕ → Vertex → Bool
 is_free_in b v x = not (is_placed_in b v) && list_all (is_placed_in b) (depends_on x)
+
+abbrev pub needs_of : List Vertex → ℕ → List ℕ
+needs_of vertices v = with_vertex (slice_get vertices v) [] depends_on
 
 abbrev pub is_candidate_in : List Vertex → Board → ℕ → Bool
 is_candidate_in vertices b v = with_vertex (slice_get vertices v) false (is_free_in b v)
@@ -55,24 +60,48 @@ AreArrivals w v row = (p : ℕ) → p < w.operators → slice_index_or row p 0 �
 abbrev pub row_at : List (List ℕ) → ℕ → List ℕ
 row_at rows v = slice_index_or rows v []
 
+-- The flags and the list are of this many operations, and the list has the places of those that are set.
+pub record IsListed (operations : ℕ) (r : Ready) : Type 0 where
+  pub flags : length r.flags.items ≡ operations
+  pub list : length r.list.items ≡ operations
+  pub count : r.count ≤ operations
+  pub ready : take r.count r.list.items ≡ places_from 0 r.flags.items
+
+-- those whose arrivals are found anew: where arrivals are kept, no other than these dependents
+abbrev pub sought_in : Bool → List ℕ → Ready → List ℕ
+sought_in keeps dependents r = if keeps then dependents else take r.count r.list.items
+
 -- what is kept of this many operations
 pub record HasSize (operations : ℕ) (c : Candidates) : Type 0 where
-  pub flags : length c.flags.items ≡ operations
-  pub known : length c.known.items ≡ operations
-  pub ready : length c.ready.items ≡ operations
+  pub flags : length c.ready.flags.items ≡ operations
+  pub list : length c.ready.list.items ≡ operations
+  pub count : c.ready.count ≤ operations
   pub arrivals : length c.arrivals.items ≡ operations
-  pub count : c.count ≤ operations
+  pub dependents : length c.dependents.items ≡ operations
+
+abbrev pub flag_in : Ready → ℕ → Bool
+flag_in r v = slice_index_or r.flags.items v false
 
 abbrev pub flag_at : Candidates → ℕ → Bool
-flag_at c v = slice_index_or c.flags.items v false
+flag_at c v = flag_in c.ready v
 
 abbrev pub ready_in : Candidates → List ℕ
-ready_in c = take c.count c.ready.items
+ready_in c = take c.ready.count c.ready.list.items
 
--- The candidates by the tables. The arrivals of those that were there stay, where they are kept, and the others' are found.
+-- The flags are those of the operations before this one was placed: those of all that do not depend on it are right.
+pub record IsBehind (vertices : List Vertex) (b : Board) (placed : ℕ) (c : Candidates) : Type 0 where
+  pub operation : placed < length vertices
+  pub ready : ready_in c ≡ places_from 0 c.ready.flags.items
+  pub dependents : AreDependents vertices c.dependents.items
+  pub no_candidate : is_candidate_in vertices b placed ≡ false
+  pub others : (v : ℕ) → v < length vertices → v ≢ placed → list_any (nat_eq placed) (needs_of vertices v) ≡ false → flag_at c v ≡ is_candidate_in vertices b v
+
+-- The candidates by the tables. Their arrivals are found, or stay where they are kept.
 pub record IsUpdated (vertices : List Vertex) (w : Walks) (keeps : Bool) (before after : Candidates) : Type 0 where
   pub size : HasSize (length vertices) after
+  pub dependents : after.dependents.items ≡ before.dependents.items
   pub flags : (v : ℕ) → v < length vertices → flag_at after v ≡ is_candidate_in vertices w.board.now v
-  pub ready : ready_in after ≡ places_from 0 after.flags.items
-  pub found : (v : ℕ) → v < length vertices → flag_at after v ≡ true → (flag_at before v && keeps) ≡ false → AreArrivals w v (row_at after.arrivals.items v)
-  pub kept : (v : ℕ) → (flag_at before v && keeps) ≡ true → row_at after.arrivals.items v ≡ row_at before.arrivals.items v
+  pub ready : ready_in after ≡ places_from 0 after.ready.flags.items
+  pub arrivals : (v : ℕ) → v < length vertices → flag_at after v ≡ true
+      → AreArrivals w v (row_at after.arrivals.items v)
+      ⊎ (((flag_at before v && keeps) ≡ true) × (row_at after.arrivals.items v ≡ row_at before.arrivals.items v))

@@ -15,6 +15,7 @@ use Rattle.comm_routing.specs.Placing.{arrival, decision, is_candidate, ticks_in
 use Rattle.comm_routing.specs.Board.{Board}
 use Rattle.comm_routing.specs.Start.{reads_of}
 use Rattle.comm_routing.specs.Tables.{Tells}
+use Rattle.comm_routing.specs.Dependents.{AreDependents}
 use Rattle.comm_routing.specs.Candidates.{HasSize, flag_at, places_from, ready_in, row_at}
 use Rattle.comm_routing.specs.declared.site.Site.{Site}
 use Rattle.comm_routing.specs.declared.candidates.Candidates.{Candidates}
@@ -78,7 +79,8 @@ pub record Keeps (d : Drafted) (b : Board) (reads : List (List Source)) (c : Can
   pub told : IsTold d b reads
   pub size : HasSize (length d.graph.vertices) c
   pub flags : (v : ℕ) → v < length d.graph.vertices → flag_at c v ≡ is_candidate (task_of d) (acts_of d.decisions) v
-  pub ready : ready_in c ≡ places_from 0 c.flags.items
+  pub ready : ready_in c ≡ places_from 0 c.ready.flags.items
+  pub dependents : AreDependents d.graph.vertices c.dependents.items
   pub arrivals : (v p : ℕ) → v < length d.graph.vertices → flag_at c v ≡ true → p < length d.archi.operators
       → slice_index_or (row_at c.arrivals.items v) p 0 ≡ arrival (task_of d) (acts_of d.decisions) v p
 

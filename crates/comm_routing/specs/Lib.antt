@@ -5,6 +5,8 @@ pub mod Given
 pub mod Walk
 pub mod Board
 pub mod Tables
+pub mod Ascending
+pub mod Dependents
 pub mod Candidates
 pub mod Laws
 pub mod Progress

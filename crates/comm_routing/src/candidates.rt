@@ -1,60 +1,145 @@
 //! The candidates, and their arrivals as far as they are known.
-ghost use Rattle.std.specs.Prelude.{◌≡◌, ℕ, ◌+◌, ◌<◌, ◌≤◌, ◌++◌, ◌∷◌, [], Bool, true, false, ◌&&◌, not, IfOk, IsTrue, if◌then◌else◌, length, map, slice_index_or, take, replicate};
-ghost use Rattle.std.specs.List.{list_all};
+ghost use Rattle.std.specs.Prelude.{◌≡◌, ℕ, ◌+◌, ◌<◌, ◌≤◌, ◌∷◌, [], All, true, false, ◌&&◌, not, IfOk, if◌then◌else◌, length, map, nat_eq, slice_index_or, slice_set, take, replicate};
+ghost use Rattle.std.specs.List.{list_all, list_any};
 ghost use Rattle.flat_graph.specs.Order.{depends_on, get_half};
-ghost use Rattle.comm_routing.specs.Candidates.{AreArrivals, CanArrive, HasSize, HasWalks, IsUpdated, flag_at, is_candidate_in, is_free_in, is_placed_in, places_from, ready_in, row_at};
+ghost use Rattle.comm_routing.specs.Dependents.{AreDependents};
+ghost use Rattle.comm_routing.specs.Candidates.{AreArrivals, CanArrive, HasSize, HasWalks, IsBehind, IsListed, IsUpdated, flag_in, is_candidate_in, is_free_in, is_placed_in, places_from, row_at, sought_in};
 
+use crate::ascending::{put_in, take_out};
 use crate::board::Board;
+use crate::dependents::all_dependents;
 use crate::reach::{Walks, arrivals};
 use flat_graph::{Guard, Kind, Source, Vertex};
 use std::alloc::Global;
 use syn_base::OutOfMemory;
 
-/// By operation, whether it is a candidate, whether its arrivals are known, and its arrivals by
-/// operator; the first `count` of `ready` are the candidates, ascending.
+/// Which operations are candidates: by operation a flag, and in the first `count` places of `list`
+/// their numbers, ascending.
+#[derive(Drop)]
+pub(crate) struct Ready {
+    pub flags: Vec<bool>,
+    pub list: Vec<u32>,
+    pub count: usize,
+}
+
+impl Ready {
+    /// The candidates, ascending.
+    pub fn as_slice(&self) -> &[u32]
+        requires { self.now.count ≤ length self.now.list.items }
+        ensures { result.now ≡ take self.now.count self.now.list.items }
+    {
+        &self.list.as_slice()[..self.count]
+    }
+
+    /// Marks each operation.
+    fn mark_all(&mut self, vertices: &[Vertex], board: &Board)
+        requires few { length vertices.now ≤ 2048 }
+        requires flags { length self.old.flags.items ≡ length vertices.now }
+        requires list { length self.old.list.items ≡ length vertices.now }
+        ensures listed { IsListed (length vertices.now) self.new }
+        ensures marked { (v : ℕ) → v < length vertices.now → flag_in self.new v ≡ is_candidate_in vertices.now board.now v }
+    {
+        mark(vertices, board, self.flags.as_mut_slice());
+        self.count = collect(self.flags.as_slice(), self.list.as_mut_slice());
+    }
+
+    /// Marks one operation anew.
+    fn mark_one(&mut self, vertices: &[Vertex], board: &Board, op: u32)
+        requires operation { op < length vertices.now }
+        requires listed { IsListed (length vertices.now) self.old }
+        ensures listed { IsListed (length vertices.now) self.new }
+        ensures marked { self.new.flags.items ≡ slice_set self.old.flags.items op (is_candidate_in vertices.now board.now op) }
+    {
+        let place = op as usize;
+        let is_ready = is_candidate(vertices, board, place);
+        if is_ready == self.flags[place] {
+            return;
+        }
+        self.flags[place] = is_ready;
+        self.count = if is_ready {
+            put_in(self.list.as_mut_slice(), self.count, op)
+        } else {
+            take_out(self.list.as_mut_slice(), self.count, op)
+        };
+    }
+
+    /// Marks these operations anew.
+    fn mark_each(&mut self, vertices: &[Vertex], board: &Board, ops: &[u32])
+        requires operations { All (λ v. v < length vertices.now) ops.now }
+        requires listed { IsListed (length vertices.now) self.old }
+        ensures listed { IsListed (length vertices.now) self.new }
+        ensures marked { (v : ℕ) → list_any (nat_eq v) ops.now ≡ true → flag_in self.new v ≡ is_candidate_in vertices.now board.now v }
+        ensures others { (v : ℕ) → list_any (nat_eq v) ops.now ≡ false → flag_in self.new v ≡ flag_in self.old v }
+    {
+        for op in ops {
+            self.mark_one(vertices, board, *op);
+        }
+    }
+}
+
+/// The candidates, by operation its arrivals by operator where it is a candidate, and by operation
+/// those that depend on it.
 #[derive(Drop)]
 pub(crate) struct Candidates {
-    pub flags: Vec<bool>,
-    pub known: Vec<bool>,
-    pub ready: Vec<u32>,
-    pub count: usize,
+    pub ready: Ready,
     pub arrivals: Vec<[u64; 16]>,
+    pub dependents: Vec<Vec<u32>>,
 }
 
 impl Candidates {
-    /// None of this many operations is a candidate.
-    pub fn new(alloc: Global, operations: usize) -> Result<Candidates, OutOfMemory>
-        ensures size { IfOk result (HasSize operations) }
-        ensures none { IfOk result (λ c. (v : ℕ) → flag_at c v ≡ false) }
+    /// No operation is a candidate so far.
+    pub fn new(alloc: Global, vertices: &[Vertex]) -> Result<Candidates, OutOfMemory>
+        requires { length vertices.now ≤ 2048 }
+        ensures size { IfOk result (HasSize (length vertices.now)) }
+        ensures dependents { IfOk result (λ c. AreDependents vertices.now c.dependents.items) }
     {
-        Ok(Candidates {
+        let operations = vertices.len();
+        let ready = Ready {
             flags: no_flags(alloc, operations)?,
-            known: no_flags(alloc, operations)?,
-            ready: vec![in alloc; 0; operations]?,
+            list: vec![in alloc; 0; operations]?,
             count: 0,
+        };
+        Ok(Candidates {
+            ready,
             arrivals: vec![in alloc; [0; 16]; operations]?,
+            dependents: all_dependents(alloc, vertices)?,
         })
     }
 
-    /// Finds the candidates anew, and the arrivals of those whose arrivals are not kept. It takes no
-    /// memory.
-    pub fn update(&mut self, vertices: &[Vertex], walks: &Walks, keeps: bool)
+    /// Finds the candidates among all operations, and their arrivals. It takes no memory.
+    pub fn fill(&mut self, vertices: &[Vertex], walks: &Walks)
         requires few { length vertices.now ≤ 2048 }
         requires size { HasSize (length vertices.now) self.old }
         requires walks { HasWalks walks.now }
         requires reads { length vertices.now ≤ length walks.now.reads.now }
         requires ways { (v : ℕ) → is_candidate_in vertices.now walks.now.board.now v ≡ true → CanArrive walks.now v }
+        ensures { IsUpdated vertices.now walks.now false self.old self.new }
+    {
+        self.ready.mark_all(vertices, walks.board);
+        renew(walks, &self.ready, &[], false, self.arrivals.as_mut_slice());
+    }
+
+    /// Brings the candidates up to date after this operation was placed: only those that depend on it
+    /// can be new. Finds the arrivals of the new ones, or of all where they are not kept. It takes no
+    /// memory.
+    pub fn update(&mut self, vertices: &[Vertex], walks: &Walks, placed: u32, keeps: bool)
+        requires size { HasSize (length vertices.now) self.old }
+        requires behind { IsBehind vertices.now walks.now.board.now placed self.old }
+        requires walks { HasWalks walks.now }
+        requires reads { length vertices.now ≤ length walks.now.reads.now }
+        requires ways { (v : ℕ) → is_candidate_in vertices.now walks.now.board.now v ≡ true → CanArrive walks.now v }
         ensures { IsUpdated vertices.now walks.now keeps self.old self.new }
     {
-        know(self.flags.as_slice(), keeps, self.known.as_mut_slice());
-        mark(vertices, walks.board, self.flags.as_mut_slice());
-        find(
+        let dependents = self.dependents[placed as usize].as_slice();
+        self.ready.mark_one(vertices, walks.board, placed);
+        self.ready.mark_each(vertices, walks.board, dependents);
+        renew(
             walks,
-            self.flags.as_slice(),
-            self.known.as_slice(),
+            &self.ready,
+            dependents,
+            keeps,
             self.arrivals.as_mut_slice(),
         );
-        self.count = collect(self.flags.as_slice(), self.ready.as_mut_slice());
     }
 }
 
@@ -62,17 +147,6 @@ fn no_flags(alloc: Global, len: usize) -> Result<Vec<bool>, OutOfMemory>
     ensures { IfOk result (λ flags. flags.items ≡ replicate len false) }
 {
     Ok(vec![in alloc; false; len]?)
-}
-
-/// Known are the arrivals of the candidates so far, where they are kept.
-fn know(flags: &[bool], keeps: bool, known: &mut [bool])
-    requires { length known.old ≡ length flags.now }
-    ensures size { length known.new ≡ length flags.now }
-    ensures known { (v : ℕ) → slice_index_or known.new v false ≡ (slice_index_or flags.now v false && keeps) }
-{
-    for (op, flag) in flags.iter().enumerate() {
-        known[op] = *flag && keeps;
-    }
 }
 
 /// Marks the candidates.
@@ -132,20 +206,43 @@ fn is_get_half_placed(board: &Board, kind: &Kind, twin: Option<u32>) -> bool
     }
 }
 
-/// Finds the arrivals of candidates that are not known.
-fn find(walks: &Walks, flags: &[bool], known: &[bool], rows: &mut [[u64; 16]])
+/// Finds the arrivals of all candidates, or where they are kept of those among these dependents.
+fn renew(walks: &Walks, ready: &Ready, dependents: &[u32], keeps: bool, rows: &mut [[u64; 16]])
     requires walks { HasWalks walks.now }
-    requires known { length known.now ≡ length flags.now }
+    requires listed { IsListed (length rows.old) ready.now }
+    requires operations { All (λ v. v < length rows.old) dependents.now }
+    requires reads { length rows.old ≤ length walks.now.reads.now }
+    requires ways { (v : ℕ) → v < length rows.old → flag_in ready.now v ≡ true → CanArrive walks.now v }
+    ensures size { length rows.new ≡ length rows.old }
+    ensures found { (v : ℕ) → flag_in ready.now v ≡ true → list_any (nat_eq v) (sought_in keeps dependents.now ready.now) ≡ true → AreArrivals walks.now v (row_at rows.new v) }
+    ensures kept { (v : ℕ) → list_any (nat_eq v) (sought_in keeps dependents.now ready.now) ≡ false → row_at rows.new v ≡ row_at rows.old v }
+{
+    let sought = sought(keeps, dependents, ready.as_slice());
+    find(walks, sought, ready.flags.as_slice(), rows);
+}
+
+/// Those whose arrivals are to be found: where arrivals are kept, no other than these dependents.
+fn sought<'a>(keeps: bool, dependents: &'a [u32], ready: &'a [u32]) -> &'a [u32]
+    ensures { result.now ≡ (if keeps then dependents.now else ready.now) }
+{
+    if keeps { dependents } else { ready }
+}
+
+/// Finds the arrivals of those of these operations that are candidates.
+fn find(walks: &Walks, ops: &[u32], flags: &[bool], rows: &mut [[u64; 16]])
+    requires walks { HasWalks walks.now }
+    requires operations { All (λ v. v < length flags.now) ops.now }
     requires rows { length rows.old ≡ length flags.now }
     requires reads { length flags.now ≤ length walks.now.reads.now }
     requires ways { (v : ℕ) → v < length flags.now → slice_index_or flags.now v false ≡ true → CanArrive walks.now v }
     ensures size { length rows.new ≡ length flags.now }
-    ensures found { (v : ℕ) → v < length flags.now → slice_index_or flags.now v false ≡ true → slice_index_or known.now v false ≡ false → AreArrivals walks.now v (row_at rows.new v) }
-    ensures kept { (v : ℕ) → slice_index_or known.now v false ≡ true → row_at rows.new v ≡ row_at rows.old v }
+    ensures found { (v : ℕ) → slice_index_or flags.now v false ≡ true → list_any (nat_eq v) ops.now ≡ true → AreArrivals walks.now v (row_at rows.new v) }
+    ensures kept { (v : ℕ) → list_any (nat_eq v) ops.now ≡ false → row_at rows.new v ≡ row_at rows.old v }
 {
-    for op in 0..flags.len() {
-        if flags[op] && !known[op] {
-            rows[op] = arrivals(walks, op);
+    for op in ops {
+        let place = *op as usize;
+        if flags[place] {
+            rows[place] = arrivals(walks, place);
         }
     }
 }

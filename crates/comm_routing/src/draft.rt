@@ -89,7 +89,7 @@ impl<'a> Draft<'a> {
     pub fn ready(&self) -> &[u32]
         ensures { result.now ≡ filter (is_candidate (task_of self.now) (acts_of self.now.decisions)) (range_with_len 0 (length self.now.graph.vertices)) }
     {
-        &self.progress.candidates.ready.as_slice()[..self.progress.candidates.count]
+        self.progress.candidates.ready.as_slice()
     }
 
     /// The greatest date at which the sources of a candidate would be held on the operator, if it were

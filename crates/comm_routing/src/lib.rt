@@ -4,8 +4,10 @@
 //! by tables.
 #![tactic(auto)]
 
+mod ascending;
 mod board;
 mod candidates;
+mod dependents;
 mod draft;
 mod laws;
 mod listing;

@@ -44,7 +44,7 @@ pub(crate) fn begin(
     let vertices = site.flat.vertices();
     let operators = site.archi.operators().len();
     let board = Board::new(alloc, vertices, operators as u32)?;
-    let mut candidates = Candidates::new(alloc, vertices.len())?;
+    let mut candidates = Candidates::new(alloc, vertices)?;
     let walks = Walks {
         board: &board,
         media: site.archi.media(),
@@ -52,7 +52,7 @@ pub(crate) fn begin(
         operators,
         reads,
     };
-    candidates.update(vertices, &walks, false);
+    candidates.fill(vertices, &walks);
     Ok(Progress {
         board,
         decisions: Vec::new(alloc),
@@ -96,7 +96,7 @@ pub(crate) fn place_next(
     };
     progress
         .candidates
-        .update(site.flat.vertices(), &walks, quiet);
+        .update(site.flat.vertices(), &walks, op, quiet);
     Ok(())
 }
 
@@ -105,14 +105,14 @@ pub(crate) fn may_place_next(site: &Site, progress: &Progress, op: u32, operator
     requires rows { length site.now.durations.now.rows ≡ length site.now.flat.now.vertices }
     requires columns { site.now.durations.now.operators ≡ length site.now.archi.now.operators }
     requires places { length progress.now.board.places ≡ length site.now.flat.now.vertices }
-    requires flags { length progress.now.candidates.flags.items ≡ length site.now.flat.now.vertices }
+    requires flags { length progress.now.candidates.ready.flags.items ≡ length site.now.flat.now.vertices }
     ensures { result ≡ may_place_in (drafted site.now progress.now.decisions.items) progress.now.board progress.now.candidates op operator }
 {
     let place = op as usize;
-    if place >= progress.candidates.flags.len() {
+    if place >= progress.candidates.ready.flags.len() {
         return false;
     }
-    progress.candidates.flags[place] && may_stand(site, &progress.board, op, operator)
+    progress.candidates.ready.flags[place] && may_stand(site, &progress.board, op, operator)
 }
 
 fn may_stand(site: &Site, board: &Board, op: u32, operator: u32) -> bool

@@ -4,6 +4,7 @@ pub mod Lists
 pub mod Meaning
 pub mod Rounds
 pub mod Running
+pub mod Solved
 pub mod Tasks
 pub mod Tight
 pub mod Unique

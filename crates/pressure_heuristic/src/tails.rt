@@ -1,6 +1,6 @@
 //! The longest times from the ends of operations on.
 ghost use Rattle.std.specs.Prelude.{◌≡◌, ℕ, ◌+◌, ◌*◌, ◌<◌, ◌≤◌, IfOk, length, map, slice_index_or, ◌∷◌, [], IsTrue};
-ghost use Rattle.flat_graph.specs.Order.{depends_on, get_half};
+ghost use Rattle.flat_graph.specs.Order.{depends_on, get_half, is_acyclic};
 ghost use Rattle.pressure_heuristic.specs.Tails.{least_in, raised, so_far, tails_in};
 
 use durations::Durations;
@@ -8,10 +8,81 @@ use flat_graph::{Guard, Kind, Source, Vertex};
 use std::alloc::Global;
 use syn_base::OutOfMemory;
 
+/// No tail is greater: at most 2047 operations follow one, each at most 1,000,000,000 ticks.
+const GREATEST: u64 = 2_047_000_000_000;
+
 /// By operation the longest time from its end on, by least durations, along operations of which each
-/// depends on the one before. Rounds over all operations are made until nothing changes, at most as
-/// many as there are operations.
+/// depends on the one before. Dates are raised in place until one exact round leaves them as they
+/// are: then they are the tails, since no operation depends on itself. Few turns do where the
+/// operations stand in an order.
 pub(crate) fn all_tails(
+    alloc: Global,
+    vertices: &[Vertex],
+    durations: &Durations,
+) -> Result<Vec<u64>, OutOfMemory>
+    requires few { length vertices.now ≤ 2048 }
+    requires rows { length durations.now.rows ≡ length vertices.now }
+    requires acyclic { IsTrue (is_acyclic vertices.now) }
+    ensures size { IfOk result (λ tails. length tails.items ≡ length vertices.now) }
+    ensures low { IfOk result (λ tails. (v : ℕ) → slice_index_or tails.items v 0 ≤ 2048000000000) }
+    ensures tails { IfOk result (λ tails. (v : ℕ) → v < length vertices.now → slice_index_or tails.items v 0 ≡ tails_in vertices.now durations.now (length vertices.now) v) }
+{
+    let operations = vertices.len();
+    let mut dates = zeros(alloc, operations)?;
+    for _turn in 0..operations {
+        raise_downwards(dates.as_mut_slice(), vertices, durations);
+        raise_upwards(dates.as_mut_slice(), vertices, durations);
+        let next = one_round(alloc, vertices, durations, &dates, 2047)?;
+        if are_same(&dates, &next) {
+            return Ok(dates);
+        }
+    }
+    all_rounds(alloc, vertices, durations)
+}
+
+/// Raises dates in place, from the last operation to the first.
+fn raise_downwards(dates: &mut [u64], vertices: &[Vertex], durations: &Durations)
+    requires few { length vertices.now ≤ 2048 }
+    requires rows { length durations.now.rows ≡ length vertices.now }
+    requires size { length dates.old ≡ length vertices.now }
+    requires low { (v : ℕ) → slice_index_or dates.old v 0 ≤ GREATEST }
+    ensures size { length dates.new ≡ length vertices.now }
+    ensures low { (v : ℕ) → slice_index_or dates.new v 0 ≤ GREATEST }
+{
+    for op in (0..vertices.len()).rev() {
+        raise_from(dates, vertices, durations, op);
+    }
+}
+
+/// Raises dates in place, from the first operation to the last.
+fn raise_upwards(dates: &mut [u64], vertices: &[Vertex], durations: &Durations)
+    requires few { length vertices.now ≤ 2048 }
+    requires rows { length durations.now.rows ≡ length vertices.now }
+    requires size { length dates.old ≡ length vertices.now }
+    requires low { (v : ℕ) → slice_index_or dates.old v 0 ≤ GREATEST }
+    ensures size { length dates.new ≡ length vertices.now }
+    ensures low { (v : ℕ) → slice_index_or dates.new v 0 ≤ GREATEST }
+{
+    for op in 0..vertices.len() {
+        raise_from(dates, vertices, durations, op);
+    }
+}
+
+/// Raises the dates of the operations on which this one depends to its least duration with its date.
+fn raise_from(dates: &mut [u64], vertices: &[Vertex], durations: &Durations, op: usize)
+    requires few { (length vertices.now ≤ 2048) × (op < length vertices.now) }
+    requires rows { length durations.now.rows ≡ length vertices.now }
+    requires size { length dates.old ≡ length vertices.now }
+    requires low { (v : ℕ) → slice_index_or dates.old v 0 ≤ GREATEST }
+    ensures size { length dates.new ≡ length vertices.now }
+    ensures low { (v : ℕ) → slice_index_or dates.new v 0 ≤ GREATEST }
+{
+    let date = durations.least(op as u32) + dates[op];
+    raise(dates, &vertices[op], date.min(GREATEST));
+}
+
+/// The tails by rounds over all operations, each from the dates before, until nothing changes.
+fn all_rounds(
     alloc: Global,
     vertices: &[Vertex],
     durations: &Durations,

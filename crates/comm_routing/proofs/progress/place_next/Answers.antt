@@ -1,19 +1,19 @@
-use Rattle.std.proofs.Common.{◌≡◌, List, [], ◌∷◌, ◌++◌, ap, arith, length, refl, subst, sym, ◌∙◌, ◌&&◌}
-use Rattle.std.specs.Prelude.{All, slice_index_or}
+use Rattle.std.proofs.Common.{List, [], ◌∷◌, ◌++◌, ap, arith, length, refl, subst, sym, ◌∙◌}
+use Rattle.std.specs.Prelude.{All}
 use Rattle.std.proofs.lemmas.Bool.{and_parts}
 use Rattle.flat_graph.specs.declared.vertex.Source.{Source}
 use Rattle.route_table.specs.Table.{route_in}
-use Rattle.schedule.specs.Acts.{acts_of}
 use Rattle.comm_routing.specs.Task.{routing}
-use Rattle.comm_routing.specs.Placing.{decision, ticks_in}
+use Rattle.comm_routing.specs.Placing.{ticks_in}
 use Rattle.comm_routing.specs.Walk.{walk}
 use Rattle.comm_routing.specs.Board.{FitsAll, HasWay}
 use Rattle.comm_routing.specs.Tables.{after_operation, after_transfers, decision_in, outs_of, transfers_in}
-use Rattle.comm_routing.specs.Draft.{IsTold, after_placing, drafted, task_of}
+use Rattle.comm_routing.specs.Draft.{IsTold, after_placing, drafted}
 use Rattle.comm_routing.specs.Candidates.{flag_at}
+use Rattle.comm_routing.specs.Dependents.{AreDependents}
 use Rattle.comm_routing.proofs.Sites.{at_default, length-reads}
 use Rattle.comm_routing.proofs.Steps.{asks, decided, told_after}
-use Rattle.comm_routing.proofs.Keeping.{can_arrive, kept_after, stay_after}
+use Rattle.comm_routing.proofs.Keeping.{behind, can_arrive, kept_after, stay_after}
 use Rattle.comm_routing.proofs.progress.place_next.Goals as goal
 
 pub place-requires-clause-ways : goal.place-requires-clause-ways
@@ -55,6 +55,18 @@ pub place-requires-clause-outputs : goal.place-requires-clause-outputs
 place-requires-clause-outputs c =
     (asks (drafted c.args.site.now c.args.progress.now.decisions.items) c.args.progress.now.board c.args.reads.now c.requires.keeps.told c.args.op c.args.operator c.requires.may).outputs
 
+pub update-requires-clause-behind : goal.update-requires-clause-behind
+update-requires-clause-behind c =
+    let s = c.args.site.now in
+    let g = c.args.progress.now in
+    let d = drafted s g.decisions.items in
+    let time = c.date_or_zero.ensures ∙ ap ticks_in c.ticks.ensures.entry in
+    let m = routing s.flat.now s.archi.now s.routes.now in
+    let is = c.in_ok-quiet.ensures.tables
+    ∙ ap (λ n. after_operation (after_transfers g.board (transfers_in m g.board c.args.op c.args.operator)) (outs_of m c.args.op) (decision_in m g.board c.args.op c.args.operator n)) time in
+    behind d g.board c.place.new.board c.args.reads.now g.candidates c.args.op c.args.operator c.requires.keeps c.requires.may
+    (told_after d g.board c.args.reads.now c.requires.keeps.told c.args.op c.args.operator c.requires.may c.place.new.board is) c.vertices.result.now c.vertices.ensures.same
+
 pub update-requires-clause-ways : goal.update-requires-clause-ways
 update-requires-clause-ways c = λ v h p on.
     let s = c.args.site.now in
@@ -90,7 +102,8 @@ returns-clause-keeps c =
     ∙ ap (λ n. after_operation (after_transfers g.board (transfers_in m g.board c.args.op c.args.operator)) (outs_of m c.args.op) (decision_in m g.board c.args.op c.args.operator n)) time in
     let told : IsTold (after_placing d c.args.op c.args.operator) c.place.new.board c.args.reads.now = told_after d g.board c.args.reads.now c.requires.keeps.told c.args.op c.args.operator c.requires.may c.place.new.board is in
     kept_after (after_placing d c.args.op c.args.operator) c.place.new.board c.args.reads.now told _ (record { board = refl; media = c.media.ensures.same; routes = refl; lists = refl; operators = ap length c.operators.ensures.same })
-    c.vertices.result.now c.vertices.ensures.same c.in_ok-quiet.quiet g.candidates c.update.new.self c.update.ensures
+    c.vertices.result.now c.vertices.ensures.same c.in_ok-quiet.quiet g.candidates c.update.new.self
+    (subst (λ xs. AreDependents xs g.candidates.dependents.items) (sym c.vertices.ensures.same) c.requires.keeps.dependents) c.update.ensures
     (λ v p l can e on.
     let both = and_parts (flag_at g.candidates v) c.in_ok-quiet.quiet e in
     stay_after d g.board c.args.reads.now g.candidates c.args.op c.args.operator c.requires.keeps c.requires.may

@@ -1,4 +1,6 @@
-use Rattle.std.proofs.Common.{List, ℕ, subst, sym}
+use Rattle.std.proofs.Common.{List, ℕ, ap, subst, sym, ◌∙◌}
+use Rattle.flat_graph.specs.Order.{is_acyclic}
+use Rattle.flat_graph.proofs.Settled.{acyclic_of}
 use Rattle.comm_routing.proofs.Sites.{site_of}
 use Rattle.pressure_heuristic.specs.Choosing.{IsGuide}
 use Rattle.pressure_heuristic.proofs.Running.{guide_of, run_of_any, valid_run}
@@ -26,3 +28,6 @@ returns-clause-tight c =
 pub returns-clause-any : goal.returns-clause-any
 returns-clause-any c =
     run_of_any c.args.flat.now c.args.archi.now c.in_ok-routes.routes c.args.durations.now c.in_ok-draft.draft c.in_ok-draft.ensures c.in_ok-routes.ensures c.run.result c.run.ensures
+
+pub all_tails-requires-clause-acyclic : goal.all_tails-requires-clause-acyclic
+all_tails-requires-clause-acyclic c = ap is_acyclic c.vertices-vertices.ensures.same ∙ acyclic_of c.args.flat.now c.vertices-vertices.ensures.valid

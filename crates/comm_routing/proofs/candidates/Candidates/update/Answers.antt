@@ -1,16 +1,69 @@
-use Rattle.std.proofs.Common.{◌≡◌, Bool, List, false, ap, arith, drop, length, sym, ◌∙◌}
-use Rattle.std.specs.Prelude.{slice_index_or}
-use Rattle.comm_routing.proofs.Reading.{written}
+use Rattle.std.proofs.Common.{ap, arith, length, refl, sym, ◌∙◌}
+use Rattle.std.proofs.lemmas.List.{with_items_is}
+use Rattle.comm_routing.proofs.Depending.{list_is}
+use Rattle.comm_routing.proofs.Renewal.{AreMarked, arrivals_right, dependents_low, flags_right}
 use Rattle.comm_routing.proofs.candidates.Candidates.update.Goals as goal
 
-pub find-requires-clause-ways : goal.find-requires-clause-ways
-find-requires-clause-ways c = λ v l h p q.
-    let h1 = c.as_slice-2.ensures in
-    let h2 = c.as_mut_slice-2.ensures in
-    let size = ap length h2.value in
-    let long = h2.len in
-    let now = c.mark.ensures.size in
-    let kept = c.requires.size.flags in
-    let same : c.as_slice-2.result.now ≡ c.mark.new.flags = h1.value ∙ written c.mark.new.flags (drop (length c.mark.new.flags) c.args.self.now.flags.items) c.args.self.now.flags.len (omega arith) in
-    let low = ap length same in
-    c.requires.ways v (sym (c.mark.ensures.marked v (omega arith)) ∙ ap (λ (l : List Bool). slice_index_or l v false) (sym same) ∙ h) p q
+pub mark_each-requires-clause-operations : goal.mark_each-requires-clause-operations
+mark_each-requires-clause-operations c =
+    let s = c.requires.size.dependents in
+    let l = c.requires.behind.operation in
+    dependents_low c.args.vertices.now c.args.walks.now.board.now c.args.placed c.args.self.now c.requires.behind _
+    (c.as_slice-dependents.ensures.value ∙ sym (list_is c.args.self.now.dependents.items c.args.placed c.index.result.now (omega arith) c.index.ensures))
+
+pub renew-requires-clause-operations : goal.renew-requires-clause-operations
+renew-requires-clause-operations c = λ k d m.
+    let s = c.requires.size.dependents in
+    let l = c.requires.behind.operation in
+    let low = dependents_low c.args.vertices.now c.args.walks.now.board.now c.args.placed c.args.self.now c.requires.behind _
+    (c.as_slice-dependents.ensures.value ∙ sym (list_is c.args.self.now.dependents.items c.args.placed c.index.result.now (omega arith) c.index.ensures)) k d m in
+    let long = ap length c.as_mut_slice.ensures.value in
+    let size = c.requires.size.arrivals in
+    omega arith
+
+pub renew-requires-clause-ways : goal.renew-requires-clause-ways
+renew-requires-clause-ways c = λ v l h.
+    let s = c.requires.size.dependents in
+    let o = c.requires.behind.operation in
+    let long = ap length c.as_mut_slice.ensures.value in
+    let size = c.requires.size.arrivals in
+    c.requires.ways v (sym (flags_right c.args.vertices.now c.args.walks.now.board.now c.args.placed c.args.self.now c.as_slice-dependents.result.now c.mark_one.new.self.flags.items c.mark_each.new.self.flags.items
+    (record {
+      behind = c.requires.behind;
+      size = c.requires.size.flags;
+      dependents_are = c.as_slice-dependents.ensures.value ∙ sym (list_is c.args.self.now.dependents.items c.args.placed c.index.result.now (omega arith) c.index.ensures);
+      first = c.mark_one.ensures.marked;
+      marked = c.mark_each.ensures.marked;
+      others = c.mark_each.ensures.others;
+    }) v (omega arith)) ∙ h)
+
+pub returns : goal.returns
+returns c =
+    let s = c.requires.size.dependents in
+    let o = c.requires.behind.operation in
+    let long = c.as_mut_slice.ensures.len in
+    let size = c.renew.ensures.size in
+    let rows = with_items_is c.args.self.now.arrivals c.renew.new.rows (omega arith) in
+    let marked : AreMarked c.args.vertices.now c.args.walks.now.board.now c.args.placed c.args.self.now c.as_slice-dependents.result.now c.mark_one.new.self.flags.items c.mark_each.new.self.flags.items
+    = record {
+      behind = c.requires.behind;
+      size = c.requires.size.flags;
+      dependents_are = c.as_slice-dependents.ensures.value ∙ sym (list_is c.args.self.now.dependents.items c.args.placed c.index.result.now (omega arith) c.index.ensures);
+      first = c.mark_one.ensures.marked;
+      marked = c.mark_each.ensures.marked;
+      others = c.mark_each.ensures.others;
+    } in
+    record {
+      size = record {
+        flags = c.mark_each.ensures.listed.flags;
+        list = c.mark_each.ensures.listed.list;
+        count = c.mark_each.ensures.listed.count;
+        arrivals = ap length rows ∙ size ∙ ap length c.as_mut_slice.ensures.value ∙ c.requires.size.arrivals;
+        dependents = c.requires.size.dependents;
+      };
+      dependents = refl;
+      flags = flags_right c.args.vertices.now c.args.walks.now.board.now c.args.placed c.args.self.now c.as_slice-dependents.result.now c.mark_one.new.self.flags.items c.mark_each.new.self.flags.items marked;
+      ready = c.mark_each.ensures.listed.ready;
+      arrivals = arrivals_right c.args.vertices.now c.args.walks.now.board.now c.args.placed c.args.self.now c.as_slice-dependents.result.now c.mark_one.new.self.flags.items c.mark_each.new.self.flags.items marked
+          c.args.walks.now c.args.keeps c.mark_each.new.self c.args.self.now.arrivals.items c.renew.new.rows _ refl c.mark_each.ensures.listed.ready c.as_mut_slice.ensures.value rows c.renew.ensures.found c.renew.ensures.kept;
+    }
