@@ -84,7 +84,7 @@ def architecture(operators, ring):
     return "".join(lines)
 
 
-def seconds(words, runs=3):
+def seconds(words, runs=9):
     """The least processor time of several runs, with the status and what was written."""
     best = None
     for _ in range(runs):

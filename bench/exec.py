@@ -22,7 +22,7 @@ from run import load
 from shapes import lanes, operators_for
 
 PROGRAM = built_program()
-RUNS, SHORT = 5, 25
+RUNS, SHORT = 5, 120
 MIB = 1024 * 1024
 WRONG = "nothing_\n"
 SHAPES = {
