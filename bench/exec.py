@@ -10,10 +10,15 @@
 Reading is the second less the first, the check the third less the second. For the plain reader reading is likewise the second less the
 first; it has to refuse the same lines. Prints the ratio of reading to the plain reader's, and that of the check to reading: for the
 macro-code of 2,048 operations on 16 operators, and for texts of 1, 4 and 16 MiB, which are its lines again and again and are only read.
-The time of the whole is told beside that of `flat`. Times are those of the processor, the least of several runs."""
+The time of the whole is told beside that of `flat`. Times are those of the processor, the least of several runs.
+
+    bench/exec.py instructions   counts the instructions of reading in place of its time, by `valgrind --tool=callgrind`: the same
+                                 on a loaded machine"""
 import os
+import re
 import resource
 import subprocess
+import sys
 import tempfile
 
 import chart
@@ -44,6 +49,15 @@ def seconds(words, runs):
     return best, done.returncode, done.stderr.decode()
 
 
+def instructions(words):
+    """How many instructions a run makes."""
+    with tempfile.NamedTemporaryFile() as profile:
+        words = ["valgrind", "--tool=callgrind", f"--callgrind-out-file={profile.name}", *words]
+        how = {"stdin": subprocess.DEVNULL, "stdout": subprocess.DEVNULL, "stderr": subprocess.PIPE}
+        said = subprocess.run(words, check=False, text=True, **how).stderr
+    return int(re.search(r"Collected : (\d+)", said)[1])
+
+
 class Reading:
     """The plain reader, and the texts of one algorithm."""
 
@@ -69,6 +83,14 @@ class Reading:
         assert (status, line) == (plain_status, plain_line), f"{status} {line} but the plain reader {plain_status} {plain_line}"
         assert status == 11, line
         return whole - before, plain_whole - plain_before, whole
+
+    def counted(self, what, text):
+        """The instructions of reading."""
+        last, absent = written(self.room, "last", text + WRONG), os.path.join(self.room, "absent")
+        ours, plain = [PROGRAM, "exec", *self.files], [self.plain, *self.files]
+        read = instructions([*ours, last, absent]) - instructions([*ours, self.first, absent])
+        other = instructions([*plain, last]) - instructions([*plain, self.first])
+        print(f"{what}, {len(text)} bytes: read by {read:,} instructions, {read / other:.2f} times the plain reader's {other:,}", flush=True)
 
     def told(self, what, text):
         """Reading and checking of a right text."""
@@ -102,6 +124,9 @@ def main():
         reading = Reading(room)
         for what, (algorithm, archi) in SHAPES.items():
             text = reading.take(algorithm, archi)
+            if sys.argv[1:] == ["instructions"]:
+                reading.counted(what, text)
+                continue
             reading.told(what, text)
             reading.told_growth(f"{what}, the lines of a loop again and again", text)
     print(load())
