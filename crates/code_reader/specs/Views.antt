@@ -1,5 +1,5 @@
 -- What contracts see of the values that the reader handles.
-use Rattle.std.specs.Prelude.{◌≡◌, ◌<◌, ℕ, Bool, true, false, List, [], ◌∷◌, length, map, Option, Some, None, Result, Ok, Err}
+use Rattle.std.specs.Prelude.{◌≡◌, ◌<◌, ℕ, Bool, true, false, ◌||◌, List, [], ◌∷◌, length, map, Option, Some, None, Result, Ok, Err}
 use Rattle.std.specs.List.{list_any}
 use Rattle.std.specs.Global.{Vec}
 use Rattle.std.specs.Borrow.{Bor}
@@ -16,7 +16,8 @@ use Rattle.code_reader.specs.declared.written.Written.TheVariants as written
 use Rattle.code_reader.specs.declared.written.WrittenCode.{WrittenCode}
 use Rattle.code_reader.specs.declared.instruction.Operation.{Operation}
 use Rattle.code_reader.specs.Given.{Fails}
-use Rattle.text_lines.specs.Text.{words_of}
+use Rattle.text_lines.specs.Text as text
+use Rattle.text_lines.specs.Text.{is_foreign, is_hash, words_of}
 use Rattle.code_reader.specs.declared.word.LineWords.{LineWords}
 use Rattle.code_reader.specs.declared.word.LineWords.TheVariants as told
 use Rattle.code_text.specs.Forms.{Bytes, Form, arguments_of, bare, listed, call, before, after, inside, is_closed, Declaration}
@@ -37,6 +38,15 @@ IsCutAt test (Some p) text = IsCut test text p.0.now p.1.now
 abbrev pub IsInside : Option (Bor Bytes) → Bytes → Type 0
 IsInside None text = is_closed text ≡ false
 IsInside (Some x) text = (is_closed text ≡ true) × (x.now ≡ inside text)
+
+-- a comment begins there, or the byte may not stand in a line
+abbrev pub is_stop : ℕ → Bool
+is_stop b = is_hash b || is_foreign b
+
+-- a line up to its comment, unless a byte stands there that may not stand in a line
+abbrev pub IsClean : Option (Bor Bytes) → Bytes → Type 0
+IsClean None line = list_any is_foreign (text.code_of line) ≡ true
+IsClean (Some code) line = (code.now ≡ text.code_of line) × (list_any is_foreign (text.code_of line) ≡ false)
 
 -- a word, two words and several words
 abbrev pub IsWord : Option (Bor Bytes) → Option Bytes → Type 0

@@ -12,6 +12,7 @@ mod instruction;
 mod known;
 mod lines;
 mod macros;
+mod marks;
 mod numbers;
 mod places;
 mod reader;

@@ -13,7 +13,7 @@ use crate::instruction::{Operation, read_call};
 use crate::known::Known;
 use crate::macros::find_macro;
 use crate::reader::Reader;
-use crate::word::{LineWords, has_foreign, words};
+use crate::word::{LineWords, clean_code, words};
 use archi_graph::Archi;
 use code_text::CodeError;
 use executive_program::Program;
@@ -157,10 +157,9 @@ impl Reader {
         ensures { Steps result (reading self.new)
             (next_line known.now.operations known.now.archi (reading self.old) line text.now) }
     {
-        let code = text_lines::code(text);
-        if has_foreign(code) {
+        let Some(code) = clean_code(text) else {
             return Err(bad_line(line));
-        }
+        };
         match words(code) {
             LineWords::Blank => Ok(()),
             LineWords::One(word) => self.word_line(known, line, word),

@@ -6,17 +6,6 @@ ghost use Rattle.code_text.specs.Forms.{macro_of, macros};
 use case_table::{CaseTable, case_arms};
 use macro_code::Macro;
 
-/// The macros of instructions, with which most lines begin.
-const OF_INSTRUCTIONS: [Macro; 7] = [
-    Macro::Suc0,
-    Macro::Suc1,
-    Macro::Pre0,
-    Macro::Pre1,
-    Macro::Send,
-    Macro::Recv,
-    Macro::Sync,
-];
-
 /// The macro of this name. Those of instructions are tried before a table of all is made.
 pub fn find_macro(name: &[u8]) -> Option<Macro>
     ensures { result ≡ macro_of name.now }
@@ -27,11 +16,24 @@ pub fn find_macro(name: &[u8]) -> Option<Macro>
     }
 }
 
-/// The macro of an instruction of this name.
+/// The macro of an instruction of this name, with which most lines begin. Its first byte tells which are tried.
 fn find_instruction(name: &[u8]) -> Option<Macro>
     ensures { IfSome result (λ found. macro_of name.now ≡ Some found) }
 {
-    for found in &OF_INSTRUCTIONS {
+    match name {
+        [b'S', ..] => find_among(name, &[Macro::Suc0, Macro::Suc1]),
+        [b'P', ..] => find_among(name, &[Macro::Pre0, Macro::Pre1]),
+        [b's', ..] => find_among(name, &[Macro::Sync, Macro::Send]),
+        [b'r', ..] => find_among(name, &[Macro::Recv]),
+        _ => None,
+    }
+}
+
+/// The macro of this name, of those that are tried.
+fn find_among(name: &[u8], tried: &[Macro]) -> Option<Macro>
+    ensures { IfSome result (λ found. macro_of name.now ≡ Some found) }
+{
+    for found in tried {
         if is_name_of(name, *found) {
             return Some(*found);
         }

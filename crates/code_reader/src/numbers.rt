@@ -2,17 +2,17 @@
 ghost use Rattle.std.specs.Prelude.{◌≡◌, ◌++◌, ◌∷◌, [], OnOk, IfOk};
 ghost use Rattle.code_text.specs.Text.{follows, is_among, last_of};
 
+use crate::marks::Marks;
 use std::alloc::Global;
-use std::collections::HashSet;
 use std::marker::Model;
 use syn_base::OutOfMemory;
 
-/// Numbers in the order in which they were added. Whether one is among them is found by hash. Contracts see their
+/// Numbers in the order in which they were added. Whether one is among them is told by its mark. Contracts see their
 /// list.
 #[derive(Drop)]
 pub struct Numbers {
     list: Vec<u64>,
-    set: HashSet<u64>,
+    marks: Marks,
 }
 
 impl Model for Numbers {
@@ -23,7 +23,7 @@ impl Model for Numbers {
 
     ghost view = { λ s. s.list.items };
 
-    ghost invariant = { λ s. AreAmong s.set.keys s.list.items };
+    ghost invariant = { λ s. AreAmong s.marks s.list.items };
 }
 
 impl Numbers {
@@ -33,7 +33,7 @@ impl Numbers {
     {
         Numbers {
             list: Vec::new(alloc),
-            set: HashSet::new(alloc),
+            marks: Marks::new(alloc),
         }
     }
 
@@ -42,7 +42,7 @@ impl Numbers {
         ensures { OnOk result (self.new ≡ self.old ++ number ∷ []) }
     {
         self.list.push(number)?;
-        if self.set.insert(number).is_err() {
+        if self.marks.add(number).is_err() {
             let _ = self.list.pop();
             return Err(OutOfMemory);
         }
@@ -53,7 +53,7 @@ impl Numbers {
     pub fn has(&self, number: u64) -> bool
         ensures { result ≡ is_among self.now number }
     {
-        self.set.contains(&number)
+        self.marks.has(number)
     }
 
     /// Whether a number is above the last one.

@@ -1,10 +1,10 @@
 //! What the words of a line are.
-ghost use Rattle.std.specs.Prelude.{◌≡◌, ◌+◌, ◌≤◌, IfSome, length, drop, position};
-ghost use Rattle.std.specs.List.{list_all, list_any, position_or_len};
+ghost use Rattle.std.specs.Prelude.{◌≡◌, ◌+◌, ◌<◌, ◌≤◌, IfSome, length, drop, position};
+ghost use Rattle.std.specs.List.{list_all, position_or_len};
 ghost use Rattle.syn_base.specs.Name.{begins_name, is_digit, is_name, is_name_byte};
 ghost use Rattle.text_lines.specs.Text.{is_blank, is_foreign, words_of};
 ghost use Rattle.code_text.specs.Forms.{at_least, buffer_in, from_to, natural, number_in};
-ghost use Rattle.code_reader.specs.Views.{AreWords, IsFirstWord};
+ghost use Rattle.code_reader.specs.Views.{AreWords, IsClean, IsFirstWord, is_stop};
 
 use syn_base::read_int;
 
@@ -75,11 +75,30 @@ fn is_blank(byte: u8) -> bool
     byte == b'\t' || byte == b'\r' || byte == b' '
 }
 
-/// Whether a byte stands there that may not stand in a line.
-pub fn has_foreign(code: &[u8]) -> bool
-    ensures { result ≡ list_any is_foreign code.now }
+/// A line up to its comment, unless a byte stands there that may not stand in a line. The line is gone through
+/// once for both.
+pub fn clean_code(line: &[u8]) -> Option<&[u8]>
+    ensures { IsClean result line.now }
 {
-    code.iter().any(|byte| is_foreign(*byte))
+    match stop_in(line) {
+        None => Some(line),
+        Some(place) if line[place] == b'#' => Some(&line[..place]),
+        Some(_) => None,
+    }
+}
+
+fn stop_in(line: &[u8]) -> Option<usize>
+    ensures place { result ≡ position is_stop line.now }
+    ensures within { IfSome result (λ k. k < length line.now) }
+{
+    line.iter().position(|byte| is_stop(*byte))
+}
+
+/// A comment begins, or the byte may not stand in a line. Most bytes are between `#` and `~`, so these are told first.
+fn is_stop(byte: u8) -> bool
+    ensures { result ≡ is_stop byte }
+{
+    !(b'#' < byte && byte <= b'~') && (byte == b'#' || is_foreign(byte))
 }
 
 fn is_foreign(byte: u8) -> bool
