@@ -39,7 +39,7 @@ SHAPES = {
 
 
 def seconds(words, runs):
-    """The least processor time of so many runs, with the status and the line of the last."""
+    """The least processor time of this many runs, with the status and the line of the last."""
     best = float("inf")
     for _ in range(runs):
         before = resource.getrusage(resource.RUSAGE_CHILDREN)

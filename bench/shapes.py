@@ -60,7 +60,7 @@ def passing(uses):
 
 
 def many(name, definition, count):
-    """A graph with so many references to a definition, each of which takes the graph's input."""
+    """A graph with this many references to a definition, each of which takes the graph's input."""
     refs = "".join(f"ref u{i} {definition}\n" for i in range(count))
     edges = "".join(f"edge x u{i}.x\n" for i in range(count))
     return [f"graph {name}\nin x 1\n{refs}{edges}end\n"]
@@ -115,8 +115,8 @@ def lanes(layers):
 
 
 def operators_for(operators, ring=False, depth=1):
-    """The architecture of so many operators, not all equally fast, at one bus or in a ring, for the lanes and the chain of `flat.py`; its buffers
-    that are shared have so many places."""
+    """The architecture of this many operators, not all equally fast, at one bus or in a ring, for the lanes and the chain of `flat.py`; its buffers
+    that are shared have this many places."""
     names = [f"o{k}" for k in range(operators)]
     lines = ["architecture 1"] if depth == 1 else ["architecture 2", f"depth {depth}"]
     lines += [f"operator {name}" for name in names]
