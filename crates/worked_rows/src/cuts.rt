@@ -94,7 +94,7 @@ pub fn call_cuts<R: Files + Print + AllocGlobal + Threads + Wait + Sync>(
     span.write(rt, files, holds)
 }
 
-/// What the program answers to these words, where the file of this name has so many bytes at most.
+/// What the program answers to these words, where the file of this name has at most this many bytes.
 fn answer_at<R: Files + AllocGlobal + Threads + Wait + Sync>(
     rt: &R,
     files: &[File],
@@ -115,7 +115,7 @@ fn answer_at<R: Files + AllocGlobal + Threads + Wait + Sync>(
     })
 }
 
-/// The files that the words name, of which the one of this name has so many bytes at most.
+/// The files that the words name, of which the one of this name has at most this many bytes.
 fn cut<R: Files + AllocGlobal>(
     rt: &R,
     files: &[File],
