@@ -1,6 +1,7 @@
 #!/usr/bin/env python3
 """Times `syndex run` beside a plain executive (`bench/plain/run.c`, built here by `cc -O2`) that reads the macro-code which
-`syndex code` writes and makes the same micro-steps on C11 atomics in one thread. Both have to write the same bytes.
+`syndex code` writes and makes the same micro-steps on C11 atomics, in one thread or in as many as there are workers. Both have
+to write the same bytes.
 
 - 2,048 operations on 16 operators over 1,000 reactions: a chain of functions; 16 lanes of functions that take from each other over
   a bus, and the same in a ring;
@@ -56,7 +57,7 @@ class Bench:
 
     def __init__(self, room):
         self.room, self.plain = room, os.path.join(room, "plain")
-        subprocess.run(["cc", "-O2", "-o", self.plain, os.path.join(TOP, "bench", "plain", "run.c")], check=True)
+        subprocess.run(["cc", "-O2", "-pthread", "-o", self.plain, os.path.join(TOP, "bench", "plain", "run.c")], check=True)
 
     def take(self, algorithm, archi, names, reactions):
         self.algorithm, self.archi = written(self.room, "a", algorithm), written(self.room, "h", archi)
@@ -65,19 +66,20 @@ class Bench:
         self.code = written(self.room, "c", said.decode("ascii"))
 
     def times(self, workers):
-        """Of `run`, of `code` and of the plain executive, in turn."""
+        """Of `run`, of `code`, and of the plain executive in one thread and in as many as there are workers, in turn."""
         run = Times([PROGRAM, "run", self.algorithm, self.archi, self.rows, "--workers", str(workers)])
         code = Times([PROGRAM, "code", self.algorithm, self.archi])
         plain = Times([self.plain, self.algorithm, self.archi, self.code, self.rows])
+        threads = Times([*plain.words, str(workers)])
         for _ in range(RUNS):
-            for it in (run, code, plain):
+            for it in (run, code, plain, threads):
                 it.run(self.room)
-        assert run.said == plain.said, "the plain executive writes something else"
-        return run, code, plain
+        assert run.said == plain.said == threads.said, "the plain executive writes something else"
+        return run, code, plain, threads
 
     def told(self, what, before=None):
         """With one worker."""
-        run, code, plain = self.times(1)
+        run, code, plain, _ = self.times(1)
         steps = int(plain.line.split()[1])
         growth = "" if before is None else f", {run.processor / before:.2f} times the line before"
         without = run.processor - code.processor
@@ -93,11 +95,12 @@ class Bench:
         """With one worker and more, by the clock."""
         one = None
         for workers in WORKERS:
-            run, _, plain = self.times(workers)
+            run, _, plain, threads = self.times(workers)
             one = one or run.clock
             print(
                 f"{what}, {workers} workers: {run.clock:.3f} s by the clock, {run.clock / one:.2f} times one worker's,"
-                f" {run.clock / plain.clock:.2f} times the plain executive's {plain.clock:.3f} s; {run.size:.0f} MiB",
+                f" {run.clock / plain.clock:.2f} times the plain executive's {plain.clock:.3f} s, {run.clock / threads.clock:.2f} times the"
+                f" {threads.clock:.3f} s that it takes in as many threads; {run.size:.0f} MiB",
                 flush=True,
             )
 

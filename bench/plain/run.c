@@ -1,24 +1,29 @@
 /* A plain executive, for bench/run.py to compare `syndex run` with. It reads an algorithm, the macro-code that `syndex code`
-   writes for it, and a sensor table, and makes the same micro-steps in one thread, each by one sequentially consistent
-   step of a C11 atomic: the sequences in turn, each as far as it goes, in windows of 256 reactions. Like `syndex run` it writes the
-   macro-code, an empty line and what the actuators took; on its error output it says how many micro-steps it made. */
+   writes for it, and a sensor table, and makes the same micro-steps, each by one sequentially consistent step of a C11
+   atomic: the sequences in turn, each as far as it goes, in windows of 256 reactions. It does so in one thread, or in as many as a
+   fifth word tells: the sequences are dealt out to them in turn, as `syndex run` does, and a thread yields after a turn without a
+   step. Like `syndex run` it writes the macro-code, an empty line and what the actuators took; on its error output it says how many
+   micro-steps it made. */
+#include <pthread.h>
+#include <sched.h>
 #include <stdatomic.h>
 #include "flat.h"
 #include "expression.h"
 #include "architecture.h"
 #include "macro_code.h"
 
-enum { WINDOW = 256, ELEMENTS = PORTS * PORTS };
+enum { WINDOW = 256, ELEMENTS = PORTS * PORTS, MOST_WORKERS = 80 };
 
 typedef struct { _Atomic uint64_t *words; int len, depth; } Cells;
-/* where a sequence stands: the instruction, the reaction, and the communications that it has made */
-typedef struct { int at, reaction; uint64_t made; } State;
+/* where a sequence stands: the instruction, the reaction, and the communications that it has made; each in a cache line of its own */
+typedef struct { _Alignas(64) int at; int reaction; uint64_t made; } State;
 
 static Cells *elements, wires[MEDIA];
 static _Atomic uint64_t *words, *turns;
 static size_t word_count;
 static int *pair_depth;
 static State states[CPUS * (MEDIA + 1)];
+static int workers = 1;
 
 /* by operation: where its vector begins in a row, and where the vectors of its ports begin among what it loads */
 static int *row_at, (*in_at)[PORTS];
@@ -125,13 +130,33 @@ static int go_on(const Seq *q, State *z) {
     }
 }
 
+/* drives the sequences of a worker in turn, and counts those that are not at their ends */
+static int turn(int worker, int *stepped) {
+    int waiting = 0;
+    *stepped = 0;
+    for (int s = worker; s < seq_count; s += workers) {
+        int at = states[s].at, reaction = states[s].reaction;
+        waiting += !go_on(&seqs[s], &states[s]);
+        *stepped |= states[s].at != at || states[s].reaction != reaction;
+    }
+    return waiting;
+}
+
+static void *work(void *worker) {
+    int stepped;
+    while (turn((int)(intptr_t)worker, &stepped))
+        if (!stepped && workers > 1) sched_yield();
+    return NULL;
+}
+
 static void drive(void) {
+    pthread_t others[MOST_WORKERS];
     memset((void *)words, 0, word_count * sizeof *words);
     for (int s = 0; s < seq_count; s++) states[s] = (State){ seqs[s].start, 0, 0 };
-    for (int ended = 0; ended < seq_count;) {
-        ended = 0;
-        for (int s = 0; s < seq_count; s++) ended += go_on(&seqs[s], &states[s]);
-    }
+    for (int w = 1; w < workers; w++)
+        if (pthread_create(&others[w], NULL, work, (void *)(intptr_t)w)) exit(9);
+    work(NULL);
+    for (int w = 1; w < workers; w++) pthread_join(others[w], NULL);
 }
 
 /* ---- the words, and the operations' places ---- */
@@ -251,7 +276,9 @@ static void print_code(const char *name) {
 }
 
 int main(int argc, char **argv) {
-    if (argc != 5) return 2;
+    if (argc != 5 && argc != 6) return 2;
+    if (argc == 6) workers = atoi(argv[5]);
+    if (workers < 1 || workers > MOST_WORKERS) return 2;
     read_operations(argv[1]);
     read_architecture(argv[2]);
     read_macro_code(argv[3]);
