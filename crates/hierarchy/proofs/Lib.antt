@@ -1,5 +1,6 @@
 pub mod Leading
 pub mod Building
 pub mod Texting
+pub mod Staying
 pub mod Adding
 pub mod Linking

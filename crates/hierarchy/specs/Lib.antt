@@ -1,5 +1,6 @@
 pub mod Numbers
 pub mod Wires
 pub mod Texts
+pub mod Unchanged
 pub mod Built
 pub mod Linked

@@ -28,6 +28,7 @@ mod names;
 mod numbers;
 mod operation;
 mod pass;
+mod unchanged;
 mod wires;
 
 pub use inlining::{Inlined, inline};

@@ -10,8 +10,12 @@ ghost use Rattle.operation_table.specs.Listed.{HasOperations};
 ghost use Rattle.path_text.specs.Bounded.{HasBounds};
 ghost use Rattle.path_text.specs.Named.{HasNames};
 ghost use Rattle.factorisation_laws.specs.Unrolled.{unroll as unrolled};
+ghost use Rattle.flat_laws.specs.Numbering.{HasBodiesInOrder};
+ghost use Rattle.hierarchy.specs.Built.{graph_of};
+ghost use Rattle.pass_laws.specs.NoRepeat.{HasNoRepeat};
 
 use crate::inlining::{Inlined, inline};
+use crate::unchanged::{is_guarded, is_unrolled};
 use algo_tree::Tree;
 use conditioning::guard;
 use factorisation::unroll;
@@ -36,8 +40,36 @@ pub fn flatten(alloc: Global, tree: &Tree) -> Result<Flat, OutOfMemory>
 {
     // By this call the proof knows that the tree is valid.
     let _main = tree.main();
-    let unrolled = unroll(alloc, tree)?;
-    let guarded = guard(alloc, &unrolled)?;
-    let Inlined { vertices, bodies } = inline(alloc, &guarded)?;
+    let Inlined { vertices, bodies } = inline_unrolled(alloc, tree)?;
     Ok(Flat::new(vertices, bodies))
+}
+
+/// The operations of a tree after both passes. One without repetitions need not be unrolled.
+fn inline_unrolled(alloc: Global, tree: &Tree) -> Result<Inlined, OutOfMemory>
+    requires names { HasNames tree.now }
+    ensures stands { IfOk result (λ all. Stands (graph_of all) (operations (guarded (unrolled tree.now)))) }
+    ensures order { IfOk result (λ all. HasBodiesInOrder (graph_of all)) }
+    ensures names { IfOk result (λ _. HasNames (guarded (unrolled tree.now))) }
+{
+    if is_unrolled(tree.main()) {
+        return inline_guarded(alloc, tree);
+    }
+    let unrolled = unroll(alloc, tree)?;
+    inline_guarded(alloc, &unrolled)
+}
+
+/// The operations of a tree without repetitions after its cases are put under guards. One without cases needs no
+/// guards.
+fn inline_guarded(alloc: Global, tree: &Tree) -> Result<Inlined, OutOfMemory>
+    requires repeats { HasNoRepeat tree.now }
+    requires names { HasNames tree.now }
+    ensures stands { IfOk result (λ all. Stands (graph_of all) (operations (guarded tree.now))) }
+    ensures order { IfOk result (λ all. HasBodiesInOrder (graph_of all)) }
+    ensures names { IfOk result (λ _. HasNames (guarded tree.now)) }
+{
+    if is_guarded(tree.main()) {
+        return inline(alloc, tree);
+    }
+    let guarded = guard(alloc, tree)?;
+    inline(alloc, &guarded)
 }

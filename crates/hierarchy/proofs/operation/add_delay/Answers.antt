@@ -1,15 +1,15 @@
-use Rattle.std.proofs.Common.{◌≡◌, ℕ, suc, ◌+◌, ◌*◌, ◌<◌, ◌==◌, true, List, [], ◌∷◌, drop, cond, length, map, get_or, drop-cons, refl, sym, ap, ap₂, ◌∙◌, subst, arith}
+use Rattle.std.proofs.Common.{◌≡◌, ℕ, suc, ◌+◌, ◌<◌, ◌==◌, List, [], ◌∷◌, drop, cond, length, map, get_or, sym, ap, ap₂, ◌∙◌, subst, arith}
 use Rattle.std.proofs.lemmas.List.{drop_all, get_or_default}
 use Rattle.level_meaning.specs.declared.source.Source.{Source}
 use Rattle.level_meaning.specs.declared.source.Source.TheVariants.{Of}
-use Rattle.level_meaning.specs.Level.{Vector, Path}
+use Rattle.level_meaning.specs.Level.{Vector}
 use Rattle.algo_tree.specs.Tree.{Label}
 use Rattle.algo_tree.specs.View.{label_view}
 use Rattle.algo_tree.specs.declared.vertex.Vertex.{out-Vertex}
 use Rattle.flat_graph.specs.Meaning.{level_source}
-use Rattle.inlining_laws.specs.Inlined.{stage_input, stages, wire_guard}
+use Rattle.inlining_laws.specs.Inlined.{stage_input, stages}
 use Rattle.hierarchy.specs.Built.{Adds, graph_of, stage_pair}
-use Rattle.hierarchy.specs.Linked.{AreFound, GuardsFound, AllLinked}
+use Rattle.hierarchy.specs.Linked.{AreFound, AllLinked}
 use Rattle.hierarchy.specs.Wires.{led}
 use Rattle.hierarchy.proofs.Building.{input_is, stages_from, stage_added, stages_begin, stages_end}
 use Rattle.hierarchy.proofs.operation.add_delay.Goals as goal

@@ -1,0 +1,15 @@
+-- What stays as it is where cases are put under guards has none.
+use Rattle.std.proofs.Common.{ap, sym, subst, [], ◌∙◌}
+use Rattle.conditioning_laws.specs.Guarded.{guard}
+use Rattle.conditioning_laws.specs.NoCase.{HasNoCase}
+use Rattle.conditioning_laws.proofs.Uncased.{no_case}
+use Rattle.flat_laws.proofs.Plain.{plain}
+use Rattle.hierarchy.proofs.pass.inline_guarded.Goals as goal
+
+pub inline-requires-clause-plain : goal.inline-requires-clause-plain
+inline-requires-clause-plain c =
+    plain c.args.tree.now c.requires.repeats
+    (subst HasNoCase (ap guard (sym c.main.ensures.same) ∙ c.is_guarded.ensures c.if-is_guarded.true ∙ c.main.ensures.same) (no_case [] 0 c.args.tree.now))
+
+pub inline-requires-2-clause-plain : goal.inline-requires-2-clause-plain
+inline-requires-2-clause-plain c = plain c.in_ok-guarded.guarded c.in_ok-guarded.ensures.repeats c.in_ok-guarded.ensures.cases

@@ -1,0 +1,10 @@
+-- What stays as it is where repetitions are unrolled has none.
+use Rattle.std.proofs.Common.{ap, sym, subst, ◌∙◌}
+use Rattle.factorisation_laws.specs.Unrolled.{unroll}
+use Rattle.factorisation_laws.proofs.Unrepeated.{no-unroll}
+use Rattle.pass_laws.specs.NoRepeat.{HasNoRepeat}
+use Rattle.hierarchy.proofs.pass.inline_unrolled.Goals as goal
+
+pub inline_guarded-requires-clause-repeats : goal.inline_guarded-requires-clause-repeats
+inline_guarded-requires-clause-repeats c =
+    subst HasNoRepeat (ap unroll (sym c.main.ensures.same) ∙ c.is_unrolled.ensures c.if-is_unrolled.true ∙ c.main.ensures.same) (no-unroll c.args.tree.now)

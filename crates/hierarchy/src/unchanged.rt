@@ -1,0 +1,60 @@
+//! Trees that a pass of flattening leaves as they are, so that it need not be made.
+ghost use Rattle.std.specs.Prelude.{◌≡◌, [], true, false};
+ghost use Rattle.algo_tree.specs.View.{kind_view, view};
+ghost use Rattle.pass_laws.specs.NoRepeat.{IsNoRepeat};
+ghost use Rattle.factorisation_laws.specs.Unrolled.{unroll as unrolled};
+ghost use Rattle.conditioning_laws.specs.Guarded.{guard as guarded};
+ghost use Rattle.hierarchy.specs.Unchanged.{IsUnguarded};
+ghost use Rattle.algo_tree.specs.declared.vertex.Vertex.{out-Vertex};
+
+use algo_tree::{Kind, Vertex};
+
+/// Whether nothing is to be unrolled: there is no repetition.
+pub fn is_unrolled(vertex: &Vertex) -> bool
+    ensures { result ≡ true → unrolled (view vertex.now) ≡ view vertex.now }
+{
+    if is_repetition(&vertex.kind) {
+        return false;
+    }
+    for inner in &vertex.inner {
+        if !is_unrolled(inner) {
+            return false;
+        }
+    }
+    true
+}
+
+fn is_repetition(kind: &Kind) -> bool
+    ensures { result ≡ false → IsNoRepeat (kind_view kind.now) }
+{
+    matches!(kind, Kind::Repeat(..))
+}
+
+/// Whether nothing is to be put under guards: there is no case and no guard.
+pub fn is_guarded(vertex: &Vertex) -> bool
+    ensures { result ≡ true → guarded (view vertex.now) ≡ view vertex.now }
+{
+    if !is_unguarded(vertex) {
+        return false;
+    }
+    for inner in &vertex.inner {
+        if !is_guarded(inner) {
+            return false;
+        }
+    }
+    true
+}
+
+/// A vertex without guards that is a graph, or an operation with nothing inside.
+fn is_unguarded(vertex: &Vertex) -> bool
+    ensures { result ≡ true → IsUnguarded (out-Vertex vertex.now) }
+{
+    if !vertex.guards.as_slice().is_empty() {
+        return false;
+    }
+    match &vertex.kind {
+        Kind::Graph(_) => true,
+        Kind::Switch(_, _) => false,
+        _ => vertex.inner.is_empty(),
+    }
+}
