@@ -1,24 +1,10 @@
-//! Ports and references by name.
+//! Lengths of ports by name, numbers and names as a tree has them.
 ghost use Rattle.std.specs.Prelude.{◌≡◌, IfOk};
-ghost use Rattle.algo_rules.specs.Graphs.{place};
-ghost use Rattle.algo_rules.specs.Ports.{len_of, number_of};
+ghost use Rattle.algo_rules.specs.Ports.{len_of};
 
-use algo_defs::Reference;
 use body_lang::Port;
 use std::alloc::Global;
 use syn_base::{Items, Name, OutOfMemory};
-
-/// The number of the port of a name, or how many there are.
-pub fn port_number(ports: &[Port], name: &Name) -> usize
-    ensures { result ≡ number_of ports.now name.now }
-{
-    for (at, port) in ports.iter().enumerate() {
-        if name.as_bytes() == port.name.as_bytes() {
-            return at;
-        }
-    }
-    ports.len()
-}
 
 /// The length of the port of a name, 0 where there is none.
 pub fn port_len(ports: &[Port], name: &Name) -> u32
@@ -30,18 +16,6 @@ pub fn port_len(ports: &[Port], name: &Name) -> u32
         }
     }
     0
-}
-
-/// The number of the reference of a name, or how many there are.
-pub fn reference_number(references: &[Reference], name: &Name) -> usize
-    ensures { result ≡ place references.now name.now }
-{
-    for (at, reference) in references.iter().enumerate() {
-        if name.as_bytes() == reference.name.as_bytes() {
-            return at;
-        }
-    }
-    references.len()
 }
 
 /// A number of a port, a reference or a case as a tree has it. No text has 2^32 of them: more

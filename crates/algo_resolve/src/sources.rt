@@ -7,10 +7,11 @@ ghost use Rattle.algo_resolve.specs.Parts.{IsPlacedGraph, of};
 ghost use Rattle.algo_resolve.specs.Wiring.{into, source_among};
 
 use crate::checked::Checked;
-use crate::lookup::{port_number, reference_number, small};
+use crate::lookup::small;
 use algo_defs::{Edge, End, Reference};
 use algo_rules::Ports;
 use body_lang::Port;
+use graph_check::{find_port, find_reference, is_same_name};
 use level_meaning::Source;
 use std::alloc::Global;
 use syn_base::{Items, Name, OutOfMemory};
@@ -78,9 +79,9 @@ impl<'a> Graph<'a> {
         ensures { IfOk result (λ s. s ≡ source_from (of self.now) self.now.ins.now self.now.references.now end.now.owner end.now.port) }
     {
         let Some(owner) = &end.owner else {
-            return Ok(Source::Own(small(port_number(self.ins, &end.port))?));
+            return Ok(Source::Own(small(find_port(self.ins, end.port.as_bytes()))?));
         };
-        let vertex = small(reference_number(self.references, owner))?;
+        let vertex = small(find_reference(self.references, owner.as_bytes()))?;
         let port = small(self.output_number(owner, &end.port))?;
         Ok(Source::Of(vertex, port))
     }
@@ -91,7 +92,7 @@ impl<'a> Graph<'a> {
         ensures { result ≡ number_of (ports_at (of self.now) self.now.references.now owner.now).outs port.now }
     {
         match self.named(owner) {
-            Some(ports) => port_number(ports.outs.as_slice(), port),
+            Some(ports) => find_port(ports.outs.as_slice(), port.as_bytes()),
             None => 0,
         }
     }
@@ -101,7 +102,7 @@ impl<'a> Graph<'a> {
         requires { IsPlacedGraph self.now }
         ensures { MatchOption result (ports_at (of self.now) self.now.references.now name.now ≡ no_ports) (λ p. p.now ≡ ports_at (of self.now) self.now.references.now name.now) }
     {
-        let at = reference_number(self.references, name);
+        let at = find_reference(self.references, name.as_bytes());
         if at < self.places.len() {
             Some(&self.checked.table[self.places[at] as usize])
         } else {
@@ -132,7 +133,7 @@ fn is_same_owner(first: &Option<Name>, second: &Option<Name>) -> bool
 {
     match (first, second) {
         (None, None) => true,
-        (Some(first), Some(second)) => first.as_bytes() == second.as_bytes(),
+        (Some(first), Some(second)) => is_same_name(first.as_bytes(), second.as_bytes()),
         _ => false,
     }
 }

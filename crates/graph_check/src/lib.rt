@@ -1,5 +1,5 @@
 //! Checks of a graph: whether its edges join what they may, each input has one, and no reference depends
-//! on itself.
+//! on itself. `find_reference` and `find_port` find what a name means in it.
 #![tactic(auto)]
 
 mod check;
@@ -11,3 +11,4 @@ mod parts;
 mod unfed;
 
 pub use check::check_graph;
+pub use parts::{find_port, find_reference, is_same_name};

@@ -1,5 +1,5 @@
 //! A graph with the definitions that its references name, and what its ends are.
-ghost use Rattle.std.specs.Prelude.{◌≡◌, ◌≤◌, MatchOption, slice_index_or, length};
+ghost use Rattle.std.specs.Prelude.{◌≡◌, ◌≤◌, MatchOption, bytes_eq, slice_index_or, length};
 ghost use Rattle.algo_rules.specs.Graphs.{place, port_len};
 ghost use Rattle.algo_rules.specs.Ports.{number_of, no_ports};
 ghost use Rattle.graph_check.specs.Parts.{named, givers, takers, IsPlacedGraph};
@@ -23,13 +23,20 @@ pub struct GraphParts<'a> {
     pub places: &'a [u32],
 }
 
+/// Whether two names are one. Names of one graph that differ mostly do so in their last byte, which is looked at first.
+pub fn is_same_name(first: &[u8], second: &[u8]) -> bool
+    ensures { result ≡ bytes_eq first.now second.now }
+{
+    first.last() == second.last() && first == second
+}
+
 /// The place of the reference of a name, or how many there are.
 pub fn find_reference(references: &[Reference], name: &[u8]) -> usize
     ensures first { result ≡ place references.now name.now }
     ensures within { result ≤ length references.now }
 {
     for (at, reference) in references.iter().enumerate() {
-        if name == reference.name.as_bytes() {
+        if is_same_name(name, reference.name.as_bytes()) {
             return at;
         }
     }

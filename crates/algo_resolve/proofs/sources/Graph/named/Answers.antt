@@ -1,11 +1,19 @@
+use Rattle.std.proofs.Common.{◌≡◌, ap, ◌∙◌}
+use Rattle.algo_rules.specs.Graphs.{place}
 use Rattle.graph_check.proofs.Named.{named_below, named_at, named_past}
 use Rattle.algo_resolve.proofs.sources.Graph.named.Goals as goal
 
 pub bounds-self-self : goal.bounds-self-self
-bounds-self-self c = named_below _ _ _ _ _ _ c.reference_number-at.ensures c.requires c.if-at-self.true
+bounds-self-self c =
+    let at = c.find_reference-at.ensures.first ∙ ap (place c.args.self.now.references.now) c.as_bytes.ensures.same in
+    named_below _ _ _ _ _ _ at c.requires c.if-at-self.true
 
 pub returns-then-at-self : goal.returns-then-at-self
-returns-then-at-self c = named_at _ _ _ _ _ _ _ c.reference_number-at.ensures c.requires c.if-at-self.true
+returns-then-at-self c =
+    let at = c.find_reference-at.ensures.first ∙ ap (place c.args.self.now.references.now) c.as_bytes.ensures.same in
+    named_at _ _ _ _ _ _ _ at c.requires c.if-at-self.true
 
 pub returns-else-at-self : goal.returns-else-at-self
-returns-else-at-self c = named_past _ _ _ _ _ _ c.reference_number-at.ensures c.requires c.if-at-self.false
+returns-else-at-self c =
+    let at = c.find_reference-at.ensures.first ∙ ap (place c.args.self.now.references.now) c.as_bytes.ensures.same in
+    named_past _ _ _ _ _ _ at c.requires c.if-at-self.false
