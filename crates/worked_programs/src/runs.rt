@@ -1,5 +1,5 @@
 //! A job run to its end by threads, and by one driver alone: its rows, counts and words are the same whoever
-//! drives, each sequence is driven by the worker of its group, and the gate is asked once for each step.
+//! drives, a sequence that waits at the gate holds no other worker up, and the gate is asked once for each step.
 use crate::two_operators::{ORDER, expect, graph_of_two, job, program, sensed, two_operators};
 use executive_run::{prepare, run_alone, run_ready};
 use outside::{Gate, GateFree};
