@@ -1,8 +1,8 @@
 /* A plain executive, for bench/run.py to compare `syndex run` with. It reads an algorithm, the macro-code that `syndex code`
    writes for it, and a sensor table, and makes the same micro-steps, each by one sequentially consistent step of a C11
    atomic: the sequences in turn, each as far as it goes, in windows of 256 reactions. It does so in one thread, or in as many as a
-   fifth word tells: the sequences are dealt out to them in turn, as `syndex run` does, and a thread yields after a turn without a
-   step. Like `syndex run` it writes the macro-code, an empty line and what the actuators took; on its error output it says how many
+   fifth word tells: these share the groups of sequences, as `syndex run` does, and a thread yields after a round without a step.
+   Like `syndex run` it writes the macro-code, an empty line and what the actuators took; on its error output it says how many
    micro-steps it made. */
 #include <pthread.h>
 #include <sched.h>
@@ -130,11 +130,15 @@ static int go_on(const Seq *q, State *z) {
     }
 }
 
-/* drives the sequences of a worker in turn, and counts those that are not at their ends */
-static int turn(int worker, int *stepped) {
+/* The sequences whose numbers leave the same remainder by the number of workers are a group. Its home is 0 while no worker has it. */
+typedef struct { _Alignas(64) _Atomic int away; int finished; } Home;
+static Home homes[MOST_WORKERS];
+static _Atomic int unfinished;
+
+/* drives the sequences of a group in turn, and counts those that are not at their ends */
+static int turn(int group, int *stepped) {
     int waiting = 0;
-    *stepped = 0;
-    for (int s = worker; s < seq_count; s += workers) {
+    for (int s = group; s < seq_count; s += workers) {
         int at = states[s].at, reaction = states[s].reaction;
         waiting += !go_on(&seqs[s], &states[s]);
         *stepped |= states[s].at != at || states[s].reaction != reaction;
@@ -142,10 +146,26 @@ static int turn(int worker, int *stepped) {
     return waiting;
 }
 
+/* drives a group by one turn, if it is at home */
+static void visit(int group, int *stepped) {
+    Home *home = &homes[group];
+    int at_home = 0;
+    if (atomic_load(&home->away) || !atomic_compare_exchange_strong(&home->away, &at_home, 1)) return;
+    if (!home->finished && !turn(group, stepped)) {
+        home->finished = 1;
+        atomic_fetch_sub(&unfinished, 1);
+    }
+    atomic_store(&home->away, 0);
+}
+
+/* goes over all groups, beginning with its own, until all are finished */
 static void *work(void *worker) {
-    int stepped;
-    while (turn((int)(intptr_t)worker, &stepped))
+    int own = (int)(intptr_t)worker;
+    while (atomic_load(&unfinished)) {
+        int stepped = 0;
+        for (int k = 0; k < workers; k++) visit((own + k) % workers, &stepped);
         if (!stepped && workers > 1) sched_yield();
+    }
     return NULL;
 }
 
@@ -153,6 +173,8 @@ static void drive(void) {
     pthread_t others[MOST_WORKERS];
     memset((void *)words, 0, word_count * sizeof *words);
     for (int s = 0; s < seq_count; s++) states[s] = (State){ seqs[s].start, 0, 0 };
+    for (int g = 0; g < workers; g++) homes[g] = (Home){ 0, 0 };
+    atomic_store(&unfinished, workers);
     for (int w = 1; w < workers; w++)
         if (pthread_create(&others[w], NULL, work, (void *)(intptr_t)w)) exit(9);
     work(NULL);
