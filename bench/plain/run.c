@@ -1,8 +1,8 @@
 /* A plain executive, for bench/run.py to compare `syndex run` with. It reads an algorithm, the macro-code that `syndex code`
    writes for it, and a sensor table, and makes the same micro-steps, each by one sequentially consistent step of a C11
    atomic: the sequences in turn, each as far as it goes, in windows of 256 reactions. It does so in one thread, or in as many as a
-   fifth word tells: the sequences are dealt out to them in turn, as `syndex run` does, and a thread yields after a turn without a
-   step. Like `syndex run` it writes the macro-code, an empty line and what the actuators took; on its error output it says how many
+   fifth word tells: the sequences are dealt out to them in turn, each to one thread from start to end, and a thread yields after a
+   turn without a step. Like `syndex run` it writes the macro-code, an empty line and what the actuators took; on its error output it says how many
    micro-steps it made. */
 #include <pthread.h>
 #include <sched.h>
