@@ -1,7 +1,8 @@
 //! The rows of the table.
-ghost use Rattle.std.specs.Prelude.{◌≡◌, ◌<◌, ◌≤◌, IfOk, None, length, map};
+ghost use Rattle.std.specs.Prelude.{◌≡◌, ℕ, ◌<◌, ◌≤◌, IfOk, List, None, length, map, true};
 ghost use Rattle.flat_graph.specs.Graph.{Graph};
 ghost use Rattle.archi_defs.specs.Text.{described_by};
+ghost use Rattle.archi_defs.specs.declared.text.DurationLine.{DurationLine};
 ghost use Rattle.durations.specs.Lines.{AreDurations};
 ghost use Rattle.durations.specs.Table.{durations_of, entry, missing, row, table};
 ghost use Rattle.durations.specs.Given.{Gives, IsRefused};
@@ -69,11 +70,44 @@ fn rows(
 ) -> Result<Vec<Items<Option<u64>>>, OutOfMemory>
     ensures { IfOk result (λ rows. rows.items ≡ map (row given.now.operators given.now.lines) vertices.now) }
 {
-    let mut rows = Vec::with_capacity(alloc, vertices.len())?;
-    for vertex in vertices {
-        rows.push(row(alloc, given, vertex)?)?;
+    let mut rows: Vec<Items<Option<u64>>> = Vec::with_capacity(alloc, vertices.len())?;
+    for (op, vertex) in vertices.iter().enumerate() {
+        let next = row_after(alloc, given, &vertices[..op], rows.as_slice(), vertex)?;
+        rows.push(next)?;
     }
     Ok(rows)
+}
+
+/// The row of an operation after others, whose rows are known. It is a copy of the last of them where
+/// both operations last as long, so that their definition is not looked up again.
+fn row_after(
+    alloc: Global,
+    given: &Given,
+    before: &[Vertex],
+    rows: &[Items<Option<u64>>],
+    vertex: &Vertex,
+) -> Result<Items<Option<u64>>, OutOfMemory>
+    requires { rows.now ≡ map (row given.now.operators given.now.lines) before.now }
+    ensures { IfOk result (λ entries. entries ≡ row given.now.operators given.now.lines vertex.now) }
+{
+    let count = before.len();
+    if count > 0 && lasts_as(&before[count - 1], vertex) {
+        return copied(alloc, rows[count - 1].as_slice());
+    }
+    row(alloc, given, vertex)
+}
+
+/// Whether both operations last as long as each other on every operator, whatever a text says.
+fn lasts_as(one: &Vertex, other: &Vertex) -> bool
+    ensures { result ≡ true → (lines : List DurationLine) (o : ℕ) → entry lines one.now o ≡ entry lines other.now o }
+{
+    is_timed(&one.kind) && is_timed(&other.kind) && one.def.as_bytes() == other.def.as_bytes()
+}
+
+fn copied(alloc: Global, entries: &[Option<u64>]) -> Result<Items<Option<u64>>, OutOfMemory>
+    ensures { IfOk result (λ copy. copy ≡ entries.now) }
+{
+    Ok(Items::new(Vec::from_slice(alloc, entries)?))
 }
 
 fn row(alloc: Global, given: &Given, vertex: &Vertex) -> Result<Items<Option<u64>>, OutOfMemory>

@@ -24,7 +24,7 @@ use crate::numbers::number;
 pub use crate::operation::Inlined;
 use crate::operation::{add_delay, add_operation};
 use crate::wires::{Level, follow_all};
-use algo_tree::{Kind, Tree, Vertex};
+use algo_tree::{Kind, Tree, Vertex, count_operations};
 use level_meaning::Source;
 use std::alloc::Global;
 use syn_base::OutOfMemory;
@@ -47,8 +47,9 @@ fn inline_main(alloc: Global, main: &Vertex) -> Result<Inlined, OutOfMemory>
     ensures stands { IfOk result (λ all. Stands (graph_of all) (operations (view main.now))) }
     ensures order { IfOk result (λ all. HasBodiesInOrder (graph_of all)) }
 {
+    let vertices = Vec::with_capacity(alloc, count_operations(main) as usize)?;
     let mut all = Inlined {
-        vertices: Vec::new(alloc),
+        vertices,
         bodies: Vec::new(alloc),
     };
     add_level(alloc, &[], b"", &main.inner, &mut all)?;

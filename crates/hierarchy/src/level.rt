@@ -20,7 +20,7 @@ use syn_base::{Items, OutOfMemory};
 fn blank(alloc: Global, numbers: &[u32]) -> Result<Vec<Led>, OutOfMemory>
     ensures { IfOk result (λ leds. length leds.items ≡ length numbers.now) }
 {
-    let mut leds = Vec::new(alloc);
+    let mut leds = Vec::with_capacity(alloc, numbers.len())?;
     for number in numbers {
         leds.push(Led::Operation(*number))?;
     }

@@ -17,7 +17,9 @@ pub fn glued(
 ) -> Result<Vec<u8>, OutOfMemory>
     ensures { IfOk result (λ text. text.items ≡ first.now ++ (second.now ++ third.now)) }
 {
-    let mut text = Vec::from_slice(alloc, first)?;
+    let len = first.len().saturating_add(second.len());
+    let mut text = Vec::with_capacity(alloc, len.saturating_add(third.len()))?;
+    text.extend_from_slice(first)?;
     text.extend_from_slice(second)?;
     text.extend_from_slice(third)?;
     Ok(text)

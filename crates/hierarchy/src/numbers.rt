@@ -38,7 +38,7 @@ pub fn first_numbers(
 ) -> Result<Vec<u32>, OutOfMemory>
     ensures { IfOk result (λ numbers. numbers.items ≡ numbers_of first (vertices_view vertices.now)) }
 {
-    let mut numbers = Vec::new(alloc);
+    let mut numbers = Vec::with_capacity(alloc, vertices.len())?;
     let mut next = first;
     for vertex in vertices {
         numbers.push(next)?;

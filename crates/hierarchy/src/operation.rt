@@ -38,7 +38,7 @@ pub struct Inlined {
 struct Form<'a> {
     name: Vec<u8>,
     task: Task,
-    ins: &'a [Output],
+    ins: Vec<Output>,
     outs: &'a [u32],
     twin: Option<u32>,
 }
@@ -62,7 +62,7 @@ fn outputs_of(
     requires { AreFound (map (led level.now.leds.now level.now.own.now) sources.now) }
     ensures { IfOk result (λ os. map level_source os.items ≡ map (led level.now.leds.now level.now.own.now) sources.now) }
 {
-    let mut all = Vec::new(alloc);
+    let mut all = Vec::with_capacity(alloc, sources.len())?;
     for source in sources {
         all.push(output_of(level, *source))?;
     }
@@ -116,21 +116,20 @@ fn operation(
 ) -> Result<Operation, OutOfMemory>
     requires definition { IsTrue (is_name (out-Vertex vertex.now).definition) }
     requires guards { GuardsFound (map (wire_guard (led level.now.leds.now level.now.own.now)) (out-Vertex vertex.now).guards) }
-    ensures is { IfOk result (λ x. IsOperation (led level.now.leds.now level.now.own.now) (label_view (out-Vertex vertex.now)) (map level_source form.entry.ins.now) form.entry.outs.now x) }
+    ensures is { IfOk result (λ x. IsOperation (led level.now.leds.now level.now.own.now) (label_view (out-Vertex vertex.now)) (map level_source form.entry.ins.items) form.entry.outs.now x) }
     ensures name { IfOk result (λ x. x.name ≡ form.entry.name.items) }
     ensures task { IfOk result (λ x. x.kind ≡ form.entry.task) }
     ensures twin { IfOk result (λ x. x.twin ≡ form.entry.twin) }
 {
     let def = definition(alloc, vertex.definition.as_slice())?;
     let guards = conditions(alloc, level, vertex.guards.as_slice())?;
-    let ins = Vec::from_slice(alloc, form.ins)?;
     let outs = copy_lens(alloc, form.outs)?;
     Ok(Operation {
         name: Items::new(form.name),
         def,
         kind: form.task,
         guards: Items::new(guards),
-        ins: Items::new(ins),
+        ins: Items::new(form.ins),
         outs,
         twin: form.twin,
     })
@@ -172,13 +171,13 @@ fn add_stage(
     level: &Level<'_>,
     vertex: &Vertex,
     stage: &Stage<'_>,
-    ins: &[Output],
+    ins: Vec<Output>,
     all: &mut Inlined,
 ) -> Result<(), OutOfMemory>
     requires definition { IsTrue (is_name (out-Vertex vertex.now).definition) }
     requires guards { GuardsFound (map (wire_guard (led level.now.leds.now level.now.own.now)) (out-Vertex vertex.now).guards) }
     ensures count { OnOk result (length all.new.vertices.items ≡ length all.old.vertices.items + 2) }
-    ensures added { OnOk result ((at : Path) → path_text at ≡ stage.now.path.now → Adds (graph_of all.old) (graph_of all.new) (λ b. stage_pair (led level.now.leds.now level.now.own.now) at stage.now.number (label_view (out-Vertex vertex.now)) stage.now.values.now (map level_source ins.now))) }
+    ensures added { OnOk result ((at : Path) → path_text at ≡ stage.now.path.now → Adds (graph_of all.old) (graph_of all.new) (λ b. stage_pair (led level.now.leds.now level.now.own.now) at stage.now.number (label_view (out-Vertex vertex.now)) stage.now.values.now (map level_source ins.items))) }
 {
     let get = number(all.vertices.len())?;
     let set = number(all.vertices.len() + 1)?;
@@ -186,7 +185,7 @@ fn add_stage(
     let gives = Form {
         name: glued(alloc, stage.path, b":get", &text)?,
         task: Task::Get(copy_numbers(alloc, stage.values)?),
-        ins: &[],
+        ins: Vec::new(alloc),
         outs: vertex.outs.as_slice(),
         twin: Some(set),
     };
@@ -225,7 +224,7 @@ pub fn add_delay(
             number: number(at)?,
             values: groups[at].as_slice(),
         };
-        add_stage(alloc, level, vertex, &stage, &ins, all)?;
+        add_stage(alloc, level, vertex, &stage, ins, all)?;
     }
     Ok(())
 }
@@ -279,7 +278,7 @@ pub fn add_operation(
     let form = Form {
         name: path,
         task: task(alloc, &vertex.kind, &mut all.bodies)?,
-        ins: &ins,
+        ins,
         outs: vertex.outs.as_slice(),
         twin: None,
     };

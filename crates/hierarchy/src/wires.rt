@@ -64,7 +64,7 @@ pub fn follow_all(
 ) -> Result<Vec<Source>, OutOfMemory>
     ensures { IfOk result (λ ss. ss.items ≡ map (led level.now.leds.now level.now.own.now) sources.now) }
 {
-    let mut all = Vec::new(alloc);
+    let mut all = Vec::with_capacity(alloc, sources.len())?;
     for source in sources {
         all.push(follow(level, *source))?;
     }

@@ -92,21 +92,21 @@ fn try_vertex(vertices: &Vec<Vertex>, r: usize, begun: &mut Begun) -> Result<(),
     Ok(())
 }
 
-/// Each of these vertices runs that is ready when its turn comes.
+/// Each of these vertices runs that has not yet and is ready when its turn comes.
 fn run_proposed(
-    alloc: Global,
     vertices: &Vec<Vertex>,
     proposed: &[usize],
-) -> Result<Begun, OutOfMemory>
-    ensures { IfOk result (IsBegun (nodes_of vertices.now.items)) }
+    begun: &mut Begun,
+) -> Result<(), OutOfMemory>
+    requires { IsBegun (nodes_of vertices.now.items) begun.old }
+    ensures { OnOk result (IsBegun (nodes_of vertices.now.items) begun.new) }
 {
-    let mut begun = none_done(alloc, vertices.len())?;
     for r in proposed {
         if *r < vertices.len() {
-            try_vertex(vertices, *r, &mut begun)?;
+            try_vertex(vertices, *r, begun)?;
         }
     }
-    Ok(begun)
+    Ok(())
 }
 
 /// A level of that many vertices, before any has run.
@@ -114,7 +114,7 @@ fn none_done(alloc: Global, count: usize) -> Result<Begun, OutOfMemory>
     ensures { IfOk result (λ b. (b.order.items ≡ []) × (b.done.items ≡ replicate count false)) }
 {
     Ok(Begun {
-        order: Vec::new(alloc),
+        order: Vec::with_capacity(alloc, count)?,
         done: vec![in alloc; false; count]?,
     })
 }
@@ -143,18 +143,40 @@ fn by_rounds(vertices: &Vec<Vertex>, mut begun: Begun) -> Result<Vec<usize>, Out
     Ok(order)
 }
 
-/// An order in which each vertex of a level stands after all that its outputs ask for. It takes
-/// time and memory in proportion to the vertices and edges of the level.
-pub fn find_order(alloc: Global, vertices: &Vec<Vertex>) -> Result<Vec<usize>, OutOfMemory>
-    requires { IsAcyclic (nodes_of vertices.now.items) }
+/// Each vertex of a level runs that is ready when its turn comes, where they run as they stand.
+fn run_as_written(alloc: Global, vertices: &Vec<Vertex>) -> Result<Begun, OutOfMemory>
+    ensures { IfOk result (IsBegun (nodes_of vertices.now.items)) }
+{
+    let mut begun = none_done(alloc, vertices.len())?;
+    one_round(vertices, &mut begun)?;
+    Ok(begun)
+}
+
+/// An order of a level of which some vertices have run, mostly all.
+fn finished(vertices: &Vec<Vertex>, begun: Begun) -> Result<Vec<usize>, OutOfMemory>
+    requires begun { IsBegun (nodes_of vertices.now.items) begun }
+    requires acyclic { IsAcyclic (nodes_of vertices.now.items) }
     ensures { IfOk result (λ order. IsOrder (nodes_of vertices.now.items) order.items) }
 {
-    let proposed = proposed_order(alloc, vertices)?;
-    let begun = run_proposed(alloc, vertices, &proposed)?;
     if is_all_done(&begun.done) {
         let Begun { order, .. } = begun;
         return Ok(order);
     }
     // The proposal leads through every level without a cycle; rounds need no proof of that.
     by_rounds(vertices, begun)
+}
+
+/// An order in which each vertex of a level stands after all that its outputs ask for. It takes
+/// time and memory in proportion to the vertices and edges of the level. Many a text lists the
+/// vertices in such an order, and then no other is sought.
+pub fn find_order(alloc: Global, vertices: &Vec<Vertex>) -> Result<Vec<usize>, OutOfMemory>
+    requires { IsAcyclic (nodes_of vertices.now.items) }
+    ensures { IfOk result (λ order. IsOrder (nodes_of vertices.now.items) order.items) }
+{
+    let mut begun = run_as_written(alloc, vertices)?;
+    if !is_all_done(&begun.done) {
+        let proposed = proposed_order(alloc, vertices)?;
+        run_proposed(vertices, &proposed, &mut begun)?;
+    }
+    finished(vertices, begun)
 }

@@ -1,5 +1,5 @@
 -- The program that is assembled is that of the schedule, and the limits are its limits.
-use Rattle.std.proofs.Common.{◌≡◌, ℕ, suc, ◌+◌, ◌<◌, ◌≤◌, ◌*◌, Bool, true, false, cond, List, [], ◌∷◌, length, map, Option, Some, None, refl, sym, ap, subst, arith, ◌∙◌, Vec, Global}
+use Rattle.std.proofs.Common.{◌≡◌, ℕ, suc, ◌+◌, ◌<◌, ◌≤◌, Bool, true, false, cond, List, [], ◌∷◌, length, map, Option, Some, None, refl, sym, ap, subst, arith, ◌∙◌, Vec, Global}
 use Rattle.std.specs.Prelude.{slice_get, slice_index_or, nat_eq, nat_lt, Result, Ok, Err, IfOk, IfErr}
 use Rattle.std.specs.List.{flat_map, position_or_len}
 use Rattle.std.proofs.lemmas.List.{length-map}
@@ -61,18 +61,19 @@ module _ (g : Graph) (a : Architecture) (s : Schedule) where
 
   -- the loops that the code makes
   pub plain_loops : length g.vertices ≤ 2048 → AreCovered (length g.vertices) (copies g a s) → (places table : List ℕ) (vs : List (Vec Instr Global))
-      → places ≡ map place (copies g a s) → length table ≡ length g.vertices * 1024
-      → ((k : ℕ) → k < length g.vertices * 1024 → slice_index_or table k 0 ≡ position_or_len (nat_eq k) places)
-      → length vs ≡ length (sequences a) → HasLoops vs (flat_map (steps_of g.vertices (sequences a) (number_in table (length places))) (acts s))
+      → places ≡ map (place (length g.vertices)) (copies g a s)
+      → ((k : ℕ) → slice_index_or table k (length places) ≡ position_or_len (nat_eq k) places)
+      → length vs ≡ length (sequences a) → HasLoops vs (flat_map (steps_of g.vertices (sequences a) (number_in (length g.vertices) table (length places))) (acts s))
       → codes_from vs (sequences a) ≡ codes (λ _. []) (projection (plain_steps g a s)) 0 (sequences a)
-  plain_loops few cover places table vs are many each count loops =
-      let size : length places ≡ length (copies g a s) = ap (λ (l : List ℕ). length l) are ∙ length-map (copies g a s) place in
-      let number : (c : Copy) → number_in table (length places) c ≡ buffer_for g a s c = λ c.
-      ap (λ (n : ℕ). number_in table n c) size
-      ∙ numbers_are (length g.vertices) few (copies g a s) table cover many (λ k l. each k l ∙ ap (position_or_len (nat_eq k)) are) c in
+  plain_loops few cover places table vs are each count loops =
+      let operations = length g.vertices in
+      let size : length places ≡ length (copies g a s) = ap (λ (l : List ℕ). length l) are ∙ length-map (copies g a s) (place operations) in
+      let number : (c : Copy) → number_in operations table (length places) c ≡ buffer_for g a s c = λ c.
+      ap (λ (n : ℕ). number_in operations table n c) size
+      ∙ numbers_are operations few (copies g a s) table cover (λ k. ap (slice_index_or table k) (sym size) ∙ each k ∙ ap (position_or_len (nat_eq k)) are) c in
       loops_are (plain_steps g a s) 0 vs (sequences a) count (λ i l.
       loops i l
-      ∙ (λ j. projection (flat_map (λ x. same_steps (number_in table (length places)) number x j) (acts s)) i)
+      ∙ (λ j. projection (flat_map (λ x. same_steps (number_in (length g.vertices) table (length places)) number x j) (acts s)) i)
       ∙ ap (projection (plain_steps g a s)) (let z : i ≡ 0 + i = omega arith in z))
 
 -- A program with the semaphores of its pairs, where each buffer is written once and has one place.

@@ -55,7 +55,7 @@ ComesTo old new left whole = (s : ℕ) → s < length old → loop_at new s ++ p
 
 -- what the acts of a site add
 abbrev pub numbering : Site → Copy → ℕ
-numbering s = number_in s.numbers.now s.copies
+numbering s = number_in (length s.vertices.now) s.numbers.now s.copies
 
 abbrev pub steps_at : Site → Act → List Step
 steps_at s = steps_of s.vertices.now s.sequences.now (numbering s)

@@ -1,5 +1,5 @@
 //! The copies of values that the acts of a schedule make: a buffer for each, and its place in a table.
-ghost use Rattle.std.specs.Prelude.{◌≡◌, ◌∷◌, [], map, OnOk, IfOk, slice_get, slice_index_or};
+ghost use Rattle.std.specs.Prelude.{◌≡◌, ◌∷◌, [], map, length, OnOk, IfOk, slice_get, slice_index_or};
 ghost use Rattle.std.specs.List.{flat_map};
 ghost use Rattle.flat_graph.specs.Graph.{len_of};
 ghost use Rattle.schedule.specs.Acts.{acts_of, carry, copy, made_by, outputs_from, run};
@@ -13,7 +13,7 @@ use schedule::{Decision, Transfer};
 use std::alloc::Global;
 use syn_base::OutOfMemory;
 
-/// The place of a copy that no table has.
+/// The place of all copies that have none of their own, beyond every other.
 const NOWHERE: u32 = 2_097_152;
 
 /// A count as the number of an output, a buffer or a pair. Where it does not fit the answer is want of
@@ -27,12 +27,14 @@ pub fn number(count: usize) -> Result<u32, OutOfMemory>
     }
 }
 
-/// The place of a copy in a table of outputs and operators.
-pub fn place_of(operator: u32, source: Source) -> u32
-    ensures { result ≡ place (copy operator source) }
+/// The place of a copy in a table of the outputs of this many operations and of operators. The first
+/// outputs come first, so that a table in which no operation has a second one is short.
+pub fn place_of(operations: usize, operator: u32, source: Source) -> u32
+    ensures { result ≡ place operations (copy operator source) }
 {
-    if source.vertex < 2048 && (source.port < 64 && operator < 16) {
-        (source.vertex * 64 + source.port) * 16 + operator
+    let vertex = source.vertex as usize;
+    if operations <= 2048 && (vertex < operations && (source.port < 64 && operator < 16)) {
+        ((source.port as usize * operations + vertex) * 16 + operator as usize) as u32
     } else {
         NOWHERE
     }
@@ -98,7 +100,8 @@ impl Made {
             len: source_len(vertices, source),
             depth: 1,
         })?;
-        self.places.push(place_of(operator, source))?;
+        self.places
+            .push(place_of(vertices.len(), operator, source))?;
         Ok(())
     }
 
@@ -156,7 +159,7 @@ pub fn made_of(
     decisions: &[Decision],
 ) -> Result<Made, OutOfMemory>
     ensures buffers { IfOk result (λ m. m.buffers.items ≡ map (buffer_of vertices.now) (flat_map (made_by vertices.now) (acts_of decisions.now))) }
-    ensures places { IfOk result (λ m. m.places.items ≡ map place (flat_map (made_by vertices.now) (acts_of decisions.now))) }
+    ensures places { IfOk result (λ m. m.places.items ≡ map (place (length vertices.now)) (flat_map (made_by vertices.now) (acts_of decisions.now))) }
 {
     let mut made = Made::new(alloc);
     for decision in decisions {

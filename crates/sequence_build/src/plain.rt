@@ -5,7 +5,7 @@ ghost use Rattle.sequence_build.specs.Numbers.{AreCovered};
 ghost use Rattle.sequence_build.specs.Plain.{codes_from};
 
 use crate::made::{made_of, number};
-use crate::numbers::first_numbers;
+use crate::numbers::numbers_of;
 use crate::site::Site;
 use archi_graph::{Archi, Seq};
 use executive_program::{Instr, Program, SeqCode};
@@ -48,7 +48,7 @@ pub fn plain_program(
 {
     let decisions = schedule.decisions.as_slice();
     let made = made_of(alloc, flat.vertices(), decisions)?;
-    let numbers = first_numbers(alloc, flat.vertices().len() * 1024, made.places.as_slice())?;
+    let numbers = numbers_of(alloc, made.places.as_slice())?;
     let sequences = archi.sequences(alloc)?;
     let site = Site {
         vertices: flat.vertices(),

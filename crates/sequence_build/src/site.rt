@@ -119,7 +119,7 @@ impl<'a> Site<'a> {
     fn buffer(&self, operator: u32, source: Source) -> u32
         ensures { result ≡ numbering self.now (copy operator source) }
     {
-        let place = place_of(operator, source) as usize;
+        let place = place_of(self.vertices.len(), operator, source) as usize;
         if place < self.numbers.len() {
             self.numbers[place]
         } else {

@@ -1,6 +1,6 @@
-use Rattle.std.proofs.Common.{◌≡◌, ◌++◌, drop, map}
+use Rattle.std.proofs.Common.{◌≡◌, map, take}
 use Rattle.durations.specs.Table.{row}
 use Rattle.durations.proofs.rows.rows.Given as goal
 
-abbrev pub invariant-loop-vertex : goal.invariant-loop-vertex
-invariant-loop-vertex l = l.rows.items ++ map (row l.given.operators l.given.lines) (drop l.vertex-index l.vertices) ≡ map (row l.given.operators l.given.lines) l.vertices
+abbrev pub invariant-loop-op : goal.invariant-loop-op
+invariant-loop-op l = l.rows.items ≡ map (row l.given.operators l.given.lines) (take l.op l.vertices)

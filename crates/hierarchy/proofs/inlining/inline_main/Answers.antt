@@ -15,15 +15,15 @@ pub add_level-requires-clause-well : goal.add_level-requires-clause-well
 add_level-requires-clause-well c = (main_well c.args.main.now c.requires.tree).0
 
 pub add_level-requires-clause-linked : goal.add_level-requires-clause-linked
-add_level-requires-clause-linked c = main_linked c.args.main.now c.requires.tree c.requires.plain (length c.new.result.items) (ap length c.new.ensures.items)
+add_level-requires-clause-linked c = main_linked c.args.main.now c.requires.tree c.requires.plain (length c.in_ok-vertices.vertices.items) (ap length c.in_ok-vertices.ensures.items)
 
 pub returns-clause-stands : goal.returns-clause-stands
 returns-clause-stands c =
-    let none = graph_of record { vertices = c.new.result; bodies = c.new-2.result } in
-    let built = c.in_ok-add_level.ensures.added (λ q. q) prefixes_main [] (none_built none c.new.ensures.items c.new-2.ensures.items) in
+    let none = graph_of record { vertices = c.in_ok-vertices.vertices; bodies = c.new.result } in
+    let built = c.in_ok-add_level.ensures.added (λ q. q) prefixes_main [] (none_built none c.in_ok-vertices.ensures.items c.new.ensures.items) in
     subst (λ u. Stands (graph_of c.add_level.new.all) (operations u)) (sym (view_out c.args.main.now)) built.stands
 
 pub returns-clause-order : goal.returns-clause-order
 returns-clause-order c =
-    let none = graph_of record { vertices = c.new.result; bodies = c.new-2.result } in
-    (c.in_ok-add_level.ensures.added (λ q. q) prefixes_main [] (none_built none c.new.ensures.items c.new-2.ensures.items)).order
+    let none = graph_of record { vertices = c.in_ok-vertices.vertices; bodies = c.new.result } in
+    (c.in_ok-add_level.ensures.added (λ q. q) prefixes_main [] (none_built none c.in_ok-vertices.ensures.items c.new.ensures.items)).order

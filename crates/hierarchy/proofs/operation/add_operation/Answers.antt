@@ -15,9 +15,9 @@ returns-clause-added c =
     let task = c.in_ok-task.field-0 in
     let x = c.in_ok-operation.field-0 in
     let bodies = c.task.new.bodies.items in
-    let taken = ap (map level_source) c.deref.ensures.value ∙ c.in_ok-ins.ensures ∙ ap (map w) c.as_slice.ensures in
+    let taken = c.in_ok-ins.ensures ∙ ap (map w) c.as_slice.ensures in
     let is : IsOperation w l (map w l.ins) l.outs x =
-    subst (λ ins. IsOperation w l ins l.outs x) taken (subst (λ outs. IsOperation w l (map level_source c.deref.result.now) outs x) c.as_slice-2.ensures c.in_ok-operation.ensures.is) in
+    subst (λ ins. IsOperation w l ins l.outs x) taken (subst (λ outs. IsOperation w l (map level_source c.in_ok-ins.ins.items) outs x) c.as_slice-2.ensures c.in_ok-operation.ensures.is) in
     let brings : Brings (length c.args.all.now.bodies.items) (length (body_added kind)) task =
     record { numbered = c.in_ok-task.ensures.numbered; many = c.in_ok-task.ensures.many } in
     run_added (graph_of c.args.all.now) (record { vertices = c.push.new.self.items; bodies = bodies }) w l x c.args.path.items kind task (body_added kind)

@@ -22,8 +22,9 @@ returns-clause-added c =
     let set : c.in_ok-set.set ≡ suc (length old.vertices.items) = omega (arith, one, count, long) in
     let get_named = c.in_ok-glued.ensures ∙ ap (λ s. c.args.stage.now.path.now ++ (codes ":get" ++ s)) (c.deref.ensures.value ∙ c.in_ok-text.ensures) in
     let set_named = c.in_ok-glued-2.ensures ∙ ap (λ s. c.args.stage.now.path.now ++ (codes ":set" ++ s)) (c.deref-2.ensures.value ∙ c.in_ok-text.ensures) in
-    let gives : IsOperation w l [] l.outs x = subst (λ outs. IsOperation w l [] outs x) c.as_slice.ensures c.in_ok-operation.ensures.is in
-    let takes : IsOperation w l (map level_source c.args.ins.now) [] y = c.in_ok-operation-2.ensures.is in
-    pair_added (graph_of old) (record { vertices = c.push-2.new.self.items; bodies = old.bodies.items }) w l c.args.stage.now.number c.args.stage.now.values.now (map level_source c.args.ins.now) x y c.args.stage.now.path.now
+    let gives : IsOperation w l [] l.outs x =
+    subst (λ ins. IsOperation w l (map level_source ins) l.outs x) c.new.ensures.items (subst (λ outs. IsOperation w l (map level_source c.new.result.items) outs x) c.as_slice.ensures c.in_ok-operation.ensures.is) in
+    let takes : IsOperation w l (map level_source c.args.ins.items) [] y = c.in_ok-operation-2.ensures.is in
+    pair_added (graph_of old) (record { vertices = c.push-2.new.self.items; bodies = old.bodies.items }) w l c.args.stage.now.number c.args.stage.now.values.now (map level_source c.args.ins.items) x y c.args.stage.now.path.now
     c.in_ok-glued.field-0.items c.in_ok-glued-2.field-0.items c.in_ok-get.get c.in_ok-set.set (c.in_ok-push-2.ensures.items ∙ ap (λ xs. xs ++ y ∷ []) c.in_ok-push.ensures.items) refl get set get_named set_named
     gives c.in_ok-operation.ensures.name (c.in_ok-operation.ensures.task ∙ ap Get c.in_ok-copy_numbers.ensures) c.in_ok-operation.ensures.twin takes c.in_ok-operation-2.ensures.name c.in_ok-operation-2.ensures.task c.in_ok-operation-2.ensures.twin

@@ -1,4 +1,4 @@
-use Rattle.std.proofs.Common.{◌≡◌, ℕ, ◌*◌, ◌<◌, nat_eq, length, map, sym, ap, subst, arith, ◌∙◌}
+use Rattle.std.proofs.Common.{◌≡◌, ℕ, nat_eq, List, length, map, slice_index_or, ap, subst, arith, ◌∙◌}
 use Rattle.std.specs.List.{flat_map, position_or_len}
 use Rattle.schedule.specs.Acts.{acts_of, made_by}
 use Rattle.sequence_build_laws.specs.Serial.{projection}
@@ -22,10 +22,9 @@ returns c =
     let codes = c.in_ok-codes_of.ensures ∙ ap (codes_from c.in_ok-loops.loops.items) (c.deref.ensures.value ∙ c.in_ok-sequences.ensures)
     ∙ plain_loops g c.args.archi.now c.args.schedule.now (few_operations g c.vertices.ensures.valid) c.requires
     c.in_ok-made.made.places.items c.in_ok-numbers.numbers.items c.in_ok-loops.loops.items
-    (c.in_ok-made.ensures.places ∙ (λ i. map place (flat_map (made_by (same i)) (acts_of (decisions i)))))
-    (c.in_ok-numbers.ensures.many ∙ ap (λ l. length l * 1024) c.vertices-2.ensures.same)
-    (λ k h. c.in_ok-numbers.ensures.each k (subst (λ (n : ℕ). k < n * 1024) (ap (λ l. length l) (sym c.vertices-2.ensures.same)) h) ∙ ap (position_or_len (nat_eq k)) c.as_slice.ensures.value)
+    (c.in_ok-made.ensures.places ∙ (λ i. map (place (length (same i))) (flat_map (made_by (same i)) (acts_of (decisions i)))))
+    (subst (λ (places : List ℕ). (k : ℕ) → slice_index_or c.in_ok-numbers.numbers.items k (length places) ≡ position_or_len (nat_eq k) places) c.as_slice.ensures.value c.in_ok-numbers.ensures)
     (many ∙ ap (λ l. length l) c.in_ok-sequences.ensures)
     (λ k h. c.in_ok-loops.ensures.each k h
-    ∙ (λ i. projection (flat_map (steps_of (c.vertices-3.ensures.same i) (seqs i) (number_in (c.as_slice-3.ensures.value i) (count i))) (acts_of (decisions i))) k)) in
+    ∙ (λ i. projection (flat_map (steps_of (c.vertices-2.ensures.same i) (seqs i) (number_in (length (c.vertices-2.ensures.same i)) (c.as_slice-3.ensures.value i) (count i))) (acts_of (decisions i))) k)) in
     λ i. record { buffers = buffers i; pairs = pairs i; seqs = codes i }
