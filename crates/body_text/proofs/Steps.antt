@@ -14,12 +14,12 @@ use Rattle.body_text.specs.declared.read.Read.{Read}
 use Rattle.body_text.specs.declared.read.Stop.{Stop}
 use Rattle.body_text.specs.declared.read.Stop.TheVariants.{At, OutOfMemory}
 use Rattle.body_text.specs.Tokens.{Bytes, Token, number, name}
-use Rattle.body_text.specs.Grammar.{Written, literal, element, sum_over, apply, select, written}
+use Rattle.body_text.specs.Grammar.{Written, literal, element, sum_over, negation, apply, select, written}
 use Rattle.body_text.specs.Ports.{Naming, is_port, port_number, first_unknown, namings}
 use Rattle.body_text.specs.declared.word.Word.{Word}
 use Rattle.body_text.specs.Words.{form_of}
 use Rattle.body_text.specs.Parse.{Parse, good, stops, andthen, behind, begins, first_token, ended, element_of, sum_of, apply_of, select_of, named, opened, arguments_of, index_of, parse, expression_of, alone}
-use Rattle.body_text.specs.Answers.{tokens_of, behind_of, IsRead, Answers}
+use Rattle.body_text.specs.Answers.{tokens_of, behind_of, IsRead, Answers, LacksMemory, Makes}
 
 -- what an answer with a value was read from
 pub record Good (names : List Bytes) (ps : List declared.Placed) (from more : ℕ) (p : Parse) (r : Read) : Type 0 where
@@ -143,6 +143,27 @@ element_step names ps start k port p e r o he found missing value next unknown =
       chosen : (b : Bool) (at : ℕ) (rest : Option ℕ) → option_or (if b then None else Some at) rest ≡ cond b rest (Some at)
       chosen true at rest = refl
       chosen false at rest = refl
+
+length_negation : (a : Written) → length (written (negation a)) ≡ length (written a) + 3
+length_negation a = simp length-append (omega arith)
+
+pub negation_step : (names : List Bytes) (ps : List declared.Placed) (start : ℕ) (p : Parse) (a r : Read)
+    → Answers names ps (start + 2) 1 p (Ok a) → view r.value ≡ numbered.negation (view a.value) → r.next ≡ a.next → r.unknown ≡ a.unknown
+    → Answers names ps start 0 (andthen p (λ a rest. good (negation a) rest)) (Ok r)
+negation_step names ps start p a r ha value next unknown =
+    let g : Good names ps (start + 2) 1 p a = good_of names ps (start + 2) 1 p a ha in
+    good_at names ps start 0 _ r (record {
+      tree = negation g.tree;
+      rest = g.rest;
+      is = ap (λ (p : Parse). andthen p (λ a rest. good (negation a) rest)) g.is;
+      read = record {
+        value = value ∙ ap numbered.negation g.read.value;
+        unknown = unknown ∙ g.read.unknown;
+        next = omega (arith, next, g.read.next, length_negation g.tree);
+        within = omega (arith, next, g.read.within);
+        left = ap (λ (k : ℕ). behind_of k ps) next ∙ g.read.left;
+      };
+    })
 
 pub select_step : (names : List Bytes) (ps : List declared.Placed) (start : ℕ) (read : List Token → Parse) (ts : List Token) (c a b r : Read)
     → Answers names ps (start + 2) 1 (ended read Comma ts) (Ok c)
@@ -293,3 +314,36 @@ pub alone_all : (names : List Bytes) (ps : List declared.Placed) (p : Parse) (r 
 alone_all names ps (good w []) r h all = h
 alone_all names ps (good w (t ∷ ts)) r h all = absurd (omega (arith, all, ap length h.left, length_behind r.next ps))
 alone_all names ps (stops rest) r h all = absurd h
+
+-- Want of memory answers whatever is read.
+lacks : (names : List Bytes) (ps : List declared.Placed) (start : ℕ) (p : Parse) (s : Stop) → LacksMemory s → Answers names ps start 0 p (Err s)
+lacks names ps start (good w rest) s h = h
+lacks names ps start (stops rest) (At i) h = absurd h
+lacks names ps start (stops rest) OutOfMemory h = tt
+
+-- The same steps, from what was put together.
+pub negation_made : (names : List Bytes) (ps : List declared.Placed) (start : ℕ) (p : Parse) (a : Read) (r : Result Read Stop) → Answers names ps (start + 2) 1 p (Ok a)
+    → Makes (numbered.negation (view a.value)) a.next a.unknown r → Answers names ps start 0 (andthen p (λ a rest. good (negation a) rest)) r
+negation_made names ps start p a (Ok r) ha h = negation_step names ps start p a r ha h.value h.next_is h.unknown_is
+negation_made names ps start p a (Err s) ha h = lacks names ps start _ s h
+
+pub element_made : (names : List Bytes) (ps : List declared.Placed) (start k : ℕ) (port : Bytes) (p : Parse) (e : Read) (o : Option ℕ) (r : Result Read Stop) → Answers names ps (start + 2) 1 p (Ok e)
+    → k ≡ port_number names port → o ≡ (if nat_lt k (length names) then None else Some start)
+    → Makes (numbered.element k (view e.value)) e.next (option_or o e.unknown) r → Answers names ps start 0 (andthen p (λ e rest. good (element port e) rest)) r
+element_made names ps start k port p e o (Ok r) he found missing h = element_step names ps start k port p e r o he found missing h.value h.next_is h.unknown_is
+element_made names ps start k port p e o (Err s) he found missing h = lacks names ps start _ s h
+
+pub apply_made : (names : List Bytes) (ps : List declared.Placed) (start : ℕ) (op : Op) (read : List Token → Parse) (ts : List Token) (a b : Read) (r : Result Read Stop)
+    → Answers names ps (start + 2) 1 (ended read Comma ts) (Ok a)
+    → Answers names ps a.next 1 (ended read CloseRound (behind_of a.next ps)) (Ok b)
+    → Makes (numbered.apply op (view a.value) (view b.value)) b.next (option_or a.unknown b.unknown) r → Answers names ps start 0 (apply_of read op ts) r
+apply_made names ps start op read ts a b (Ok r) ha hb h = apply_step names ps start op read ts a b r ha hb h.value h.next_is h.unknown_is
+apply_made names ps start op read ts a b (Err s) ha hb h = lacks names ps start _ s h
+
+pub select_made : (names : List Bytes) (ps : List declared.Placed) (start : ℕ) (read : List Token → Parse) (ts : List Token) (c a b : Read) (r : Result Read Stop)
+    → Answers names ps (start + 2) 1 (ended read Comma ts) (Ok c)
+    → Answers names ps c.next 1 (ended read Comma (behind_of c.next ps)) (Ok a)
+    → Answers names ps a.next 1 (ended read CloseRound (behind_of a.next ps)) (Ok b)
+    → Makes (numbered.select (view c.value) (view a.value) (view b.value)) b.next (option_or (option_or c.unknown a.unknown) b.unknown) r → Answers names ps start 0 (select_of read ts) r
+select_made names ps start read ts c a b (Ok r) hc ha hb h = select_step names ps start read ts c a b r hc ha hb h.value h.next_is h.unknown_is
+select_made names ps start read ts c a b (Err s) hc ha hb h = lacks names ps start _ s h

@@ -62,6 +62,17 @@ IsIndex false start (Ok r) = ⊥
 IsIndex false start (Err (At i)) = i ≡ start + 1
 IsIndex false start (Err OutOfMemory) = ⊥
 
+-- an expression that was put together from what was read
+pub record IsMade (e : numbered.Expr) (next : ℕ) (unknown : Option ℕ) (r : Read) : Type 0 where
+  pub value : view r.value ≡ e
+  pub next_is : r.next ≡ next
+  pub unknown_is : r.unknown ≡ unknown
+
+-- the same, unless memory was wanting
+abbrev pub Makes : numbered.Expr → ℕ → Option ℕ → Result Read Stop → Type 0
+Makes e next unknown (Ok r) = IsMade e next unknown r
+Makes e next unknown (Err s) = LacksMemory s
+
 abbrev pub place_at : List Placed → ℕ → ℕ → ℕ
 place_at ps end i = place_or end (slice_get ps i)
 

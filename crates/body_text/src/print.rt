@@ -30,6 +30,7 @@ pub fn print_body(e: &Expr, ports: &[Port], out: &mut Vec<u8>) -> Result<(), Out
 
 /// Appends the canonical text of an expression whose port numbers are below the number of ports. After
 /// want of memory a part of it may stand after what was there.
+#[cycle(printed)]
 fn print_expression(e: &Expr, ports: &[Port], out: &mut Vec<u8>) -> Result<(), OutOfMemory>
     requires { PortsBelow (length ports.now) (view e.now) }
     ensures text { OnOk result (out.new.items ≡ out.old.items ++ canonical (map (λ p. p.name) ports.now) (view e.now)) }
@@ -39,38 +40,56 @@ fn print_expression(e: &Expr, ports: &[Port], out: &mut Vec<u8>) -> Result<(), O
         Expr::Lit(number) => print_int(*number, out),
         Expr::Index => put(b"j", out),
         Expr::Elem(port, at) => {
-            put(ports[*port as usize].name.as_bytes(), out)?;
-            put(b"[", out)?;
-            print_expression(at, ports, out)?;
-            put(b"]", out)
+            open_element(&ports[*port as usize], out)?;
+            print_ended(at, b"]", ports, out)
         }
-        Expr::SumOf(port) => {
-            open_call(Word::Sum, out)?;
-            put(ports[*port as usize].name.as_bytes(), out)?;
-            put(b")", out)
-        }
+        Expr::SumOf(port) => print_sum(&ports[*port as usize], out),
         Expr::Neg(a) => {
             open_call(Word::Negation, out)?;
-            print_expression(a, ports, out)?;
-            put(b")", out)
+            print_ended(a, b")", ports, out)
         }
         Expr::Apply(op, a, b) => {
             open_call(Word::Operator(*op), out)?;
-            print_expression(a, ports, out)?;
-            put(b",", out)?;
-            print_expression(b, ports, out)?;
-            put(b")", out)
+            print_ended(a, b",", ports, out)?;
+            print_ended(b, b")", ports, out)
         }
         Expr::Select(condition, a, b) => {
             open_call(Word::Select, out)?;
-            print_expression(condition, ports, out)?;
-            put(b",", out)?;
-            print_expression(a, ports, out)?;
-            put(b",", out)?;
-            print_expression(b, ports, out)?;
-            put(b")", out)
+            print_ended(condition, b",", ports, out)?;
+            print_ended(a, b",", ports, out)?;
+            print_ended(b, b")", ports, out)
         }
     }
+}
+
+/// Appends the canonical text of an expression, and a mark.
+#[cycle(printed)]
+fn print_ended(e: &Expr, mark: &[u8], ports: &[Port], out: &mut Vec<u8>) -> Result<(), OutOfMemory>
+    requires { PortsBelow (length ports.now) (view e.now) }
+    ensures text { OnOk result (out.new.items ≡ out.old.items ++ (canonical (map (λ p. p.name) ports.now) (view e.now) ++ mark.now)) }
+    ensures front { take (length out.old.items) out.new.items ≡ out.old.items }
+{
+    print_expression(e, ports, out)?;
+    put(mark, out)
+}
+
+/// Appends a port's name and the mark that opens the number of its element.
+fn open_element(port: &Port, out: &mut Vec<u8>) -> Result<(), OutOfMemory>
+    ensures text { OnOk result (out.new.items ≡ out.old.items ++ (port.now.name ++ codes "[")) }
+    ensures front { take (length out.old.items) out.new.items ≡ out.old.items }
+{
+    put(port.name.as_bytes(), out)?;
+    put(b"[", out)
+}
+
+/// Appends the sum of a port.
+fn print_sum(port: &Port, out: &mut Vec<u8>) -> Result<(), OutOfMemory>
+    ensures text { OnOk result (out.new.items ≡ out.old.items ++ (codes "sum(" ++ (port.now.name ++ codes ")"))) }
+    ensures front { take (length out.old.items) out.new.items ≡ out.old.items }
+{
+    open_call(Word::Sum, out)?;
+    put(port.name.as_bytes(), out)?;
+    put(b")", out)
 }
 
 /// Appends a form's word and the mark that opens its arguments.

@@ -3,7 +3,8 @@ ghost use Rattle.std.specs.Prelude.{◌≡◌, ◌+◌, ◌<◌, ◌≤◌, ◌^
 ghost use Rattle.body_text.specs.Cut.{token_view};
 ghost use Rattle.body_text.specs.Parse.{parse, alone, named, element_of, arguments_of, negation_of, apply_of, select_of, sum_of, index_of, ended, begins, first_token};
 ghost use Rattle.body_text.specs.Ports.{port_number};
-ghost use Rattle.body_text.specs.Answers.{Answers, tokens_of, names_of, behind_of, IsIndex};
+ghost use Rattle.body_text.specs.Answers.{Answers, tokens_of, names_of, behind_of, IsIndex, Makes};
+ghost use Rattle.std.specs.Option.{option_or};
 ghost use Rattle.body_lang.specs.Expr.{view};
 ghost use Rattle.body_lang.specs.Expr as plain;
 ghost use Rattle.std.specs.Str.{bytes_eq};
@@ -106,11 +107,7 @@ impl<'a> Reader<'a> {
     {
         let index = self.ended(start + 2, Mark::CloseSquare, depth)?;
         let port = self.port(name);
-        Ok(Read {
-            value: Expr::Elem(port, boxed(self.alloc, index.value)?),
-            next: index.next,
-            unknown: self.unknown(port, start).or(index.unknown),
-        })
+        element_at(self.alloc, port, self.unknown(port, start), index)
     }
 
     /// What a word begins, after its `(`.
@@ -135,11 +132,7 @@ impl<'a> Reader<'a> {
         ensures { Answers (names_of self.now.ports.now) self.now.tokens.now start 0 (negation_of (parse depth) (behind_of (start + 2) self.now.tokens.now)) result }
     {
         let a = self.ended(start + 2, Mark::CloseRound, depth)?;
-        Ok(Read {
-            value: Expr::Neg(boxed(self.alloc, a.value)?),
-            next: a.next,
-            unknown: a.unknown,
-        })
+        negated(self.alloc, a)
     }
 
     #[cycle(read)]
@@ -150,11 +143,7 @@ impl<'a> Reader<'a> {
     {
         let a = self.ended(start + 2, Mark::Comma, depth)?;
         let b = self.ended(a.next, Mark::CloseRound, depth)?;
-        Ok(Read {
-            value: Expr::Apply(op, boxed(self.alloc, a.value)?, boxed(self.alloc, b.value)?),
-            next: b.next,
-            unknown: a.unknown.or(b.unknown),
-        })
+        applied(self.alloc, op, a, b)
     }
 
     #[cycle(read)]
@@ -166,15 +155,7 @@ impl<'a> Reader<'a> {
         let condition = self.ended(start + 2, Mark::Comma, depth)?;
         let a = self.ended(condition.next, Mark::Comma, depth)?;
         let b = self.ended(a.next, Mark::CloseRound, depth)?;
-        Ok(Read {
-            value: Expr::Select(
-                boxed(self.alloc, condition.value)?,
-                boxed(self.alloc, a.value)?,
-                boxed(self.alloc, b.value)?,
-            ),
-            next: b.next,
-            unknown: condition.unknown.or(a.unknown).or(b.unknown),
-        })
+        selected(self.alloc, condition, a, b)
     }
 
     /// An expression with a mark after it; the next token is the one after the mark.
@@ -270,6 +251,57 @@ fn index(name: &[u8], start: usize) -> Result<Read, Stop>
     } else {
         Err(Stop::At(start + 1))
     }
+}
+
+/// An element of a port, whose number was read.
+fn element_at(alloc: Global, port: u32, unknown: Option<usize>, index: Read) -> Result<Read, Stop>
+    ensures { Makes (plain.element port (view index.value)) index.next (option_or unknown index.unknown) result }
+{
+    Ok(Read {
+        value: Expr::Elem(port, boxed(alloc, index.value)?),
+        next: index.next,
+        unknown: unknown.or(index.unknown),
+    })
+}
+
+/// The negation of what was read.
+fn negated(alloc: Global, a: Read) -> Result<Read, Stop>
+    ensures { Makes (plain.negation (view a.value)) a.next a.unknown result }
+{
+    Ok(Read {
+        value: Expr::Neg(boxed(alloc, a.value)?),
+        next: a.next,
+        unknown: a.unknown,
+    })
+}
+
+/// An operator over what was read, in this order.
+fn applied(alloc: Global, op: Op, a: Read, b: Read) -> Result<Read, Stop>
+    ensures { Makes (plain.apply op (view a.value) (view b.value)) b.next (option_or a.unknown b.unknown) result }
+{
+    Ok(Read {
+        value: Expr::Apply(op, boxed(alloc, a.value)?, boxed(alloc, b.value)?),
+        next: b.next,
+        unknown: a.unknown.or(b.unknown),
+    })
+}
+
+/// One of two by a condition, which were read in this order.
+fn selected(alloc: Global, condition: Read, a: Read, b: Read) -> Result<Read, Stop>
+    ensures { Makes (plain.select (view condition.value) (view a.value) (view b.value)) b.next (option_or (option_or condition.unknown a.unknown) b.unknown) result }
+{
+    let unknown = condition.unknown.or(a.unknown).or(b.unknown);
+    let next = b.next;
+    let value = Expr::Select(
+        boxed(alloc, condition.value)?,
+        boxed(alloc, a.value)?,
+        boxed(alloc, b.value)?,
+    );
+    Ok(Read {
+        value,
+        next,
+        unknown,
+    })
 }
 
 fn boxed(alloc: Global, value: Expr) -> Result<Box<Expr>, Stop>

@@ -3,7 +3,7 @@ ghost use Rattle.std.specs.Prelude.{◌≡◌, map, slice_get};
 ghost use Rattle.body_text.specs.Grammar.{word_of};
 ghost use Rattle.body_text.specs.Words.{text_of, words, form_of};
 
-use case_table::{CaseTable, case_arms};
+use case_table::CaseTable;
 use syn_base::Op;
 
 /// A form that a word before `(` begins; `neg` is no operator of two arguments.
@@ -26,26 +26,33 @@ pub fn find_word(name: &[u8]) -> Option<Word>
 }
 
 /// The words, each once.
+const WORDS: [Word; 16] = [
+    Word::Select,
+    Word::Sum,
+    Word::Negation,
+    Word::Operator(Op::Add),
+    Word::Operator(Op::Sub),
+    Word::Operator(Op::Mul),
+    Word::Operator(Op::Div),
+    Word::Operator(Op::Rem),
+    Word::Operator(Op::Eq),
+    Word::Operator(Op::Ne),
+    Word::Operator(Op::Lt),
+    Word::Operator(Op::Le),
+    Word::Operator(Op::Gt),
+    Word::Operator(Op::Ge),
+    Word::Operator(Op::Min),
+    Word::Operator(Op::Max),
+];
+
+/// The table of the words.
 fn word_table() -> CaseTable<'static, 16>
     ensures { result ≡ map text_of words }
 {
     let mut table = CaseTable::new();
-    table.add(text(Word::Select));
-    table.add(text(Word::Sum));
-    table.add(text(Word::Negation));
-    table.add(text(Word::Operator(Op::Add)));
-    table.add(text(Word::Operator(Op::Sub)));
-    table.add(text(Word::Operator(Op::Mul)));
-    table.add(text(Word::Operator(Op::Div)));
-    table.add(text(Word::Operator(Op::Rem)));
-    table.add(text(Word::Operator(Op::Eq)));
-    table.add(text(Word::Operator(Op::Ne)));
-    table.add(text(Word::Operator(Op::Lt)));
-    table.add(text(Word::Operator(Op::Le)));
-    table.add(text(Word::Operator(Op::Gt)));
-    table.add(text(Word::Operator(Op::Ge)));
-    table.add(text(Word::Operator(Op::Min)));
-    table.add(text(Word::Operator(Op::Max)));
+    for word in &WORDS {
+        table.add(text(*word));
+    }
     table
 }
 
@@ -53,25 +60,7 @@ fn word_table() -> CaseTable<'static, 16>
 fn word_at(place: usize) -> Option<Word>
     ensures { result ≡ slice_get words place }
 {
-    let word = case_arms!(place;
-        Word::Select,
-        Word::Sum,
-        Word::Negation,
-        Word::Operator(Op::Add),
-        Word::Operator(Op::Sub),
-        Word::Operator(Op::Mul),
-        Word::Operator(Op::Div),
-        Word::Operator(Op::Rem),
-        Word::Operator(Op::Eq),
-        Word::Operator(Op::Ne),
-        Word::Operator(Op::Lt),
-        Word::Operator(Op::Le),
-        Word::Operator(Op::Gt),
-        Word::Operator(Op::Ge),
-        Word::Operator(Op::Min),
-        Word::Operator(Op::Max);
-        else return None);
-    Some(word)
+    WORDS.get(place).copied()
 }
 
 /// A word's bytes, by which it is read and printed.

@@ -3,6 +3,8 @@ use Rattle.std.proofs.Common.{◌≡◌, ℕ, zero, suc, ◌+◌, ◌<◌, ◌�
 use mathlib.Core.Path.{fun_ext}
 use Rattle.std.proofs.lemmas.Bool.{cases_lt, ltb-true, ltb-false}
 use Rattle.std.proofs.lemmas.List.{get_or_append_left, get_or-take, get_or_default, length-take-le}
+use Rattle.std.proofs.lemmas.Result.{IfOk-weaker}
+use Rattle.std.specs.Prelude.{Result, IfOk}
 use Rattle.std.specs.List.{AllZip}
 use Rattle.level_meaning.specs.declared.source.Source.{Source}
 use Rattle.level_meaning.specs.declared.frontier.Feed.{Feed}
@@ -18,13 +20,14 @@ use Rattle.algo_tree.specs.View.{view, label_view, vertices_view, kind_view}
 use Rattle.algo_tree.specs.declared.vertex.Vertex.{Vertex as Declared, out-Vertex}
 use Rattle.algo_tree.specs.declared.vertex.Kind as declared
 use Rattle.algo_tree.specs.declared.vertex.Kind.TheVariants.{Sensor, Actuator, Constant, Delay, Function, Explode, Implode, Merge, Graph, Switch, Repeat}
-use Rattle.sync_meaning.specs.declared.store.Store.{Store, roll-Store}
+use Rattle.sync_meaning.specs.declared.store.Store.{Store, out-Store, roll-Store, out-roll-Store, roll-out-Store}
 use Rattle.sync_meaning.specs.declared.store.Store.TheOpen.{Store-F}
+use Rattle.sync_meaning.specs.declared.store.Turns.{Turns}
 use Rattle.level_order.specs.Order.{nodes_of}
 use Rattle.level_order.proofs.Nodes.{nodes_view}
 use Rattle.sync_meaning.specs.Store.{HasTurns, delay_flags, Fits, FitsKind, AllFit, CopiesFit, state_of, state_in, state_of_copies, copy_state, lengths, kept_here, kept_inside, kept_at}
 use Rattle.sync_meaning.specs.Run.{in_lengths}
-use Rattle.sync_meaning.specs.First.{IsFirst, AreFirst, AreCopies}
+use Rattle.sync_meaning.specs.First.{IsFirst, AreFirst, AreCopies, HoldsGroups, HoldsLevel, HoldsInside}
 use Rattle.sync_meaning.proofs.Stores.{view_out, label_is, state_out, state-roll, fits-roll}
 use Rattle.sync_meaning.proofs.Nodes.{lengths-zeros}
 use Rattle.sync_meaning.proofs.Levels.{next_in}
@@ -289,6 +292,68 @@ module _ (u : Declared) (lens : List ℕ) (x : Store-F Store) (ins : x.ins ≡ m
       at_path : ((p : Part) (q : Path) → state_of_copies (vertices_view inner) x.inner.items p q ≡ repeat_initial n (body_of (nodes (vertices_view inner))) (p ∷ q)) → (q : Path) → state_out l' (vertices_view inner) x q ≡ kind_initial l'.kind (nodes (vertices_view inner)) q
       at_path h [] = rw is refl
       at_path h (p ∷ q) = rw is (h p q)
+
+-- a store that was made, by what it holds
+module _ {E : Type 0} (u : Declared) (lens : List ℕ) (r : Result Store E) where
+  abbrev inside : List Declared
+  inside = (out-Vertex u).inner.items
+
+  made : (P : Store → Type 0) → ((k : Store) → P k → IsFirst lens (view u) (roll-Store (out-Store k))) → IfOk r P → IfOk r (IsFirst lens (view u))
+  made P first h = IfOk-weaker r P (IsFirst lens (view u)) (λ k holds. subst (IsFirst lens (view u)) (roll-out-Store k) (first k holds)) h
+
+  pub delay_made : (vs : List (List ℤ)) → (out-Vertex u).kind ≡ Delay vs → lengths vs ≡ replicate (length vs) (get_or lens 0 0) → IfOk r (HoldsGroups lens vs) → IfOk r (IsFirst lens (view u))
+  delay_made vs is long = made (HoldsGroups lens vs) (λ k holds. first-delay u lens (out-Store k) holds.ins vs is holds.kept long holds.inner)
+
+  pub graph_made : (sources : List Source) → (out-Vertex u).kind ≡ Graph sources → (ks : List Store) → AreFirst lens (outs_of (vertices_view inside)) inside ks → IfOk r (HoldsLevel lens inside ks) → IfOk r (IsFirst lens (view u))
+  graph_made sources is ks first =
+      made (HoldsLevel lens inside ks) (λ k holds. first-graph u lens (out-Store k) holds.ins sources is holds.turns holds.outs (subst (AreFirst lens (outs_of (vertices_view inside)) inside) (sym holds.inner) first))
+
+  pub switch_made : (values : List ℤ) (names : List (List ℕ)) → (out-Vertex u).kind ≡ Switch values names → (t : Turns) (table : List Values) (ks : List Store) → AreFirst lens [] inside ks → IfOk r (HoldsInside lens t table ks)
+      → IfOk r (IsFirst lens (view u))
+  switch_made values names is t table ks first =
+      made (HoldsInside lens t table ks) (λ k holds. first-switch u lens (out-Store k) holds.ins values names is (subst (AreFirst lens [] inside) (sym holds.inner) first))
+
+  pub repeat_made : (n : ℕ) (feeds : List Feed) (gives : List Give) → (out-Vertex u).kind ≡ Repeat n feeds gives → IsWell (view u) → (t : Turns) (table : List Values) (ks : List Store)
+      → AreCopies (map (fed_length lens) feeds) n inside table ks → IfOk r (HoldsInside lens t table ks) → IfOk r (IsFirst lens (view u))
+  repeat_made n feeds gives is well t table ks copies =
+      made (HoldsInside lens t table ks) (λ k holds. first-repeat u lens (out-Store k) holds.ins n feeds gives is well (rw (holds.outs, holds.inner) copies))
+
+  pub alone_made : ((v : List (List ℤ)) → (out-Vertex u).kind ≡ Delay v → ⊥) → ((ss : List Source) → (out-Vertex u).kind ≡ Graph ss → ⊥) → ((v : List ℤ) (n : List (List ℕ)) → (out-Vertex u).kind ≡ Switch v n → ⊥)
+      → ((n : ℕ) (f : List Feed) (o : List Give) → (out-Vertex u).kind ≡ Repeat n f o → ⊥) → (t : Turns) (table : List Values) → IfOk r (HoldsInside lens t table []) → IfOk r (IsFirst lens (view u))
+  alone_made d g w p t table = made (HoldsInside lens t table []) (λ k holds. first-alone u lens (out-Store k) holds.ins d g w p holds.inner)
+
+-- what a store that is put together holds
+module _ (lens : List ℕ) (x : Store-F Store) (ins : x.ins ≡ map zeros lens) where
+  in_roll : (A : Type 0) (field : Store-F Store → A) (y : A) → field x ≡ y → field (out-Store (roll-Store x)) ≡ y
+  in_roll A field y e = ap field (out-roll-Store x) ∙ e
+
+  pub holds_groups : (vs : Values) → x.kept ≡ vs → x.inner.items ≡ [] → HoldsGroups lens vs (roll-Store x)
+  holds_groups vs kept inner = record {
+    ins = in_roll Values (λ y. y.ins) (map zeros lens) ins;
+    kept = in_roll Values (λ y. y.kept) vs kept;
+    inner = in_roll (List Store) (λ y. y.inner.items) [] inner;
+  }
+
+  pub holds_inside : HoldsInside lens x.turns x.outs.items x.inner.items (roll-Store x)
+  holds_inside = record {
+    ins = in_roll Values (λ y. y.ins) (map zeros lens) ins;
+    turns = in_roll Turns (λ y. y.turns) x.turns refl;
+    outs = in_roll (List Values) (λ y. y.outs.items) x.outs.items refl;
+    inner = in_roll (List Store) (λ y. y.inner.items) x.inner.items refl;
+  }
+
+-- a store around a level holds the level
+pub holds_level : {E : Type 0} (lens : List ℕ) (us : List Declared) (r : Result Store E) (t : Turns) (table : List Values) (ks : List Store) → HasTurns (nodes_of us) (delay_flags (vertices_view us)) t → map lengths table ≡ outs_of (vertices_view us)
+    → IfOk r (HoldsInside lens t table ks) → IfOk r (HoldsLevel lens us ks)
+holds_level lens us r t table ks turns outs h = IfOk-weaker r (HoldsInside lens t table ks) (HoldsLevel lens us ks) level h
+  where
+    level : (k : Store) → HoldsInside lens t table ks k → HoldsLevel lens us ks k
+    level k holds = record {
+      ins = holds.ins;
+      turns = rw holds.turns turns;
+      outs = ap (map lengths) holds.outs ∙ outs;
+      inner = holds.inner;
+    }
 
 pub inner_well : (u : Declared) → IsWell (view u) → AllWell (vertices_view (out-Vertex u).inner.items)
 inner_well u h = (subst IsWell (view_out u) h).1

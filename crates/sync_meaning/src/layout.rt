@@ -9,7 +9,7 @@ ghost use Rattle.level_meaning.specs.Order.{IsAcyclic};
 ghost use Rattle.level_order.specs.Order.{nodes_of};
 ghost use Rattle.sync_meaning.specs.Store.{AreDelays, HasTurns, delay_flags, lengths};
 ghost use Rattle.sync_meaning.specs.declared.store.Store.{Store};
-ghost use Rattle.sync_meaning.specs.First.{IsFirst, AreFirst, AreCopies};
+ghost use Rattle.sync_meaning.specs.First.{IsFirst, AreFirst, AreCopies, HoldsGroups, HoldsLevel, HoldsInside};
 
 use crate::lengths::length_of;
 use crate::store::{Store, Turns};
@@ -125,6 +125,55 @@ fn repeated(alloc: Global, len: u32, count: usize) -> Result<Vec<u32>, OutOfMemo
     Ok(vec![in alloc; len; count]?)
 }
 
+/// The store of a delay with inputs of these lengths, which keeps these values.
+fn delay_store(alloc: Global, lens: &[u32], groups: &[Items<i64>]) -> Result<Store, OutOfMemory>
+    requires some { 0 < length lens.now }
+    requires like { lengths groups.now ≡ replicate (length groups.now) (slice_index_or lens.now 0 0) }
+    ensures { IfOk result (HoldsGroups lens.now groups.now) }
+{
+    Ok(Store {
+        ins: Ins::new(alloc, lens)?,
+        kept: initial_values(alloc, lens[0], groups)?,
+        turns: no_turns(alloc),
+        outs: Vec::new(alloc),
+        inner: Vec::new(alloc),
+    })
+}
+
+/// The store of a graph of these vertices, whose stores are given.
+fn graph_store(
+    alloc: Global,
+    lens: &[u32],
+    vertices: &Vec<Vertex>,
+    inner: Vec<Store>,
+) -> Result<Store, OutOfMemory>
+    requires { IsAcyclic (nodes_of vertices.now.items) }
+    ensures { IfOk result (HoldsLevel lens.now vertices.now.items inner.items) }
+{
+    let turns = turns_of(alloc, vertices)?;
+    let outs = level_outputs(alloc, vertices)?;
+    outer_store(alloc, lens, turns, outs, inner)
+}
+
+/// A store with inputs of these lengths that keeps no values of its own, around what is inside.
+fn outer_store(
+    alloc: Global,
+    lens: &[u32],
+    turns: Turns,
+    outs: Vec<Ins>,
+    inner: Vec<Store>,
+) -> Result<Store, OutOfMemory>
+    ensures { IfOk result (HoldsInside lens.now turns outs.items inner.items) }
+{
+    Ok(Store {
+        ins: Ins::new(alloc, lens)?,
+        kept: Ins::new(alloc, &[])?,
+        turns,
+        outs,
+        inner,
+    })
+}
+
 /// The stores of a level, whose vertices are fed by own inputs of these lengths and by `level`.
 #[cycle(layout)]
 fn level_stores(
@@ -193,43 +242,25 @@ pub fn new_store(alloc: Global, vertex: &Vertex, lens: &[u32]) -> Result<Store, 
     ensures { IfOk result (IsFirst lens.now (view vertex.now)) }
 {
     match &vertex.kind {
-        Kind::Delay(groups) => Ok(Store {
-            ins: Ins::new(alloc, lens)?,
-            kept: initial_values(alloc, lens[0], groups.as_slice())?,
-            turns: no_turns(alloc),
-            outs: Vec::new(alloc),
-            inner: Vec::new(alloc),
-        }),
-        Kind::Graph(_) => Ok(Store {
-            ins: Ins::new(alloc, lens)?,
-            kept: Ins::new(alloc, &[])?,
-            turns: turns_of(alloc, &vertex.inner)?,
-            outs: level_outputs(alloc, &vertex.inner)?,
-            inner: level_stores(alloc, &vertex.inner, lens, &vertex.inner)?,
-        }),
-        Kind::Switch(_, _) => Ok(Store {
-            ins: Ins::new(alloc, lens)?,
-            kept: Ins::new(alloc, &[])?,
-            turns: no_turns(alloc),
-            outs: Vec::new(alloc),
-            inner: level_stores(alloc, &vertex.inner, lens, &[])?,
-        }),
+        Kind::Delay(groups) => delay_store(alloc, lens, groups.as_slice()),
+        Kind::Graph(_) => {
+            let inner = level_stores(alloc, &vertex.inner, lens, &vertex.inner)?;
+            graph_store(alloc, lens, &vertex.inner, inner)
+        }
+        Kind::Switch(_, _) => {
+            let inner = level_stores(alloc, &vertex.inner, lens, &[])?;
+            outer_store(alloc, lens, no_turns(alloc), Vec::new(alloc), inner)
+        }
         Kind::Repeat(count, feeds, _) => {
             let (outs, inner) = copies(alloc, &vertex.inner, *count, feeds.as_slice(), lens)?;
-            Ok(Store {
-                ins: Ins::new(alloc, lens)?,
-                kept: Ins::new(alloc, &[])?,
-                turns: no_turns(alloc),
-                outs,
-                inner,
-            })
+            outer_store(alloc, lens, no_turns(alloc), outs, inner)
         }
-        _ => Ok(Store {
-            ins: Ins::new(alloc, lens)?,
-            kept: Ins::new(alloc, &[])?,
-            turns: no_turns(alloc),
-            outs: Vec::new(alloc),
-            inner: Vec::new(alloc),
-        }),
+        _ => outer_store(
+            alloc,
+            lens,
+            no_turns(alloc),
+            Vec::new(alloc),
+            Vec::new(alloc),
+        ),
     }
 }

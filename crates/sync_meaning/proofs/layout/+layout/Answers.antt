@@ -7,7 +7,7 @@ use Rattle.sync_meaning.specs.Run.{in_lengths}
 use Rattle.sync_meaning.proofs.Index.{typed_at}
 use Rattle.sync_meaning.proofs.Graphs.{graph_level}
 use Rattle.sync_meaning.proofs.Cycle.{ins_are}
-use Rattle.sync_meaning.proofs.Firsts.{well_at, first_next, first-delay, first-graph, first-switch, first-alone, first-repeat, repeat_one, repeat_body, one_there, body_well, body_is_typed, copies_made, delay_lens, inner_well, graph_typed, switch_typed, copies_more}
+use Rattle.sync_meaning.proofs.Firsts.{well_at, first_next, delay_made, graph_made, switch_made, repeat_made, alone_made, repeat_one, repeat_body, one_there, body_well, body_is_typed, copies_made, delay_lens, inner_well, graph_typed, switch_typed, copies_more}
 use Rattle.sync_meaning.proofs.layout.+layout.Goals as goal
 
 pub level_stores-new_store-requires : goal.level_stores-new_store-requires
@@ -42,11 +42,16 @@ copy_stores-loop-i-preserved t c = record {
   each = rw c.in_ok-push.ensures.items (copies_more c.args.lens.now (view c.args.body.now) c.loop-i.stores.items c.loop-i.i c.in_ok-new_store.field-0 c.loop-i.invariant.count c.loop-i.invariant.each c.in_ok-new_store.ensures);
 }
 
-pub new_store-initial_values-requires : goal.new_store-initial_values-requires
-new_store-initial_values-requires t c = rw c.as_slice.ensures (delay_lens c.args.vertex.now c.in-Delay.groups c.args.lens.now c.in-Delay.is c.requires.typed).like
+pub new_store-delay_store-requires : goal.new_store-delay_store-requires
+new_store-delay_store-requires t c =
+    let groups = delay_lens c.args.vertex.now c.in-Delay.groups c.args.lens.now c.in-Delay.is c.requires.typed in
+    record {
+      some = omega (arith, ap length groups.one);
+      like = rw c.as_slice.ensures groups.like;
+    }
 
-pub new_store-turns_of-requires : goal.new_store-turns_of-requires
-new_store-turns_of-requires t c = (graph_level c.args.vertex.now c.in-Graph.field-0 c.in-Graph.is c.requires.well).0
+pub new_store-graph_store-requires : goal.new_store-graph_store-requires
+new_store-graph_store-requires t c = (graph_level c.args.vertex.now c.in-Graph.field-0 c.in-Graph.is c.requires.well).0
 
 pub new_store-level_stores-requires : goal.new_store-level_stores-requires
 new_store-level_stores-requires t c =
@@ -83,30 +88,25 @@ new_store-copies-requires t c =
       ),
     )
 
-pub new_store-returns-in_ok-initial_values-in-Delay : goal.new_store-returns-in_ok-initial_values-in-Delay
-new_store-returns-in_ok-initial_values-in-Delay t c =
+pub new_store-returns-in-Delay : goal.new_store-returns-in-Delay
+new_store-returns-in-Delay t c =
     let u = c.args.vertex.now in
-    first-delay u c.args.lens.now _ c.in_ok-new-in-Delay.ensures c.in-Delay.groups c.in-Delay.is (rw c.as_slice.ensures at c.in_ok-initial_values-in-Delay.ensures)
-    (delay_lens u c.in-Delay.groups c.args.lens.now c.in-Delay.is c.requires.typed).like c.new-in-Delay-2.ensures.items
+    delay_made u c.args.lens.now c.delay_store.result c.in-Delay.groups c.in-Delay.is (delay_lens u c.in-Delay.groups c.args.lens.now c.in-Delay.is c.requires.typed).like (rw c.as_slice.ensures at c.delay_store.ensures)
 
-pub new_store-returns-in_ok-level_stores-in-Graph : goal.new_store-returns-in_ok-level_stores-in-Graph
-new_store-returns-in_ok-level_stores-in-Graph t c =
-    let u = c.args.vertex.now in
-    first-graph u c.args.lens.now _ c.in_ok-new-in-Graph.ensures c.in-Graph.field-0 c.in-Graph.is c.in_ok-turns_of-in-Graph.ensures c.in_ok-level_outputs-in-Graph.ensures
-    (rw c.deref.ensures.value at c.in_ok-level_stores-in-Graph.ensures)
+pub new_store-returns-in_ok-inner-in-Graph : goal.new_store-returns-in_ok-inner-in-Graph
+new_store-returns-in_ok-inner-in-Graph t c =
+    graph_made c.args.vertex.now c.args.lens.now c.graph_store.result c.in-Graph.field-0 c.in-Graph.is c.in_ok-inner-in-Graph.inner.items (rw c.deref.ensures.value at c.in_ok-inner-in-Graph.ensures) c.graph_store.ensures
 
-pub new_store-returns-in_ok-level_stores-in-Switch : goal.new_store-returns-in_ok-level_stores-in-Switch
-new_store-returns-in_ok-level_stores-in-Switch t c =
-    first-switch c.args.vertex.now c.args.lens.now _ c.in_ok-new-in-Switch.ensures _ _ c.in-Switch.is c.in_ok-level_stores-in-Switch.ensures
+pub new_store-returns-in_ok-inner-in-Switch : goal.new_store-returns-in_ok-inner-in-Switch
+new_store-returns-in_ok-inner-in-Switch t c =
+    switch_made c.args.vertex.now c.args.lens.now c.outer_store.result _ _ c.in-Switch.is _ _ c.in_ok-inner-in-Switch.inner.items c.in_ok-inner-in-Switch.ensures c.outer_store.ensures
 
-pub new_store-returns-in_ok-new-in-Repeat-2 : goal.new_store-returns-in_ok-new-in-Repeat-2
-new_store-returns-in_ok-new-in-Repeat-2 t c =
-    first-repeat c.args.vertex.now c.args.lens.now _ c.in_ok-new-in-Repeat.ensures c.in-Repeat.count c.in-Repeat.feeds c.in-Repeat.field-2 c.in-Repeat.is c.requires.well
-    (rw c.as_slice-in-Repeat.ensures at c.in_ok-outs-in-Repeat.ensures)
+pub new_store-returns-in_ok-outs-in-Repeat : goal.new_store-returns-in_ok-outs-in-Repeat
+new_store-returns-in_ok-outs-in-Repeat t c =
+    repeat_made c.args.vertex.now c.args.lens.now c.outer_store-in-Repeat.result c.in-Repeat.count c.in-Repeat.feeds c.in-Repeat.field-2 c.in-Repeat.is c.requires.well _ c.in_ok-outs-in-Repeat.outs.items c.in_ok-outs-in-Repeat.inner.items
+    (rw c.as_slice-in-Repeat.ensures at c.in_ok-outs-in-Repeat.ensures) c.outer_store-in-Repeat.ensures
 
-pub new_store-returns-in_ok-new-in_default-2 : goal.new_store-returns-in_ok-new-in_default-2
-new_store-returns-in_ok-new-in_default-2 t c =
-    first-alone c.args.vertex.now c.args.lens.now _ c.in_ok-new-in_default.ensures c.in_default.not-Delay c.in_default.not-Graph c.in_default.not-Switch c.in_default.not-Repeat c.new-in_default-4.ensures.items
-
-pub new_store-bounds-lens-0 : goal.new_store-bounds-lens-0
-new_store-bounds-lens-0 t c = let long = ap length (delay_lens c.args.vertex.now c.in-Delay.groups c.args.lens.now c.in-Delay.is c.requires.typed).one in omega (arith, long)
+pub new_store-returns-in_default : goal.new_store-returns-in_default
+new_store-returns-in_default t c =
+    alone_made c.args.vertex.now c.args.lens.now c.outer_store-in_default.result c.in_default.not-Delay c.in_default.not-Graph c.in_default.not-Switch c.in_default.not-Repeat _ _
+    (rw c.new-in_default-2.ensures.items at c.outer_store-in_default.ensures)

@@ -1,5 +1,5 @@
-use Rattle.std.proofs.Common.{◌≡◌, ◌+◌, ◌-◌, ◌<◌, ℕ, suc, List, [], ◌∷◌, ◌++◌, take, drop, length, get_or, set, sym, ap, ◌∙◌, subst, arith, add-one}
-use Rattle.sync_meaning.specs.Store.{AreOf, lengths}
+use Rattle.std.proofs.Common.{◌≡◌, ◌+◌, ◌-◌, ◌<◌, [], length, get_or, set, sym, ap, ◌∙◌, arith}
+use Rattle.sync_meaning.specs.Store.{lengths}
 use Rattle.sync_meaning.proofs.Lists.{length-map, length_like, lengths_set, lengths_kept, moved_next, moved_whole}
 use Rattle.sync_meaning.proofs.react.keep_last.Goals as goal
 

@@ -1,4 +1,4 @@
-use Rattle.std.proofs.Common.{◌≡◌, ◌<◌, ◌+◌, [], ℕ, ℤ, length, get_or, set, pos, arith, rules, ◌∙◌, sym, ap, to_z, of_z, w64}
+use Rattle.std.proofs.Common.{◌≡◌, [], length, get_or, set, pos, arith, rules, ◌∙◌, sym, ap, to_z, of_z, w64}
 use Rattle.std.proofs.Math.Facts.{to_z-of_z}
 use Rattle.sync_meaning.proofs.Lists.{write_none, write_place, write_room, write_next, write_all, written_other, written_long, vector_itself}
 use Rattle.body_lang.specs.Expr.{vector_of}

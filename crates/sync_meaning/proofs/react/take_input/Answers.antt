@@ -1,4 +1,4 @@
-use Rattle.std.proofs.Common.{◌≡◌, [], length, map, get_or, ◌∙◌, sym, subst}
+use Rattle.std.proofs.Common.{map, ◌∙◌, sym, subst}
 use Rattle.level_meaning.specs.declared.source.Source.TheVariants.{Own}
 use Rattle.algo_tree.specs.Typed.{source_length}
 use Rattle.sync_meaning.specs.Store.{AreOf, lengths}
