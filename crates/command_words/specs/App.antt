@@ -4,6 +4,8 @@ use Rattle.clap.specs.Walk.{Row, Rule, reading_by}
 use Rattle.clap.specs.Simple.{App, new_app, new_rule, with_rule, with_subcommand, on_top}
 use Rattle.clap.specs.declared.parser.matches.ValueSource.TheVariants.{CommandLine}
 use Rattle.command_words.specs.Command.{Bytes}
+use Rattle.command_words.specs.declared.given.Form.{Form}
+use Rattle.command_words.specs.declared.given.Form.TheVariants.{One, Two, Four, Working}
 
 -- a plain argument, which may have to be there
 abbrev pub argument : Bytes → Bool → Rule
@@ -26,8 +28,20 @@ workers_rule = record (new_rule (codes "workers")) { long = Some (codes "workers
 abbrev pub working_app : Bool → Bytes → App
 working_app needed name = with_rule (four_app needed name) workers_rule
 
+-- the command of this form and name
+abbrev pub form_app : Form → Bytes → App
+form_app One name = one_app name
+form_app (Two needed) name = two_app needed name
+form_app (Four needed) name = four_app needed name
+form_app (Working needed) name = working_app needed name
+
 abbrev pub bare_app : App
 bare_app = on_top (λ s. record s { disable_help_flag = true; disable_help_subcommand = true; subcommand_required = true }) (new_app (codes "syndex"))
+
+-- with commands of these names and forms added one after another
+abbrev pub with_forms : App → List (Bytes × Form) → App
+with_forms a [] = a
+with_forms a (c ∷ cs) = with_forms (with_subcommand a (form_app c.1 c.0).top) cs
 
 abbrev pub texts_app : App
 texts_app =

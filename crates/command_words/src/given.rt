@@ -1,12 +1,12 @@
 //! The words of the command line, read with `clap`.
 ghost use Rattle.std.specs.Prelude.{◌≡◌, IfOk, IsSomeAnd, Some, List, map, Option, false, true};
 ghost use Rattle.std.specs.String.{string_bytes};
-ghost use Rattle.clap.specs.Simple.{app_of, subcommand_rows_of, with_subcommand};
+ghost use Rattle.clap.specs.Simple.{app_of, subcommand_rows_of, with_rule, with_subcommand};
 ghost use Rattle.clap.specs.Values.{kind_of};
 ghost use Rattle.clap.specs.Walk.{Row};
 ghost use Rattle.clap.specs.declared.builder.command.Command.TheViews.{out-Command as fields_of};
 ghost use Rattle.command_words.specs.Command.{Bytes};
-ghost use Rattle.command_words.specs.App.{one_app, two_app, four_app, working_app, bare_app, texts_app, the_app};
+ghost use Rattle.command_words.specs.App.{argument, workers_rule, one_app, two_app, four_app, working_app, form_app, bare_app, with_forms, the_app};
 ghost use Rattle.command_words.specs.Answer.{wants_memory, Tells, Gives, Is};
 
 use clap::error::ErrorKind;
@@ -25,37 +25,79 @@ pub struct Given<'a> {
     pub workers: Option<&'a str>,
 }
 
-fn with_one<'a>(alloc: Global, name: &'a str) -> Result<Command<'a>, AllocError>
+/// The plain arguments that a command takes, and workers beside four of them at `Working`. The last argument
+/// may be left out where it is not `needed`.
+#[derive(Clone, Copy, Drop)]
+enum Form {
+    One,
+    Two { needed: bool },
+    Four { needed: bool },
+    Working { needed: bool },
+}
+
+fn with_argument<'a>(
+    alloc: Global,
+    command: Command<'a>,
+    id: &'a str,
+    needed: bool,
+) -> Result<Command<'a>, AllocError>
+    requires { (fields_of command).has_globals ≡ false }
+    ensures app { IfOk result (λ c. app_of c ≡ with_rule (app_of command.entry) (argument id.entry.now needed)) }
+    ensures local { IfOk result (λ c. (fields_of c).has_globals ≡ false) }
+{
+    command.arg(Arg::new(alloc, id).required(needed))
+}
+
+fn with_workers<'a>(alloc: Global, command: Command<'a>) -> Result<Command<'a>, AllocError>
+    requires { (fields_of command).has_globals ≡ false }
+    ensures app { IfOk result (λ c. app_of c ≡ with_rule (app_of command.entry) workers_rule) }
+    ensures local { IfOk result (λ c. (fields_of c).has_globals ≡ false) }
+{
+    command.arg(Arg::new(alloc, "workers").long("workers"))
+}
+
+fn one<'a>(alloc: Global, name: &'a str) -> Result<Command<'a>, AllocError>
     ensures app { IfOk result (λ c. app_of c ≡ one_app name.entry.now) }
     ensures local { IfOk result (λ c. (fields_of c).has_globals ≡ false) }
 {
-    let first = Arg::new(alloc, "first").required(true);
-    Command::new(alloc, name).arg(first)
+    with_argument(alloc, Command::new(alloc, name), "first", true)
 }
 
-fn with_two<'a>(alloc: Global, name: &'a str, needed: bool) -> Result<Command<'a>, AllocError>
+fn two<'a>(alloc: Global, name: &'a str, needed: bool) -> Result<Command<'a>, AllocError>
     ensures app { IfOk result (λ c. app_of c ≡ two_app needed name.entry.now) }
     ensures local { IfOk result (λ c. (fields_of c).has_globals ≡ false) }
 {
-    let second = Arg::new(alloc, "second").required(needed);
-    with_one(alloc, name)?.arg(second)
+    let command = one(alloc, name)?;
+    with_argument(alloc, command, "second", needed)
 }
 
-fn with_four<'a>(alloc: Global, name: &'a str, needed: bool) -> Result<Command<'a>, AllocError>
+fn four<'a>(alloc: Global, name: &'a str, needed: bool) -> Result<Command<'a>, AllocError>
     ensures app { IfOk result (λ c. app_of c ≡ four_app needed name.entry.now) }
     ensures local { IfOk result (λ c. (fields_of c).has_globals ≡ false) }
 {
-    let third = Arg::new(alloc, "third").required(true);
-    let fourth = Arg::new(alloc, "fourth").required(needed);
-    with_two(alloc, name, true)?.arg(third)?.arg(fourth)
+    let command = two(alloc, name, true)?;
+    let command = with_argument(alloc, command, "third", true)?;
+    with_argument(alloc, command, "fourth", needed)
 }
 
-fn with_workers<'a>(alloc: Global, name: &'a str, needed: bool) -> Result<Command<'a>, AllocError>
+fn working<'a>(alloc: Global, name: &'a str, needed: bool) -> Result<Command<'a>, AllocError>
     ensures app { IfOk result (λ c. app_of c ≡ working_app needed name.entry.now) }
     ensures local { IfOk result (λ c. (fields_of c).has_globals ≡ false) }
 {
-    let workers = Arg::new(alloc, "workers").long("workers");
-    with_four(alloc, name, needed)?.arg(workers)
+    let command = four(alloc, name, needed)?;
+    with_workers(alloc, command)
+}
+
+fn of_form<'a>(alloc: Global, name: &'a str, form: Form) -> Result<Command<'a>, AllocError>
+    ensures app { IfOk result (λ c. app_of c ≡ form_app form name.entry.now) }
+    ensures local { IfOk result (λ c. (fields_of c).has_globals ≡ false) }
+{
+    match form {
+        Form::One => one(alloc, name),
+        Form::Two { needed } => two(alloc, name, needed),
+        Form::Four { needed } => four(alloc, name, needed),
+        Form::Working { needed } => working(alloc, name, needed),
+    }
 }
 
 fn bare<'a>(alloc: Global) -> Command<'a>
@@ -67,64 +109,47 @@ fn bare<'a>(alloc: Global) -> Command<'a>
         .subcommand_required(true)
 }
 
-fn add_one<'a>(alloc: Global, app: Command<'a>, name: &'a str) -> Result<Command<'a>, AllocError>
-    ensures { IfOk result (λ c. app_of c ≡ with_subcommand (app_of app.entry) (one_app name.entry.now).top) }
-{
-    let command = with_one(alloc, name)?;
-    app.subcommand(command)
-}
-
-fn add_two<'a>(
+fn add<'a>(
     alloc: Global,
     app: Command<'a>,
     name: &'a str,
-    needed: bool,
+    form: Form,
 ) -> Result<Command<'a>, AllocError>
-    ensures { IfOk result (λ c. app_of c ≡ with_subcommand (app_of app.entry) (two_app needed name.entry.now).top) }
+    ensures { IfOk result (λ c. app_of c ≡ with_subcommand (app_of app.entry) (form_app form name.entry.now).top) }
 {
-    let command = with_two(alloc, name, needed)?;
+    let command = of_form(alloc, name, form)?;
     app.subcommand(command)
 }
 
-fn add_four<'a>(alloc: Global, app: Command<'a>, name: &'a str) -> Result<Command<'a>, AllocError>
-    ensures { IfOk result (λ c. app_of c ≡ with_subcommand (app_of app.entry) (four_app true name.entry.now).top) }
+/// The program with commands of these names and forms.
+fn with_commands<'a>(alloc: Global, commands: &[(&'a str, Form)]) -> Result<Command<'a>, AllocError>
+    ensures { IfOk result (λ c. app_of c ≡ with_forms bare_app (map (λ p. (p.0.now, p.1)) commands.now)) }
 {
-    let command = with_four(alloc, name, true)?;
-    app.subcommand(command)
+    let mut app = bare(alloc);
+    for (name, form) in commands {
+        app = add(alloc, app, name, *form)?;
+    }
+    Ok(app)
 }
 
-/// A command that takes workers. A fourth argument is taken of `run` too, and refused with its words.
-fn add_working<'a>(
-    alloc: Global,
-    app: Command<'a>,
-    name: &'a str,
-    needed: bool,
-) -> Result<Command<'a>, AllocError>
-    ensures { IfOk result (λ c. app_of c ≡ with_subcommand (app_of app.entry) (working_app needed name.entry.now).top) }
-{
-    let command = with_workers(alloc, name, needed)?;
-    app.subcommand(command)
-}
-
-/// The commands that take two texts at the most.
-fn text_commands<'a>(alloc: Global) -> Result<Command<'a>, AllocError>
-    ensures { IfOk result (λ c. app_of c ≡ texts_app) }
-{
-    let app = add_two(alloc, bare(alloc), "check", false)?;
-    let app = add_two(alloc, app, "sim", true)?;
-    let app = add_one(alloc, app, "flat")?;
-    let app = add_two(alloc, app, "chart", true)?;
-    add_two(alloc, app, "code", true)
-}
-
+/// The program with all its commands. A fourth argument is taken of `run` too, and refused with its words.
 fn command<'a>(alloc: Global) -> Result<Command<'a>, AllocError>
     ensures { IfOk result (λ c. app_of c ≡ the_app) }
 {
-    let app = text_commands(alloc)?;
-    let app = add_one(alloc, app, "load")?;
-    let app = add_four(alloc, app, "dates")?;
-    let app = add_working(alloc, app, "run", false)?;
-    add_working(alloc, app, "exec", true)
+    with_commands(
+        alloc,
+        &[
+            ("check", Form::Two { needed: false }),
+            ("sim", Form::Two { needed: true }),
+            ("flat", Form::One),
+            ("chart", Form::Two { needed: true }),
+            ("code", Form::Two { needed: true }),
+            ("load", Form::One),
+            ("dates", Form::Four { needed: true }),
+            ("run", Form::Working { needed: false }),
+            ("exec", Form::Working { needed: true }),
+        ],
+    )
 }
 
 fn given_in<'a>(matches: &ArgMatches<'a>) -> Option<Given<'a>>

@@ -18,7 +18,7 @@ use std::alloc::Global;
 use syn_base::OutOfMemory;
 
 /// A command, with the names of its files as they are given.
-#[derive(Clone, Copy, Debug, Drop, PartialEq, Eq)]
+#[derive(Clone, Copy, Drop)]
 pub enum Command<'a> {
     /// `check A [H]`: the canonical texts.
     Check {

@@ -5,7 +5,7 @@ use Rattle.semaphore_core.specs.Told.{told}
 use Rattle.semaphore_core.specs.Laws.{HasLaws}
 use Rattle.word_table.specs.Driver.{FabricData, DriverData, IsNew, IsFinished, AreDrivers, AreNew, AreFinished}
 use Rattle.executive_run.specs.declared.group.Group.{Group}
-use Rattle.executive_run.specs.Slots.{Each}
+use Rattle.executive_run.specs.Each.{Each}
 use Rattle.executive_run.specs.Going.{GoesOn, IsStuck, steps_left}
 use Rattle.executive_run.specs.Groups.{Belongs, IsDriven}
 use Rattle.executive_run.specs.Prepared.{AreGroups}

@@ -1,4 +1,4 @@
-pub mod Places
+pub mod Each
 pub mod Goings
 pub mod Driving
 pub mod Threads

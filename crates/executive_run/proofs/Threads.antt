@@ -1,9 +1,12 @@
--- A driver may go to another thread, and a fabric may be shared by threads.
+-- A driver may go to another thread, and a fabric and the places of groups may be shared by threads.
 use denote.RattleType.{RattleType}
 use denote.Ref.{NamedLft}
-use denote.Param.Send.{IsSend, IsSync, view_send, view_sync, sendable}
+use denote.Param.Send.{IsSend, IsSync, view_send, view_sync, sendable, whole-keyless}
 use denote.Param.SendFields.{declared_send, declared_sync}
 use Rattle.std.proofs.Crossing as std
+use Rattle.atomic_table.proofs.shared.Seat.TheSendSync as table_seat
+use Rattle.atomic_table.specs.contracts.shared.Seat as TableSeat
+use Rattle.counted_slot.proofs.Counted.TheSendSync as counted
 use Rattle.syn_base.proofs.items.Items.TheSendSync as items
 use Rattle.syn_base.proofs.rows.SensorRows.TheSendSync as sensors
 use Rattle.body_lang.proofs.expression.Expr.TheLaws.TheKnot as knot
@@ -15,6 +18,8 @@ use Rattle.executive_program.proofs.expand.SeqSteps.TheSendSync as steps
 use Rattle.semaphore_core.proofs.own_parts.OwnParts.TheSendSync as own
 use Rattle.semaphore_core.specs.contracts.job.Job as Job
 use Rattle.word_rule.proofs.table.WordSeat.TheSendSync as seat
+use Rattle.word_rule.specs.contracts.table.WordSeat as WordSeat
+use Rattle.word_rule.specs.contracts.table.WordSeat.TheInside as AsWordSeat
 use Rattle.word_rule.proofs.table.WordTable.TheSendSync as table
 use Rattle.word_table.specs.contracts.share.Share as Share
 use Rattle.word_table.specs.contracts.woven.Woven as Woven
@@ -23,7 +28,8 @@ use Rattle.word_table.specs.contracts.fabric.Driver.TheInside as AsDriver
 use Rattle.word_table.specs.contracts.fabric.Fabric as Fabric
 use Rattle.word_table.specs.contracts.fabric.Fabric.TheInside as AsFabric
 use Rattle.executive_run.specs.contracts.group.Group as Group
-use Rattle.executive_run.specs.contracts.chief.Chief as Chief
+use Rattle.executive_run.specs.contracts.place.Place as Place
+use Rattle.executive_run.specs.contracts.crew.Crew as Crew
 
 Body-sync : IsSync Body.the_row
 Body-sync = search (sendable, std.crosses, knot.crosses) depth 40
@@ -46,9 +52,28 @@ Driver-send a = view_send (AsDriver.the_row a) _ _ _ _ (declared_send (AsDriver.
 pub Fabric-sync : (a : NamedLft) → IsSync (Fabric.the_row a)
 Fabric-sync a = view_sync (AsFabric.the_row a) _ _ _ _ (declared_sync (AsFabric.the_type a) (Woven-sync a, tt))
 
-pub Group-send : (a : NamedLft) → IsSend (Group.the_row a)
+-- Whoever reads a seat through a reference has a part of what it owns, which names no thread.
+Seat-sync : (S V : RattleType) → IsSend S → IsSync (TableSeat.the_row S V)
+Seat-sync S V s = record { shared = λ d b o κ q. whole-keyless _ _ (table_seat.the_send S V s).owned q d b o }
+
+WordSeat-sync : (a : NamedLft) → IsSync (WordSeat.the_row a)
+WordSeat-sync a = view_sync (AsWordSeat.the_row a) _ _ _ _ (declared_sync (AsWordSeat.the_type a) (search (sendable, Seat-sync) depth 20, tt))
+
+Share-sync : (a : NamedLft) → IsSync (Share.the_row a)
+Share-sync a = search (sendable, std.crosses, WordSeat-sync, own.the_sync, Job-sync) depth 40
+
+Driver-sync : (a : NamedLft) → IsSync (Driver.the_row a)
+Driver-sync a = view_sync (AsDriver.the_row a) _ _ _ _ (declared_sync (AsDriver.the_type a) (Share-sync a, tt))
+
+Group-send : (a : NamedLft) → IsSend (Group.the_row a)
 Group-send a = declared_send (Group.the_type a) (Driver-send a, (search (sendable, std.crosses) depth 20, tt))
 
-pub Chief-send : (e a : NamedLft) (R G : RattleType) → IsSync R → IsSync G → IsSend (Chief.the_row e a R G)
-Chief-send e a R G r y =
-    declared_send (Chief.the_type e a R G) (search sendable depth 10, (search (sendable, Fabric-sync) depth 10, (search sendable depth 10, (search (sendable, std.crosses) depth 20, tt))))
+Group-sync : (a : NamedLft) → IsSync (Group.the_row a)
+Group-sync a = declared_sync (Group.the_type a) (Driver-sync a, (search (sendable, std.crosses) depth 20, tt))
+
+Place-sync : (a : NamedLft) → IsSync (Place.the_row a)
+Place-sync a = declared_sync (Place.the_type a) (search (sendable, std.crosses, counted.the_sync, Group-send, Group-sync) depth 40, tt)
+
+pub Crew-send : (e a : NamedLft) (R G : RattleType) → IsSync R → IsSync G → IsSend (Crew.the_row e a R G)
+Crew-send e a R G r y =
+    declared_send (Crew.the_type e a R G) (search sendable depth 10, (search (sendable, Fabric-sync) depth 10, (search sendable depth 10, (search (sendable, std.crosses, Place-sync) depth 20, (search (sendable, std.crosses) depth 20, tt)))))

@@ -1,5 +1,6 @@
-pub mod Slots
+pub mod Each
 pub mod Going
 pub mod Groups
+pub mod Places
 pub mod Ready
 pub mod Prepared

@@ -3,7 +3,7 @@ use Rattle.std.specs.Prelude.{◌≡◌, ℕ, ◌<◌, ◌≤◌, List, length}
 use Rattle.semaphore_core.specs.Job.{JobData}
 use Rattle.word_table.specs.Driver.{FabricData}
 use Rattle.executive_run.specs.declared.group.Group.{Group}
-use Rattle.executive_run.specs.Slots.{Each}
+use Rattle.executive_run.specs.Each.{Each}
 use Rattle.executive_run.specs.Groups.{Belongs}
 
 -- all groups of the fabric, by their numbers

@@ -2,7 +2,7 @@
 ghost use Rattle.std.specs.Prelude.{◌≡◌};
 ghost use Rattle.word_rule.specs.Driven.{driven_by};
 ghost use Rattle.word_table.specs.Closed.{IsAtEnd};
-ghost use Rattle.executive_run.specs.Slots.{Each};
+ghost use Rattle.executive_run.specs.Each.{Each};
 ghost use Rattle.executive_run.specs.Groups.{Belongs, IsDriven};
 ghost use Rattle.executive_run.specs.Prepared.{AreGroups};
 
@@ -24,7 +24,7 @@ pub fn run<'a, G: Gate>(ready: Ready<'a>, gate: &G, driven: &mut Driven) -> Clos
         job,
         fabric,
         groups,
-        slots: _,
+        places: _,
         done: _,
         drivers,
     } = ready;

@@ -1,8 +1,8 @@
 //! The runner of a job: it drives the fabric of the job to its end, by threads or by one driver alone.
 //!
-//! `prepare` takes all memory that a run takes; `run_ready` drives the groups of sequences beside each other,
-//! each by a worker, the first one by the caller; `run_alone` drives all sequences by one driver, starts no
-//! thread and returns. Both leave the rows and the cells of the job's meaning. `syndex_program` calls them for
+//! `prepare` takes all memory that a run takes; `run_ready` drives the groups of sequences by as many workers, of
+//! whom the caller is the first, and who share all groups; `run_alone` drives all sequences by one driver, starts
+//! no thread and returns. Both leave the rows and the cells of the job's meaning. `syndex_program` calls them for
 //! `run`, `load` and `exec`.
 #![tactic(auto)]
 
@@ -11,9 +11,9 @@ ghost use Rattle.word_rule.specs.Driven.{driven_by};
 ghost use Rattle.word_table.specs.Closed.{IsAtEnd};
 
 mod alone;
-mod beside;
-mod chief;
+mod crew;
 mod group;
+mod place;
 mod progress;
 mod ready;
 mod together;
@@ -24,9 +24,10 @@ use std::sync::Wait;
 use std::thread::Threads;
 use word_table::{Closed, Driven};
 
-/// Runs a job by its workers. The caller drives the first group of sequences; each other one is driven by a
-/// thread beside it, and by the caller where that cannot be started. The gate is asked once before the first
-/// try of each step, by the thread that drives the sequence. It refuses nothing and takes no memory of its own.
+/// Runs a job by its workers. The caller is the first, and each other one is a thread beside it. A group of
+/// sequences is driven by one worker at a time, whichever is free, so that a worker that cannot be started is
+/// not missed. The gate is asked once before the first try of each step, by the thread that drives the
+/// sequence. It refuses nothing and takes no memory of its own.
 pub fn run_ready<'a, R: Threads + Wait + Sync, G: Gate>(
     rt: &R,
     ready: Ready<'a>,

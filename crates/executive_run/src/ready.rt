@@ -3,9 +3,8 @@ ghost use Rattle.std.specs.Prelude.{◌≡◌, ◌≤◌, IfOk, vec_len};
 ghost use Rattle.word_table.specs.Driver.{AreDrivers, AreNew, IsNew};
 ghost use Rattle.executive_run.specs.Prepared.{AreGroups};
 
-use crate::beside::Slot;
-use crate::chief::Returns;
 use crate::group::Group;
+use crate::place::Place;
 use semaphore_core::Job;
 use std::alloc::Global;
 use std::marker::Model;
@@ -20,7 +19,7 @@ pub struct Ready<'a> {
     pub(crate) fabric: Fabric<'a>,
     pub(crate) groups: Vec<Group<'a>>,
     /// Room for the groups while they are driven, once they are done, and for their drivers.
-    pub(crate) slots: Vec<Slot<Group<'a>, Returns<'a>>>,
+    pub(crate) places: Vec<Place<'a>>,
     pub(crate) done: Vec<Group<'a>>,
     pub(crate) drivers: Vec<Driver<'a>>,
 }
@@ -41,7 +40,7 @@ impl<'a> Model for Ready<'a> {
     ghost view = { λ r. record { job = r.job.now; workers = r.fabric.groups } };
 
     ghost invariant = { λ r. IsReady r.job.now r.fabric r.groups.items
-        × IsRoom r.fabric.groups (vec_len r.slots) (vec_capacity r.slots)
+        × IsRoom r.fabric.groups (vec_len r.places) (vec_capacity r.places)
         × IsRoom r.fabric.groups (vec_len r.done) (vec_capacity r.done)
         × IsRoom r.fabric.groups (vec_len r.drivers) (vec_capacity r.drivers) };
 }
@@ -52,7 +51,7 @@ pub fn prepare<'a>(alloc: Global, job: &'a Job<'a>, workers: u32) -> Result<Read
     requires to { workers ≤ 80 }
     ensures { IfOk result (λ ready. (ready.job ≡ job.now) × (ready.workers ≡ workers)) }
 {
-    let slots = Vec::with_capacity(alloc, workers as usize)?;
+    let places = Vec::with_capacity(alloc, workers as usize)?;
     let done = Vec::with_capacity(alloc, workers as usize)?;
     let drivers = Vec::with_capacity(alloc, workers as usize)?;
     let (fabric, woven) = weave(alloc, job, workers)?;
@@ -61,7 +60,7 @@ pub fn prepare<'a>(alloc: Global, job: &'a Job<'a>, workers: u32) -> Result<Read
         job,
         fabric,
         groups,
-        slots,
+        places,
         done,
         drivers,
     })

@@ -1,20 +1,22 @@
-//! All groups driven beside each other.
-ghost use Rattle.std.specs.Prelude.{◌≡◌, ◌<◌, vec_len, vec_capacity};
+//! All groups driven by workers who share them.
+ghost use Rattle.std.specs.Prelude.{◌≡◌, vec_len, vec_capacity};
 ghost use Rattle.word_rule.specs.Driven.{driven_by};
 ghost use Rattle.word_table.specs.Closed.{IsAtEnd};
 ghost use Rattle.word_table.specs.Driver.{AreDrivers, AreFinished};
-ghost use Rattle.executive_run.specs.Slots.{Each};
+ghost use Rattle.executive_run.specs.Each.{Each};
 ghost use Rattle.executive_run.specs.Groups.{IsDriven};
+ghost use Rattle.executive_run.specs.Places.{ArePlaces};
 ghost use Rattle.executive_run.specs.Prepared.{AreGroups, IsRoom};
 
-use crate::beside::{Slot, beside};
-use crate::chief::{Chief, Returns};
+use crate::crew::Crew;
 use crate::group::{Ask, Group};
+use crate::place::Place;
 use crate::ready::Ready;
 use outside::Gate;
 use std::sync::Wait;
 use std::sync::atomic::AtomicU64;
-use std::thread::Threads;
+use std::thread;
+use std::thread::{Scope, Threads};
 use word_table::{Closed, Driven, Driver, Fabric};
 
 impl<G: Gate> Ask for G {
@@ -37,40 +39,69 @@ pub fn run<'a, R: Threads + Wait + Sync, G: Gate>(
         job: _,
         fabric,
         groups,
-        slots,
+        places,
         done,
         drivers,
     } = ready;
-    let groups = drive_all(rt, &fabric, gate, groups, slots, done);
+    let places = places_of(&fabric, groups, places);
+    let groups = drive_all(rt, &fabric, gate, &places, done);
     let drivers = drivers_of(&fabric, groups, drivers);
     fabric.close(drivers, driven)
 }
 
-/// Drives all groups to their ends.
-fn drive_all<'a, R: Threads + Wait + Sync, G: Gate>(
-    rt: &R,
+/// Puts each group into its place.
+fn places_of<'a>(
     fabric: &Fabric<'a>,
-    gate: &G,
-    mut groups: Vec<Group<'a>>,
-    mut slots: Vec<Slot<Group<'a>, Returns<'a>>>,
+    groups: Vec<Group<'a>>,
+    mut places: Vec<Place<'a>>,
+) -> Vec<Place<'a>>
+    requires groups { AreGroups fabric.now groups.items }
+    requires room { IsRoom fabric.now.groups (vec_len places) (vec_capacity places) }
+    ensures { ArePlaces fabric.entry.now result.items }
+{
+    for group in groups {
+        let place = Place::new(fabric, group);
+        places.push_reserved(place);
+    }
+    places
+}
+
+/// Starts a thread for each worker but the first. One that cannot be started is not missed.
+fn start<'s, 'e, 'a, R: Wait + Sync, G: Ask + Sync>(
+    scope: &Scope<'s, &'e ()>,
+    crew: Crew<'s, 'a, R, G>,
+) {
+    for worker in 1..crew.places.len() {
+        let _ = scope.spawn(move || crew.work(worker));
+    }
+}
+
+/// Drives all groups to their ends.
+fn drive_all<'x, 'a, R: Threads + Wait + Sync, G: Gate>(
+    rt: &'x R,
+    fabric: &'x Fabric<'a>,
+    gate: &'x G,
+    places: &'x [Place<'a>],
     done: Vec<Group<'a>>,
 ) -> Vec<Group<'a>>
-    requires groups { AreGroups fabric.now groups.items }
-    requires some { 0 < fabric.now.groups }
-    requires slots { IsRoom fabric.now.groups (vec_len slots) (vec_capacity slots) }
+    requires places { ArePlaces fabric.now places.now }
     requires done { IsRoom fabric.now.groups (vec_len done) (vec_capacity done) }
-    ensures groups { AreGroups fabric.entry.now result.items }
+    ensures groups { AreGroups fabric.now result.items }
     ensures driven { Each (λ k. IsDriven) result.items }
 {
-    let handed_back = AtomicU64::new(0);
-    let chief = Chief {
+    let unfinished = AtomicU64::new(u64::from(fabric.groups()));
+    let crew = Crew {
         rt,
         fabric,
         gate,
-        handed_back: &handed_back,
+        places,
+        unfinished: &unfinished,
     };
-    slots.push_reserved(Slot::Own(groups.remove(0)));
-    beside(rt, chief, groups, slots, done)
+    thread::scope(thread::scope_env(), rt, |scope| {
+        start(scope, crew);
+        crew.work(0);
+    });
+    crew.collect(done)
 }
 
 /// The drivers of groups that are driven.

@@ -1,5 +1,5 @@
 //! A job run to its end by threads, and by one driver alone: its rows, counts and words are the same whoever
-//! drives, each sequence is driven by the worker of its group, and the gate is asked once for each step.
+//! drives, a sequence that waits at the gate holds no other worker up, and the gate is asked once for each step.
 use crate::texts::Worked;
 use crate::two_operators::{TAKEN, TEXTS, expect};
 use executive_run::{prepare, run_alone, run_ready};

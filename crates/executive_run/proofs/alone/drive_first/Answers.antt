@@ -1,7 +1,7 @@
 use Rattle.std.proofs.Common.{arith, sym, subst, ◌∙◌}
 use Rattle.std.proofs.lemmas.List.{length-set}
 use Rattle.executive_run.specs.Groups.{Belongs, IsDriven}
-use Rattle.executive_run.proofs.Places.{each-get, each-set, only-set}
+use Rattle.executive_run.proofs.Each.{each-get, each-set, only-set}
 use Rattle.executive_run.proofs.alone.drive_first.Goals as goal
 
 pub drive-requires-clause-belongs : goal.drive-requires-clause-belongs

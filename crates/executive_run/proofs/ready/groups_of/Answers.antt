@@ -1,8 +1,8 @@
 use Rattle.std.proofs.Common.{◌≡◌, ◌+◌, length, vec_len, arith, sym, subst}
 use Rattle.std.specs.Vec.Iter.{into_iter_items}
-use Rattle.executive_run.specs.Slots.{Each}
+use Rattle.executive_run.specs.Each.{Each}
 use Rattle.executive_run.specs.Groups.{Belongs}
-use Rattle.executive_run.proofs.Places.{each-nil, each-snoc, each-first, each-rest, each-later, each-at, one-more, is-below}
+use Rattle.executive_run.proofs.Each.{each-nil, each-snoc, each-first, each-rest, each-later, each-at, one-more, is-below}
 use Rattle.executive_run.proofs.Driving.{IsNext, next_each, belongs_of}
 use Rattle.executive_run.proofs.ready.groups_of.Goals as goal
 

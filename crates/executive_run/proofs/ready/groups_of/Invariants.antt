@@ -1,6 +1,6 @@
 use Rattle.std.proofs.Common.{◌≡◌, ◌+◌, vec_len}
 use Rattle.std.specs.Vec.Iter.{into_iter_items, into_iter_len}
-use Rattle.executive_run.specs.Slots.{Each}
+use Rattle.executive_run.specs.Each.{Each}
 use Rattle.executive_run.specs.Groups.{Belongs}
 use Rattle.executive_run.proofs.Driving.{IsNext}
 use Rattle.executive_run.proofs.ready.groups_of.Given as goal

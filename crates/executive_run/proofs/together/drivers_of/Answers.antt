@@ -1,7 +1,7 @@
 use Rattle.std.proofs.Common.{◌+◌, length, vec_len, arith, sym, subst}
 use Rattle.std.specs.Vec.Iter.{into_iter_items}
-use Rattle.executive_run.specs.Slots.{Each}
-use Rattle.executive_run.proofs.Places.{each-snoc, each-first, each-rest, each-later, each-at, one-more, le-along}
+use Rattle.executive_run.specs.Each.{Each}
+use Rattle.executive_run.proofs.Each.{each-snoc, each-first, each-rest, each-later, each-at, one-more, le-along}
 use Rattle.executive_run.proofs.Driving.{IsDone, IsDrivenAt, done_of, drivers_are, drivers_finished}
 use Rattle.executive_run.proofs.together.drivers_of.Goals as goal
 

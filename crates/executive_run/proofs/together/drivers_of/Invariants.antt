@@ -1,6 +1,6 @@
 use Rattle.std.proofs.Common.{◌≡◌, ◌+◌, ◌≤◌, vec_len, vec_capacity}
 use Rattle.std.specs.Vec.Iter.{into_iter_items, into_iter_len}
-use Rattle.executive_run.specs.Slots.{Each}
+use Rattle.executive_run.specs.Each.{Each}
 use Rattle.executive_run.proofs.Driving.{IsDone, IsDrivenAt}
 use Rattle.executive_run.proofs.together.drivers_of.Given as goal
 

@@ -1,8 +1,8 @@
 -- Lists each of whose elements passes the test of its place.
-use Rattle.std.proofs.Common.{◌≡◌, ℕ, suc, zero, ◌+◌, ◌<◌, ◌≤◌, List, [], ◌∷◌, ◌++◌, length, get_or, set, drop, Some, None, subst, sym, refl, arith}
+use Rattle.std.proofs.Common.{◌≡◌, ℕ, suc, zero, ◌+◌, ◌<◌, ◌≤◌, List, [], ◌∷◌, ◌++◌, length, get_or, set, Some, subst, sym, refl, arith}
 use Rattle.std.specs.Prelude.{slice_get}
 use Rattle.std.proofs.lemmas.Option.{slice_get-get_or, slice_get_within}
-use Rattle.executive_run.specs.Slots.{Each}
+use Rattle.executive_run.specs.Each.{Each}
 
 pub each-nil : {X : Type 0} (here : ℕ → X → Type 0) → Each here []
 each-nil {X} here k x is = cc
@@ -33,9 +33,6 @@ each-at {X} here n m x e h = let P : ℕ → Type 0 = λ i. here i x in subst P 
 pub one-more : (n m left less all : ℕ) → n + left ≡ all → less + 1 ≡ left → m ≡ n + 1 → m + less ≡ all
 one-more n m left less all e f h = omega arith
 
-pub room-stays : (n m left less cap room : ℕ) → n + left ≤ cap → less + 1 ≡ left → m ≡ n + 1 → room ≡ cap → m + less ≤ room
-room-stays n m left less cap room e f h r = omega arith
-
 pub le-along : (n cap room : ℕ) → n ≤ cap → room ≡ cap → n ≤ room
 le-along n cap room e r = omega arith
 
@@ -51,23 +48,6 @@ each-set {X} here (z ∷ zs) zero x all h (suc k) y is = all (suc k) y is
 each-set {X} here (z ∷ zs) (suc i) x all h zero y is = all zero y is
 each-set {X} here (z ∷ zs) (suc i) x all h (suc k) y is = each-set (λ n. here (suc n)) zs i x (λ n u e. all (suc n) u e) h k y is
 
--- each of the first ones passes the test
-abbrev pub EachBelow : {X : Type 0} → (X → Type 0) → ℕ → List X → Type 0
-EachBelow {X} test n xs = Each (λ k x. k < n → test x) xs
-
--- one more in the first ones
-pub below-set : {X : Type 0} (test : X → Type 0) (xs : List X) (i : ℕ) (x : X) → EachBelow test i xs → test x → EachBelow test (i + 1) (set xs i x)
-below-set {X} test [] i x all h k y is l = all k y is (absurd (let e : None ≡ Some y = is in cc))
-below-set {X} test (z ∷ zs) zero x all h zero y is l = subst test (let e : x ≡ y = cc in e) h
-below-set {X} test (z ∷ zs) zero x all h (suc k) y is l = absurd (omega (arith, l))
-below-set {X} test (z ∷ zs) (suc i) x all h zero y is l = all zero y is (omega arith)
-below-set {X} test (z ∷ zs) (suc i) x all h (suc k) y is l =
-    below-set test zs i x (λ n u e m. all (suc n) u e (omega (arith, m))) h k y is (omega (arith, l))
-
--- all of them
-pub below-all : {X : Type 0} (test : X → Type 0) (xs : List X) (n : ℕ) → length xs ≤ n → EachBelow test n xs → Each (λ k. test) xs
-below-all test xs n l all k x is = all k x is (let here : k < length xs = slice_get_within xs k x is in omega (arith, here, l))
-
 -- another element in the only place
 pub only-set : {X : Type 0} (test : X → Type 0) (xs : List X) (y : X) → length xs ≡ 1 → test y → Each (λ k. test) (set xs 0 y)
 only-set {X} test [] y one h k z is = absurd (omega (arith, one))
@@ -78,12 +58,6 @@ only-set {X} test (x ∷ xs) y one h (suc k) z is = absurd (let l : k < length x
 pub is-below : (n m left less all : ℕ) → n + left ≡ all → less + 1 ≡ left → n ≡ m → m < all
 is-below n m left less all e f h = omega arith
 
--- the only element of a list that was empty
-pub each-one : {X : Type 0} (here : ℕ → X → Type 0) (xs : List X) (x : X) → length xs ≡ 0 → here 0 x → Each here (xs ++ x ∷ [])
-each-one {X} here [] x e h = each-snoc here [] x (each-nil here) h
-each-one {X} here (z ∷ zs) x e h = absurd (omega (arith, e))
-
--- the elements after the first one, counted from the next place on
-pub each-behind : {X : Type 0} (here : ℕ → X → Type 0) (n : ℕ) (xs : List X) → n ≡ 1 → Each here xs → Each (λ k. here (n + k)) (drop 1 xs)
-each-behind {X} here n [] e all k y is = cc
-each-behind {X} here n (x ∷ xs) e all k y is = let P : ℕ → Type 0 = λ i. here i y in subst P (let a : suc k ≡ n + k = omega (arith, e) in a) (all (suc k) y is)
+-- places that are counted from the first one on
+pub each-from : {X : Type 0} (here : ℕ → X → Type 0) (n : ℕ) (xs : List X) → n ≡ 0 → Each here xs → Each (λ k. here (n + k)) xs
+each-from {X} here n xs e all k y is = let P : ℕ → Type 0 = λ i. here i y in subst P (let a : k ≡ n + k = omega (arith, e) in a) (all k y is)
