@@ -3,7 +3,7 @@
 of one driver on a table of words, which makes the same steps in the same order. Prints how many are made a second, the ratio of
 the words to the core, and that of the core to as many turns of a plain loop.
 
-What is timed is a test of `worked_programs` that is put into a copy of the repository, which is thrown away.
+What is timed is a test that is put into a copy of `worked_programs` and the crates below it, which is thrown away.
 The copy takes over what earlier checks kept; in a new clone everything below is proved first."""
 import os
 import shutil
@@ -36,7 +36,18 @@ CRATES = needed("worked_programs")
 RUNS = 20
 # two prologues of one micro-step, and 10,000 reactions of 23
 STEPS = RUNS * (2 + 10_000 * 23)
-TEST = """
+MODULE = """//! Micro-steps of the program for two operators, timed.
+ghost use Rattle.std.specs.Prelude.{◌≡◌};
+ghost use Rattle.word_table.specs.Driver.{AreDrivers};
+
+use crate::texts::{Texts, Worked};
+use crate::two_operators::TEXTS;
+use semaphore_core::{Job, State, run_list};
+use std::alloc::Global;
+use std::test::Fail;
+use std::time::Instant;
+use word_table::{Driven, Driver, Fabric, MicroAnswer, weave};
+
 fn nanoseconds(rt: &HostRuntime, start: Instant) -> u128 {
     match start.elapsed(rt) {
         Ok(took) => took.as_nanos(),
@@ -128,25 +139,6 @@ fn timed(rt: &HostRuntime, alloc: Global, job: &Job, list: &[u32]) -> Result<(),
     Ok(())
 }
 
-/// 10,000 rows in which the one sensor gives 5.
-fn many(rt: &impl Abort, alloc: Global, flat: &Flat) -> Result<SensorRows, Fail>
-    ensures { IfOk result (λ rows. rows.lens ≡ sensor_lens flat.now.vertices) }
-{
-    let lens = sensor_lens(alloc, flat)?;
-    assert_eq!(rt; lens.as_slice(), [1].as_slice());
-    fives(SensorRows::new(alloc, lens.as_slice())?)
-}
-
-fn fives(mut rows: SensorRows) -> Result<SensorRows, Fail>
-    requires { sum rows.lens ≡ 1 }
-    ensures { IfOk result (λ all. all.lens ≡ rows.lens) }
-{
-    for _ in 0..10_000u32 {
-        rows.push(&[5])?;
-    }
-    Ok(rows)
-}
-
 const PROLOGUES: [u32; 2] = [1, 2];
 
 const REACTION: [u32; 23] = [
@@ -161,28 +153,18 @@ fn list(alloc: Global) -> Result<Vec<u32>, Fail> {
     Ok(list)
 }
 
-fn on_the_bus(
-    rt: &impl Abort,
-    clock: &HostRuntime,
-    program: &Program,
-    flat: &Flat,
-    archi: &Archi,
-) -> Result<(), Fail> {
-    let alloc = clock.alloc();
-    let rows = many(rt, alloc, flat)?;
-    let opening = opening_of(alloc, flat)?;
-    match job(rt, program, flat, archi, &rows, opening, &ORDER) {
-        Ok(job) => timed(clock, alloc, &job, list(alloc)?.as_slice()),
-        Err(_) => panic!(rt; "a limit"),
-    }
-}
-
 #[test]
 fn micro_steps_are_timed(rt: HostRuntime) -> Result<(), Fail> {
     let alloc = rt.alloc();
-    let program = program(alloc, 1)?;
-    let flat = graph_of_two(&rt, alloc)?;
-    on_the_bus(&rt, &rt, &program, &flat, &two_operators(&rt, alloc)?)
+    let five: &[i64] = &[5];
+    let rows = vec![in alloc; five; 10_000]?;
+    let texts = Texts {
+        rows: rows.as_slice(),
+        ..TEXTS
+    };
+    let worked = Worked::read(&rt, alloc, &texts)?;
+    let job = worked.job(&rt, alloc, texts.order)?;
+    timed(&rt, alloc, &job, list(alloc)?.as_slice())
 }
 """
 
@@ -197,30 +179,23 @@ def copy(room):
     with open(os.path.join(room, "crates.txt"), "w", encoding="utf-8") as it:
         it.writelines(lines)
     crate = os.path.join(room, "crates", "worked_programs")
-    runs = os.path.join(crate, "src", "two_operators.rt")
-    with open(runs, encoding="utf-8") as it:
-        text = it.read() + TEST.replace("@RUNS@", str(RUNS)).replace("@STEPS@", str(STEPS))
-    text = text.replace("use std::test::Fail;\n", "use std::test::Fail;\nuse std::time::Instant;\n", 1)
-    text = text.replace("sensor_lens, try_step", "run_list, sensor_lens, try_step", 1)
-    text = text.replace("IfOk}", "IfOk, sum}", 1)
-    text = text.replace("\n\nuse crate", "\nghost use Rattle.word_table.specs.Driver.{AreDrivers};\n\nuse crate", 1)
-    text = text.replace("SensorRows};\n", "SensorRows};\nuse word_table::{Driven, Driver, Fabric, MicroAnswer, weave};\n", 1)
-    with open(runs, "w", encoding="utf-8") as it:
-        it.write(text)
+    with open(os.path.join(crate, "src", "steps.rt"), "w", encoding="utf-8") as it:
+        it.write(MODULE.replace("@RUNS@", str(RUNS)).replace("@STEPS@", str(STEPS)))
+    with open(os.path.join(crate, "src", "lib.rt"), "a", encoding="utf-8") as it:
+        it.write("#[cfg(test)]\nmod steps;\n")
     invariants = {
-        "fives": "l.rows.lens ≡ l.fn.rows.lens",
         "tried_by_all": "(length l.drivers.items ≡ length l.initial.drivers.items) × AreDrivers l.fabric l.drivers.items",
         "tried": "(l.driver.fabric ≡ l.initial.driver.fabric) × (l.driver.group ≡ l.initial.driver.group)",
     }
     for name, holds in invariants.items():
-        folder = os.path.join(crate, "proofs", "two_operators", name)
+        folder = os.path.join(crate, "proofs", "steps", name)
         os.makedirs(folder)
-        mark = {"tried": "loop-seq", "tried_by_all": "loop-g"}.get(name, "loop")
+        mark = {"tried": "loop-seq", "tried_by_all": "loop-g"}[name]
         with open(os.path.join(folder, "Invariants.antt"), "w", encoding="utf-8") as it:
             it.write(
                 "use Rattle.std.specs.Prelude.{◌≡◌, length}\n"
                 "use Rattle.word_table.specs.Driver.{AreDrivers}\n"
-                f"use Rattle.worked_programs.proofs.two_operators.{name}.Given as goal\n\n"
+                f"use Rattle.worked_programs.proofs.steps.{name}.Given as goal\n\n"
                 f"abbrev pub invariant-{mark} : goal.invariant-{mark}\n"
                 f"invariant-{mark} l = {holds}\n"
             )

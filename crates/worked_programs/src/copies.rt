@@ -1,237 +1,247 @@
 //! A program of four copies of a body that gives (acc + v) * w, each from the result of the one before. The
 //! sums are made by the first of two operators and the products by the second, so that the result crosses the
 //! bus twice in each copy.
-ghost use Rattle.std.specs.Prelude.{◌≡◌, ◌<◌, IfOk};
-ghost use Rattle.flat_graph.specs.Laws.{sensor_lens};
-
 use crate::runs::{By, end_of};
-use crate::two_operators::{
-    call, code, first_element, flat, job, of, on, sum, two_operators, vertex,
-};
-use body_lang::{Body, Expr};
-use executive_program::{Buffer, Instr, Program, SeqCode};
-use flat_graph::{Flat, Kind, Source, Vertex};
+use crate::texts::{Texts, Worked};
+use crate::two_operators::BUS;
 use outside::GateFree;
 use progress_laws::steps_in_all;
-use semaphore_core::{Job, opening_of, sensor_lens};
+use semaphore_core::Job;
 use std::alloc::Global;
 use std::process::Abort;
 use std::sync::Wait;
 use std::test::Fail;
 use std::thread::Threads;
-use syn_base::{Items, Op, SensorRows};
 use word_table::Driven;
 
-/// The sums and the products.
-const NAMES: [(&[u8], &[u8]); 4] = [
-    (b"c.0/p", b"c.0/q"),
-    (b"c.1/p", b"c.1/q"),
-    (b"c.2/p", b"c.2/q"),
-    (b"c.3/p", b"c.3/q"),
-];
+/// The value of each copy is forked, w is 2 in each, and the result is iterated from 10 on. One actuator takes
+/// the last result, the other one all four.
+const ALGORITHM: &[u8] = b"algorithm 1
+sensor Sense 4
+actuator One 1
+actuator Four 4
+constant Two = 2
+constant Ten = 10
+function Add
+in x 1
+in y 1
+out z 1 = add(x[0],y[0])
+end
+function Mul
+in x 1
+in y 1
+out z 1 = mul(x[0],y[0])
+end
+graph Cell
+in v 1
+in w 1
+in acc 1
+out r 1
+ref p Add
+ref q Mul
+edge acc p.x
+edge v p.y
+edge p.z q.x
+edge w q.y
+edge q.z r
+end
+repeat Chain 4 Cell
+fork v v
+diffuse w w
+iterate z acc r t
+join r p
+end
+graph main
+ref s Sense
+ref w Two
+ref z Ten
+ref c Chain
+ref a One
+ref b Four
+edge s.o c.v
+edge w.o c.w
+edge z.o c.z
+edge c.t a.i
+edge c.p b.i
+end
+";
 
-/// Where the pairs begin: of the sums and of the received products on the first operator, and of the received
-/// sums and of the products on the second.
-const SUMS: u32 = 0;
-
-const PRODUCTS_THERE: u32 = 4;
-
-const SUMS_THERE: u32 = 8;
-
-const PRODUCTS: u32 = 12;
-
-fn constant(alloc: Global, value: i64) -> Result<Kind, Fail> {
-    Ok(Kind::Constant(Items::new(vec![in alloc; value]?)))
-}
-
-/// The sum and the product of each copy.
-fn push_copies(alloc: Global, all: &mut Vec<Vertex>) -> Result<(), Fail> {
-    let mut last = of(2);
-    let mut next: u32 = 4;
-    let mut port: u32 = 0;
-    for (sum, product) in NAMES {
-        let part = Source { vertex: 3, port };
-        all.push(vertex(alloc, sum, Kind::Function(0), &[last, part], &[1])?)?;
-        all.push(vertex(alloc, product, Kind::Function(1), &[of(next), of(1)], &[1])?)?;
-        last = of(next.saturating_add(1));
-        next = next.saturating_add(2);
-        port = port.saturating_add(1);
-    }
-    Ok(())
-}
-
-fn vertices(alloc: Global) -> Result<Vec<Vertex>, Fail> {
-    let mut all = Vec::new(alloc);
-    all.push(vertex(alloc, b"s", Kind::Sensor(0), &[], &[4])?)?;
-    all.push(vertex(alloc, b"w", constant(alloc, 2)?, &[], &[1])?)?;
-    all.push(vertex(alloc, b"z", constant(alloc, 10)?, &[], &[1])?)?;
-    all.push(vertex(alloc, b"c:v", Kind::Explode, &[of(0)], &[1, 1, 1, 1])?)?;
-    push_copies(alloc, &mut all)?;
-    let products = [of(5), of(7), of(9), of(11)];
-    all.push(vertex(alloc, b"c:p", Kind::Implode, &products, &[4])?)?;
-    all.push(vertex(alloc, b"a", Kind::Actuator(0), &[of(11)], &[])?)?;
-    all.push(vertex(alloc, b"b", Kind::Actuator(1), &[of(12)], &[])?)?;
-    Ok(all)
-}
-
-fn graph(rt: &impl Abort, alloc: Global) -> Result<Flat, Fail> {
-    let added = sum(alloc, first_element(alloc, 0)?, first_element(alloc, 1)?)?;
-    let left = Box::new(alloc, first_element(alloc, 0)?)?;
-    let right = Box::new(alloc, first_element(alloc, 1)?)?;
-    let multiplied = Body::new(alloc, vec![in alloc; Expr::Apply(Op::Mul, left, right)]?)?;
-    Ok(flat(rt, vertices(alloc)?, vec![in alloc; added, multiplied]?))
-}
-
-/// Tells of four pairs that their buffers are empty.
-fn push_empty(turn: &mut Vec<Instr>, pairs: u32) -> Result<(), Fail>
-    requires { pairs < 16 }
-{
-    for copy in 0..4 {
-        turn.push(Instr::Pre0(pairs + copy))?;
-    }
-    Ok(())
-}
-
-fn opened(alloc: Global, pairs: u32) -> Result<Vec<Instr>, Fail>
-    requires { pairs < 16 }
-{
-    let mut prologue = Vec::new(alloc);
-    push_empty(&mut prologue, pairs)?;
-    Ok(prologue)
-}
-
-/// Sums the result of the copy before, or the constant, with the part of this one.
-fn push_sum(alloc: Global, turn: &mut Vec<Instr>, copy: u32) -> Result<(), Fail>
-    requires { copy < 4 }
-{
-    if copy > 0 {
-        turn.push(Instr::Suc1(PRODUCTS_THERE + copy - 1))?;
-    }
-    turn.push(Instr::Suc0(SUMS + copy))?;
-    let last = if copy == 0 { 1 } else { 9 + copy };
-    turn.push(call(alloc, 4 + 2 * copy, &[last, 2 + copy], &[6 + copy])?)?;
-    turn.push(Instr::Pre1(SUMS + copy))?;
-    Ok(())
-}
-
-fn first_computation(alloc: Global) -> Result<SeqCode, Fail> {
-    let mut turn = Vec::new(alloc);
-    turn.push(call(alloc, 0, &[], &[0])?)?;
-    turn.push(call(alloc, 2, &[], &[1])?)?;
-    turn.push(call(alloc, 3, &[0], &[2, 3, 4, 5])?)?;
-    for copy in 0..4 {
-        push_sum(alloc, &mut turn, copy)?;
-    }
-    turn.push(Instr::Suc1(PRODUCTS_THERE + 3))?;
-    turn.push(call(alloc, 12, &[10, 11, 12, 13], &[14])?)?;
-    turn.push(call(alloc, 13, &[13], &[])?)?;
-    push_empty(&mut turn, PRODUCTS_THERE)?;
-    turn.push(call(alloc, 14, &[14], &[])?)?;
-    Ok(code(0, None, opened(alloc, PRODUCTS_THERE)?, turn))
-}
-
-fn second_computation(alloc: Global) -> Result<SeqCode, Fail> {
-    let mut turn = Vec::new(alloc);
-    turn.push(call(alloc, 1, &[], &[15])?)?;
-    for copy in 0..4 {
-        turn.push(Instr::Suc1(SUMS_THERE + copy))?;
-        turn.push(Instr::Suc0(PRODUCTS + copy))?;
-        turn.push(call(alloc, 5 + 2 * copy, &[16 + copy, 15], &[20 + copy])?)?;
-        turn.push(Instr::Pre0(SUMS_THERE + copy))?;
-        turn.push(Instr::Pre1(PRODUCTS + copy))?;
-    }
-    Ok(code(1, None, opened(alloc, SUMS_THERE)?, turn))
-}
-
-fn push_send(turn: &mut Vec<Instr>, pair: u32, buffer: u32, to: u32) -> Result<(), Fail> {
-    turn.push(Instr::Suc1(pair))?;
-    turn.push(Instr::Send { buffer, to })?;
-    turn.push(Instr::Pre0(pair))?;
-    Ok(())
-}
-
-fn push_receive(turn: &mut Vec<Instr>, pair: u32, buffer: u32, from: u32) -> Result<(), Fail> {
-    turn.push(Instr::Suc0(pair))?;
-    turn.push(Instr::Recv { buffer, from })?;
-    turn.push(Instr::Pre1(pair))?;
-    Ok(())
-}
-
-fn first_communicator(alloc: Global) -> Result<SeqCode, Fail> {
-    let mut turn = Vec::new(alloc);
-    for copy in 0..4 {
-        push_send(&mut turn, SUMS + copy, 6 + copy, 1)?;
-        push_receive(&mut turn, PRODUCTS_THERE + copy, 10 + copy, 1)?;
-    }
-    Ok(code(0, Some(0), opened(alloc, SUMS)?, turn))
-}
-
-fn second_communicator(alloc: Global) -> Result<SeqCode, Fail> {
-    let mut turn = Vec::new(alloc);
-    for copy in 0..4 {
-        push_receive(&mut turn, SUMS_THERE + copy, 16 + copy, 0)?;
-        push_send(&mut turn, PRODUCTS + copy, 20 + copy, 0)?;
-    }
-    Ok(code(1, Some(0), opened(alloc, PRODUCTS)?, turn))
-}
-
-/// The sensor's buffer, those of the constant, the parts, the sums and the products on the first operator, and
-/// that of all products; and on the second the constant, the sums and the products.
-fn buffers(alloc: Global) -> Result<Vec<Buffer>, Fail> {
-    let four = Buffer {
-        operator: 0,
-        len: 4,
-        depth: 1,
-    };
-    let mut all = vec![in alloc; four]?;
-    for _ in 1..14 {
-        all.push(on(0, 1))?;
-    }
-    all.push(four)?;
-    for _ in 15..24 {
-        all.push(on(1, 1))?;
-    }
-    Ok(all)
-}
-
-fn program(alloc: Global) -> Result<Program, Fail> {
-    let pairs = [0, 0, 0, 0, 0, 0, 0, 0, 1, 1, 1, 1, 1, 1, 1, 1];
-    let mut seqs = Vec::new(alloc);
-    seqs.push(first_computation(alloc)?)?;
-    seqs.push(first_communicator(alloc)?)?;
-    seqs.push(second_computation(alloc)?)?;
-    seqs.push(second_communicator(alloc)?)?;
-    Ok(Program {
-        buffers: Items::new(buffers(alloc)?),
-        pairs: Items::new(Vec::from_slice(alloc, &pairs)?),
-        seqs: Items::new(seqs),
-    })
-}
+/// On the first operator stand the sensor, the copies' parts, the sums and the received products, on the second
+/// the received sums and the products.
+const CODE: &[u8] = b"processor_(P)
+semaphores_(0,1,2,3,4,5,6,7)
+alloc_(b0,4)
+alloc_(b1,1)
+alloc_(b2,1)
+alloc_(b3,1)
+alloc_(b4,1)
+alloc_(b5,1)
+alloc_(b6,1)
+alloc_(b7,1)
+alloc_(b8,1)
+alloc_(b9,1)
+alloc_(b10,1)
+alloc_(b11,1)
+alloc_(b12,1)
+alloc_(b13,1)
+alloc_(b14,4)
+thread_(bus)
+Pre0_(0)
+Pre0_(1)
+Pre0_(2)
+Pre0_(3)
+loop_
+Suc1_(0)
+send_(b6,Q)
+Pre0_(0)
+Suc0_(4)
+recv_(b10,Q)
+Pre1_(4)
+Suc1_(1)
+send_(b7,Q)
+Pre0_(1)
+Suc0_(5)
+recv_(b11,Q)
+Pre1_(5)
+Suc1_(2)
+send_(b8,Q)
+Pre0_(2)
+Suc0_(6)
+recv_(b12,Q)
+Pre1_(6)
+Suc1_(3)
+send_(b9,Q)
+Pre0_(3)
+Suc0_(7)
+recv_(b13,Q)
+Pre1_(7)
+endloop_
+endthread_
+main_
+spawn_thread_(bus)
+Pre0_(4)
+Pre0_(5)
+Pre0_(6)
+Pre0_(7)
+loop_
+op s(;b0)
+op z(;b1)
+op c:v(b0;b2,b3,b4,b5)
+Suc0_(0)
+op c.0/p(b1,b2;b6)
+Pre1_(0)
+Suc1_(4)
+Suc0_(1)
+op c.1/p(b10,b3;b7)
+Pre1_(1)
+Suc1_(5)
+Suc0_(2)
+op c.2/p(b11,b4;b8)
+Pre1_(2)
+Suc1_(6)
+Suc0_(3)
+op c.3/p(b12,b5;b9)
+Pre1_(3)
+Suc1_(7)
+op c:p(b10,b11,b12,b13;b14)
+op a(b13;)
+Pre0_(4)
+Pre0_(5)
+Pre0_(6)
+Pre0_(7)
+op b(b14;)
+endloop_
+wait_endthread_(bus)
+endmain_
+processor_(Q)
+semaphores_(8,9,10,11,12,13,14,15)
+alloc_(b15,1)
+alloc_(b16,1)
+alloc_(b17,1)
+alloc_(b18,1)
+alloc_(b19,1)
+alloc_(b20,1)
+alloc_(b21,1)
+alloc_(b22,1)
+alloc_(b23,1)
+thread_(bus)
+Pre0_(12)
+Pre0_(13)
+Pre0_(14)
+Pre0_(15)
+loop_
+Suc0_(8)
+recv_(b16,P)
+Pre1_(8)
+Suc1_(12)
+send_(b20,P)
+Pre0_(12)
+Suc0_(9)
+recv_(b17,P)
+Pre1_(9)
+Suc1_(13)
+send_(b21,P)
+Pre0_(13)
+Suc0_(10)
+recv_(b18,P)
+Pre1_(10)
+Suc1_(14)
+send_(b22,P)
+Pre0_(14)
+Suc0_(11)
+recv_(b19,P)
+Pre1_(11)
+Suc1_(15)
+send_(b23,P)
+Pre0_(15)
+endloop_
+endthread_
+main_
+spawn_thread_(bus)
+Pre0_(8)
+Pre0_(9)
+Pre0_(10)
+Pre0_(11)
+loop_
+op w(;b15)
+Suc1_(8)
+Suc0_(12)
+op c.0/q(b16,b15;b20)
+Pre0_(8)
+Pre1_(12)
+Suc1_(9)
+Suc0_(13)
+op c.1/q(b17,b15;b21)
+Pre0_(9)
+Pre1_(13)
+Suc1_(10)
+Suc0_(14)
+op c.2/q(b18,b15;b22)
+Pre0_(10)
+Pre1_(14)
+Suc1_(11)
+Suc0_(15)
+op c.3/q(b19,b15;b23)
+Pre0_(11)
+Pre1_(15)
+endloop_
+wait_endthread_(bus)
+endmain_
+";
 
 /// Each copy's sum goes over the bus, and its product back; then the first operator goes on.
-fn order(alloc: Global) -> Result<Vec<u32>, Fail> {
-    let there = [1, 1, 1, 3, 3, 3];
-    let back = [2, 2, 2, 2, 2, 3, 3, 3, 1, 1, 1];
-    let mut all = Vec::from_slice(alloc, &[2, 0, 0, 0, 0, 0, 0])?;
-    for copy in 0..4 {
-        all.extend_from_slice(&there)?;
-        all.extend_from_slice(&back)?;
-        let on: &[u32] = if copy < 3 { &[0; 4] } else { &[0; 8] };
-        all.extend_from_slice(on)?;
-    }
-    Ok(all)
-}
-
-/// One row, in which the sensor gives 1, 2, 3 and 4.
-fn sensed(rt: &impl Abort, alloc: Global, flat: &Flat) -> Result<SensorRows, Fail>
-    ensures { IfOk result (λ rows. rows.lens ≡ sensor_lens flat.now.vertices) }
-{
-    let lens = sensor_lens(alloc, flat)?;
-    assert_eq!(rt; lens.as_slice(), [4].as_slice());
-    let mut rows = SensorRows::new(alloc, lens.as_slice())?;
-    rows.push(&[1, 2, 3, 4])?;
-    Ok(rows)
-}
+const TEXTS: Texts = Texts {
+    algorithm: ALGORITHM,
+    architecture: BUS,
+    code: CODE,
+    order: &[
+        2, 0, 0, 0, 0, 0, 0, 1, 1, 1, 3, 3, 3, 2, 2, 2, 2, 2, 3, 3, 3, 1, 1, 1, 0, 0, 0, 0, 1, 1,
+        1, 3, 3, 3, 2, 2, 2, 2, 2, 3, 3, 3, 1, 1, 1, 0, 0, 0, 0, 1, 1, 1, 3, 3, 3, 2, 2, 2, 2, 2,
+        3, 3, 3, 1, 1, 1, 0, 0, 0, 0, 1, 1, 1, 3, 3, 3, 2, 2, 2, 2, 2, 3, 3, 3, 1, 1, 1, 0, 0, 0,
+        0, 0, 0, 0, 0,
+    ],
+    rows: &[&[1, 2, 3, 4]],
+};
 
 fn run_job<R: Abort + Threads + Wait + Sync>(
     rt: &R,
@@ -252,27 +262,10 @@ fn run_job<R: Abort + Threads + Wait + Sync>(
 
 #[test]
 fn each_copy_takes_the_result_of_the_one_before(rt: HostRuntime) -> Result<(), Fail> {
-    let alloc = rt.alloc();
-    let flat = graph(&rt, alloc)?;
-    let archi = two_operators(&rt, alloc)?;
-    let (program, order) = (program(alloc)?, order(alloc)?);
-    let rows = sensed(&rt, alloc, &flat)?;
-    let opening = opening_of(alloc, &flat)?;
-    match job(
-        &rt,
-        &program,
-        &flat,
-        &archi,
-        &rows,
-        opening,
-        order.as_slice(),
-    ) {
-        Ok(job) => {
-            for by in [By::Alone, By::Workers(1), By::Workers(4)] {
-                run_job(&rt, alloc, &job, by)?;
-            }
-            Ok(())
-        }
-        Err(_) => panic!(rt; "a limit"),
+    let worked = Worked::read(&rt, rt.alloc(), &TEXTS)?;
+    let job = worked.job(&rt, rt.alloc(), TEXTS.order)?;
+    for by in [By::Alone, By::Workers(1), By::Workers(4)] {
+        run_job(&rt, rt.alloc(), &job, by)?;
     }
+    Ok(())
 }

@@ -1,9 +1,10 @@
 //! A job run to its end by threads, and by one driver alone: its rows, counts and words are the same whoever
 //! drives, a sequence that waits at the gate holds no other worker up, and the gate is asked once for each step.
-use crate::two_operators::{ORDER, expect, graph_of_two, job, program, sensed, two_operators};
+use crate::texts::Worked;
+use crate::two_operators::{TAKEN, TEXTS, expect};
 use executive_run::{prepare, run_alone, run_ready};
 use outside::{Gate, GateFree};
-use semaphore_core::{Job, opening_of};
+use semaphore_core::Job;
 use std::alloc::Global;
 use std::process::Abort;
 use std::sync::Wait;
@@ -50,7 +51,7 @@ fn run_job<R: Abort + Threads + Wait + Sync, G: Gate>(
     assert_eq!(rt; driven.number(), 71);
     assert_eq!(rt; driven.counts(), [18, 19, 16, 18].as_slice());
     assert_eq!(rt; driven.words(), [1, 0, 1, 0, 6, 0, 1, 0, 1, 0].as_slice());
-    expect(rt, closed.rows(), &[[6, 6], [0, 0], [1, 1]]);
+    expect(rt, closed.rows(), &TAKEN);
     Ok(())
 }
 
@@ -61,15 +62,9 @@ fn run<R: Abort + Threads + Wait + Sync, G: Gate>(
     gate: &G,
     by: By,
 ) -> Result<(), Fail> {
-    let flat = graph_of_two(rt, alloc)?;
-    let archi = two_operators(rt, alloc)?;
-    let program = program(alloc, 1)?;
-    let rows = sensed(rt, alloc, &flat)?;
-    let opening = opening_of(alloc, &flat)?;
-    match job(rt, &program, &flat, &archi, &rows, opening, &ORDER) {
-        Ok(job) => run_job(rt, alloc, &job, gate, by),
-        Err(_) => panic!(rt; "a limit"),
-    }
+    let worked = Worked::read(rt, alloc, &TEXTS)?;
+    let job = worked.job(rt, alloc, TEXTS.order)?;
+    run_job(rt, alloc, &job, gate, by)
 }
 
 #[test]

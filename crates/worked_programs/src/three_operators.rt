@@ -1,146 +1,230 @@
 //! A run in which a computation runs ahead of two communicators: a program for three operators, of which
 //! the first sends what its sensor gives to each other one over a medium of its own.
-ghost use Rattle.std.specs.Prelude.{◌≡◌, IfOk};
-ghost use Rattle.flat_graph.specs.Laws.{sensor_lens};
+ghost use Rattle.std.specs.Prelude.{◌≡◌};
 ghost use Rattle.semaphore_core.specs.Held.{IsOpened};
 ghost use Rattle.word_table.specs.Driver.{AreDrivers};
 
-use crate::two_operators::{
-    archi, call, code, first_element, flat, job, make, of, on, opening, sum, vertex,
-};
-use archi_graph::{Archi, Medium};
-use body_lang::Expr;
-use executive_program::{Instr, Program, SeqCode};
-use flat_graph::{Flat, Kind, Vertex};
-use semaphore_core::{Job, State, StepAnswer, opening_of, sensor_lens, try_step};
+use crate::texts::{Texts, Worked};
+use crate::two_operators::make;
+use semaphore_core::{Job, State, StepAnswer, try_step};
 use std::alloc::Global;
 use std::process::Abort;
 use std::test::Fail;
-use syn_base::{Items, Name, SensorRows};
 use word_table::{Driver, Fabric, MicroAnswer, weave};
 
-const ORDER: [u32; 27] = [
-    0, 0, 0, 0, 0, 1, 1, 1, 2, 2, 2, 4, 4, 4, 6, 6, 6, 0, 0, 3, 3, 3, 3, 5, 5, 5, 5,
-];
+const ALGORITHM: &[u8] = b"algorithm 1
+sensor Sense 1
+actuator Act 1
+function OneMore
+in x 1
+out y 1 = add(x[0],1)
+end
+graph main
+ref s Sense
+ref f OneMore
+ref g OneMore
+ref h OneMore
+ref a Act
+ref b Act
+ref c Act
+edge s.o f.x
+edge s.o g.x
+edge s.o h.x
+edge f.y a.i
+edge g.y b.i
+edge h.y c.i
+end
+";
 
-fn joining(alloc: Global, name: &[u8], far: u32) -> Result<Medium, Fail> {
-    Ok(Medium {
-        name: Name::new(alloc, name)?,
-        multi: false,
-        fixed: 1,
-        per: 1,
-        stands: Items::new(Vec::from_slice(alloc, &[0, far])?),
-    })
-}
+const ARCHITECTURE: &[u8] = b"architecture 1
+operator P
+operator Q
+operator R
+medium x p2p 1 1
+medium y p2p 1 1
+connect x P
+connect x Q
+connect y P
+connect y R
+";
 
-fn operators(alloc: Global) -> Result<Vec<Name>, Fail> {
-    let mut operators = Vec::new(alloc);
-    operators.push(Name::new(alloc, b"P")?)?;
-    operators.push(Name::new(alloc, b"Q")?)?;
-    operators.push(Name::new(alloc, b"R")?)?;
-    Ok(operators)
-}
+const CODE: &[u8] = b"processor_(P)
+semaphores_(0,1)
+alloc_(b0,1)
+alloc_(b5,1)
+thread_(x)
+Pre0_(0)
+loop_
+Suc1_(0)
+send_(b0,Q)
+Pre0_(0)
+endloop_
+endthread_
+thread_(y)
+Pre0_(1)
+loop_
+Suc1_(1)
+send_(b0,R)
+Pre0_(1)
+endloop_
+endthread_
+main_
+spawn_thread_(x)
+spawn_thread_(y)
+loop_
+Suc0_(0)
+Suc0_(1)
+op s(;b0)
+Pre1_(0)
+Pre1_(1)
+op f(b0;b5)
+op a(b5;)
+endloop_
+wait_endthread_(x)
+wait_endthread_(y)
+endmain_
+processor_(Q)
+semaphores_(2)
+alloc_(b1,1)
+alloc_(b3,1)
+thread_(x)
+loop_
+Suc0_(2)
+recv_(b1,P)
+Pre1_(2)
+endloop_
+endthread_
+main_
+spawn_thread_(x)
+Pre0_(2)
+loop_
+Suc1_(2)
+op g(b1;b3)
+Pre0_(2)
+op b(b3;)
+endloop_
+wait_endthread_(x)
+endmain_
+processor_(R)
+semaphores_(3)
+alloc_(b2,1)
+alloc_(b4,1)
+thread_(y)
+loop_
+Suc0_(3)
+recv_(b2,P)
+Pre1_(3)
+endloop_
+endthread_
+main_
+spawn_thread_(y)
+Pre0_(3)
+loop_
+Suc1_(3)
+op h(b2;b4)
+Pre0_(3)
+op c(b4;)
+endloop_
+wait_endthread_(y)
+endmain_
+";
 
-fn media(alloc: Global) -> Result<Vec<Medium>, Fail> {
-    let mut media = Vec::new(alloc);
-    media.push(joining(alloc, b"x", 1)?)?;
-    media.push(joining(alloc, b"y", 2)?)?;
-    Ok(media)
-}
+const CODE_OF_TWO_PLACES: &[u8] = b"processor_(P)
+semaphores_(0,1)
+alloc_(b0,1,2)
+alloc_(b5,1)
+thread_(x)
+Pre0_(0)
+Pre0_(0)
+loop_
+Suc1_(0)
+send_(b0,Q)
+Pre0_(0)
+endloop_
+endthread_
+thread_(y)
+Pre0_(1)
+Pre0_(1)
+loop_
+Suc1_(1)
+send_(b0,R)
+Pre0_(1)
+endloop_
+endthread_
+main_
+spawn_thread_(x)
+spawn_thread_(y)
+loop_
+Suc0_(0)
+Suc0_(1)
+op s(;b0)
+Pre1_(0)
+Pre1_(1)
+op f(b0;b5)
+op a(b5;)
+endloop_
+wait_endthread_(x)
+wait_endthread_(y)
+endmain_
+processor_(Q)
+semaphores_(2)
+alloc_(b1,1,2)
+alloc_(b3,1)
+thread_(x)
+loop_
+Suc0_(2)
+recv_(b1,P)
+Pre1_(2)
+endloop_
+endthread_
+main_
+spawn_thread_(x)
+Pre0_(2)
+Pre0_(2)
+loop_
+Suc1_(2)
+op g(b1;b3)
+Pre0_(2)
+op b(b3;)
+endloop_
+wait_endthread_(x)
+endmain_
+processor_(R)
+semaphores_(3)
+alloc_(b2,1,2)
+alloc_(b4,1)
+thread_(y)
+loop_
+Suc0_(3)
+recv_(b2,P)
+Pre1_(3)
+endloop_
+endthread_
+main_
+spawn_thread_(y)
+Pre0_(3)
+Pre0_(3)
+loop_
+Suc1_(3)
+op h(b2;b4)
+Pre0_(3)
+op c(b4;)
+endloop_
+wait_endthread_(y)
+endmain_
+";
 
-fn vertices(alloc: Global) -> Result<Vec<Vertex>, Fail> {
-    let mut all = Vec::new(alloc);
-    all.push(vertex(alloc, b"s", Kind::Sensor(0), &[], &[1])?)?;
-    all.push(vertex(alloc, b"f", Kind::Function(0), &[of(0)], &[1])?)?;
-    all.push(vertex(alloc, b"g", Kind::Function(0), &[of(0)], &[1])?)?;
-    all.push(vertex(alloc, b"h", Kind::Function(0), &[of(0)], &[1])?)?;
-    all.push(vertex(alloc, b"a", Kind::Actuator(0), &[of(1)], &[])?)?;
-    all.push(vertex(alloc, b"b", Kind::Actuator(1), &[of(2)], &[])?)?;
-    all.push(vertex(alloc, b"c", Kind::Actuator(2), &[of(3)], &[])?)?;
-    Ok(all)
-}
-
-fn first(alloc: Global) -> Result<SeqCode, Fail> {
-    let mut turn = Vec::new(alloc);
-    turn.push(Instr::Suc0(0))?;
-    turn.push(Instr::Suc0(1))?;
-    turn.push(call(alloc, 0, &[], &[0])?)?;
-    turn.push(Instr::Pre1(0))?;
-    turn.push(Instr::Pre1(1))?;
-    turn.push(call(alloc, 1, &[0], &[5])?)?;
-    turn.push(call(alloc, 4, &[5], &[])?)?;
-    Ok(code(0, None, Vec::new(alloc), turn))
-}
-
-/// Sends the sensor's buffer over a medium to an operator.
-fn sender(alloc: Global, medium: u32, to: u32, depth: u32) -> Result<SeqCode, Fail> {
-    let mut turn = Vec::new(alloc);
-    turn.push(Instr::Suc1(medium))?;
-    turn.push(Instr::Send { buffer: 0, to })?;
-    turn.push(Instr::Pre0(medium))?;
-    let prologue = opening(alloc, medium, depth)?;
-    Ok(code(0, Some(medium), prologue, turn))
-}
-
-/// Receives over a medium on an operator into the buffer of its number.
-fn receiver(alloc: Global, operator: u32, medium: u32, pair: u32) -> Result<SeqCode, Fail> {
-    let mut turn = Vec::new(alloc);
-    turn.push(Instr::Suc0(pair))?;
-    turn.push(Instr::Recv {
-        buffer: operator,
-        from: 0,
-    })?;
-    turn.push(Instr::Pre1(pair))?;
-    Ok(code(operator, Some(medium), Vec::new(alloc), turn))
-}
-
-/// On an operator a function of what was received, into a buffer, and its actuator.
-fn reader(
-    alloc: Global,
-    operator: u32,
-    pair: u32,
-    function: Instr,
-    actuator: Instr,
-    depth: u32,
-) -> Result<SeqCode, Fail> {
-    let mut turn = Vec::new(alloc);
-    turn.push(Instr::Suc1(pair))?;
-    turn.push(function)?;
-    turn.push(Instr::Pre0(pair))?;
-    turn.push(actuator)?;
-    let prologue = opening(alloc, pair, depth)?;
-    Ok(code(operator, None, prologue, turn))
-}
-
-fn sequences(alloc: Global, depth: u32) -> Result<Vec<SeqCode>, Fail> {
-    let mut all = Vec::new(alloc);
-    all.push(first(alloc)?)?;
-    all.push(sender(alloc, 0, 1, depth)?)?;
-    all.push(sender(alloc, 1, 2, depth)?)?;
-    let (g, b) = (call(alloc, 2, &[1], &[3])?, call(alloc, 5, &[3], &[])?);
-    all.push(reader(alloc, 1, 2, g, b, depth)?)?;
-    all.push(receiver(alloc, 1, 0, 2)?)?;
-    let (h, c) = (call(alloc, 3, &[2], &[4])?, call(alloc, 6, &[4], &[])?);
-    all.push(reader(alloc, 2, 3, h, c, depth)?)?;
-    all.push(receiver(alloc, 2, 1, 3)?)?;
-    Ok(all)
-}
-
-fn program(alloc: Global, depth: u32) -> Result<Program, Fail> {
-    let buffers = [
-        on(0, depth),
-        on(1, depth),
-        on(2, depth),
-        on(1, 1),
-        on(2, 1),
-        on(0, 1),
-    ];
-    Ok(Program {
-        buffers: Items::new(Vec::from_slice(alloc, &buffers)?),
-        pairs: Items::new(Vec::from_slice(alloc, &[0, 0, 1, 2])?),
-        seqs: Items::new(sequences(alloc, depth)?),
-    })
-}
+/// The program, with what its sensor gives. In its order the sensor comes first, then both transfers, the first
+/// operator's function and actuator, and those of the others.
+const TEXTS: Texts = Texts {
+    algorithm: ALGORITHM,
+    architecture: ARCHITECTURE,
+    code: CODE,
+    order: &[
+        0, 0, 0, 0, 0, 1, 1, 1, 2, 2, 2, 4, 4, 4, 6, 6, 6, 0, 0, 3, 3, 3, 3, 5, 5, 5, 5,
+    ],
+    rows: &[&[5], &[7], &[9]],
+};
 
 /// Makes this many micro-steps of a sequence.
 fn make_all(rt: &impl Abort, job: &Job, state: &mut State, seq: u32, times: u32)
@@ -152,13 +236,13 @@ fn make_all(rt: &impl Abort, job: &Job, state: &mut State, seq: u32, times: u32)
     }
 }
 
-/// The next micro-step of the first sequence is not enabled.
-fn wait(rt: &impl Abort, job: &Job, state: &mut State)
+/// The next micro-step of a sequence is not enabled.
+pub(crate) fn wait(rt: &impl Abort, job: &Job, state: &mut State, seq: u32)
     requires { IsOpened job.now state.old }
     ensures { IsOpened job.now state.new }
 {
-    assert!(rt; 0 < job.sequences());
-    assert_eq!(rt; try_step(job, state, 0), StepAnswer::NotYet);
+    assert!(rt; seq < job.sequences());
+    assert_eq!(rt; try_step(job, state, seq), StepAnswer::NotYet);
 }
 
 /// Micro-steps of the first operator's sequences in one reaction, and of a take.
@@ -177,13 +261,12 @@ fn run_ahead(rt: &impl Abort, alloc: Global, job: &Job, ahead: Ahead) -> Result<
     let mut state = State::new(alloc, job)?;
     make_all(rt, job, &mut state, 1, ahead.depth);
     make_all(rt, job, &mut state, 2, ahead.depth);
-    for _ in 0..ahead.depth {
-        make_all(rt, job, &mut state, 0, ahead.computation);
-    }
-    wait(rt, job, &mut state);
+    let computation = ahead.depth.saturating_mul(ahead.computation);
+    make_all(rt, job, &mut state, 0, computation);
+    wait(rt, job, &mut state, 0);
     make_all(rt, job, &mut state, 1, ahead.communicator);
     make_all(rt, job, &mut state, 0, ahead.take);
-    wait(rt, job, &mut state);
+    wait(rt, job, &mut state, 0);
     Ok(())
 }
 
@@ -240,50 +323,11 @@ fn run_ahead_on_words(rt: &impl Abort, alloc: Global, job: &Job, ahead: Ahead) -
     Ok(())
 }
 
-/// Rows in which the one sensor gives 5, 7 and 9.
-fn sensed(rt: &impl Abort, alloc: Global, flat: &Flat) -> Result<SensorRows, Fail>
-    ensures { IfOk result (λ rows. rows.lens ≡ sensor_lens flat.now.vertices) }
-{
-    let lens = sensor_lens(alloc, flat)?;
-    assert_eq!(rt; lens.as_slice(), [1].as_slice());
-    let mut rows = SensorRows::new(alloc, lens.as_slice())?;
-    rows.push(&[5])?;
-    rows.push(&[7])?;
-    rows.push(&[9])?;
-    Ok(rows)
-}
-
-fn run(
-    rt: &impl Abort,
-    alloc: Global,
-    program: &Program,
-    flat: &Flat,
-    archi: &Archi,
-    ahead: Ahead,
-) -> Result<(), Fail> {
-    let rows = sensed(rt, alloc, flat)?;
-    let opening = opening_of(alloc, flat)?;
-    match job(rt, program, flat, archi, &rows, opening, &ORDER) {
-        Ok(job) => {
-            run_ahead(rt, alloc, &job, ahead)?;
-            run_ahead_on_words(rt, alloc, &job, ahead)
-        }
-        Err(_) => panic!(rt; "a limit"),
-    }
-}
-
-fn run_all(rt: &impl Abort, alloc: Global, ahead: Ahead) -> Result<(), Fail> {
-    let one_more = sum(alloc, first_element(alloc, 0)?, Expr::Lit(1))?;
-    let flat = flat(rt, vertices(alloc)?, vec![in alloc; one_more]?);
-    let archi = archi(rt, operators(alloc)?, media(alloc)?);
-    run(
-        rt,
-        alloc,
-        &program(alloc, ahead.depth)?,
-        &flat,
-        &archi,
-        ahead,
-    )
+fn run(rt: &impl Abort, alloc: Global, texts: &Texts, ahead: Ahead) -> Result<(), Fail> {
+    let worked = Worked::read(rt, alloc, texts)?;
+    let job = worked.job(rt, alloc, texts.order)?;
+    run_ahead(rt, alloc, &job, ahead)?;
+    run_ahead_on_words(rt, alloc, &job, ahead)
 }
 
 #[test]
@@ -294,16 +338,20 @@ fn a_computation_runs_one_reaction_ahead(rt: HostRuntime) -> Result<(), Fail> {
         communicator: 6,
         take: 1,
     };
-    run_all(&rt, rt.alloc(), ahead)
+    run(&rt, rt.alloc(), &TEXTS, ahead)
 }
 
 #[test]
 fn with_two_places_it_runs_two_reactions_ahead(rt: HostRuntime) -> Result<(), Fail> {
+    let texts = Texts {
+        code: CODE_OF_TWO_PLACES,
+        ..TEXTS
+    };
     let ahead = Ahead {
         depth: 2,
         computation: 10,
         communicator: 7,
         take: 2,
     };
-    run_all(&rt, rt.alloc(), ahead)
+    run(&rt, rt.alloc(), &texts, ahead)
 }

@@ -1,0 +1,154 @@
+//! What a program runs on, made from texts: the flat graph of an algorithm, an architecture, macro-code and rows.
+ghost use Rattle.std.specs.Prelude.{◌≡◌, ◌≤◌, IfOk, length, sum};
+ghost use Rattle.flat_graph.specs.Laws.{sensor_lens};
+ghost use Rattle.path_text.specs.Bounded.{HasBounds};
+ghost use Rattle.path_text.specs.Named.{HasNames};
+
+use algo_defs::AlgoError;
+use algo_reader::read_algo;
+use algo_resolve::resolve;
+use algo_tree::Tree;
+use archi_graph::Archi;
+use archi_reader::{ArchiText, read_archi};
+use code_reader::read_code;
+use executive_program::Program;
+use flat_graph::Flat;
+use hierarchy::flatten;
+use order_check::is_order;
+use reading_laws::{accepted_are_few, accepted_are_well_read};
+use semaphore_core::{Job, opening_of, sensor_lens};
+use std::alloc::Global;
+use std::process::Abort;
+use std::test::Fail;
+use syn_base::{OutOfMemory, SensorRows, Shape};
+
+/// The texts of a program with a serial order of it, and what its sensors give, reaction by reaction.
+#[derive(Clone, Copy)]
+pub(crate) struct Texts<'a> {
+    pub(crate) algorithm: &'a [u8],
+    pub(crate) architecture: &'a [u8],
+    pub(crate) code: &'a [u8],
+    pub(crate) order: &'a [u32],
+    pub(crate) rows: &'a [&'a [i64]],
+}
+
+/// A program with what it runs on.
+#[derive(Drop)]
+pub(crate) struct Worked {
+    flat: Flat,
+    archi: Archi,
+    program: Program,
+    rows: SensorRows,
+    ghost lens: { rows.lens ≡ sensor_lens flat.vertices },
+}
+
+/// The tree of a text, or its first refusal.
+#[tactic(auto, using(algo_reader::proofs::LineCounts::lines_at_most))]
+fn resolved(alloc: Global, text: &[u8]) -> Result<Tree, AlgoError>
+    requires { length text.now ≤ 4000 }
+    ensures named { IfOk result (λ tree. HasNames tree) }
+    ensures bounded { IfOk result (λ tree. HasBounds tree) }
+{
+    let defs = read_algo(alloc, text)?;
+    accepted_are_well_read();
+    accepted_are_few();
+    resolve(alloc, &defs)
+}
+
+/// The flat graph of an algorithm.
+fn flat(alloc: Global, text: &[u8]) -> Result<Flat, Fail>
+    requires { length text.now ≤ 4000 }
+{
+    let tree = resolved(alloc, text)?;
+    Ok(flatten(alloc, &tree)?)
+}
+
+/// The architecture of a text, whatever its durations are.
+#[tactic(auto, using(algo_reader::proofs::LineCounts::lines_at_most))]
+fn archi(alloc: Global, text: &[u8]) -> Result<Archi, Fail>
+    requires { length text.now ≤ 4000 }
+{
+    let ArchiText { archi, .. } = read_archi(alloc, text)?;
+    Ok(archi)
+}
+
+/// The program of macro-code.
+#[tactic(auto, using(algo_reader::proofs::LineCounts::lines_at_most))]
+fn program(alloc: Global, text: &[u8], flat: &Flat, archi: &Archi) -> Result<Program, Fail>
+    requires { length text.now ≤ 4000 }
+{
+    Ok(read_code(alloc, text, flat, archi)?)
+}
+
+/// How many elements vectors of these lengths have.
+fn width(alloc: Global, lens: &[u32]) -> Result<usize, OutOfMemory>
+    ensures { IfOk result (λ elements. elements ≡ sum lens.now) }
+{
+    Ok(Shape::new(alloc, lens)?.width())
+}
+
+/// The same with these reactions more, each of this many elements.
+fn with_rows(
+    rt: &impl Abort,
+    mut sensed: SensorRows,
+    width: usize,
+    rows: &[&[i64]],
+) -> Result<SensorRows, Fail>
+    requires { sum sensed.lens ≡ width }
+    ensures { IfOk result (λ all. all.lens ≡ sensed.lens) }
+{
+    for row in rows {
+        assert_eq!(rt; row.len(), width);
+        sensed.push(row)?;
+    }
+    Ok(sensed)
+}
+
+/// What the sensors of a flat graph give.
+fn sensed(rt: &impl Abort, alloc: Global, flat: &Flat, rows: &[&[i64]]) -> Result<SensorRows, Fail>
+    ensures { IfOk result (λ sensed. sensed.lens ≡ sensor_lens flat.now.vertices) }
+{
+    let lens = sensor_lens(alloc, flat)?;
+    let width = width(alloc, lens.as_slice())?;
+    let none = SensorRows::new(alloc, lens.as_slice())?;
+    with_rows(rt, none, width, rows)
+}
+
+impl Worked {
+    /// The program of these texts with what it runs on.
+    pub(crate) fn read(rt: &impl Abort, alloc: Global, texts: &Texts) -> Result<Worked, Fail> {
+        assert!(rt; texts.algorithm.len() <= 4000);
+        assert!(rt; texts.architecture.len() <= 4000);
+        assert!(rt; texts.code.len() <= 4000);
+        let flat = flat(alloc, texts.algorithm)?;
+        let archi = archi(alloc, texts.architecture)?;
+        let program = program(alloc, texts.code, &flat, &archi)?;
+        let rows = sensed(rt, alloc, &flat, texts.rows)?;
+        Ok(Worked {
+            flat,
+            archi,
+            program,
+            rows,
+        })
+    }
+
+    /// The job of the program by a serial order.
+    pub(crate) fn job<'a>(
+        &'a self,
+        rt: &impl Abort,
+        alloc: Global,
+        order: &[u32],
+    ) -> Result<Job<'a>, Fail> {
+        let Worked {
+            flat,
+            archi,
+            program,
+            rows,
+            ..
+        } = self;
+        assert!(rt; is_order(program, flat, archi, order));
+        assert!(rt; rows.count() <= 10_000);
+        let opening = opening_of(alloc, flat)?;
+        Ok(Job::new(program, flat, archi, rows, opening)?)
+    }
+}
