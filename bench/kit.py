@@ -24,8 +24,9 @@ def rt():
 
 def names_alone(crates):
     """The crates each of which stands above or below nearly all others."""
-    above = {it.name: {other.name for other in crates if it in other.below()} for it in crates}
-    return {it.name for it in crates if len(it.below()) + len(above[it.name]) >= 0.95 * (len(crates) - 1)}
+    below = {it.name: {other.name for other in it.below()} for it in crates}
+    above = {name: [other for other in below if name in below[other]] for name in below}
+    return {name for name in below if len(below[name]) + len(above[name]) >= 0.95 * (len(below) - 1)}
 
 
 def main(words):
