@@ -253,7 +253,7 @@ fn index(name: &[u8], start: usize) -> Result<Read, Stop>
     }
 }
 
-/// An element of a port, whose number was read.
+/// The element of a port at the index that was read.
 fn element_at(alloc: Global, port: u32, unknown: Option<usize>, index: Read) -> Result<Read, Stop>
     ensures { Makes (plain.element port (view index.value)) index.next (option_or unknown index.unknown) result }
 {
@@ -275,7 +275,7 @@ fn negated(alloc: Global, a: Read) -> Result<Read, Stop>
     })
 }
 
-/// An operator over what was read, in this order.
+/// An operator over two parts that were read in this order.
 fn applied(alloc: Global, op: Op, a: Read, b: Read) -> Result<Read, Stop>
     ensures { Makes (plain.apply op (view a.value) (view b.value)) b.next (option_or a.unknown b.unknown) result }
 {
@@ -286,7 +286,7 @@ fn applied(alloc: Global, op: Op, a: Read, b: Read) -> Result<Read, Stop>
     })
 }
 
-/// One of two by a condition, which were read in this order.
+/// A selection by a condition, whose parts were read in this order.
 fn selected(alloc: Global, condition: Read, a: Read, b: Read) -> Result<Read, Stop>
     ensures { Makes (plain.select (view condition.value) (view a.value) (view b.value)) b.next (option_or (option_or condition.unknown a.unknown) b.unknown) result }
 {
