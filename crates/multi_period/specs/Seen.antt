@@ -4,11 +4,12 @@ use Rattle.level_meaning.specs.declared.source.Source.{Source}
 use Rattle.level_meaning.specs.declared.source.Source.TheVariants.{Of}
 use Rattle.level_meaning.specs.declared.part.Part.{Part}
 use Rattle.algo_tree.specs.Tree as plain
-use Rattle.algo_tree.specs.Tree.{Label, Kind, Vertices}
+use Rattle.algo_tree.specs.Tree.{Label, Kind, Vertices, no_vertices, and_vertex}
 use Rattle.algo_tree.specs.View.{label_view, vertices_view}
 use Rattle.algo_tree.specs.declared.vertex.Vertex.{Vertex, out-Vertex}
+use Rattle.multi_period.specs.declared.copies.Kept.{Kept}
 use Rattle.multi_period.specs.declared.ports.Ports.{Ports}
-use Rattle.multi_period.specs.Periods.{inputs_from, firsts}
+use Rattle.multi_period.specs.Periods.{inputs_from, firsts, when_runs, otherwise}
 
 abbrev pub label_seen : Vertex → Label
 label_seen u = label_view (out-Vertex u)
@@ -33,6 +34,12 @@ pub record ArePorts (p : Ports) (l : Label) : Type 0 where
   pub kept : p.kept ≡ suc (length l.ins)
   pub few : p.kept + p.outs < 2 ^ 32
 
+-- what a vertex with this label keeps
+pub record AreKept (k : Kept) (l : Label) : Type 0 where
+  pub definition : k.definition ≡ l.definition
+  pub outs : k.outs ≡ l.outs
+  pub names : k.names ≡ l.names
+
 -- a label of the same definition with the same outputs, without guards
 abbrev pub relabelled : Label → Part → List Source → Kind → Label
 relabelled l p ins k = record { part = p; definition = l.definition; ins = ins; guards = []; outs = l.outs; names = l.names; kind = k }
@@ -40,3 +47,7 @@ relabelled l p ins k = record { part = p; definition = l.definition; ins = ins; 
 -- the inputs of the switch after its count
 abbrev pub body_ins : ℕ → ℕ → List Source
 body_ins a q = Of 0 0 ∷ (inputs_from 0 a ++ firsts q)
+
+-- the cases of the switch
+abbrev pub both_cases : Label → Vertices → Vertices
+both_cases l us = and_vertex (when_runs l us) (and_vertex (otherwise l) no_vertices)

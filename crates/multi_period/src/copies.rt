@@ -2,7 +2,7 @@
 ghost use Rattle.std.specs.Prelude.{◌≡◌, [], IfOk, map};
 ghost use Rattle.algo_tree.specs.View.{kind_view, view};
 ghost use Rattle.multi_period.specs.Periods.{run as runs};
-ghost use Rattle.multi_period.specs.Seen.{ArePorts, label_seen, of_seen, relabelled as labelled, with_inner};
+ghost use Rattle.multi_period.specs.Seen.{AreKept, ArePorts, label_seen, of_seen, relabelled as labelled, with_inner};
 
 use crate::ports::{Ports, inputs_from};
 use algo_tree::{Kind, Vertex};
@@ -34,6 +34,28 @@ fn copied_each(alloc: Global, vertices: &Vec<Vertex>) -> Result<Vec<Vertex>, Out
     Ok(all)
 }
 
+/// What a vertex has whatever its part, its inputs and its kind.
+#[derive(Drop)]
+struct Kept {
+    definition: Items<u8>,
+    outs: Items<u32>,
+    names: Items<Items<u8>>,
+}
+
+/// Copies of what a vertex keeps.
+fn kept_of(alloc: Global, vertex: &Vertex) -> Result<Kept, OutOfMemory>
+    ensures { IfOk result (λ kept. AreKept kept (label_seen vertex.now)) }
+{
+    let definition = copy_bytes(alloc, vertex.definition.as_slice())?;
+    let outs = copy_lens(alloc, vertex.outs.as_slice())?;
+    let names = copy_names(alloc, vertex.names.as_slice())?;
+    Ok(Kept {
+        definition,
+        outs,
+        names,
+    })
+}
+
 /// What is said of a vertex, with these vertices inside.
 pub fn with_inside(
     alloc: Global,
@@ -42,13 +64,16 @@ pub fn with_inside(
 ) -> Result<Vertex, OutOfMemory>
     ensures { IfOk result (λ u. view u ≡ with_inner (label_seen vertex.now) inner.items) }
 {
+    let kept = kept_of(alloc, vertex)?;
     let part = copy_part(alloc, &vertex.part)?;
-    let definition = copy_bytes(alloc, vertex.definition.as_slice())?;
     let ins = copy_sources(alloc, vertex.ins.as_slice())?;
     let guards = copy_guards(alloc, vertex.guards.as_slice())?;
-    let outs = copy_lens(alloc, vertex.outs.as_slice())?;
-    let names = copy_names(alloc, vertex.names.as_slice())?;
     let kind = copy_kind(alloc, &vertex.kind)?;
+    let Kept {
+        definition,
+        outs,
+        names,
+    } = kept;
     Ok(Vertex {
         part,
         definition,
@@ -73,9 +98,11 @@ pub fn relabelled(
     ensures { let label = labelled (label_seen vertex.now) part ins (kind_view kind) in
         IfOk result (λ u. view u ≡ with_inner label inner.items) }
 {
-    let definition = copy_bytes(alloc, vertex.definition.as_slice())?;
-    let outs = copy_lens(alloc, vertex.outs.as_slice())?;
-    let names = copy_names(alloc, vertex.names.as_slice())?;
+    let Kept {
+        definition,
+        outs,
+        names,
+    } = kept_of(alloc, vertex)?;
     Ok(Vertex {
         part,
         definition,

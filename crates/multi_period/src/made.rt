@@ -1,9 +1,10 @@
 //! The vertices of the graph that a marked reference becomes.
 ghost use Rattle.std.specs.Prelude.{◌≡◌, ◌≤◌, ◌<◌, ◌+◌, ◌^◌, IfOk, map, pos, replicate, slice_index_or, [], ◌∷◌};
 ghost use Rattle.level_meaning.specs.Level.{zeros as zeroed};
+ghost use Rattle.algo_tree.specs.Tree.{switch};
 ghost use Rattle.algo_tree.specs.View.{kind_view, view, vertices_view};
 ghost use Rattle.multi_period.specs.Periods.{body as bodied, count as counted, keep as kept, keep_name as kept_name, made as vertex_made, otherwise as kept_on, period as perioded, parts as perioded_parts, turns as turned, when_runs as runs_when};
-ghost use Rattle.multi_period.specs.Seen.{ArePorts, body_ins as ins_of_body, label_seen, of_seen};
+ghost use Rattle.multi_period.specs.Seen.{ArePorts, body_ins as ins_of_body, both_cases, label_seen, of_seen};
 
 use crate::copies::{relabelled, run};
 use crate::mark::Mark;
@@ -37,6 +38,23 @@ fn made(
         kind,
         inner,
     })
+}
+
+/// The same with the outputs of this vertex.
+fn with_outputs(
+    alloc: Global,
+    vertex: &Vertex,
+    part: Part,
+    ins: Vec<Source>,
+    kind: Kind,
+    inner: Vec<Vertex>,
+) -> Result<Vertex, OutOfMemory>
+    ensures { let inside = vertices_view inner.items in
+        let outs = (label_seen vertex.now).outs in
+        IfOk result (λ u. view u ≡ vertex_made part ins.items outs (kind_view kind) inside) }
+{
+    let outs = copy_lens(alloc, vertex.outs.as_slice())?;
+    made(alloc, part, ins, outs, kind, inner)
 }
 
 fn number(alloc: Global, value: i64) -> Result<Items<i64>, OutOfMemory>
@@ -120,10 +138,9 @@ fn when_runs(alloc: Global, vertex: &Vertex, ports: Ports) -> Result<Vertex, Out
     ensures { IfOk result (λ u. view u ≡ of_seen runs_when vertex.now) }
 {
     let ins = inputs_from(alloc, 1, ports.ins)?;
-    let outs = copy_lens(alloc, vertex.outs.as_slice())?;
     let kind = Kind::Graph(Items::new(outputs_of(alloc, 0, ports.outs)?));
     let inner = vec![in alloc; run(alloc, vertex, ports)?]?;
-    made(alloc, Part::Numbered(0), ins, outs, kind, inner)
+    with_outputs(alloc, vertex, Part::Numbered(0), ins, kind, inner)
 }
 
 /// The other case, which gives the kept values.
@@ -132,9 +149,8 @@ fn otherwise(alloc: Global, vertex: &Vertex, ports: Ports) -> Result<Vertex, Out
     ensures { IfOk result (λ u. view u ≡ kept_on (label_seen vertex.now)) }
 {
     let ins = inputs_from(alloc, ports.kept, ports.outs)?;
-    let outs = copy_lens(alloc, vertex.outs.as_slice())?;
     let kind = Kind::Graph(Items::new(inputs_from(alloc, 0, ports.outs)?));
-    made(alloc, Part::Numbered(1), ins, outs, kind, Vec::new(alloc))
+    with_outputs(alloc, vertex, Part::Numbered(1), ins, kind, Vec::new(alloc))
 }
 
 /// The inputs of the switch: the count, those of the reference, and the kept values.
@@ -148,6 +164,23 @@ fn body_ins(alloc: Global, ports: Ports) -> Result<Vec<Source>, OutOfMemory>
     Ok(all)
 }
 
+/// The two cases of the switch.
+fn cases(alloc: Global, vertex: &Vertex, ports: Ports) -> Result<Vec<Vertex>, OutOfMemory>
+    requires { ArePorts ports (label_seen vertex.now) }
+    ensures { IfOk result (λ us. vertices_view us.items ≡ of_seen both_cases vertex.now) }
+{
+    let runs = when_runs(alloc, vertex, ports)?;
+    Ok(vec![in alloc; runs, otherwise(alloc, vertex, ports)?]?)
+}
+
+/// What the switch is: its first case runs at 0, and its outputs have these names.
+fn switch_at_zero(alloc: Global, names: &[Items<u8>]) -> Result<Kind, OutOfMemory>
+    ensures { IfOk result (λ kind. kind_view kind ≡ switch (pos 0 ∷ []) names.now) }
+{
+    let names = copy_names(alloc, names)?;
+    Ok(Kind::Switch(number(alloc, 0)?, names))
+}
+
 /// The switch between the two cases.
 fn body(alloc: Global, vertex: &Vertex, ports: Ports) -> Result<Vertex, OutOfMemory>
     requires { ArePorts ports (label_seen vertex.now) }
@@ -155,12 +188,9 @@ fn body(alloc: Global, vertex: &Vertex, ports: Ports) -> Result<Vertex, OutOfMem
 {
     let part = Part::Named(copy_bytes(alloc, b"body")?);
     let ins = body_ins(alloc, ports)?;
-    let outs = copy_lens(alloc, vertex.outs.as_slice())?;
-    let names = copy_names(alloc, vertex.names.as_slice())?;
-    let kind = Kind::Switch(number(alloc, 0)?, names);
-    let runs = when_runs(alloc, vertex, ports)?;
-    let inner = vec![in alloc; runs, otherwise(alloc, vertex, ports)?]?;
-    made(alloc, part, ins, outs, kind, inner)
+    let kind = switch_at_zero(alloc, vertex.names.as_slice())?;
+    let inner = cases(alloc, vertex, ports)?;
+    with_outputs(alloc, vertex, part, ins, kind, inner)
 }
 
 /// The count, a delay for each output, and the switch.

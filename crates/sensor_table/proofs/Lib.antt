@@ -1,3 +1,4 @@
 pub mod Taken
+pub mod Values
 pub mod Whole
 pub mod Width

@@ -22,3 +22,8 @@ GivesList (Err e) defined = Fails e defined
 abbrev pub Pushes : Result Row SensorError → Reactions → Reactions → Result (Unit {0}) SensorError → Type 0
 Pushes defined old new (Ok _) = (row : Row) × (defined ≡ Ok row) × (new ≡ record old { reactions = old.reactions ++ row ∷ [] })
 Pushes defined old new (Err e) = Fails e defined
+
+-- the rows are the defined ones, for the same sensors
+abbrev pub Leaves : Result (List Row) SensorError → Reactions → Reactions → Result (Unit {0}) SensorError → Type 0
+Leaves defined old new (Ok _) = (new.lens ≡ old.lens) × (defined ≡ Ok new.reactions)
+Leaves defined old new (Err e) = Fails e defined

@@ -1,5 +1,5 @@
 -- The table of the sensors: the rows that the records of a text give, or why it is refused.
-use Rattle.std.specs.Prelude.{◌+◌, ◌==◌, ℕ, suc, ℤ, pos, Bool, false, nat_lt, if◌then◌else◌, List, [], ◌∷◌, length, sum, Result, Ok, Err}
+use Rattle.std.specs.Prelude.{◌+◌, ◌==◌, ℕ, suc, ℤ, pos, Bool, false, nat_lt, if◌then◌else◌, List, [], ◌∷◌, ◌++◌, length, sum, Result, Ok, Err}
 use Rattle.std.specs.Cmp.Lexicographic.{pointwise}
 use Rattle.std.specs.Ordering.{int_eq}
 use Rattle.std.specs.Str.{bytes_eq}
@@ -73,6 +73,10 @@ row_of lens k fields = if nat_lt k (bound_of limit.Reactions) then with_error (r
 abbrev pub rows_from : List ℕ → ℕ → List Record → Result (List Row) SensorError
 rows_from lens k [] = Ok []
 rows_from lens k (fields ∷ records) = before (row_of lens k fields) (rows_from lens (suc k) records)
+
+-- these rows, and then those of the records after them
+abbrev pub rows_after : Reactions → List Record → Result (List Row) SensorError
+rows_after old records = with_value (λ more. old.reactions ++ more) (rows_from old.lens (length old.reactions) records)
 
 abbrev pub reactions_of : List ℕ → List Record → Result Reactions SensorError
 reactions_of lens records = with_value (λ rows. record { lens = lens; reactions = rows }) (rows_from lens 0 records)

@@ -4,11 +4,12 @@ ghost use Rattle.sensor_table.specs.SensorTable.{refused};
 ghost use Rattle.sensor_table.specs.declared.fault.SensorError.TheVariants.{OutOfMemory as Wants};
 
 use std::alloc::AllocFailed;
+use std::fmt;
 use syn_base::{LimitFault, OutOfMemory};
 use thiserror::Error;
 
 /// The causes of a refusal.
-#[derive(Clone, Copy, Debug, PartialEq, Eq, Drop)]
+#[derive(Clone, Copy, Drop)]
 pub enum SensorCause {
     /// The first record is not the header of the sensors, or there is no record.
     BadHeader,
@@ -21,14 +22,14 @@ pub enum SensorCause {
 }
 
 /// A refusal, at a record of the table: the header is record 0, and the reactions follow from 1.
-#[derive(Clone, Copy, Debug, PartialEq, Eq, Drop)]
+#[derive(Clone, Copy, Drop)]
 pub struct SensorFault {
     pub row: u64,
     pub cause: SensorCause,
 }
 
 /// Why a table gives no rows. The lines that `syndex` prints are made elsewhere, from the fields.
-#[derive(Clone, Copy, Debug, PartialEq, Eq, Drop, Error)]
+#[derive(Clone, Copy, Drop, Error)]
 pub enum SensorError {
     #[error("refused at row {row}", row = .0.row)]
     Refused(SensorFault),
@@ -36,6 +37,13 @@ pub enum SensorError {
     Limit(LimitFault),
     #[error("out of memory")]
     OutOfMemory,
+}
+
+/// The same words as its message, which `Error` asks for.
+impl fmt::Debug for SensorError {
+    fn fmt<W: fmt::Write>(&self, f: &mut fmt::Formatter<W>) -> fmt::Result {
+        fmt::Display::fmt(self, f)
+    }
 }
 
 impl From<OutOfMemory> for SensorError {

@@ -4,9 +4,9 @@ ghost use Rattle.csv.specs.Records.{fields_of};
 ghost use Rattle.syn_base.specs.Integer.{integer_of};
 ghost use Rattle.syn_base.specs.Limits.{bound_of};
 ghost use Rattle.syn_base.specs.declared.limits.LimitKind.TheVariants.{Reactions};
-ghost use Rattle.sensor_table.specs.Answers.{Gives, GivesList, Pushes};
+ghost use Rattle.sensor_table.specs.Answers.{Gives, GivesList, Leaves, Pushes};
 ghost use Rattle.sensor_table.specs.Reading.{IsReading, left_of};
-ghost use Rattle.sensor_table.specs.SensorTable.{is_number, numbers_from, reactions_of, refused, row_of, too_many, values_in, with_error};
+ghost use Rattle.sensor_table.specs.SensorTable.{is_number, numbers_from, reactions_of, refused, row_of, rows_after, too_many, values_in, with_error};
 
 use crate::fault::{SensorCause, SensorError, refusal};
 use crate::records::{field_at, next_record};
@@ -26,10 +26,25 @@ pub fn read_rows(
     ensures { Gives result (reactions_of lens.now (left_of records.old)) }
 {
     let mut rows = SensorRows::new(alloc, lens)?;
-    while let Some(record) = next_record(records)? {
-        push_row(alloc, columns, &record, &mut rows)?;
-    }
+    push_rows(alloc, columns, records, &mut rows)?;
     Ok(rows)
+}
+
+/// Reads the records that are left as the next rows.
+fn push_rows(
+    alloc: Global,
+    columns: usize,
+    records: &mut ByteRecordsIntoIter<&[u8]>,
+    rows: &mut SensorRows,
+) -> Result<(), SensorError>
+    requires columns { columns ≡ suc (sum rows.old.lens) }
+    requires reading { IsReading records.old }
+    ensures { Leaves (rows_after rows.old (left_of records.old)) rows.old rows.new result }
+{
+    while let Some(record) = next_record(records)? {
+        push_row(alloc, columns, &record, rows)?;
+    }
+    Ok(())
 }
 
 /// Reads a record as the next row.

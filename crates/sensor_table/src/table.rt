@@ -1,5 +1,7 @@
 //! The reading of a table.
+ghost use Rattle.std.specs.Prelude.{◌∷◌};
 ghost use Rattle.csv.specs.Reading.{default_config, records, strip_bom};
+ghost use Rattle.csv.specs.Records.{fields_of};
 ghost use Rattle.sensor_table.specs.Answers.{Gives};
 ghost use Rattle.sensor_table.specs.Reading.{IsReading, left_of};
 ghost use Rattle.sensor_table.specs.SensorTable.{rows_of};
@@ -9,7 +11,7 @@ use crate::header::is_header;
 use crate::records::{next_record, records_in};
 use crate::rows::read_rows;
 use algo_tree::Tree;
-use csv::ByteRecordsIntoIter;
+use csv::{ByteRecord, ByteRecordsIntoIter};
 use std::alloc::Global;
 use syn_base::SensorRows;
 
@@ -34,7 +36,20 @@ fn read_table(
     let Some(header) = next_record(records)? else {
         return Err(refusal(0, SensorCause::BadHeader));
     };
-    if !is_header(alloc, tree, &header)? {
+    read_below(alloc, tree, &header, records)
+}
+
+/// The rows of the records below this header, if it is that of the sensors.
+fn read_below(
+    alloc: Global,
+    tree: &Tree,
+    header: &ByteRecord,
+    records: &mut ByteRecordsIntoIter<&[u8]>,
+) -> Result<SensorRows, SensorError>
+    requires { IsReading records.old }
+    ensures { Gives result (rows_of tree.now (fields_of header.now ∷ left_of records.old)) }
+{
+    if !is_header(alloc, tree, header)? {
         return Err(refusal(0, SensorCause::BadHeader));
     }
     let lens = tree.sensor_lens(alloc)?;

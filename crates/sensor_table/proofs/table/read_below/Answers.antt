@@ -6,7 +6,7 @@ use Rattle.csv.specs.Records.{fields_of}
 use Rattle.sensor_table.specs.Columns.{header_of}
 use Rattle.sensor_table.specs.SensorTable.{Record}
 use Rattle.sensor_table.proofs.Width.{header_long}
-use Rattle.sensor_table.proofs.table.read_table.Goals as goal
+use Rattle.sensor_table.proofs.table.read_below.Goals as goal
 
 both : (a b : Bool) → (a && b) ≡ true → b ≡ true
 both true b h = h
@@ -21,5 +21,5 @@ same_long (x ∷ xs) (y ∷ ys) h = ap suc (same_long xs ys (both (bytes_eq x y)
 
 pub read_rows-requires-clause-columns : goal.read_rows-requires-clause-columns
 read_rows-requires-clause-columns c =
-    let same : pointwise bytes_eq (fields_of c.in-Some.header) (header_of c.args.tree.now) ≡ true = search rules in
+    let same : pointwise bytes_eq (fields_of c.args.header.now) (header_of c.args.tree.now) ≡ true = search rules in
     rw (c.deref.ensures.value, c.in_ok-lens.ensures, c.len.ensures) (same_long _ _ same ∙ header_long c.args.tree.now)
