@@ -40,7 +40,7 @@ fn made(
     })
 }
 
-/// The same with the outputs of this vertex.
+/// A vertex made likewise, with the outputs of this one.
 fn with_outputs(
     alloc: Global,
     vertex: &Vertex,
@@ -173,7 +173,7 @@ fn cases(alloc: Global, vertex: &Vertex, ports: Ports) -> Result<Vec<Vertex>, Ou
     Ok(vec![in alloc; runs, otherwise(alloc, vertex, ports)?]?)
 }
 
-/// What the switch is: its first case runs at 0, and its outputs have these names.
+/// A switch whose first case runs at 0, and whose outputs have these names.
 fn switch_at_zero(alloc: Global, names: &[Items<u8>]) -> Result<Kind, OutOfMemory>
     ensures { IfOk result (λ kind. kind_view kind ≡ switch (pos 0 ∷ []) names.now) }
 {
