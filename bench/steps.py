@@ -41,7 +41,7 @@ ghost use Rattle.std.specs.Prelude.{◌≡◌};
 ghost use Rattle.word_table.specs.Driver.{AreDrivers};
 
 use crate::texts::{Texts, Worked};
-use crate::two_operators::TEXTS;
+use crate::two_operators::texts;
 use semaphore_core::{Job, State, run_list};
 use std::alloc::Global;
 use std::test::Fail;
@@ -160,10 +160,10 @@ fn micro_steps_are_timed(rt: HostRuntime) -> Result<(), Fail> {
     let rows = vec![in alloc; five; 10_000]?;
     let texts = Texts {
         rows: rows.as_slice(),
-        ..TEXTS
+        ..texts()
     };
     let worked = Worked::read(&rt, alloc, &texts)?;
-    let job = worked.job(&rt, alloc, texts.order)?;
+    let job = worked.job(&rt, alloc)?;
     timed(&rt, alloc, &job, list(alloc)?.as_slice())
 }
 """

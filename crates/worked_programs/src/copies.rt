@@ -230,18 +230,15 @@ endmain_
 ";
 
 /// Each copy's sum goes over the bus, and its product back; then the first operator goes on.
-const TEXTS: Texts = Texts {
-    algorithm: ALGORITHM,
-    architecture: BUS,
-    code: CODE,
-    order: &[
-        2, 0, 0, 0, 0, 0, 0, 1, 1, 1, 3, 3, 3, 2, 2, 2, 2, 2, 3, 3, 3, 1, 1, 1, 0, 0, 0, 0, 1, 1,
-        1, 3, 3, 3, 2, 2, 2, 2, 2, 3, 3, 3, 1, 1, 1, 0, 0, 0, 0, 1, 1, 1, 3, 3, 3, 2, 2, 2, 2, 2,
-        3, 3, 3, 1, 1, 1, 0, 0, 0, 0, 1, 1, 1, 3, 3, 3, 2, 2, 2, 2, 2, 3, 3, 3, 1, 1, 1, 0, 0, 0,
-        0, 0, 0, 0, 0,
-    ],
-    rows: &[&[1, 2, 3, 4]],
-};
+fn texts() -> Texts<'static> {
+    Texts {
+        algorithm: ALGORITHM,
+        architecture: BUS,
+        code: CODE,
+        order: b"20000001113332222233311100001113332222233311100001113332222233311100001113332222233311100000000",
+        rows: &[&[1, 2, 3, 4]],
+    }
+}
 
 fn run_job<R: Abort + Threads + Wait + Sync>(
     rt: &R,
@@ -260,12 +257,29 @@ fn run_job<R: Abort + Threads + Wait + Sync>(
     Ok(())
 }
 
-#[test]
-fn each_copy_takes_the_result_of_the_one_before(rt: HostRuntime) -> Result<(), Fail> {
-    let worked = Worked::read(&rt, rt.alloc(), &TEXTS)?;
-    let job = worked.job(&rt, rt.alloc(), TEXTS.order)?;
+fn run<R: Abort + Threads + Wait + Sync>(
+    rt: &R,
+    alloc: Global,
+    worked: &Worked,
+    by: By,
+) -> Result<(), Fail> {
+    let job = worked.job(rt, alloc)?;
+    run_job(rt, alloc, &job, by)
+}
+
+fn run_by_all<R: Abort + Threads + Wait + Sync>(
+    rt: &R,
+    alloc: Global,
+    worked: &Worked,
+) -> Result<(), Fail> {
     for by in [By::Alone, By::Workers(1), By::Workers(4)] {
-        run_job(&rt, rt.alloc(), &job, by)?;
+        run(rt, alloc, worked, by)?;
     }
     Ok(())
+}
+
+#[test]
+fn each_copy_takes_the_result_of_the_one_before(rt: HostRuntime) -> Result<(), Fail> {
+    let worked = Worked::read(&rt, rt.alloc(), &texts())?;
+    run_by_all(&rt, rt.alloc(), &worked)
 }

@@ -2,7 +2,9 @@
 //! third to the fourth.
 use crate::texts::{Texts, Worked};
 use crate::three_operators::wait;
-use semaphore_core::State;
+use semaphore_core::{Job, State};
+use std::alloc::Global;
+use std::process::Abort;
 use std::test::Fail;
 
 const ALGORITHM: &[u8] = b"algorithm 1
@@ -119,21 +121,29 @@ endmain_
 /// The program. In its order come the first operator and its send, the first receive, the third operator, its
 /// wait and send, the second wait and receive, the waits of the first two, and then the second and the fourth
 /// operator.
-const TEXTS: Texts = Texts {
-    algorithm: ALGORITHM,
-    architecture: BUS,
-    code: CODE,
-    order: &[
-        0, 0, 0, 1, 1, 1, 3, 3, 3, 4, 4, 4, 5, 5, 5, 5, 7, 7, 7, 7, 1, 3, 2, 2, 2, 6, 6, 6,
-    ],
-    rows: &[&[5, 10]],
-};
+fn texts() -> Texts<'static> {
+    Texts {
+        algorithm: ALGORITHM,
+        architecture: BUS,
+        code: CODE,
+        order: b"0001113334445555777713222666",
+        rows: &[&[5, 10]],
+    }
+}
+
+fn wait_at_first(rt: &impl Abort, alloc: Global, job: &Job) -> Result<(), Fail> {
+    let mut state = State::new(alloc, job)?;
+    wait(rt, job, &mut state, 7);
+    Ok(())
+}
+
+fn run(rt: &impl Abort, alloc: Global, worked: &Worked) -> Result<(), Fail> {
+    let job = worked.job(rt, alloc)?;
+    wait_at_first(rt, alloc, &job)
+}
 
 #[test]
 fn a_communicator_waits_for_a_transfer_between_others(rt: HostRuntime) -> Result<(), Fail> {
-    let worked = Worked::read(&rt, rt.alloc(), &TEXTS)?;
-    let job = worked.job(&rt, rt.alloc(), TEXTS.order)?;
-    let mut state = State::new(rt.alloc(), &job)?;
-    wait(&rt, &job, &mut state, 7);
-    Ok(())
+    let worked = Worked::read(&rt, rt.alloc(), &texts())?;
+    run(&rt, rt.alloc(), &worked)
 }

@@ -1,7 +1,7 @@
 //! A job run to its end by threads, and by one driver alone: its rows, counts and words are the same whoever
 //! drives, a sequence that waits at the gate holds no other worker up, and the gate is asked once for each step.
 use crate::texts::Worked;
-use crate::two_operators::{TAKEN, TEXTS, expect};
+use crate::two_operators::{TAKEN, expect, texts};
 use executive_run::{prepare, run_alone, run_ready};
 use outside::{Gate, GateFree};
 use semaphore_core::Job;
@@ -55,6 +55,18 @@ fn run_job<R: Abort + Threads + Wait + Sync, G: Gate>(
     Ok(())
 }
 
+/// Runs what was read of the program for two operators.
+fn run_worked<R: Abort + Threads + Wait + Sync, G: Gate>(
+    rt: &R,
+    alloc: Global,
+    worked: &Worked,
+    gate: &G,
+    by: By,
+) -> Result<(), Fail> {
+    let job = worked.job(rt, alloc)?;
+    run_job(rt, alloc, &job, gate, by)
+}
+
 /// Runs the program for two operators over three reactions.
 fn run<R: Abort + Threads + Wait + Sync, G: Gate>(
     rt: &R,
@@ -62,9 +74,8 @@ fn run<R: Abort + Threads + Wait + Sync, G: Gate>(
     gate: &G,
     by: By,
 ) -> Result<(), Fail> {
-    let worked = Worked::read(rt, alloc, &TEXTS)?;
-    let job = worked.job(rt, alloc, TEXTS.order)?;
-    run_job(rt, alloc, &job, gate, by)
+    let worked = Worked::read(rt, alloc, &texts())?;
+    run_worked(rt, alloc, &worked, gate, by)
 }
 
 #[test]

@@ -22,13 +22,14 @@ use std::process::Abort;
 use std::test::Fail;
 use syn_base::{OutOfMemory, SensorRows, Shape};
 
-/// The texts of a program with a serial order of it, and what its sensors give, reaction by reaction.
+/// The texts of a program, a serial order of it, with a digit for each sequence, and what its sensors give,
+/// reaction by reaction.
 #[derive(Clone, Copy)]
 pub(crate) struct Texts<'a> {
     pub(crate) algorithm: &'a [u8],
     pub(crate) architecture: &'a [u8],
     pub(crate) code: &'a [u8],
-    pub(crate) order: &'a [u32],
+    pub(crate) order: &'a [u8],
     pub(crate) rows: &'a [&'a [i64]],
 }
 
@@ -38,6 +39,7 @@ pub(crate) struct Worked {
     flat: Flat,
     archi: Archi,
     program: Program,
+    order: Vec<u32>,
     rows: SensorRows,
     ghost lens: { rows.lens ≡ sensor_lens flat.vertices },
 }
@@ -78,6 +80,15 @@ fn program(alloc: Global, text: &[u8], flat: &Flat, archi: &Archi) -> Result<Pro
     requires { length text.now ≤ 4000 }
 {
     Ok(read_code(alloc, text, flat, archi)?)
+}
+
+/// The numbers of these digits.
+fn numbers(alloc: Global, digits: &[u8]) -> Result<Vec<u32>, Fail> {
+    let mut numbers = Vec::new(alloc);
+    for digit in digits {
+        numbers.push(u32::from(digit.saturating_sub(b'0')))?;
+    }
+    Ok(numbers)
 }
 
 /// How many elements vectors of these lengths have.
@@ -123,30 +134,28 @@ impl Worked {
         let flat = flat(alloc, texts.algorithm)?;
         let archi = archi(alloc, texts.architecture)?;
         let program = program(alloc, texts.code, &flat, &archi)?;
+        let order = numbers(alloc, texts.order)?;
         let rows = sensed(rt, alloc, &flat, texts.rows)?;
         Ok(Worked {
             flat,
             archi,
             program,
+            order,
             rows,
         })
     }
 
-    /// The job of the program by a serial order.
-    pub(crate) fn job<'a>(
-        &'a self,
-        rt: &impl Abort,
-        alloc: Global,
-        order: &[u32],
-    ) -> Result<Job<'a>, Fail> {
+    /// The job of the program, which its serial order shows to be well formed.
+    pub(crate) fn job<'a>(&'a self, rt: &impl Abort, alloc: Global) -> Result<Job<'a>, Fail> {
         let Worked {
             flat,
             archi,
             program,
+            order,
             rows,
             ..
         } = self;
-        assert!(rt; is_order(program, flat, archi, order));
+        assert!(rt; is_order(program, flat, archi, order.as_slice()));
         assert!(rt; rows.count() <= 10_000);
         let opening = opening_of(alloc, flat)?;
         Ok(Job::new(program, flat, archi, rows, opening)?)

@@ -216,15 +216,23 @@ endmain_
 
 /// The program, with what its sensor gives. In its order the sensor comes first, then both transfers, the first
 /// operator's function and actuator, and those of the others.
-const TEXTS: Texts = Texts {
-    algorithm: ALGORITHM,
-    architecture: ARCHITECTURE,
-    code: CODE,
-    order: &[
-        0, 0, 0, 0, 0, 1, 1, 1, 2, 2, 2, 4, 4, 4, 6, 6, 6, 0, 0, 3, 3, 3, 3, 5, 5, 5, 5,
-    ],
-    rows: &[&[5], &[7], &[9]],
-};
+fn texts() -> Texts<'static> {
+    Texts {
+        algorithm: ALGORITHM,
+        architecture: ARCHITECTURE,
+        code: CODE,
+        order: b"000001112224446660033335555",
+        rows: &[&[5], &[7], &[9]],
+    }
+}
+
+/// The same, with two places in the buffers that pairs guard.
+fn texts_of_two_places() -> Texts<'static> {
+    Texts {
+        code: CODE_OF_TWO_PLACES,
+        ..texts()
+    }
+}
 
 /// Makes this many micro-steps of a sequence.
 fn make_all(rt: &impl Abort, job: &Job, state: &mut State, seq: u32, times: u32)
@@ -323,11 +331,19 @@ fn run_ahead_on_words(rt: &impl Abort, alloc: Global, job: &Job, ahead: Ahead) -
     Ok(())
 }
 
+fn run_job(rt: &impl Abort, alloc: Global, job: &Job, ahead: Ahead) -> Result<(), Fail> {
+    run_ahead(rt, alloc, job, ahead)?;
+    run_ahead_on_words(rt, alloc, job, ahead)
+}
+
+fn run_worked(rt: &impl Abort, alloc: Global, worked: &Worked, ahead: Ahead) -> Result<(), Fail> {
+    let job = worked.job(rt, alloc)?;
+    run_job(rt, alloc, &job, ahead)
+}
+
 fn run(rt: &impl Abort, alloc: Global, texts: &Texts, ahead: Ahead) -> Result<(), Fail> {
     let worked = Worked::read(rt, alloc, texts)?;
-    let job = worked.job(rt, alloc, texts.order)?;
-    run_ahead(rt, alloc, &job, ahead)?;
-    run_ahead_on_words(rt, alloc, &job, ahead)
+    run_worked(rt, alloc, &worked, ahead)
 }
 
 #[test]
@@ -338,20 +354,16 @@ fn a_computation_runs_one_reaction_ahead(rt: HostRuntime) -> Result<(), Fail> {
         communicator: 6,
         take: 1,
     };
-    run(&rt, rt.alloc(), &TEXTS, ahead)
+    run(&rt, rt.alloc(), &texts(), ahead)
 }
 
 #[test]
 fn with_two_places_it_runs_two_reactions_ahead(rt: HostRuntime) -> Result<(), Fail> {
-    let texts = Texts {
-        code: CODE_OF_TWO_PLACES,
-        ..TEXTS
-    };
     let ahead = Ahead {
         depth: 2,
         computation: 10,
         communicator: 7,
         take: 2,
     };
-    run(&rt, rt.alloc(), &texts, ahead)
+    run(&rt, rt.alloc(), &texts_of_two_places(), ahead)
 }

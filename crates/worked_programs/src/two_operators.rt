@@ -139,13 +139,23 @@ endmain_
 
 /// The program. In its order come the sensor, its function, the transfer, the other function with its actuator,
 /// and the first actuator.
-pub(crate) const TEXTS: Texts = Texts {
-    algorithm: ALGORITHM,
-    architecture: BUS,
-    code: CODE,
-    order: &[0, 0, 0, 0, 1, 1, 1, 3, 3, 3, 2, 2, 2, 2, 0],
-    rows: &[&[5], &[-1], &[0]],
-};
+pub(crate) fn texts() -> Texts<'static> {
+    Texts {
+        algorithm: ALGORITHM,
+        architecture: BUS,
+        code: CODE,
+        order: b"000011133322220",
+        rows: &[&[5], &[-1], &[0]],
+    }
+}
+
+/// The same, with two places in the buffers that pairs guard.
+fn texts_of_two_places() -> Texts<'static> {
+    Texts {
+        code: CODE_OF_TWO_PLACES,
+        ..texts()
+    }
+}
 
 /// What the two actuators take, reaction by reaction.
 pub(crate) const TAKEN: [[i64; 2]; 3] = [[6, 6], [0, 0], [1, 1]];
@@ -214,12 +224,26 @@ fn in_groups(rt: &impl Abort, alloc: Global, job: &Job, end: &End) -> Result<(),
     Ok(())
 }
 
+fn run_job(rt: &impl Abort, alloc: Global, job: &Job, steps: u64, end: &End) -> Result<(), Fail> {
+    the_greatest_first(rt, alloc, job, steps)?;
+    in_groups(rt, alloc, job, end)
+}
+
+fn run_worked(
+    rt: &impl Abort,
+    alloc: Global,
+    worked: &Worked,
+    steps: u64,
+    end: &End,
+) -> Result<(), Fail> {
+    let job = worked.job(rt, alloc)?;
+    run_job(rt, alloc, &job, steps, end)
+}
+
 /// Three reactions of a program have this many micro-steps in all.
 fn run(rt: &impl Abort, alloc: Global, texts: &Texts, steps: u64, end: &End) -> Result<(), Fail> {
     let worked = Worked::read(rt, alloc, texts)?;
-    let job = worked.job(rt, alloc, texts.order)?;
-    the_greatest_first(rt, alloc, &job, steps)?;
-    in_groups(rt, alloc, &job, end)
+    run_worked(rt, alloc, &worked, steps, end)
 }
 
 #[test]
@@ -228,18 +252,14 @@ fn no_sequence_is_enabled_at_the_end(rt: HostRuntime) -> Result<(), Fail> {
         counts: &[18, 19, 16, 18],
         words: &[1, 0, 1, 0, 6, 0, 1, 0, 1, 0],
     };
-    run(&rt, rt.alloc(), &TEXTS, 71, &end)
+    run(&rt, rt.alloc(), &texts(), 71, &end)
 }
 
 #[test]
 fn buffers_of_two_places_take_the_same(rt: HostRuntime) -> Result<(), Fail> {
-    let texts = Texts {
-        code: CODE_OF_TWO_PLACES,
-        ..TEXTS
-    };
     let end = End {
         counts: &[21, 23, 20, 21],
         words: &[2, 0, 2, 0, 6, 0, u64::MAX, 1, 0, u64::MAX, 1, 0],
     };
-    run(&rt, rt.alloc(), &texts, 85, &end)
+    run(&rt, rt.alloc(), &texts_of_two_places(), 85, &end)
 }
