@@ -10,8 +10,8 @@ use Rattle.flat_graph.specs.Meaning.{initial_cells, flat_act_row}
 use Rattle.factorisation_laws.specs.Unrolled.{unroll}
 use Rattle.conditioning_laws.specs.Guarded.{guard}
 use Rattle.inlining_laws.specs.Inlined.{operations}
-use Rattle.path_text.specs.Named.{HasNames}
-use Rattle.path_text.specs.Bounded.{HasBounds}
+use Rattle.operation_paths.specs.Named.{HasNames}
+use Rattle.operation_paths.specs.Bounded.{HasBounds}
 use Rattle.flat_laws.specs.EndLengths.{HasEndLengths}
 use Rattle.flat_laws.specs.Stands.{Stands}
 use Rattle.flat_laws.specs.FlatOf.{flat_of}

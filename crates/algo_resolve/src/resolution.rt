@@ -6,8 +6,8 @@ ghost use Rattle.algo_rules.specs.Resolved.{refusal, resolution_of, tree_of};
 ghost use Rattle.algo_rules.specs.WellRead.{AreWellRead};
 ghost use Rattle.algo_tree.specs.Size.{vertices_made};
 ghost use Rattle.algo_tree.specs.View.{view};
-ghost use Rattle.path_text.specs.Bounded.{HasBounds};
-ghost use Rattle.path_text.specs.Named.{HasNames};
+ghost use Rattle.operation_paths.specs.Bounded.{HasBounds};
+ghost use Rattle.operation_paths.specs.Named.{HasNames};
 ghost use Rattle.algo_resolve.specs.Parts.{ArePlanned, AreReady};
 
 use crate::build::{Seat, build_vertex};

@@ -6,7 +6,7 @@ use Rattle.level_meaning.specs.declared.source.Guard.{Guard}
 use Rattle.algo_tree.specs.Tree.{Label, Kind, sensor, actuator, constant, delay, function, explode, implode, merge, graph, switch, repeat, Vertex, vertex, Vertices, no_vertices, and_vertex}
 use Rattle.algo_tree.specs.Code.{count_of, join}
 use Rattle.algo_tree.specs.Valid.{IsTree}
-use Rattle.path_text.specs.Named.{AreNames, IsLabelNamed, IsNamed, AllNamed, HasNames}
+use Rattle.operation_paths.specs.Named.{AreNames, IsLabelNamed, IsNamed, AllNamed, HasNames}
 use Rattle.pass_laws.specs.Relabelled.{with_kind}
 use Rattle.conditioning_laws.specs.Guarded.{own_guards, guard_for, merges, guarded_by, guarded, guarded_all, guarded_cases, guard}
 

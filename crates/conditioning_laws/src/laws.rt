@@ -4,7 +4,7 @@ ghost use Rattle.level_meaning.specs.declared.source.Guard.{Guard};
 ghost use Rattle.algo_tree.specs.Tree.{Vertex};
 ghost use Rattle.algo_tree.specs.Valid.{IsTree};
 ghost use Rattle.algo_tree.specs.Counted.{operations};
-ghost use Rattle.path_text.specs.Named.{HasNames};
+ghost use Rattle.operation_paths.specs.Named.{HasNames};
 ghost use Rattle.pass_laws.specs.SameMeaning.{KeepsMeaning};
 ghost use Rattle.pass_laws.specs.NoRepeat.{HasNoRepeat};
 ghost use Rattle.conditioning_laws.specs.Guarded.{guard, guarded};

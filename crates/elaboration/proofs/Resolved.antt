@@ -8,8 +8,8 @@ use Rattle.algo_defs.specs.declared.definition.Def.{Def}
 use Rattle.algo_defs.specs.declared.fault.AlgoError.{AlgoError}
 use Rattle.algo_rules.specs.Resolved.{tree_of, refusal, resolution_of, resolved_by as told_by}
 use Rattle.algo_rules.specs.WellRead.{AreWellRead}
-use Rattle.path_text.specs.Bounded.{HasBounds}
-use Rattle.path_text.specs.Named.{HasNames}
+use Rattle.operation_paths.specs.Bounded.{HasBounds}
+use Rattle.operation_paths.specs.Named.{HasNames}
 use Rattle.tree_laws.proofs.Bounds.{have_bounds}
 use Rattle.tree_laws.proofs.Names.{have_names}
 use Rattle.tree_laws.proofs.Trees.{make_a_tree}

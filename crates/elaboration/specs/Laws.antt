@@ -7,8 +7,8 @@ use Rattle.algo_defs.specs.declared.definition.Def.{Def}
 use Rattle.algo_defs.specs.declared.definition.Defs.{Defs}
 use Rattle.algo_text.specs.Text.{definitions_of}
 use Rattle.algo_rules.specs.Resolved.{resolution_of}
-use Rattle.path_text.specs.Bounded.{HasBounds}
-use Rattle.path_text.specs.Named.{HasNames}
+use Rattle.operation_paths.specs.Bounded.{HasBounds}
+use Rattle.operation_paths.specs.Named.{HasNames}
 use Rattle.multi_period.specs.declared.mark.Mark.{Mark}
 use Rattle.multi_period.specs.Laws.{DoesAsMarked}
 use Rattle.period_marks.specs.Marking.{marking_of}

@@ -6,8 +6,8 @@
 ghost use Rattle.std.specs.Prelude.{◌≡◌, ◌≤◌, IfOk, length};
 ghost use Rattle.algo_rules.specs.Placed.{Gives};
 ghost use Rattle.algo_rules.specs.WellRead.{AreWellRead};
-ghost use Rattle.path_text.specs.Bounded.{HasBounds};
-ghost use Rattle.path_text.specs.Named.{HasNames};
+ghost use Rattle.operation_paths.specs.Bounded.{HasBounds};
+ghost use Rattle.operation_paths.specs.Named.{HasNames};
 ghost use Rattle.period_marks.specs.Stand.{HavePeriods};
 ghost use Rattle.elaboration.specs.Elaborated.{elaboration_of, of_periods};
 ghost use Rattle.elaboration.specs.Laws.{AcceptedAreElaborated};

@@ -7,7 +7,7 @@ ghost use Rattle.algo_tree.specs.Meaning.{vertices_in};
 ghost use Rattle.algo_tree.specs.Typed.{label_of};
 ghost use Rattle.algo_tree.specs.View.{view, vertices_view};
 ghost use Rattle.algo_tree.specs.Well.{fork_names, join_names, IsOne, IsWell, AllWell};
-ghost use Rattle.path_text.specs.Named.{HasNames};
+ghost use Rattle.operation_paths.specs.Named.{HasNames};
 ghost use Rattle.pass_laws.specs.SameMeaning.{KeepsMeaning};
 ghost use Rattle.pass_laws.specs.NoRepeat.{HasNoRepeat};
 ghost use Rattle.factorisation_laws.specs.Lines.{in_line_order as ordered};

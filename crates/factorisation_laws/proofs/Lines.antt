@@ -5,7 +5,7 @@ use Rattle.std.proofs.lemmas.Slice.Eq.{bytes_eq-Decides}
 use Rattle.level_meaning.specs.declared.frontier.Feed.{Feed}
 use Rattle.level_meaning.specs.declared.frontier.Feed.TheVariants.{Fork, Diffuse, Iterate}
 use Rattle.std.specs.Prelude.{IsTrue}
-use Rattle.path_text.specs.Named.{is_word, AreNames}
+use Rattle.operation_paths.specs.Named.{is_word, AreNames}
 use Rattle.algo_tree.specs.Well.{IsNewName, AreDistinctNames, fork_names}
 use Rattle.factorisation_laws.specs.Lines.{outer_of, put_line, in_line_order, fork_place}
 

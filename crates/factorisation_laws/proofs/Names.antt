@@ -12,7 +12,7 @@ use Rattle.algo_tree.specs.Tree.{Label, Kind, sensor, actuator, constant, delay,
 use Rattle.algo_tree.specs.Valid.{IsTree}
 use Rattle.algo_tree.specs.View.{vertices_of}
 use Rattle.algo_tree.specs.Well.{fork_names, join_names}
-use Rattle.path_text.specs.Named.{is_word, AreNames, IsKindNamed, IsLabelNamed, IsNamed, AllNamed, HasNames}
+use Rattle.operation_paths.specs.Named.{is_word, AreNames, IsKindNamed, IsLabelNamed, IsNamed, AllNamed, HasNames}
 use Rattle.factorisation_laws.specs.Lines.{in_line_order}
 use Rattle.factorisation_laws.proofs.Lines.{names-lines}
 use Rattle.pass_laws.specs.Relabelled.{with_kind}

@@ -3,7 +3,7 @@ ghost use Rattle.std.specs.Prelude.{◌≡◌};
 ghost use Rattle.algo_tree.specs.Tree.{Vertex};
 ghost use Rattle.algo_tree.specs.Valid.{IsTree};
 ghost use Rattle.algo_tree.specs.Counted.{operations};
-ghost use Rattle.path_text.specs.Named.{HasNames};
+ghost use Rattle.operation_paths.specs.Named.{HasNames};
 ghost use Rattle.pass_laws.specs.SameMeaning.{KeepsMeaning};
 ghost use Rattle.factorisation_laws.specs.Unrolled.{unroll};
 ghost use Rattle.pass_laws.specs.NoRepeat.{HasNoRepeat};

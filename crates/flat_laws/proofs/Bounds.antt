@@ -6,7 +6,7 @@ use Rattle.algo_tree.specs.Tree.{Label, Kind, sensor, actuator, constant, delay,
 use Rattle.algo_tree.specs.Counted.{operations as count}
 use Rattle.inlining_laws.specs.Flat.{Operation, Task, runs, gets, sets}
 use Rattle.inlining_laws.specs.Inlined.{wire, wirings, stages, inlined_by, inlined, inlined_all, operations}
-use Rattle.path_text.specs.Bounded.{IsKindBounded, IsBounded, AllBounded, HasBounds}
+use Rattle.operation_paths.specs.Bounded.{IsKindBounded, IsBounded, AllBounded, HasBounds}
 
 abbrev pub IsTaskBounded : Task → List ℕ → Type 0
 IsTaskBounded (runs k) outs = IsKindBounded k outs

@@ -21,8 +21,8 @@ use Rattle.conditioning_laws.proofs.Trees.{tree-guard}
 use Rattle.inlining_laws.specs.Inlined.{operations}
 use Rattle.inlining_laws.specs.Plain.{IsPlain}
 use Rattle.inlining_laws.proofs.Flatten.{flatten-count}
-use Rattle.path_text.specs.Named.{HasNames}
-use Rattle.path_text.specs.Bounded.{HasBounds}
+use Rattle.operation_paths.specs.Named.{HasNames}
+use Rattle.operation_paths.specs.Bounded.{HasBounds}
 use Rattle.flat_laws.specs.Stands.{Stands, KeepsGraph}
 use Rattle.flat_laws.specs.EndLengths.{HasEndLengths}
 use Rattle.flat_laws.proofs.Stands.{stands-keeps}

@@ -24,10 +24,10 @@ use Rattle.inlining_laws.proofs.Parts.{same_itself}
 use Rattle.inlining_laws.proofs.Cells.{Keeps, keeps-below}
 use Rattle.inlining_laws.proofs.Numbered.{path_itself}
 use Rattle.inlining_laws.proofs.Pairs.{AtAll, all-append, paths-vertex}
-use Rattle.path_text.specs.Texts.{path_text}
-use Rattle.path_text.specs.Named.{IsPathNamed}
-use Rattle.path_text.specs.Bounded.{IsPathBounded}
-use Rattle.path_text.proofs.Texts.{path_told}
+use Rattle.operation_paths.specs.Texts.{path_text}
+use Rattle.operation_paths.specs.Named.{IsPathNamed}
+use Rattle.operation_paths.specs.Bounded.{IsPathBounded}
+use Rattle.operation_paths.proofs.Texts.{path_told}
 use Rattle.flat_laws.specs.Names.{name_of}
 use Rattle.flat_laws.specs.Stands.{AllStand}
 use Rattle.flat_laws.proofs.Names.{stage_part, half, full, full-text, IsNamedOperation, AreNamed, full-named, full-bounded}

@@ -14,8 +14,8 @@ use Rattle.flat_graph.specs.Graph.{Graph}
 use Rattle.flat_graph.specs.Valid.{is_flat}
 use Rattle.inlining_laws.specs.Inlined.{operations}
 use Rattle.inlining_laws.specs.Plain.{IsPlain}
-use Rattle.path_text.specs.Named.{HasNames}
-use Rattle.path_text.specs.Bounded.{HasBounds}
+use Rattle.operation_paths.specs.Named.{HasNames}
+use Rattle.operation_paths.specs.Bounded.{HasBounds}
 use Rattle.flat_laws.specs.Stands.{Stands}
 use Rattle.flat_laws.proofs.Valid.{stands-flat}
 

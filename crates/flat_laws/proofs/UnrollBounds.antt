@@ -11,7 +11,7 @@ use Rattle.algo_tree.specs.Valid.{IsTree}
 use Rattle.algo_tree.specs.View.{vertices_of}
 use Rattle.factorisation_laws.specs.Lines.{in_line_order}
 use Rattle.factorisation_laws.specs.Unrolled.{explodes, copy, copies, implodes, begin, unrolled_inside, unrolled_at, unroll, unroll_all}
-use Rattle.path_text.specs.Bounded.{IsKindBounded, IsLabelBounded, IsBounded, AllBounded, HasBounds}
+use Rattle.operation_paths.specs.Bounded.{IsKindBounded, IsLabelBounded, IsBounded, AllBounded, HasBounds}
 
 abbrev EachBounded : List Vertex → Type 0
 EachBounded [] = Unit {0}

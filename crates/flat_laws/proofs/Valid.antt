@@ -15,8 +15,8 @@ use Rattle.inlining_laws.specs.Flat.{Operation}
 use Rattle.inlining_laws.specs.Inlined.{operations}
 use Rattle.inlining_laws.specs.Plain.{IsPlain}
 use Rattle.inlining_laws.proofs.Pairs.{paired-main}
-use Rattle.path_text.specs.Named.{HasNames}
-use Rattle.path_text.specs.Bounded.{HasBounds}
+use Rattle.operation_paths.specs.Named.{HasNames}
+use Rattle.operation_paths.specs.Bounded.{HasBounds}
 use Rattle.flat_laws.specs.Stands.{task_of, Stands}
 use Rattle.flat_laws.proofs.Stands.{vertex_of, operation_of}
 use Rattle.flat_laws.proofs.Halves.{follow-main}

@@ -14,7 +14,7 @@ use Rattle.flat_graph.specs.Valid.{is_flat}
 use Rattle.flat_graph.specs.Meaning.{initial_cells, cells_after, flat_act_row}
 use Rattle.inlining_laws.specs.Inlined.{operations}
 use Rattle.inlining_laws.proofs.Worked.{main, rows}
-use Rattle.path_text.specs.Texts.{path_text}
+use Rattle.operation_paths.specs.Texts.{path_text}
 use Rattle.flat_laws.specs.Stands.{Stands}
 
 abbrev at : ℕ → ℕ → Source

@@ -2,7 +2,7 @@
 use Rattle.std.specs.Prelude.{ℕ, zero, suc, List, [], ◌++◌, codes}
 use Rattle.std.specs.Fmt.{decimal}
 use Rattle.inlining_laws.specs.Flat.{Operation, Task, runs, gets, sets}
-use Rattle.path_text.specs.Texts.{path_text}
+use Rattle.operation_paths.specs.Texts.{path_text}
 
 -- the number of a stage, which the first one does not tell
 abbrev pub stage_text : ℕ → List ℕ

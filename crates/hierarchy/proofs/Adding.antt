@@ -17,7 +17,7 @@ use Rattle.flat_graph.specs.Graph.{Graph as Flat}
 use Rattle.inlining_laws.specs.Flat.{Operation, runs}
 use Rattle.inlining_laws.specs.Inlined.{wire, wirings, wire_guard, operation_of, stages, inlined_by, inlined, inlined_all, inlined_level, operations}
 use Rattle.inlining_laws.specs.Plain.{IsKindPlain, IsPlain, AllPlain}
-use Rattle.path_text.specs.Named.{IsLabelNamed, IsNamed, AllNamed}
+use Rattle.operation_paths.specs.Named.{IsLabelNamed, IsNamed, AllNamed}
 use Rattle.level_order.specs.Order.{nodes_of}
 use Rattle.level_order.proofs.Nodes.{nodes_view}
 use Rattle.hierarchy.specs.Linked.{AreFound, GuardsFound, AllLinked}

@@ -18,7 +18,7 @@ use Rattle.inlining_laws.specs.Flat.{Operation, Task, runs, gets, sets}
 use Rattle.inlining_laws.specs.Inlined.{wire, wirings, operation_of, stage_input, stages, inlined, inlined_all, inlined_level}
 use Rattle.inlining_laws.specs.Plain.{IsPlain}
 use Rattle.inlining_laws.proofs.Wires.{long-plain}
-use Rattle.path_text.specs.Texts.{path_text}
+use Rattle.operation_paths.specs.Texts.{path_text}
 use Rattle.flat_laws.specs.Names.{stage_text, half_text}
 use Rattle.flat_laws.specs.Stands.{task_of, IsTwin, StandsFor, AllStand}
 use Rattle.flat_laws.specs.Numbering.{IsNumbered, bodies_in, AreNumbered}

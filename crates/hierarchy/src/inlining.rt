@@ -9,7 +9,7 @@ ghost use Rattle.algo_tree.specs.View.{view, vertices_view};
 ghost use Rattle.algo_tree.specs.Well.{AllWell, IsWell};
 ghost use Rattle.inlining_laws.specs.Plain.{AllPlain, IsPlain};
 ghost use Rattle.inlining_laws.specs.Inlined.{inlined, inlined_all, inlined_level, operations};
-ghost use Rattle.path_text.specs.Named.{AllNamed, HasNames, IsNamed};
+ghost use Rattle.operation_paths.specs.Named.{AllNamed, HasNames, IsNamed};
 ghost use Rattle.level_order.specs.Order.{nodes_of};
 ghost use Rattle.flat_laws.specs.Numbering.{HasBodiesInOrder};
 ghost use Rattle.flat_laws.specs.Stands.{Stands};

@@ -9,7 +9,7 @@ ghost use Rattle.level_meaning.specs.declared.source.Source.TheVariants.{Of};
 ghost use Rattle.inlining_laws.specs.Flat.{runs};
 ghost use Rattle.inlining_laws.specs.Inlined.{operation_of, stages, wire_guard};
 ghost use Rattle.flat_laws.specs.Stands.{task_of};
-ghost use Rattle.path_text.specs.Texts.{path_text};
+ghost use Rattle.operation_paths.specs.Texts.{path_text};
 ghost use Rattle.hierarchy.specs.Wires.{led};
 ghost use Rattle.hierarchy.specs.Linked.{AllLinked, AreFound, GuardsFound, IsFound};
 ghost use Rattle.flat_laws.specs.Numbering.{IsNumbered, bodies_in};

@@ -17,7 +17,7 @@ use Rattle.flat_laws.specs.FlatOf.{flat_guard, flat_kind, body_of, vertex_of, ve
 use Rattle.flat_laws.specs.Names.{name_of}
 use Rattle.flat_laws.specs.Stands.{task_of}
 use Rattle.flat_laws.proofs.Flattened.{flattened-plain}
-use Rattle.path_text.specs.Texts.{path_text}
+use Rattle.operation_paths.specs.Texts.{path_text}
 use Rattle.operation_table.specs.Table.{Condition, Row, row, condition_of, table}
 use Rattle.operation_table.specs.Listed.{guard_condition, vertex_row, listed, HasOperations}
 use Rattle.operation_table.proofs.Unrolling.{table-unroll}

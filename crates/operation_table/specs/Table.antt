@@ -18,7 +18,7 @@ use Rattle.level_meaning.specs.declared.frontier.Give.TheVariants.{Last, Join}
 use Rattle.level_meaning.specs.Level.{Vector, Path, numbers_below}
 use Rattle.algo_tree.specs.Tree.{Kind, delay, explode, implode, merge, graph, switch, repeat, Label, Vertex, vertex, Vertices, no_vertices, and_vertex}
 use Rattle.algo_tree.specs.Typed.{label_of}
-use Rattle.path_text.specs.Texts.{path_text}
+use Rattle.operation_paths.specs.Texts.{path_text}
 use Rattle.inlining_laws.specs.Flat.{Task, runs, gets, sets}
 use Rattle.flat_laws.specs.Names.{half_text}
 use Rattle.factorisation_laws.specs.Lines.{in_line_order}

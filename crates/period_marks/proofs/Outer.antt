@@ -3,8 +3,8 @@ use Rattle.std.proofs.Common.{◌≡◌, ℕ, true, List, [], ◌∷◌, ◌++�
 use Rattle.std.specs.List.{flat_map}
 use Rattle.body_lang.specs.declared.expression.Port.{Port}
 use Rattle.algo_tree.specs.Well.{IsNewName, AreDistinctNames}
-use Rattle.path_text.specs.Named.{AreNames}
-use Rattle.path_text.proofs.Texts.{name_word}
+use Rattle.operation_paths.specs.Named.{AreNames}
+use Rattle.operation_paths.proofs.Texts.{name_word}
 use Rattle.algo_defs.specs.declared.definition.Body.{Body}
 use Rattle.algo_defs.specs.declared.definition.Body.TheVariants.{Sensor, Actuator, Constant, Delay, Function, Graph, Switch, Repeat}
 use Rattle.algo_defs.specs.declared.definition.Frontier.{Frontier}

@@ -17,8 +17,8 @@ use Rattle.archi_defs.specs.declared.fault.ArchiError.{ArchiError}
 use Rattle.archi_defs.specs.declared.fault.ArchiError.TheVariants as archi_error
 use Rattle.durations.specs.Table.{Table, durations_of}
 use Rattle.flat_laws.specs.FlatOf.{flat_of}
-use Rattle.path_text.specs.Named.{HasNames}
-use Rattle.path_text.specs.Bounded.{HasBounds}
+use Rattle.operation_paths.specs.Named.{HasNames}
+use Rattle.operation_paths.specs.Bounded.{HasBounds}
 use Rattle.algo_tree.specs.Ends.{sensor_lengths}
 use Rattle.sensor_table.specs.Answers.{Fails}
 use Rattle.sensor_table.specs.SensorTable.{rows_of}

@@ -1,8 +1,8 @@
 //! The architecture of a file: its text, and how long the flat operations of an algorithm last by it.
 ghost use Rattle.std.specs.Prelude.{◌≤◌, length};
 ghost use Rattle.outside.specs.Shelf.{Stays, file_bound};
-ghost use Rattle.path_text.specs.Bounded.{HasBounds};
-ghost use Rattle.path_text.specs.Named.{HasNames};
+ghost use Rattle.operation_paths.specs.Bounded.{HasBounds};
+ghost use Rattle.operation_paths.specs.Named.{HasNames};
 ghost use Rattle.syndex_program.specs.Reads.{MakesArchitecture, ReadsArchitecture, ReadsText};
 
 use crate::files::read_file;

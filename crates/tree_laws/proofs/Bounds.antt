@@ -20,7 +20,7 @@ use Rattle.algo_rules.specs.Ports.{ports_of, ports_by, lens_of}
 use Rattle.algo_rules.specs.declared.ports.Ports.{Ports}
 use Rattle.algo_rules.specs.Resolved.{Making, vertex_within, vertex_by, references_from, cases_from, owns, kind_by, inner_by, is_sensor, is_actuator, tree_of}
 use Rattle.algo_rules.specs.WellRead.{IsWellRead}
-use Rattle.path_text.specs.Bounded.{IsPartBounded, IsKindBounded, IsBounded, AllBounded, HasBounds}
+use Rattle.operation_paths.specs.Bounded.{IsPartBounded, IsKindBounded, IsBounded, AllBounded, HasBounds}
 use Rattle.tree_laws.specs.Central.{AcceptedHaveBounds}
 use Rattle.tree_laws.proofs.Refused.{has_none}
 use Rattle.tree_laws.proofs.Accepted.{Accepted, accepted, own_ports}

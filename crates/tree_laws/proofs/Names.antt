@@ -13,8 +13,8 @@ use Rattle.level_meaning.specs.declared.frontier.Give.{Give}
 use Rattle.algo_tree.specs.Tree as tree
 use Rattle.algo_tree.specs.View.{vertices_of}
 use Rattle.algo_tree.specs.Well.{fork_names, join_names}
-use Rattle.path_text.proofs.Texts.{name_word}
-use Rattle.path_text.specs.Named.{IsPartNamed, AreNames, IsKindNamed, IsNamed, AllNamed, HasNames}
+use Rattle.operation_paths.proofs.Texts.{name_word}
+use Rattle.operation_paths.specs.Named.{IsPartNamed, AreNames, IsKindNamed, IsNamed, AllNamed, HasNames}
 use Rattle.algo_defs.specs.declared.definition.Def.{Def}
 use Rattle.algo_defs.specs.declared.definition.Body.{Body}
 use Rattle.algo_defs.specs.declared.definition.Body.TheVariants.{Sensor, Actuator, Constant, Delay, Function, Graph, Switch, Repeat}

@@ -4,8 +4,8 @@ use Rattle.algo_defs.specs.declared.definition.Def.{Def}
 use Rattle.algo_tree.specs.Counted as counted
 use Rattle.algo_tree.specs.Size.{vertices_made}
 use Rattle.algo_tree.specs.Valid.{IsTree}
-use Rattle.path_text.specs.Bounded.{HasBounds}
-use Rattle.path_text.specs.Named.{HasNames}
+use Rattle.operation_paths.specs.Bounded.{HasBounds}
+use Rattle.operation_paths.specs.Named.{HasNames}
 use Rattle.algo_rules.specs.Resolved.{refusal, tree_of, operations}
 use Rattle.algo_rules.specs.WellRead.{AreWellRead}
 use Rattle.tree_laws.specs.Sizes.{made}

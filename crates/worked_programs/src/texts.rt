@@ -1,8 +1,8 @@
 //! What a program runs on, made from texts: the flat graph of an algorithm, an architecture, macro-code and rows.
 ghost use Rattle.std.specs.Prelude.{◌≡◌, ◌≤◌, IfOk, length, sum};
 ghost use Rattle.flat_graph.specs.Laws.{sensor_lens};
-ghost use Rattle.path_text.specs.Bounded.{HasBounds};
-ghost use Rattle.path_text.specs.Named.{HasNames};
+ghost use Rattle.operation_paths.specs.Bounded.{HasBounds};
+ghost use Rattle.operation_paths.specs.Named.{HasNames};
 
 use algo_defs::AlgoError;
 use algo_reader::read_algo;

@@ -1,7 +1,7 @@
 //! The worked texts, and the trees that they say.
 ghost use Rattle.std.specs.Prelude.{◌≤◌, IfOk, length};
-ghost use Rattle.path_text.specs.Bounded.{HasBounds};
-ghost use Rattle.path_text.specs.Named.{HasNames};
+ghost use Rattle.operation_paths.specs.Bounded.{HasBounds};
+ghost use Rattle.operation_paths.specs.Named.{HasNames};
 
 use algo_defs::AlgoError;
 use algo_reader::read_algo;

@@ -1,8 +1,8 @@
 use Rattle.std.proofs.Common.{◌≡◌, List, None, sym, subst, ◌∙◌}
 use Rattle.algo_defs.specs.declared.definition.Def.{Def}
 use Rattle.algo_rules.specs.Resolved.{refusal, tree_of}
-use Rattle.path_text.specs.Bounded.{HasBounds}
-use Rattle.path_text.specs.Named.{HasNames}
+use Rattle.operation_paths.specs.Bounded.{HasBounds}
+use Rattle.operation_paths.specs.Named.{HasNames}
 use Rattle.tree_laws.proofs.Bounds.{have_bounds}
 use Rattle.tree_laws.proofs.Names.{have_names}
 use Rattle.algo_resolve.specs.Ready.{IsReady}

@@ -2,7 +2,7 @@ use Rattle.std.proofs.Common.{◌≡◌, arith, ap, ◌∙◌, sym, subst}
 use Rattle.algo_tree.specs.Counted.{operations}
 use Rattle.algo_tree.specs.Valid.{IsTree}
 use Rattle.algo_tree.specs.View.{view}
-use Rattle.path_text.specs.Named.{HasNames}
+use Rattle.operation_paths.specs.Named.{HasNames}
 use Rattle.pass_laws.specs.SameMeaning.{KeepsMeaning}
 use Rattle.pass_laws.specs.NoRepeat.{HasNoRepeat}
 use Rattle.factorisation_laws.specs.Unrolled.{unroll as unrolled}

@@ -9,7 +9,7 @@ use Rattle.algo_tree.specs.declared.vertex.Vertex.{the_lemmas, out-Vertex}
 use Rattle.algo_tree.specs.declared.vertex.Kind.TheVariants.{Delay}
 use Rattle.inlining_laws.specs.Inlined.{inlined, inlined_all}
 use Rattle.inlining_laws.specs.Plain.{IsPlain}
-use Rattle.path_text.specs.Named.{IsNamed}
+use Rattle.operation_paths.specs.Named.{IsNamed}
 use Rattle.hierarchy.specs.Built.{graph_of}
 use Rattle.hierarchy.specs.Linked.{AllLinked}
 use Rattle.hierarchy.specs.Texts.{Prefixes}

@@ -3,7 +3,7 @@ use Rattle.level_meaning.specs.Level.{Path}
 use Rattle.algo_tree.specs.View.{label_view}
 use Rattle.algo_tree.specs.declared.vertex.Vertex.{out-Vertex}
 use Rattle.inlining_laws.specs.Inlined.{stages}
-use Rattle.path_text.specs.Texts.{path_text}
+use Rattle.operation_paths.specs.Texts.{path_text}
 use Rattle.hierarchy.specs.Built.{graph_of}
 use Rattle.hierarchy.specs.Linked.{AllLinked}
 use Rattle.hierarchy.specs.Wires.{led}

@@ -8,9 +8,9 @@ use Rattle.std.proofs.lemmas.List.Folds.{list_all-append}
 use Rattle.syn_base.specs.Name.{is_letter, is_digit, is_name_byte, begins_name, is_name}
 use Rattle.level_meaning.specs.declared.part.Part.TheVariants.{Named, Numbered, Port}
 use Rattle.level_meaning.specs.Level.{Path}
-use Rattle.path_text.specs.Texts.{parts_text, path_text}
-use Rattle.path_text.specs.Named.{is_word, IsPathNamed}
-use Rattle.path_text.specs.Bounded.{IsPathBounded}
+use Rattle.operation_paths.specs.Texts.{parts_text, path_text}
+use Rattle.operation_paths.specs.Named.{is_word, IsPathNamed}
+use Rattle.operation_paths.specs.Bounded.{IsPathBounded}
 
 abbrev pub AreNameBytes : List ℕ → Type 0
 AreNameBytes xs = list_all is_name_byte xs ≡ true

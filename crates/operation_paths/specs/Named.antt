@@ -7,8 +7,8 @@ use Rattle.level_meaning.specs.declared.part.Part.TheVariants.{Named, Numbered, 
 use Rattle.level_meaning.specs.Level.{Path}
 use Rattle.algo_tree.specs.Tree.{Kind, switch, repeat, Label, Vertex, vertex, Vertices, no_vertices, and_vertex}
 use Rattle.algo_tree.specs.Well.{fork_names, join_names}
-use Rattle.path_text.specs.Texts.{path_text}
-use Rattle.path_text.specs.Bounded.{IsPathBounded}
+use Rattle.operation_paths.specs.Texts.{path_text}
+use Rattle.operation_paths.specs.Bounded.{IsPathBounded}
 
 -- One or more letters, digits and `_`, of which the first is no digit: a name of a text, or a longer one, as passes make them.
 abbrev pub is_word : List ℕ → Bool
