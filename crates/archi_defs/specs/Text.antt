@@ -50,6 +50,10 @@ word ws k = slice_index_or ws k []
 abbrev pub refused : {A : Type 0} → ℕ → ArchiCause → Result A ArchiError
 refused line cause = Err (Refused (record { line = line; cause = cause }))
 
+-- more than the bound
+abbrev pub is_above : LimitKind → ℕ → Bool
+is_above which count = nat_lt (bound_of which) count
+
 abbrev pub above : {A : Type 0} → LimitKind → ℕ → Result A ArchiError
 above which count = Err (Limit (record { which = which; count = count; bound = bound_of which }))
 
@@ -116,7 +120,7 @@ operator_line r n ws =
     if not (length ws == 2) then refused n BadLine else
     all_names n (word ws 1 ∷ [])
     (if is_taken r (word ws 1) then refused n (DuplicateName (word ws 1)) else
-    if nat_lt 15 (length r.operators) then above Operators (length r.operators + 1) else
+    if is_above Operators (length r.operators + 1) then above Operators (length r.operators + 1) else
     Ok (record r { operators = r.operators ++ word ws 1 ∷ [] }))
 
 -- medium NAME p2p FIXED PER and medium NAME multi FIXED PER
@@ -126,7 +130,7 @@ medium_line r n ws =
     all_names n (word ws 1 ∷ [])
     (with_number n 1000000 (word ws 3) (λ fixed. with_number n 1000000 (word ws 4) (λ per.
     if is_taken r (word ws 1) then refused n (DuplicateName (word ws 1)) else
-    if nat_lt 15 (length r.media) then above Media (length r.media + 1) else
+    if is_above Media (length r.media + 1) then above Media (length r.media + 1) else
     Ok (record r {
       media = r.media ++ record { name = word ws 1; multi = bytes_eq (word ws 2) (codes "multi"); fixed = fixed; per = per; stands = [] } ∷ [];
       lines = r.lines ++ n ∷ [];
@@ -143,7 +147,7 @@ no_medium = record { name = []; multi = false; fixed = 0; per = 0; stands = [] }
 abbrev pub connected : Reading → ℕ → Bytes → ℕ → ℕ → Result Reading ArchiError
 connected r n w m o =
     if list_any (λ p. p == o) (slice_index_or r.media m no_medium).stands then refused n (DuplicateName w) else
-    if nat_lt 63 r.connections then above Connections (r.connections + 1) else
+    if is_above Connections (r.connections + 1) then above Connections (r.connections + 1) else
     Ok (record r { media = slice_set r.media m (record (slice_index_or r.media m no_medium) { stands = with_stand o (slice_index_or r.media m no_medium).stands }); connections = r.connections + 1 })
 
 -- connect MEDIUM OPERATOR

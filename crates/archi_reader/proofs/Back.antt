@@ -1,5 +1,5 @@
 -- The lines of operators and media are read as they were printed.
-use Rattle.std.proofs.Common.{◌≡◌, ℕ, ◌+◌, ◌≤◌, ◌<◌, Bool, true, false, ◌&&◌, ◌||◌, if◌then◌else◌, List, [], ◌∷◌, ◌++◌, length, map, Option, Some, Result, Ok, nat_le, nat_lt, refl, sym, ap, subst, ◌∙◌, arith, append_assoc, append-nil, cond}
+use Rattle.std.proofs.Common.{◌≡◌, ℕ, ◌+◌, ◌≤◌, ◌<◌, Bool, true, false, ◌&&◌, ◌||◌, if◌then◌else◌, List, [], ◌∷◌, ◌++◌, length, map, Option, Some, Result, Ok, nat_le, refl, sym, ap, subst, ◌∙◌, arith, append_assoc, append-nil, cond}
 use Rattle.std.specs.Prelude.{codes}
 use Rattle.std.specs.List.{list_any, list_all, count_by}
 use Rattle.std.specs.Str.{bytes_eq}
@@ -9,10 +9,12 @@ use Rattle.std.proofs.lemmas.List.Folds.{list_all-append, list_any-append}
 use Rattle.std.proofs.lemmas.List.Sums.{sum_by-cons}
 use Rattle.syn_base.specs.Name.{is_name}
 use Rattle.syn_base.specs.Integer.{integer_of}
+use Rattle.syn_base.specs.Limits.{bound_of}
+use Rattle.syn_base.specs.declared.limits.LimitKind.TheVariants.{Operators, Media}
 use Rattle.archi_graph.specs.declared.medium.Medium.{Medium}
 use Rattle.archi_graph.specs.Archi.{are_distinct, occurs_once}
 use Rattle.archi_defs.specs.declared.fault.ArchiError.{ArchiError}
-use Rattle.archi_defs.specs.Text.{Bytes, Reading, start, with_some, up_to, is_taken, next_line}
+use Rattle.archi_defs.specs.Text.{Bytes, Reading, start, with_some, up_to, is_above, is_taken, next_line}
 use Rattle.archi_reader.specs.Canonical.{joined, number, kind_word, operator_words, medium_words}
 use Rattle.archi_reader.proofs.Sound.{count_with}
 use Rattle.archi_reader.proofs.Tables.{bytes_eq_self}
@@ -50,7 +52,7 @@ operator_read : (r : Reading) (n version : ℕ) (name : Bytes) → r.version ≡
     → next_line r n (joined (operator_words name)) ≡ Ok (record r { operators = r.operators ++ name ∷ [] })
 operator_read r n version name versioned named new few =
     described_back r n version (codes "operator") (name ∷ []) (and_from (is_word name) true (name_word name named) refl) versioned
-    ∙ operator_steps (is_name name) (is_taken r name) (nat_lt 15 (length r.operators)) _ _ _ _ named new (le-ltb 15 (length r.operators) (omega (arith, few)))
+    ∙ operator_steps (is_name name) (is_taken r name) (is_above Operators (length r.operators + 1)) _ _ _ _ named new (le-ltb (bound_of Operators) (length r.operators + 1) (omega (arith, few)))
 
 medium_steps : (named : Bool) (f p : Option ℕ) (fixed per : ℕ) (taken many : Bool) (a b c d e : Result Reading ArchiError) (go : ℕ → ℕ → Result Reading ArchiError)
     → named ≡ true → f ≡ Some fixed → p ≡ Some per → taken ≡ false → many ≡ false
@@ -77,15 +79,15 @@ medium_read true r n version name fixed per versioned named f p new few =
     let low_per = leb-true per 1000000 p in
     described_back r n version (codes "medium") (name ∷ kind_word true ∷ number fixed ∷ number per ∷ [])
     (medium_plain name (kind_word true) fixed per (name_word name named) refl (number_word fixed (omega (arith, low))) (number_word per (omega (arith, low_per)))) versioned
-    ∙ medium_steps (is_name name) (up_to 1000000 (integer_of (number fixed))) (up_to 1000000 (integer_of (number per))) fixed per (is_taken r name) (nat_lt 15 (length r.media)) _ _ _ _ _ _
-    named (number_back 1000000 fixed f (omega (arith, low))) (number_back 1000000 per p (omega (arith, low_per))) new (le-ltb 15 (length r.media) (omega (arith, few)))
+    ∙ medium_steps (is_name name) (up_to 1000000 (integer_of (number fixed))) (up_to 1000000 (integer_of (number per))) fixed per (is_taken r name) (is_above Media (length r.media + 1)) _ _ _ _ _ _
+    named (number_back 1000000 fixed f (omega (arith, low))) (number_back 1000000 per p (omega (arith, low_per))) new (le-ltb (bound_of Media) (length r.media + 1) (omega (arith, few)))
 medium_read false r n version name fixed per versioned named f p new few =
     let low = leb-true fixed 1000000 f in
     let low_per = leb-true per 1000000 p in
     described_back r n version (codes "medium") (name ∷ kind_word false ∷ number fixed ∷ number per ∷ [])
     (medium_plain name (kind_word false) fixed per (name_word name named) refl (number_word fixed (omega (arith, low))) (number_word per (omega (arith, low_per)))) versioned
-    ∙ medium_steps (is_name name) (up_to 1000000 (integer_of (number fixed))) (up_to 1000000 (integer_of (number per))) fixed per (is_taken r name) (nat_lt 15 (length r.media)) _ _ _ _ _ _
-    named (number_back 1000000 fixed f (omega (arith, low))) (number_back 1000000 per p (omega (arith, low_per))) new (le-ltb 15 (length r.media) (omega (arith, few)))
+    ∙ medium_steps (is_name name) (up_to 1000000 (integer_of (number fixed))) (up_to 1000000 (integer_of (number per))) fixed per (is_taken r name) (is_above Media (length r.media + 1)) _ _ _ _ _ _
+    named (number_back 1000000 fixed f (omega (arith, low))) (number_back 1000000 per p (omega (arith, low_per))) new (le-ltb (bound_of Media) (length r.media + 1) (omega (arith, few)))
 
 -- what the first lines say: the version, and the depth where there is one
 pub record Opening : Type 0 where

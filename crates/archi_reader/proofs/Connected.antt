@@ -7,7 +7,9 @@ use Rattle.std.proofs.lemmas.List.{length-set, length-map}
 use Rattle.std.proofs.lemmas.List.Sums.{sum_by-set, AllPass-from_list_all}
 use Rattle.archi_graph.specs.declared.medium.Medium.{Medium}
 use Rattle.archi_graph.specs.Archi.{ascends_from, are_distinct, stands_in_all}
-use Rattle.archi_defs.specs.Text.{Bytes, Reading, word, place_of, medium_names, connect_line, connected, with_stand, no_medium}
+use Rattle.syn_base.specs.Limits.{bound_of}
+use Rattle.syn_base.specs.declared.limits.LimitKind.TheVariants.{Connections}
+use Rattle.archi_defs.specs.Text.{Bytes, Reading, word, is_above, place_of, medium_names, connect_line, connected, with_stand, no_medium}
 use Rattle.archi_reader.specs.Views.{IsSound, is_begun}
 use Rattle.archi_reader.proofs.Sound.{Keeps, keeps_if, keeps_names, keeps_some, when_some}
 
@@ -66,7 +68,7 @@ module _ (r : Reading) (h : IsSound r) where
   -- one connection more
   connected_sound : (n m o : ℕ) (w : Bytes) → m < length r.media → o < length r.operators → Keeps IsSound (connected r n w m o)
   connected_sound n m o w below known =
-      keeps_if (list_any (λ p. p == o) (slice_index_or r.media m no_medium).stands) _ _ (λ new. keeps_if (nat_lt 63 r.connections) _ _ (λ few. record { holds = sound new few }))
+      keeps_if (list_any (λ p. p == o) (slice_index_or r.media m no_medium).stands) _ _ (λ new. keeps_if (is_above Connections (r.connections + 1)) _ _ (λ few. record { holds = sound new few }))
     where
       before : Medium
       before = slice_index_or r.media m no_medium
@@ -82,9 +84,9 @@ module _ (r : Reading) (h : IsSound r) where
           let c = and_parts (ascends_from 0 before.stands) (list_all (λ p. nat_lt p (length r.operators)) before.stands) b.0 in
           and_from _ _ (and_from _ _ (and_from _ _ (ascends_stand 0 o before.stands (omega arith) new c.0) (all_stand (λ p. nat_lt p (length r.operators)) o before.stands (lt-ltb o (length r.operators) known) c.1)) b.1) a.1
 
-      sound : list_any (λ p. p == o) before.stands ≡ false → nat_lt 63 r.connections ≡ false → IsSound (record r { media = slice_set r.media m after; connections = r.connections + 1 })
+      sound : list_any (λ p. p == o) before.stands ≡ false → is_above Connections (r.connections + 1) ≡ false → IsSound (record r { media = slice_set r.media m after; connections = r.connections + 1 })
       sound new few =
-          let room = ltb-false 63 r.connections few in
+          let room = ltb-false (bound_of Connections) (r.connections + 1) few in
           let one : length after.stands ≡ length before.stands + 1 = with_one_more o before.stands in
           let all : stands_in_all (slice_set r.media m after) + length before.stands ≡ stands_in_all r.media + length after.stands = sum_by-set (λ x. length x.stands) r.media m after no_medium below in
           let kept : length (slice_set r.media m after) ≡ length r.media = length-set r.media m after in

@@ -9,10 +9,12 @@ use Rattle.std.proofs.lemmas.List.Folds.{list_any-append}
 use Rattle.std.proofs.lemmas.List.Sums.{sum_by-cons, AllPass-from_list_all}
 use Rattle.std.proofs.lemmas.List.Concat.{flat_map-cons}
 use Rattle.syn_base.specs.Name.{is_name}
+use Rattle.syn_base.specs.Limits.{bound_of}
+use Rattle.syn_base.specs.declared.limits.LimitKind.TheVariants.{Connections}
 use Rattle.archi_graph.specs.declared.medium.Medium.{Medium}
 use Rattle.archi_graph.specs.Archi.{are_distinct, ascends_from, stands_in_all}
 use Rattle.archi_defs.specs.declared.fault.ArchiError.{ArchiError}
-use Rattle.archi_defs.specs.Text.{Bytes, Reading, start, with_some, place_of, medium_names, connected, no_medium, with_stand, next_line}
+use Rattle.archi_defs.specs.Text.{Bytes, Reading, start, with_some, place_of, medium_names, is_above, connected, no_medium, with_stand, next_line}
 use Rattle.archi_reader.specs.Canonical.{joined, name_at, connect_words, connections_of}
 use Rattle.archi_reader.proofs.Tables.{bytes_eq_self}
 use Rattle.archi_reader.proofs.Places.{first_or, position_cons}
@@ -101,8 +103,8 @@ one_connection : (opening : Opening) (operators : List Bytes) (done rest : List 
     → connected (at_connections opening operators (done ++ m ∷ rest) lines c) n w (length done) o ≡ Ok (at_connections opening operators (done ++ record m { stands = m.stands ++ o ∷ [] } ∷ rest) lines (c + 1))
 one_connection opening operators done rest m lines c n o w last new few =
     let seam = read_seam done rest m in
-    connected_steps (list_any (λ p. p == o) (slice_index_or (done ++ m ∷ rest) (length done) no_medium).stands) (nat_lt 63 c) _ _ _
-    (ap (λ (x : Medium). list_any (λ p. p == o) x.stands) seam ∙ new) (le-ltb 63 c (omega (arith, few)))
+    connected_steps (list_any (λ p. p == o) (slice_index_or (done ++ m ∷ rest) (length done) no_medium).stands) (is_above Connections (c + 1)) _ _ _
+    (ap (λ (x : Medium). list_any (λ p. p == o) x.stands) seam ∙ new) (le-ltb (bound_of Connections) (c + 1) (omega (arith, few)))
     ∙ ap (λ (x : Medium). Ok (at_connections opening operators (slice_set (done ++ m ∷ rest) (length done) (record x { stands = with_stand o x.stands })) lines (c + 1))) seam
     ∙ ap (λ (l : List Medium). Ok (at_connections opening operators l lines (c + 1))) (set_seam done rest m (record m { stands = with_stand o m.stands }))
     ∙ ap (λ (l : List ℕ). Ok (at_connections opening operators (done ++ record m { stands = l } ∷ rest) lines (c + 1))) last

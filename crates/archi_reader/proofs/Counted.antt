@@ -1,5 +1,5 @@
 -- What was read was spelled, and each line adds one thing at most.
-use Rattle.std.proofs.Common.{◌≡◌, ℕ, ◌+◌, ◌≤◌, ◌<◌, Bool, not, true, false, cond, ◌||◌, ◌&&◌, ◌==◌, if◌then◌else◌, List, [], ◌∷◌, ◌++◌, length, Option, Some, None, Ok, nat_le, nat_lt, refl, sym, ap, subst, ◌∙◌, arith, append_assoc, append-nil, inl, inr}
+use Rattle.std.proofs.Common.{◌≡◌, ℕ, ◌+◌, ◌≤◌, ◌<◌, Bool, not, true, false, ◌||◌, ◌&&◌, ◌==◌, if◌then◌else◌, List, [], ◌∷◌, ◌++◌, length, Option, Some, None, Ok, nat_le, nat_lt, refl, sym, ap, subst, ◌∙◌, arith, append_assoc, append-nil, inl, inr}
 use Rattle.std.specs.Prelude.{codes, is_some, slice_index_or, slice_set, ◌⊎◌}
 use Rattle.std.specs.List.{list_any, list_all}
 use Rattle.std.specs.Str.{bytes_eq}
@@ -10,10 +10,11 @@ use Rattle.std.proofs.lemmas.List.Folds.{list_all-append}
 use Rattle.text_lines.specs.Text.{words_of, code_of, foreign_place}
 use Rattle.syn_base.specs.Name.{is_name}
 use Rattle.syn_base.specs.Integer.{integer_of}
+use Rattle.syn_base.specs.declared.limits.LimitKind.TheVariants.{Operators, Media, Connections}
 use Rattle.archi_graph.specs.declared.medium.Medium.{Medium}
 use Rattle.archi_graph.specs.Archi.{names_of}
 use Rattle.archi_defs.specs.declared.text.DurationLine.{DurationLine}
-use Rattle.archi_defs.specs.Text.{Bytes, Reading, begins, word, up_to, with_some, depth_of, version_of, place_of, medium_names, is_taken, no_medium, with_stand, version_line, operator_line, medium_line, connect_line, duration_line, depth_line, described_line, line_by, next_line}
+use Rattle.archi_defs.specs.Text.{Bytes, Reading, begins, word, up_to, with_some, depth_of, version_of, place_of, medium_names, is_above, is_taken, no_medium, with_stand, version_line, operator_line, medium_line, connect_line, duration_line, depth_line, described_line, line_by, next_line}
 use Rattle.archi_reader.specs.Durations.{is_given}
 use Rattle.archi_reader.proofs.Sound.{Holds, Keeps, keeps_if, keeps_names, keeps_some, within, all_with}
 use Rattle.archi_reader.proofs.Connected.{names_kept, place_below}
@@ -105,7 +106,7 @@ module _ (r : Reading) (h : IsSpelled r) where
 
   follows_operator : (n : ℕ) (ws : List Bytes) → Keeps (Follows r) (operator_line r n ws)
   follows_operator n ws =
-      keeps_if (not (length ws == 2)) _ _ (λ a. keeps_names n (word ws 1) [] _ (λ named. keeps_if (is_taken r (word ws 1)) _ _ (λ fresh. keeps_if (nat_lt 15 (length r.operators)) _ _ (λ few. record { holds = it named }))))
+      keeps_if (not (length ws == 2)) _ _ (λ a. keeps_names n (word ws 1) [] _ (λ named. keeps_if (is_taken r (word ws 1)) _ _ (λ fresh. keeps_if (is_above Operators (length r.operators + 1)) _ _ (λ few. record { holds = it named }))))
     where
       it : is_name (word ws 1) ≡ true → Follows r (record r { operators = r.operators ++ word ws 1 ∷ [] })
       it named =
@@ -125,7 +126,7 @@ module _ (r : Reading) (h : IsSpelled r) where
   follows_medium n ws =
       keeps_if (not (length ws == 5) || not (bytes_eq (word ws 2) (codes "p2p") || bytes_eq (word ws 2) (codes "multi"))) _ _ (λ a. keeps_names n (word ws 1) [] _ (λ named.
       keeps_some (up_to 1000000 (integer_of (word ws 3))) _ _ (λ fixed f. keeps_some (up_to 1000000 (integer_of (word ws 4))) _ _ (λ per p.
-      keeps_if (is_taken r (word ws 1)) _ _ (λ fresh. keeps_if (nat_lt 15 (length r.media)) _ _ (λ few. record { holds = it fixed per named }))))))
+      keeps_if (is_taken r (word ws 1)) _ _ (λ fresh. keeps_if (is_above Media (length r.media + 1)) _ _ (λ few. record { holds = it fixed per named }))))))
     where
       it : (fixed per : ℕ) → is_name (word ws 1) ≡ true
           → Follows r (record r { media = r.media ++ record { name = word ws 1; multi = bytes_eq (word ws 2) (codes "multi"); fixed = fixed; per = per; stands = [] } ∷ []; lines = r.lines ++ n ∷ [] })
@@ -149,7 +150,7 @@ module _ (r : Reading) (h : IsSpelled r) where
   follows_connect n ws =
       keeps_if (not (length ws == 3)) _ _ (λ a. keeps_names n (word ws 1) (word ws 2 ∷ []) _ (λ b. keeps_names n (word ws 2) [] _ (λ c.
       keeps_some (place_of (word ws 1) (medium_names r)) _ _ (λ m found. keeps_some (place_of (word ws 2) r.operators) _ _ (λ o known.
-      keeps_if (list_any (λ p. p == o) (slice_index_or r.media m no_medium).stands) _ _ (λ new. keeps_if (nat_lt 63 r.connections) _ _ (λ few. record { holds = it m o })))))))
+      keeps_if (list_any (λ p. p == o) (slice_index_or r.media m no_medium).stands) _ _ (λ new. keeps_if (is_above Connections (r.connections + 1)) _ _ (λ few. record { holds = it m o })))))))
     where
       after_of : ℕ → ℕ → Medium
       after_of m o = record (slice_index_or r.media m no_medium) { stands = with_stand o (slice_index_or r.media m no_medium).stands }

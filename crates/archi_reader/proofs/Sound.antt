@@ -9,12 +9,14 @@ use Rattle.std.proofs.lemmas.List.Folds.{list_all-append}
 use Rattle.std.proofs.lemmas.List.Sums.{sum_by-append, sum_by-cons, sum_by_push}
 use Rattle.syn_base.specs.Name.{is_name}
 use Rattle.syn_base.specs.Integer.{integer_of}
+use Rattle.syn_base.specs.Limits.{bound_of}
 use Rattle.syn_base.specs.declared.integer.NumFault.{NumFault}
+use Rattle.syn_base.specs.declared.limits.LimitKind.TheVariants.{Operators, Media}
 use Rattle.archi_graph.specs.declared.medium.Medium.{Medium}
 use Rattle.archi_graph.specs.Archi.{ascends_from, are_distinct, is_depth, occurs_once}
 use Rattle.archi_defs.specs.declared.fault.ArchiError.{ArchiError}
 use Rattle.archi_defs.specs.declared.fault.ArchiCause.TheVariants.{BadName}
-use Rattle.archi_defs.specs.Text.{Bytes, refused, Reading, word, up_to, with_some, all_names, medium_names, is_taken, depth_of, version_of, operator_line, medium_line, version_line, depth_line}
+use Rattle.archi_defs.specs.Text.{Bytes, refused, Reading, word, up_to, with_some, all_names, medium_names, is_above, is_taken, depth_of, version_of, operator_line, medium_line, version_line, depth_line}
 use Rattle.archi_reader.specs.Views.{IsSound, is_begun}
 use Rattle.archi_reader.proofs.Tables.{bytes_eq_sym, bytes_eq_self}
 
@@ -150,11 +152,11 @@ all_begun_more n (m ∷ media) h =
 
 pub sound_operator : (r : Reading) (n : ℕ) (ws : List Bytes) → IsSound r → Keeps IsSound (operator_line r n ws)
 sound_operator r n ws h =
-    keeps_if (not (length ws == 2)) _ _ (λ a. keeps_names n (word ws 1) [] _ (λ b. keeps_if (is_taken r (word ws 1)) _ _ (λ fresh. keeps_if (nat_lt 15 (length r.operators)) _ _ (λ few. record { holds = sound fresh few }))))
+    keeps_if (not (length ws == 2)) _ _ (λ a. keeps_names n (word ws 1) [] _ (λ b. keeps_if (is_taken r (word ws 1)) _ _ (λ fresh. keeps_if (is_above Operators (length r.operators + 1)) _ _ (λ few. record { holds = sound fresh few }))))
   where
-    sound : is_taken r (word ws 1) ≡ false → nat_lt 15 (length r.operators) ≡ false → IsSound (record r { operators = r.operators ++ word ws 1 ∷ [] })
+    sound : is_taken r (word ws 1) ≡ false → is_above Operators (length r.operators + 1) ≡ false → IsSound (record r { operators = r.operators ++ word ws 1 ∷ [] })
     sound fresh few =
-        let room = ltb-false 15 (length r.operators) few in
+        let room = ltb-false (bound_of Operators) (length r.operators + 1) few in
         let more : length (r.operators ++ word ws 1 ∷ []) ≡ length r.operators + 1 = length_push r.operators (word ws 1) in
         record {
           operators = omega (arith, more, room);
@@ -175,15 +177,15 @@ medium_of ws fixed per = record { name = word ws 1; multi = bytes_eq (word ws 2)
 pub sound_medium : (r : Reading) (n : ℕ) (ws : List Bytes) → IsSound r → Keeps IsSound (medium_line r n ws)
 sound_medium r n ws h =
     keeps_if (not (length ws == 5) || not (bytes_eq (word ws 2) (codes "p2p") || bytes_eq (word ws 2) (codes "multi"))) _ _ (λ a. keeps_names n (word ws 1) [] _ (λ b. keeps_some (up_to 1000000 (integer_of (word ws 3))) _ _ (λ fixed f. keeps_some (up_to 1000000 (integer_of (word ws 4))) _ _ (λ per p.
-    keeps_if (is_taken r (word ws 1)) _ _ (λ fresh. keeps_if (nat_lt 15 (length r.media)) _ _ (λ few. record {
+    keeps_if (is_taken r (word ws 1)) _ _ (λ fresh. keeps_if (is_above Media (length r.media + 1)) _ _ (λ few. record {
       holds = sound fixed per (within 1000000 (integer_of (word ws 3)) fixed f) (within 1000000 (integer_of (word ws 4)) per p) fresh few;
     }))))))
   where
-    sound : (fixed per : ℕ) → nat_le fixed 1000000 ≡ true → nat_le per 1000000 ≡ true → is_taken r (word ws 1) ≡ false → nat_lt 15 (length r.media) ≡ false
+    sound : (fixed per : ℕ) → nat_le fixed 1000000 ≡ true → nat_le per 1000000 ≡ true → is_taken r (word ws 1) ≡ false → is_above Media (length r.media + 1) ≡ false
         → IsSound (record r { media = r.media ++ medium_of ws fixed per ∷ []; lines = r.lines ++ n ∷ [] })
     sound fixed per f p fresh few =
         let m = medium_of ws fixed per in
-        let room = ltb-false 15 (length r.media) few in
+        let room = ltb-false (bound_of Media) (length r.media + 1) few in
         let more : length (r.media ++ m ∷ []) ≡ length r.media + 1 = length_push r.media m in
         let below : is_begun (length r.operators) m ≡ true = and_from _ _ f p in
         let fresh_of : list_any (bytes_eq (word ws 1)) ((r.operators ++ medium_names r) ++ []) ≡ false = rw append-nil fresh in

@@ -2,6 +2,7 @@
 ghost use Rattle.std.specs.Prelude.{◌≡◌};
 ghost use Rattle.archi_reader.specs.Given.{IsStop, stop, Adds};
 ghost use Rattle.syn_base.specs.Limits.{bound_of};
+ghost use Rattle.archi_defs.specs.Text.{is_above};
 ghost use Rattle.archi_defs.specs.declared.fault.ArchiCause.TheVariants.{NotText, BadLine, BadName, BadNumber, UnknownName, DuplicateName};
 ghost use Rattle.archi_defs.specs.declared.fault.ArchiError.TheVariants.{Limit};
 
@@ -70,7 +71,14 @@ pub fn duplicate(alloc: Global, line: u32, word: &[u8]) -> ArchiError
     }
 }
 
-/// A quantity above its bound.
+/// A quantity is above its bound.
+pub fn is_above(which: LimitKind, count: u128) -> bool
+    ensures { result ≡ is_above which count }
+{
+    count > which.bound()
+}
+
+/// The refusal of a quantity above its bound.
 pub fn above(which: LimitKind, count: u128) -> ArchiError
     ensures { result ≡ Limit (record { which = which; count = count; bound = bound_of which }) }
 {

@@ -6,7 +6,9 @@ ghost use Rattle.archi_reader.specs.Given.{Steps, Gives, MakesReader};
 ghost use Rattle.archi_reader.specs.Views.{reading, IsSound};
 
 use crate::durations::Durations;
-use crate::fault::{above, bad_line, bad_name, bad_number, duplicate, not_text, push, unknown};
+use crate::fault::{
+    above, bad_line, bad_name, bad_number, duplicate, is_above, not_text, push, unknown,
+};
 use crate::names::{is_taken, medium_at, operator_at};
 use crate::stands::{has_stand, with_stand};
 use crate::word::{begins, read_depth, read_name, read_up_to, read_version};
@@ -84,8 +86,9 @@ impl<'a> Reader<'a> {
         if is_taken(&self.operators, &self.media, word) {
             return Err(duplicate(alloc, number, word));
         }
-        if self.operators.len() > 15 {
-            return Err(above(LimitKind::Operators, self.operators.len() as u128 + 1));
+        let count = self.operators.len() as u128 + 1;
+        if is_above(LimitKind::Operators, count) {
+            return Err(above(LimitKind::Operators, count));
         }
         push(&mut self.operators, name)?;
         Ok(())
@@ -115,8 +118,9 @@ impl<'a> Reader<'a> {
         if is_taken(&self.operators, &self.media, word) {
             return Err(duplicate(alloc, number, word));
         }
-        if self.media.len() > 15 {
-            return Err(above(LimitKind::Media, self.media.len() as u128 + 1));
+        let count = self.media.len() as u128 + 1;
+        if is_above(LimitKind::Media, count) {
+            return Err(above(LimitKind::Media, count));
         }
         let medium = Medium {
             name,
@@ -145,8 +149,9 @@ impl<'a> Reader<'a> {
         if has_stand(&self.media[medium], operator) {
             return Err(duplicate(alloc, number, word));
         }
-        if self.connections > 63 {
-            return Err(above(LimitKind::Connections, self.connections as u128 + 1));
+        let count = self.connections as u128 + 1;
+        if is_above(LimitKind::Connections, count) {
+            return Err(above(LimitKind::Connections, count));
         }
         let stands = with_stand(alloc, operator, self.media[medium].stands.as_slice())?;
         self.media[medium].stands = stands;

@@ -9,11 +9,12 @@ use Rattle.std.proofs.lemmas.List.Elements.{All-nil, All-push}
 use Rattle.syn_base.specs.Name.{is_name}
 use Rattle.syn_base.specs.Integer.{integer_of}
 use Rattle.syn_base.specs.declared.integer.NumFault.{NumFault}
+use Rattle.syn_base.specs.declared.limits.LimitKind.TheVariants.{Operators, Media, Connections}
 use Rattle.text_lines.specs.Text.{lines_of, words_of, code_of, foreign_place}
 use Rattle.archi_graph.specs.declared.medium.Medium.{Medium}
 use Rattle.archi_defs.specs.declared.fault.ArchiError.{ArchiError}
 use Rattle.archi_defs.specs.declared.fault.ArchiCause.TheVariants.{BadLine, BadName}
-use Rattle.archi_defs.specs.Text.{Bytes, Described, Reading, start, refused, word, with_some, version_of, depth_of, depth_line, and_then, all_names, up_to, place_of, is_taken, medium_names, no_medium, version_line, operator_line, medium_line, connected, connect_line, duration_line, begins, described_line, line_by, next_line, has_stands, media_are_right, all_joined, apart, whole_of, whole, rest_of, description_of}
+use Rattle.archi_defs.specs.Text.{Bytes, Described, Reading, start, refused, word, with_some, version_of, depth_of, depth_line, and_then, all_names, up_to, place_of, is_above, is_taken, medium_names, no_medium, version_line, operator_line, medium_line, connected, connect_line, duration_line, begins, described_line, line_by, next_line, has_stands, media_are_right, all_joined, apart, whole_of, whole, rest_of, description_of}
 use Rattle.durations.specs.Lines.{IsDuration, AreDurations}
 
 record IsKept (r : Reading) : Type 0 where
@@ -74,7 +75,7 @@ kept_depth r n version ws h =
 
 kept_operator : (r : Reading) (n : ℕ) (ws : List Bytes) → IsKept r → Keeps (operator_line r n ws)
 kept_operator r n ws h =
-    keeps_if (not (length ws == 2)) _ _ (keeps_names n (word ws 1 ∷ []) _ (keeps_if (is_taken r (word ws 1)) _ _ (keeps_if (nat_lt 15 (length r.operators)) _ _ (record {
+    keeps_if (not (length ws == 2)) _ _ (keeps_names n (word ws 1 ∷ []) _ (keeps_if (is_taken r (word ws 1)) _ _ (keeps_if (is_above Operators (length r.operators + 1)) _ _ (record {
       holds = record {
         kept = λ k d l.
             let more : length (r.operators ++ word ws 1 ∷ []) ≡ length r.operators + 1 = length_push r.operators (word ws 1) in
@@ -87,11 +88,11 @@ kept_medium : (r : Reading) (n : ℕ) (ws : List Bytes) → IsKept r → Keeps (
 kept_medium r n ws h =
     keeps_if (not (length ws == 5) || not (bytes_eq (word ws 2) (codes "p2p") || bytes_eq (word ws 2) (codes "multi"))) _ _ (keeps_names n (word ws 1 ∷ []) _
     (keeps_some (up_to 1000000 (integer_of (word ws 3))) _ _ (λ fixed f. keeps_some (up_to 1000000 (integer_of (word ws 4))) _ _ (λ per p.
-    keeps_if (is_taken r (word ws 1)) _ _ (keeps_if (nat_lt 15 (length r.media)) _ _ (record { holds = record { kept = h.kept } }))))))
+    keeps_if (is_taken r (word ws 1)) _ _ (keeps_if (is_above Media (length r.media + 1)) _ _ (record { holds = record { kept = h.kept } }))))))
 
 kept_connected : (r : Reading) (n : ℕ) (w : Bytes) (m o : ℕ) → IsKept r → Keeps (connected r n w m o)
 kept_connected r n w m o h =
-    keeps_if (list_any (λ p. p == o) (slice_index_or r.media m no_medium).stands) _ _ (keeps_if (nat_lt 63 r.connections) _ _ (record { holds = record { kept = h.kept } }))
+    keeps_if (list_any (λ p. p == o) (slice_index_or r.media m no_medium).stands) _ _ (keeps_if (is_above Connections (r.connections + 1)) _ _ (record { holds = record { kept = h.kept } }))
 
 kept_connect : (r : Reading) (n : ℕ) (ws : List Bytes) → IsKept r → Keeps (connect_line r n ws)
 kept_connect r n ws h =

@@ -7,7 +7,7 @@ use Rattle.consistent_cuts.specs.Sites.{Code, step_at, place_at, hit, IsSite}
 use Rattle.interleavings.specs.System.{System, Micro, take, see, signal, await, load, store, is_take, is_signal, stores, sub, advance}
 use Rattle.interleavings.specs.Owners.{Owner, IsOwned}
 use Rattle.interleavings.specs.Media.{Half}
-use Rattle.interleavings.specs.Pairs.{IsSemaphore, IsPair, late}
+use Rattle.interleavings.specs.Pairs.{Pair, IsSemaphore, IsPair, late}
 use Rattle.interleavings.specs.Order.{IsJoined, IsOrdered}
 use Rattle.interleavings.specs.Sound.{IsRightAt, AreValues}
 use Rattle.interleavings.specs.Synchronized.{IsBinary, IsBuffer, IsPairLoad, IsSynchronized}
@@ -162,7 +162,10 @@ empty_is = record { taken = writer_takes; signalled = reader_signals; before = o
 full_is : IsSemaphore example signaller 1 1 0 0
 full_is = record { taken = reader_takes; signalled = writer_signals; before = omega arith; asked = inl refl }
 
-pair_is : IsPair example signaller 0 1 1 0 1 0 0 2 0 0 2 0
+abbrev pair : Pair
+pair = record { empty = 0; full = 1; depth = 1; writer = 0; ask_empty = 0; take_empty = 0; signal_full = 2; reader = 1; ask_full = 0; take_full = 0; signal_empty = 2; front = 0 }
+
+pair_is : IsPair example signaller pair
 pair_is = record { empty_is = empty_is; full_is = full_is; empty_by = refl; full_by = refl; in_writer = omega arith; in_reader = omega arith }
 
 abbrev spot : ℕ → ℕ → ℕ
@@ -259,24 +262,17 @@ joined = record {
 }
 
 binary_at : (x : ℕ) → (x ≡ 0) ⊎ (x ≡ 1) → IsBinary example signaller half x
-binary_at x q = record { empty = 0; filled = 1; writer = 0; reader = 1; wa = 0; wt = 0; ws = 2; ra = 0; rt = 0; rs = 2; first = 0; pair = pair_is; is_one = q }
+binary_at x q = record { pair = pair; is_pair = pair_is; one_place = refl; is_one = q }
 
 buffer_is : IsBuffer example signaller half 0 0 1
 buffer_is = record { written = writer_stores; once = refl; some = omega arith }
 
 pair_load : IsPairLoad example signaller half 1 1 0 0
 pair_load = record {
-  empty = 0;
-  filled = 1;
-  writer = 0;
-  wa = 0;
-  wt = 0;
-  ws = 2;
-  ra = 0;
-  rt = 0;
-  rs = 2;
-  sign = 0;
-  pair = pair_is;
+  pair = pair;
+  is_pair = pair_is;
+  same = refl;
+  depth = refl;
   st = 1;
   buffer = buffer_is;
   first = refl;

@@ -48,20 +48,22 @@ module _ {P : Type 0} (w : System P) (signaller : ℕ → Owner) (half : ℕ →
       )
 
   pair_fresh : IsPairLoad w signaller half s l y i → Fresh
-  pair_fresh x = let b = x.buffer in let o = x.pair in let e = once_is b.once x.first in
-      let te = total_owned w (is_take x.empty) (late x.writer x.wt) o.empty_is.taken c in
-      let em = empties w signaller half rank c k x.empty x.filled (w.depth y) x.writer s x.wa x.wt x.ws x.ra x.rt x.rs x.sign o in
-      let fu = fulls w signaller half rank c k x.empty x.filled (w.depth y) x.writer s x.wa x.wt x.ws x.ra x.rt x.rs x.sign o in
-      let se = total_owned w (is_signal x.empty) _ em c in
-      let tf = total_owned w (is_take x.filled) (late s x.rt) o.full_is.taken c in
-      let sf = total_owned w (is_signal x.filled) (late x.writer x.ws) fu c in
-      let sv = total_owned w (stores y) (late x.writer x.st) b.written c in
+  pair_fresh x = let q = x.pair in let b = x.buffer in let o = x.is_pair in let e = once_is b.once x.first in let d = x.depth in
+      let te = total_owned w (is_take q.empty) (late q.writer q.take_empty) o.empty_is.taken c in
+      let em = empties w signaller half rank c k q o in
+      let fu = fulls w signaller half rank c k q o in
+      let se = total_owned w (is_signal q.empty) _ em c in
+      let tf = total_owned w (is_take q.full) (late q.reader q.take_full) o.full_is.taken c in
+      let sf = total_owned w (is_signal q.full) (late q.writer q.signal_full) fu c in
+      let sv = total_owned w (stores y) (late q.writer x.st) b.written c in
       let h1 = x.store_after in let h2 = x.store_before in let h3 = x.load_after in let h4 = x.load_before in
-      let o1 = later_le (is_take x.empty) (stores y) (w.codes x.writer) _ _ o.empty_is.taken.site b.written.site refl (omega arith) (c x.writer) in
-      let o2 = later_le (stores y) (is_signal x.filled) (w.codes x.writer) _ _ b.written.site fu.site refl (omega arith) (c x.writer) in
-      let x1 = takes_le w signaller half rank c k x.empty x.writer x.wa x.wt o.empty_is in let x2 = takes_le w signaller half rank c k x.filled s x.ra x.rt o.full_is in (
-        λ m. let z = passed_at (is_take x.filled) (w.codes s) _ o.full_is.taken.site (c s) j l (omega arith) m in omega (arith, e),
-        λ m. let z = not_passed_at (is_signal x.empty) (w.codes s) _ em.site (c s) j l (omega arith) m in omega (arith, e),
+      let o1 = later_le (is_take q.empty) (stores y) (w.codes q.writer) _ _ o.empty_is.taken.site b.written.site refl (omega arith) (c q.writer) in
+      let o2 = later_le (stores y) (is_signal q.full) (w.codes q.writer) _ _ b.written.site fu.site refl (omega arith) (c q.writer) in
+      let x1 = takes_le w signaller half rank c k q.empty q.writer q.ask_empty q.take_empty o.empty_is in let x2 = takes_le w signaller half rank c k q.full q.reader q.ask_full q.take_full o.full_is in (
+        λ m. let m' = subst (λ (u : ℕ). number_of (w.codes u) j l < c u) x.same m in
+            let z = passed_at (is_take q.full) (w.codes q.reader) _ o.full_is.taken.site (c q.reader) j l (omega arith) m' in omega (arith, e),
+        λ m. let m' = subst (λ (u : ℕ). c u ≤ number_of (w.codes u) j l) x.same m in
+            let z = not_passed_at (is_signal q.empty) (w.codes q.reader) _ em.site (c q.reader) j l (omega arith) m' in omega (arith, e),
       )
 
   abbrev half_at_of : IsFromWire w signaller half s l y i → ℕ
@@ -175,7 +177,7 @@ module _ {P : Type 0} (w : System P) (signaller : ℕ → Owner) (half : ℕ →
 
   load_stored : (s l y i t : ℕ) → slice_get (w.codes s).turn l ≡ Some (load y i) → t < total w (stores y) c → IsStored w c y t
   load_stored s l y i t e h = ⊎_elim (λ (x : IsOwnLoad w signaller half s l y i). buffer_stored y s x.st t x.buffer h)
-      (⊎_elim (λ (x : IsPairLoad w signaller half s l y i). buffer_stored y x.writer x.st t x.buffer h)
+      (⊎_elim (λ (x : IsPairLoad w signaller half s l y i). buffer_stored y x.pair.writer x.st t x.buffer h)
       (λ (x : IsFromWire w signaller half s l y i). wire_stored x.medium y x.half_of x.place_of x.medium_is x.wire t h)) (d.loads s l y i e)
 
   -- a store that was made is among the rounds stored

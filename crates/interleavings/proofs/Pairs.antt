@@ -6,13 +6,13 @@ use Rattle.std.proofs.lemmas.Option.{slice_get_within}
 use Rattle.std.proofs.Math.Nat.{mul-le-mul_right}
 use native.Mathlib.Nat.{suc-mul}
 use Rattle.consistent_cuts.specs.Precedence.{Event, event, IsConsistent}
-use Rattle.consistent_cuts.specs.Sites.{Site, step_at, passes, number_of}
+use Rattle.consistent_cuts.specs.Sites.{step_at, passes, number_of}
 use Rattle.consistent_cuts.proofs.Counting.{nth_made}
 use Rattle.consistent_cuts.proofs.Between.{later_le, passes_upto, passes_from}
 use Rattle.interleavings.specs.System.{System, Micro, take, see, is_take, is_signal, stores, total}
 use Rattle.interleavings.specs.Owners.{Owner, IsOwned, nth_of}
 use Rattle.interleavings.specs.Media.{Half, needed, precedence}
-use Rattle.interleavings.specs.Pairs.{IsSemaphore, IsPair, late}
+use Rattle.interleavings.specs.Pairs.{Pair, IsSemaphore, IsPair, late}
 use Rattle.interleavings.proofs.Totals.{total_nth, total_owned}
 use Rattle.interleavings.proofs.Media.{step_there, nth_late}
 
@@ -64,39 +64,36 @@ module _ {P : Type 0} (w : System P) (signaller : ℕ → Owner) (half : ℕ →
         let b = ap (passes (is_take x) (w.codes t)) at in
         let e = passes_at w (is_take x) t takes takes j o.taken (omega arith) in omega arith
 
-  module _ (empty filled d writer reader wa wt ws ra rt rs first : ℕ) (o : IsPair w signaller empty filled d writer reader wa wt ws ra rt rs first) where
-    site_of : Site
-    site_of = record { first = first; early = d; place = rs }
+  module _ (q : Pair) (o : IsPair w signaller q) where
+    pub empties : IsOwned w (is_signal q.empty) (record { sequence = q.reader; site = record { first = q.front; early = q.depth; place = q.signal_empty } })
+    empties = subst (IsOwned w (is_signal q.empty)) o.empty_by o.empty_is.signalled
 
-    pub empties : IsOwned w (is_signal empty) (record { sequence = reader; site = record { first = first; early = d; place = rs } })
-    empties = subst (IsOwned w (is_signal empty)) o.empty_by o.empty_is.signalled
+    pub fulls : IsOwned w (is_signal q.full) (late q.writer q.signal_full)
+    fulls = subst (IsOwned w (is_signal q.full)) o.full_by o.full_is.signalled
 
-    pub fulls : IsOwned w (is_signal filled) (late writer ws)
-    fulls = subst (IsOwned w (is_signal filled)) o.full_by o.full_is.signalled
+    pub writer_order : total w (is_signal q.full) c ≤ total w (is_take q.empty) c
+    writer_order = let a = total_owned w (is_take q.empty) (late q.writer q.take_empty) o.empty_is.taken c in let b = total_owned w (is_signal q.full) (late q.writer q.signal_full) fulls c in
+        let e = later_le (is_take q.empty) (is_signal q.full) (w.codes q.writer) _ _ o.empty_is.taken.site fulls.site refl (let i = o.in_writer in omega arith) (c q.writer) in omega arith
 
-    pub writer_order : total w (is_signal filled) c ≤ total w (is_take empty) c
-    writer_order = let a = total_owned w (is_take empty) (late writer wt) o.empty_is.taken c in let b = total_owned w (is_signal filled) (late writer ws) fulls c in
-        let e = later_le (is_take empty) (is_signal filled) (w.codes writer) _ _ o.empty_is.taken.site fulls.site refl (let i = o.in_writer in omega arith) (c writer) in omega arith
+    pub reader_order : total w (is_signal q.empty) c ≤ total w (is_take q.full) c + q.depth
+    reader_order = let a = total_owned w (is_take q.full) (late q.reader q.take_full) o.full_is.taken c in let b = total_owned w (is_signal q.empty) _ empties c in
+        let e = later_le (is_take q.full) (is_signal q.empty) (w.codes q.reader) _ _ o.full_is.taken.site empties.site refl (let i = o.in_reader in omega arith) (c q.reader) in omega arith
 
-    pub reader_order : total w (is_signal empty) c ≤ total w (is_take filled) c + d
-    reader_order = let a = total_owned w (is_take filled) (late reader rt) o.full_is.taken c in let b = total_owned w (is_signal empty) _ empties c in
-        let e = later_le (is_take filled) (is_signal empty) (w.codes reader) _ _ o.full_is.taken.site empties.site refl (let i = o.in_reader in omega arith) (c reader) in omega arith
+    -- the two semaphores of a pair hold together at most as many as its buffer has places
+    pub at_most : (total w (is_signal q.empty) c ≤ total w (is_take q.empty) c + q.depth) × (total w (is_signal q.full) c ≤ total w (is_take q.full) c + q.depth)
+    at_most = let a = writer_order in let b = reader_order in let e = takes_le q.empty q.writer q.ask_empty q.take_empty o.empty_is in let f = takes_le q.full q.reader q.ask_full q.take_full o.full_is in (omega arith, omega arith)
 
-    -- the two semaphores of a pair hold together at most d
-    pub at_most : (total w (is_signal empty) c ≤ total w (is_take empty) c + d) × (total w (is_signal filled) c ≤ total w (is_take filled) c + d)
-    at_most = let a = writer_order in let b = reader_order in let e = takes_le empty writer wa wt o.empty_is in let f = takes_le filled reader ra rt o.full_is in (omega arith, omega arith)
-
-    -- A load between the reader's take and its signal, of an element that is stored between the writer's take and its signal: its round was stored, and at most d - 1 later ones.
-    pub buffer_load : (y st l j : ℕ) → IsOwned w (stores y) (late writer st) → wt < st → st < ws → rt < l → l < rs → c reader ≡ number_of (w.codes reader) j l
-        → (j < total w (stores y) c) × (total w (stores y) c ≤ j + d)
-    buffer_load y st l j v h1 h2 h3 h4 q =
-        let te = total_owned w (is_take empty) (late writer wt) o.empty_is.taken c in let se = total_owned w (is_signal empty) _ empties c in
-        let tf = total_owned w (is_take filled) (late reader rt) o.full_is.taken c in let sf = total_owned w (is_signal filled) (late writer ws) fulls c in
-        let sv = total_owned w (stores y) (late writer st) v c in
-        let fe = ap (passes (is_signal empty) (w.codes reader)) q in let ff = ap (passes (is_take filled) (w.codes reader)) q in
-        let lo = passes_from (is_take filled) (w.codes reader) _ o.full_is.taken.site j l h3 in
-        let hi = passes_upto (is_signal empty) (w.codes reader) _ empties.site j l (omega arith) in
-        let o1 = later_le (is_take empty) (stores y) (w.codes writer) _ _ o.empty_is.taken.site v.site refl (omega arith) (c writer) in
-        let o2 = later_le (stores y) (is_signal filled) (w.codes writer) _ _ v.site fulls.site refl (omega arith) (c writer) in
-        let x1 = takes_le empty writer wa wt o.empty_is in let x2 = takes_le filled reader ra rt o.full_is in
+    -- A load between the reader's take and its signal, of an element that is stored between the writer's take and its signal: its round was stored, and fewer later ones than the buffer has places.
+    pub buffer_load : (y st l j : ℕ) → IsOwned w (stores y) (late q.writer st) → q.take_empty < st → st < q.signal_full → q.take_full < l → l < q.signal_empty → c q.reader ≡ number_of (w.codes q.reader) j l
+        → (j < total w (stores y) c) × (total w (stores y) c ≤ j + q.depth)
+    buffer_load y st l j v h1 h2 h3 h4 at =
+        let te = total_owned w (is_take q.empty) (late q.writer q.take_empty) o.empty_is.taken c in let se = total_owned w (is_signal q.empty) _ empties c in
+        let tf = total_owned w (is_take q.full) (late q.reader q.take_full) o.full_is.taken c in let sf = total_owned w (is_signal q.full) (late q.writer q.signal_full) fulls c in
+        let sv = total_owned w (stores y) (late q.writer st) v c in
+        let fe = ap (passes (is_signal q.empty) (w.codes q.reader)) at in let ff = ap (passes (is_take q.full) (w.codes q.reader)) at in
+        let lo = passes_from (is_take q.full) (w.codes q.reader) _ o.full_is.taken.site j l h3 in
+        let hi = passes_upto (is_signal q.empty) (w.codes q.reader) _ empties.site j l (omega arith) in
+        let o1 = later_le (is_take q.empty) (stores y) (w.codes q.writer) _ _ o.empty_is.taken.site v.site refl (omega arith) (c q.writer) in
+        let o2 = later_le (stores y) (is_signal q.full) (w.codes q.writer) _ _ v.site fulls.site refl (omega arith) (c q.writer) in
+        let x1 = takes_le q.empty q.writer q.ask_empty q.take_empty o.empty_is in let x2 = takes_le q.full q.reader q.ask_full q.take_full o.full_is in
         (omega arith, omega arith)

@@ -60,9 +60,10 @@ module _ {P : Type 0} (w : System P) (signaller : ℕ → Owner) (half : ℕ →
         ready_left r = let z = (total_nth w (is_signal x) (signaller x) o.signalled c (passes (is_take x) (w.codes s) (c s))).1 (r.met _ needs_it) in omega (arith, taken)
 
       binary_le : (x : ℕ) → IsBinary w signaller half x → total w (is_signal x) c ≤ total w (is_take x) c + 1
-      binary_le x b = let z = at_most w signaller half rank c k b.empty b.filled 1 b.writer b.reader b.wa b.wt b.ws b.ra b.rt b.rs b.first b.pair in
-          ⊎_elim (λ q. subst (λ (y : ℕ). total w (is_signal y) c ≤ total w (is_take y) c + 1) (sym q) z.0)
-          (λ q. subst (λ (y : ℕ). total w (is_signal y) c ≤ total w (is_take y) c + 1) (sym q) z.1) b.is_one
+      binary_le x b = let z = at_most w signaller half rank c k b.pair b.is_pair in
+          subst (λ (d : ℕ). total w (is_signal x) c ≤ total w (is_take x) c + d) b.one_place
+          (⊎_elim (λ q. subst (λ (y : ℕ). total w (is_signal y) c ≤ total w (is_take y) c + b.pair.depth) (sym q) z.0)
+          (λ q. subst (λ (y : ℕ). total w (is_signal y) c ≤ total w (is_take y) c + b.pair.depth) (sym q) z.1) b.is_one)
 
       round_is : (y i : ℕ) → round_number w s (c s) y i ≡ j * w.period y + i
       round_is y i = ap (λ (z : ℕ). reaction_at (w.codes s) z * w.period y + i) at ∙ ap (λ (z : ℕ). z * w.period y + i) (reaction_number (w.codes s) j l inside)
@@ -81,8 +82,9 @@ module _ {P : Type 0} (w : System P) (signaller : ℕ → Owner) (half : ℕ →
 
       pair_load : (y i : ℕ) → IsPairLoad w signaller half s l y i → LoadFinds y (j * w.period y + i)
       pair_load y i x = let b = x.buffer in let e = once_is y i b.once x.first in
-          let z = buffer_load w signaller half rank c k x.empty x.filled (w.depth y) x.writer s x.wa x.wt x.ws x.ra x.rt x.rs x.sign x.pair y x.st l j b.written x.store_after x.store_before x.load_after x.load_before at in
-          (omega (arith, e, z.0), omega (arith, e, z.1))
+          let here = subst (λ (u : ℕ). c u ≡ number_of (w.codes u) j l) x.same at in
+          let z = buffer_load w signaller half rank c k x.pair x.is_pair y x.st l j b.written x.store_after x.store_before x.load_after x.load_before here in
+          (omega (arith, e, z.0), omega (arith, e, z.1, x.depth))
 
       wire_loads : (y i : ℕ) → IsFromWire w signaller half s l y i → LoadFinds y (j * w.period y + i)
       wire_loads y i x = wire_load w signaller half rank x.medium x.medium_is c k y x.half_of x.place_of x.wire s l i j x.within x.load_is at

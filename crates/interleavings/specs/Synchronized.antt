@@ -4,25 +4,16 @@ use Rattle.consistent_cuts.specs.Sites.{step_at}
 use Rattle.interleavings.specs.System.{System, take, signal, load, store, stores}
 use Rattle.interleavings.specs.Owners.{Owner, IsOwned}
 use Rattle.interleavings.specs.Media.{Half, IsMedium, IsWire, IsWireLoad}
-use Rattle.interleavings.specs.Pairs.{IsSemaphore, IsPair, late}
+use Rattle.interleavings.specs.Pairs.{Pair, IsSemaphore, IsPair, late}
 use Rattle.interleavings.specs.Order.{IsJoined}
 
 module _ {P : Type 0} (w : System P) (signaller : ℕ → Owner) (half : ℕ → ℕ → Half) where
   -- x is a semaphore of a pair whose buffer has one place
   pub record IsBinary (x : ℕ) : Type 0 where
-    pub empty : ℕ
-    pub filled : ℕ
-    pub writer : ℕ
-    pub reader : ℕ
-    pub wa : ℕ
-    pub wt : ℕ
-    pub ws : ℕ
-    pub ra : ℕ
-    pub rt : ℕ
-    pub rs : ℕ
-    pub first : ℕ
-    pub pair : IsPair w signaller empty filled 1 writer reader wa wt ws ra rt rs first
-    pub is_one : (x ≡ empty) ⊎ (x ≡ filled)
+    pub pair : Pair
+    pub is_pair : IsPair w signaller pair
+    pub one_place : pair.depth ≡ 1
+    pub is_one : (x ≡ pair.empty) ⊎ (x ≡ pair.full)
 
   -- Element y of a buffer is stored at place st of the writer's turn.
   pub record IsBuffer (y writer st : ℕ) : Type 0 where
@@ -39,24 +30,17 @@ module _ {P : Type 0} (w : System P) (signaller : ℕ → Owner) (half : ℕ →
 
   -- a reader loads y between its take of the full and its signal of the empty semaphore; the store stands between the others of the pair
   pub record IsPairLoad (s l y i : ℕ) : Type 0 where
-    pub empty : ℕ
-    pub filled : ℕ
-    pub writer : ℕ
-    pub wa : ℕ
-    pub wt : ℕ
-    pub ws : ℕ
-    pub ra : ℕ
-    pub rt : ℕ
-    pub rs : ℕ
-    pub sign : ℕ
-    pub pair : IsPair w signaller empty filled (w.depth y) writer s wa wt ws ra rt rs sign
+    pub pair : Pair
+    pub is_pair : IsPair w signaller pair
+    pub same : s ≡ pair.reader
+    pub depth : w.depth y ≡ pair.depth
     pub st : ℕ
-    pub buffer : IsBuffer y writer st
+    pub buffer : IsBuffer y pair.writer st
     pub first : i ≡ 0
-    pub store_after : wt < st
-    pub store_before : st < ws
-    pub load_after : rt < l
-    pub load_before : l < rs
+    pub store_after : pair.take_empty < st
+    pub store_before : st < pair.signal_full
+    pub load_after : pair.take_full < l
+    pub load_before : l < pair.signal_empty
 
   -- a receiving half loads the access i of the wire
   pub record IsFromWire (s l y i : ℕ) : Type 0 where

@@ -20,7 +20,7 @@ use Rattle.phase_laws.proofs.Blocks.{sum_same_block, sum_inside, block_at_is}
 use Rattle.phase_laws.proofs.Places.{stands_sequence, at_turn, Origin, origin, FromAt, owned_late, earlier}
 use Rattle.phase_laws.proofs.Setting.{Parts, Conditions, system_of}
 use Rattle.phase_laws.proofs.From.{LoadsBuffer, StoresBuffer, StoresWire, store_place, store_stands}
-use Rattle.phase_laws.proofs.Pairs.{same_place, front_is, take_place, writer, asks_empty, takes_empty_at, fills, asks_full, takes_full_at, empties, Guards, empty_within, full_within, pair_is}
+use Rattle.phase_laws.proofs.Pairs.{same_place, front_is, take_place, writer, pair_of, empty_within, full_within, pair_is}
 
 module _ (p : Program) where
   pub len_inside : (b j : ℕ) → j < len_of p b → b < length p.buffers
@@ -126,17 +126,10 @@ module _ (p : Program) (w : Places) (c : Conditions p w) {P : Type 0} (reactions
   pub pair_load : (q : ℕ) (inside : q < length p.pairs) (j a k r l : ℕ) (x : Instr) → j < len_of p (w.pair q).buffer → Stands p (w.pair q).reader a x → ReadsAt x k (w.pair q).buffer → l ≡ begins p (w.pair q).reader a + r → r < size p (w.pair q).reader a
       → V.IsPairLoad W S H (w.pair q).reader l (element_of p (w.pair q).buffer j) 0
   pair_load q inside j a k r l x low st rd at fits = record {
-    empty = 2 * q;
-    filled = 2 * q + 1;
-    writer = writer w q;
-    wa = asks_empty p w q;
-    wt = takes_empty_at p w q;
-    ws = fills p w q;
-    ra = asks_full p w q;
-    rt = takes_full_at p w q;
-    rs = empties p w q;
-    sign = (w.pair q).front;
-    pair = guards;
+    pair = pair_of p w q;
+    is_pair = pair_is p w c reactions own q inside;
+    same = refl;
+    depth = depth_is (w.pair q).buffer here j low ∙ sym (c.guarded.depth q inside);
     st = stored_at (w.pair q).buffer here j;
     buffer = buffer_is (w.pair q).buffer here j low;
     first = refl;
@@ -152,10 +145,6 @@ module _ (p : Program) (w : Places) (c : Conditions p w) {P : Type 0} (reactions
 
       here : (w.pair q).buffer < length p.buffers
       here = c.guarded.buffer q inside
-
-      guards : Guards p w c reactions own (W.depth (element_of p (w.pair q).buffer j)) q
-      guards = subst (λ (d : ℕ). Guards p w c reactions own d q)
-          (c.guarded.depth q inside ∙ sym (depth_is (w.pair q).buffer here j low)) (pair_is p w c reactions own q inside)
 
   -- every load of a buffer's element
   abbrev LoadGoal : ℕ → ℕ → ℕ → ℕ → Type 0

@@ -4,7 +4,7 @@ use Rattle.std.specs.Prelude.{slice_get}
 use Rattle.std.proofs.lemmas.Bool.{eqb-true, eq-eqb, ne_eqb}
 use Rattle.interleavings.specs.System.{System, Micro, take as taken, see, sub, signal, await, advance, load, store, is_take, is_signal}
 use Rattle.interleavings.specs.Owners.{Owner, IsOwned}
-use Rattle.interleavings.specs.Pairs.{IsSemaphore, IsPair, late}
+use Rattle.interleavings.specs.Pairs.{Pair, IsSemaphore, IsPair, late}
 use Rattle.executive_program.specs.declared.program.Instr.{Instr}
 use Rattle.executive_program.specs.declared.program.Instr.TheVariants.{Suc0, Suc1, Pre0, Pre1}
 use Rattle.executive_program.specs.declared.program.Program.{Program}
@@ -139,8 +139,22 @@ module _ (p : Program) (w : Places) where
   abbrev pub takes_full_at : ℕ → ℕ
   takes_full_at q = asks_full q + take_place p q
 
-  abbrev pub empties : ℕ → ℕ
-  empties q = begins p (w.pair q).reader (w.pair q).signal_empty
+  -- pair q with its two semaphores and these places
+  abbrev pub pair_of : ℕ → Pair
+  pair_of q = record {
+    empty = 2 * q;
+    full = 2 * q + 1;
+    depth = pair_depth p q;
+    writer = writer w q;
+    ask_empty = asks_empty q;
+    take_empty = takes_empty_at q;
+    signal_full = fills q;
+    reader = (w.pair q).reader;
+    ask_full = asks_full q;
+    take_full = takes_full_at q;
+    signal_empty = begins p (w.pair q).reader (w.pair q).signal_empty;
+    front = (w.pair q).front;
+  }
 
 module _ (p : Program) (w : Places) (c : Conditions p w) {P : Type 0} (reactions : ℕ) (own : Parts P) where
   abbrev pub W : System P
@@ -174,10 +188,6 @@ module _ (p : Program) (w : Places) (c : Conditions p w) {P : Type 0} (reactions
       → (q : ℕ) × (q < length p.pairs) × ((w.pair q).reader ≡ t) × ((w.pair q).front ≤ i) × (i < (w.pair q).front + pair_depth p q) × (2 * q ≡ x)
   front_signal x t i d e k = let f = front_is t i d e in let z : is_signal x (signal (2 * f.0)) ≡ true = ap (is_signal x) f.5 ∙ k in
       (f.0, f.1, f.2, f.3, f.4, eqb-true (2 * f.0) x z)
-
-  -- pair q guards a buffer of d places
-  abbrev pub Guards : ℕ → ℕ → Type 0
-  Guards d q = IsPair W S (2 * q) (2 * q + 1) d (writer w q) (w.pair q).reader (asks_empty p w q) (takes_empty_at p w q) (fills p w q) (asks_full p w q) (takes_full_at p w q) (empties p w q) (w.pair q).front
 
   module _ (q : ℕ) (inside : q < length p.pairs) where
     abbrev one : WF.IsPair p c.order w q
@@ -244,7 +254,7 @@ module _ (p : Program) (w : Places) (c : Conditions p w) {P : Type 0} (reactions
     in_reader : (w.pair q).take_full < (w.pair q).signal_empty
     in_reader = let r = c.guarded.some_read q inside in let u = one.reads r.0 r.1 r.2 r.3 r.4 in let a = u.0 in let b = u.1 in omega arith
 
-    pub pair_is : Guards (pair_depth p q) q
+    pub pair_is : IsPair W S (pair_of p w q)
     pair_is = record {
       empty_is = empty_is;
       full_is = full_is;

@@ -20,7 +20,7 @@ use Rattle.phase_laws.specs.Discipline.{signaller, half}
 use Rattle.phase_laws.proofs.Places.{Origin, origin}
 use Rattle.phase_laws.proofs.Setting.{Parts, Conditions, system_of}
 use Rattle.phase_laws.proofs.From.{Takes, Signals}
-use Rattle.phase_laws.proofs.Pairs.{same_place, front_is, take_place, writer, asks_empty, takes_empty_at, fills, asks_full, takes_full_at, empties, Guards, empty_is, full_is, pair_is}
+use Rattle.phase_laws.proofs.Pairs.{same_place, front_is, take_place, writer, asks_empty, takes_empty_at, asks_full, takes_full_at, pair_of, empty_is, full_is, pair_is}
 use Rattle.phase_laws.proofs.Buffers.{buffer_load, buffer_store}
 use Rattle.phase_laws.proofs.Wires.{own_wait, sync_wait, to_wire, from_wire}
 
@@ -100,22 +100,7 @@ module _ (p : Program) (w : Places) (c : Conditions p w) {P : Type 0} (reactions
       by f.0 (asked s l x r.index f.0 r.instr r.stands (first_place s l (taken x) r f.1) f.3).0 f.2 (⊎_elim (λ u. inl u.1) (λ u. inr u.1) f.3)
     where
       by : (q : ℕ) → q < length p.pairs → pair_depth p q ≡ 1 → (x ≡ 2 * q) ⊎ (x ≡ 2 * q + 1) → V.IsBinary W S H x
-      by q i d k = record {
-        empty = 2 * q;
-        filled = 2 * q + 1;
-        writer = writer w q;
-        reader = (w.pair q).reader;
-        wa = asks_empty p w q;
-        wt = takes_empty_at p w q;
-        ws = fills p w q;
-        ra = asks_full p w q;
-        rt = takes_full_at p w q;
-        rs = empties p w q;
-        first = (w.pair q).front;
-        pair = subst (λ (n : ℕ). Guards p w c reactions own n q)
-            d (pair_is p w c reactions own q i);
-        is_one = k;
-      }
+      by q i d k = record { pair = pair_of p w q; is_pair = pair_is p w c reactions own q i; one_place = d; is_one = k }
 
   abbrev Known : ℕ → Type 0
   Known x = (t : ℕ) × (a : ℕ) × (b : ℕ) × IsSemaphore W S x t a b
