@@ -2,11 +2,12 @@
 ghost use Rattle.std.specs.Prelude.{◌≡◌, ◌<◌, Some, None, IfOk, MatchOption, true, false, position, length, slice_index_or, []};
 ghost use Rattle.std.specs.Str.{bytes_eq};
 ghost use Rattle.syn_base.specs.Name.{is_name};
-ghost use Rattle.algo_reader.specs.Given.{GivesSome};
+ghost use Rattle.algo_reader.specs.Given.{GivesSome, IsNamed};
 ghost use Rattle.algo_reader.specs.Lines.{some_name};
 ghost use Rattle.algo_text.specs.Words.{number_of, count_of, period_of, end_of, is_dot};
 ghost use Rattle.algo_text.specs.Text.{version_of};
 
+use crate::fault::bad_name;
 use crate::words::Words;
 use algo_defs::{AlgoError, End};
 use std::alloc::Global;
@@ -21,6 +22,16 @@ pub fn read_name(alloc: Global, w: &[u8]) -> Result<Option<Name>, AlgoError>
         Ok(name) => Ok(Some(name)),
         Err(NameFault::BadName) => Ok(None),
         Err(NameFault::OutOfMemory) => Err(AlgoError::OutOfMemory),
+    }
+}
+
+/// The name that a word of a line is, or the line's refusal where it is none.
+pub fn line_name(alloc: Global, number: u32, w: &[u8]) -> Result<Name, AlgoError>
+    ensures { IsNamed result number w.now }
+{
+    match read_name(alloc, w)? {
+        Some(name) => Ok(name),
+        None => Err(bad_name(alloc, number, w)),
     }
 }
 
