@@ -565,7 +565,11 @@ impl<'a> Reader<'a> {
     {
         let is_whole = self.place.is_between();
         let defs = self.into_defs();
-        if is_whole { Ok(defs) } else { Err(bad_line(number)) }
+        if is_whole {
+            Ok(defs)
+        } else {
+            Err(bad_line(number))
+        }
     }
 }
 
