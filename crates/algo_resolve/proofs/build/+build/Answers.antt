@@ -1,12 +1,13 @@
-use Rattle.std.proofs.Common.{◌≡◌, ◌+◌, ◌-◌, ◌∷◌, ◌++◌, [], suc, ℕ, List, Some, get_or, sym, subst, ap, ◌∙◌, arith, rules}
+use Rattle.std.proofs.Common.{◌≡◌, ◌+◌, ◌-◌, ◌∷◌, ◌++◌, [], suc, ℕ, List, Some, get_or, map, sym, subst, ap, ◌∙◌, arith, rules}
 use Rattle.std.proofs.lemmas.Option.{slice_get-get_or}
 use Rattle.level_meaning.specs.declared.source.Source.{Source}
 use Rattle.level_meaning.specs.declared.part.Part.TheVariants.{Named}
 use Rattle.algo_defs.specs.declared.definition.Case.{Case}
+use Rattle.algo_defs.specs.Words.{Bytes}
 use Rattle.algo_rules.specs.Links.{definition}
 use Rattle.algo_rules.specs.Placed.{IsPlaced}
 use Rattle.algo_rules.specs.Ports.{ports_of}
-use Rattle.algo_rules.specs.Resolved.{is_actuator, is_sensor, sources_to, vertex_within}
+use Rattle.algo_rules.specs.Resolved.{is_actuator, is_sensor, sources_to, vertex, vertex_within}
 use Rattle.algo_tree.specs.View.{kind_view, view}
 use Rattle.algo_tree.specs.declared.vertex.Vertex.{Vertex}
 use Rattle.algo_resolve.specs.declared.build.Seat.{Seat}
@@ -15,7 +16,6 @@ use Rattle.frontier_check.proofs.Places.{case_at, one_more, otherwise_at}
 use Rattle.algo_resolve.proofs.Placed.{def_at, place_at, place_there, ports_at}
 use Rattle.algo_resolve.proofs.Planned.{beside, plan_at, planned_kind}
 use Rattle.algo_resolve.proofs.Steps.{first_place, one_copy, one_reference, vertex_step}
-use Rattle.algo_resolve.proofs.Told.{retold}
 use Rattle.algo_resolve.proofs.build.+build.Goals as goal
 
 pub build_cases-bounds-places-number : goal.build_cases-bounds-places-number
@@ -122,9 +122,10 @@ build_vertex-returns t c =
     let ports = ports_at ds b.table.now c.args.name.now c.args.place c.index-builder-place-3.result c.requires.placed in
     let plan = plan_at ds b.plans.now c.args.place d c.index-builder-place-2.result c.requires.planned.plans at c.index-builder-place-2.is in
     let kind = planned_kind ds (vertex_within ds inner) c.args.name.now d own _ def ports (sym (ap (λ (p : Plan). kind_view p.kind) c.index-builder-place-2.is) ∙ ap (λ q. q.0) plan) in
-    retold view c.assemble.result _ (vertex_within ds c.args.fuel seat.part c.args.name.now seat.ins seat.sensor seat.actuator)
-    (vertex_step ds c.args.fuel inner seat.part c.args.name.now seat.ins seat.sensor seat.actuator d own c.in_ok-kind.kind c.in_ok-inner.inner.items
-    fuel def ports (c.in_ok-kind.ensures ds (vertex_within ds inner) own kind) c.in_ok-inner.ensures) c.assemble.ensures
+    c.vertex.ensures own.outs c.in_ok-label.ensures.outs c.in_ok-label.ensures.names
+    ∙ ap (λ (w : Bytes). vertex seat.part w seat.ins own.outs (kind_view c.in_ok-label.label.kind) (map view c.in_ok-inner.inner.items)) c.in_ok-label.ensures.name
+    ∙ vertex_step ds c.args.fuel inner seat.part c.args.name.now seat.ins seat.sensor seat.actuator d own c.in_ok-label.label.kind c.in_ok-inner.inner.items
+    fuel def ports (c.in_ok-label.ensures.kind ds (vertex_within ds inner) own kind) c.in_ok-inner.ensures
 
 pub build_copy-returns : goal.build_copy-returns
 build_copy-returns t c =
