@@ -1,6 +1,7 @@
 -- One vertex more.
-use Rattle.std.proofs.Common.{◌≡◌, ℕ, suc, ◌+◌, ◌-◌, ◌<◌, ◌≤◌, List, [], ◌∷◌, ◌++◌, length, get_or, drop, map, Some, ap, sym, ◌∙◌, arith}
+use Rattle.std.proofs.Common.{◌≡◌, ℕ, suc, ◌+◌, ◌-◌, ◌<◌, ◌≤◌, List, [], ◌∷◌, ◌++◌, length, get_or, drop, map, Some, ap, sym, ◌∙◌, append-nil, arith}
 use Rattle.std.proofs.Math.Numerals.{suc-eq-add-one}
+use Rattle.std.proofs.lemmas.List.{drop_all}
 use Rattle.std.proofs.lemmas.List.FromFn.{map-range_with_len_more}
 use Rattle.body_lang.specs.declared.expression.Port.{Port}
 use Rattle.level_meaning.specs.declared.source.Source.{Source}
@@ -93,3 +94,28 @@ module _ (ds : List Def) where
     next_case ins otherwise cs i c low is =
         ap (λ (ks : List Case). cases_from ds make ins i (map (λ x. x.def) ks ++ otherwise ∷ [])) (from_here cs i c low is)
         ∙ ap (λ (k : ℕ). make (Numbered i) c.def (owns 1 ins) 0 0 ∷ cases_from ds make ins k (map (λ x. x.def) (drop (i + 1) cs) ++ otherwise ∷ [])) (suc-eq-add-one i)
+
+    -- the vertex of the next case, after those that are made
+    pub one_case : (ins : ℕ) (otherwise : Bytes) (cs : List Case) (i : ℕ) (c : Case) (seat : Seat) (us : List Vertex) (v : Vertex) (whole : List tree.Vertex)
+        → i < length cs → c ≡ get_or cs i c → seat ≡ record { part = Numbered i; ins = owns 1 ins; sensor = 0; actuator = 0 }
+        → view v ≡ make seat.part c.def seat.ins seat.sensor seat.actuator
+        → map view us ++ cases_from ds make ins i (map (λ x. x.def) (drop i cs) ++ otherwise ∷ []) ≡ whole
+        → map view (us ++ v ∷ []) ++ cases_from ds make ins (i + 1) (map (λ x. x.def) (drop (i + 1) cs) ++ otherwise ∷ []) ≡ whole
+    one_case ins otherwise cs i c seat us v whole low is sits made before =
+        pushed view us v (make (Numbered i) c.def (owns 1 ins) 0 0) (cases_from ds make ins (i + 1) (map (λ x. x.def) (drop (i + 1) cs) ++ otherwise ∷ []))
+        (made ∙ ap (λ (s : Seat). make s.part c.def s.ins s.sensor s.actuator) sits)
+        ∙ ap (λ (ws : List tree.Vertex). map view us ++ ws) (sym (next_case ins otherwise cs i c low is))
+        ∙ before
+
+    -- and that of `otherwise`, after all cases
+    pub last_case : (ins : ℕ) (otherwise : Bytes) (cs : List Case) (i n : ℕ) (seat : Seat) (us : List Vertex) (v : Vertex) (whole : List tree.Vertex)
+        → length cs ≤ i → n ≡ i → seat ≡ record { part = Numbered n; ins = owns 1 ins; sensor = 0; actuator = 0 }
+        → view v ≡ make seat.part otherwise seat.ins seat.sensor seat.actuator
+        → map view us ++ cases_from ds make ins i (map (λ x. x.def) (drop i cs) ++ otherwise ∷ []) ≡ whole
+        → map view (us ++ v ∷ []) ≡ whole
+    last_case ins otherwise cs i n seat us v whole past same sits made before =
+        sym (append-nil (map view (us ++ v ∷ [])))
+        ∙ pushed view us v (make (Numbered i) otherwise (owns 1 ins) 0 0) []
+        (made ∙ ap (λ (s : Seat). make s.part otherwise s.ins s.sensor s.actuator) sits ∙ ap (λ (k : ℕ). make (Numbered k) otherwise (owns 1 ins) 0 0) same)
+        ∙ ap (λ (ks : List Case). map view us ++ cases_from ds make ins i (map (λ x. x.def) ks ++ otherwise ∷ [])) (sym (drop_all i cs past))
+        ∙ before

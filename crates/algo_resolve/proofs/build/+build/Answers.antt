@@ -15,7 +15,7 @@ use Rattle.algo_resolve.specs.declared.plan.Plan.{Plan}
 use Rattle.frontier_check.proofs.Places.{case_at, one_more, otherwise_at}
 use Rattle.algo_resolve.proofs.Placed.{def_at, place_at, place_there, ports_at}
 use Rattle.algo_resolve.proofs.Planned.{beside, plan_at, planned_kind}
-use Rattle.algo_resolve.proofs.Steps.{first_place, one_copy, one_reference, vertex_step}
+use Rattle.algo_resolve.proofs.Steps.{first_place, last_case, one_case, one_copy, one_reference, vertex_step}
 use Rattle.algo_resolve.proofs.build.+build.Goals as goal
 
 pub build_cases-bounds-places-number : goal.build_cases-bounds-places-number
@@ -138,3 +138,19 @@ build_copy-returns t c =
     (ports_at b.defs.now b.table.now w place c.index-builder-place.result placed)
     c.as_slice.ensures c.in_ok-ins.ensures c.inner_seat-seat.ensures c.in_ok-build_vertex.ensures
     (c.in_ok-push.ensures.items ∙ ap (λ (us : List Vertex). us ++ c.in_ok-build_vertex.field-0 ∷ []) c.new-inner.ensures.items)
+
+pub build_cases-loop-number-preserved : goal.build_cases-loop-number-preserved
+build_cases-loop-number-preserved t c =
+    let ds = c.args.builder.now.defs.now in
+    let names = c.args.names.now in
+    rw c.in_ok-push.ensures.items
+    (one_case ds (vertex_within ds c.args.fuel) names.ins names.otherwise.now names.cases.now c.loop-number.number c.case-item.result c.in_ok-seat.seat c.loop-number.inner.items
+    c.in_ok-build_vertex.field-0 _ c.loop-number-test.true c.case-item.is c.in_ok-seat.ensures c.in_ok-build_vertex.ensures c.loop-number.invariant)
+
+pub build_cases-returns : goal.build_cases-returns
+build_cases-returns t c =
+    let ds = c.args.builder.now.defs.now in
+    let names = c.args.names.now in
+    rw c.in_ok-push-2.ensures.items
+    (last_case ds (vertex_within ds c.args.fuel) names.ins names.otherwise.now names.cases.now c.loop-number.number _ c.in_ok-seat-2.seat c.loop-number.inner.items
+    c.in_ok-build_vertex-2.field-0 _ c.loop-number-test.false (omega arith) c.in_ok-seat-2.ensures c.in_ok-build_vertex-2.ensures c.loop-number.invariant)
