@@ -179,6 +179,20 @@ struct Cases<'a> {
     otherwise: &'a Name,
 }
 
+impl<'a> Cases<'a> {
+    /// The definition of the case of a number, where `otherwise` is the last case.
+    fn name(&self, number: usize) -> &'a Name
+        requires { number ≤ length self.now.cases.now }
+        ensures { slice_get (map (λ c. c.def) self.now.cases.now ++ self.now.otherwise.now ∷ []) number ≡ Some result.now }
+    {
+        if number < self.cases.len() {
+            &self.cases[number].def
+        } else {
+            self.otherwise
+        }
+    }
+}
+
 /// The cases of a switch, with `otherwise` last.
 #[cycle(build)]
 fn build_cases(
@@ -193,15 +207,11 @@ fn build_cases(
     ensures { IfOk result (λ us. map view us.items ≡ cases_from builder.now.defs.now (vertex_within builder.now.defs.now fuel) names.now.ins 0 (map (λ c. c.def) names.now.cases.now ++ names.now.otherwise.now ∷ [])) }
 {
     let mut inner = Vec::new(alloc);
-    for (number, case) in names.cases.iter().enumerate() {
+    for (number, place) in places.iter().enumerate() {
         let seat = case_seat(alloc, number, names.ins)?;
-        let place = places[number] as usize;
-        inner.push(build_vertex(alloc, builder, fuel, &case.def, place, seat)?)?;
+        let name = names.name(number);
+        inner.push(build_vertex(alloc, builder, fuel, name, *place as usize, seat)?)?;
     }
-    let last = names.cases.len();
-    let seat = case_seat(alloc, last, names.ins)?;
-    let place = places[last] as usize;
-    inner.push(build_vertex(alloc, builder, fuel, names.otherwise, place, seat)?)?;
     Ok(inner)
 }
 

@@ -1,42 +1,31 @@
-use Rattle.std.proofs.Common.{◌≡◌, ◌+◌, ◌-◌, ◌∷◌, ◌++◌, [], suc, ℕ, List, Some, get_or, map, sym, subst, ap, ◌∙◌, arith, rules}
+use Rattle.std.proofs.Common.{◌≡◌, ◌≤◌, ◌+◌, ◌-◌, ◌∷◌, ◌++◌, [], suc, ℕ, List, Some, get_or, length, map, sym, ap, ◌∙◌, arith, rules, length-append}
+use Rattle.std.proofs.lemmas.List.{length-map}
 use Rattle.std.proofs.lemmas.Option.{slice_get-get_or}
 use Rattle.level_meaning.specs.declared.source.Source.{Source}
 use Rattle.level_meaning.specs.declared.part.Part.TheVariants.{Named}
 use Rattle.algo_defs.specs.declared.definition.Case.{Case}
 use Rattle.algo_defs.specs.Words.{Bytes}
 use Rattle.algo_rules.specs.Links.{definition}
-use Rattle.algo_rules.specs.Placed.{IsPlaced}
 use Rattle.algo_rules.specs.Ports.{ports_of}
 use Rattle.algo_rules.specs.Resolved.{is_actuator, is_sensor, sources_to, vertex, vertex_within}
 use Rattle.algo_tree.specs.View.{kind_view, view}
 use Rattle.algo_tree.specs.declared.vertex.Vertex.{Vertex}
 use Rattle.algo_resolve.specs.declared.build.Seat.{Seat}
 use Rattle.algo_resolve.specs.declared.plan.Plan.{Plan}
-use Rattle.frontier_check.proofs.Places.{case_at, one_more, otherwise_at}
+use Rattle.frontier_check.proofs.Places.{one_more}
 use Rattle.algo_resolve.proofs.Placed.{def_at, place_at, place_there, ports_at}
 use Rattle.algo_resolve.proofs.Planned.{beside, plan_at, planned_kind}
-use Rattle.algo_resolve.proofs.Steps.{first_place, last_case, one_case, one_copy, one_reference, vertex_step}
+use Rattle.algo_resolve.proofs.Steps.{all_cases, first_place, named_at, one_case, one_copy, one_reference, vertex_step}
 use Rattle.algo_resolve.proofs.build.+build.Goals as goal
 
-pub build_cases-bounds-places-number : goal.build_cases-bounds-places-number
-build_cases-bounds-places-number t c =
+pub build_cases-name-name-requires : goal.build_cases-name-name-requires
+build_cases-name-name-requires t c =
     let b = c.args.builder.now in omega (arith, one_more b.defs.now b.table.now c.args.names.now.otherwise.now c.args.names.now.cases.now c.args.places.now c.requires.placed)
 
 pub build_cases-build_vertex-requires : goal.build_cases-build_vertex-requires
 build_cases-build_vertex-requires t c =
     let b = c.args.builder.now in
-    let k = c.case-item.result in
-    let there = case_at b.defs.now b.table.now c.args.names.now.otherwise.now c.args.names.now.cases.now c.args.places.now c.loop-number.number k c.requires.placed c.loop-number-test.true in
-    (search (rules), (c.requires.planned, subst (λ (x : Case). IsPlaced b.defs.now b.table.now x.def (get_or c.args.places.now c.loop-number.number 0)) (sym c.case-item.is) there))
-
-pub build_cases-bounds-places-last : goal.build_cases-bounds-places-last
-build_cases-bounds-places-last t c =
-    let b = c.args.builder.now in omega (arith, one_more b.defs.now b.table.now c.args.names.now.otherwise.now c.args.names.now.cases.now c.args.places.now c.requires.placed)
-
-pub build_cases-build_vertex-requires-2 : goal.build_cases-build_vertex-requires-2
-build_cases-build_vertex-requires-2 t c =
-    let b = c.args.builder.now in
-    (search (rules), (c.requires.planned, otherwise_at b.defs.now b.table.now c.args.names.now.otherwise.now c.args.names.now.cases.now c.args.places.now c.requires.placed))
+    (search (rules), (c.requires.planned, named_at b.defs.now b.table.now _ c.args.places.now c.loop-number.number _ c.requires.placed c.name-name.ensures))
 
 pub build_references-bounds-graph-at : goal.build_references-bounds-graph-at
 build_references-bounds-graph-at t c =
@@ -141,16 +130,15 @@ build_copy-returns t c =
 
 pub build_cases-loop-number-preserved : goal.build_cases-loop-number-preserved
 build_cases-loop-number-preserved t c =
-    let ds = c.args.builder.now.defs.now in
-    let names = c.args.names.now in
     rw c.in_ok-push.ensures.items
-    (one_case ds (vertex_within ds c.args.fuel) names.ins names.otherwise.now names.cases.now c.loop-number.number c.case-item.result c.in_ok-seat.seat c.loop-number.inner.items
-    c.in_ok-build_vertex.field-0 _ c.loop-number-test.true c.case-item.is c.in_ok-seat.ensures c.in_ok-build_vertex.ensures c.loop-number.invariant)
+    (one_case c.args.builder.now.defs.now (vertex_within c.args.builder.now.defs.now c.args.fuel) c.args.names.now.ins _ c.loop-number.number _ c.in_ok-seat.seat c.loop-number.inner.items
+    c.in_ok-build_vertex.field-0 _ c.name-name.ensures c.in_ok-seat.ensures c.in_ok-build_vertex.ensures c.loop-number.invariant)
 
 pub build_cases-returns : goal.build_cases-returns
 build_cases-returns t c =
-    let ds = c.args.builder.now.defs.now in
+    let b = c.args.builder.now in
     let names = c.args.names.now in
-    rw c.in_ok-push-2.ensures.items
-    (last_case ds (vertex_within ds c.args.fuel) names.ins names.otherwise.now names.cases.now c.loop-number.number _ c.in_ok-seat-2.seat c.loop-number.inner.items
-    c.in_ok-build_vertex-2.field-0 _ c.loop-number-test.false (omega arith) c.in_ok-seat-2.ensures c.in_ok-build_vertex-2.ensures c.loop-number.invariant)
+    let all = map (λ (x : Case). x.def) names.cases.now ++ names.otherwise.now ∷ [] in
+    let past : length all ≤ c.loop-number.number =
+    omega (arith, one_more b.defs.now b.table.now names.otherwise.now names.cases.now c.args.places.now c.requires.placed, length-append (map (λ (x : Case). x.def) names.cases.now) (names.otherwise.now ∷ []), length-map names.cases.now (λ (x : Case). x.def)) in
+    all_cases b.defs.now (vertex_within b.defs.now c.args.fuel) names.ins all c.loop-number.number c.loop-number.inner.items _ past c.loop-number.invariant

@@ -6,8 +6,6 @@ use Rattle.algo_tree.specs.View.{kind_view}
 use Rattle.std.specs.List.{flat_map}
 use Rattle.body_lang.specs.declared.expression.Port.{Port}
 use Rattle.level_meaning.specs.declared.source.Source.{Source}
-use Rattle.level_meaning.specs.declared.frontier.Feed.{Feed}
-use Rattle.level_meaning.specs.declared.frontier.Give.{Give}
 use Rattle.algo_tree.specs.Tree as tree
 use Rattle.algo_defs.specs.declared.definition.Def.{Def}
 use Rattle.algo_defs.specs.declared.definition.Body.{Body}
