@@ -1,5 +1,6 @@
 //! What the words of a line are.
 ghost use Rattle.std.specs.Prelude.{◌≡◌, ◌<◌, Some, None, IfOk, MatchOption, true, false, position, length, slice_index_or, []};
+ghost use Rattle.std.specs.List.{before_first, after_first};
 ghost use Rattle.std.specs.Str.{bytes_eq};
 ghost use Rattle.syn_base.specs.Name.{is_name};
 ghost use Rattle.algo_reader.specs.Given.{GivesSome, IsNamed};
@@ -83,6 +84,17 @@ fn dot_in(w: &[u8]) -> Option<usize>
     w.iter().position(|b| *b == b'.')
 }
 
+/// What stands before the first dot and what stands after it, or all and nothing where there is none.
+fn around_dot(w: &[u8]) -> (&[u8], &[u8])
+    ensures before { result.0.now ≡ before_first is_dot w.now }
+    ensures after { result.1.now ≡ after_first is_dot w.now }
+{
+    match dot_in(w) {
+        Some(dot) => (&w[..dot], &w[dot + 1..]),
+        None => (w, &[]),
+    }
+}
+
 /// The end of an edge, or none where the word is no end.
 pub fn read_end(alloc: Global, w: &[u8]) -> Result<Option<End>, AlgoError>
     ensures { GivesSome result (end_of w.now) }
@@ -90,13 +102,11 @@ pub fn read_end(alloc: Global, w: &[u8]) -> Result<Option<End>, AlgoError>
     if let Some(port) = read_name(alloc, w)? {
         return Ok(Some(End { owner: None, port }));
     }
-    let Some(dot) = dot_in(w) else {
+    let (owner, port) = around_dot(w);
+    let Some(owner) = read_name(alloc, owner)? else {
         return Ok(None);
     };
-    let Some(owner) = read_name(alloc, &w[..dot])? else {
-        return Ok(None);
-    };
-    let Some(port) = read_name(alloc, &w[dot + 1..])? else {
+    let Some(port) = read_name(alloc, port)? else {
         return Ok(None);
     };
     Ok(Some(End {
