@@ -8,3 +8,4 @@ pub mod ByDepth
 pub mod Own
 pub mod Here
 pub mod Counted
+pub mod Rounds

@@ -1,9 +1,10 @@
 -- Texts that are put together from lists of lines.
-use Rattle.std.proofs.Common.{◌≡◌, ℕ, suc, ◌+◌, ◌<◌, List, [], ◌∷◌, ◌++◌, length, drop, get_or, Result, Ok, Err, refl, arith, ap, ap₂, sym, ◌∙◌, append_assoc, drop-cons}
+use Rattle.std.proofs.Common.{◌≡◌, ℕ, ℤ, pos, suc, ◌+◌, ◌<◌, List, [], ◌∷◌, ◌++◌, length, map, drop, get_or, Result, Ok, Err, refl, arith, ap, ap₂, sym, ◌∙◌, append_assoc, add-one, drop-cons}
+use Rattle.std.specs.Fmt.{signed_decimal}
 use Rattle.std.specs.Prelude.{OnOk}
 use Rattle.algo_defs.specs.Words.{Bytes}
 use Rattle.algo_defs.specs.declared.definition.Def.{Def}
-use Rattle.algo_print.specs.Canonical.{line_of, text_of, body_lines, definition_lines}
+use Rattle.algo_print.specs.Canonical.{line_of, spaced, text_of, body_lines, definition_lines}
 
 abbrev Lines : Type 0
 Lines = List (List Bytes)
@@ -42,4 +43,16 @@ next_definition version defs i d name text new whole named inside is grown befor
     ∙ append_assoc text (text_of (body_lines version d.name d.body)) (text_of (definition_lines version (drop (i + 1) defs)))
     ∙ ap (λ (t : Bytes). text ++ t) (sym (text_joined (body_lines version d.name d.body) (definition_lines version (drop (i + 1) defs))))
     ∙ ap (λ (ds : List Def). text ++ text_of (definition_lines version ds)) (sym (left_from defs i d inside is))
+    ∙ before
+
+-- one number more
+pub next_number : (values : List ℤ) (i : ℕ) (v : ℤ) (text new whole : Bytes) → i < length values → v ≡ get_or values i (pos 0)
+    → new ≡ text ++ (32 ∷ signed_decimal v) → text ++ spaced (map signed_decimal (drop i values)) ≡ whole
+    → new ++ spaced (map signed_decimal (drop (i + 1) values)) ≡ whole
+next_number values i v text new whole inside is grown before =
+    let here : drop i values ≡ get_or values i (pos 0) ∷ drop (i + 1) values = rw (add-one, drop-cons values i (pos 0)) refl in
+    ap (λ (t : Bytes). t ++ spaced (map signed_decimal (drop (i + 1) values))) grown
+    ∙ append_assoc text (32 ∷ signed_decimal v) (spaced (map signed_decimal (drop (i + 1) values)))
+    ∙ ap (λ (w : ℤ). text ++ spaced (map signed_decimal (w ∷ drop (i + 1) values))) is
+    ∙ ap (λ (vs : List ℤ). text ++ spaced (map signed_decimal vs)) (sym here)
     ∙ before

@@ -2,6 +2,7 @@ pub mod Taken
 pub mod PortLines
 pub mod Behind
 pub mod Outputs
+pub mod Ends
 pub mod FrontNames
 pub mod Numbers
 pub mod Settled

@@ -3,7 +3,9 @@ use Rattle.std.specs.Prelude.{◌≡◌, ℕ, Bool, true, false, List, [], ◌�
 use Rattle.std.specs.Global.{Vec}
 use Rattle.std.specs.List.{list_any}
 use Rattle.std.specs.Str.{bytes_eq}
+use Rattle.syn_base.specs.Name.{is_name}
 use Rattle.algo_defs.specs.declared.fault.AlgoCause.{AlgoCause}
+use Rattle.algo_defs.specs.declared.fault.AlgoCause.TheVariants.{BadName, DuplicateName}
 use Rattle.algo_defs.specs.declared.fault.AlgoError.{AlgoError}
 use Rattle.algo_defs.specs.declared.fault.AlgoError.TheVariants.{Refused, Limit, OutOfMemory}
 
@@ -59,6 +61,20 @@ AddsName (Ok false) old w new = (list_any (bytes_eq w) old ≡ true) × (new ≡
 AddsName (Err OutOfMemory) old w new = new ≡ old
 AddsName (Err (Refused f)) old w new = ⊥
 AddsName (Err (Limit f)) old w new = ⊥
+
+-- the name that a word is, or the line's refusal where it is none
+abbrev pub IsNamed : Result (List ℕ) AlgoError → ℕ → List ℕ → Type 0
+IsNamed (Ok name) n w = (is_name w ≡ true) × (name ≡ w)
+IsNamed (Err (Refused f)) n w = (is_name w ≡ false) × (f ≡ record { line = n; cause = BadName w })
+IsNamed (Err OutOfMemory) n w = Unit {0}
+IsNamed (Err (Limit f)) n w = ⊥
+
+-- a name was added at the end, or the line refused since it was there
+abbrev pub AddsNew : {B : Type 0} → Result B AlgoError → ℕ → List (List ℕ) → List ℕ → List (List ℕ) → Type 0
+AddsNew (Ok _) n old w new = (list_any (bytes_eq w) old ≡ false) × (new ≡ old ++ w ∷ [])
+AddsNew (Err (Refused f)) n old w new = (list_any (bytes_eq w) old ≡ true) × (f ≡ record { line = n; cause = DuplicateName w })
+AddsNew (Err OutOfMemory) n old w new = Unit {0}
+AddsNew (Err (Limit f)) n old w new = ⊥
 
 -- the elements that were asked for, or their refusal
 abbrev pub MakesList : {A : Type 0} → Result (Vec A) AlgoError → Result (List A) AlgoError → Type 0

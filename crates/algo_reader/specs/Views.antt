@@ -1,6 +1,8 @@
 -- What contracts see of the open block and of the reader.
-use Rattle.std.specs.Prelude.{ℕ, ℤ, nat_lt, length, true, List, [], Option, Some, None, Result, Ok, Err}
+use Rattle.std.specs.Prelude.{ℕ, ℤ, Bool, nat_lt, length, true, false, List, [], ◌∷◌, ◌++◌, Option, Some, None, Result, Ok, Err}
 use Rattle.algo_defs.specs.Words.{Bytes}
+use Rattle.algo_defs.specs.declared.definition.Def.{Def}
+use Rattle.algo_defs.specs.declared.definition.Frontier.{Frontier}
 use Rattle.algo_defs.specs.declared.definition.Body.{Body}
 use Rattle.algo_defs.specs.declared.definition.Body.TheVariants.{Sensor, Actuator, Constant, Delay, Function, Graph, Switch, Repeat}
 use Rattle.algo_defs.specs.declared.fault.AlgoError.{AlgoError}
@@ -64,6 +66,10 @@ switch_view s = record (new_block parts.Conditioning s.name s.line) { part = par
 abbrev pub repeat_view : RepeatBlock → Block
 repeat_view s = record (new_block parts.Inputs s.name s.line) { copies = s.copies; def = s.def; frontier = s.frontier.items }
 
+-- a repetition with one line more
+abbrev pub with_line : Block → ℕ → Frontier → Block
+with_line b n f = record b { frontier = b.frontier ++ record { frontier = f; line = n } ∷ [] }
+
 abbrev pub stage_of : Place → Stage
 stage_of places.BeforeVersion = before_version
 stage_of places.Between = between
@@ -113,6 +119,35 @@ end_body ends.Actuator = Actuator
 abbrev pub values_body : ValuesKind → List ℤ → Body
 values_body values.Constant = Constant
 values_body values.Delay = Delay 1
+
+-- the definition that a block becomes
+abbrev pub as_def : Block → Body → Def
+as_def b body = record { name = b.name; line = b.line; body = body }
+
+abbrev pub function_def : Block → Def
+function_def b = as_def b (Function b.ins b.results)
+
+abbrev pub graph_def : Block → Def
+graph_def b = as_def b (Graph b.ins b.outs b.references b.edges)
+
+abbrev pub switch_def : Block → Def
+switch_def b = as_def b (Switch b.on b.ins b.outs b.cases b.otherwise b.otherwise_line)
+
+abbrev pub repeat_def : Block → Def
+repeat_def b = as_def b (Repeat b.copies b.def b.frontier)
+
+-- the open block has become this definition
+abbrev pub ended : Reading → Def → Reading
+ended r def = record r { stage = between; defs = r.defs ++ def ∷ []; block = new_block parts.Inputs [] 0 }
+
+-- no block is open, and the version was read
+abbrev pub is_between : Stage → Bool
+is_between before_version = false
+is_between between = true
+is_between in_function = false
+is_between in_graph = false
+is_between in_switch = false
+is_between in_repeat = false
 
 -- the ends of blocks
 abbrev pub function_end : Reading → ℕ → List Bytes → Result Reading AlgoError

@@ -3,16 +3,16 @@ ghost use Rattle.std.specs.Prelude.{◌≡◌, ◌≤◌, map, length, drop, pos
 ghost use Rattle.algo_defs.specs.Words.{is_among};
 ghost use Rattle.algo_text.specs.Blocks.{in_line, result_line, result_words, is_equals, is_taken, new_block};
 ghost use Rattle.algo_reader.specs.Given.{Steps};
-ghost use Rattle.algo_reader.specs.Views.{function_view};
+ghost use Rattle.algo_reader.specs.Views.{function_view, function_def};
 
 use crate::fault::{bad_line, duplicate, push};
 use crate::formula::read_formula;
 use crate::ports::{Ports, read_port};
 use crate::words::Words;
-use algo_defs::{AlgoError, Output};
+use algo_defs::{AlgoError, Body, Def, Output};
 use algo_text::Part;
 use std::alloc::Global;
-use syn_base::Name;
+use syn_base::{Items, Name};
 
 /// The lines of a function so far.
 #[derive(Drop)]
@@ -76,6 +76,20 @@ impl FunctionBlock {
     {
         let name = name.as_bytes();
         self.ins.has(name) || has_output(self.results.as_slice(), name)
+    }
+
+    /// The definition that the lines are.
+    pub fn into_def(self) -> Def
+        ensures { result ≡ function_def (function_view self) }
+    {
+        Def {
+            name: self.name,
+            line: self.line,
+            body: Body::Function {
+                ins: self.ins.into_items(),
+                outs: Items::new(self.results),
+            },
+        }
     }
 
     /// in P LEN

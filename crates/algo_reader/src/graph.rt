@@ -4,16 +4,16 @@ ghost use Rattle.syn_base.specs.Name.{is_name};
 ghost use Rattle.algo_defs.specs.Words.{is_among};
 ghost use Rattle.algo_text.specs.Blocks.{in_line, out_line, reference_of, with_reference, plain_line, marked_line, reference_line, edge_line, is_taken, new_block};
 ghost use Rattle.algo_reader.specs.Given.{Makes, Steps};
-ghost use Rattle.algo_reader.specs.Views.{graph_view};
+ghost use Rattle.algo_reader.specs.Views.{graph_view, graph_def};
 
 use crate::fault::{above, bad_line, bad_name, bad_number, duplicate, is_above, push};
 use crate::ports::{Ports, read_port};
-use crate::word::{read_end, read_name, read_period};
+use crate::word::{line_name, read_end, read_period};
 use crate::words::Words;
-use algo_defs::{AlgoError, Edge, Reference};
+use algo_defs::{AlgoError, Body, Def, Edge, Reference};
 use algo_text::Part;
 use std::alloc::Global;
-use syn_base::{LimitKind, Name};
+use syn_base::{Items, LimitKind, Name};
 
 /// The lines of a graph so far.
 #[derive(Drop)]
@@ -44,12 +44,8 @@ fn read_reference(alloc: Global, number: u32, words: &Words) -> Result<Reference
     requires { 3 ≤ length words.now }
     ensures { Makes result (reference_of number words.now) }
 {
-    let Some(name) = read_name(alloc, words.get(1))? else {
-        return Err(bad_name(alloc, number, words.get(1)));
-    };
-    let Some(def) = read_name(alloc, words.get(2))? else {
-        return Err(bad_name(alloc, number, words.get(2)));
-    };
+    let name = line_name(alloc, number, words.get(1))?;
+    let def = line_name(alloc, number, words.get(2))?;
     Ok(Reference {
         name,
         def,
@@ -81,6 +77,22 @@ impl GraphBlock {
     {
         let name = name.as_bytes();
         self.ins.has(name) || self.outs.has(name)
+    }
+
+    /// The definition that the lines are.
+    pub fn into_def(self) -> Def
+        ensures { result ≡ graph_def (graph_view self) }
+    {
+        Def {
+            name: self.name,
+            line: self.line,
+            body: Body::Graph {
+                ins: self.ins.into_items(),
+                outs: self.outs.into_items(),
+                references: Items::new(self.references),
+                edges: Items::new(self.edges),
+            },
+        }
     }
 
     /// in P LEN
@@ -198,7 +210,6 @@ impl GraphBlock {
                 to,
                 line: number,
             },
-        )?;
-        Ok(())
+        )
     }
 }

@@ -5,8 +5,8 @@ ghost use Rattle.algo_defs.specs.Words.{is_among};
 ghost use Rattle.algo_reader.specs.Given.{Makes, Adds};
 ghost use Rattle.algo_reader.specs.Lines.{port_of};
 
-use crate::fault::{above, bad_name, bad_number, is_above, push};
-use crate::word::{read_count, read_name};
+use crate::fault::{above, bad_number, is_above, push};
+use crate::word::{line_name, read_count};
 use crate::words::Words;
 use algo_defs::AlgoError;
 use body_lang::Port;
@@ -104,9 +104,7 @@ pub fn read_port(
     ensures port { Makes result (port_of number before words.now) }
     ensures few { IfOk result (λ _. before < bound_of LimitKind.Ports) }
 {
-    let Some(name) = read_name(alloc, words.get(1))? else {
-        return Err(bad_name(alloc, number, words.get(1)));
-    };
+    let name = line_name(alloc, number, words.get(1))?;
     let Some(len) = read_count(words.get(2)) else {
         return Err(bad_number(alloc, number, words.get(2)));
     };

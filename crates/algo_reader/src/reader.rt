@@ -1,19 +1,19 @@
 //! The lines of a text, one after the other.
-ghost use Rattle.std.specs.Prelude.{◌≡◌, ◌<◌, ◌≤◌, length};
+ghost use Rattle.std.specs.Prelude.{◌≡◌, ◌<◌, ◌≤◌, length, Ok};
 ghost use Rattle.text_lines.specs.Text.{lines_of};
 ghost use Rattle.algo_text.specs.Blocks.{new_block};
 ghost use Rattle.algo_text.specs.Text.{definitions_of, start, first_part, version_line, end_line, values_line, deep_line, delay_line, opening_line, repeat_line, between_line, function_line, graph_line, switch_line, frontier_line, by_stage, next_line, at_end, defs_in, in_function, in_graph, in_switch, in_repeat};
 ghost use Rattle.algo_reader.specs.Given.{Makes, Steps};
-ghost use Rattle.algo_reader.specs.Views.{reading, settle, function_end, graph_end, switch_end, repeat_end, any_end, stage_of, block_of, stage_for, end_body, values_body, function_view, graph_view, switch_view, repeat_view};
+ghost use Rattle.algo_reader.specs.Views.{reading, settle, ended, is_between, function_end, graph_end, switch_end, repeat_end, any_end, stage_of, block_of, stage_for, end_body, values_body, function_view, graph_view, switch_view, repeat_view};
 
-use crate::fault::{above, bad_line, bad_name, bad_number, duplicate, is_above, not_text, push};
+use crate::fault::{above, bad_line, bad_number, is_above, not_text, push};
 use crate::function::FunctionBlock;
 use crate::graph::GraphBlock;
-use crate::names::add_name;
+use crate::names::add_new;
 use crate::repetition::RepeatBlock;
-use crate::switch::{SwitchBlock, SwitchPart};
-use crate::values::{deep_delay, read_values};
-use crate::word::{begins, read_count, read_name, read_version};
+use crate::switch::SwitchBlock;
+use crate::values::{delay_depth, read_values};
+use crate::word::{begins, line_name, read_count, read_version};
 use crate::words::Words;
 use algo_defs::{AlgoError, Body, Def, Defs};
 use name_table::Names;
@@ -52,6 +52,18 @@ pub enum Place {
     InGraph(GraphBlock),
     InSwitch(SwitchBlock),
     InRepeat(RepeatBlock),
+}
+
+impl Place {
+    /// No block is open, and the version was read.
+    fn is_between(&self) -> bool
+        ensures { result ≡ is_between (stage_of self.now) }
+    {
+        match self {
+            Place::Between => true,
+            _ => false,
+        }
+    }
 }
 
 /// What was read so far: the version, the definitions, and their names with the open block's.
@@ -106,6 +118,21 @@ impl<'a> Reader<'a> {
         }
     }
 
+    /// The next line stands here.
+    fn go_to(&mut self, place: Place)
+        ensures { self.new ≡ record self.old { place = place } }
+    {
+        self.place = place;
+    }
+
+    /// The open block has ended as this definition.
+    fn end_as(&mut self, def: Def) -> Result<(), AlgoError>
+        ensures { Steps result (reading self.new) (Ok (ended (reading self.old) def)) }
+    {
+        self.go_to(Place::Between);
+        push(&mut self.defs, def)
+    }
+
     /// algorithm VERSION
     fn version_line(&mut self, number: u32, words: &Words) -> Result<(), AlgoError>
         requires { 0 < length words.now }
@@ -121,7 +148,7 @@ impl<'a> Reader<'a> {
             return Err(bad_line(number));
         };
         self.version = version;
-        self.place = Place::Between;
+        self.go_to(Place::Between);
         Ok(())
     }
 
@@ -138,25 +165,20 @@ impl<'a> Reader<'a> {
         if words.len() != 3 {
             return Err(bad_line(number));
         }
-        let Some(name) = read_name(alloc, words.get(1))? else {
-            return Err(bad_name(alloc, number, words.get(1)));
-        };
+        let name = line_name(alloc, number, words.get(1))?;
         let Some(len) = read_count(words.get(2)) else {
             return Err(bad_number(alloc, number, words.get(2)));
         };
         if is_above(LimitKind::PortLength, u128::from(len)) {
             return Err(above(LimitKind::PortLength, u128::from(len)));
         }
-        if !add_name(&mut self.names, words.get(1))? {
-            return Err(duplicate(alloc, number, words.get(1)));
-        }
+        add_new(alloc, &mut self.names, number, words.get(1))?;
         let def = Def {
             name,
             line: number,
             body: end_body(kind, len as u32),
         };
-        push(&mut self.defs, def)?;
-        Ok(())
+        push(&mut self.defs, def)
     }
 
     /// constant NAME = V0 V1 and so on, and likewise delay in version 1
@@ -175,23 +197,18 @@ impl<'a> Reader<'a> {
         if words.get(2) != b"=".as_slice() {
             return Err(bad_line(number));
         }
-        let Some(name) = read_name(alloc, words.get(1))? else {
-            return Err(bad_name(alloc, number, words.get(1)));
-        };
+        let name = line_name(alloc, number, words.get(1))?;
         let values = read_values(alloc, number, words, 3)?;
         if is_above(LimitKind::PortLength, values.len() as u128) {
             return Err(above(LimitKind::PortLength, values.len() as u128));
         }
-        if !add_name(&mut self.names, words.get(1))? {
-            return Err(duplicate(alloc, number, words.get(1)));
-        }
+        add_new(alloc, &mut self.names, number, words.get(1))?;
         let def = Def {
             name,
             line: number,
             body: values_body(kind, values),
         };
-        push(&mut self.defs, def)?;
-        Ok(())
+        push(&mut self.defs, def)
     }
 
     /// delay NAME DEPTH = V0 V1 and so on, from version 2 on
@@ -204,24 +221,19 @@ impl<'a> Reader<'a> {
         if words.get(3) != b"=".as_slice() {
             return Err(bad_line(number));
         }
-        let Some(name) = read_name(alloc, words.get(1))? else {
-            return Err(bad_name(alloc, number, words.get(1)));
-        };
+        let name = line_name(alloc, number, words.get(1))?;
         let Some(depth) = read_count(words.get(2)) else {
             return Err(bad_number(alloc, number, words.get(2)));
         };
         let values = read_values(alloc, number, words, 4)?;
-        let body = deep_delay(number, depth, values)?;
-        if !add_name(&mut self.names, words.get(1))? {
-            return Err(duplicate(alloc, number, words.get(1)));
-        }
+        let depth = delay_depth(number, depth, values.as_slice())?;
+        add_new(alloc, &mut self.names, number, words.get(1))?;
         let def = Def {
             name,
             line: number,
-            body,
+            body: Body::Delay(depth, Items::new(values)),
         };
-        push(&mut self.defs, def)?;
-        Ok(())
+        push(&mut self.defs, def)
     }
 
     /// A delay, of depth 1 in version 1.
@@ -248,13 +260,9 @@ impl<'a> Reader<'a> {
         if words.len() != 2 {
             return Err(bad_line(number));
         }
-        let Some(name) = read_name(alloc, words.get(1))? else {
-            return Err(bad_name(alloc, number, words.get(1)));
-        };
-        if !add_name(&mut self.names, words.get(1))? {
-            return Err(duplicate(alloc, number, words.get(1)));
-        }
-        self.place = open_block(alloc, kind, name, number);
+        let name = line_name(alloc, number, words.get(1))?;
+        add_new(alloc, &mut self.names, number, words.get(1))?;
+        self.go_to(open_block(alloc, kind, name, number));
         Ok(())
     }
 
@@ -270,22 +278,17 @@ impl<'a> Reader<'a> {
         if words.len() != 4 {
             return Err(bad_line(number));
         }
-        let Some(name) = read_name(alloc, words.get(1))? else {
-            return Err(bad_name(alloc, number, words.get(1)));
-        };
-        let Some(def) = read_name(alloc, words.get(3))? else {
-            return Err(bad_name(alloc, number, words.get(3)));
-        };
+        let name = line_name(alloc, number, words.get(1))?;
+        let def = line_name(alloc, number, words.get(3))?;
         let Some(copies) = read_count(words.get(2)) else {
             return Err(bad_number(alloc, number, words.get(2)));
         };
         if is_above(LimitKind::Copies, u128::from(copies)) {
             return Err(above(LimitKind::Copies, u128::from(copies)));
         }
-        if !add_name(&mut self.names, words.get(1))? {
-            return Err(duplicate(alloc, number, words.get(1)));
-        }
-        self.place = Place::InRepeat(RepeatBlock::new(alloc, name, number, copies as u32, def));
+        add_new(alloc, &mut self.names, number, words.get(1))?;
+        let block = RepeatBlock::new(alloc, name, number, copies as u32, def);
+        self.go_to(Place::InRepeat(block));
         Ok(())
     }
 
@@ -338,17 +341,7 @@ impl<'a> Reader<'a> {
         if words.len() != 1 || block.results.as_slice().is_empty() {
             return Err(bad_line(number));
         }
-        self.place = Place::Between;
-        let def = Def {
-            name: block.name,
-            line: block.line,
-            body: Body::Function {
-                ins: block.ins.into_items(),
-                outs: Items::new(block.results),
-            },
-        };
-        push(&mut self.defs, def)?;
-        Ok(())
+        self.end_as(block.into_def())
     }
 
     /// `end`
@@ -358,19 +351,7 @@ impl<'a> Reader<'a> {
         if words.len() != 1 {
             return Err(bad_line(number));
         }
-        self.place = Place::Between;
-        let def = Def {
-            name: block.name,
-            line: block.line,
-            body: Body::Graph {
-                ins: block.ins.into_items(),
-                outs: block.outs.into_items(),
-                references: Items::new(block.references),
-                edges: Items::new(block.edges),
-            },
-        };
-        push(&mut self.defs, def)?;
-        Ok(())
+        self.end_as(block.into_def())
     }
 
     /// `end`
@@ -385,24 +366,10 @@ impl<'a> Reader<'a> {
         if words.len() != 1 {
             return Err(bad_line(number));
         }
-        let (Some(on), SwitchPart::Whole(otherwise, otherwise_line)) = (block.on, block.part) else {
+        let Some(def) = block.into_def() else {
             return Err(bad_line(number));
         };
-        self.place = Place::Between;
-        let def = Def {
-            name: block.name,
-            line: block.line,
-            body: Body::Switch {
-                on,
-                ins: block.ins.into_items(),
-                outs: block.outs.into_items(),
-                cases: Items::new(block.cases),
-                otherwise,
-                otherwise_line,
-            },
-        };
-        push(&mut self.defs, def)?;
-        Ok(())
+        self.end_as(def)
     }
 
     /// `end`
@@ -417,18 +384,7 @@ impl<'a> Reader<'a> {
         if words.len() != 1 {
             return Err(bad_line(number));
         }
-        self.place = Place::Between;
-        let def = Def {
-            name: block.name,
-            line: block.line,
-            body: Body::Repeat {
-                copies: block.copies,
-                def: block.def,
-                lines: Items::new(block.frontier),
-            },
-        };
-        push(&mut self.defs, def)?;
-        Ok(())
+        self.end_as(block.into_def())
     }
 
     /// `end`: the open block becomes a definition.
@@ -592,16 +548,27 @@ impl<'a> Reader<'a> {
         self.by_stage(alloc, number, &words, code)
     }
 
+    /// The version and the definitions that were read.
+    fn into_defs(self) -> Defs
+        ensures { result ≡ defs_in (reading self.entry) }
+    {
+        Defs {
+            version: self.version,
+            defs: Items::new(self.defs),
+        }
+    }
+
     /// The definitions, at the end of the text.
+    #[tactic(auto, using(crate::proofs::Ends::end_by))]
     pub fn at_end(self, number: u32) -> Result<Defs, AlgoError>
         ensures { Makes result (at_end (stage_of self.entry.place) (defs_in (reading self.entry)) number) }
     {
-        match self.place {
-            Place::Between => Ok(Defs {
-                version: self.version,
-                defs: Items::new(self.defs),
-            }),
-            _ => Err(bad_line(number)),
+        let is_whole = self.place.is_between();
+        let defs = self.into_defs();
+        if is_whole {
+            Ok(defs)
+        } else {
+            Err(bad_line(number))
         }
     }
 }

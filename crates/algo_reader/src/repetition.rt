@@ -3,16 +3,17 @@ ghost use Rattle.std.specs.Prelude.{◌≡◌, ◌∷◌, []};
 ghost use Rattle.algo_defs.specs.Words.{is_among};
 ghost use Rattle.algo_defs.specs.Outer.{all_outer, outer_names};
 ghost use Rattle.algo_text.specs.Blocks.{fork_line, diffuse_line, iterate_line, join_line, new_block, with_frontier};
+ghost use Rattle.algo_defs.specs.declared.definition.Frontier.{Frontier};
 ghost use Rattle.algo_text.specs.declared.part.Part.TheVariants.{Inputs};
 ghost use Rattle.algo_reader.specs.Given.{Steps};
-ghost use Rattle.algo_reader.specs.Views.{repeat_view};
+ghost use Rattle.algo_reader.specs.Views.{repeat_view, repeat_def, with_line};
 
-use crate::fault::{above, bad_line, bad_name, duplicate, is_above, push};
-use crate::word::read_name;
+use crate::fault::{above, bad_line, duplicate, is_above, push};
+use crate::word::line_name;
 use crate::words::Words;
-use algo_defs::{AlgoError, Frontier, FrontierLine};
+use algo_defs::{AlgoError, Body, Def, Frontier, FrontierLine};
 use std::alloc::Global;
-use syn_base::{LimitKind, Name};
+use syn_base::{Items, LimitKind, Name};
 
 /// The lines of a repetition so far.
 #[derive(Drop)]
@@ -62,6 +63,58 @@ impl RepeatBlock {
         }
     }
 
+    /// The definition that the lines are.
+    pub fn into_def(self) -> Def
+        ensures { result ≡ repeat_def (repeat_view self) }
+    {
+        Def {
+            name: self.name,
+            line: self.line,
+            body: Body::Repeat {
+                copies: self.copies,
+                def: self.def,
+                lines: Items::new(self.frontier),
+            },
+        }
+    }
+
+    /// Whether a line that gives this one port of the repetition may follow, or why not.
+    fn check_port(&self, alloc: Global, number: u32, outer: &[u8]) -> Result<(), AlgoError>
+        ensures { (frontier : Frontier) → outer_names frontier ≡ outer.now ∷ [] → Steps result (with_line (repeat_view self.now) number frontier) (with_frontier (repeat_view self.now) number frontier) }
+    {
+        let count = self.frontier.len() as u128 + 1;
+        if is_above(LimitKind::Ports, count) {
+            return Err(above(LimitKind::Ports, count));
+        }
+        if has_outer(self.frontier.as_slice(), outer) {
+            return Err(duplicate(alloc, number, outer));
+        }
+        Ok(())
+    }
+
+    /// Whether a line that gives this input and this output of the repetition may follow, or why not.
+    fn check_ports(
+        &self,
+        alloc: Global,
+        number: u32,
+        outer: &[u8],
+        last: &[u8],
+    ) -> Result<(), AlgoError>
+        ensures { (frontier : Frontier) → outer_names frontier ≡ outer.now ∷ last.now ∷ [] → Steps result (with_line (repeat_view self.now) number frontier) (with_frontier (repeat_view self.now) number frontier) }
+    {
+        let count = self.frontier.len() as u128 + 1;
+        if is_above(LimitKind::Ports, count) {
+            return Err(above(LimitKind::Ports, count));
+        }
+        if has_outer(self.frontier.as_slice(), outer) {
+            return Err(duplicate(alloc, number, outer));
+        }
+        if last == outer || has_outer(self.frontier.as_slice(), last) {
+            return Err(duplicate(alloc, number, last));
+        }
+        Ok(())
+    }
+
     /// Adds a line that gives one port of the repetition.
     fn add(
         &mut self,
@@ -73,19 +126,12 @@ impl RepeatBlock {
         requires { outer_names frontier ≡ outer.now ∷ [] }
         ensures { Steps result (repeat_view self.new) (with_frontier (repeat_view self.old) number frontier) }
     {
-        let count = self.frontier.len() as u128 + 1;
-        if is_above(LimitKind::Ports, count) {
-            return Err(above(LimitKind::Ports, count));
-        }
-        if has_outer(self.frontier.as_slice(), outer) {
-            return Err(duplicate(alloc, number, outer));
-        }
+        self.check_port(alloc, number, outer)?;
         let line = FrontierLine {
             frontier,
             line: number,
         };
-        push(&mut self.frontier, line)?;
-        Ok(())
+        push(&mut self.frontier, line)
     }
 
     /// Adds a line that gives an input and an output of the repetition.
@@ -100,22 +146,12 @@ impl RepeatBlock {
         requires { outer_names frontier ≡ outer.now ∷ last.now ∷ [] }
         ensures { Steps result (repeat_view self.new) (with_frontier (repeat_view self.old) number frontier) }
     {
-        let count = self.frontier.len() as u128 + 1;
-        if is_above(LimitKind::Ports, count) {
-            return Err(above(LimitKind::Ports, count));
-        }
-        if has_outer(self.frontier.as_slice(), outer) {
-            return Err(duplicate(alloc, number, outer));
-        }
-        if last == outer || has_outer(self.frontier.as_slice(), last) {
-            return Err(duplicate(alloc, number, last));
-        }
+        self.check_ports(alloc, number, outer, last)?;
         let line = FrontierLine {
             frontier,
             line: number,
         };
-        push(&mut self.frontier, line)?;
-        Ok(())
+        push(&mut self.frontier, line)
     }
 
     /// fork P X
@@ -126,12 +162,8 @@ impl RepeatBlock {
         if words.len() != 3 {
             return Err(bad_line(number));
         }
-        let Some(outer) = read_name(alloc, words.get(1))? else {
-            return Err(bad_name(alloc, number, words.get(1)));
-        };
-        let Some(inner) = read_name(alloc, words.get(2))? else {
-            return Err(bad_name(alloc, number, words.get(2)));
-        };
+        let outer = line_name(alloc, number, words.get(1))?;
+        let inner = line_name(alloc, number, words.get(2))?;
         let frontier = Frontier::Fork { outer, inner };
         self.add(alloc, number, frontier, words.get(1))
     }
@@ -149,12 +181,8 @@ impl RepeatBlock {
         if words.len() != 3 {
             return Err(bad_line(number));
         }
-        let Some(outer) = read_name(alloc, words.get(1))? else {
-            return Err(bad_name(alloc, number, words.get(1)));
-        };
-        let Some(inner) = read_name(alloc, words.get(2))? else {
-            return Err(bad_name(alloc, number, words.get(2)));
-        };
+        let outer = line_name(alloc, number, words.get(1))?;
+        let inner = line_name(alloc, number, words.get(2))?;
         let frontier = Frontier::Diffuse { outer, inner };
         self.add(alloc, number, frontier, words.get(1))
     }
@@ -167,12 +195,8 @@ impl RepeatBlock {
         if words.len() != 3 {
             return Err(bad_line(number));
         }
-        let Some(given) = read_name(alloc, words.get(1))? else {
-            return Err(bad_name(alloc, number, words.get(1)));
-        };
-        let Some(outer) = read_name(alloc, words.get(2))? else {
-            return Err(bad_name(alloc, number, words.get(2)));
-        };
+        let given = line_name(alloc, number, words.get(1))?;
+        let outer = line_name(alloc, number, words.get(2))?;
         let frontier = Frontier::Join { given, outer };
         self.add(alloc, number, frontier, words.get(2))
     }
@@ -190,18 +214,10 @@ impl RepeatBlock {
         if words.len() != 5 {
             return Err(bad_line(number));
         }
-        let Some(outer) = read_name(alloc, words.get(1))? else {
-            return Err(bad_name(alloc, number, words.get(1)));
-        };
-        let Some(inner) = read_name(alloc, words.get(2))? else {
-            return Err(bad_name(alloc, number, words.get(2)));
-        };
-        let Some(given) = read_name(alloc, words.get(3))? else {
-            return Err(bad_name(alloc, number, words.get(3)));
-        };
-        let Some(last) = read_name(alloc, words.get(4))? else {
-            return Err(bad_name(alloc, number, words.get(4)));
-        };
+        let outer = line_name(alloc, number, words.get(1))?;
+        let inner = line_name(alloc, number, words.get(2))?;
+        let given = line_name(alloc, number, words.get(3))?;
+        let last = line_name(alloc, number, words.get(4))?;
         let frontier = Frontier::Iterate {
             outer,
             inner,

@@ -1,18 +1,19 @@
 //! The lines of a conditioned definition.
-ghost use Rattle.std.specs.Prelude.{◌≡◌};
+ghost use Rattle.std.specs.Prelude.{◌≡◌, true, false, MatchOption};
 ghost use Rattle.std.specs.Str.{bytes_eq};
+ghost use Rattle.algo_text.specs.Parts.{is_whole};
 ghost use Rattle.algo_text.specs.Blocks.{in_line, out_line, on_line, case_line, otherwise_line, is_taken, new_block};
 ghost use Rattle.algo_reader.specs.Given.{Steps};
-ghost use Rattle.algo_reader.specs.Views.{switch_view, part_of, on_of};
+ghost use Rattle.algo_reader.specs.Views.{switch_view, switch_def, part_of, on_of};
 
-use crate::fault::{above, bad_line, bad_name, bad_number, duplicate, is_above, push};
+use crate::fault::{above, bad_line, bad_number, duplicate, is_above, push};
 use crate::ports::{Ports, read_port};
-use crate::word::{read_name, read_number};
+use crate::word::{line_name, read_number};
 use crate::words::Words;
-use algo_defs::{AlgoError, Case};
+use algo_defs::{AlgoError, Body, Case, Def};
 use algo_text::Part;
 use std::alloc::Global;
-use syn_base::{LimitKind, Name};
+use syn_base::{Items, LimitKind, Name};
 
 /// The part of a conditioned definition after its line `on` in which the last line stands.
 #[derive(Drop)]
@@ -86,6 +87,27 @@ impl SwitchBlock {
         self.is_on(name) || self.ins.has(name) || self.outs.has(name)
     }
 
+    /// The definition that the lines are, once the line `otherwise` was read.
+    pub fn into_def(self) -> Option<Def>
+        ensures { MatchOption result (is_whole (switch_view self).part ≡ false) (λ def. (is_whole (switch_view self).part ≡ true) × (def ≡ switch_def (switch_view self))) }
+    {
+        let (Some(on), SwitchPart::Whole(otherwise, otherwise_line)) = (self.on, self.part) else {
+            return None;
+        };
+        Some(Def {
+            name: self.name,
+            line: self.line,
+            body: Body::Switch {
+                on,
+                ins: self.ins.into_items(),
+                outs: self.outs.into_items(),
+                cases: Items::new(self.cases),
+                otherwise,
+                otherwise_line,
+            },
+        })
+    }
+
     /// on P, the first line
     pub fn on_line(&mut self, alloc: Global, number: u32, words: &Words) -> Result<(), AlgoError>
         ensures { Steps result (switch_view self.new) (on_line (switch_view self.old) number words.now) }
@@ -93,9 +115,7 @@ impl SwitchBlock {
         if words.len() != 2 || !self.part().is_conditioning() {
             return Err(bad_line(number));
         }
-        let Some(on) = read_name(alloc, words.get(1))? else {
-            return Err(bad_name(alloc, number, words.get(1)));
-        };
+        let on = line_name(alloc, number, words.get(1))?;
         self.on = Some(on);
         self.part = SwitchPart::Inputs;
         Ok(())
@@ -139,9 +159,7 @@ impl SwitchBlock {
         if words.len() != 3 || !self.part().admits(Part::Cases) {
             return Err(bad_line(number));
         }
-        let Some(def) = read_name(alloc, words.get(2))? else {
-            return Err(bad_name(alloc, number, words.get(2)));
-        };
+        let def = line_name(alloc, number, words.get(2))?;
         let Some(value) = read_number(words.get(1)) else {
             return Err(bad_number(alloc, number, words.get(1)));
         };
@@ -157,8 +175,7 @@ impl SwitchBlock {
                 def,
                 line: number,
             },
-        )?;
-        Ok(())
+        )
     }
 
     /// otherwise DEF, the last line
@@ -173,9 +190,7 @@ impl SwitchBlock {
         if words.len() != 2 || !self.part().admits(Part::Cases) {
             return Err(bad_line(number));
         }
-        let Some(def) = read_name(alloc, words.get(1))? else {
-            return Err(bad_name(alloc, number, words.get(1)));
-        };
+        let def = line_name(alloc, number, words.get(1))?;
         self.part = SwitchPart::Whole(def, number);
         Ok(())
     }

@@ -1,14 +1,15 @@
 //! The numbers of a line.
-ghost use Rattle.std.specs.Prelude.{◌≤◌, length, drop};
+ghost use Rattle.std.specs.Prelude.{◌≡◌, ◌≤◌, length, drop, IfOk};
 ghost use Rattle.algo_text.specs.Text.{deep_delay, numbers_of};
-ghost use Rattle.algo_reader.specs.Given.{Makes, MakesList};
+ghost use Rattle.algo_defs.specs.declared.definition.Body.TheVariants.{Delay};
+ghost use Rattle.algo_reader.specs.Given.{MakesList, Steps};
 
 use crate::fault::{above, bad_delay, bad_number, is_above, push};
 use crate::word::read_number;
 use crate::words::Words;
-use algo_defs::{AlgoError, Body};
+use algo_defs::AlgoError;
 use std::alloc::Global;
-use syn_base::{Items, LimitKind};
+use syn_base::LimitKind;
 
 /// The numbers that the words are from one on, or the first word that is none.
 pub fn read_values(
@@ -32,11 +33,12 @@ pub fn read_values(
     Ok(values)
 }
 
-/// A delay of this depth, from 1, or why its values are not as many groups of equal length within the
-/// bounds.
-pub fn deep_delay(number: u32, depth: u64, values: Vec<i64>) -> Result<Body, AlgoError>
+/// The depth, from 1, of a delay with these values, or why the values are not as many groups of equal
+/// length within the bounds.
+pub fn delay_depth(number: u32, depth: u64, values: &[i64]) -> Result<u32, AlgoError>
     requires { 1 ≤ depth }
-    ensures { Makes result (deep_delay number depth values.items) }
+    ensures delay { Steps result (Delay depth values.now) (deep_delay number depth values.now) }
+    ensures depth { IfOk result (λ d. d ≡ depth) }
 {
     if is_above(LimitKind::Delay, u128::from(depth)) {
         return Err(above(LimitKind::Delay, u128::from(depth)));
@@ -49,5 +51,5 @@ pub fn deep_delay(number: u32, depth: u64, values: Vec<i64>) -> Result<Body, Alg
     if is_above(LimitKind::PortLength, len) {
         return Err(above(LimitKind::PortLength, len));
     }
-    Ok(Body::Delay(depth as u32, Items::new(values)))
+    Ok(depth as u32)
 }

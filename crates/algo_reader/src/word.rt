@@ -1,12 +1,14 @@
 //! What the words of a line are.
 ghost use Rattle.std.specs.Prelude.{◌≡◌, ◌<◌, Some, None, IfOk, MatchOption, true, false, position, length, slice_index_or, []};
+ghost use Rattle.std.specs.List.{before_first, after_first};
 ghost use Rattle.std.specs.Str.{bytes_eq};
 ghost use Rattle.syn_base.specs.Name.{is_name};
-ghost use Rattle.algo_reader.specs.Given.{GivesSome};
+ghost use Rattle.algo_reader.specs.Given.{GivesSome, IsNamed};
 ghost use Rattle.algo_reader.specs.Lines.{some_name};
 ghost use Rattle.algo_text.specs.Words.{number_of, count_of, period_of, end_of, is_dot};
 ghost use Rattle.algo_text.specs.Text.{version_of};
 
+use crate::fault::bad_name;
 use crate::words::Words;
 use algo_defs::{AlgoError, End};
 use std::alloc::Global;
@@ -21,6 +23,16 @@ pub fn read_name(alloc: Global, w: &[u8]) -> Result<Option<Name>, AlgoError>
         Ok(name) => Ok(Some(name)),
         Err(NameFault::BadName) => Ok(None),
         Err(NameFault::OutOfMemory) => Err(AlgoError::OutOfMemory),
+    }
+}
+
+/// The name that a word of a line is, or the line's refusal where it is none.
+pub fn line_name(alloc: Global, number: u32, w: &[u8]) -> Result<Name, AlgoError>
+    ensures { IsNamed result number w.now }
+{
+    match read_name(alloc, w)? {
+        Some(name) => Ok(name),
+        None => Err(bad_name(alloc, number, w)),
     }
 }
 
@@ -72,6 +84,17 @@ fn dot_in(w: &[u8]) -> Option<usize>
     w.iter().position(|b| *b == b'.')
 }
 
+/// What stands before the first dot and what stands after it, or all and nothing where there is none.
+fn around_dot(w: &[u8]) -> (&[u8], &[u8])
+    ensures before { result.0.now ≡ before_first is_dot w.now }
+    ensures after { result.1.now ≡ after_first is_dot w.now }
+{
+    match dot_in(w) {
+        Some(dot) => (&w[..dot], &w[dot + 1..]),
+        None => (w, &[]),
+    }
+}
+
 /// The end of an edge, or none where the word is no end.
 pub fn read_end(alloc: Global, w: &[u8]) -> Result<Option<End>, AlgoError>
     ensures { GivesSome result (end_of w.now) }
@@ -79,13 +102,11 @@ pub fn read_end(alloc: Global, w: &[u8]) -> Result<Option<End>, AlgoError>
     if let Some(port) = read_name(alloc, w)? {
         return Ok(Some(End { owner: None, port }));
     }
-    let Some(dot) = dot_in(w) else {
+    let (owner, port) = around_dot(w);
+    let Some(owner) = read_name(alloc, owner)? else {
         return Ok(None);
     };
-    let Some(owner) = read_name(alloc, &w[..dot])? else {
-        return Ok(None);
-    };
-    let Some(port) = read_name(alloc, &w[dot + 1..])? else {
+    let Some(port) = read_name(alloc, port)? else {
         return Ok(None);
     };
     Ok(Some(End {

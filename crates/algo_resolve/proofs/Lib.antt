@@ -5,3 +5,4 @@ pub mod Edges
 pub mod Sizing
 pub mod Planned
 pub mod Groups
+pub mod Rounds

@@ -1,6 +1,8 @@
 -- One vertex more.
-use Rattle.std.proofs.Common.{◌≡◌, ℕ, suc, ◌+◌, ◌-◌, ◌<◌, ◌≤◌, List, [], ◌∷◌, ◌++◌, length, get_or, drop, map, Some, ap, sym, ◌∙◌, arith}
+use Rattle.std.proofs.Common.{◌≡◌, ℕ, zero, suc, ◌+◌, ◌-◌, ◌<◌, ◌≤◌, List, [], ◌∷◌, ◌++◌, length, get_or, drop, map, Some, ap, sym, subst, ◌∙◌, append-nil, arith}
+use Rattle.std.specs.Prelude.{slice_get}
 use Rattle.std.proofs.Math.Numerals.{suc-eq-add-one}
+use Rattle.std.proofs.lemmas.List.{drop_all}
 use Rattle.std.proofs.lemmas.List.FromFn.{map-range_with_len_more}
 use Rattle.body_lang.specs.declared.expression.Port.{Port}
 use Rattle.level_meaning.specs.declared.source.Source.{Source}
@@ -12,7 +14,6 @@ use Rattle.algo_tree.specs.View.{kind_view, view}
 use Rattle.algo_tree.specs.declared.vertex.Vertex.{Vertex}
 use Rattle.algo_tree.specs.declared.vertex.Kind.{Kind}
 use Rattle.algo_defs.specs.declared.definition.Def.{Def}
-use Rattle.algo_defs.specs.declared.definition.Case.{Case}
 use Rattle.algo_defs.specs.declared.definition.Reference.{Reference}
 use Rattle.algo_defs.specs.declared.definition.Edge.{Edge}
 use Rattle.algo_defs.specs.Words.{Bytes}
@@ -34,6 +35,19 @@ pub owns_more : (first number : ℕ) → first ≤ number → owns first (number
 owns_more first number low =
     let more : number + 1 - first ≡ number - first + 1 = omega (arith, low) in
     sym (ap (owns first) more ∙ map-range_with_len_more (λ n. Own n) first (number - first) number (omega (arith, low)))
+
+-- the rest of a list of names from one on
+name_here : (ws : List Bytes) (i : ℕ) (w : Bytes) → slice_get ws i ≡ Some w → drop i ws ≡ w ∷ drop (i + 1) ws
+name_here [] i w at = cc
+name_here (x ∷ ws) zero w at = let same : x ≡ w = cc in ap (λ (y : Bytes). y ∷ ws) same
+name_here (x ∷ ws) (suc i) w at = let next : suc (i + 1) ≡ suc i + 1 = omega arith in name_here ws i w at ∙ ap (λ (k : ℕ). w ∷ drop k (x ∷ ws)) next
+
+-- the definition of a name among several that stand at places
+pub named_at : (ds : List Def) (table : List Ports) (ws : List Bytes) (ps : List ℕ) (i : ℕ) (w : Bytes) → ArePlaced ds table ws ps → slice_get ws i ≡ Some w → IsPlaced ds table w (get_or ps i 0)
+named_at ds table [] ps i w h at = cc
+named_at ds table (x ∷ ws) [] i w h at = absurd h
+named_at ds table (x ∷ ws) (p ∷ ps) zero w h at = let same : x ≡ w = cc in subst (λ (y : Bytes). IsPlaced ds table y p) same h.0
+named_at ds table (x ∷ ws) (p ∷ ps) (suc i) w h at = named_at ds table ws ps i w h.1 at
 
 module _ (ds : List Def) where
   -- a definition with fuel left
@@ -86,10 +100,23 @@ module _ (ds : List Def) where
         ∙ ap (λ (ws : List tree.Vertex). map view us ++ ws) (sym (next_reference ins all edges rs i r s a t b low is sensors actuators))
         ∙ before
 
-    pub next_case : (ins : ℕ) (otherwise : Bytes) (cs : List Case) (i : ℕ) (c : Case)
-        → i < length cs → c ≡ get_or cs i c
-        → cases_from ds make ins i (map (λ x. x.def) (drop i cs) ++ otherwise ∷ [])
-        ≡ make (Numbered i) c.def (owns 1 ins) 0 0 ∷ cases_from ds make ins (i + 1) (map (λ x. x.def) (drop (i + 1) cs) ++ otherwise ∷ [])
-    next_case ins otherwise cs i c low is =
-        ap (λ (ks : List Case). cases_from ds make ins i (map (λ x. x.def) ks ++ otherwise ∷ [])) (from_here cs i c low is)
-        ∙ ap (λ (k : ℕ). make (Numbered i) c.def (owns 1 ins) 0 0 ∷ cases_from ds make ins k (map (λ x. x.def) (drop (i + 1) cs) ++ otherwise ∷ [])) (suc-eq-add-one i)
+    -- the vertex of the next case, after those that are made
+    pub one_case : (ins : ℕ) (ws : List Bytes) (i : ℕ) (w : Bytes) (seat : Seat) (us : List Vertex) (v : Vertex) (whole : List tree.Vertex)
+        → slice_get ws i ≡ Some w → seat ≡ record { part = Numbered i; ins = owns 1 ins; sensor = 0; actuator = 0 }
+        → view v ≡ make seat.part w seat.ins seat.sensor seat.actuator
+        → map view us ++ cases_from ds make ins i (drop i ws) ≡ whole
+        → map view (us ++ v ∷ []) ++ cases_from ds make ins (i + 1) (drop (i + 1) ws) ≡ whole
+    one_case ins ws i w seat us v whole at sits made before =
+        pushed view us v (make (Numbered i) w (owns 1 ins) 0 0) (cases_from ds make ins (i + 1) (drop (i + 1) ws))
+        (made ∙ ap (λ (s : Seat). make s.part w s.ins s.sensor s.actuator) sits)
+        ∙ ap (λ (k : ℕ). map view us ++ (make (Numbered i) w (owns 1 ins) 0 0 ∷ cases_from ds make ins k (drop (i + 1) ws))) (sym (suc-eq-add-one i))
+        ∙ ap (λ (xs : List Bytes). map view us ++ cases_from ds make ins i xs) (sym (name_here ws i w at))
+        ∙ before
+
+    -- all cases are made
+    pub all_cases : (ins : ℕ) (ws : List Bytes) (i : ℕ) (us : List Vertex) (whole : List tree.Vertex)
+        → length ws ≤ i → map view us ++ cases_from ds make ins i (drop i ws) ≡ whole → map view us ≡ whole
+    all_cases ins ws i us whole past before =
+        sym (append-nil (map view us))
+        ∙ ap (λ (xs : List Bytes). map view us ++ cases_from ds make ins i xs) (sym (drop_all i ws past))
+        ∙ before

@@ -2,7 +2,8 @@
 ghost use Rattle.std.specs.Prelude.{◌≡◌, ◌+◌, ◌<◌, ◌≤◌, ◌∷◌, ◌++◌, [], IfOk, Some, length, map, slice_get};
 ghost use Rattle.algo_links.specs.Linked.{named};
 ghost use Rattle.algo_rules.specs.Placed.{ArePlaced, IsPlaced};
-ghost use Rattle.algo_rules.specs.Ports.{ports_of};
+ghost use Rattle.algo_rules.specs.Ports.{lens_of, ports_of};
+ghost use Rattle.body_lang.specs.declared.expression.Port.{Port};
 ghost use Rattle.algo_rules.specs.Resolved.{Making, cases_from, inner_by, is_actuator, is_sensor, kind_by, owns, references_from, vertex, vertex_within};
 ghost use Rattle.algo_rules.specs.WellRead.{IsWellRead};
 ghost use Rattle.algo_tree.specs.Tree.{graph as no_graph};
@@ -57,7 +58,6 @@ pub fn build_vertex(
     }
     let body = &builder.defs[place].body;
     let plan = &builder.plans[place];
-    let kind = numbered(alloc, body, &plan.kind, seat.sensor, seat.actuator)?;
     let places = places_of(builder, place);
     let inner = build_inner(
         alloc,
@@ -67,7 +67,8 @@ pub fn build_vertex(
         plan.wires.as_slice(),
         body,
     )?;
-    assemble(alloc, name, seat, &builder.table[place], kind, inner)
+    let label = label_of(alloc, name, &builder.table[place], body, &plan.kind, &seat)?;
+    Ok(label.vertex(alloc, seat, inner))
 }
 
 /// The places of the definitions that the definition at a place names.
@@ -178,6 +179,20 @@ struct Cases<'a> {
     otherwise: &'a Name,
 }
 
+impl<'a> Cases<'a> {
+    /// The definition of the case of a number, where `otherwise` is the last case.
+    fn name(&self, number: usize) -> &'a Name
+        requires { number ≤ length self.now.cases.now }
+        ensures { slice_get (map (λ c. c.def) self.now.cases.now ++ self.now.otherwise.now ∷ []) number ≡ Some result.now }
+    {
+        if number < self.cases.len() {
+            &self.cases[number].def
+        } else {
+            self.otherwise
+        }
+    }
+}
+
 /// The cases of a switch, with `otherwise` last.
 #[cycle(build)]
 fn build_cases(
@@ -192,15 +207,11 @@ fn build_cases(
     ensures { IfOk result (λ us. map view us.items ≡ cases_from builder.now.defs.now (vertex_within builder.now.defs.now fuel) names.now.ins 0 (map (λ c. c.def) names.now.cases.now ++ names.now.otherwise.now ∷ [])) }
 {
     let mut inner = Vec::new(alloc);
-    for (number, case) in names.cases.iter().enumerate() {
+    for (number, place) in places.iter().enumerate() {
         let seat = case_seat(alloc, number, names.ins)?;
-        let place = places[number] as usize;
-        inner.push(build_vertex(alloc, builder, fuel, &case.def, place, seat)?)?;
+        let name = names.name(number);
+        inner.push(build_vertex(alloc, builder, fuel, name, *place as usize, seat)?)?;
     }
-    let last = names.cases.len();
-    let seat = case_seat(alloc, last, names.ins)?;
-    let place = places[last] as usize;
-    inner.push(build_vertex(alloc, builder, fuel, names.otherwise, place, seat)?)?;
     Ok(inner)
 }
 
@@ -324,25 +335,56 @@ fn empty_vertex(alloc: Global, name: &Name, seat: Seat) -> Result<Vertex, OutOfM
     })
 }
 
-/// A vertex with the outputs `own` has.
-fn assemble(
+/// What a vertex is by its definition, apart from where it stands and what is inside it.
+#[derive(Drop)]
+struct Label {
+    definition: Items<u8>,
+    outs: Items<u32>,
+    names: Items<Items<u8>>,
+    kind: Kind,
+}
+
+/// What a vertex of a definition of this name and body is, which has the ports `own` and of which this
+/// kind is planned.
+fn label_of(
     alloc: Global,
     name: &Name,
-    seat: Seat,
     own: &Ports,
-    kind: Kind,
-    inner: Vec<Vertex>,
-) -> Result<Vertex, OutOfMemory>
-    ensures { IfOk result (λ v. view v ≡ vertex seat.part name.now seat.ins own.now.outs (kind_view kind) (map view inner.items)) }
+    body: &Body,
+    plan: &Kind,
+    seat: &Seat,
+) -> Result<Label, OutOfMemory>
+    ensures name { IfOk result (λ l. l.definition ≡ name.now) }
+    ensures outs { IfOk result (λ l. l.outs ≡ lens_of own.now.outs) }
+    ensures names { IfOk result (λ l. l.names ≡ map (λ p. p.name) own.now.outs) }
+    ensures kind { IfOk result (λ l. (ds : List Definition) (make : Making) (own : PortLists) → kind_view plan.now ≡ kind_by ds make own 0 0 body.now → kind_view l.kind ≡ kind_by ds make own seat.now.sensor seat.now.actuator body.now) }
 {
-    Ok(Vertex {
-        definition: copy_name(alloc, name)?,
-        outs: port_lens(alloc, own.outs.as_slice())?,
-        names: port_names(alloc, own.outs.as_slice())?,
-        part: seat.part,
-        ins: seat.ins,
-        guards: Items::new(Vec::new(alloc)),
+    let definition = copy_name(alloc, name)?;
+    let outs = port_lens(alloc, own.outs.as_slice())?;
+    let names = port_names(alloc, own.outs.as_slice())?;
+    let kind = numbered(alloc, body, plan, seat.sensor, seat.actuator)?;
+    Ok(Label {
+        definition,
+        outs,
+        names,
         kind,
-        inner,
     })
+}
+
+impl Label {
+    /// The vertex that stands there, with this inside it.
+    fn vertex(self, alloc: Global, seat: Seat, inner: Vec<Vertex>) -> Vertex
+        ensures { (outs : List Port) → self.outs ≡ lens_of outs → self.names ≡ map (λ p. p.name) outs → view result ≡ vertex seat.part self.definition seat.ins outs (kind_view self.kind) (map view inner.items) }
+    {
+        Vertex {
+            definition: self.definition,
+            outs: self.outs,
+            names: self.names,
+            part: seat.part,
+            ins: seat.ins,
+            guards: Items::new(Vec::new(alloc)),
+            kind: self.kind,
+            inner,
+        }
+    }
 }

@@ -1,10 +1,12 @@
 //! The kind of the vertices of a definition.
 ghost use Rattle.std.specs.Prelude.{◌≡◌, ◌≤◌, ◌/◌, ◌∷◌, [], IfOk, List, drop, length, map, take};
+ghost use Rattle.std.specs.List.{flat_map};
 ghost use Rattle.algo_links.specs.Linked.{named};
 ghost use Rattle.algo_rules.specs.Placed.{ArePlaced};
 ghost use Rattle.algo_rules.specs.Ports.{lens_of, ports_of};
-ghost use Rattle.algo_rules.specs.Resolved.{Making, groups, kind_by};
+ghost use Rattle.algo_rules.specs.Resolved.{Making, feed_of, give_by, groups, kind_by};
 ghost use Rattle.algo_rules.specs.WellRead.{IsWellRead};
+ghost use Rattle.algo_tree.specs.Tree.{switch as plain_switch, repeat as plain_repeat};
 ghost use Rattle.algo_tree.specs.View.{kind_view};
 ghost use Rattle.body_lang.specs.Expr.{view};
 
@@ -12,7 +14,7 @@ use crate::checked::Checked;
 use crate::frontier::{feeds, gives};
 use crate::lookup::copy_name;
 use crate::sources::Graph;
-use algo_defs::{Body, Case, Output};
+use algo_defs::{Body, Case, FrontierLine, Output};
 use algo_rules::Ports;
 use algo_tree::Kind;
 use body_lang::{Body as Function, Expr, Port};
@@ -58,17 +60,9 @@ impl<'a> Checked<'a> {
                 };
                 Ok(Kind::Graph(graph.sources_to(alloc, &None, outs.as_slice())?))
             }
-            Body::Switch { outs, cases, .. } => Ok(Kind::Switch(
-                case_values(alloc, cases.as_slice())?,
-                port_names(alloc, outs.as_slice())?,
-            )),
+            Body::Switch { outs, cases, .. } => switch_kind(alloc, cases, outs),
             Body::Repeat { copies, def, lines } => {
-                let inner = self.only(places, def);
-                Ok(Kind::Repeat(
-                    *copies,
-                    feeds(alloc, inner, own, lines.as_slice())?,
-                    gives(alloc, inner, lines.as_slice())?,
-                ))
+                repeat_kind(alloc, *copies, self.only(places, def), own, lines)
             }
         }
     }
@@ -80,6 +74,30 @@ impl<'a> Checked<'a> {
     {
         &self.table[places[0] as usize]
     }
+}
+
+/// The kind of a switch with these cases and outputs.
+fn switch_kind(alloc: Global, cases: &Items<Case>, outs: &Items<Port>) -> Result<Kind, OutOfMemory>
+    ensures { IfOk result (λ k. kind_view k ≡ plain_switch (map (λ c. c.value) cases.now) (map (λ p. p.name) outs.now)) }
+{
+    let values = case_values(alloc, cases.as_slice())?;
+    let names = port_names(alloc, outs.as_slice())?;
+    Ok(Kind::Switch(values, names))
+}
+
+/// The kind of a repetition of these lines, whose body has the ports `inner`.
+fn repeat_kind(
+    alloc: Global,
+    copies: u32,
+    inner: &Ports,
+    own: &Ports,
+    lines: &Items<FrontierLine>,
+) -> Result<Kind, OutOfMemory>
+    ensures { IfOk result (λ k. kind_view k ≡ plain_repeat copies (map (λ p. feed_of inner.now own.now lines.now p.name) inner.now.ins) (flat_map (λ l. give_by inner.now own.now l.frontier) lines.now)) }
+{
+    let feeds = feeds(alloc, inner, own, lines.as_slice())?;
+    let gives = gives(alloc, inner, lines.as_slice())?;
+    Ok(Kind::Repeat(copies, feeds, gives))
 }
 
 /// The first values, as many as are asked for, or all.

@@ -43,8 +43,8 @@ fn plan_at(alloc: Global, checked: &Checked, place: usize, def: &Def) -> Result<
     ensures { IfOk result (λ p. plan_view p ≡ plan_of checked.now.defs.now def.now) }
 {
     let places = checked.links[place].as_slice();
-    let kind = checked.kind(alloc, &checked.table[place], places, &def.body)?;
     let wires = wires(alloc, checked, places, &def.body)?;
+    let kind = checked.kind(alloc, &checked.table[place], places, &def.body)?;
     Ok(Plan { kind, wires })
 }
 

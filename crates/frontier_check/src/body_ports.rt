@@ -1,7 +1,7 @@
 //! The ports of a definition.
-ghost use Rattle.std.specs.Prelude.{◌≡◌, ◌++◌, ◌∷◌, ◌≤◌, ◌/◌, [], IfOk, IsTrue, OnOk, length, map};
+ghost use Rattle.std.specs.Prelude.{◌≡◌, ◌++◌, ◌∷◌, ◌≤◌, ◌/◌, [], IfOk, IsTrue, OnOk, codes, length, map};
 ghost use Rattle.std.specs.List.{flat_map};
-ghost use Rattle.algo_rules.specs.Ports.{port, ports_by, outer_ins, outer_outs};
+ghost use Rattle.algo_rules.specs.Ports.{port, ports_by, outer_ins, outer_outs, outer_ports};
 ghost use Rattle.frontier_check.specs.Bounds.{HasShortPorts, IsBounded};
 ghost use Rattle.syn_base.specs.Name.{is_name};
 
@@ -18,38 +18,90 @@ pub fn ports_of_body(alloc: Global, body: &Body, inner: &Ports) -> Result<Ports,
     requires { IsBounded inner.now body.now }
     ensures { IfOk result (λ p. p ≡ ports_by (λ w. inner.now) body.now) }
 {
-    let (ins, outs) = match body {
-        Body::Sensor(len) => (Vec::new(alloc), one_port(alloc, b"o", *len)?),
-        Body::Actuator(len) => (one_port(alloc, b"i", *len)?, Vec::new(alloc)),
+    match body {
+        Body::Sensor(len) => Ok(both(Vec::new(alloc), one_port(alloc, b"o", *len)?)),
+        Body::Actuator(len) => Ok(both(one_port(alloc, b"i", *len)?, Vec::new(alloc))),
         Body::Constant(values) => {
             let len = values.as_slice().len() as u32;
-            (Vec::new(alloc), one_port(alloc, b"o", len)?)
+            Ok(both(Vec::new(alloc), one_port(alloc, b"o", len)?))
         }
-        Body::Delay(depth, values) => {
-            let len = group_len(*depth, values.as_slice());
-            (one_port(alloc, b"i", len)?, one_port(alloc, b"o", len)?)
-        }
-        Body::Function { ins, outs } => (
-            copy_ports(alloc, ins.as_slice())?,
-            output_ports(alloc, outs.as_slice())?,
-        ),
-        Body::Graph { ins, outs, .. } => (
-            copy_ports(alloc, ins.as_slice())?,
-            copy_ports(alloc, outs.as_slice())?,
-        ),
-        Body::Switch { on, ins, outs, .. } => (
-            switch_ins(alloc, on, ins.as_slice())?,
-            copy_ports(alloc, outs.as_slice())?,
-        ),
-        Body::Repeat { copies, lines, .. } => (
-            repeat_ins(alloc, *copies, inner, lines.as_slice())?,
-            repeat_outs(alloc, *copies, inner, lines.as_slice())?,
-        ),
-    };
-    Ok(Ports {
+        Body::Delay(depth, values) => delay_ports(alloc, group_len(*depth, values.as_slice())),
+        Body::Function { ins, outs } => function_ports(alloc, ins, outs),
+        Body::Graph { ins, outs, .. } => graph_ports(alloc, ins, outs),
+        Body::Switch { on, ins, outs, .. } => switch_ports(alloc, on, ins, outs),
+        Body::Repeat { copies, lines, .. } => repeat_ports(alloc, *copies, inner, lines.as_slice()),
+    }
+}
+
+/// These inputs and outputs.
+fn both(ins: Vec<Port>, outs: Vec<Port>) -> Ports
+    ensures { result ≡ record { ins = ins.items; outs = outs.items } }
+{
+    Ports {
         ins: Items::new(ins),
         outs: Items::new(outs),
-    })
+    }
+}
+
+/// The ports of a delay of values of this length.
+fn delay_ports(alloc: Global, len: u32) -> Result<Ports, OutOfMemory>
+    ensures { IfOk result (λ p. p ≡ record { ins = port (codes "i") len ∷ []; outs = port (codes "o") len ∷ [] }) }
+{
+    let ins = one_port(alloc, b"i", len)?;
+    let outs = one_port(alloc, b"o", len)?;
+    Ok(both(ins, outs))
+}
+
+/// The ports of a function.
+fn function_ports(
+    alloc: Global,
+    ins: &Items<Port>,
+    outs: &Items<Output>,
+) -> Result<Ports, OutOfMemory>
+    ensures { IfOk result (λ p. p ≡ record { ins = ins.now; outs = map (λ o. o.port) outs.now }) }
+{
+    let ins = copy_ports(alloc, ins.as_slice())?;
+    let outs = output_ports(alloc, outs.as_slice())?;
+    Ok(both(ins, outs))
+}
+
+/// The ports of a graph.
+fn graph_ports(alloc: Global, ins: &Items<Port>, outs: &Items<Port>) -> Result<Ports, OutOfMemory>
+    ensures { IfOk result (λ p. p ≡ record { ins = ins.now; outs = outs.now }) }
+{
+    let ins = copy_ports(alloc, ins.as_slice())?;
+    let outs = copy_ports(alloc, outs.as_slice())?;
+    Ok(both(ins, outs))
+}
+
+/// The ports of a switch.
+fn switch_ports(
+    alloc: Global,
+    on: &Name,
+    ins: &Items<Port>,
+    outs: &Items<Port>,
+) -> Result<Ports, OutOfMemory>
+    ensures { IfOk result (λ p. p ≡ record { ins = port on.now 1 ∷ ins.now; outs = outs.now }) }
+{
+    let ins = switch_ins(alloc, on, ins.as_slice())?;
+    let outs = copy_ports(alloc, outs.as_slice())?;
+    Ok(both(ins, outs))
+}
+
+/// The ports of a repetition.
+fn repeat_ports(
+    alloc: Global,
+    copies: u32,
+    inner: &Ports,
+    lines: &[FrontierLine],
+) -> Result<Ports, OutOfMemory>
+    requires few { copies ≤ 64 }
+    requires lens { HasShortPorts inner.now }
+    ensures { IfOk result (λ p. p ≡ outer_ports copies inner.now lines.now) }
+{
+    let ins = repeat_ins(alloc, copies, inner, lines)?;
+    let outs = repeat_outs(alloc, copies, inner, lines)?;
+    Ok(both(ins, outs))
 }
 
 /// The length of each group of a delay's values.

@@ -1,42 +1,31 @@
-use Rattle.std.proofs.Common.{◌≡◌, ◌+◌, ◌-◌, ◌∷◌, ◌++◌, [], suc, ℕ, List, Some, get_or, sym, subst, ap, ◌∙◌, arith, rules}
+use Rattle.std.proofs.Common.{◌≡◌, ◌≤◌, ◌+◌, ◌-◌, ◌∷◌, ◌++◌, [], suc, ℕ, List, Some, get_or, length, map, sym, ap, ◌∙◌, arith, rules, length-append}
+use Rattle.std.proofs.lemmas.List.{length-map}
 use Rattle.std.proofs.lemmas.Option.{slice_get-get_or}
 use Rattle.level_meaning.specs.declared.source.Source.{Source}
 use Rattle.level_meaning.specs.declared.part.Part.TheVariants.{Named}
 use Rattle.algo_defs.specs.declared.definition.Case.{Case}
+use Rattle.algo_defs.specs.Words.{Bytes}
 use Rattle.algo_rules.specs.Links.{definition}
-use Rattle.algo_rules.specs.Placed.{IsPlaced}
 use Rattle.algo_rules.specs.Ports.{ports_of}
-use Rattle.algo_rules.specs.Resolved.{is_actuator, is_sensor, sources_to, vertex_within}
+use Rattle.algo_rules.specs.Resolved.{is_actuator, is_sensor, sources_to, vertex, vertex_within}
 use Rattle.algo_tree.specs.View.{kind_view, view}
 use Rattle.algo_tree.specs.declared.vertex.Vertex.{Vertex}
 use Rattle.algo_resolve.specs.declared.build.Seat.{Seat}
 use Rattle.algo_resolve.specs.declared.plan.Plan.{Plan}
-use Rattle.frontier_check.proofs.Places.{case_at, one_more, otherwise_at}
+use Rattle.frontier_check.proofs.Places.{one_more}
 use Rattle.algo_resolve.proofs.Placed.{def_at, place_at, place_there, ports_at}
 use Rattle.algo_resolve.proofs.Planned.{beside, plan_at, planned_kind}
-use Rattle.algo_resolve.proofs.Steps.{first_place, one_copy, one_reference, vertex_step}
-use Rattle.algo_resolve.proofs.Told.{retold}
+use Rattle.algo_resolve.proofs.Steps.{all_cases, first_place, named_at, one_case, one_copy, one_reference, vertex_step}
 use Rattle.algo_resolve.proofs.build.+build.Goals as goal
 
-pub build_cases-bounds-places-number : goal.build_cases-bounds-places-number
-build_cases-bounds-places-number t c =
+pub build_cases-name-name-requires : goal.build_cases-name-name-requires
+build_cases-name-name-requires t c =
     let b = c.args.builder.now in omega (arith, one_more b.defs.now b.table.now c.args.names.now.otherwise.now c.args.names.now.cases.now c.args.places.now c.requires.placed)
 
 pub build_cases-build_vertex-requires : goal.build_cases-build_vertex-requires
 build_cases-build_vertex-requires t c =
     let b = c.args.builder.now in
-    let k = c.case-item.result in
-    let there = case_at b.defs.now b.table.now c.args.names.now.otherwise.now c.args.names.now.cases.now c.args.places.now c.loop-number.number k c.requires.placed c.loop-number-test.true in
-    (search (rules), (c.requires.planned, subst (λ (x : Case). IsPlaced b.defs.now b.table.now x.def (get_or c.args.places.now c.loop-number.number 0)) (sym c.case-item.is) there))
-
-pub build_cases-bounds-places-last : goal.build_cases-bounds-places-last
-build_cases-bounds-places-last t c =
-    let b = c.args.builder.now in omega (arith, one_more b.defs.now b.table.now c.args.names.now.otherwise.now c.args.names.now.cases.now c.args.places.now c.requires.placed)
-
-pub build_cases-build_vertex-requires-2 : goal.build_cases-build_vertex-requires-2
-build_cases-build_vertex-requires-2 t c =
-    let b = c.args.builder.now in
-    (search (rules), (c.requires.planned, otherwise_at b.defs.now b.table.now c.args.names.now.otherwise.now c.args.names.now.cases.now c.args.places.now c.requires.placed))
+    (search (rules), (c.requires.planned, named_at b.defs.now b.table.now _ c.args.places.now c.loop-number.number _ c.requires.placed c.name-name.ensures))
 
 pub build_references-bounds-graph-at : goal.build_references-bounds-graph-at
 build_references-bounds-graph-at t c =
@@ -122,9 +111,10 @@ build_vertex-returns t c =
     let ports = ports_at ds b.table.now c.args.name.now c.args.place c.index-builder-place-3.result c.requires.placed in
     let plan = plan_at ds b.plans.now c.args.place d c.index-builder-place-2.result c.requires.planned.plans at c.index-builder-place-2.is in
     let kind = planned_kind ds (vertex_within ds inner) c.args.name.now d own _ def ports (sym (ap (λ (p : Plan). kind_view p.kind) c.index-builder-place-2.is) ∙ ap (λ q. q.0) plan) in
-    retold view c.assemble.result _ (vertex_within ds c.args.fuel seat.part c.args.name.now seat.ins seat.sensor seat.actuator)
-    (vertex_step ds c.args.fuel inner seat.part c.args.name.now seat.ins seat.sensor seat.actuator d own c.in_ok-kind.kind c.in_ok-inner.inner.items
-    fuel def ports (c.in_ok-kind.ensures ds (vertex_within ds inner) own kind) c.in_ok-inner.ensures) c.assemble.ensures
+    c.vertex.ensures own.outs c.in_ok-label.ensures.outs c.in_ok-label.ensures.names
+    ∙ ap (λ (w : Bytes). vertex seat.part w seat.ins own.outs (kind_view c.in_ok-label.label.kind) (map view c.in_ok-inner.inner.items)) c.in_ok-label.ensures.name
+    ∙ vertex_step ds c.args.fuel inner seat.part c.args.name.now seat.ins seat.sensor seat.actuator d own c.in_ok-label.label.kind c.in_ok-inner.inner.items
+    fuel def ports (c.in_ok-label.ensures.kind ds (vertex_within ds inner) own kind) c.in_ok-inner.ensures
 
 pub build_copy-returns : goal.build_copy-returns
 build_copy-returns t c =
@@ -137,3 +127,18 @@ build_copy-returns t c =
     (ports_at b.defs.now b.table.now w place c.index-builder-place.result placed)
     c.as_slice.ensures c.in_ok-ins.ensures c.inner_seat-seat.ensures c.in_ok-build_vertex.ensures
     (c.in_ok-push.ensures.items ∙ ap (λ (us : List Vertex). us ++ c.in_ok-build_vertex.field-0 ∷ []) c.new-inner.ensures.items)
+
+pub build_cases-loop-number-preserved : goal.build_cases-loop-number-preserved
+build_cases-loop-number-preserved t c =
+    rw c.in_ok-push.ensures.items
+    (one_case c.args.builder.now.defs.now (vertex_within c.args.builder.now.defs.now c.args.fuel) c.args.names.now.ins _ c.loop-number.number _ c.in_ok-seat.seat c.loop-number.inner.items
+    c.in_ok-build_vertex.field-0 _ c.name-name.ensures c.in_ok-seat.ensures c.in_ok-build_vertex.ensures c.loop-number.invariant)
+
+pub build_cases-returns : goal.build_cases-returns
+build_cases-returns t c =
+    let b = c.args.builder.now in
+    let names = c.args.names.now in
+    let all = map (λ (x : Case). x.def) names.cases.now ++ names.otherwise.now ∷ [] in
+    let past : length all ≤ c.loop-number.number =
+    omega (arith, one_more b.defs.now b.table.now names.otherwise.now names.cases.now c.args.places.now c.requires.placed, length-append (map (λ (x : Case). x.def) names.cases.now) (names.otherwise.now ∷ []), length-map names.cases.now (λ (x : Case). x.def)) in
+    all_cases b.defs.now (vertex_within b.defs.now c.args.fuel) names.ins all c.loop-number.number c.loop-number.inner.items _ past c.loop-number.invariant

@@ -20,7 +20,7 @@ decreases-build_inner l = 3 * l.fuel + 2
 
 abbrev pub invariant-build_cases-loop-number : goal.invariant-build_cases-loop-number
 invariant-build_cases-loop-number l =
-    map view l.inner.items ++ cases_from l.builder.defs.now (vertex_within l.builder.defs.now l.fuel) l.names.ins l.number (map (λ c. c.def) (drop l.number l.names.cases.now) ++ l.names.otherwise.now ∷ [])
+    map view l.inner.items ++ cases_from l.builder.defs.now (vertex_within l.builder.defs.now l.fuel) l.names.ins l.number (drop l.number (map (λ c. c.def) l.names.cases.now ++ l.names.otherwise.now ∷ []))
     ≡ cases_from l.builder.defs.now (vertex_within l.builder.defs.now l.fuel) l.names.ins 0 (map (λ c. c.def) l.names.cases.now ++ l.names.otherwise.now ∷ [])
 
 abbrev pub invariant-build_references-loop-at : goal.invariant-build_references-loop-at

@@ -1,9 +1,11 @@
-use Rattle.std.proofs.Common.{◌≡◌, ℕ, List, map, None, ap, sym, ◌∙◌}
+use Rattle.std.proofs.Common.{◌≡◌, ℕ, List, map, None, Result, Ok, Err, ap, sym, ◌∙◌}
+use Rattle.std.specs.Prelude.{IfOk}
+use Rattle.syn_base.specs.declared.memory.OutOfMemory.{OutOfMemory}
+use Rattle.algo_tree.specs.declared.vertex.Kind.{Kind}
+use Rattle.algo_tree.specs.View.{kind_view}
 use Rattle.std.specs.List.{flat_map}
 use Rattle.body_lang.specs.declared.expression.Port.{Port}
 use Rattle.level_meaning.specs.declared.source.Source.{Source}
-use Rattle.level_meaning.specs.declared.frontier.Feed.{Feed}
-use Rattle.level_meaning.specs.declared.frontier.Give.{Give}
 use Rattle.algo_tree.specs.Tree as tree
 use Rattle.algo_defs.specs.declared.definition.Def.{Def}
 use Rattle.algo_defs.specs.declared.definition.Body.{Body}
@@ -30,18 +32,12 @@ module _ (ds : List Def) (make : Making) (own : Ports) (body : Body) where
       ∙ ap (λ (es : List Edge). tree.graph (sources_to (ports_of ds) ins' references' es None outs')) fourth
       ∙ ap (kind_by ds make own 0 0) (sym is)
 
-  of_repeat : (copies : ℕ) (def : Bytes) (ks ls lines : List FrontierLine) (inner : Ports) (feeds : List Feed) (gives : List Give)
-      → body ≡ Repeat copies def lines → ks ≡ lines → ls ≡ lines → inner ≡ ports_of ds def
-      → feeds ≡ map (λ p. feed_of inner own ks p.name) inner.ins
-      → ((outer : Ports) → gives ≡ flat_map (λ l. give_by inner outer l.frontier) ls)
-      → tree.repeat copies feeds gives ≡ kind_by ds make own 0 0 body
-  of_repeat copies def ks ls lines inner feeds gives is first second placed fed given =
-      let fed : feeds ≡ map (λ p. feed_of inner own lines p.name) inner.ins =
-      fed ∙ ap (λ (ms : List FrontierLine). map (λ p. feed_of inner own ms p.name) inner.ins) first in
-      let given : gives ≡ flat_map (λ l. give_by inner own l.frontier) lines =
-      given own ∙ ap (λ (ms : List FrontierLine). flat_map (λ l. give_by inner own l.frontier) ms) second in
-      ap (λ (fs : List Feed). tree.repeat copies fs gives) fed
-      ∙ ap (λ (gs : List Give). tree.repeat copies (map (λ p. feed_of inner own lines p.name) inner.ins) gs) given
+  of_repeat : (copies : ℕ) (def : Bytes) (lines : List FrontierLine) (inner : Ports) (kind : tree.Kind)
+      → body ≡ Repeat copies def lines → inner ≡ ports_of ds def
+      → kind ≡ tree.repeat copies (map (λ p. feed_of inner own lines p.name) inner.ins) (flat_map (λ l. give_by inner own l.frontier) lines)
+      → kind ≡ kind_by ds make own 0 0 body
+  of_repeat copies def lines inner kind is placed told =
+      told
       ∙ ap (λ (q : Ports). tree.repeat copies (map (λ p. feed_of q own lines p.name) q.ins) (flat_map (λ l. give_by q own l.frontier) lines)) placed
       ∙ ap (kind_by ds make own 0 0) (sym is)
 
@@ -51,8 +47,13 @@ returns-in_ok-sources_to-in-Graph c = λ make.
     _ _ _ _ _ _ _ _ _ c.in-Graph.is c.as_slice-in-Graph.ensures c.as_slice-in-Graph-4.ensures c.as_slice-in-Graph-2.ensures c.as_slice-in-Graph-3.ensures
     c.in_ok-sources_to-in-Graph.ensures
 
-pub returns-in_ok-gives-in-Repeat : goal.returns-in_ok-gives-in-Repeat
-returns-in_ok-gives-in-Repeat c = λ make.
-    of_repeat c.args.self.now.defs.now make c.args.own.now c.args.body.now
-    _ _ _ _ _ _ _ _ c.in-Repeat.is c.as_slice-in-Repeat.ensures c.as_slice-in-Repeat-2.ensures c.only-inner.ensures
-    c.in_ok-feeds-in-Repeat.ensures c.in_ok-gives-in-Repeat.ensures
+-- of a repetition that was made
+repeat_told : (ds : List Def) (own : Ports) (body : Body) (result : Result Kind OutOfMemory) (copies : ℕ) (def : Bytes) (lines : List FrontierLine) (inner : Ports)
+    → body ≡ Repeat copies def lines → inner ≡ ports_of ds def
+    → IfOk result (λ k. kind_view k ≡ tree.repeat copies (map (λ p. feed_of inner own lines p.name) inner.ins) (flat_map (λ l. give_by inner own l.frontier) lines))
+    → IfOk result (λ k. (make : Making) → kind_view k ≡ kind_by ds make own 0 0 body)
+repeat_told ds own body (Ok k) copies def lines inner is placed told = λ make. of_repeat ds make own body copies def lines inner (kind_view k) is placed told
+repeat_told ds own body (Err e) copies def lines inner is placed told = tt
+
+pub returns-in-Repeat : goal.returns-in-Repeat
+returns-in-Repeat c = repeat_told c.args.self.now.defs.now c.args.own.now c.args.body.now c.repeat_kind.result _ _ _ _ c.in-Repeat.is c.only.ensures c.repeat_kind.ensures
