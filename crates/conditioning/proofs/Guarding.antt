@@ -118,3 +118,17 @@ cases_more gs h values us i k inside u w old new lt at long case_is inside_is is
     let next : cases_listed gs h values i (map view (drop i us)) ≡ view w ∷ rest =
     ap (λ vs. cases_listed gs h values i (map view vs)) split ∙ ap₂ (λ v j. v ∷ cases_listed gs h values j (map view (drop (i + 1) us))) (sym made) one in
     ap (λ vs. map view vs ++ rest) new_is ∙ ap (λ vs. vs ++ rest) (map-append view old (w ∷ [])) ∙ append_assoc (map view old) (view w ∷ []) rest ∙ ap (λ vs. map view old ++ vs) (sym next) ∙ so_far
+
+-- one merge more
+pub merges_more : (d : List ℕ) (gs : List Guard) (m : ℕ) (values : List ℤ) (k : ℕ) (outs : List ℕ) (names : List (List ℕ)) (i place q len : ℕ) (name text : List ℕ) (w : Declared) (old new : List Declared) (all : List Vertex)
+    → i < length names → name ≡ get_or names i name → place ≡ i → q ≡ place → len ≡ slice_index_or outs place 0 → text ≡ name → view w ≡ merge_of d gs m values k q text len → new ≡ old ++ w ∷ []
+    → map view old ++ merges_listed d gs m values k outs place (drop i names) ≡ all → map view new ++ merges_listed d gs m values k outs (place + 1) (drop (i + 1) names) ≡ all
+merges_more d gs m values k outs names i place q len name text w old new all lt at number q_is len_is text_is is new_is so_far =
+    let one : suc i ≡ i + 1 = omega arith in
+    let next_place : suc place ≡ place + 1 = omega arith in
+    let split : drop i names ≡ name ∷ drop (i + 1) names = drop-cons names i name lt ∙ ap₂ (λ x j. x ∷ drop j names) (sym at) one in
+    let made : view w ≡ merge_of d gs m values k place name (slice_index_or outs place 0) = is ∙ ap₂ (λ p t. merge_of d gs m values k p t len) q_is text_is ∙ ap (merge_of d gs m values k place name) len_is in
+    let rest = merges_listed d gs m values k outs (place + 1) (drop (i + 1) names) in
+    let next : merges_listed d gs m values k outs place (drop i names) ≡ view w ∷ rest =
+    ap (merges_listed d gs m values k outs place) split ∙ ap₂ (λ v j. v ∷ merges_listed d gs m values k outs j (drop (i + 1) names)) (sym made) next_place in
+    ap (λ vs. map view vs ++ rest) new_is ∙ ap (λ vs. vs ++ rest) (map-append view old (w ∷ [])) ∙ append_assoc (map view old) (view w ∷ []) rest ∙ ap (λ vs. map view old ++ vs) (sym next) ∙ so_far
