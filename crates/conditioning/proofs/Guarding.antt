@@ -1,5 +1,6 @@
 -- What guarding a vertex answers, seen at a declared vertex.
-use Rattle.std.proofs.Common.{◌≡◌, ℤ, ℕ, suc, List, [], ◌∷◌, ◌++◌, length, map, slice_index_or, refl, sym, ap, ap₂, ◌∙◌}
+use Rattle.std.proofs.Common.{◌≡◌, ℤ, ℕ, suc, ◌+◌, ◌<◌, List, [], ◌∷◌, ◌++◌, length, map, drop, drop-cons, get_or, slice_index_or, refl, sym, ap, ap₂, ◌∙◌, arith, length-append}
+use Rattle.std.proofs.lemmas.List.{append_assoc, map-append}
 use Rattle.std.specs.Prelude.{IfOk}
 use Rattle.std.specs.declared.result.Result.{Result}
 use Rattle.std.specs.declared.result.Result.TheVariants.{Ok, Err}
@@ -99,3 +100,35 @@ switch_answered gs own own' n h k u d lens values names os ws zs (Ok w) kind own
     (ap₂ (λ x y. merges_listed x own' h values k y 0 names) d_is lens_is ∙ ap (λ x. merges_listed (out-Vertex u).definition x h values k (out-Vertex u).outs 0 names) (own'_is ∙ sym own_is)) in
     is ∙ switch_made gs own n h k u values names os (map view zs) kind own_is h_is k_is listed os_is
 switch_answered gs own own' n h k u d lens values names os ws zs (Err e) kind own_is own'_is d_is lens_is h_is k_is cases all os_is is = tt
+
+-- one case more
+pub one_longer : (old new : List Declared) (w : Declared) → new ≡ old ++ w ∷ [] → length new ≡ length old + 1
+one_longer old new w is = ap length is ∙ length-append old (w ∷ [])
+
+pub cases_more : (gs : List Guard) (h : ℕ) (values : List ℤ) (us : List Declared) (i k : ℕ) (inside : List Guard) (u w : Declared) (old new : List Declared)
+    → i < length us → u ≡ get_or us i u → length old ≡ i → k ≡ length old → inside ≡ gs ++ guard_for h values k ∷ [] → view w ≡ guarded inside h (view u) → new ≡ old ++ w ∷ []
+    → map view old ++ cases_listed gs h values i (map view (drop i us)) ≡ cases_listed gs h values 0 (map view us)
+    → map view new ++ cases_listed gs h values (i + 1) (map view (drop (i + 1) us)) ≡ cases_listed gs h values 0 (map view us)
+cases_more gs h values us i k inside u w old new lt at long case_is inside_is is new_is so_far =
+    let number : k ≡ i = case_is ∙ long in
+    let made : view w ≡ guarded (gs ++ guard_for h values i ∷ []) h (view u) = is ∙ ap (λ g. guarded g h (view u)) (inside_is ∙ ap (λ j. gs ++ guard_for h values j ∷ []) number) in
+    let one : suc i ≡ i + 1 = omega arith in
+    let split : drop i us ≡ u ∷ drop (i + 1) us = drop-cons us i u lt ∙ ap₂ (λ v j. v ∷ drop j us) (sym at) one in
+    let rest = cases_listed gs h values (i + 1) (map view (drop (i + 1) us)) in
+    let next : cases_listed gs h values i (map view (drop i us)) ≡ view w ∷ rest =
+    ap (λ vs. cases_listed gs h values i (map view vs)) split ∙ ap₂ (λ v j. v ∷ cases_listed gs h values j (map view (drop (i + 1) us))) (sym made) one in
+    ap (λ vs. map view vs ++ rest) new_is ∙ ap (λ vs. vs ++ rest) (map-append view old (w ∷ [])) ∙ append_assoc (map view old) (view w ∷ []) rest ∙ ap (λ vs. map view old ++ vs) (sym next) ∙ so_far
+
+-- one merge more
+pub merges_more : (d : List ℕ) (gs : List Guard) (m : ℕ) (values : List ℤ) (k : ℕ) (outs : List ℕ) (names : List (List ℕ)) (i place q len : ℕ) (name text : List ℕ) (w : Declared) (old new : List Declared) (all : List Vertex)
+    → i < length names → name ≡ get_or names i name → place ≡ i → q ≡ place → len ≡ slice_index_or outs place 0 → text ≡ name → view w ≡ merge_of d gs m values k q text len → new ≡ old ++ w ∷ []
+    → map view old ++ merges_listed d gs m values k outs place (drop i names) ≡ all → map view new ++ merges_listed d gs m values k outs (place + 1) (drop (i + 1) names) ≡ all
+merges_more d gs m values k outs names i place q len name text w old new all lt at number q_is len_is text_is is new_is so_far =
+    let one : suc i ≡ i + 1 = omega arith in
+    let next_place : suc place ≡ place + 1 = omega arith in
+    let split : drop i names ≡ name ∷ drop (i + 1) names = drop-cons names i name lt ∙ ap₂ (λ x j. x ∷ drop j names) (sym at) one in
+    let made : view w ≡ merge_of d gs m values k place name (slice_index_or outs place 0) = is ∙ ap₂ (λ p t. merge_of d gs m values k p t len) q_is text_is ∙ ap (merge_of d gs m values k place name) len_is in
+    let rest = merges_listed d gs m values k outs (place + 1) (drop (i + 1) names) in
+    let next : merges_listed d gs m values k outs place (drop i names) ≡ view w ∷ rest =
+    ap (merges_listed d gs m values k outs place) split ∙ ap₂ (λ v j. v ∷ merges_listed d gs m values k outs j (drop (i + 1) names)) (sym made) next_place in
+    ap (λ vs. map view vs ++ rest) new_is ∙ ap (λ vs. vs ++ rest) (map-append view old (w ∷ [])) ∙ append_assoc (map view old) (view w ∷ []) rest ∙ ap (λ vs. map view old ++ vs) (sym next) ∙ so_far

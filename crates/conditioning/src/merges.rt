@@ -59,20 +59,20 @@ fn merge(
 ) -> Result<Vertex, OutOfMemory>
     ensures { IfOk result (λ u. view u ≡ merge_of switch.now.definition.now switch.now.guards.now switch.now.condition switch.now.values.now switch.now.cases output name.now len) }
 {
-    let part = Part::Port(copy_bytes(alloc, name)?);
-    let definition = copy_bytes(alloc, switch.definition)?;
     let ins = merge_ins(alloc, switch.condition, switch.cases, output)?;
-    let guards = copy_guards(alloc, switch.guards)?;
     let outs = vec![in alloc; len]?;
-    let kind = Kind::Merge(copy_numbers(alloc, switch.values)?);
+    let name = copy_bytes(alloc, name)?;
+    let definition = copy_bytes(alloc, switch.definition)?;
+    let values = copy_numbers(alloc, switch.values)?;
+    let guards = copy_guards(alloc, switch.guards)?;
     Ok(Vertex {
-        part,
+        part: Part::Port(name),
         definition,
         ins: Items::new(ins),
         guards,
         outs: Items::new(outs),
         names: Items::new(Vec::new(alloc)),
-        kind,
+        kind: Kind::Merge(values),
         inner: Vec::new(alloc),
     })
 }

@@ -85,8 +85,8 @@ fn guard_graph(
 {
     let own = own_guards(alloc, guards)?;
     let handed = number(guards.len())?;
-    let inner = guard_each(alloc, own.as_slice(), handed, &vertex.inner)?;
     let outputs = shifted_sources(alloc, handed, outputs)?;
+    let inner = guard_each(alloc, own.as_slice(), handed, &vertex.inner)?;
     as_graph(alloc, guards, before, vertex, outputs, inner)
 }
 
@@ -105,8 +105,9 @@ fn guard_switch(
 {
     let own = own_guards(alloc, guards)?;
     let handed = number(guards.len())?;
-    let mut inner = guard_cases(alloc, own.as_slice(), handed, values, &vertex.inner)?;
     let cases = number(vertex.inner.len())?;
+    let outputs = merge_outputs(alloc, cases, names.len())?;
+    let mut inner = guard_cases(alloc, own.as_slice(), handed, values, &vertex.inner)?;
     let switch = Switched {
         definition: vertex.definition.as_slice(),
         guards: own.as_slice(),
@@ -115,7 +116,6 @@ fn guard_switch(
         cases,
     };
     add_merges(alloc, &switch, vertex.outs.as_slice(), names, &mut inner)?;
-    let outputs = merge_outputs(alloc, cases, names.len())?;
     as_graph(alloc, guards, before, vertex, outputs, inner)
 }
 

@@ -6,10 +6,35 @@ ghost use Rattle.conditioning_laws.specs.Guarded.{graph_under, operation_under};
 
 use crate::conditions::{guards_under, handed, shifted_sources};
 use algo_tree::{Kind, Vertex};
-use level_meaning::{Guard, Source};
+use level_meaning::{Guard, Part, Source};
 use std::alloc::Global;
 use syn_base::{Items, OutOfMemory};
 use tree_copy::{copy_bytes, copy_kind, copy_lens, copy_names, copy_part};
+
+/// What a vertex keeps under guards.
+#[derive(Drop)]
+struct Kept {
+    part: Part,
+    definition: Items<u8>,
+    outs: Items<u32>,
+    names: Items<Items<u8>>,
+}
+
+/// Copies of what a vertex keeps.
+fn kept_of(alloc: Global, vertex: &Vertex) -> Result<Kept, OutOfMemory>
+    ensures { IfOk result (λ kept. kept ≡ record { part = (out-Vertex vertex.now).part; definition = (out-Vertex vertex.now).definition; outs = (out-Vertex vertex.now).outs; names = (out-Vertex vertex.now).names }) }
+{
+    let definition = copy_bytes(alloc, vertex.definition.as_slice())?;
+    let outs = copy_lens(alloc, vertex.outs.as_slice())?;
+    let names = copy_names(alloc, vertex.names.as_slice())?;
+    let part = copy_part(alloc, &vertex.part)?;
+    Ok(Kept {
+        part,
+        definition,
+        outs,
+        names,
+    })
+}
 
 /// An operation under these guards, in a level that has `before` further inputs.
 pub fn as_operation(
@@ -20,20 +45,17 @@ pub fn as_operation(
 ) -> Result<Vertex, OutOfMemory>
     ensures { IfOk result (λ u. view u ≡ operation_under guards.now before (label_view (out-Vertex vertex.now)) (kind_view (out-Vertex vertex.now).kind)) }
 {
-    let part = copy_part(alloc, &vertex.part)?;
-    let definition = copy_bytes(alloc, vertex.definition.as_slice())?;
     let ins = shifted_sources(alloc, before, vertex.ins.as_slice())?;
     let guards = guards_under(alloc, guards, before, vertex.guards.as_slice())?;
-    let outs = copy_lens(alloc, vertex.outs.as_slice())?;
-    let names = copy_names(alloc, vertex.names.as_slice())?;
+    let kept = kept_of(alloc, vertex)?;
     let kind = copy_kind(alloc, &vertex.kind)?;
     Ok(Vertex {
-        part,
-        definition,
+        part: kept.part,
+        definition: kept.definition,
         ins: Items::new(ins),
         guards: Items::new(guards),
-        outs,
-        names,
+        outs: kept.outs,
+        names: kept.names,
         kind,
         inner: Vec::new(alloc),
     })
@@ -51,18 +73,15 @@ pub fn as_graph(
 ) -> Result<Vertex, OutOfMemory>
     ensures { IfOk result (λ u. view u ≡ graph_under guards.now before (label_view (out-Vertex vertex.now)) outputs.items (vertices_view inner.items)) }
 {
-    let part = copy_part(alloc, &vertex.part)?;
-    let definition = copy_bytes(alloc, vertex.definition.as_slice())?;
     let ins = handed(alloc, guards, before, vertex.ins.as_slice())?;
-    let outs = copy_lens(alloc, vertex.outs.as_slice())?;
-    let names = copy_names(alloc, vertex.names.as_slice())?;
+    let kept = kept_of(alloc, vertex)?;
     Ok(Vertex {
-        part,
-        definition,
+        part: kept.part,
+        definition: kept.definition,
         ins: Items::new(ins),
         guards: Items::new(Vec::new(alloc)),
-        outs,
-        names,
+        outs: kept.outs,
+        names: kept.names,
         kind: Kind::Graph(Items::new(outputs)),
         inner,
     })

@@ -1,6 +1,7 @@
 -- What unrolling a vertex asks for, and what it answers, seen at a declared vertex.
 use Rattle.std.proofs.Common.{◌≡◌, ℕ, zero, suc, ◌+◌, ◌*◌, ◌<◌, ◌≤◌, List, [], ◌∷◌, ◌++◌, length, get_or, map, refl, sym, ap, ap₂, ◌∙◌, subst, arith, mul_comm, le-mul_of_pos_right}
 use Rattle.std.proofs.lemmas.List.{append_assoc}
+use Rattle.std.proofs.lemmas.Grind.{common_steps}
 use Rattle.std.specs.Prelude.{IfOk}
 use Rattle.std.specs.declared.result.Result.{Result}
 use Rattle.std.specs.declared.result.Result.TheVariants.{Ok, Err}
@@ -147,3 +148,9 @@ body_unrolled (v ∷ w ∷ us) b at one = absurd one
 pub one_there : (us : List Declared) → IsOne (vertices_view us) → 0 < length us
 one_there [] h = absurd h
 one_there (v ∷ us) h = omega arith
+
+-- one copy more
+pub copies_more : (c : ℕ) (feeds : List Feed) (body : Vertex) (before : List Vertex) (i : ℕ) (old new : List Declared) (v u : Declared)
+    → map view old ≡ before ++ map (copy c feeds (label_of body) (vertices_in body)) (numbers_below i) → view v ≡ body → view u ≡ copy c feeds (label_of (view v)) (vertices_in (view v)) i
+    → new ≡ old ++ u ∷ [] → map view new ≡ before ++ map (copy c feeds (label_of body) (vertices_in body)) (numbers_below (i + 1))
+copies_more c feeds body before i old new v u so_far body_is is new_is = grind (arith, common_steps)

@@ -208,13 +208,14 @@ pub fn give_sources(
     let mut all = Vec::new(alloc);
     let mut joins = 0;
     for give in gives {
-        match give {
+        let source = match give {
             Give::Join(..) => {
-                all.push(Source::Of(copies.begin + copies.count + joins, 0))?;
                 joins += 1;
+                Source::Of(copies.begin + copies.count + (joins - 1), 0)
             }
-            Give::Last(output) => all.push(Source::Of(copies.begin + (copies.count - 1), *output))?,
-        }
+            Give::Last(output) => Source::Of(copies.begin + (copies.count - 1), *output),
+        };
+        all.push(source)?;
     }
     Ok(all)
 }

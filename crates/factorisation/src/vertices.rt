@@ -12,12 +12,43 @@ ghost use Rattle.factorisation_laws.specs.Unrolled.{copy, give_sources as source
 
 use crate::frontier::{Copies, copy_ins, give_sources};
 use algo_tree::{Kind, MOST_VERTICES, Vertex};
-use level_meaning::{Feed, Give, Part};
+use level_meaning::{Feed, Give, Guard, Part, Source};
 use std::alloc::Global;
 use syn_base::{Items, OutOfMemory};
 use tree_copy::{
     copy_bytes, copy_guards, copy_kind, copy_lens, copy_names, copy_part, copy_sources,
 };
+
+/// What is said of a vertex beside its kind.
+#[derive(Drop)]
+struct Label {
+    part: Part,
+    definition: Items<u8>,
+    ins: Items<Source>,
+    guards: Items<Guard>,
+    outs: Items<u32>,
+    names: Items<Items<u8>>,
+}
+
+/// What is said of this vertex beside its kind.
+fn copied_label(alloc: Global, vertex: &Vertex) -> Result<Label, OutOfMemory>
+    ensures { IfOk result (λ b. b ≡ record { part = (out-Vertex vertex.now).part; definition = (out-Vertex vertex.now).definition; ins = (out-Vertex vertex.now).ins; guards = (out-Vertex vertex.now).guards; outs = (out-Vertex vertex.now).outs; names = (out-Vertex vertex.now).names }) }
+{
+    let definition = copy_bytes(alloc, vertex.definition.as_slice())?;
+    let outs = copy_lens(alloc, vertex.outs.as_slice())?;
+    let names = copy_names(alloc, vertex.names.as_slice())?;
+    let ins = copy_sources(alloc, vertex.ins.as_slice())?;
+    let guards = copy_guards(alloc, vertex.guards.as_slice())?;
+    let part = copy_part(alloc, &vertex.part)?;
+    Ok(Label {
+        part,
+        definition,
+        ins,
+        guards,
+        outs,
+        names,
+    })
+}
 
 /// A vertex with another kind, and other vertices inside.
 fn remade(
@@ -28,19 +59,14 @@ fn remade(
 ) -> Result<Vertex, OutOfMemory>
     ensures { IfOk result (λ u. view u ≡ plain_vertex (with_kind (label_view (out-Vertex vertex.now)) (kind_view kind)) (vertices_view inner.items)) }
 {
-    let part = copy_part(alloc, &vertex.part)?;
-    let definition = copy_bytes(alloc, vertex.definition.as_slice())?;
-    let ins = copy_sources(alloc, vertex.ins.as_slice())?;
-    let guards = copy_guards(alloc, vertex.guards.as_slice())?;
-    let outs = copy_lens(alloc, vertex.outs.as_slice())?;
-    let names = copy_names(alloc, vertex.names.as_slice())?;
+    let copy = copied_label(alloc, vertex)?;
     Ok(Vertex {
-        part,
-        definition,
-        ins,
-        guards,
-        outs,
-        names,
+        part: copy.part,
+        definition: copy.definition,
+        ins: copy.ins,
+        guards: copy.guards,
+        outs: copy.outs,
+        names: copy.names,
         kind,
         inner,
     })
@@ -78,7 +104,7 @@ pub fn as_graph(
 /// Makes of an unrolled body the copy number `i`.
 pub fn as_copy(
     alloc: Global,
-    body: Vertex,
+    mut body: Vertex,
     copies: Copies,
     i: u32,
     feeds: &[Feed],
@@ -90,22 +116,8 @@ pub fn as_copy(
     ensures { IfOk result (λ u. view u ≡ copy copies.begin feeds.now (label_of (view body)) (vertices_in (view body)) i) }
 {
     let ins = copy_ins(alloc, copies, i, feeds, lines)?;
-    let Vertex {
-        definition,
-        outs,
-        names,
-        kind,
-        inner,
-        ..
-    } = body;
-    Ok(Vertex {
-        part: Part::Numbered(i),
-        definition,
-        ins: Items::new(ins),
-        guards: Items::new(Vec::new(alloc)),
-        outs,
-        names,
-        kind,
-        inner,
-    })
+    body.part = Part::Numbered(i);
+    body.ins = Items::new(ins);
+    body.guards = Items::new(Vec::new(alloc));
+    Ok(body)
 }

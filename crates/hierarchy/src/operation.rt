@@ -1,5 +1,5 @@
 //! Operations, one by one.
-ghost use Rattle.std.specs.Prelude.{◌≡◌, ◌+◌, ◌*◌, ◌++◌, ◌∷◌, [], true, if◌then◌else◌, IsTrue, IfOk, OnOk, length, map};
+ghost use Rattle.std.specs.Prelude.{◌≡◌, ◌+◌, ◌*◌, ◌++◌, ◌∷◌, [], true, if◌then◌else◌, IsTrue, IfOk, OnOk, Some, codes, length, map};
 ghost use Rattle.syn_base.specs.Name.{is_name};
 ghost use Rattle.level_meaning.specs.Level.{Path};
 ghost use Rattle.algo_tree.specs.declared.vertex.Vertex.{out-Vertex};
@@ -8,6 +8,7 @@ ghost use Rattle.flat_graph.specs.Meaning.{level_guard, level_source};
 ghost use Rattle.level_meaning.specs.declared.source.Source.TheVariants.{Of};
 ghost use Rattle.inlining_laws.specs.Flat.{runs};
 ghost use Rattle.inlining_laws.specs.Inlined.{operation_of, stages, wire_guard};
+ghost use Rattle.flat_laws.specs.Names.{stage_text as text_of_stage};
 ghost use Rattle.flat_laws.specs.Stands.{task_of};
 ghost use Rattle.operation_paths.specs.Texts.{path_text};
 ghost use Rattle.hierarchy.specs.Wires.{led};
@@ -164,6 +165,68 @@ fn stage_ins(
     }
 }
 
+/// The name of a half of a stage: the text of the delay's path, what tells the halves apart, and the
+/// text of the stage.
+fn half_name(alloc: Global, stage: &Stage<'_>, half: &[u8]) -> Result<Vec<u8>, OutOfMemory>
+    ensures { IfOk result (λ name. name.items ≡ stage.now.path.now ++ (half.now ++ text_of_stage stage.now.number)) }
+{
+    let text = stage_text(alloc, stage.number)?;
+    glued(alloc, stage.path, half, &text)
+}
+
+/// The half of a stage that gives the kept value. The other half has number `set`.
+fn get_half(
+    alloc: Global,
+    level: &Level<'_>,
+    vertex: &Vertex,
+    stage: &Stage<'_>,
+    set: u32,
+) -> Result<Operation, OutOfMemory>
+    requires definition { IsTrue (is_name (out-Vertex vertex.now).definition) }
+    requires guards { GuardsFound (map (wire_guard (led level.now.leds.now level.now.own.now)) (out-Vertex vertex.now).guards) }
+    ensures is { IfOk result (λ x. IsOperation (led level.now.leds.now level.now.own.now) (label_view (out-Vertex vertex.now)) [] (out-Vertex vertex.now).outs x) }
+    ensures name { IfOk result (λ x. x.name ≡ stage.now.path.now ++ (codes ":get" ++ text_of_stage stage.now.number)) }
+    ensures task { IfOk result (λ x. x.kind ≡ Task.Get stage.now.values.now) }
+    ensures twin { IfOk result (λ x. x.twin ≡ Some set) }
+{
+    let name = half_name(alloc, stage, b":get")?;
+    let task = Task::Get(copy_numbers(alloc, stage.values)?);
+    let form = Form {
+        name,
+        task,
+        ins: Vec::new(alloc),
+        outs: vertex.outs.as_slice(),
+        twin: Some(set),
+    };
+    operation(alloc, level, vertex, form)
+}
+
+/// The half of a stage that takes the next value, by what `ins` says. The other half has number `get`.
+fn set_half(
+    alloc: Global,
+    level: &Level<'_>,
+    vertex: &Vertex,
+    stage: &Stage<'_>,
+    ins: Vec<Output>,
+    get: u32,
+) -> Result<Operation, OutOfMemory>
+    requires definition { IsTrue (is_name (out-Vertex vertex.now).definition) }
+    requires guards { GuardsFound (map (wire_guard (led level.now.leds.now level.now.own.now)) (out-Vertex vertex.now).guards) }
+    ensures is { IfOk result (λ x. IsOperation (led level.now.leds.now level.now.own.now) (label_view (out-Vertex vertex.now)) (map level_source ins.items) [] x) }
+    ensures name { IfOk result (λ x. x.name ≡ stage.now.path.now ++ (codes ":set" ++ text_of_stage stage.now.number)) }
+    ensures task { IfOk result (λ x. x.kind ≡ Task.Set) }
+    ensures twin { IfOk result (λ x. x.twin ≡ Some get) }
+{
+    let form = Form {
+        name: half_name(alloc, stage, b":set")?,
+        task: Task::Set,
+        ins,
+        outs: &[],
+        twin: Some(get),
+    };
+    operation(alloc, level, vertex, form)
+}
+
 /// Adds the two halves of a stage of a delay, which takes what `ins` says: the first gives the kept
 /// value, the second takes the next one.
 fn add_stage(
@@ -181,23 +244,10 @@ fn add_stage(
 {
     let get = number(all.vertices.len())?;
     let set = number(all.vertices.len() + 1)?;
-    let text = stage_text(alloc, stage.number)?;
-    let gives = Form {
-        name: glued(alloc, stage.path, b":get", &text)?,
-        task: Task::Get(copy_numbers(alloc, stage.values)?),
-        ins: Vec::new(alloc),
-        outs: vertex.outs.as_slice(),
-        twin: Some(set),
-    };
-    let takes = Form {
-        name: glued(alloc, stage.path, b":set", &text)?,
-        task: Task::Set,
-        ins,
-        outs: &[],
-        twin: Some(get),
-    };
-    all.vertices.push(operation(alloc, level, vertex, gives)?)?;
-    all.vertices.push(operation(alloc, level, vertex, takes)?)?;
+    all.vertices
+        .push(get_half(alloc, level, vertex, stage, set)?)?;
+    all.vertices
+        .push(set_half(alloc, level, vertex, stage, ins, get)?)?;
     Ok(())
 }
 

@@ -64,10 +64,10 @@ pub fn with_inside(
 ) -> Result<Vertex, OutOfMemory>
     ensures { IfOk result (λ u. view u ≡ with_inner (label_seen vertex.now) inner.items) }
 {
-    let kept = kept_of(alloc, vertex)?;
-    let part = copy_part(alloc, &vertex.part)?;
     let ins = copy_sources(alloc, vertex.ins.as_slice())?;
     let guards = copy_guards(alloc, vertex.guards.as_slice())?;
+    let kept = kept_of(alloc, vertex)?;
+    let part = copy_part(alloc, &vertex.part)?;
     let kind = copy_kind(alloc, &vertex.kind)?;
     let Kept {
         definition,
@@ -120,9 +120,10 @@ pub fn run(alloc: Global, vertex: &Vertex, ports: Ports) -> Result<Vertex, OutOf
     requires { ArePorts ports (label_seen vertex.now) }
     ensures { IfOk result (λ u. view u ≡ of_seen runs vertex.now) }
 {
-    let part = Part::Named(copy_bytes(alloc, b"run")?);
-    let ins = Items::new(inputs_from(alloc, 0, ports.ins)?);
+    let ins = inputs_from(alloc, 0, ports.ins)?;
+    let name = copy_bytes(alloc, b"run")?;
     let kind = copy_kind(alloc, &vertex.kind)?;
     let inner = copied_each(alloc, &vertex.inner)?;
-    relabelled(alloc, vertex, part, ins, kind, inner)
+    let part = Part::Named(name);
+    relabelled(alloc, vertex, part, Items::new(ins), kind, inner)
 }

@@ -87,11 +87,11 @@ fn count(alloc: Global, every: u32) -> Result<Vertex, OutOfMemory>
     requires { 1 ≤ every }
     ensures { IfOk result (λ u. view u ≡ counted every) }
 {
-    let part = Part::Named(copy_bytes(alloc, b"count")?);
     let ins = vec![in alloc; Source::Of(0, 0)]?;
     let outs = Items::new(vec![in alloc; 1]?);
+    let name = copy_bytes(alloc, b"count")?;
     let kind = Kind::Delay(Items::new(turns(alloc, every)?));
-    made(alloc, part, ins, outs, kind, Vec::new(alloc))
+    made(alloc, Part::Named(name), ins, outs, kind, Vec::new(alloc))
 }
 
 /// One group of this many zeros.
@@ -138,8 +138,10 @@ fn when_runs(alloc: Global, vertex: &Vertex, ports: Ports) -> Result<Vertex, Out
     ensures { IfOk result (λ u. view u ≡ of_seen runs_when vertex.now) }
 {
     let ins = inputs_from(alloc, 1, ports.ins)?;
-    let kind = Kind::Graph(Items::new(outputs_of(alloc, 0, ports.outs)?));
-    let inner = vec![in alloc; run(alloc, vertex, ports)?]?;
+    let outputs = outputs_of(alloc, 0, ports.outs)?;
+    let mut inner = Vec::new(alloc);
+    inner.push(run(alloc, vertex, ports)?)?;
+    let kind = Kind::Graph(Items::new(outputs));
     with_outputs(alloc, vertex, Part::Numbered(0), ins, kind, inner)
 }
 
@@ -169,8 +171,10 @@ fn cases(alloc: Global, vertex: &Vertex, ports: Ports) -> Result<Vec<Vertex>, Ou
     requires { ArePorts ports (label_seen vertex.now) }
     ensures { IfOk result (λ us. vertices_view us.items ≡ of_seen both_cases vertex.now) }
 {
-    let runs = when_runs(alloc, vertex, ports)?;
-    Ok(vec![in alloc; runs, otherwise(alloc, vertex, ports)?]?)
+    let mut cases = Vec::new(alloc);
+    cases.push(when_runs(alloc, vertex, ports)?)?;
+    cases.push(otherwise(alloc, vertex, ports)?)?;
+    Ok(cases)
 }
 
 /// A switch whose first case runs at 0, and whose outputs have these names.
@@ -186,11 +190,11 @@ fn body(alloc: Global, vertex: &Vertex, ports: Ports) -> Result<Vertex, OutOfMem
     requires { ArePorts ports (label_seen vertex.now) }
     ensures { IfOk result (λ u. view u ≡ of_seen bodied vertex.now) }
 {
-    let part = Part::Named(copy_bytes(alloc, b"body")?);
     let ins = body_ins(alloc, ports)?;
+    let name = copy_bytes(alloc, b"body")?;
     let kind = switch_at_zero(alloc, vertex.names.as_slice())?;
     let inner = cases(alloc, vertex, ports)?;
-    with_outputs(alloc, vertex, part, ins, kind, inner)
+    with_outputs(alloc, vertex, Part::Named(name), ins, kind, inner)
 }
 
 /// The count, a delay for each output, and the switch.
@@ -218,9 +222,10 @@ pub fn period(alloc: Global, vertex: &Vertex, mark: Mark) -> Result<Vertex, OutO
     ensures { IfOk result (λ u. view u ≡ of_seen (perioded mark) vertex.now) }
 {
     let ports = ports_of(vertex)?;
-    let part = copy_part(alloc, &vertex.part)?;
     let ins = copy_sources(alloc, vertex.ins.as_slice())?;
-    let kind = Kind::Graph(Items::new(outputs_of(alloc, ports.switch, ports.outs)?));
+    let outputs = outputs_of(alloc, ports.switch, ports.outs)?;
+    let part = copy_part(alloc, &vertex.part)?;
     let inner = parts(alloc, vertex, ports, mark)?;
+    let kind = Kind::Graph(Items::new(outputs));
     relabelled(alloc, vertex, part, ins, kind, inner)
 }

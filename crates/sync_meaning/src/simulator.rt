@@ -4,11 +4,12 @@ ghost use Rattle.level_meaning.specs.Level.{source_value, all_joined};
 ghost use Rattle.algo_tree.specs.View.{view, vertices_view};
 ghost use Rattle.algo_tree.specs.Meaning.{actuator_values, input_value};
 ghost use Rattle.algo_tree.specs.Typed.{label_of, source_length, AreLengths, AllTyped};
-ghost use Rattle.algo_tree.specs.Ends.{sensor_lengths};
+ghost use Rattle.algo_tree.specs.Ends.{actuator_lengths, sensor_lengths};
 ghost use Rattle.algo_tree.specs.Size.{vertices_made};
-ghost use Rattle.algo_tree.specs.Valid.{HasNoPorts};
+ghost use Rattle.algo_tree.specs.Valid.{HasNoPorts, IsTree};
 ghost use Rattle.sync_meaning.specs.Store.{Fits, lengths};
 ghost use Rattle.sync_meaning.specs.Sound.{IsSound};
+ghost use Rattle.sync_meaning.specs.First.{IsFirst};
 ghost use Rattle.sync_meaning.specs.Run.{row_of, given};
 ghost use Rattle.sync_meaning.specs.Simulated.{MainReacts, simulated};
 
@@ -94,19 +95,45 @@ pub fn simulate(alloc: Global, tree: &Tree, rows: &SensorRows) -> Result<ActRows
     react_to_all(alloc, tree, rows)
 }
 
+/// No row yet, of the lengths of the tree's actuators.
+fn no_rows(alloc: Global, tree: &Tree) -> Result<ActRows, OutOfMemory>
+    ensures { IfOk result (λ taken. taken ≡ record { lens = actuator_lengths tree.now; reactions = [] }) }
+{
+    let lens = tree.actuator_lens(alloc)?;
+    ActRows::new(alloc, &lens)
+}
+
+/// Adds what the actuators take in each reaction to a table without rows, where the store is as before
+/// the first reaction.
+fn add_reactions(
+    alloc: Global,
+    main: &Vertex,
+    rows: &SensorRows,
+    store: &mut Store,
+    taken: &mut ActRows,
+) -> Result<(), OutOfMemory>
+    requires tree { IsTree (view main.now) }
+    requires lens { rows.now.lens ≡ sensor_lengths (view main.now) }
+    requires first { IsFirst [] (view main.now) store.old }
+    requires none { taken.old ≡ record { lens = actuator_lengths (view main.now); reactions = [] } }
+    ensures { OnOk result (taken.new ≡ simulated (view main.now) rows.now) }
+{
+    for k in 0..rows.count() {
+        react_main(main, rows, k, store);
+        let row = actuator_row(alloc, &main.inner, &store.ins, &store.outs)?;
+        taken.push(&row)?;
+    }
+    Ok(())
+}
+
 /// What the actuators take in each reaction.
 fn react_to_all(alloc: Global, tree: &Tree, rows: &SensorRows) -> Result<ActRows, OutOfMemory>
     requires { rows.now.lens ≡ sensor_lengths tree.now }
     ensures { IfOk result (λ taken. taken ≡ simulated tree.now rows.now) }
 {
     let main = tree.main();
+    let mut taken = no_rows(alloc, tree)?;
     let mut store = new_store(alloc, main, &[])?;
-    let lens = tree.actuator_lens(alloc)?;
-    let mut taken = ActRows::new(alloc, &lens)?;
-    for k in 0..rows.count() {
-        react_main(main, rows, k, &mut store);
-        let row = actuator_row(alloc, &main.inner, &store.ins, &store.outs)?;
-        taken.push(&row)?;
-    }
+    add_reactions(alloc, main, rows, &mut store, &mut taken)?;
     Ok(taken)
 }

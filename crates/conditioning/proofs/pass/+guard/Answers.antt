@@ -1,6 +1,6 @@
-use Rattle.std.proofs.Common.{◌∙◌}
+use Rattle.std.proofs.Common.{◌≡◌, length, ◌∙◌, arith}
 use Rattle.algo_tree.specs.declared.vertex.Vertex.{out-Vertex}
-use Rattle.conditioning.proofs.Guarding.{graph_answered, switch_answered}
+use Rattle.conditioning.proofs.Guarding.{cases_more, one_longer, graph_answered, switch_answered}
 use Rattle.conditioning.proofs.pass.+guard.Goals as goal
 
 pub guard_graph-returns : goal.guard_graph-returns
@@ -14,3 +14,16 @@ guard_switch-returns t c =
     c.in_ok-outputs.outputs.items _ _ c.as_graph.result c.requires
     (c.as_slice.ensures.value ∙ c.in_ok-own.ensures) (c.as_slice-3.ensures.value ∙ c.in_ok-own.ensures) c.as_slice-2.ensures c.as_slice-4.ensures c.in_ok-handed.ensures (c.in_ok-cases.ensures ∙ c.len.ensures ∙ (out-Vertex c.args.vertex.now).inner.ok.0)
     c.in_ok-inner.ensures c.in_ok-add_merges.ensures c.in_ok-outputs.ensures c.as_graph.ensures
+
+pub guard_cases-loop-vertex-preserved : goal.guard_cases-loop-vertex-preserved
+guard_cases-loop-vertex-preserved t c =
+    let us = c.deref-vertex-items.result.now in
+    let w = c.in_ok-guard_vertex.field-0 in
+    let long : length c.loop-vertex.all.items ≡ c.loop-vertex.vertex-index = c.loop-vertex.invariant.at in
+    let more = one_longer c.loop-vertex.all.items c.push.new.self.items w c.in_ok-push.ensures.items in
+    record {
+      at = omega (arith, more, long);
+      so_far =
+          cases_more c.args.guards.now c.args.handed c.args.values.now us c.loop-vertex.vertex-index c.in_ok-case.case c.as_slice.result.now c.vertex-item.result w c.loop-vertex.all.items c.push.new.self.items
+          c.loop-vertex-test.true c.vertex-item.is long (c.in_ok-case.ensures ∙ c.len.ensures ∙ c.loop-vertex.all.ok.0) (c.as_slice.ensures.value ∙ c.in_ok-inside.ensures) c.in_ok-guard_vertex.ensures c.in_ok-push.ensures.items c.loop-vertex.invariant.so_far;
+    }

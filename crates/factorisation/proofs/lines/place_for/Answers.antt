@@ -1,5 +1,4 @@
-use Rattle.std.proofs.Common.{◌≡◌, ◌+◌, ◌≤◌, ◌<◌, length, arith, ◌∙◌}
-use Rattle.factorisation_laws.specs.Lines.{outer_of}
+use Rattle.std.proofs.Common.{arith, ◌∙◌}
 use Rattle.factorisation.proofs.Placing.{one_later, stops_here}
 use Rattle.factorisation.proofs.lines.place_for.Goals as goal
 

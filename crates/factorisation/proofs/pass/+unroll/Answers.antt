@@ -4,7 +4,7 @@ use Rattle.algo_tree.specs.View.{view}
 use Rattle.algo_tree.specs.Well.{IsWell}
 use Rattle.algo_tree.specs.declared.vertex.Vertex.{the_lemmas}
 use Rattle.algo_tree.specs.Size.{vertices_made}
-use Rattle.factorisation.proofs.Unrolling.{bounded, well_at, made_at, inside_made, plain_answered}
+use Rattle.factorisation.proofs.Unrolling.{bounded, well_at, made_at, inside_made, copies_more, plain_answered}
 use Rattle.factorisation.proofs.pass.+unroll.Goals as goal
 
 pub unroll_each-unroll_vertex-requires : goal.unroll_each-unroll_vertex-requires
@@ -44,3 +44,7 @@ unroll_repeat-as_graph-requires-clause-small t c =
 
 pub unroll_vertex-returns-in_ok-inner-in_default : goal.unroll_vertex-returns-in_ok-inner-in_default
 unroll_vertex-returns-in_ok-inner-in_default t c = plain_answered c.args.vertex.now c.in_ok-inner-in_default.inner.items c.with_inside.result c.in_default.not-Repeat c.in_ok-inner-in_default.ensures c.with_inside.ensures
+
+pub add_copies_of-loop-i-preserved : goal.add_copies_of-loop-i-preserved
+add_copies_of-loop-i-preserved t c =
+    copies_more c.args.copies.begin c.args.feeds.now _ _ c.loop-i.i c.loop-i.all.items _ c.in_ok-vertex.vertex c.in_ok-as_copy.field-0 c.loop-i.invariant c.in_ok-vertex.ensures c.in_ok-as_copy.ensures c.in_ok-push.ensures.items

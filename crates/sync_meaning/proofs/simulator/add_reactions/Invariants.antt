@@ -3,7 +3,7 @@ use Rattle.algo_tree.specs.View.{view}
 use Rattle.algo_tree.specs.Meaning.{past}
 use Rattle.sync_meaning.specs.Store.{Fits, state_of}
 use Rattle.sync_meaning.proofs.Simulating.{so_far}
-use Rattle.sync_meaning.proofs.simulator.react_to_all.Given as goal
+use Rattle.sync_meaning.proofs.simulator.add_reactions.Given as goal
 
 abbrev pub invariant-loop-k : goal.invariant-loop-k
 invariant-loop-k l = record {
