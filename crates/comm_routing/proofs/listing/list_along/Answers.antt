@@ -7,7 +7,6 @@ use Rattle.comm_routing.proofs.Appending.{all_appended}
 use Rattle.comm_routing.proofs.Hops.{hop_fits, hop_more}
 use Rattle.comm_routing.proofs.listing.list_along.Goals as goal
 
-
 pub list_over-requires-clause-medium : goal.list_over-requires-clause-medium
 list_over-requires-clause-medium c = ((c.requires.route c.loop-hop.hop-index (record { medium = 0; to = 0 }) c.loop-hop-test.true).0, c.requires.few)
 
