@@ -1,5 +1,5 @@
 -- A line is gone through once for its comment and for bytes that may not stand in it.
-use Rattle.std.proofs.Common.{◌≡◌, ℕ, zero, suc, ◌+◌, ◌<◌, Bool, not, true, false, cond, ◌||◌, List, [], ◌∷◌, length, take, get_or, refl, sym, ap, ◌∙◌, arith}
+use Rattle.std.proofs.Common.{◌≡◌, ℕ, zero, suc, ◌+◌, ◌<◌, Bool, not, true, false, cond, ◌||◌, List, [], ◌∷◌, length, take, get_or, refl, ap, ◌∙◌, arith}
 use Rattle.std.specs.List.{list_any, position_or_len}
 
 goes_on : (b : Bool) (p n : ℕ) → cond (not b) (1 + p) 0 ≡ suc n → (b ≡ false) × (p ≡ n)

@@ -8,3 +8,4 @@ pub mod Lists
 pub mod Naming
 pub mod Placing
 pub mod Wholes
+pub mod Appending

@@ -1,8 +1,8 @@
 -- What a line says by its words.
-use Rattle.std.proofs.Common.{◌≡◌, ℕ, ◌<◌, ◌+◌, ◌-◌, Bool, true, false, cond, List, [], ◌∷◌, length, length-drop, get_or, take, drop, position, Option, Some, None, Result, Ok, if◌then◌else◌, nat_eq, refl, sym, ap, ◌∙◌, arith}
+use Rattle.std.proofs.Common.{◌≡◌, ℕ, ◌<◌, ◌+◌, ◌-◌, Bool, true, false, cond, List, ◌∷◌, length, length-drop, get_or, take, drop, position, Some, None, Result, Ok, if◌then◌else◌, nat_eq, sym, ap, ◌∙◌, arith}
 use Rattle.std.specs.List.{list_any, position_or_len}
 use Rattle.archi_graph.specs.Archi.{Architecture}
-use Rattle.text_lines.specs.Text.{code_of, foreign_place, is_foreign, is_hash, words_of}
+use Rattle.text_lines.specs.Text.{code_of, is_foreign, is_hash, words_of}
 use Rattle.text_lines.proofs.Places.{found_at}
 use Rattle.code_text.specs.declared.fault.CodeError.{CodeError}
 use Rattle.code_text.specs.declared.fault.CodeCause.TheVariants.{BadLine}
@@ -12,7 +12,7 @@ use Rattle.code_reader.specs.Views.{is_stop}
 use Rattle.code_reader.proofs.Clean.{mark_first, no_stop, wrong_first}
 use Rattle.code_reader.proofs.Cuts.{none_passes, stands}
 use Rattle.text_lines.specs.Text.{is_blank}
-use Rattle.text_lines.proofs.Reading.{Word, word_read, word_within}
+use Rattle.text_lines.proofs.Reading.{Word, word_read}
 use Rattle.std.proofs.Math.Seq.{take-length}
 use Rattle.std.proofs.lemmas.List.{take_all}
 

@@ -2,6 +2,8 @@
 ghost use Rattle.std.specs.Prelude.{◌≡◌, ℕ, ◌-◌, ◌^◌, IfOk, length, map, min};
 ghost use Rattle.code_text.specs.Text.{at_place, counted, first_misnumbered, limited, no_size, sized, whole, within_steps};
 ghost use Rattle.code_text.specs.Text as text;
+ghost use Rattle.syn_base.specs.declared.limits.LimitKind.TheVariants.{MicroSteps};
+ghost use Rattle.executive_program.specs.Steps.{all_turns};
 ghost use Rattle.code_reader.specs.Given.{Gives, Has};
 ghost use Rattle.code_reader.specs.Placed.{ArePlaced, IsPlaced};
 ghost use Rattle.code_reader.specs.Read.{reading};
@@ -112,13 +114,20 @@ fn check_bound(which: LimitKind, count: u128) -> Result<(), CodeError>
     }
 }
 
+/// The micro-steps of the loops of a program in one reaction are within their bound.
+fn check_steps(alloc: Global, program: &Program) -> Result<(), CodeError>
+    ensures { IsBounded result MicroSteps (all_turns program.now) }
+{
+    let depths = pair_depths(alloc, program)?;
+    let micros = turn_micros(program, depths.as_slice());
+    check_bound(LimitKind::MicroSteps, micros)
+}
+
 /// The program, where the micro-steps of its loops in one reaction are within their bound.
 fn within_steps(alloc: Global, program: Program) -> Result<Program, CodeError>
     ensures { Gives result (within_steps program) }
 {
-    let depths = pair_depths(alloc, &program)?;
-    let micros = turn_micros(&program, depths.as_slice());
-    check_bound(LimitKind::MicroSteps, micros)?;
+    check_steps(alloc, &program)?;
     Ok(program)
 }
 

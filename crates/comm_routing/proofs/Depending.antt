@@ -1,10 +1,10 @@
 -- The lists of dependents.
-use Rattle.std.proofs.Common.{◌≡◌, ℕ, zero, suc, ◌+◌, ◌<◌, ◌≤◌, Bool, true, false, cond, ◌||◌, nat_eq, List, [], ◌∷◌, ◌++◌, map, length, refl, sym, ap, subst, arith, ◌∙◌}
+use Rattle.std.proofs.Common.{◌≡◌, ℕ, zero, suc, ◌+◌, ◌<◌, ◌≤◌, Bool, true, false, cond, ◌||◌, nat_eq, List, [], ◌∷◌, ◌++◌, map, length, drop, get_or, refl, sym, ap, subst, arith, ◌∙◌}
 use Rattle.std.specs.Prelude.{All, nat_lt, slice_get, slice_index_or}
 use Rattle.std.specs.List.{list_all, list_any}
 use Rattle.std.specs.Cmp.Derive.{both_true}
 use Rattle.std.proofs.lemmas.Bool.{false≢true, and_parts, or_left, or_right, eq-eqb, lt-ltb, ltb-true}
-use Rattle.std.proofs.lemmas.List.{append_assoc}
+use Rattle.std.proofs.lemmas.List.{append_assoc, drop_more}
 use Rattle.std.proofs.lemmas.List.Folds.{list_all-append, list_any-append}
 use Rattle.flat_graph.specs.Graph.{with_vertex}
 use Rattle.flat_graph.specs.declared.vertex.Guard.{Guard}
@@ -13,6 +13,7 @@ use Rattle.flat_graph.specs.declared.vertex.Vertex.{Vertex}
 use Rattle.flat_graph.specs.Order.{depends_on, get_half}
 use Rattle.std.specs.Global.{Vec}
 use Rattle.comm_routing.specs.Dependents.{repeated, dependents_from, list_at}
+use Rattle.comm_routing.proofs.Appending.{appended}
 
 pub repeated-append : (s u : ℕ) (xs ys : List ℕ) → repeated s u (xs ++ ys) ≡ repeated s u xs ++ repeated s u ys
 repeated-append s u [] ys = refl
@@ -96,3 +97,17 @@ pub list_is : (lists : List (Vec ℕ)) (u : ℕ) (v : Vec ℕ) → u < length li
 list_is [] u v l e = absurd (omega arith)
 list_is (x ∷ lists) zero v l e = ap (λ (w : Vec ℕ). w.items) (sym e)
 list_is (x ∷ lists) (suc u) v l e = list_is lists u v (omega arith) e
+
+-- one more empty list
+pub none_more : (xs : List (Vec ℕ)) (x : Vec ℕ) → x.items ≡ [] → ((u : ℕ) → list_at xs u ≡ []) → (u : ℕ) → list_at (xs ++ x ∷ []) u ≡ []
+none_more [] x e h zero = e
+none_more [] x e h (suc u) = refl
+none_more (y ∷ ys) x e h zero = h 0
+none_more (y ∷ ys) x e h (suc u) = none_more ys x e (λ v. h (suc v)) u
+
+-- one more operation: what is left makes the whole
+pub dependents_more : (u s : ℕ) (xs : List Vertex) (x : Vertex) (old new whole : List ℕ) → s < length xs → x ≡ get_or xs s x → new ≡ old ++ repeated s u (depends_on x)
+    → old ++ dependents_from u s (drop s xs) ≡ whole → new ++ dependents_from u (s + 1) (drop (s + 1) xs) ≡ whole
+dependents_more u s xs x old new whole l e n w =
+    appended (repeated s u (depends_on x)) (dependents_from u (s + 1) (drop (s + 1) xs)) (dependents_from u s (drop s xs)) old new whole
+    (ap (dependents_from u s) (drop_more xs s x l) ∙ ap (λ (y : Vertex). dependents_from u s (y ∷ drop (s + 1) xs)) (sym e)) n w

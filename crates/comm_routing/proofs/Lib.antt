@@ -24,3 +24,5 @@ pub mod Lands
 pub mod Depending
 pub mod Ordered
 pub mod Renewal
+pub mod Hops
+pub mod Appending

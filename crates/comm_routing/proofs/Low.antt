@@ -1,6 +1,6 @@
 -- Dates of the tables stay low.
 use Rattle.std.proofs.Common.{◌≡◌, ℕ, zero, suc, ◌+◌, ◌*◌, ◌<◌, ◌≤◌, true, false, Bool, cond, List, [], ◌∷◌, length, Option, Some, None, refl, sym, ap, arith, ◌∙◌}
-use Rattle.std.specs.Prelude.{is_none, is_some, slice_index_or, slice_set}
+use Rattle.std.specs.Prelude.{is_none, slice_index_or, slice_set}
 use Rattle.schedule.specs.declared.decision.Transfer.{Transfer}
 use Rattle.schedule.specs.declared.decision.Decision.{Decision}
 use Rattle.schedule.specs.Acts.{copy}

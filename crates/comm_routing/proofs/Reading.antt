@@ -1,11 +1,14 @@
 -- Sources that are there, part by part, and entries of tables.
 use Rattle.std.proofs.Common.{◌≡◌, ℕ, zero, suc, ◌+◌, ◌*◌, ◌<◌, ◌≤◌, List, [], ◌∷◌, ◌++◌, map, length, drop, take, get_or, refl, sym, ap, subst, arith, ◌∙◌, drop-cons, length-append, mul-le-mul}
 use Rattle.std.specs.Prelude.{All, slice_index_or}
+use Rattle.std.proofs.lemmas.List.{drop_more}
+use Rattle.std.proofs.lemmas.List.Elements.{All-append}
 use Rattle.flat_graph.specs.declared.vertex.Source.{Source}
 use Rattle.flat_graph.specs.declared.vertex.Guard.{Guard}
 use Rattle.flat_graph.specs.declared.vertex.Vertex.{Vertex}
 use Rattle.comm_routing.specs.Walk.{distinct_after}
-use Rattle.comm_routing.specs.Start.{IsThere, AreThere, with_source, HasFewOutputs, all_lens}
+use Rattle.comm_routing.specs.Start.{IsThere, AreThere, reads_of, with_source, HasFewOutputs, all_lens}
+use Rattle.comm_routing.proofs.Appending.{appended}
 use Rattle.comm_routing.proofs.Marking.{one_more}
 use Rattle.comm_routing.proofs.Starting.{few_lens}
 
@@ -81,3 +84,18 @@ take_all (x ∷ xs) ys = ap (λ l. x ∷ l) (take_all xs ys)
 -- a slice that was written over whole
 pub written : {A : Type 0} (xs ys : List A) (n : ℕ) → n ≡ length xs → take n (xs ++ ys) ≡ xs
 written xs ys n e = ap (λ (k : ℕ). take k (xs ++ ys)) e ∙ take_all xs ys
+
+-- one more operation: what is left makes the whole
+pub reads_more : (xs : List Vertex) (k : ℕ) (x : Vertex) (r : List Source) (old new whole : List (List Source)) → k < length xs → x ≡ get_or xs k x → r ≡ reads_of x → new ≡ old ++ r ∷ []
+    → old ++ map reads_of (drop k xs) ≡ whole → new ++ map reads_of (drop (k + 1) xs) ≡ whole
+reads_more xs k x r old new whole l e is n w =
+    appended (r ∷ []) (map reads_of (drop (k + 1) xs)) (map reads_of (drop k xs)) old new whole
+    (ap (map reads_of) (drop_more xs k x l) ∙ (λ i. (ap reads_of (sym e) ∙ sym is) i ∷ map reads_of (drop (k + 1) xs))) n w
+
+-- one more list that is no longer than the others
+pub short_more : (most : ℕ) (r : List Source) (old new : List (List Source)) → new ≡ old ++ r ∷ [] → length r ≤ most → All (λ (s : List Source). length s ≤ most) old → All (λ (s : List Source). length s ≤ most) new
+short_more most r old new n short so_far = subst (All (λ (s : List Source). length s ≤ most)) (sym n) (All-append (λ (s : List Source). length s ≤ most) old (r ∷ []) so_far one)
+  where
+    one : All (λ (s : List Source). length s ≤ most) (r ∷ [])
+    one zero d l = short
+    one (suc k) d l = absurd (omega arith)

@@ -1,42 +1,37 @@
 -- One placement in a draft: what it asks for, and what is kept after it.
-use Rattle.std.proofs.Common.{◌≡◌, ◌≢◌, ℕ, zero, suc, ◌+◌, ◌*◌, ◌<◌, ◌≤◌, ◌^◌, Bool, true, false, cond, ◌&&◌, not, List, [], ◌∷◌, ◌++◌, map, length, Option, Some, None, refl, sym, ap, subst, arith, ◌∙◌, inl, inr, length-append, mul-le-mul_right}
-use Rattle.std.specs.Prelude.{All, IsTrue, max, is_none, is_some, nat_eq, nat_lt, nat_le, slice_get, slice_index_or, slice_set}
+use Rattle.std.proofs.Common.{◌≡◌, ℕ, zero, suc, ◌+◌, ◌*◌, ◌<◌, ◌≤◌, ◌^◌, Bool, true, false, cond, ◌&&◌, not, List, [], ◌∷◌, ◌++◌, map, length, Option, Some, None, refl, sym, ap, subst, arith, ◌∙◌, inl, inr, length-append, mul-le-mul_right}
+use Rattle.std.specs.Prelude.{All, is_some, nat_eq, nat_lt, nat_le, slice_get, slice_index_or, slice_set}
 use Rattle.durations.specs.Table.{entry_in}
 use Rattle.std.specs.List.{list_all}
-use Rattle.std.proofs.lemmas.Bool.{false≢true, true≢false, and_parts, cases_lt, lt-ltb, ltb-true, leb-true, le-leb, not-true}
-use Rattle.std.proofs.lemmas.Option.{same_Some, slice_get_past}
-use Rattle.std.proofs.lemmas.List.{length-set}
+use Rattle.std.proofs.lemmas.Bool.{and_parts, cases_lt, lt-ltb, ltb-true, leb-true}
+use Rattle.std.proofs.lemmas.Option.{same_Some}
 use Rattle.flat_graph.specs.declared.vertex.Source.{Source}
 use Rattle.flat_graph.specs.declared.vertex.Vertex.{Vertex}
 use Rattle.flat_graph.specs.Graph.{with_vertex, len_of}
-use Rattle.flat_graph.specs.Order.{depends_on, get_half}
+use Rattle.flat_graph.specs.Order.{depends_on}
 use Rattle.archi_graph.specs.declared.medium.Hop.{Hop}
 use Rattle.archi_graph.specs.declared.medium.Medium.{Medium}
-use Rattle.archi_graph.specs.Archi.{Architecture}
 use Rattle.route_table.specs.Table.{RouteTable, route_in}
 use Rattle.route_table.proofs.Joined.{facts, all_joined}
 use Rattle.route_table.proofs.Order.{not_less_is_no_shorter}
-use Rattle.schedule.specs.declared.decision.Transfer.{Transfer}
 use Rattle.schedule.specs.declared.decision.Decision.{Decision}
-use Rattle.schedule.specs.Acts.{Act, acts_of, carry, run, copy, runs, sources_of, Copy}
+use Rattle.schedule.specs.Acts.{acts_of, copy, sources_of}
 use Rattle.comm_routing.specs.Task.{Task, routing}
-use Rattle.comm_routing.specs.Placing.{ticks_in, sources, needs, halves, greatest, operator_of, is_placed, is_candidate, may_stand, may_place, arrival, decision, start}
+use Rattle.comm_routing.specs.Placing.{ticks_in, sources, needs, halves, greatest, operator_of, is_placed, is_candidate, may_stand, may_place, arrival, decision}
 use Rattle.comm_routing.specs.Walk.{distinct, walk, fetch_all}
 use Rattle.comm_routing.specs.Board.{Board, HasPlace, HasWay, FitsAll, held_in, on_in, time_in, len_in, place_in}
-use Rattle.comm_routing.specs.Tables.{Tells, TellsOf, after_transfers, after_operation, decision_in, transfers_in, start_in, arrival_in, half_in, outs_of}
+use Rattle.comm_routing.specs.Tables.{Tells, after_transfers, after_operation, decision_in, transfers_in, start_in, outs_of}
 use Rattle.comm_routing.specs.Start.{reads_of}
-use Rattle.comm_routing.specs.Laws.{AreRight}
-use Rattle.comm_routing.specs.Draft.{Drafted, Keeps, IsTold, IsSite, IsLow, task_of, nones, rise, after_placing}
-use Rattle.comm_routing.specs.Candidates.{CanWalk, HasWalks, reads_in, arrival_at, is_placed_in, is_free_in, is_candidate_in, IsUpdated, flag_at, row_at, AreArrivals, HasSize}
+use Rattle.comm_routing.specs.Draft.{Drafted, IsTold, IsSite, task_of, nones, rise, after_placing}
+use Rattle.comm_routing.specs.Candidates.{CanWalk, reads_in, arrival_at, is_placed_in, is_free_in, is_candidate_in}
 use Rattle.comm_routing.specs.declared.reach.Walks.{Walks}
-use Rattle.comm_routing.specs.declared.candidates.Candidates.{Candidates}
-use Rattle.comm_routing.proofs.Right.{candidate_given, is_given, stands, good}
-use Rattle.comm_routing.proofs.Arrivals.{from_distinct, all_there, placed_rightly_behind, arrivals_are_kept}
-use Rattle.comm_routing.proofs.Tables.{arrivals_are_in_tables, all_from}
+use Rattle.comm_routing.proofs.Right.{candidate_given, is_given, stands}
+use Rattle.comm_routing.proofs.Arrivals.{from_distinct, all_there, placed_rightly_behind}
+use Rattle.comm_routing.proofs.Tables.{arrivals_are_in_tables}
 use Rattle.comm_routing.proofs.Placed.{placements_are_in_tables}
 use Rattle.comm_routing.proofs.Given.{lens_there}
 use Rattle.comm_routing.proofs.Lands.{placements_land, len_low, time_low}
-use Rattle.comm_routing.proofs.Dates.{Below, Stays, stays_low, EndBy, end_by_more}
+use Rattle.comm_routing.proofs.Dates.{Stays, stays_low, EndBy, end_by_more}
 use Rattle.comm_routing.proofs.Low.{low_transfers, low_operation, low_more, one_none_less, same_places}
 use Rattle.comm_routing.proofs.Sizes.{same_sizes}
 

@@ -3,3 +3,4 @@ pub mod Lone
 pub mod Numbered
 pub mod Crossed
 pub mod Found
+pub mod Appending

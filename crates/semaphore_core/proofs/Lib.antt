@@ -21,3 +21,4 @@ pub mod Counting
 pub mod FewSequences
 mod RowFive
 mod RowNine
+pub mod Appending

@@ -97,13 +97,17 @@ impl State {
         let program = job.program();
         let sequences = program.seqs.as_slice().len();
         let steps = micro_steps_of(alloc, program)?;
+        let counts = words_of(alloc, 0, sequences)?;
+        let semaphores = words_of(alloc, 0, 2 * program.pairs.as_slice().len())?;
+        let turns = words_of(alloc, 0, job.media())?;
+        let elements = zero_elements(alloc, program, small(job.media())?)?;
         let own = OwnParts::new(alloc, job, steps.as_slice())?;
         Ok(State {
             steps,
-            counts: words_of(alloc, 0, sequences)?,
-            semaphores: words_of(alloc, 0, 2 * program.pairs.as_slice().len())?,
-            turns: words_of(alloc, 0, job.media())?,
-            elements: zero_elements(alloc, program, small(job.media())?)?,
+            counts,
+            semaphores,
+            turns,
+            elements,
             own,
         })
     }

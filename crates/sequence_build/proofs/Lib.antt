@@ -10,3 +10,4 @@ pub mod Guarding
 pub mod Numbering
 pub mod Covering
 pub mod Assembling
+pub mod Appending

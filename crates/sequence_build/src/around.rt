@@ -249,20 +249,22 @@ fn guarded_loop(
     all_between(alloc, &around, turn)
 }
 
-/// A sequence with its semaphores.
+/// The sequence of this number with its semaphores.
 fn guarded_code(
     alloc: Global,
-    sequence: u32,
+    sequence: usize,
     code: SeqCode,
     pairs: &[Pair],
     depth: u32,
 ) -> Result<SeqCode, OutOfMemory>
     ensures { IfOk result (λ q. q ≡ code_with depth pairs.now sequence code) }
 {
+    let sequence = number(sequence)?;
+    let prologue = opening_of(alloc, sequence, pairs, depth)?;
     let SeqCode { seq, turn, .. } = code;
     Ok(SeqCode {
         seq,
-        prologue: opening_of(alloc, sequence, pairs, depth)?,
+        prologue,
         turn: guarded_loop(alloc, sequence, turn.into_vec(), pairs)?,
     })
 }
@@ -278,8 +280,7 @@ pub fn guarded_codes(
 {
     let mut seqs = Vec::new(alloc);
     for code in codes {
-        let sequence = number(seqs.len())?;
-        seqs.push(guarded_code(alloc, sequence, code, pairs, depth)?)?;
+        seqs.push(guarded_code(alloc, seqs.len(), code, pairs, depth)?)?;
     }
     Ok(Items::new(seqs))
 }

@@ -141,11 +141,12 @@ impl<'a> Site<'a> {
     {
         for (place, seq) in self.sequences.iter().enumerate() {
             if is_other(transfer, *seq) {
+                let sequence = number(place)?;
                 let wait = Instr::Sync {
                     from: transfer.from,
                     to: transfer.to,
                 };
-                push_step(loops, number(place)?, wait)?;
+                push_step(loops, sequence, wait)?;
             }
         }
         Ok(())
@@ -156,24 +157,18 @@ impl<'a> Site<'a> {
         ensures many { vec_len loops.new ≡ vec_len loops.old }
         ensures adds { OnOk result (Adds loops.old.items loops.new.items (steps_at self.now (carry transfer))) }
     {
+        let sender = self.sequence(transfer.from, Some(transfer.medium))?;
+        let receiver = self.sequence(transfer.to, Some(transfer.medium))?;
         let send = Instr::Send {
             buffer: self.buffer(transfer.from, transfer.source),
             to: transfer.to,
         };
-        push_step(
-            loops,
-            self.sequence(transfer.from, Some(transfer.medium))?,
-            send,
-        )?;
+        push_step(loops, sender, send)?;
         let receive = Instr::Recv {
             buffer: self.buffer(transfer.to, transfer.source),
             from: transfer.from,
         };
-        push_step(
-            loops,
-            self.sequence(transfer.to, Some(transfer.medium))?,
-            receive,
-        )?;
+        push_step(loops, receiver, receive)?;
         self.wait_all(loops, transfer)?;
         Ok(())
     }
@@ -271,12 +266,15 @@ impl<'a> Site<'a> {
         ensures many { vec_len loops.new ≡ vec_len loops.old }
         ensures adds { OnOk result (Adds loops.old.items loops.new.items (steps_at self.now (run decision.now))) }
     {
+        let sequence = self.sequence(decision.operator, None)?;
+        let ins = self.ins(alloc, decision)?;
+        let outs = self.outs(alloc, decision)?;
         let call = Instr::Call {
             vertex: decision.op,
-            ins: self.ins(alloc, decision)?,
-            outs: self.outs(alloc, decision)?,
+            ins,
+            outs,
         };
-        push_step(loops, self.sequence(decision.operator, None)?, call)
+        push_step(loops, sequence, call)
     }
 
     /// The transfers of a decision, and then its operation.

@@ -1,5 +1,6 @@
 -- Where words stand, as the fabric keeps it.
-use Rattle.std.proofs.Common.{◌≡◌, ℕ, zero, suc, ◌+◌, ◌*◌, ◌<◌, List, [], ◌∷◌, map, take, length, sum, get_or, ℤ, refl, ap, arith, ◌∙◌}
+use Rattle.std.proofs.Common.{◌≡◌, ℕ, zero, suc, ◌+◌, ◌*◌, ◌<◌, List, [], ◌∷◌, map, take, length, sum, get_or, drop, ◌++◌, ◌≤◌, append_assoc, ℤ, refl, sym, ap, arith, ◌∙◌}
+use Rattle.std.proofs.lemmas.List.{append-nil, drop_more, at_drop_all}
 use Rattle.executive_program.specs.declared.steps.Place.{Place}
 use Rattle.semaphore_core.specs.Core.{home_of, slot_of, opening}
 use Rattle.word_table.specs.declared.woven.Woven.{Woven}
@@ -56,3 +57,25 @@ starts_are j first turns starts turns_are at e = (ap (length {A = ℕ}) e ∙ st
 -- the number of words is where the elements end
 pub words_are : (j : JobData) (first : ℕ) → first ≡ 1 + 2 * length j.program.pairs + j.media → end_from first (opening j).elements ≡ table_len j
 words_are j first at = let e = end_at first (opening j).elements in omega (arith, e, at)
+
+-- one list more: what is left makes the whole
+pub starts_more : (xs : List (List ℤ)) (k : ℕ) (x : List ℤ) (next after first : ℕ) (old new : List ℕ) → k < length xs → x ≡ get_or xs k x → after ≡ next + length x → new ≡ old ++ next ∷ []
+    → (old ++ starts_from next (drop k xs) ≡ starts_from first xs) × (end_from next (drop k xs) ≡ end_from first xs)
+    → (new ++ starts_from after (drop (k + 1) xs) ≡ starts_from first xs) × (end_from after (drop (k + 1) xs) ≡ end_from first xs)
+starts_more xs k x next after first old new h e a n w = (starts, ends)
+  where
+    rest : List (List ℤ)
+    rest = drop (k + 1) xs
+
+    left : drop k xs ≡ x ∷ rest
+    left = drop_more xs k x h ∙ ap (λ (y : List ℤ). y ∷ rest) (sym e)
+
+    starts : new ++ starts_from after rest ≡ starts_from first xs
+    starts = (λ i. n i ++ starts_from (a i) rest) ∙ append_assoc old (next ∷ []) (starts_from (next + length x) rest) ∙ ap (λ (l : List ℕ). old ++ l) (sym (ap (starts_from next) left)) ∙ w.0
+
+    ends : end_from after rest ≡ end_from first xs
+    ends = ap (λ (m : ℕ). end_from m rest) a ∙ sym (ap (end_from next) left) ∙ w.1
+
+-- where nothing is left
+pub starts_all : (xs : List (List ℤ)) (k next : ℕ) (starts whole : List ℕ) → length xs ≤ k → starts ++ starts_from next (drop k xs) ≡ whole → starts ≡ whole
+starts_all xs k next starts whole h w = sym (append-nil starts) ∙ ap (λ (l : List ℕ). starts ++ l) (sym (at_drop_all (starts_from next) xs k h)) ∙ w

@@ -1,7 +1,9 @@
 //! A fabric and its drivers, when they are made.
-ghost use Rattle.std.specs.Prelude.{◌≡◌, ◌<◌, ◌≤◌, ◌+◌, length, map, IfOk};
+ghost use Rattle.std.specs.Prelude.{◌≡◌, ℕ, ◌<◌, ◌≤◌, ◌+◌, ◌^◌, length, map, slice_index_or, IfOk};
+ghost use Rattle.semaphore_core.specs.Job.{actuator_lens, zero_rows};
 ghost use Rattle.word_rule.specs.Views.{first_view};
-ghost use Rattle.word_rule.specs.Words.{table_len};
+ghost use Rattle.word_rule.specs.Given.{RunsOnWords};
+ghost use Rattle.word_rule.specs.Words.{element_lens, elements_start, table_len, turn_word};
 ghost use Rattle.word_table.specs.Driver.{AreDrivers, AreNew};
 ghost use Rattle.word_table.specs.Share.{AreLaid, IsWoven, woven_view};
 ghost use Rattle.word_table.specs.Weaving.{DrivesGroup, IsLeft, IsGroup, IsFirst, AreFirst, starts_from, end_from};
@@ -14,8 +16,18 @@ use crate::woven::Woven;
 use executive_program::micro_steps_of;
 use semaphore_core::{Job, OwnParts, cells_and_rows, small, words_of, zero_elements};
 use std::alloc::Global;
-use syn_base::{Items, OutOfMemory};
+use syn_base::{ActRows, Items, OutOfMemory};
 use word_rule::{WordSeat, WordTable, job_runs_on_words};
+
+/// The opening cells of a job's delays, and rows of zeros of all its actuators, as the end of a fabric keeps them.
+fn cells_of(alloc: Global, job: &Job) -> Result<(Vec<Items<i64>>, ActRows), OutOfMemory>
+    ensures cells { IfOk result (λ t. t.0.items ≡ job.now.opening) }
+    ensures lens { IfOk result (λ t. t.1.lens ≡ actuator_lens job.now.graph job.now.graph.vertices) }
+    ensures rows { IfOk result (λ t. t.1.reactions ≡ zero_rows job.now) }
+{
+    let (cells, rows) = cells_and_rows(alloc, job)?;
+    Ok((items_of(alloc, cells)?, rows))
+}
 
 /// What is laid out for the end of a table of this many words and the spare one.
 fn remains_of(alloc: Global, job: &Job, len: usize) -> Result<Remains, OutOfMemory>
@@ -23,13 +35,15 @@ fn remains_of(alloc: Global, job: &Job, len: usize) -> Result<Remains, OutOfMemo
     ensures { IfOk result (λ r. AreLaid job.now r) }
 {
     let vertices = job.flat().vertices();
-    let (cells, rows) = cells_and_rows(alloc, job)?;
+    let counts = words_of(alloc, 0, job.program().seqs.as_slice().len())?;
+    let words = words_of(alloc, 0, len - 1)?;
     let callers = callers_of(alloc, job.program(), vertices.len())?;
     let cell_owners = cell_owners(alloc, vertices, callers.as_slice())?;
+    let (cells, rows) = cells_of(alloc, job)?;
     Ok(Remains {
-        counts: words_of(alloc, 0, job.program().seqs.as_slice().len())?,
-        words: words_of(alloc, 0, len - 1)?,
-        cells: items_of(alloc, cells)?,
+        counts,
+        words,
+        cells,
         rows,
         callers,
         cell_owners,
@@ -68,6 +82,49 @@ fn starts_of(
     Ok((starts, next))
 }
 
+/// Where the words of a table stand: the word of the first turn, where the elements of each buffer and wire
+/// begin, and how many words there are.
+#[derive(Drop)]
+struct Layout {
+    turns: usize,
+    starts: Vec<usize>,
+    len: usize,
+}
+
+/// Where the words of a job's table stand.
+fn layout_of(alloc: Global, job: &Job) -> Result<Layout, OutOfMemory>
+    ensures turns { IfOk result (λ l. l.turns ≡ turn_word job.now 0) }
+    ensures starts_there { IfOk result (λ l. length l.starts.items ≡ length (element_lens job.now)) }
+    ensures starts { IfOk result (λ l. (h : ℕ) → h < length l.starts.items → slice_index_or l.starts.items h 0 ≡ elements_start job.now h) }
+    ensures len { IfOk result (λ l. l.len ≡ table_len job.now) }
+{
+    let program = job.program();
+    let turns = 1 + 2 * program.pairs.as_slice().len();
+    let Some(first) = turns.checked_add(job.media()) else {
+        return Err(OutOfMemory);
+    };
+    let elements = zero_elements(alloc, program, small(job.media())?)?;
+    let (starts, len) = starts_of(alloc, elements.as_slice(), first)?;
+    Ok(Layout { turns, starts, len })
+}
+
+/// The table of a job, which has this many words, and a seat for all of its sequences.
+fn opened<'a>(
+    alloc: Global,
+    job: &'a Job<'a>,
+    len: usize,
+) -> Result<(WordTable<'a>, WordSeat<'a>), OutOfMemory>
+    requires runs { RunsOnWords job.now }
+    requires len { len ≡ table_len job.now }
+    ensures key { IfOk result (λ t. t.0.key ≡ job.now) }
+    ensures seat { IfOk result (λ t. t.1 ≡ record { table = t.0.table; view = first_view job.now }) }
+    ensures few { IfOk result (λ t. table_len job.now < 2 ^ 64) }
+{
+    let words = words_of(alloc, 0, len)?;
+    let opened = WordTable::open(alloc, job, words.as_slice())?;
+    Ok(opened)
+}
+
 /// The table of a job with its micro-steps laid out, and a seat for all of its sequences.
 fn woven_of<'a>(
     alloc: Global,
@@ -79,17 +136,10 @@ fn woven_of<'a>(
     ensures seat { IfOk result (λ t. t.1 ≡ record { table = t.0.table.table; view = first_view job.now }) }
 {
     job_runs_on_words(job);
-    let program = job.program();
-    let steps = micro_steps_of(alloc, program)?;
-    let elements = zero_elements(alloc, program, small(job.media())?)?;
-    let turns = 1 + 2 * program.pairs.as_slice().len();
-    let Some(first) = turns.checked_add(job.media()) else {
-        return Err(OutOfMemory);
-    };
-    let (starts, len) = starts_of(alloc, elements.as_slice(), first)?;
-    let words = words_of(alloc, 0, len)?;
+    let Layout { turns, starts, len } = layout_of(alloc, job)?;
+    let steps = micro_steps_of(alloc, job.program())?;
     let remains = remains_of(alloc, job, len)?;
-    let (table, seat) = WordTable::open(alloc, job, words.as_slice())?;
+    let (table, seat) = opened(alloc, job, len)?;
     let woven = Woven {
         table,
         job,

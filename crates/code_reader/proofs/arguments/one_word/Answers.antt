@@ -1,4 +1,4 @@
-use Rattle.std.proofs.Common.{List, ℕ, Some, ap, sym}
+use Rattle.std.proofs.Common.{List, Some, ap, sym}
 use Rattle.code_text.specs.Forms.{Bytes}
 use Rattle.code_text.specs.Text.{one_of}
 use Rattle.code_reader.proofs.Lists.{more_than_one, one_word}

@@ -17,3 +17,6 @@ loop-place-preserved c =
       placed = placed_more ds i d none old new (length ds) c.loop-place-test.true refl c.loop-place.invariant.placed t;
       right = right_here ds i d none old new (length ds) i (misnumbered ds) c.loop-place-test.true refl c.loop-place.invariant.placed t c.loop-place.invariant.right;
     }
+
+pub loop-place-init : goal.loop-place-init
+loop-place-init c = record { placed = record { many = c.in_ok-places.ensures.many; each = λ n l. c.in_ok-places.ensures.none n }; right = refl }

@@ -1,5 +1,5 @@
-use Rattle.std.proofs.Common.{ap, arith, length, refl, sym, ◌∙◌}
-use Rattle.std.specs.Prelude.{is_some, slice_get, slice_index_or}
+use Rattle.std.proofs.Common.{ap, arith, length, sym, ◌∙◌}
+use Rattle.std.specs.Prelude.{is_some, slice_get}
 use Rattle.comm_routing.specs.Draft.{drafted}
 use Rattle.comm_routing.proofs.Sites.{stands_in, vertex_at}
 use Rattle.comm_routing.proofs.progress.may_stand.Goals as goal

@@ -1,7 +1,10 @@
-use Rattle.std.proofs.Common.{List, [], ◌∷◌, ◌++◌, ap, arith, length, refl, subst, sym, ◌∙◌}
+use Rattle.std.proofs.Common.{◌≤◌, List, [], ◌∷◌, ◌++◌, ap, arith, length, refl, subst, sym, ◌∙◌}
 use Rattle.std.specs.Prelude.{All}
 use Rattle.std.proofs.lemmas.Bool.{and_parts}
+use Rattle.syn_base.specs.declared.name.Name.{Name}
+use Rattle.archi_graph.specs.declared.medium.Medium.{Medium}
 use Rattle.flat_graph.specs.declared.vertex.Source.{Source}
+use Rattle.flat_graph.specs.declared.vertex.Vertex.{Vertex}
 use Rattle.route_table.specs.Table.{route_in}
 use Rattle.comm_routing.specs.Task.{routing}
 use Rattle.comm_routing.specs.Placing.{ticks_in}
@@ -9,7 +12,7 @@ use Rattle.comm_routing.specs.Walk.{walk}
 use Rattle.comm_routing.specs.Board.{FitsAll, HasWay}
 use Rattle.comm_routing.specs.Tables.{after_operation, after_transfers, decision_in, outs_of, transfers_in}
 use Rattle.comm_routing.specs.Draft.{IsTold, after_placing, drafted}
-use Rattle.comm_routing.specs.Candidates.{flag_at}
+use Rattle.comm_routing.specs.Candidates.{HasSize, flag_at}
 use Rattle.comm_routing.specs.Dependents.{AreDependents}
 use Rattle.comm_routing.proofs.Sites.{at_default, length-reads}
 use Rattle.comm_routing.proofs.Steps.{asks, decided, told_after}
@@ -108,3 +111,43 @@ returns-clause-keeps c =
     let both = and_parts (flag_at g.candidates v) c.in_ok-quiet.quiet e in
     stay_after d g.board c.args.reads.now g.candidates c.args.op c.args.operator c.requires.keeps c.requires.may
     (ap (λ x. x.transfers) (decided d g.board c.args.reads.now c.requires.keeps.told c.args.op c.args.operator c.requires.may) ∙ c.in_ok-quiet.ensures.quiet both.1) v p l can both.0 on)
+
+pub bounds-reads-op : goal.bounds-reads-op
+bounds-reads-op c =
+    let a = asks (drafted c.args.site.now c.args.progress.now.decisions.items) c.args.progress.now.board c.args.reads.now c.requires.keeps.told c.args.op c.args.operator c.requires.may in
+    let n = ap length c.requires.keeps.told.reads_are ∙ length-reads c.args.site.now.flat.now.vertices in
+    let l = a.operation in
+    omega arith
+
+pub place-requires-clause-operator : goal.place-requires-clause-operator
+place-requires-clause-operator c =
+    let a = asks (drafted c.args.site.now c.args.progress.now.decisions.items) c.args.progress.now.board c.args.reads.now c.requires.keeps.told c.args.op c.args.operator c.requires.may in
+    (a.operator, a.few)
+
+pub place-requires-clause-operation : goal.place-requires-clause-operation
+place-requires-clause-operation c =
+    let a = asks (drafted c.args.site.now c.args.progress.now.decisions.items) c.args.progress.now.board c.args.reads.now c.requires.keeps.told c.args.op c.args.operator c.requires.may in
+    (a.operation, a.first, a.place, a.ended)
+
+pub place-requires-clause-reads : goal.place-requires-clause-reads
+place-requires-clause-reads c =
+    let a = asks (drafted c.args.site.now c.args.progress.now.decisions.items) c.args.progress.now.board c.args.reads.now c.requires.keeps.told c.args.op c.args.operator c.requires.may in
+    let n = ap length c.requires.keeps.told.reads_are ∙ length-reads c.args.site.now.flat.now.vertices in
+    let l = a.operation in
+    c.as_slice.ensures ∙ c.index-reads-op.is ∙ sym (at_default c.args.reads.now c.args.op [] c.index-reads-op.result (omega arith)) ∙ a.reads_same
+
+pub update-requires-clause-size : goal.update-requires-clause-size
+update-requires-clause-size c = subst (λ (l : List Vertex). HasSize (length l) c.args.progress.now.candidates) (sym c.vertices.ensures.same) c.requires.keeps.size
+
+pub update-requires-clause-walks : goal.update-requires-clause-walks
+update-requires-clause-walks c = record {
+  operators = subst (λ (l : List Name). length l ≤ 16) (sym c.operators.ensures.same) c.requires.keeps.told.site.operators;
+  routes = ap (λ (l : List Name). length l) c.operators.ensures.same ∙ sym c.requires.keeps.told.site.routes.operators;
+  media = subst (λ (l : List Medium). length l ≤ 16) (sym c.media.ensures.same) c.requires.keeps.told.site.media;
+}
+
+pub update-requires-clause-reads : goal.update-requires-clause-reads
+update-requires-clause-reads c =
+    let vertices = ap (λ (l : List Vertex). length l) c.vertices.ensures.same in
+    let reads = ap (λ (l : List (List Source)). length l) c.requires.keeps.told.reads_are ∙ length-reads c.args.site.now.flat.now.vertices in
+    omega arith

@@ -1,4 +1,4 @@
-use Rattle.std.proofs.Common.{◌++◌, ◌∷◌, [], sym, subst, List}
+use Rattle.std.proofs.Common.{sym, subst, List}
 use Rattle.std.specs.Prelude.{slice_set}
 use Rattle.flat_graph.specs.declared.vertex.Source.{Source}
 use Rattle.comm_routing.specs.Start.{IsMarked, place_of}

@@ -22,3 +22,15 @@ loop-group-preserved c =
       each-later (Belongs f) n (vec_len c.push_reserved.new.self) (into_iter_items c.next.new.self) c.push_reserved.ensures.len
           (each-rest (λ k. Belongs f (n + k)) c.in-Some.group (into_iter_items c.next.new.self) (into_iter_items c.loop-group.group-iterator) next.0 rest),
     )
+
+pub new-place-requires : goal.new-place-requires
+new-place-requires c =
+    let here : Belongs c.args.fabric.now (vec_len c.loop-group.places + 0) c.in-Some.group
+    = each-first (λ k. Belongs c.args.fabric.now (vec_len c.loop-group.places + k)) c.in-Some.group (into_iter_items c.next.new.self) (into_iter_items c.loop-group.group-iterator) c.in-Some.ensures.steps.0 c.loop-group.invariant.3 in
+    here.fabric
+
+pub push_reserved-requires : goal.push_reserved-requires
+push_reserved-requires c = let enough = c.loop-group.invariant.1 in let count = c.loop-group.invariant.0 in let steps = c.in-Some.ensures.steps.1 in omega arith
+
+pub returns : goal.returns
+returns c = record { many = (let steps = c.in-None.ensures.steps.0 in let count = c.loop-group.invariant.0 in omega arith); each = c.loop-group.invariant.2 }

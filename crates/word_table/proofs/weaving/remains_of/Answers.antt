@@ -10,15 +10,15 @@ use Rattle.word_table.proofs.weaving.remains_of.Goals as goal
 
 pub returns : goal.returns
 returns c = record {
-  counts_there = ap (length {A = ℕ}) c.in_ok-words_of.ensures ∙ length-replicate (length c.as_slice-2.result.now) 0
-      ∙ ap (length {A = SeqCode}) (c.as_slice-2.ensures ∙ ap (λ (p : Program). p.seqs) c.program-2.ensures.same);
-  words_there = let l = ap (length {A = ℕ}) c.in_ok-words_of-2.ensures ∙ length-replicate (c.args.len - 1) 0 in let r = c.requires in omega (arith, l, r);
-  cells = c.in_ok-items_of.ensures ∙ c.in_ok-cells.ensures.cells;
+  counts_there = ap (length {A = ℕ}) c.in_ok-counts.ensures ∙ length-replicate (length c.as_slice.result.now) 0
+      ∙ ap (length {A = SeqCode}) (c.as_slice.ensures ∙ ap (λ (p : Program). p.seqs) c.program.ensures.same);
+  words_there = let l = ap (length {A = ℕ}) c.in_ok-words.ensures ∙ length-replicate (c.args.len - 1) 0 in let r = c.requires in omega (arith, l, r);
+  cells = c.in_ok-cells.ensures.cells;
   lens = c.in_ok-cells.ensures.lens;
   rows = c.in_ok-cells.ensures.rows;
   callers_there = c.in_ok-callers.ensures.long ∙ many;
-  callers = λ v l. c.in_ok-callers.ensures.each v (omega (arith, l, many)) ∙ ap (λ (p : Program). caller_of p v) c.program.ensures.same;
-  cell_owners = c.in_ok-cell_owners.ensures ∙ (λ i. owners (c.as_slice.ensures.value i) (vertices i));
+  callers = λ v l. c.in_ok-callers.ensures.each v (omega (arith, l, many)) ∙ ap (λ (p : Program). caller_of p v) c.program-2.ensures.same;
+  cell_owners = c.in_ok-cell_owners.ensures ∙ (λ i. owners (c.as_slice-2.ensures.value i) (vertices i));
 }
   where
     vertices : c.vertices-vertices.result.now ≡ c.args.job.now.graph.vertices
