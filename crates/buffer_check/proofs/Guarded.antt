@@ -11,27 +11,12 @@ use Rattle.executive_program.specs.declared.program.Program.{Program}
 use Rattle.executive_program.specs.Instructions.{Reader, reads, readers, turn}
 use Rattle.executive_program.specs.Places.{places, reader, reader_or, signals_empty, signals_full, takes_empty, takes_full, writer_of, written_at}
 use Rattle.executive_program.specs.WellFormed.{IsOnly, IsPair, ReadsAt, Stands, operator_of}
+use Rattle.executive_program.proofs.Passing.{empty_taken, full_taken, empty_signalled, full_signalled}
 use Rattle.program_walks.specs.Walks.{all_at, every, implies}
 use Rattle.buffer_check.specs.Pairs.{are_pairs, first_place, guards, has_operator, is_full_first, is_read_between, is_written_between, reads_between}
 use Rattle.program_walks.specs.Acts.{is_only, passes}
 use Rattle.program_walks.proofs.ListTests.{every_of, of_every, from_zero, to_zero, implied, implying}
 use Rattle.program_walks.proofs.Readings.{reads_test, same_numbers, test_reads}
-
-pub empty_taken : (q : ℕ) (y : Instr) → takes_empty q y ≡ true → y ≡ Suc0 q
-empty_taken q (Suc0 r) h = ap (λ (n : ℕ). Suc0 n) (eqb-true r q h)
-empty_taken q _ h = absurd (false≢true h)
-
-pub full_taken : (q : ℕ) (y : Instr) → takes_full q y ≡ true → y ≡ Suc1 q
-full_taken q (Suc1 r) h = ap (λ (n : ℕ). Suc1 n) (eqb-true r q h)
-full_taken q _ h = absurd (false≢true h)
-
-pub empty_signalled : (q : ℕ) (y : Instr) → signals_empty q y ≡ true → y ≡ Pre0 q
-empty_signalled q (Pre0 r) h = ap (λ (n : ℕ). Pre0 n) (eqb-true r q h)
-empty_signalled q _ h = absurd (false≢true h)
-
-pub full_signalled : (q : ℕ) (y : Instr) → signals_full q y ≡ true → y ≡ Pre1 q
-full_signalled q (Pre1 r) h = ap (λ (n : ℕ). Pre1 n) (eqb-true r q h)
-full_signalled q _ h = absurd (false≢true h)
 
 passed : (test : Instr → Bool) (x : Instr) → ((y : Instr) → test y ≡ true → y ≡ x) → (o : Option Instr) → passes test o ≡ true → o ≡ Some x
 passed test x same None h = absurd (false≢true h)

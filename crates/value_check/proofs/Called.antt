@@ -16,6 +16,7 @@ use Rattle.executive_program.specs.declared.program.Program.{Program}
 use Rattle.executive_program.specs.Instructions.{len_of, medium, turn}
 use Rattle.executive_program.specs.Places.{caller_of, calls, carried, ins_in, outs_in, places}
 use Rattle.executive_program.specs.WellFormed.{CarryInOrder, CarryOutputs, HasLength, IsCalled, Stands, len_is}
+use Rattle.executive_program.proofs.Passing.{call_is}
 use Rattle.program_walks.specs.Walks.{all_at, every, implies}
 use Rattle.value_check.specs.Calls.{are_called, called_at, carries, carry_guards, carry_inputs, gives, gives_at, has_len, has_output, is_before_twin, is_called, takes}
 use Rattle.value_check.specs.Carries.{same_source}
@@ -26,18 +27,7 @@ use Rattle.program_walks.proofs.Readings.{entry_is, is_entry, same_numbers}
 
 call_there : (v : ℕ) (o : Option Instr) → passes (calls v) o ≡ true → o ≡ Some (Call v (ins_in o) (outs_in o))
 call_there v None h = absurd (false≢true h)
-call_there v (Some (Call u ins outs)) h = ap (λ (n : ℕ). Some (Call n ins outs)) (eqb-true u v h)
-call_there v (Some (Suc0 q)) h = absurd (false≢true h)
-call_there v (Some (Suc1 q)) h = absurd (false≢true h)
-call_there v (Some (Pre0 q)) h = absurd (false≢true h)
-call_there v (Some (Pre1 q)) h = absurd (false≢true h)
-call_there v (Some (Send b q)) h = absurd (false≢true h)
-call_there v (Some (Recv b q)) h = absurd (false≢true h)
-call_there v (Some (Sync q r)) h = absurd (false≢true h)
-
-call_is : (v : ℕ) (y : Instr) → calls v y ≡ true → (ins : List ℕ) × (outs : List ℕ) × (y ≡ Call v ins outs)
-call_is v (Call u ins outs) h = (ins, outs, ap (λ (n : ℕ). Call n ins outs) (eqb-true u v h))
-call_is v _ h = absurd (false≢true h)
+call_there v (Some x) h = ap (λ (y : Instr). Some y) (call_is v x h)
 
 none_is : (o : Option ℕ) → is_none o ≡ true → o ≡ None
 none_is None h = refl
@@ -71,8 +61,7 @@ module _ (p : Program) where
       both_true (subst (λ (o : Option Instr). passes (calls v) o ≡ true) (sym e) (same_numbers v))
       (of_every p (only_test v s a) (λ t b y f.
       implying (calls v y) (nat_eq t s && nat_eq b a) (λ ty.
-      let c = call_is v y ty in
-      let z = only t b c.0 c.1 (f ∙ ap (λ (z : Instr). Some z) c.2) in both_true (eq-eqb t s z.0) (eq-eqb b a z.1))))
+      let z = only t b (ins_in (Some y)) (outs_in (Some y)) (f ∙ ap (λ (z : Instr). Some z) (call_is v y ty)) in both_true (eq-eqb t s z.0) (eq-eqb b a z.1))))
 
   -- the tests of both: the only call, in a computation sequence
   pub call_alone : (v s a : ℕ) → (is_only p (calls v) s a && is_none (medium p s)) ≡ true → (is_only p (calls v) s a ≡ true) × (medium p s ≡ None)

@@ -13,6 +13,7 @@ use Rattle.executive_program.specs.Instructions.{is_communication, len_of, mediu
 use Rattle.executive_program.specs.MicroSteps.{is_on, transfers}
 use Rattle.executive_program.specs.Places.{buffer_in, communication_at, places}
 use Rattle.executive_program.specs.WellFormed.{Communicates, IsTransfer, place_in}
+use Rattle.executive_program.proofs.Passing.{on_is, is_on_it}
 use Rattle.program_walks.specs.Walks.{all_at, all_below, implies}
 use Rattle.value_check.specs.Transfers.{are_transfers, buffer_at, is_before_next, is_later, is_other, is_receive_from, is_received, is_send_to, is_sent, is_transfer, is_wait, place_of, receiver_of, sender_of, stands_at, waits}
 use Rattle.program_walks.proofs.ListTests.{below_of, of_below, from_zero, to_zero, implied, implying, not_true}
@@ -88,13 +89,6 @@ receive_is o (Some (Pre1 q)) h = absurd (false≢true h)
 receive_is o (Some (Call v ins outs)) h = absurd (false≢true h)
 receive_is o (Some (Send b q)) h = absurd (false≢true h)
 receive_is o (Some (Sync q r)) h = absurd (false≢true h)
-
-on_is : (m : ℕ) (o : Option ℕ) → is_on m o ≡ true → o ≡ Some m
-on_is m None h = absurd (false≢true h)
-on_is m (Some n) h = ap (λ (k : ℕ). Some k) (eqb-true n m h)
-
-is_on_it : (m : ℕ) (o : Option ℕ) → o ≡ Some m → is_on m o ≡ true
-is_on_it m o e = subst (λ (o : Option ℕ). is_on m o ≡ true) (sym e) (same_numbers m)
 
 wait_is : (from to : ℕ) (b : Bool) (x : Instr) → is_wait from to b (Some x) ≡ true → (x ≡ Sync from to) × (b ≡ true)
 wait_is from to b (Sync c d) h =
