@@ -12,6 +12,7 @@ use Rattle.executive_program.specs.declared.program.Program.{Program}
 use Rattle.executive_program.specs.Blocks.{blocks, repeated}
 use Rattle.executive_program.specs.Instructions.{depth_of, prologue, readers}
 use Rattle.executive_program.specs.Places.{opening_signals, reader, signals_empty, signals_of}
+use Rattle.executive_program.proofs.Passing.{empty_signalled}
 use Rattle.program_walks.specs.Walks.{all_below}
 use Rattle.program_walks.proofs.ListTests.{below_of, of_below}
 use Rattle.buffer_tables.specs.Openings.{AreOpened, IsPassed, is_at_end, opens_next}
@@ -47,10 +48,6 @@ length_take (suc c) [] l = absurd (omega arith)
 length_take (suc c) (x ∷ xs) l = ap (λ (k : ℕ). suc k) (length_take c xs (omega arith))
 
 -- signals of one pair
-signal_is : (q : ℕ) (x : Instr) → signals_empty q x ≡ true → x ≡ Pre0 q
-signal_is q (Pre0 r) h = ap (λ (n : ℕ). Pre0 n) (eqb-true r q h)
-signal_is q _ h = absurd (false≢true h)
-
 signals_are : (q n : ℕ) (xs : List Instr) → opens_next q n xs ≡ true → take n xs ≡ repeated (Pre0 q) n
 signals_are q n xs h = by n xs (leb-true n (length xs) (and_parts (nat_le n (length xs)) (list_all (signals_empty q) (take n xs)) h).0) (and_parts (nat_le n (length xs)) (list_all (signals_empty q) (take n xs)) h).1
   where
@@ -59,7 +56,7 @@ signals_are q n xs h = by n xs (leb-true n (length xs) (and_parts (nat_le n (len
     by (suc n) [] l e = absurd (omega arith)
     by (suc n) (x ∷ xs) l e =
         let r = and_parts (signals_empty q x) (list_all (signals_empty q) (take n xs)) e in
-        let one = signal_is q x r.0 in
+        let one = empty_signalled q x r.0 in
         let rest = by n xs (omega arith) r.1 in
         λ i. one i ∷ rest i
 

@@ -1,188 +1,27 @@
 -- The test of transfers is true exactly where each transfer has its parts.
-use Rattle.std.proofs.Common.{◌≡◌, ◌≢◌, ℕ, zero, suc, ◌+◌, ◌<◌, Bool, true, false, ◌&&◌, not, cond, nat_eq, List, [], ◌∷◌, take, refl, sym, ap, subst, eq-eqb, arith, ◌∙◌}
-use Rattle.std.specs.Prelude.{slice_get, Option, Some, None}
-use Rattle.std.specs.List.{count_by}
+use Rattle.std.proofs.Common.{◌≡◌, ℕ, ◌<◌, true, ◌&&◌, refl}
 use Rattle.std.specs.Cmp.Derive.{both_true}
-use Rattle.std.proofs.lemmas.Bool.{false≢true, and_parts, eqb-true}
-use Rattle.std.proofs.lemmas.List.Sums.{sum_by-cons}
-use Rattle.executive_program.specs.declared.program.Instr.{Instr}
-use Rattle.executive_program.specs.declared.program.Instr.TheVariants.{Suc0, Suc1, Pre0, Pre1, Call, Send, Recv, Sync}
-use Rattle.executive_program.specs.declared.program.SeqCode.{SeqCode}
+use Rattle.std.proofs.lemmas.Bool.{and_parts}
 use Rattle.executive_program.specs.declared.program.Program.{Program}
-use Rattle.executive_program.specs.Instructions.{is_communication, medium, medium_in, operator, turn, turn_of}
-use Rattle.executive_program.specs.MicroSteps.{is_on, transfers}
-use Rattle.executive_program.specs.Places.{buffer_in, communication_at}
-use Rattle.executive_program.specs.WellFormed.{Communicates}
+use Rattle.executive_program.specs.MicroSteps.{transfers}
 use Rattle.program_walks.specs.Walks.{all_at, all_below}
-use Rattle.value_check.specs.Transfers.{buffer_at, is_other, is_receive_from, is_received, is_send_to, is_sent, is_wait, receiver_of, sender_of, stands_at}
-use Rattle.program_walks.proofs.ListTests.{below_of, of_below, from_zero, to_zero, implied, implying, not_true}
-use Rattle.program_walks.proofs.Readings.{same_numbers}
+use Rattle.value_check.specs.Transfers.{is_received, is_sent, receiver_of, sender_of}
+use Rattle.program_walks.proofs.ListTests.{below_of, of_below}
+use Rattle.value_check.proofs.Transferred.{sends_of, of_sends, receives_of, of_receives, others_of, of_others}
 use Rattle.check_laws.specs.Items.{IsTransferred}
 use Rattle.check_laws.specs.Tests.{waits_between, is_moved, are_moved}
 
-counted : (y : Instr) (zs : List Instr) → count_by is_communication (y ∷ zs) ≡ cond (is_communication y) 1 0 + count_by is_communication zs
-counted y zs = sum_by-cons (λ x. cond (is_communication x) 1 0) y zs
-
--- what stands at the place of communication t is one, and t others stand before it
-found_at : (xs : List Instr) (t : ℕ) (x : Instr) → slice_get xs (communication_at xs t) ≡ Some x → (is_communication x ≡ true) × (count_by is_communication (take (communication_at xs t) xs) ≡ t)
-found_at [] t x h = absurd (cc)
-found_at (y ∷ ys) zero x h = by (is_communication y) refl (λ k e. found_at ys k x e) h
-  where
-    by : (b : Bool) → is_communication y ≡ b → ((k : ℕ) → slice_get ys (communication_at ys k) ≡ Some x → (is_communication x ≡ true) × (count_by is_communication (take (communication_at ys k) ys) ≡ k)) → slice_get (y ∷ ys) (cond b 0 (suc (communication_at ys zero))) ≡ Some x → (is_communication x ≡ true) × (count_by is_communication (take (cond b 0 (suc (communication_at ys zero))) (y ∷ ys)) ≡ zero)
-    by true e more h = let same : y ≡ x = cc in (ap is_communication (sym same) ∙ e, refl)
-    by false e more h =
-        let r = more zero h in
-        (r.0, counted y (take (communication_at ys zero) ys) ∙ ap (λ (b : Bool). cond b 1 0 + count_by is_communication (take (communication_at ys zero) ys)) e ∙ (let z : 0 + count_by is_communication (take (communication_at ys zero) ys) ≡ zero = omega (arith, r.1) in z))
-found_at (y ∷ ys) (suc t) x h = by (is_communication y) refl (λ k e. found_at ys k x e) h
-  where
-    by : (b : Bool) → is_communication y ≡ b → ((k : ℕ) → slice_get ys (communication_at ys k) ≡ Some x → (is_communication x ≡ true) × (count_by is_communication (take (communication_at ys k) ys) ≡ k)) → slice_get ys (communication_at ys (cond b t (suc t))) ≡ Some x → (is_communication x ≡ true) × (count_by is_communication (y ∷ take (communication_at ys (cond b t (suc t))) ys) ≡ suc t)
-    by true e more h =
-        let r = more t h in
-        (r.0, counted y (take (communication_at ys t) ys) ∙ ap (λ (b : Bool). cond b 1 0 + count_by is_communication (take (communication_at ys t) ys)) e ∙ (let z : 1 + count_by is_communication (take (communication_at ys t) ys) ≡ suc t = omega (arith, r.1) in z))
-    by false e more h =
-        let r = more (suc t) h in
-        (r.0, counted y (take (communication_at ys (suc t)) ys) ∙ ap (λ (b : Bool). cond b 1 0 + count_by is_communication (take (communication_at ys (suc t)) ys)) e ∙ (let z : 0 + count_by is_communication (take (communication_at ys (suc t)) ys) ≡ suc t = omega (arith, r.1) in z))
-
-past : (y : Instr) (ys : List Instr) (t : ℕ) → is_communication y ≡ false → communication_at (y ∷ ys) t ≡ suc (communication_at ys t)
-past y ys zero e = ap (λ (b : Bool). cond b 0 (suc (communication_at ys zero))) e
-past y ys (suc t) e = ap (λ (b : Bool). suc (communication_at ys (cond b t (suc t)))) e
-
--- a communication stands at the place of its number
-placed : (xs : List Instr) (a : ℕ) (x : Instr) (t : ℕ) → slice_get xs a ≡ Some x → is_communication x ≡ true → count_by is_communication (take a xs) ≡ t → communication_at xs t ≡ a
-placed [] a x t e c h = absurd (cc)
-placed (y ∷ ys) zero x t e c h =
-    let same : y ≡ x = cc in
-    subst (λ (n : ℕ). communication_at (y ∷ ys) n ≡ zero) h (ap (λ (b : Bool). cond b 0 (suc (communication_at ys zero))) (ap is_communication same ∙ c))
-placed (y ∷ ys) (suc a) x t e c h = by (is_communication y) refl (λ k f. placed ys a x k e c f)
-  where
-    by : (b : Bool) → is_communication y ≡ b → ((k : ℕ) → count_by is_communication (take a ys) ≡ k → communication_at ys k ≡ a) → communication_at (y ∷ ys) t ≡ suc a
-    by true k rest =
-        let more : suc (count_by is_communication (take a ys)) ≡ t =
-        (let one : 1 + count_by is_communication (take a ys) ≡ suc (count_by is_communication (take a ys)) = omega arith in
-        sym one ∙ (sym (ap (λ (b : Bool). cond b 1 0 + count_by is_communication (take a ys)) k) ∙ (sym (counted y (take a ys)) ∙ h))) in
-        subst (λ (n : ℕ). communication_at (y ∷ ys) n ≡ suc a) more
-        (ap (λ (b : Bool). suc (communication_at ys (cond b (count_by is_communication (take a ys)) (suc (count_by is_communication (take a ys)))))) k
-        ∙ ap (λ (n : ℕ). suc n) (rest (count_by is_communication (take a ys)) refl))
-    by false k rest =
-        let none : count_by is_communication (take a ys) ≡ t =
-        (let zero_more : 0 + count_by is_communication (take a ys) ≡ count_by is_communication (take a ys) = omega arith in
-        sym zero_more ∙ (sym (ap (λ (b : Bool). cond b 1 0 + count_by is_communication (take a ys)) k) ∙ (sym (counted y (take a ys)) ∙ h))) in
-        past y ys t k ∙ ap (λ (n : ℕ). suc n) (rest t none)
-
-send_is : (o : ℕ) (x : Option Instr) → is_send_to o x ≡ true → x ≡ Some (Send (buffer_in x) o)
-send_is o None h = absurd (false≢true h)
-send_is o (Some (Send b q)) h = ap (λ (n : ℕ). Some (Send b n)) (eqb-true q o h)
-send_is o (Some (Suc0 q)) h = absurd (false≢true h)
-send_is o (Some (Suc1 q)) h = absurd (false≢true h)
-send_is o (Some (Pre0 q)) h = absurd (false≢true h)
-send_is o (Some (Pre1 q)) h = absurd (false≢true h)
-send_is o (Some (Call v ins outs)) h = absurd (false≢true h)
-send_is o (Some (Recv b q)) h = absurd (false≢true h)
-send_is o (Some (Sync q r)) h = absurd (false≢true h)
-
-receive_is : (o : ℕ) (x : Option Instr) → is_receive_from o x ≡ true → x ≡ Some (Recv (buffer_in x) o)
-receive_is o None h = absurd (false≢true h)
-receive_is o (Some (Recv b q)) h = ap (λ (n : ℕ). Some (Recv b n)) (eqb-true q o h)
-receive_is o (Some (Suc0 q)) h = absurd (false≢true h)
-receive_is o (Some (Suc1 q)) h = absurd (false≢true h)
-receive_is o (Some (Pre0 q)) h = absurd (false≢true h)
-receive_is o (Some (Pre1 q)) h = absurd (false≢true h)
-receive_is o (Some (Call v ins outs)) h = absurd (false≢true h)
-receive_is o (Some (Send b q)) h = absurd (false≢true h)
-receive_is o (Some (Sync q r)) h = absurd (false≢true h)
-
-on_is : (m : ℕ) (o : Option ℕ) → is_on m o ≡ true → o ≡ Some m
-on_is m None h = absurd (false≢true h)
-on_is m (Some n) h = ap (λ (k : ℕ). Some k) (eqb-true n m h)
-
-is_on_it : (m : ℕ) (o : Option ℕ) → o ≡ Some m → is_on m o ≡ true
-is_on_it m o e = subst (λ (o : Option ℕ). is_on m o ≡ true) (sym e) (same_numbers m)
-
-wait_is : (from to : ℕ) (b : Bool) (x : Instr) → is_wait from to b (Some x) ≡ true → (x ≡ Sync from to) × (b ≡ true)
-wait_is from to b (Sync c d) h =
-    let parts = and_parts (nat_eq c from && nat_eq d to) b h in
-    let names = and_parts (nat_eq c from) (nat_eq d to) parts.0 in
-    (ap (λ (n : ℕ). Sync n d) (eqb-true c from names.0) ∙ ap (λ (n : ℕ). Sync from n) (eqb-true d to names.1), parts.1)
-wait_is from to b (Suc0 q) h = absurd (false≢true h)
-wait_is from to b (Suc1 q) h = absurd (false≢true h)
-wait_is from to b (Pre0 q) h = absurd (false≢true h)
-wait_is from to b (Pre1 q) h = absurd (false≢true h)
-wait_is from to b (Call v ins outs) h = absurd (false≢true h)
-wait_is from to b (Send c q) h = absurd (false≢true h)
-wait_is from to b (Recv c q) h = absurd (false≢true h)
-
-is_waiting : (from to : ℕ) (b : Bool) (x : Instr) → x ≡ Sync from to → b ≡ true → is_wait from to b (Some x) ≡ true
-is_waiting from to b x e h = subst (λ (y : Instr). is_wait from to b (Some y) ≡ true) (sym e) (both_true (both_true (same_numbers from) (same_numbers to)) h)
-
 module _ (p : Program) where
-  -- communication t of sequence s, once it is found there
-  communicates : (m t s : ℕ) (x : Instr) → is_on m (medium p s) ≡ true → slice_get (turn p s) (stands_at p s t) ≡ Some x → Communicates p m t s (stands_at p s t) x
-  communicates m t s x on e =
-      let f = found_at (turn p s) t x e in
-      record {
-        on = on_is m (medium p s) on;
-        stands = e;
-        is_one = f.0;
-        number = f.1;
-      }
-
-  others_of : (m t sender receiver : ℕ) → all_at (waits_between p m t sender receiver) 0 p.seqs ≡ true → (s a : ℕ) (x : Instr) → Communicates p m t s a x → s ≢ sender → s ≢ receiver
-      → x ≡ Sync (operator p sender) (operator p receiver)
-  others_of m t sender receiver h s a x c other_sender other_receiver = by (slice_get p.seqs s) refl c.on c.stands c.number
-    where
-      by : (o : Option SeqCode) → slice_get p.seqs s ≡ o → medium_in o ≡ Some m → slice_get (turn_of o) a ≡ Some x → count_by is_communication (take a (turn_of o)) ≡ t
-          → x ≡ Sync (operator p sender) (operator p receiver)
-      by None i on e n = absurd (cc)
-      by (Some q) i on e n =
-          let here : communication_at q.turn t ≡ a = placed q.turn a x t e c.is_one n in
-          let is_it : is_other m sender receiver s q.seq.medium ≡ true =
-          both_true (both_true (is_on_it m q.seq.medium on) (not_true (nat_eq s sender) (λ k. other_sender (eqb-true s sender k)))) (not_true (nat_eq s receiver) (λ k. other_receiver (eqb-true s receiver k))) in
-          let there = implied (is_other m sender receiver s q.seq.medium) (is_wait (operator p sender) (operator p receiver) true (slice_get q.turn (communication_at q.turn t))) (from_zero (waits_between p m t sender receiver) p.seqs h s q i) is_it in
-          let at_a : is_wait (operator p sender) (operator p receiver) true (slice_get q.turn a) ≡ true = subst (λ (k : ℕ). is_wait (operator p sender) (operator p receiver) true (slice_get q.turn k) ≡ true) here there in
-          let w = wait_is (operator p sender) (operator p receiver) true x
-          (subst (λ (o : Option Instr). is_wait (operator p sender) (operator p receiver) true o ≡ true) e at_a) in
-          w.0
-
-  of_others : (m t sender receiver : ℕ) → ((s a : ℕ) (x : Instr) → Communicates p m t s a x → s ≢ sender → s ≢ receiver
-      → x ≡ Sync (operator p sender) (operator p receiver))
-      → all_at (waits_between p m t sender receiver) 0 p.seqs ≡ true
-  of_others m t sender receiver h =
-      to_zero (waits_between p m t sender receiver) p.seqs (λ s q i.
-      implying (is_other m sender receiver s q.seq.medium) (is_wait (operator p sender) (operator p receiver) true (slice_get q.turn (communication_at q.turn t))) (λ other.
-      let last = and_parts (is_on m q.seq.medium && not (nat_eq s sender)) (not (nat_eq s receiver)) other in
-      let first = and_parts (is_on m q.seq.medium) (not (nat_eq s sender)) last.0 in
-      by s q i first.0 (differ s sender first.1) (differ s receiver last.1) (slice_get q.turn (communication_at q.turn t)) refl))
-    where
-      differ : (a b : ℕ) → not (nat_eq a b) ≡ true → a ≢ b
-      differ a b h e = let k : not true ≡ true = subst (λ (t : Bool). not t ≡ true) (eq-eqb a b e) h in false≢true k
-
-      by : (s : ℕ) (q : SeqCode) → slice_get p.seqs s ≡ Some q → is_on m q.seq.medium ≡ true → s ≢ sender → s ≢ receiver → (o : Option Instr) → slice_get q.turn (communication_at q.turn t) ≡ o
-          → is_wait (operator p sender) (operator p receiver) true o ≡ true
-      by s q i on a b None e = refl
-      by s q i on a b (Some x) e =
-          let f = found_at q.turn t x e in
-          let c : Communicates p m t s (communication_at q.turn t) x =
-          record {
-            on = ap medium_in i ∙ on_is m q.seq.medium on;
-            stands = subst (λ (o : Option SeqCode). slice_get (turn_of o) (communication_at q.turn t) ≡ Some x) (sym i) e;
-            is_one = f.0;
-            number = subst (λ (o : Option SeqCode). count_by is_communication (take (communication_at q.turn t) (turn_of o)) ≡ t) (sym i) f.1;
-          } in
-          let r = h s (communication_at q.turn t) x c a b in
-          is_waiting (operator p sender) (operator p receiver) true x r refl
-
   moved_of : (m t : ℕ) → is_moved p m t ≡ true → IsTransferred p m t
   moved_of m t h =
       let s = sender_of p m t in
       let r = receiver_of p m t in
       let others = and_parts _ (all_at (waits_between p m t s r) 0 p.seqs) h in
       let ends = and_parts (is_sent p m t s r) (is_received p m t s r) others.0 in
-      let sent = and_parts (is_on m (medium p s)) (is_send_to (operator p r) (slice_get (turn p s) (stands_at p s t))) ends.0 in
-      let received = and_parts (is_on m (medium p r)) (is_receive_from (operator p s) (slice_get (turn p r) (stands_at p r t))) ends.1 in
       record {
-        sends = communicates m t s (Send (buffer_at p s t) (operator p r)) sent.0 (send_is (operator p r) (slice_get (turn p s) (stands_at p s t)) sent.1);
-        receives = communicates m t r (Recv (buffer_at p r t) (operator p s)) received.0 (receive_is (operator p s) (slice_get (turn p r) (stands_at p r t)) received.1);
-        others = others_of m t s r others.1;
+        sends = sends_of p m t s r ends.0;
+        receives = receives_of p m t s r ends.1;
+        others = λ u a x c d e. (others_of p (λ v b. true) m t s r others.1 u a x c d e).0;
       }
 
   of_moved : (m t : ℕ) → IsTransferred p m t → is_moved p m t ≡ true
@@ -190,9 +29,8 @@ module _ (p : Program) where
       let s = sender_of p m t in
       let r = receiver_of p m t in
       both_true
-      (both_true (both_true (is_on_it m (medium p s) i.sends.on) (subst (λ (o : Option Instr). is_send_to (operator p r) o ≡ true) (sym i.sends.stands) (same_numbers (operator p r))))
-      (both_true (is_on_it m (medium p r) i.receives.on) (subst (λ (o : Option Instr). is_receive_from (operator p s) o ≡ true) (sym i.receives.stands) (same_numbers (operator p s)))))
-      (of_others m t s r i.others)
+      (both_true (of_sends p m t s r i.sends) (of_receives p m t s r i.receives))
+      (of_others p (λ v b. true) m t s r (λ u a x c d e. (i.others u a x c d e, refl)))
 
   pub all_moved : (media : ℕ) → are_moved p media ≡ true → (m t : ℕ) → m < media → t < transfers p m → IsTransferred p m t
   all_moved media h m t l k = moved_of m t (below_of (λ t. is_moved p m t) (transfers p m) (below_of (λ m. all_below (λ t. is_moved p m t) (transfers p m)) media h m l) t k)

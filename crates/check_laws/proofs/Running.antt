@@ -9,7 +9,7 @@ use Rattle.executive_program.specs.declared.program.Instr.{Instr}
 use Rattle.executive_program.specs.declared.program.Program.{Program}
 use Rattle.executive_program.specs.Instructions.{turn}
 use Rattle.executive_program.specs.WellFormed.{Stands, place_in, FollowsLoops}
-use Rattle.check_laws.proofs.Sums.{sum_le, sum_more}
+use Rattle.interleavings.proofs.Sums.{le_below, more_below, none_below}
 use Rattle.sequence_build_laws.proofs.Lists.{get_some, from_append, tally, counts_tally, tally-append, tally_grows, take_next}
 use Rattle.sequence_build_laws.proofs.Loops.{code_there}
 use Rattle.check_laws.specs.Run.{Place, made, awaited, Keeps, is_past, may_go, is_ready, next, step_with, run_from, run, left_from, stuck, IsRun}
@@ -80,17 +80,13 @@ module _ (p : Program) where
 
   -- all entries counted
   counted : (order : List ℕ) → IsRun p order → (i : ℕ) → i ≤ length order → sum_below (λ t. tally (mine t) (take i order)) (length p.seqs) ≡ i
-  counted order r zero l = none (length p.seqs)
-    where
-      none : (n : ℕ) → sum_below (λ t. tally (mine t) (take 0 order)) n ≡ 0
-      none zero = refl
-      none (suc n) = let z = none n in omega arith
+  counted order r zero l = none_below (λ t. tally (mine t) (take 0 order)) (length p.seqs) (λ i k. refl)
   counted order r (suc i) l =
       let s = get_some order i l in
       let before = counted order r i (omega arith) in
       let step = take_next order i s.0 s.1 in
       let own : tally (mine s.0) (take (suc i) order) ≡ tally (mine s.0) (take i order) + 1 = ap (tally (mine s.0)) step ∙ own_more (take i order) s.0 in
-      let rest = sum_more (λ t. tally (mine t) (take i order)) (λ t. tally (mine t) (take (suc i) order)) (length p.seqs) s.0 (r.names i s.0 s.1) own (λ t h. ap (tally (mine t)) step ∙ other_more (take i order) s.0 t h) in
+      let rest = more_below (λ t. tally (mine t) (take i order)) (λ t. tally (mine t) (take (suc i) order)) (length p.seqs) s.0 (r.names i s.0 s.1) own (λ t h. ap (tally (mine t)) step ∙ other_more (take i order) s.0 t h) in
       omega arith
 
   total : ℕ
@@ -99,7 +95,7 @@ module _ (p : Program) where
   pub short : (order : List ℕ) → IsRun p order → length order ≤ sum_below (λ s. length (turn p s)) (length p.seqs)
   short order r =
       let all = counted order r (length order) (omega arith) in
-      let l = sum_le (λ t. tally (mine t) (take (length order) order)) (λ s. length (turn p s)) (length p.seqs) (λ t. subst (λ o. tally (mine t) o ≤ length (turn p t)) (sym (take_all (length order) order (omega arith))) (no_more order r t)) in
+      let l = le_below (λ t. tally (mine t) (take (length order) order)) (λ s. length (turn p s)) (length p.seqs) (λ t _. subst (λ o. tally (mine t) o ≤ length (turn p t)) (sym (take_all (length order) order (omega arith))) (no_more order r t)) in
       omega arith
 
   stops_from : (n : ℕ) (order : List ℕ) → IsRun p order → sum_below (λ s. length (turn p s)) (length p.seqs) ≤ length order + n → next p (run_from p n order) ≡ None

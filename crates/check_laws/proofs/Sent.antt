@@ -10,6 +10,7 @@ use Rattle.executive_program.specs.declared.program.Program.{Program}
 use Rattle.executive_program.specs.Instructions.{is_communication, medium_in, turn_of, turn, operator}
 use Rattle.executive_program.specs.MicroSteps.{sent_in, sent_by, sent, is_on, first_of}
 use Rattle.executive_program.specs.Places.{transfer}
+use Rattle.executive_program.proofs.Passing.{on_is}
 use Rattle.sequence_build_laws.proofs.Lists.{tally, counts_tally}
 use Rattle.check_laws.specs.Items.{IsTransferred}
 use Rattle.check_laws.proofs.Orders.{Part, sends, receives, waits, part}
@@ -54,10 +55,6 @@ sent_at (Suc1 q ∷ xs) (suc a) b o t e h = sent_at xs a b o t e h
 sent_at (Pre0 q ∷ xs) (suc a) b o t e h = sent_at xs a b o t e h
 sent_at (Pre1 q ∷ xs) (suc a) b o t e h = sent_at xs a b o t e h
 sent_at (Call v ins outs ∷ xs) (suc a) b o t e h = sent_at xs a b o t e h
-
-on_is : (m : ℕ) (o : Option ℕ) → is_on m o ≡ true → o ≡ Some m
-on_is m None e = absurd cc
-on_is m (Some n) e = ap (λ (k : ℕ). Some k) (eqb-true n m e)
 
 chosen : (b : Bool) (x : Option ℕ) (c : ℕ) → cond b x None ≡ Some c → (b ≡ true) × (x ≡ Some c)
 chosen true x c e = (refl, e)

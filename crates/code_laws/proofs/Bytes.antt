@@ -1,11 +1,11 @@
 -- Lines that are made of plain bytes, each with its line feed, split into these lines and words again.
-use Rattle.std.proofs.Common.{subst, sym, ◌≡◌, ℕ, Bool, not, ◌&&◌, ◌||◌, ◌==◌, true, false, cond, nat_le, nat_lt, List, [], ◌∷◌, ◌++◌, length, refl, arith, ap, ◌∙◌, None, Some}
-use Rattle.std.specs.List.{list_all, position_or_len}
+use Rattle.std.proofs.Common.{subst, sym, ◌≡◌, ℕ, Bool, not, ◌&&◌, ◌||◌, ◌==◌, true, false, nat_le, List, [], ◌∷◌, ◌++◌, refl, arith, ap, ◌∙◌, None}
+use Rattle.std.specs.List.{list_all}
 use Rattle.std.proofs.lemmas.Bool.{and_parts, and_from, leb-true, le-leb, eqb-true, ne_eqb}
-use Rattle.std.proofs.lemmas.Grind.{common_steps}
-use Rattle.std.proofs.lemmas.List.{take_all}
 use Rattle.std.proofs.lemmas.List.Folds.{list_all-append}
-use Rattle.text_lines.specs.Text.{is_feed, is_blank, is_hash, is_foreign, lines_of, words_of, with_byte, code_of, foreign_place}
+use Rattle.text_lines.specs.Text.{is_feed, is_blank, is_hash, is_foreign, lines_of, words_of, code_of, foreign_place}
+use Rattle.archi_reader.proofs.Splits as splits
+use Rattle.archi_reader.proofs.Splits.{Plain}
 
 -- a byte of a word: it may stand in a line, is no blank and begins no comment
 abbrev pub is_plain : ℕ → Bool
@@ -13,12 +13,6 @@ is_plain b = nat_le 36 b && nat_le b 126
 
 abbrev pub are_plain : List ℕ → Bool
 are_plain bs = list_all is_plain bs
-
-record Plain (b : ℕ) : Type 0 where
-  pub no_blank : is_blank b ≡ false
-  pub no_foreign : is_foreign b ≡ false
-  pub no_hash : is_hash b ≡ false
-  pub no_feed : is_feed b ≡ false
 
 none_of : (p q r : Bool) → p ≡ false → q ≡ false → r ≡ false → (p || q || r) ≡ false
 none_of p q r e f g = rw (e, f, g) refl
@@ -49,51 +43,22 @@ passes test each (b ∷ w) h =
 abbrev pub is_line_byte : ℕ → Bool
 is_line_byte b = b == 32 || is_plain b
 
-none_at : (m n : ℕ) → m ≡ n → cond (nat_lt m n) (Some m) None ≡ None
-none_at m n e = grind (arith, common_steps)
+all_not : (p q r s : Bool) → p ≡ false → q ≡ false → r ≡ false → s ≡ false → (not p && not q && not r && not s) ≡ true
+all_not p q r s e f g h = rw (e, f, g, h) refl
 
-negated : (p : Bool) → not p ≡ true → p ≡ false
-negated true h = cc
-negated false h = refl
+-- these are bytes of a word as archi_reader's lemmas have them
+plain_there : (b : ℕ) → is_plain b ≡ true → splits.is_plain b ≡ true
+plain_there b h = let p = plain b h in all_not (is_blank b) (is_foreign b) (is_hash b) (is_feed b) p.no_blank p.no_foreign p.no_hash p.no_feed
 
-line_back : (l rest : List ℕ) → list_all (λ b. not (is_feed b)) l ≡ true → lines_of (l ++ 10 ∷ rest) ≡ l ∷ lines_of rest
-line_back [] rest h = refl
-line_back (b ∷ l) rest h =
-    let p = and_parts (not (is_feed b)) (list_all (λ c. not (is_feed c)) l) h in
-    rw (negated (is_feed b) p.0) (ap (with_byte b) (line_back l rest p.1))
-
-no_stop : (test : ℕ → Bool) (l : List ℕ) → list_all (λ b. not (test b)) l ≡ true → position_or_len test l ≡ length l
-no_stop test [] h = refl
-no_stop test (b ∷ l) h =
-    let p = and_parts (not (test b)) (list_all (λ c. not (test c)) l) h in
-    rw p.0 (omega (arith, no_stop test l p.1))
-
-code_back : (l : List ℕ) → list_all (λ b. not (is_hash b)) l ≡ true → code_of l ≡ l
-code_back l h = take_all (position_or_len is_hash l) l (omega (arith, no_stop is_hash l h))
-
-foreign_back : (l : List ℕ) → list_all (λ b. not (is_hash b)) l ≡ true → list_all (λ b. not (is_foreign b)) l ≡ true → foreign_place l ≡ None
-foreign_back l h f = rw (code_back l h) (none_at (position_or_len is_foreign l) (length l) (no_stop is_foreign l f))
+all_there : (w : List ℕ) → are_plain w ≡ true → list_all splits.is_plain w ≡ true
+all_there w h = passes splits.is_plain plain_there w h
 
 -- a word at the end of a line, and a word before a blank
 pub last_back : (b : ℕ) (w : List ℕ) → are_plain (b ∷ w) ≡ true → words_of (b ∷ w) ≡ (b ∷ w) ∷ []
-last_back b [] h =
-    let p = plain b (and_parts (is_plain b) true h).0 in
-    rw p.no_blank refl
-last_back b (c ∷ w) h =
-    let p = and_parts (is_plain b) (are_plain (c ∷ w)) h in
-    let q = and_parts (is_plain c) (are_plain w) p.1 in
-    let own = last_back c w p.1 in
-    rw ((plain b p.0).no_blank) (rw ((plain c q.0).no_blank) (ap (with_byte b) (rw ((plain c q.0).no_blank) at own)))
+last_back b w h = splits.last_back b w (all_there (b ∷ w) h)
 
 pub word_back : (b : ℕ) (w rest : List ℕ) → are_plain (b ∷ w) ≡ true → words_of ((b ∷ w) ++ 32 ∷ rest) ≡ (b ∷ w) ∷ words_of rest
-word_back b [] rest h =
-    let p = plain b (and_parts (is_plain b) true h).0 in
-    rw p.no_blank refl
-word_back b (c ∷ w) rest h =
-    let p = and_parts (is_plain b) (are_plain (c ∷ w)) h in
-    let q = and_parts (is_plain c) (are_plain w) p.1 in
-    let own = word_back c w rest p.1 in
-    rw ((plain b p.0).no_blank) (rw ((plain c q.0).no_blank) (ap (with_byte b) (rw ((plain c q.0).no_blank) at own)))
+word_back b w rest h = splits.word_back b w rest (all_there (b ∷ w) h)
 
 record LineByte (b : ℕ) : Type 0 where
   pub no_foreign : is_foreign b ≡ false
@@ -123,9 +88,9 @@ pub line : (l : List ℕ) → list_all is_line_byte l ≡ true → IsLine l
 line l h =
     let hash = passes_line (λ b. not (is_hash b)) (λ b p. ap not ((line_byte b p).no_hash)) l h in
     record {
-      first = λ rest. line_back l rest (passes_line (λ b. not (is_feed b)) (λ b p. ap not ((line_byte b p).no_feed)) l h);
-      code = code_back l hash;
-      own = foreign_back l hash (passes_line (λ b. not (is_foreign b)) (λ b p. ap not ((line_byte b p).no_foreign)) l h);
+      first = λ rest. splits.line_back l rest (passes_line (λ b. not (is_feed b)) (λ b p. ap not ((line_byte b p).no_feed)) l h);
+      code = splits.code_back l hash;
+      own = splits.foreign_back l hash (passes_line (λ b. not (is_foreign b)) (λ b p. ap not ((line_byte b p).no_foreign)) l h);
     }
 
 -- plain bytes are bytes of a line

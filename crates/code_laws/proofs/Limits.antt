@@ -17,7 +17,7 @@ use Rattle.executive_program.specs.declared.program.Program.{Program}
 use Rattle.executive_program.specs.Instructions.{len_of, len_in, depth_of, depth_in}
 use Rattle.executive_program.specs.MicroSteps.{words, wire_len, longest_sent, longest_on, is_on}
 use Rattle.executive_program.specs.Steps.{all_turns}
-use Rattle.executive_program.proofs.Sums.{same_below}
+use Rattle.interleavings.proofs.Sums.{same_below}
 use Rattle.executive_program.proofs.MicroCounts.{by_place}
 use Rattle.sequence_build.specs.Limit.{above, program_limit}
 use Rattle.code_text.specs.Text as text

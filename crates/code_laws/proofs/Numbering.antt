@@ -10,7 +10,8 @@ use Rattle.std.proofs.lemmas.List.Folds.{list_any-append}
 use Rattle.interleavings.specs.Owners.{sum_below}
 use Rattle.archi_graph.specs.Archi.{ascends_from}
 use Rattle.executive_program.specs.Blocks.{blocks}
-use Rattle.executive_program.proofs.Sums.{same_below, none_below, picked, summed}
+use Rattle.interleavings.proofs.Sums.{same_below, none_below}
+use Rattle.executive_program.proofs.Sums.{picked, summed}
 use Rattle.macro_code.specs.Text.{pairs_on}
 use Rattle.code_text.specs.declared.numbered.Numbered.{Numbered}
 use Rattle.code_text.specs.Text.{is_among, place_from, place_of, first_wrong, misnumbered, at_place}

@@ -17,7 +17,9 @@ use Rattle.executive_program.specs.Instructions.{turn, turn_of, prologue, prolog
 use Rattle.executive_program.specs.Places.{takes_empty, takes_full, reader, reader_or, pair, places, opening_signals, signals_of}
 use Rattle.executive_program.specs.Sizes.{looks_at, looks_of, looks_in, is_last, opened_after, prologue_looks, turn_looks, deep_pairs}
 use Rattle.executive_program.specs.WellFormed.{IsOrder, IsOnly, NamesIn, Stands, writer_of}
-use Rattle.executive_program.proofs.Sums.{same_below, none_below, swapped, picked, summed, none_passes, one_passes}
+use Rattle.interleavings.proofs.Sums.{same_below, none_below, both_below}
+use Rattle.executive_program.proofs.Passing.{empty_taken, full_taken}
+use Rattle.executive_program.proofs.Sums.{swapped, picked, summed, none_passes, one_passes}
 use Rattle.executive_program.proofs.MicroCounts.{by_place}
 use Rattle.executive_program.proofs.Formed.{formed_has_places, pairs_are_readers}
 
@@ -120,26 +122,6 @@ no_looks d n (Send b q ∷ xs) h = absurd h
 no_looks d n (Recv b q ∷ xs) h = absurd h
 no_looks d n (Sync q r ∷ xs) h = absurd h
 
-empty_is : (q : ℕ) (x : Instr) → takes_empty q x ≡ true → x ≡ Suc0 q
-empty_is q (Suc0 r) e = ap (λ (i : ℕ). Suc0 i) (eqb-true r q e)
-empty_is q (Suc1 r) e = absurd (cc)
-empty_is q (Pre0 r) e = absurd (cc)
-empty_is q (Pre1 r) e = absurd (cc)
-empty_is q (Call v ins outs) e = absurd (cc)
-empty_is q (Send b o) e = absurd (cc)
-empty_is q (Recv b o) e = absurd (cc)
-empty_is q (Sync o r) e = absurd (cc)
-
-full_is : (q : ℕ) (x : Instr) → takes_full q x ≡ true → x ≡ Suc1 q
-full_is q (Suc1 r) e = ap (λ (i : ℕ). Suc1 i) (eqb-true r q e)
-full_is q (Suc0 r) e = absurd (cc)
-full_is q (Pre0 r) e = absurd (cc)
-full_is q (Pre1 r) e = absurd (cc)
-full_is q (Call v ins outs) e = absurd (cc)
-full_is q (Send b o) e = absurd (cc)
-full_is q (Recv b o) e = absurd (cc)
-full_is q (Sync o r) e = absurd (cc)
-
 module _ (p : Program) (g : Graph) (seqs : List Seq) (media : ℕ) (order : List ℕ) (formed : IsOrder p g seqs media order) where
   abbrev P : ℕ
   P = length p.pairs
@@ -206,7 +188,7 @@ module _ (p : Program) (g : Graph) (seqs : List Seq) (media : ℕ) (order : List
   looks_are =
       sym (by_place (λ (o : Option SeqCode). looks_in (pair_depth p) (turn_of o)) (λ (q : SeqCode). looks_in (pair_depth p) q.turn) (λ q. refl) p.seqs)
       ∙ same_below (λ s. looks_in (pair_depth p) (turn p s)) (λ s. sum_by E (turn p s) + sum_by F (turn p s)) S (λ s l. list_by_pair (turn p s) (λ a x h. formed.named s a x h))
-      ∙ split S
+      ∙ both_below (λ s. sum_by E (turn p s)) (λ s. sum_by F (turn p s)) S
       ∙ (λ i. empties i + fulls i)
     where
       E : Instr → ℕ
@@ -215,15 +197,11 @@ module _ (p : Program) (g : Graph) (seqs : List Seq) (media : ℕ) (order : List
       F : Instr → ℕ
       F x = sum_below (λ q. cond (takes_full q x) (D q) 0) P
 
-      split : (n : ℕ) → sum_below (λ s. sum_by E (turn p s) + sum_by F (turn p s)) n ≡ sum_below (λ s. sum_by E (turn p s)) n + sum_below (λ s. sum_by F (turn p s)) n
-      split zero = refl
-      split (suc n) = let e = split n in omega arith
-
       empties : sum_below (λ s. sum_by E (turn p s)) S ≡ sum_below D P
-      empties = all_once takes_empty (λ q. Suc0 q) empty_is (λ q. eq-eqb q q refl) (λ q. writer_of p order (places p) q) (λ q. (pair p q).take_empty) (λ q l. (formed.pairs q l).take_empty)
+      empties = all_once takes_empty (λ q. Suc0 q) empty_taken (λ q. eq-eqb q q refl) (λ q. writer_of p order (places p) q) (λ q. (pair p q).take_empty) (λ q l. (formed.pairs q l).take_empty)
 
       fulls : sum_below (λ s. sum_by F (turn p s)) S ≡ sum_below D P
-      fulls = all_once takes_full (λ q. Suc1 q) full_is (λ q. eq-eqb q q refl) (λ q. (pair p q).reader) (λ q. (pair p q).take_full) (λ q l. (formed.pairs q l).take_full)
+      fulls = all_once takes_full (λ q. Suc1 q) full_taken (λ q. eq-eqb q q refl) (λ q. (pair p q).reader) (λ q. (pair p q).take_full) (λ q l. (formed.pairs q l).take_full)
 
   readers_many : length (readers p) ≡ P
   readers_many = sym (pairs_are_readers p g seqs media order formed)

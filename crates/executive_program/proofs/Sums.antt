@@ -5,18 +5,7 @@ use Rattle.std.specs.List.{sum_by}
 use Rattle.std.proofs.lemmas.Bool.{cases_eq, cases_Bool, eq-eqb, ne_eqb}
 use Rattle.std.proofs.lemmas.List.Sums.{sum_by-cons}
 use Rattle.interleavings.specs.Owners.{sum_below}
-
-pub same_below : (f g : ℕ → ℕ) (n : ℕ) → ((i : ℕ) → i < n → f i ≡ g i) → sum_below f n ≡ sum_below g n
-same_below f g zero h = refl
-same_below f g (suc n) h = let e = same_below f g n (λ i l. h i (omega arith)) in let d = h n (omega arith) in omega arith
-
-pub none_below : (f : ℕ → ℕ) (n : ℕ) → ((i : ℕ) → i < n → f i ≡ 0) → sum_below f n ≡ 0
-none_below f zero h = refl
-none_below f (suc n) h = let e = none_below f n (λ i l. h i (omega arith)) in let d = h n (omega arith) in omega arith
-
-both_below : (f g : ℕ → ℕ) (n : ℕ) → sum_below (λ i. f i + g i) n ≡ sum_below f n + sum_below g n
-both_below f g zero = refl
-both_below f g (suc n) = let e = both_below f g n in omega arith
+use Rattle.interleavings.proofs.Sums.{same_below, both_below, none_below}
 
 -- a sum of sums in the other order
 pub swapped : (f : ℕ → ℕ → ℕ) (m n : ℕ) → sum_below (λ i. sum_below (f i) n) m ≡ sum_below (λ k. sum_below (λ i. f i k) m) n

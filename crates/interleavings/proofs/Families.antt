@@ -10,22 +10,7 @@ use Rattle.consistent_cuts.specs.Sites.{step_at, hit, passes}
 use Rattle.interleavings.specs.System.{System, Micro, total, total_to}
 use Rattle.interleavings.specs.Owners.{Owner, nth_of, sum_below, nth_in, IsFamily}
 use Rattle.interleavings.proofs.Totals.{total_nth}
-
-sum-add : (f g : ℕ → ℕ) (n : ℕ) → sum_below (λ i. f i + g i) n ≡ sum_below f n + sum_below g n
-sum-add f g zero = refl
-sum-add f g (suc n) = let e = sum-add f g n in omega arith
-
-sum_zero : (n : ℕ) → sum_below (λ _. 0) n ≡ 0
-sum_zero zero = refl
-sum_zero (suc n) = let e = sum_zero n in omega arith
-
-sum_le : (f g : ℕ → ℕ) (n : ℕ) → ((i : ℕ) → i < n → f i ≤ g i) → sum_below f n ≤ sum_below g n
-sum_le f g zero h = omega arith
-sum_le f g (suc n) h = let e = sum_le f g n (λ i l. h i (omega arith)) in let d = h n (omega arith) in omega arith
-
-sum_same : (f g : ℕ → ℕ) (n : ℕ) → ((i : ℕ) → f i ≡ g i) → sum_below f n ≡ sum_below g n
-sum_same f g zero h = refl
-sum_same f g (suc n) h = let e = sum_same f g n h in let d = h n in omega arith
+use Rattle.interleavings.proofs.Sums.{both_below, le_below, none_below}
 
 -- the numbers below a, by their remainder: stairs size a i of them leave i
 abbrev one_if : ℕ → ℕ → ℕ
@@ -48,8 +33,8 @@ one_if_all x (suc n) h = by (cases_eq x n) (λ l. one_if_all x n l)
     by (inr e) r = let a = r (omega arith) in let d : one_if x n ≡ 0 = rw (ne_eqb x n e) refl in omega arith
 
 stairs_sum : (size a : ℕ) → 0 < size → sum_below (λ i. stairs size a i) size ≡ a
-stairs_sum size zero h = sum_zero size
-stairs_sum size (suc a) h = let e = sum-add (λ i. stairs size a i) (λ i. one_if (a % size) i) size in
+stairs_sum size zero h = none_below (λ _. 0) size (λ i l. refl)
+stairs_sum size (suc a) h = let e = both_below (λ i. stairs size a i) (λ i. one_if (a % size) i) size in
     let d = stairs_sum size a h in let f = one_if_all (a % size) size (mod_below a size h) in omega arith
 
 -- j * size + i is below a exactly where j is below the stairs
@@ -89,14 +74,14 @@ stairs_law size (suc a) i j h = by (cases_eq (a % size) i) (λ k. stairs_law siz
 
 module _ {P : Type 0} (w : System P) (size : ℕ) (all : Micro → Bool) (one : ℕ → Micro → Bool) (owner : ℕ → Owner) (f : IsFamily w size all one owner) where
   passes_sum : (s n : ℕ) → passes all (w.codes s) n ≡ sum_below (λ i. passes (one i) (w.codes s) n) size
-  passes_sum s zero = sym (sum_zero size)
+  passes_sum s zero = sym (none_below (λ _. 0) size (λ i l. refl))
   passes_sum s (suc n) = let e = passes_sum s n in let d = f.covers s n in
-      let g = sum-add (λ i. passes (one i) (w.codes s) n) (λ i. hit (one i) (step_at (w.codes s) n)) size in omega arith
+      let g = both_below (λ i. passes (one i) (w.codes s) n) (λ i. hit (one i) (step_at (w.codes s) n)) size in omega arith
 
   total_sum_to : (c : ℕ → ℕ) (n : ℕ) → total_to w all c n ≡ sum_below (λ i. total_to w (one i) c n) size
-  total_sum_to c zero = sym (sum_zero size)
+  total_sum_to c zero = sym (none_below (λ _. 0) size (λ i l. refl))
   total_sum_to c (suc n) = let e = total_sum_to c n in let d = passes_sum n (c n) in
-      let g = sum-add (λ i. total_to w (one i) c n) (λ i. passes (one i) (w.codes n) (c n)) size in omega arith
+      let g = both_below (λ i. total_to w (one i) c n) (λ i. passes (one i) (w.codes n) (c n)) size in omega arith
 
   total_sum : (c : ℕ → ℕ) → total w all c ≡ sum_below (λ i. total w (one i) c) size
   total_sum c = total_sum_to c w.sequences
@@ -107,7 +92,7 @@ module _ {P : Type 0} (w : System P) (size : ℕ) (all : Micro → Bool) (one : 
   -- where the first a events were made, the total is at least a
   pub total_from : (c : ℕ → ℕ) (a : ℕ) → ((b : ℕ) → b < a → IsMade c (nth_in w size owner b)) → a ≤ total w all c
   total_from c a h = let t = total_sum c in let s = stairs_sum size a f.some in
-      let u = sum_le (λ i. stairs size a i) (λ i. total w (one i) c) size (λ i l. each i l) in omega arith
+      let u = le_below (λ i. stairs size a i) (λ i. total w (one i) c) size (λ i l. each i l) in omega arith
     where
       each : (i : ℕ) → i < size → stairs size a i ≤ total w (one i) c
       each i l = ⊎_elim
@@ -119,7 +104,7 @@ module _ {P : Type 0} (w : System P) (size : ℕ) (all : Micro → Bool) (one : 
   -- where no event from the a-th on was made, it is at most a
   pub total_upto : (c : ℕ → ℕ) (a : ℕ) → ((b : ℕ) → a ≤ b → IsMade c (nth_in w size owner b) → ⊥) → total w all c ≤ a
   total_upto c a h = let t = total_sum c in let s = stairs_sum size a f.some in
-      let u = sum_le (λ i. total w (one i) c) (λ i. stairs size a i) size (λ i l. each i l) in omega arith
+      let u = le_below (λ i. total w (one i) c) (λ i. stairs size a i) size (λ i l. each i l) in omega arith
     where
       each : (i : ℕ) → i < size → total w (one i) c ≤ stairs size a i
       each i l = ⊎_elim

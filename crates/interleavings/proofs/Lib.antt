@@ -1,4 +1,5 @@
 pub mod Totals
+pub mod Sums
 pub mod Told
 pub mod Families
 pub mod Media

@@ -4,27 +4,24 @@ use Rattle.std.specs.Prelude.{replicate}
 use Rattle.std.proofs.lemmas.Bool.{cases_eq, cases_lt}
 use Rattle.std.proofs.lemmas.List.{length-set, length-replicate, get_or-set_same, get_or-set_other, get_or-replicate, get_or_past}
 use Rattle.interleavings.specs.Owners.{sum_below}
+use Rattle.interleavings.proofs.Sums.{le_below, more_below, none_below}
 use Rattle.executive_program.specs.declared.steps.MicroStep.{MicroStep}
 use Rattle.executive_program.specs.declared.steps.MicroStep.TheVariants.{Take, See, Lower, Signal, Await, Advance, Load, Store}
 use Rattle.semaphore_core.specs.Job.{JobData, reactions, total_steps}
 use Rattle.semaphore_core.specs.Core.{Core, opening, count, counted, full, next, reaction, done_in, done_by, enabled_by, is_enabled, step, run, run_from, IsDone}
 use Rattle.semaphore_core.specs.Held.{made}
-use Rattle.semaphore_core.proofs.Opened.{sum_le, sum_more, full_total}
+use Rattle.semaphore_core.proofs.Opened.{full_total}
 use Rattle.progress_laws.specs.Bound.{AllEnabledFrom, AllEnabled, IsBound}
 use Rattle.progress_laws.proofs.Enabled.{enabled_there, enabled_pending}
 
 -- sums that are the same, of numbers of which none is more, are of the same numbers
 sum_equal : (f g : ℕ → ℕ) (n : ℕ) → ((i : ℕ) → f i ≤ g i) → sum_below f n ≡ sum_below g n → (s : ℕ) → s < n → f s ≡ g s
 sum_equal f g zero h e s l = absurd (omega arith)
-sum_equal f g (suc n) h e s l = by (cases_eq s n) (λ k. sum_equal f g n h (let a = sum_le f g n h in let b = h n in omega arith) s k)
+sum_equal f g (suc n) h e s l = by (cases_eq s n) (λ k. sum_equal f g n h (let a = le_below f g n (λ i l. h i) in let b = h n in omega arith) s k)
   where
     by : (s ≡ n) ⊎ (s ≡ n → ⊥) → (s < n → f s ≡ g s) → f s ≡ g s
-    by (inl q) r = subst (λ (i : ℕ). f i ≡ g i) (sym q) (let a = sum_le f g n h in let b = h n in omega arith)
+    by (inl q) r = subst (λ (i : ℕ). f i ≡ g i) (sym q) (let a = le_below f g n (λ i l. h i) in let b = h n in omega arith)
     by (inr q) r = r (omega arith)
-
-sum_zero : (f : ℕ → ℕ) (n : ℕ) → ((i : ℕ) → f i ≡ 0) → sum_below f n ≡ 0
-sum_zero f zero h = refl
-sum_zero f (suc n) h = let e = sum_zero f n h in let d = h n in omega arith
 
 module _ (j : JobData) where
   -- a count for each sequence, and none above its full count
@@ -63,7 +60,7 @@ module _ (j : JobData) where
     same_length = ap (λ (l : List ℕ). length l) (step_counts z s on) ∙ length-set z.counts s (count z s + 1)
 
     made_more : made (step j z s) ≡ made z + 1
-    made_more = ap (λ (n : ℕ). sum_below (count (step j z s)) n) same_length ∙ sum_more (count z) (count (step j z s)) (length z.counts) s in_counts at_s at_other
+    made_more = ap (λ (n : ℕ). sum_below (count (step j z s)) n) same_length ∙ more_below (count z) (count (step j z s)) (length z.counts) s in_counts at_s at_other
 
     step_within : (t : ℕ) → count (step j z s) t ≤ full j t
     step_within t = by (cases_eq t s)
@@ -99,13 +96,13 @@ module _ (j : JobData) where
     are = run_are (opening j) list opening_are on
 
     made_is : made (run j list) ≡ length list
-    made_is = let e = run_made (opening j) list opening_are on in let z = sum_zero (count (opening j)) (length (opening j).counts) zero_at in omega arith
+    made_is = let e = run_made (opening j) list opening_are on in let z = none_below (count (opening j)) (length (opening j).counts) (λ i l. zero_at i) in omega arith
 
     sums_to : made (run j list) ≡ sum_below (count (run j list)) (length j.program.seqs)
     sums_to = ap (λ (n : ℕ). sum_below (count (run j list)) n) are.there
 
     most : length list ≤ total_steps j.program (reactions j)
-    most = let a = made_is in let b = sums_to in let c = sum_le (count (run j list)) (full j) (length j.program.seqs) are.within in let d = full_total j in omega arith
+    most = let a = made_is in let b = sums_to in let c = le_below (count (run j list)) (full j) (length j.program.seqs) (λ i l. are.within i) in let d = full_total j in omega arith
 
     ends : length list ≡ total_steps j.program (reactions j) → IsDone j (run j list)
     ends e = sum_equal (count (run j list)) (full j) (length j.program.seqs) are.within (sym sums_to ∙ made_is ∙ e ∙ sym (full_total j))

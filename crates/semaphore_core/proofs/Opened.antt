@@ -5,6 +5,7 @@ use Rattle.std.proofs.lemmas.Bool.{cases_eq, cases_lt, lt-ltb, le-ltb}
 use Rattle.std.proofs.lemmas.List.{length-set, get_or-set_same, get_or-set_other, get_or_past}
 use Rattle.std.proofs.Math.Nat.{mul-add}
 use Rattle.interleavings.specs.Owners.{sum_below}
+use Rattle.interleavings.proofs.Sums.{le_below, member_below, more_below}
 use Rattle.executive_program.specs.declared.steps.MicroStep.{MicroStep}
 use Rattle.executive_program.specs.declared.steps.MicroStep.TheVariants.{Take, See, Lower, Signal, Await, Advance, Load, Store}
 use Rattle.executive_program.specs.declared.expand.SeqSteps.{SeqSteps}
@@ -17,22 +18,6 @@ use Rattle.semaphore_core.specs.declared.answer.StepAnswer.TheVariants.{Finished
 use Rattle.semaphore_core.proofs.Ready.{absorb_ready, after_ready}
 use Rattle.semaphore_core.proofs.Standing.{next_at, laid_out, not_past, fits_at, needs_at, none_left}
 
-pub sum_le : (f g : ℕ → ℕ) (n : ℕ) → ((i : ℕ) → f i ≤ g i) → sum_below f n ≤ sum_below g n
-sum_le f g zero h = omega arith
-sum_le f g (suc n) h = let e = sum_le f g n h in let d = h n in omega arith
-
-sum_same : (f g : ℕ → ℕ) (n s : ℕ) → n ≤ s → ((t : ℕ) → t ≢ s → g t ≡ f t) → sum_below g n ≡ sum_below f n
-sum_same f g zero s l h = refl
-sum_same f g (suc n) s l h = let e = sum_same f g n s (omega arith) h in let d = h n (λ q. omega arith) in omega arith
-
-pub sum_more : (f g : ℕ → ℕ) (n s : ℕ) → s < n → g s ≡ f s + 1 → ((t : ℕ) → t ≢ s → g t ≡ f t) → sum_below g n ≡ sum_below f n + 1
-sum_more f g zero s l e h = absurd (omega arith)
-sum_more f g (suc n) s l e h = by (cases_eq n s) (λ k. sum_more f g n s k e h)
-  where
-    by : (n ≡ s) ⊎ (n ≡ s → ⊥) → (s < n → sum_below g n ≡ sum_below f n + 1) → sum_below g (suc n) ≡ sum_below f (suc n) + 1
-    by (inl q) r = let a = sum_same f g n s (omega arith) h in let b : g n ≡ f n + 1 = ap g q ∙ e ∙ ap (λ (i : ℕ). f i + 1) (sym q) in omega arith
-    by (inr q) r = let a = r (omega arith) in let b = h n q in omega arith
-
 sum_full : (a b : ℕ → ℕ) (n m : ℕ) → sum_below (λ s. a s + n * b s) m ≡ sum_below a m + n * sum_below b m
 sum_full a b n zero = omega arith
 sum_full a b n (suc m) = let e = sum_full a b n m in let d = mul-add n (sum_below b m) (b m) in omega arith
@@ -44,7 +29,7 @@ module _ (j : JobData) where
 
   -- the counts add up to no more than the limit on micro-steps
   pub made_few : (h : Held) → IsOpened j h → made h.core ≤ 20000000
-  made_few h o = let a = sum_le (count h.core) (full j) (length h.core.counts) o.within in
+  made_few h o = let a = le_below (count h.core) (full j) (length h.core.counts) (λ i l. o.within i) in
       let b = ap (λ (n : ℕ). sum_below (full j) n) o.counts_there in
       let c = full_total in
       let t = o.total in omega arith
@@ -91,15 +76,7 @@ module _ (j : JobData) where
           by (Store x what) = tt
 
       pub count_fits : count h.core s + 1 < 2 ^ 64
-      count_fits = let a = made_few h o in let b = one_of (count h.core) (length h.core.counts) s in_counts in omega arith
-        where
-          one_of : (f : ℕ → ℕ) (n t : ℕ) → t < n → f t ≤ sum_below f n
-          one_of f zero t l = absurd (omega arith)
-          one_of f (suc n) t l = pick (cases_eq n t) (λ k. one_of f n t k)
-            where
-              pick : (n ≡ t) ⊎ (n ≡ t → ⊥) → (t < n → f t ≤ sum_below f n) → f t ≤ sum_below f (suc n)
-              pick (inl q) r = let z = ap f q in omega arith
-              pick (inr q) r = let z = r (omega arith) in omega arith
+      count_fits = let a = made_few h o in let b = member_below (count h.core) (length h.core.counts) s in_counts in omega arith
 
       -- one more micro-step of s, which raises no word by more than one
       module _ (z : Core) (counts_are : z.counts ≡ counted h.core s) where
@@ -113,7 +90,7 @@ module _ (j : JobData) where
         same_length = ap (λ (l : List ℕ). length l) counts_are ∙ length-set h.core.counts s (count h.core s + 1)
 
         pub made_more : made z ≡ made h.core + 1
-        made_more = ap (λ (n : ℕ). sum_below (count z) n) same_length ∙ sum_more (count h.core) (count z) (length h.core.counts) s in_counts at_s at_other
+        made_more = ap (λ (n : ℕ). sum_below (count z) n) same_length ∙ more_below (count h.core) (count z) (length h.core.counts) s in_counts at_s at_other
 
         kept_by : length z.registers ≡ length h.core.registers → ((x : ℕ) → get_or z.semaphores x 0 ≤ made h.core + 1) → ((x : ℕ) → get_or z.turns x 0 ≤ made h.core + 1)
             → AreReady j (record { cells = z.cells; rows = z.rows; lens = h.lens; desks = h.desks })

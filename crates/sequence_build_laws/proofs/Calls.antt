@@ -22,6 +22,7 @@ use Rattle.executive_program.specs.Instructions.{turn, medium}
 use Rattle.executive_program.specs.Instructions as core
 use Rattle.executive_program.specs.Places.{Places, places, calls, calling, ins_in, outs_in, carried}
 use Rattle.executive_program.specs.WellFormed.{Stands, IsCalled, CarryInOrder, CarryOutputs, HasLength, len_is}
+use Rattle.executive_program.proofs.Passing.{call_is}
 use Rattle.sequence_build_laws.specs.Serial.{Step, step, steps_of, buffer_for, copies}
 use Rattle.sequence_build_laws.specs.Built.{program_with}
 use Rattle.sequence_build_laws.proofs.Lists.{starts, starts_rise, any_of, get_take, map_at}
@@ -94,16 +95,6 @@ module _ (p : Program) (names : List ℕ) (w : Places) (carried : ℕ → Source
 
 has_length : (p : Program) (names : List ℕ) (w : Places) (carried : ℕ → Source) (g : Graph) (x : Source) (n : ℕ) (y : Vertex) → slice_get g.vertices x.vertex ≡ Some y → slice_get y.outs x.port ≡ Some n → HasLength p names w carried g x n
 has_length p names w carried g x n y e h = rw e h
-
-call_is : (v : ℕ) (x : Instr) → calls v x ≡ true → x ≡ Call v (ins_in (Some x)) (outs_in (Some x))
-call_is v (Call u ins outs) h = ap (λ (n : ℕ). Call n ins outs) (eqb-true u v h)
-call_is v (Send b q) h = absurd (false≢true h)
-call_is v (Recv b q) h = absurd (false≢true h)
-call_is v (Sync b q) h = absurd (false≢true h)
-call_is v (Suc0 q) h = absurd (false≢true h)
-call_is v (Suc1 q) h = absurd (false≢true h)
-call_is v (Pre0 q) h = absurd (false≢true h)
-call_is v (Pre1 q) h = absurd (false≢true h)
 
 module _ (g : Graph) (a : Architecture) (ticks : ℕ → ℕ → Option ℕ) (s : Schedule) (flat : is_flat g ≡ true) (right : is_archi a.operators a.media ≡ true) (valid : is_valid g a ticks s ≡ true) (depth : ℕ) where
   abbrev It : Setting

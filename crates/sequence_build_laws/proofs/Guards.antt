@@ -19,6 +19,7 @@ use Rattle.executive_program.specs.Blocks.{blocks, repeated}
 use Rattle.executive_program.specs.Instructions.{Reader, reads, writes, readers, readers_from, waits_for, turn, prologue, operator, depth_of, depth_in, is_guarded}
 use Rattle.executive_program.specs.Places.{places, reader, reader_or, writing, writer_of, written_at, output_at, takes_empty, takes_full, signals_empty, signals_full, signals_of, opening_of}
 use Rattle.executive_program.specs.WellFormed.{Stands, WritesAt, ReadsAt, IsOnly, IsPair, operator_is, operator_of, place_in}
+use Rattle.executive_program.proofs.Passing as passing
 use Rattle.sequence_build_laws.specs.Serial.{Step, step, projection, codes, steps_at, reads_for, reads_first, reads_last, is_filled, pairs_where, block}
 use Rattle.sequence_build_laws.specs.Built.{operator_in}
 use Rattle.sequence_build_laws.proofs.Lists.{any_at, any_of, First, first, get_take, take_get, get_drop, get_some, FromTurn, from_map, map_at, InFlat, in_flat, flat_at, starts, from_filter, filter_at, tally, from_turn, turn_at, take_next, numbers-append}
@@ -146,22 +147,6 @@ output_is b (Suc0 q) h = absurd (false≢true h)
 output_is b (Suc1 q) h = absurd (false≢true h)
 output_is b (Pre0 q) h = absurd (false≢true h)
 output_is b (Pre1 q) h = absurd (false≢true h)
-
-is_empty_taken : (q : ℕ) (x : Instr) → takes_empty q x ≡ true → x ≡ Suc0 q
-is_empty_taken q (Suc0 r) h = ap (λ (n : ℕ). Suc0 n) (eqb-true r q h)
-is_empty_taken q _ h = absurd (false≢true h)
-
-is_full_taken : (q : ℕ) (x : Instr) → takes_full q x ≡ true → x ≡ Suc1 q
-is_full_taken q (Suc1 r) h = ap (λ (n : ℕ). Suc1 n) (eqb-true r q h)
-is_full_taken q _ h = absurd (false≢true h)
-
-is_empty_signalled : (q : ℕ) (x : Instr) → signals_empty q x ≡ true → x ≡ Pre0 q
-is_empty_signalled q (Pre0 r) h = ap (λ (n : ℕ). Pre0 n) (eqb-true r q h)
-is_empty_signalled q _ h = absurd (false≢true h)
-
-is_full_signalled : (q : ℕ) (x : Instr) → signals_full q x ≡ true → x ≡ Pre1 q
-is_full_signalled q (Pre1 r) h = ap (λ (n : ℕ). Pre1 n) (eqb-true r q h)
-is_full_signalled q _ h = absurd (false≢true h)
 
 module _ (S : Setting) where
   abbrev p : Program
@@ -513,16 +498,16 @@ module _ (S : Setting) where
     se = position_or_len (signals_empty q) (turn p r.sequence)
 
     take_empty : IsOnly p (writer_of p r.buffer) te (Suc0 q)
-    take_empty = only_at (takes_empty q) (writer_of p r.buffer) (Suc0 q) (is_empty_taken q) (eq-eqb q q refl) one_empty_taken takes_empty_there
+    take_empty = only_at (takes_empty q) (writer_of p r.buffer) (Suc0 q) (passing.empty_taken q) (eq-eqb q q refl) one_empty_taken takes_empty_there
 
     signal_full : IsOnly p (writer_of p r.buffer) sf (Pre1 q)
-    signal_full = only_at (signals_full q) (writer_of p r.buffer) (Pre1 q) (is_full_signalled q) (eq-eqb q q refl) one_full_signalled signals_full_there
+    signal_full = only_at (signals_full q) (writer_of p r.buffer) (Pre1 q) (passing.full_signalled q) (eq-eqb q q refl) one_full_signalled signals_full_there
 
     take_full : IsOnly p r.sequence tf (Suc1 q)
-    take_full = only_at (takes_full q) r.sequence (Suc1 q) (is_full_taken q) (eq-eqb q q refl) one_full_taken takes_full_there
+    take_full = only_at (takes_full q) r.sequence (Suc1 q) (passing.full_taken q) (eq-eqb q q refl) one_full_taken takes_full_there
 
     signal_empty : IsOnly p r.sequence se (Pre0 q)
-    signal_empty = only_at (signals_empty q) r.sequence (Pre0 q) (is_empty_signalled q) (eq-eqb q q refl) one_empty_signalled signals_empty_there
+    signal_empty = only_at (signals_empty q) r.sequence (Pre0 q) (passing.empty_signalled q) (eq-eqb q q refl) one_empty_signalled signals_empty_there
 
     -- the places in the block
     empty_first : empty_taken S.pairs w.entry.it q < middle S.pairs w.entry.it

@@ -1,5 +1,5 @@
 -- Transfers of the built program: where they are looked for, their order, and what their buffers carry.
-use Rattle.std.proofs.Common.{◌≡◌, ℕ, zero, suc, ◌+◌, ◌<◌, Bool, true, false, cond, List, [], ◌∷◌, length, map, take, Option, Some, None, refl, sym, ap, subst, inl, arith, ◌∙◌, eq-eqb}
+use Rattle.std.proofs.Common.{◌≡◌, ℕ, zero, suc, ◌+◌, ◌<◌, Bool, true, false, cond, ◌&&◌, List, [], ◌∷◌, length, map, take, Option, Some, None, refl, sym, ap, subst, inl, arith, ◌∙◌, eq-eqb}
 use Rattle.std.specs.Prelude.{slice_get}
 use Rattle.std.specs.List.{count_by}
 use Rattle.std.specs.Cmp.Derive.{both_true}
@@ -22,8 +22,9 @@ use Rattle.executive_program.specs.declared.program.Program.{Program}
 use Rattle.executive_program.specs.Instructions.{is_communication, turn, turn_of, medium, medium_in, operator, communications, writes}
 use Rattle.executive_program.specs.Instructions as core
 use Rattle.executive_program.specs.MicroSteps.{is_on, sent_in, sent_by, sent, first_of, transfers, transfers_on}
-use Rattle.executive_program.specs.Places.{places, Writing, writing, writer_of, written_at, communication_at, is_send, is_receive, buffer_in, sends_at, receives_at, transfer, carried, carried_within, source_by, sent_source}
+use Rattle.executive_program.specs.Places.{places, sequence_where, Writing, writing, writer_of, written_at, communication_at, is_send, is_receive, buffer_in, transfer, carried, carried_within, source_by, sent_source}
 use Rattle.executive_program.specs.WellFormed.{Stands, WritesAt, Communicates, IsTransfer, place_in}
+use Rattle.executive_program.proofs.Passing.{on_is, is_on_it}
 use Rattle.sequence_build_laws.specs.Serial.{Step, step, steps_of, buffer_for, copies, serial}
 use Rattle.sequence_build_laws.specs.Built.{program_with}
 use Rattle.sequence_build_laws.proofs.Lists.{starts, starts_rise, tally, tally_yes, tally_not, tally_same, tally_earlier, counts_tally, first, nth, from_map}
@@ -149,23 +150,6 @@ transfers_there (x ∷ qs) m t h = by (is_on m x.seq.medium) refl h (transfers_t
     by true on h r = (0, x, refl, on)
     by false on h r = let z = r h in (suc z.0, z.1, z.2, z.3)
 
-on_is : (m : ℕ) (o : Option ℕ) → is_on m o ≡ true → o ≡ Some m
-on_is m None h = absurd (false≢true h)
-on_is m (Some n) h = ap (λ (k : ℕ). Some k) (eqb-true n m h)
-
-is_on_of : (m : ℕ) (o : Option ℕ) → o ≡ Some m → is_on m o ≡ true
-is_on_of m o e = ap (is_on m) e ∙ eq-eqb m m refl
-
-send_is : (o : Option Instr) → is_send o ≡ true → (b : ℕ) × (q : ℕ) × (o ≡ Some (Send b q))
-send_is None h = absurd (false≢true h)
-send_is (Some (Send b q)) h = (b, q, refl)
-send_is (Some _) h = absurd (false≢true h)
-
-receive_is : (o : Option Instr) → is_receive o ≡ true → (b : ℕ) × (q : ℕ) × (o ≡ Some (Recv b q))
-receive_is None h = absurd (false≢true h)
-receive_is (Some (Recv b q)) h = (b, q, refl)
-receive_is (Some _) h = absurd (false≢true h)
-
 module _ (g : Graph) (a : Architecture) (s : Schedule) where
   -- which step of a transfer a send, a receive and a wait are
   kind_send : (t : Transfer) (j u b o : ℕ) → Kind g a s (carry t) j (step u (Send b o)) → (j ≡ 0) × (step u (Send b o) ≡ sending g a s t)
@@ -223,7 +207,7 @@ module _ (g : Graph) (a : Architecture) (ticks : ℕ → ℕ → Option ℕ) (s 
   pub transfers_is : (u m : ℕ) (q : Seq) → slice_get (sequences a) u ≡ Some q → q.medium ≡ Some m → transfers prog m ≡ tally (is_over m) (acts s)
   transfers_is u m q e h =
       let k = loops.code_is prog (serial g a s) Set.prologues (sequences a) refl (lines.serial_low Set.pairs Set.plain Set.program Set.prologues Set.seqs Set.codes_are Set.low) u q e in
-      transfers_are prog.seqs m (tally (is_over m) (acts s)) u _ k (is_on_of m q.medium h)
+      transfers_are prog.seqs m (tally (is_over m) (acts s)) u _ k (is_on_it m q.medium h)
       (λ i r z on. let c = code_of i r z in
       counts_tally is_communication r.turn ∙ ap (tally is_communication) c.turn_is
       ∙ count_all g a ticks s right valid depth i m c.seq c.there (ap (λ (q : Seq). q.medium) (sym c.seq_is) ∙ on_is m r.seq.medium on))
@@ -274,110 +258,94 @@ module _ (g : Graph) (a : Architecture) (ticks : ℕ → ℕ → Option ℕ) (s 
         block = c.block ∙ ap (λ (k : ℕ). starts (steps_of g a s) (acts s) k + c.inner) same;
       }
 
-  -- The send and the receive of the transfer, where they are looked for.
-  pub record Sends (m t : ℕ) (n : Numbered m t) : Type 0 where
-    pub stands : Stands prog (transfer prog m t).sender (transfer prog m t).send_at (Send (buffer_for g a s (copy n.it.from n.it.source)) n.it.to)
-    pub on : medium prog (transfer prog m t).sender ≡ Some m
-    pub count : tally is_communication (take (transfer prog m t).send_at (turn prog (transfer prog m t).sender)) ≡ t
-    pub entry : Here Set (transfer prog m t).sender (transfer prog m t).send_at (Send (buffer_for g a s (copy n.it.from n.it.source)) n.it.to)
-    pub block : entry.block_number ≡ starts (steps_of g a s) (acts s) n.number + 0
-    pub sequence : (transfer prog m t).sender ≡ (sending g a s n.it).sequence
-    pub operator : core.operator prog (transfer prog m t).sender ≡ n.it.from
-    pub buffer : (transfer prog m t).sent ≡ buffer_for g a s (copy n.it.from n.it.source)
+  -- One end of the transfer: step `j` of its act, in the first communicator of the medium whose communication `t` passes the test.
+  module _ (test : Option Instr → Bool) (m t : ℕ) (n : Numbered m t) (j own : ℕ) (y : Step) where
+    abbrev passes_at : SeqCode → Bool
+    passes_at q = is_on m q.seq.medium && test (slice_get q.turn (communication_at q.turn t))
 
-  sends_from : (m t : ℕ) (n : Numbered m t) (b o : ℕ) → medium prog (transfer prog m t).sender ≡ Some m → Stands prog (transfer prog m t).sender (transfer prog m t).send_at (Send b o) → Sends m t n
-  sends_from m t n b o on st =
-      let num = (number_is (turn prog (transfer prog m t).sender) t (Send b o) st).number in
-      let r = belongs m t n (transfer prog m t).sender (transfer prog m t).send_at (Send b o) on st refl num in
-      let k = kind_send g a s n.it r.inner (transfer prog m t).sender b o r.kind in
-      let seq : (transfer prog m t).sender ≡ (sending g a s n.it).sequence = ap (λ (y : Step). y.sequence) k.1 in
-      let instr : Send b o ≡ (sending g a s n.it).instr = ap (λ (y : Step). y.instr) k.1 in
-      let st2 : Stands prog (transfer prog m t).sender (transfer prog m t).send_at (Send (buffer_for g a s (copy n.it.from n.it.source)) n.it.to) = st ∙ ap (λ (y : Instr). Some y) instr in
-      let r2 = belongs m t n (transfer prog m t).sender (transfer prog m t).send_at (Send (buffer_for g a s (copy n.it.from n.it.source)) n.it.to) on st2 refl num in
-      let k2 = kind_send g a s n.it r2.inner (transfer prog m t).sender (buffer_for g a s (copy n.it.from n.it.source)) n.it.to r2.kind in
-      record {
-        stands = st2;
-        on = on;
-        count = num;
-        entry = r2.entry;
-        block = r2.block ∙ ap (λ (j : ℕ). starts (steps_of g a s) (acts s) n.number + j) k2.0;
-        sequence = seq;
-        operator = ap (core.operator prog) seq ∙ operator_of g a ticks s right valid depth (sending g a s n.it).sequence _ (from_there g a ticks s right valid n.number n.it n.act);
-        buffer = ap buffer_in st2;
-      }
+    abbrev where_it_is : ℕ
+    where_it_is = sequence_where prog passes_at
+
+    abbrev place_of_it : ℕ
+    place_of_it = communication_at (turn prog where_it_is) t
+
+    pub record End : Type 0 where
+      pub stands : Stands prog where_it_is place_of_it y.instr
+      pub on : medium prog where_it_is ≡ Some m
+      pub count : tally is_communication (take place_of_it (turn prog where_it_is)) ≡ t
+      pub entry : Here Set where_it_is place_of_it y.instr
+      pub block : entry.block_number ≡ starts (steps_of g a s) (acts s) n.number + j
+      pub sequence : where_it_is ≡ y.sequence
+      pub operator : core.operator prog where_it_is ≡ own
+      pub buffer : buffer_in (slice_get (turn prog where_it_is) place_of_it) ≡ buffer_in (Some y.instr)
+
+    -- of the steps of the act, the instruction is of this one alone
+    abbrev IsOfIt : Instr → Type 0
+    IsOfIt z = (is_communication z ≡ true) × ((i u : ℕ) → Kind g a s (carry n.it) i (step u z) → (i ≡ j) × (step u z ≡ y))
+
+    module _ (there : slice_get (sequences a) y.sequence ≡ Some (record { operator = own; medium = Some n.it.medium })) where
+      end_from : (z : Instr) → IsOfIt z → medium prog where_it_is ≡ Some m → Stands prog where_it_is place_of_it z → End
+      end_from z is on st =
+          let num = (number_is (turn prog where_it_is) t z st).number in
+          let r = belongs m t n where_it_is place_of_it z on st is.0 num in
+          let k = is.1 r.inner where_it_is r.kind in
+          let seq : where_it_is ≡ y.sequence = ap (λ (w : Step). w.sequence) k.1 in
+          let instr : z ≡ y.instr = ap (λ (w : Step). w.instr) k.1 in
+          let own_st : Stands prog where_it_is place_of_it y.instr = st ∙ ap (λ (w : Instr). Some w) instr in
+          let own_r = belongs m t n where_it_is place_of_it y.instr on own_st (ap is_communication (sym instr) ∙ is.0) num in
+          let own_k = is.1 own_r.inner where_it_is (subst (λ (w : Instr). Kind g a s (carry n.it) own_r.inner (step where_it_is w)) (sym instr) own_r.kind) in
+          record {
+            stands = own_st;
+            on = on;
+            count = num;
+            entry = own_r.entry;
+            block = own_r.block ∙ ap (λ (i : ℕ). starts (steps_of g a s) (acts s) n.number + i) own_k.0;
+            sequence = seq;
+            operator = ap (core.operator prog) seq ∙ operator_of g a ticks s right valid depth y.sequence _ there;
+            buffer = ap buffer_in own_st;
+          }
+
+      end_there : slice_get (steps_of g a s (carry n.it)) j ≡ Some y → is_communication y.instr ≡ true → test (Some y.instr) ≡ true → ((o : Option Instr) → test o ≡ true → (z : Instr) × (o ≡ Some z) × IsOfIt z) → End
+      end_there made comm passes picks =
+          let o = onto g a ticks s right valid depth n.number j n.it y n.act made comm in
+          let on : medium prog y.sequence ≡ Some m = medium_of g a ticks s right valid depth y.sequence _ there ∙ ap (λ (k : ℕ). Some k) n.over in
+          let count : tally is_communication (take o.at (turn prog y.sequence)) ≡ t = o.count ∙ ap (λ (k : ℕ). tally (is_over k) (take n.number (acts s))) n.over ∙ n.count in
+          let at : communication_at (turn prog y.sequence) t ≡ o.at = found_at (turn prog y.sequence) o.at t y.instr o.stands comm count in
+          let c = loops.code_there prog y.sequence o.at y.instr o.stands in
+          let k = code_of y.sequence c.it c.stands in
+          let here_it : test (slice_get c.it.turn (communication_at c.it.turn t)) ≡ true
+          = ap (λ (l : List Instr). test (slice_get l (communication_at l t))) k.turn_is ∙ ap (λ (i : ℕ). test (slice_get (turn prog y.sequence) i)) at ∙ ap test o.stands ∙ passes in
+          let on_it : is_on m c.it.seq.medium ≡ true = is_on_it m c.it.seq.medium (ap medium_in (sym c.stands) ∙ on) in
+          let f = first passes_at prog.seqs y.sequence c.it c.stands (both_true on_it here_it) in
+          by f.it f.stands (and_parts (is_on m f.it.seq.medium) (test (slice_get f.it.turn (communication_at f.it.turn t))) f.passes)
+        where
+          by : (q : SeqCode) → slice_get prog.seqs where_it_is ≡ Some q → (is_on m q.seq.medium ≡ true) × (test (slice_get q.turn (communication_at q.turn t)) ≡ true) → End
+          by q e h =
+              let z = picks (slice_get q.turn (communication_at q.turn t)) h.1 in
+              end_from z.0 z.2 (ap medium_in e ∙ on_is m q.seq.medium h.0) (ap (λ (l : List Instr). slice_get l (communication_at l t)) (ap turn_of e) ∙ z.1)
+
+  -- The send and the receive of the transfer, where they are looked for.
+  abbrev pub Sends : (m t : ℕ) → Numbered m t → Type 0
+  Sends m t n = End is_send m t n 0 n.it.from (sending g a s n.it)
 
   pub sends : (m t : ℕ) (n : Numbered m t) → Sends m t n
-  sends m t n =
-      let o = onto g a ticks s right valid depth n.number 0 n.it (sending g a s n.it) n.act refl refl in
-      let u = (sending g a s n.it).sequence in
-      let there = from_there g a ticks s right valid n.number n.it n.act in
-      let on : medium prog (sending g a s n.it).sequence ≡ Some m = medium_of g a ticks s right valid depth u _ there ∙ ap (λ (k : ℕ). Some k) n.over in
-      let count : tally is_communication (take o.at (turn prog (sending g a s n.it).sequence)) ≡ t = o.count ∙ ap (λ (k : ℕ). tally (is_over k) (take n.number (acts s))) n.over ∙ n.count in
-      let at : communication_at (turn prog (sending g a s n.it).sequence) t ≡ o.at = found_at (turn prog u) o.at t (sending g a s n.it).instr o.stands refl count in
-      let c = loops.code_there prog u o.at (sending g a s n.it).instr o.stands in
-      let k = code_of u c.it c.stands in
-      let here_it : is_send (slice_get c.it.turn (communication_at c.it.turn t)) ≡ true
-      = ap (λ (l : List Instr). is_send (slice_get l (communication_at l t))) k.turn_is ∙ ap (λ (i : ℕ). is_send (slice_get (turn prog (sending g a s n.it).sequence) i)) at ∙ ap is_send o.stands in
-      let on_it : is_on m c.it.seq.medium ≡ true = is_on_of m c.it.seq.medium (ap medium_in (sym c.stands) ∙ on) in
-      let f = first (sends_at prog m t) prog.seqs u c.it c.stands (both_true on_it here_it) in
-      by f.it f.stands (and_parts (is_on m f.it.seq.medium) (is_send (slice_get f.it.turn (communication_at f.it.turn t))) f.passes)
+  sends m t n = end_there is_send m t n 0 n.it.from (sending g a s n.it) (from_there g a ticks s right valid n.number n.it n.act) refl refl refl picks
     where
-      by : (q : SeqCode) → slice_get prog.seqs (transfer prog m t).sender ≡ Some q → (is_on m q.seq.medium ≡ true) × (is_send (slice_get q.turn (communication_at q.turn t)) ≡ true) → Sends m t n
-      by q e h =
-          let z = send_is (slice_get q.turn (communication_at q.turn t)) h.1 in
-          sends_from m t n z.0 z.1 (ap medium_in e ∙ on_is m q.seq.medium h.0) (ap (λ (l : List Instr). slice_get l (communication_at l t)) (ap turn_of e) ∙ z.2)
+      picks : (o : Option Instr) → is_send o ≡ true → (z : Instr) × (o ≡ Some z) × IsOfIt is_send m t n 0 n.it.from (sending g a s n.it) z
+      picks None h = absurd (false≢true h)
+      picks (Some (Send b q)) h = (Send b q, refl, (refl, λ i u k. kind_send g a s n.it i u b q k))
+      picks (Some _) h = absurd (false≢true h)
 
-  pub record Receives (m t : ℕ) (n : Numbered m t) : Type 0 where
-    pub stands : Stands prog (transfer prog m t).receiver (transfer prog m t).receive_at (Recv (buffer_for g a s (copy n.it.to n.it.source)) n.it.from)
-    pub on : medium prog (transfer prog m t).receiver ≡ Some m
-    pub count : tally is_communication (take (transfer prog m t).receive_at (turn prog (transfer prog m t).receiver)) ≡ t
-    pub entry : Here Set (transfer prog m t).receiver (transfer prog m t).receive_at (Recv (buffer_for g a s (copy n.it.to n.it.source)) n.it.from)
-    pub block : entry.block_number ≡ starts (steps_of g a s) (acts s) n.number + 1
-    pub sequence : (transfer prog m t).receiver ≡ (receiving g a s n.it).sequence
-    pub operator : core.operator prog (transfer prog m t).receiver ≡ n.it.to
-    pub buffer : (transfer prog m t).received ≡ buffer_for g a s (copy n.it.to n.it.source)
-
-  receives_from : (m t : ℕ) (n : Numbered m t) (b o : ℕ) → medium prog (transfer prog m t).receiver ≡ Some m → Stands prog (transfer prog m t).receiver (transfer prog m t).receive_at (Recv b o) → Receives m t n
-  receives_from m t n b o on st =
-      let num = (number_is (turn prog (transfer prog m t).receiver) t (Recv b o) st).number in
-      let r = belongs m t n (transfer prog m t).receiver (transfer prog m t).receive_at (Recv b o) on st refl num in
-      let k = kind_receive g a s n.it r.inner (transfer prog m t).receiver b o r.kind in
-      let seq : (transfer prog m t).receiver ≡ (receiving g a s n.it).sequence = ap (λ (y : Step). y.sequence) k.1 in
-      let instr : Recv b o ≡ (receiving g a s n.it).instr = ap (λ (y : Step). y.instr) k.1 in
-      let st2 : Stands prog (transfer prog m t).receiver (transfer prog m t).receive_at (Recv (buffer_for g a s (copy n.it.to n.it.source)) n.it.from) = st ∙ ap (λ (y : Instr). Some y) instr in
-      let r2 = belongs m t n (transfer prog m t).receiver (transfer prog m t).receive_at (Recv (buffer_for g a s (copy n.it.to n.it.source)) n.it.from) on st2 refl num in
-      let k2 = kind_receive g a s n.it r2.inner (transfer prog m t).receiver (buffer_for g a s (copy n.it.to n.it.source)) n.it.from r2.kind in
-      record {
-        stands = st2;
-        on = on;
-        count = num;
-        entry = r2.entry;
-        block = r2.block ∙ ap (λ (j : ℕ). starts (steps_of g a s) (acts s) n.number + j) k2.0;
-        sequence = seq;
-        operator = ap (core.operator prog) seq ∙ operator_of g a ticks s right valid depth (receiving g a s n.it).sequence _ (to_there g a ticks s right valid n.number n.it n.act);
-        buffer = ap buffer_in st2;
-      }
+  abbrev pub Receives : (m t : ℕ) → Numbered m t → Type 0
+  Receives m t n = End is_receive m t n 1 n.it.to (receiving g a s n.it)
 
   pub receives : (m t : ℕ) (n : Numbered m t) → Receives m t n
-  receives m t n =
-      let o = onto g a ticks s right valid depth n.number 1 n.it (receiving g a s n.it) n.act refl refl in
-      let u = (receiving g a s n.it).sequence in
-      let there = to_there g a ticks s right valid n.number n.it n.act in
-      let on : medium prog (receiving g a s n.it).sequence ≡ Some m = medium_of g a ticks s right valid depth u _ there ∙ ap (λ (k : ℕ). Some k) n.over in
-      let count : tally is_communication (take o.at (turn prog (receiving g a s n.it).sequence)) ≡ t = o.count ∙ ap (λ (k : ℕ). tally (is_over k) (take n.number (acts s))) n.over ∙ n.count in
-      let at : communication_at (turn prog (receiving g a s n.it).sequence) t ≡ o.at = found_at (turn prog u) o.at t (receiving g a s n.it).instr o.stands refl count in
-      let c = loops.code_there prog u o.at (receiving g a s n.it).instr o.stands in
-      let k = code_of u c.it c.stands in
-      let here_it : is_receive (slice_get c.it.turn (communication_at c.it.turn t)) ≡ true
-      = ap (λ (l : List Instr). is_receive (slice_get l (communication_at l t))) k.turn_is ∙ ap (λ (i : ℕ). is_receive (slice_get (turn prog (receiving g a s n.it).sequence) i)) at ∙ ap is_receive o.stands in
-      let on_it : is_on m c.it.seq.medium ≡ true = is_on_of m c.it.seq.medium (ap medium_in (sym c.stands) ∙ on) in
-      let f = first (receives_at prog m t) prog.seqs u c.it c.stands (both_true on_it here_it) in
-      by f.it f.stands (and_parts (is_on m f.it.seq.medium) (is_receive (slice_get f.it.turn (communication_at f.it.turn t))) f.passes)
+  receives m t n = end_there is_receive m t n 1 n.it.to (receiving g a s n.it) (to_there g a ticks s right valid n.number n.it n.act) refl refl refl picks
     where
-      by : (q : SeqCode) → slice_get prog.seqs (transfer prog m t).receiver ≡ Some q → (is_on m q.seq.medium ≡ true) × (is_receive (slice_get q.turn (communication_at q.turn t)) ≡ true) → Receives m t n
-      by q e h =
-          let z = receive_is (slice_get q.turn (communication_at q.turn t)) h.1 in
-          receives_from m t n z.0 z.1 (ap medium_in e ∙ on_is m q.seq.medium h.0) (ap (λ (l : List Instr). slice_get l (communication_at l t)) (ap turn_of e) ∙ z.2)
+      picks : (o : Option Instr) → is_receive o ≡ true → (z : Instr) × (o ≡ Some z) × IsOfIt is_receive m t n 1 n.it.to (receiving g a s n.it) z
+      picks None h = absurd (false≢true h)
+      picks (Some (Recv b q)) h = (Recv b q, refl, (refl, λ i u k. kind_receive g a s n.it i u b q k))
+      picks (Some _) h = absurd (false≢true h)
 
   -- a transfer that is counted has its act
   pub counted : (m t : ℕ) → t < transfers prog m → Numbered m t
@@ -433,7 +401,7 @@ module _ (g : Graph) (a : Architecture) (ticks : ℕ → ℕ → Option ℕ) (s 
       let x = sends m t n in
       let c = loops.code_there prog (transfer prog m t).sender (transfer prog m t).send_at _ x.stands in
       let turned : c.it.turn ≡ turn prog (transfer prog m t).sender = ap turn_of (sym c.stands) in
-      sent_is prog.seqs m t (buffer_for g a s (copy n.it.from n.it.source)) (transfer prog m t).sender c.it c.stands (is_on_of m c.it.seq.medium (ap medium_in (sym c.stands) ∙ x.on))
+      sent_is prog.seqs m t (buffer_for g a s (copy n.it.from n.it.source)) (transfer prog m t).sender c.it c.stands (is_on_it m c.it.seq.medium (ap medium_in (sym c.stands) ∙ x.on))
       (ap (λ (l : List Instr). sent_in l t) turned ∙ sent_at (turn prog (transfer prog m t).sender) t (buffer_for g a s (copy n.it.from n.it.source)) n.it.to x.stands)
       (λ i b r e on h.
       let z = sent_from r.turn t b h in

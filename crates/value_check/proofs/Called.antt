@@ -15,7 +15,8 @@ use Rattle.executive_program.specs.declared.program.Instr.TheVariants.{Suc0, Suc
 use Rattle.executive_program.specs.declared.program.Program.{Program}
 use Rattle.executive_program.specs.Instructions.{len_of, medium, turn}
 use Rattle.executive_program.specs.Places.{caller_of, calls, carried, ins_in, outs_in, places}
-use Rattle.executive_program.specs.WellFormed.{CarryInOrder, CarryOutputs, HasLength, IsCalled, len_is}
+use Rattle.executive_program.specs.WellFormed.{CarryInOrder, CarryOutputs, HasLength, IsCalled, Stands, len_is}
+use Rattle.executive_program.proofs.Passing.{call_is}
 use Rattle.program_walks.specs.Walks.{all_at, every, implies}
 use Rattle.value_check.specs.Calls.{are_called, called_at, carries, carry_guards, carry_inputs, gives, gives_at, has_len, has_output, is_before_twin, is_called, takes}
 use Rattle.value_check.specs.Carries.{same_source}
@@ -26,22 +27,45 @@ use Rattle.program_walks.proofs.Readings.{entry_is, is_entry, same_numbers}
 
 call_there : (v : ℕ) (o : Option Instr) → passes (calls v) o ≡ true → o ≡ Some (Call v (ins_in o) (outs_in o))
 call_there v None h = absurd (false≢true h)
-call_there v (Some (Call u ins outs)) h = ap (λ (n : ℕ). Some (Call n ins outs)) (eqb-true u v h)
-call_there v (Some (Suc0 q)) h = absurd (false≢true h)
-call_there v (Some (Suc1 q)) h = absurd (false≢true h)
-call_there v (Some (Pre0 q)) h = absurd (false≢true h)
-call_there v (Some (Pre1 q)) h = absurd (false≢true h)
-call_there v (Some (Send b q)) h = absurd (false≢true h)
-call_there v (Some (Recv b q)) h = absurd (false≢true h)
-call_there v (Some (Sync q r)) h = absurd (false≢true h)
-
-call_is : (v : ℕ) (y : Instr) → calls v y ≡ true → (ins : List ℕ) × (outs : List ℕ) × (y ≡ Call v ins outs)
-call_is v (Call u ins outs) h = (ins, outs, ap (λ (n : ℕ). Call n ins outs) (eqb-true u v h))
-call_is v _ h = absurd (false≢true h)
+call_there v (Some x) h = ap (λ (y : Instr). Some y) (call_is v x h)
 
 none_is : (o : Option ℕ) → is_none o ≡ true → o ≡ None
 none_is None h = refl
 none_is (Some m) h = absurd (false≢true h)
+
+module _ (p : Program) where
+  pub twins_of : (s a : ℕ) (kind : Kind) (twin : Option ℕ) → is_before_twin p s a kind twin ≡ true → (z : List ℤ) (u : ℕ) → kind ≡ Get z → twin ≡ Some u → (s ≡ caller_of p u) × (a < called_at p u)
+  twins_of s a kind twin h z u k t =
+      let both : is_before_twin p s a (Get z) (Some u) ≡ true = subst (λ (k : Kind). is_before_twin p s a k (Some u) ≡ true) k (subst (λ (o : Option ℕ). is_before_twin p s a kind o ≡ true) t h) in
+      let parts = and_parts (nat_eq s (caller_of p u)) (nat_lt a (called_at p u)) both in
+      (eqb-true s (caller_of p u) parts.0, ltb-true a (called_at p u) parts.1)
+
+  pub of_twins : (s a : ℕ) (kind : Kind) (twin : Option ℕ) → ((z : List ℤ) (u : ℕ) → kind ≡ Get z → twin ≡ Some u → (s ≡ caller_of p u) × (a < called_at p u)) → is_before_twin p s a kind twin ≡ true
+  of_twins s a (Get z) (Some u) h = let r = h z u refl refl in both_true (eq-eqb s (caller_of p u) r.0) (lt-ltb a (called_at p u) r.1)
+  of_twins s a _ _ h = refl
+
+  abbrev only_test : ℕ → ℕ → ℕ → ℕ → ℕ → Instr → Bool
+  only_test v s a t b y = implies (calls v y) (nat_eq t s && nat_eq b a)
+
+  -- the operation is called at this place and nowhere else
+  pub only_call : (v s a : ℕ) → is_only p (calls v) s a ≡ true
+      → Stands p s a (Call v (ins_in (slice_get (turn p s) a)) (outs_in (slice_get (turn p s) a))) × ((t b : ℕ) (ins outs : List ℕ) → Stands p t b (Call v ins outs) → (t ≡ s) × (b ≡ a))
+  only_call v s a h =
+      let only = and_parts (passes (calls v) (slice_get (turn p s) a)) (every p (only_test v s a)) h in
+      (call_there v (slice_get (turn p s) a) only.0, λ t b ins outs e.
+      let r = and_parts (nat_eq t s) (nat_eq b a) (implied (calls v (Call v ins outs)) (nat_eq t s && nat_eq b a) (every_of p (only_test v s a) only.1 t b (Call v ins outs) e) (same_numbers v)) in
+      (eqb-true t s r.0, eqb-true b a r.1))
+
+  pub of_only_call : (v s a : ℕ) (ins outs : List ℕ) → Stands p s a (Call v ins outs) → ((t b : ℕ) (ins outs : List ℕ) → Stands p t b (Call v ins outs) → (t ≡ s) × (b ≡ a)) → is_only p (calls v) s a ≡ true
+  of_only_call v s a ins outs e only =
+      both_true (subst (λ (o : Option Instr). passes (calls v) o ≡ true) (sym e) (same_numbers v))
+      (of_every p (only_test v s a) (λ t b y f.
+      implying (calls v y) (nat_eq t s && nat_eq b a) (λ ty.
+      let z = only t b (ins_in (Some y)) (outs_in (Some y)) (f ∙ ap (λ (z : Instr). Some z) (call_is v y ty)) in both_true (eq-eqb t s z.0) (eq-eqb b a z.1))))
+
+  -- the tests of both: the only call, in a computation sequence
+  pub call_alone : (v s a : ℕ) → (is_only p (calls v) s a && is_none (medium p s)) ≡ true → (is_only p (calls v) s a ≡ true) × (medium p s ≡ None)
+  call_alone v s a h = let r = and_parts (is_only p (calls v) s a) (is_none (medium p s)) h in (r.0, none_is (medium p s) r.1)
 
 module _ (p : Program) (order : List ℕ) (g : Graph) where
   length_told : (x : Source) (n : ℕ) (o : Option Vertex) → slice_get g.vertices x.vertex ≡ o → has_output o x.port n ≡ true → HasLength p order (places p) (carried p) g x n
@@ -173,19 +197,6 @@ module _ (p : Program) (order : List ℕ) (g : Graph) where
       both_true (eq-eqb (length bs) (length ns) (long_give v 0 bs ns h))
       (to_zero (λ (k n : ℕ). gives_at p v k n (slice_get bs k)) ns (λ k n e. subst (λ (q : ℕ). gives_at p v q n (slice_get bs k) ≡ true) (zero-add k) (each_give v 0 bs ns h k n e)))
 
-  twins_of : (s a : ℕ) (kind : Kind) (twin : Option ℕ) → is_before_twin p s a kind twin ≡ true → (z : List ℤ) (u : ℕ) → kind ≡ Get z → twin ≡ Some u → (s ≡ caller_of p u) × (a < called_at p u)
-  twins_of s a kind twin h z u k t =
-      let both : is_before_twin p s a (Get z) (Some u) ≡ true = subst (λ (k : Kind). is_before_twin p s a k (Some u) ≡ true) k (subst (λ (o : Option ℕ). is_before_twin p s a kind o ≡ true) t h) in
-      let parts = and_parts (nat_eq s (caller_of p u)) (nat_lt a (called_at p u)) both in
-      (eqb-true s (caller_of p u) parts.0, ltb-true a (called_at p u) parts.1)
-
-  of_twins : (s a : ℕ) (kind : Kind) (twin : Option ℕ) → ((z : List ℤ) (u : ℕ) → kind ≡ Get z → twin ≡ Some u → (s ≡ caller_of p u) × (a < called_at p u)) → is_before_twin p s a kind twin ≡ true
-  of_twins s a (Get z) (Some u) h = let r = h z u refl refl in both_true (eq-eqb s (caller_of p u) r.0) (lt-ltb a (called_at p u) r.1)
-  of_twins s a _ _ h = refl
-
-  abbrev only_test : ℕ → ℕ → ℕ → ℕ → ℕ → Instr → Bool
-  only_test v s a t b y = implies (calls v y) (nat_eq t s && nat_eq b a)
-
   call_of : (v : ℕ) (x : Vertex) → is_called p g.vertices v x ≡ true → IsCalled p order (places p) (carried p) g v x
   call_of v x h =
       let s = caller_of p v in
@@ -193,17 +204,15 @@ module _ (p : Program) (order : List ℕ) (g : Graph) where
       let twin = and_parts _ (is_before_twin p s a x.kind x.twin) h in
       let given = and_parts _ (gives p v (outs_in (slice_get (turn p s) a)) x.outs) twin.0 in
       let taken = and_parts _ (takes p g.vertices (ins_in (slice_get (turn p s) a)) x.guards x.ins) given.0 in
-      let computed = and_parts (is_only p (calls v) s a) (is_none (medium p s)) taken.0 in
-      let only = and_parts (passes (calls v) (slice_get (turn p s) a)) (every p (only_test v s a)) computed.0 in
+      let alone = call_alone p v s a taken.0 in
+      let only = only_call p v s a alone.0 in
       record {
-        stands = call_there v (slice_get (turn p s) a) only.0;
-        only = λ t b ins outs e.
-            let r = and_parts (nat_eq t s) (nat_eq b a) (implied (calls v (Call v ins outs)) (nat_eq t s && nat_eq b a) (every_of p (only_test v s a) only.1 t b (Call v ins outs) e) (same_numbers v)) in
-            (eqb-true t s r.0, eqb-true b a r.1);
-        computes = none_is (medium p s) computed.1;
+        stands = only.0;
+        only = only.1;
+        computes = alone.1;
         takes = takes_of (ins_in (slice_get (turn p s) a)) x.guards x.ins taken.1;
         gives = gives_of v (outs_in (slice_get (turn p s) a)) x.outs given.1;
-        twins = twins_of s a x.kind x.twin twin.1;
+        twins = twins_of p s a x.kind x.twin twin.1;
       }
 
   of_call : (v : ℕ) (x : Vertex) → IsCalled p order (places p) (carried p) g v x → is_called p g.vertices v x ≡ true
@@ -211,15 +220,11 @@ module _ (p : Program) (order : List ℕ) (g : Graph) where
       let s = caller_of p v in
       let a = called_at p v in
       both_true (both_true (both_true (both_true
-      (both_true (subst (λ (o : Option Instr). passes (calls v) o ≡ true) (sym r.stands) (same_numbers v))
-      (of_every p (only_test v s a) (λ t b y e.
-      implying (calls v y) (nat_eq t s && nat_eq b a) (λ ty.
-      let c = call_is v y ty in
-      let z = r.only t b c.0 c.1 (e ∙ ap (λ (z : Instr). Some z) c.2) in both_true (eq-eqb t s z.0) (eq-eqb b a z.1)))))
+      (of_only_call p v s a (ins_in (slice_get (turn p s) a)) (outs_in (slice_get (turn p s) a)) r.stands r.only)
       (subst (λ (o : Option ℕ). is_none o ≡ true) (sym r.computes) refl))
       (of_takes (ins_in (slice_get (turn p s) a)) x.guards x.ins r.takes))
       (of_gives v (outs_in (slice_get (turn p s) a)) x.outs r.gives))
-      (of_twins s a x.kind x.twin r.twins)
+      (of_twins p s a x.kind x.twin r.twins)
 
   pub calls_of : are_called p g.vertices ≡ true → (v : ℕ) (x : Vertex) → slice_get g.vertices v ≡ Some x → IsCalled p order (places p) (carried p) g v x
   calls_of h v x e = call_of v x (from_zero (λ v x. is_called p g.vertices v x) g.vertices h v x e)

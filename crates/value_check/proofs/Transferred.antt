@@ -13,8 +13,9 @@ use Rattle.executive_program.specs.Instructions.{is_communication, len_of, mediu
 use Rattle.executive_program.specs.MicroSteps.{is_on, transfers}
 use Rattle.executive_program.specs.Places.{buffer_in, communication_at, places}
 use Rattle.executive_program.specs.WellFormed.{Communicates, IsTransfer, place_in}
-use Rattle.program_walks.specs.Walks.{all_at, all_below}
-use Rattle.value_check.specs.Transfers.{are_transfers, buffer_at, is_before_next, is_later, is_other, is_receive_from, is_received, is_send_to, is_sent, is_transfer, is_wait, place_of, receiver_of, sender_of, stands_at, waits, waits_at}
+use Rattle.executive_program.proofs.Passing.{on_is, is_on_it}
+use Rattle.program_walks.specs.Walks.{all_at, all_below, implies}
+use Rattle.value_check.specs.Transfers.{are_transfers, buffer_at, is_before_next, is_later, is_other, is_receive_from, is_received, is_send_to, is_sent, is_transfer, is_wait, place_of, receiver_of, sender_of, stands_at, waits}
 use Rattle.program_walks.proofs.ListTests.{below_of, of_below, from_zero, to_zero, implied, implying, not_true}
 use Rattle.program_walks.proofs.Readings.{same_numbers}
 
@@ -89,13 +90,6 @@ receive_is o (Some (Call v ins outs)) h = absurd (false≢true h)
 receive_is o (Some (Send b q)) h = absurd (false≢true h)
 receive_is o (Some (Sync q r)) h = absurd (false≢true h)
 
-on_is : (m : ℕ) (o : Option ℕ) → is_on m o ≡ true → o ≡ Some m
-on_is m None h = absurd (false≢true h)
-on_is m (Some n) h = ap (λ (k : ℕ). Some k) (eqb-true n m h)
-
-is_on_it : (m : ℕ) (o : Option ℕ) → o ≡ Some m → is_on m o ≡ true
-is_on_it m o e = subst (λ (o : Option ℕ). is_on m o ≡ true) (sym e) (same_numbers m)
-
 wait_is : (from to : ℕ) (b : Bool) (x : Instr) → is_wait from to b (Some x) ≡ true → (x ≡ Sync from to) × (b ≡ true)
 wait_is from to b (Sync c d) h =
     let parts = and_parts (nat_eq c from && nat_eq d to) b h in
@@ -112,7 +106,7 @@ wait_is from to b (Recv c q) h = absurd (false≢true h)
 is_waiting : (from to : ℕ) (b : Bool) (x : Instr) → x ≡ Sync from to → b ≡ true → is_wait from to b (Some x) ≡ true
 is_waiting from to b x e h = subst (λ (y : Instr). is_wait from to b (Some y) ≡ true) (sym e) (both_true (both_true (same_numbers from) (same_numbers to)) h)
 
-module _ (p : Program) (order : List ℕ) where
+module _ (p : Program) where
   -- communication t of sequence s, once it is found there
   communicates : (m t s : ℕ) (x : Instr) → is_on m (medium p s) ≡ true → slice_get (turn p s) (stands_at p s t) ≡ Some x → Communicates p m t s (stands_at p s t) x
   communicates m t s x on e =
@@ -124,51 +118,75 @@ module _ (p : Program) (order : List ℕ) where
         number = f.1;
       }
 
-  others_of : (m t sender receiver : ℕ) → all_at (waits p order m t sender receiver) 0 p.seqs ≡ true → (s a : ℕ) (x : Instr) → Communicates p m t s a x → s ≢ sender → s ≢ receiver
-      → (x ≡ Sync (operator p sender) (operator p receiver)) × (place_of p order receiver t < place_in order s a)
-  others_of m t sender receiver h s a x c other_sender other_receiver = by (slice_get p.seqs s) refl c.on c.stands c.number
-    where
-      by : (o : Option SeqCode) → slice_get p.seqs s ≡ o → medium_in o ≡ Some m → slice_get (turn_of o) a ≡ Some x → count_by is_communication (take a (turn_of o)) ≡ t
-          → (x ≡ Sync (operator p sender) (operator p receiver)) × (place_of p order receiver t < place_in order s a)
-      by None i on e n = absurd (cc)
-      by (Some q) i on e n =
-          let here : communication_at q.turn t ≡ a = placed q.turn a x t e c.is_one n in
-          let is_it : is_other m sender receiver s q.seq.medium ≡ true =
-          both_true (both_true (is_on_it m q.seq.medium on) (not_true (nat_eq s sender) (λ k. other_sender (eqb-true s sender k)))) (not_true (nat_eq s receiver) (λ k. other_receiver (eqb-true s receiver k))) in
-          let there = implied (is_other m sender receiver s q.seq.medium) (waits_at p order t sender receiver s q.turn (communication_at q.turn t)) (from_zero (waits p order m t sender receiver) p.seqs h s q i) is_it in
-          let at_a : waits_at p order t sender receiver s q.turn a ≡ true = subst (λ (k : ℕ). waits_at p order t sender receiver s q.turn k ≡ true) here there in
-          let w = wait_is (operator p sender) (operator p receiver) (is_later p order t receiver s a) x
-          (subst (λ (o : Option Instr). is_wait (operator p sender) (operator p receiver) (is_later p order t receiver s a) o ≡ true) e at_a) in
-          (w.0, ltb-true (place_of p order receiver t) (place_in order s a) w.1)
+  -- the tests of both ends
+  pub sends_of : (m t s r : ℕ) → is_sent p m t s r ≡ true → Communicates p m t s (stands_at p s t) (Send (buffer_at p s t) (operator p r))
+  sends_of m t s r h =
+      let sent = and_parts (is_on m (medium p s)) (is_send_to (operator p r) (slice_get (turn p s) (stands_at p s t))) h in
+      communicates m t s (Send (buffer_at p s t) (operator p r)) sent.0 (send_is (operator p r) (slice_get (turn p s) (stands_at p s t)) sent.1)
 
-  of_others : (m t sender receiver : ℕ) → ((s a : ℕ) (x : Instr) → Communicates p m t s a x → s ≢ sender → s ≢ receiver
-      → (x ≡ Sync (operator p sender) (operator p receiver)) × (place_of p order receiver t < place_in order s a))
-      → all_at (waits p order m t sender receiver) 0 p.seqs ≡ true
-  of_others m t sender receiver h =
-      to_zero (waits p order m t sender receiver) p.seqs (λ s q i.
-      implying (is_other m sender receiver s q.seq.medium) (waits_at p order t sender receiver s q.turn (communication_at q.turn t)) (λ other.
-      let last = and_parts (is_on m q.seq.medium && not (nat_eq s sender)) (not (nat_eq s receiver)) other in
-      let first = and_parts (is_on m q.seq.medium) (not (nat_eq s sender)) last.0 in
-      by s q i first.0 (differ s sender first.1) (differ s receiver last.1) (slice_get q.turn (communication_at q.turn t)) refl))
-    where
-      differ : (a b : ℕ) → not (nat_eq a b) ≡ true → a ≢ b
-      differ a b h e = let k : not true ≡ true = subst (λ (t : Bool). not t ≡ true) (eq-eqb a b e) h in false≢true k
+  pub of_sends : (m t s r : ℕ) → Communicates p m t s (stands_at p s t) (Send (buffer_at p s t) (operator p r)) → is_sent p m t s r ≡ true
+  of_sends m t s r c = both_true (is_on_it m (medium p s) c.on) (subst (λ (o : Option Instr). is_send_to (operator p r) o ≡ true) (sym c.stands) (same_numbers (operator p r)))
 
-      by : (s : ℕ) (q : SeqCode) → slice_get p.seqs s ≡ Some q → is_on m q.seq.medium ≡ true → s ≢ sender → s ≢ receiver → (o : Option Instr) → slice_get q.turn (communication_at q.turn t) ≡ o
-          → is_wait (operator p sender) (operator p receiver) (is_later p order t receiver s (communication_at q.turn t)) o ≡ true
-      by s q i on a b None e = refl
-      by s q i on a b (Some x) e =
-          let f = found_at q.turn t x e in
-          let c : Communicates p m t s (communication_at q.turn t) x =
-          record {
-            on = ap medium_in i ∙ on_is m q.seq.medium on;
-            stands = subst (λ (o : Option SeqCode). slice_get (turn_of o) (communication_at q.turn t) ≡ Some x) (sym i) e;
-            is_one = f.0;
-            number = subst (λ (o : Option SeqCode). count_by is_communication (take (communication_at q.turn t) (turn_of o)) ≡ t) (sym i) f.1;
-          } in
-          let r = h s (communication_at q.turn t) x c a b in
-          is_waiting (operator p sender) (operator p receiver) (is_later p order t receiver s (communication_at q.turn t)) x r.0 (lt-ltb (place_of p order receiver t) (place_in order s (communication_at q.turn t)) r.1)
+  pub receives_of : (m t s r : ℕ) → is_received p m t s r ≡ true → Communicates p m t r (stands_at p r t) (Recv (buffer_at p r t) (operator p s))
+  receives_of m t s r h =
+      let received = and_parts (is_on m (medium p r)) (is_receive_from (operator p s) (slice_get (turn p r) (stands_at p r t))) h in
+      communicates m t r (Recv (buffer_at p r t) (operator p s)) received.0 (receive_is (operator p s) (slice_get (turn p r) (stands_at p r t)) received.1)
 
+  pub of_receives : (m t s r : ℕ) → Communicates p m t r (stands_at p r t) (Recv (buffer_at p r t) (operator p s)) → is_received p m t s r ≡ true
+  of_receives m t s r c = both_true (is_on_it m (medium p r) c.on) (subst (λ (o : Option Instr). is_receive_from (operator p s) o ≡ true) (sym c.stands) (same_numbers (operator p s)))
+
+  -- whatever else is asked of the place at which another communicator waits
+  module _ (later : ℕ → ℕ → Bool) where
+    abbrev waits_when : ℕ → ℕ → ℕ → List Instr → ℕ → Bool
+    waits_when sender receiver s list a = is_wait (operator p sender) (operator p receiver) (later s a) (slice_get list a)
+
+    abbrev waits_so : ℕ → ℕ → ℕ → ℕ → ℕ → SeqCode → Bool
+    waits_so m t sender receiver s q = implies (is_other m sender receiver s q.seq.medium) (waits_when sender receiver s q.turn (communication_at q.turn t))
+
+    pub others_of : (m t sender receiver : ℕ) → all_at (waits_so m t sender receiver) 0 p.seqs ≡ true → (s a : ℕ) (x : Instr) → Communicates p m t s a x → s ≢ sender → s ≢ receiver
+        → (x ≡ Sync (operator p sender) (operator p receiver)) × (later s a ≡ true)
+    others_of m t sender receiver h s a x c other_sender other_receiver = by (slice_get p.seqs s) refl c.on c.stands c.number
+      where
+        by : (o : Option SeqCode) → slice_get p.seqs s ≡ o → medium_in o ≡ Some m → slice_get (turn_of o) a ≡ Some x → count_by is_communication (take a (turn_of o)) ≡ t
+            → (x ≡ Sync (operator p sender) (operator p receiver)) × (later s a ≡ true)
+        by None i on e n = absurd (cc)
+        by (Some q) i on e n =
+            let here : communication_at q.turn t ≡ a = placed q.turn a x t e c.is_one n in
+            let is_it : is_other m sender receiver s q.seq.medium ≡ true =
+            both_true (both_true (is_on_it m q.seq.medium on) (not_true (nat_eq s sender) (λ k. other_sender (eqb-true s sender k)))) (not_true (nat_eq s receiver) (λ k. other_receiver (eqb-true s receiver k))) in
+            let there = implied (is_other m sender receiver s q.seq.medium) (waits_when sender receiver s q.turn (communication_at q.turn t)) (from_zero (waits_so m t sender receiver) p.seqs h s q i) is_it in
+            let at_a : waits_when sender receiver s q.turn a ≡ true = subst (λ (k : ℕ). waits_when sender receiver s q.turn k ≡ true) here there in
+            wait_is (operator p sender) (operator p receiver) (later s a) x
+            (subst (λ (o : Option Instr). is_wait (operator p sender) (operator p receiver) (later s a) o ≡ true) e at_a)
+
+    pub of_others : (m t sender receiver : ℕ) → ((s a : ℕ) (x : Instr) → Communicates p m t s a x → s ≢ sender → s ≢ receiver → (x ≡ Sync (operator p sender) (operator p receiver)) × (later s a ≡ true))
+        → all_at (waits_so m t sender receiver) 0 p.seqs ≡ true
+    of_others m t sender receiver h =
+        to_zero (waits_so m t sender receiver) p.seqs (λ s q i.
+        implying (is_other m sender receiver s q.seq.medium) (waits_when sender receiver s q.turn (communication_at q.turn t)) (λ other.
+        let last = and_parts (is_on m q.seq.medium && not (nat_eq s sender)) (not (nat_eq s receiver)) other in
+        let first = and_parts (is_on m q.seq.medium) (not (nat_eq s sender)) last.0 in
+        by s q i first.0 (differ s sender first.1) (differ s receiver last.1) (slice_get q.turn (communication_at q.turn t)) refl))
+      where
+        differ : (a b : ℕ) → not (nat_eq a b) ≡ true → a ≢ b
+        differ a b h e = let k : not true ≡ true = subst (λ (t : Bool). not t ≡ true) (eq-eqb a b e) h in false≢true k
+
+        by : (s : ℕ) (q : SeqCode) → slice_get p.seqs s ≡ Some q → is_on m q.seq.medium ≡ true → s ≢ sender → s ≢ receiver → (o : Option Instr) → slice_get q.turn (communication_at q.turn t) ≡ o
+            → is_wait (operator p sender) (operator p receiver) (later s (communication_at q.turn t)) o ≡ true
+        by s q i on a b None e = refl
+        by s q i on a b (Some x) e =
+            let f = found_at q.turn t x e in
+            let c : Communicates p m t s (communication_at q.turn t) x =
+            record {
+              on = ap medium_in i ∙ on_is m q.seq.medium on;
+              stands = subst (λ (o : Option SeqCode). slice_get (turn_of o) (communication_at q.turn t) ≡ Some x) (sym i) e;
+              is_one = f.0;
+              number = subst (λ (o : Option SeqCode). count_by is_communication (take (communication_at q.turn t) (turn_of o)) ≡ t) (sym i) f.1;
+            } in
+            let r = h s (communication_at q.turn t) x c a b in
+            is_waiting (operator p sender) (operator p receiver) (later s (communication_at q.turn t)) x r.0 r.1
+
+module _ (p : Program) (order : List ℕ) where
   transfer_of : (m t : ℕ) → is_transfer p order m t ≡ true → IsTransfer p order (places p) m t
   transfer_of m t h =
       let s = sender_of p m t in
@@ -178,12 +196,10 @@ module _ (p : Program) (order : List ℕ) where
       let ordered = and_parts _ (nat_lt (place_of p order s t) (place_of p order r t)) next.0 in
       let others = and_parts _ (all_at (waits p order m t s r) 0 p.seqs) ordered.0 in
       let ends = and_parts (is_sent p m t s r) (is_received p m t s r) others.0 in
-      let sent = and_parts (is_on m (medium p s)) (is_send_to (operator p r) (slice_get (turn p s) (stands_at p s t))) ends.0 in
-      let received = and_parts (is_on m (medium p r)) (is_receive_from (operator p s) (slice_get (turn p r) (stands_at p r t))) ends.1 in
       record {
-        sends = communicates m t s (Send (buffer_at p s t) (operator p r)) sent.0 (send_is (operator p r) (slice_get (turn p s) (stands_at p s t)) sent.1);
-        receives = communicates m t r (Recv (buffer_at p r t) (operator p s)) received.0 (receive_is (operator p s) (slice_get (turn p r) (stands_at p r t)) received.1);
-        others = others_of m t s r others.1;
+        sends = sends_of p m t s r ends.0;
+        receives = receives_of p m t s r ends.1;
+        others = λ u a x c d e. let w = others_of p (is_later p order t r) m t s r others.1 u a x c d e in (w.0, ltb-true (place_of p order r t) (place_in order u a) w.1);
         in_order = ltb-true (place_of p order s t) (place_of p order r t) ordered.1;
         next = λ l. ltb-true (place_of p order r t) (place_of p order (sender_of p m (t + 1)) (t + 1)) (implied (nat_lt (t + 1) (transfers p m)) (nat_lt (place_of p order r t) (place_of p order (sender_of p m (t + 1)) (t + 1))) next.1 (lt-ltb (t + 1) (transfers p m) l));
         lengths = eqb-true (len_of p (buffer_at p r t)) (len_of p (buffer_at p s t)) long.1;
@@ -194,9 +210,9 @@ module _ (p : Program) (order : List ℕ) where
       let s = sender_of p m t in
       let r = receiver_of p m t in
       both_true (both_true (both_true (both_true (both_true
-      (both_true (is_on_it m (medium p s) i.sends.on) (subst (λ (o : Option Instr). is_send_to (operator p r) o ≡ true) (sym i.sends.stands) (same_numbers (operator p r))))
-      (both_true (is_on_it m (medium p r) i.receives.on) (subst (λ (o : Option Instr). is_receive_from (operator p s) o ≡ true) (sym i.receives.stands) (same_numbers (operator p s)))))
-      (of_others m t s r i.others))
+      (of_sends p m t s r i.sends)
+      (of_receives p m t s r i.receives))
+      (of_others p (is_later p order t r) m t s r (λ u a x c d e. let w = i.others u a x c d e in (w.0, lt-ltb (place_of p order r t) (place_in order u a) w.1))))
       (lt-ltb (place_of p order s t) (place_of p order r t) i.in_order))
       (implying (nat_lt (t + 1) (transfers p m)) (nat_lt (place_of p order r t) (place_of p order (sender_of p m (t + 1)) (t + 1))) (λ l.
       lt-ltb (place_of p order r t) (place_of p order (sender_of p m (t + 1)) (t + 1)) (i.next (ltb-true (t + 1) (transfers p m) l)))))

@@ -7,6 +7,7 @@ use Rattle.std.proofs.lemmas.Nat.{mod_below}
 use Rattle.std.proofs.lemmas.Option.{same_Some, slice_get_past}
 use Rattle.consistent_cuts.specs.Sites.{step_at, place_at}
 use Rattle.interleavings.specs.Owners.{sum_below}
+use Rattle.interleavings.proofs.Sums.{le_below, member_below}
 use Rattle.interleavings.specs.System.{Micro}
 use Rattle.flat_graph.specs.Graph.{Graph}
 use Rattle.flat_graph.specs.Valid.{is_flat}
@@ -22,7 +23,7 @@ use Rattle.semaphore_core.specs.Job.{JobData, reactions}
 use Rattle.semaphore_core.specs.IsJob.{IsJob}
 use Rattle.semaphore_core.specs.Core.{Core, opening, count, full, run, home_of, slot_of}
 use Rattle.semaphore_core.specs.Held.{made}
-use Rattle.semaphore_core.proofs.Opened.{sum_le, full_total}
+use Rattle.semaphore_core.proofs.Opened.{full_total}
 use Rattle.semaphore_core.proofs.Jobs.{has_places, few_steps, prologue_bare}
 use Rattle.phase_laws.specs.Agrees.{IsFormed, IsMatched, Matches, LiesAt}
 use Rattle.phase_laws.specs.Reached.{ReachedLaws}
@@ -36,14 +37,6 @@ use Rattle.phase_laws.proofs.Reached.{reached_have_laws}
 use Rattle.phase_laws.proofs.Together.{have_laws, jobs_are_supplied}
 use Rattle.word_rule.specs.Words.{element_lens}
 use Rattle.word_rule.specs.Given.{IsShaped, HasRoom, IsHere, IsThere, RunsOnWords}
-
-sum_member : (f : ℕ → ℕ) (n s : ℕ) → s < n → f s ≤ sum_below f n
-sum_member f zero s l = absurd (omega arith)
-sum_member f (suc n) s l = by (cases_eq s n) (λ k. sum_member f n s k)
-  where
-    by : (s ≡ n) ⊎ (s ≡ n → ⊥) → (s < n → f s ≤ sum_below f n) → f s ≤ sum_below f (suc n)
-    by (inl q) r = let e = ap f q in omega (arith, e)
-    by (inr q) r = let e = r (omega arith) in omega (arith, e)
 
 -- place q of this many elements each
 digit_inside : (q n l d : ℕ) → q < d → n < l → q * l + n < d * l
@@ -72,7 +65,7 @@ module _ (j : JobData) (f : IsFormed j) (supplied : IsSupplied j) (job : IsJob j
   laws_at list = reached_have_laws j supplied (run j list).counts (list, refl)
 
   made_few : (list : List ℕ) → made (run j list) ≤ 20000000
-  made_few list = let w = (laws_at list).within in let a = sum_le (count (run j list)) (full j) (length (run j list).counts) w.within in
+  made_few list = let w = (laws_at list).within in let a = le_below (count (run j list)) (full j) (length (run j list).counts) (λ i l. w.within i) in
       let b : sum_below (full j) (length (run j list).counts) ≡ sum_below (full j) (length j.program.seqs) = ap (sum_below (full j)) w.many in
       let c = full_total j in let d = few_steps j job in omega (arith, a, b, c, d)
 
@@ -111,7 +104,7 @@ module _ (j : JobData) (f : IsFormed j) (supplied : IsSupplied j) (job : IsJob j
   full_few s = by (cases_lt s (length j.program.seqs))
     where
       by : (s < length j.program.seqs) ⊎ (length j.program.seqs ≤ s) → full j s ≤ 20000000
-      by (inl l) = let a = sum_member (full j) (length j.program.seqs) s l in let b = full_total j in let c = few_steps j job in omega (arith, a, b, c)
+      by (inl l) = let a = member_below (full j) (length j.program.seqs) s l in let b = full_total j in let c = few_steps j job in omega (arith, a, b, c)
       by (inr l) = let e = slice_get_past j.program.seqs s l in
           let z : full j s ≡ 0 + reactions j * 0 = ap (λ (o : Option SeqCode). length (steps_by j.program o).prologue + reactions j * length (steps_by j.program o).turn) e in omega (arith, z)
 
