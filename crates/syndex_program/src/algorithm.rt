@@ -1,5 +1,5 @@
 //! The algorithm of a file: its definitions and the tree that they mean.
-ghost use Rattle.std.specs.Prelude.{◌≤◌, length};
+ghost use Rattle.std.specs.Prelude.{◌≡◌, ◌≤◌, length};
 ghost use Rattle.outside.specs.Shelf.{Stays, file_bound};
 ghost use Rattle.syndex_program.specs.Reads.{IsAlgorithm, MakesAlgorithm, ReadsAlgorithm};
 
@@ -15,10 +15,27 @@ use reading_laws::{accepted_are_well_read, accepted_have_periods};
 use std::alloc::Global;
 
 /// What a text says, and the tree that its definitions mean.
-#[derive(Drop)]
 pub struct Algorithm {
     pub defs: Defs,
     pub tree: Tree,
+}
+
+/// Written by hand, so that a proof walks through all that is dropped here alone, and not on each way out of a
+/// function that owns an algorithm.
+impl Drop for Algorithm {
+    fn drop(self) {
+        let Algorithm { defs: _, tree: _ } = self;
+    }
+}
+
+impl Algorithm {
+    /// Its tree alone.
+    pub fn into_tree(self) -> Tree
+        ensures { result ≡ self.tree }
+    {
+        let Algorithm { defs: _, tree } = self;
+        tree
+    }
 }
 
 /// The algorithm of a file, or why there is none.

@@ -1,5 +1,5 @@
 //! The architecture of a file: its text, and how long the flat operations of an algorithm last by it.
-ghost use Rattle.std.specs.Prelude.{◌≤◌, length};
+ghost use Rattle.std.specs.Prelude.{◌≡◌, ◌≤◌, length};
 ghost use Rattle.outside.specs.Shelf.{Stays, file_bound};
 ghost use Rattle.operation_paths.specs.Bounded.{HasBounds};
 ghost use Rattle.operation_paths.specs.Named.{HasNames};
@@ -18,11 +18,36 @@ use std::alloc::Global;
 
 /// What a text describes, the flat graph of an algorithm, and how long each of its operations lasts by
 /// the text.
-#[derive(Drop)]
 pub struct Architecture {
     pub text: ArchiText,
     pub flat: Flat,
     pub durations: Durations,
+}
+
+/// Written by hand, as that of an algorithm.
+impl Drop for Architecture {
+    fn drop(self) {
+        let Architecture {
+            text: _,
+            flat: _,
+            durations: _,
+        } = self;
+    }
+}
+
+impl Architecture {
+    /// Its flat graph and its text, without the durations.
+    pub fn into_parts(self) -> (Flat, ArchiText)
+        ensures flat { result.0 ≡ self.flat }
+        ensures text { result.1 ≡ self.text }
+    {
+        let Architecture {
+            text,
+            flat,
+            durations: _,
+        } = self;
+        (flat, text)
+    }
 }
 
 /// What the text of a file describes, whatever its durations are; or why there is nothing.

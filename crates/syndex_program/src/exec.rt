@@ -50,7 +50,7 @@ pub fn read_foreign<S: Shelf>(
     let flat = flatten(alloc, &algorithm.tree)?;
     let program = read_program(alloc, shelf, code, &flat, &text.archi)?;
     let rows = read_table(alloc, shelf, sensors, &algorithm.tree)?;
-    limited(algorithm.tree, flat, text, program, rows)
+    limited(algorithm, flat, text, program, rows)
 }
 
 /// The program of a file of macro-code that is well formed, or why there is none.

@@ -14,7 +14,7 @@ ghost use Rattle.top_plans.specs.Plans.{execution, execution_plan};
 ghost use Rattle.syndex_program.specs.Executes.{IsExecuted, files_plan, made_of, rest_plan, texts_plan};
 ghost use Rattle.syndex_program.specs.Reads.{described};
 
-use crate::algorithm::{algorithm_of, read_algorithm};
+use crate::algorithm::{Algorithm, algorithm_of, read_algorithm};
 use crate::architecture::{Architecture, architecture_of, read_architecture};
 use crate::program::built;
 use crate::table::{read_table, table_of};
@@ -32,7 +32,6 @@ use syn_base::SensorRows;
 
 /// A program that is well formed for the flat graph of an algorithm and the architecture of a text, and the rows
 /// over which it is executed.
-#[derive(Drop)]
 pub struct Execution {
     pub tree: Tree,
     pub flat: Flat,
@@ -41,6 +40,20 @@ pub struct Execution {
     pub rows: SensorRows,
     /// The micro-steps of its one job over all rows.
     pub steps: u64,
+}
+
+/// Written by hand, as that of an algorithm.
+impl Drop for Execution {
+    fn drop(self) {
+        let Execution {
+            tree: _,
+            flat: _,
+            text: _,
+            program: _,
+            rows: _,
+            steps: _,
+        } = self;
+    }
 }
 
 /// What the files of a run say is to be executed, or the first refusal.
@@ -59,7 +72,7 @@ pub fn read_execution<S: Shelf>(
     let algorithm = read_algorithm(alloc, shelf, algorithm)?;
     let architecture = read_architecture(alloc, shelf, architecture, &algorithm.tree)?;
     let rows = read_table(alloc, shelf, sensors, &algorithm.tree)?;
-    within_limits(alloc, algorithm.tree, architecture, rows)
+    within_limits(alloc, algorithm, architecture, rows)
 }
 
 /// What the texts of load `n` say is to be executed, or the first refusal.
@@ -74,48 +87,48 @@ pub fn load_execution(alloc: Global, n: u32) -> Result<Execution, Status>
     let algorithm = algorithm_of(alloc, &algorithm)?;
     let architecture = architecture_of(alloc, &architecture, &algorithm.tree)?;
     let rows = table_of(alloc, &table, &algorithm.tree)?;
-    within_limits(alloc, algorithm.tree, architecture, rows)
+    within_limits(alloc, algorithm, architecture, rows)
 }
 
 /// The program of the schedule over these rows, or the first limit that refuses it.
 fn within_limits(
     alloc: Global,
-    tree: Tree,
+    algorithm: Algorithm,
     architecture: Architecture,
     rows: SensorRows,
 ) -> Result<Execution, Status>
-    requires flat { architecture.flat ≡ flat_of tree }
+    requires flat { architecture.flat ≡ flat_of algorithm.tree }
     requires lasts { durations_of architecture.flat (described architecture.text) ≡ Ok architecture.durations }
-    requires has { HasFlat tree }
-    requires lens { rows.lens ≡ sensor_lengths tree }
+    requires has { HasFlat algorithm.tree }
+    requires lens { rows.lens ≡ sensor_lengths algorithm.tree }
     requires few { length rows.reactions ≤ 10000 }
-    ensures makes { (next : Executed → Given) (held : Held) → Makes held held (rest_plan next tree architecture.text.archi architecture.durations rows) (made_of next result) }
+    ensures makes { (next : Executed → Given) (held : Held) → Makes held held (rest_plan next algorithm.tree architecture.text.archi architecture.durations rows) (made_of next result) }
     ensures executed { IfOk result IsExecuted }
 {
     let program = built(alloc, &architecture)?;
-    let Architecture { text, flat, .. } = architecture;
-    limited(tree, flat, text, program, rows)
+    let (flat, text) = architecture.into_parts();
+    limited(algorithm, flat, text, program, rows)
 }
 
 /// The execution of these parts, or the first limit that refuses it.
 pub fn limited(
-    tree: Tree,
+    algorithm: Algorithm,
     flat: Flat,
     text: ArchiText,
     program: Program,
     rows: SensorRows,
 ) -> Result<Execution, Status>
-    requires same { flat ≡ flat_of tree }
-    requires has { HasFlat tree }
+    requires same { flat ≡ flat_of algorithm.tree }
+    requires has { HasFlat algorithm.tree }
     requires formed { IsWellFormed program flat (sequences text.archi) (length text.archi.media) }
-    requires lens { rows.lens ≡ sensor_lengths tree }
+    requires lens { rows.lens ≡ sensor_lengths algorithm.tree }
     requires few { length rows.reactions ≤ 10000 }
-    ensures makes { (next : Executed → Given) (held : Held) → Makes held held (execution_plan (execution tree text.archi program rows) next) (made_of next result) }
+    ensures makes { (next : Executed → Given) (held : Held) → Makes held held (execution_plan (execution algorithm.tree text.archi program rows) next) (made_of next result) }
     ensures executed { IfOk result IsExecuted }
 {
     match run_limit(&program, &flat, &text.archi, &rows) {
         Ok(steps) => Ok(Execution {
-            tree,
+            tree: algorithm.into_tree(),
             flat,
             text,
             program,
