@@ -16,9 +16,15 @@ use syn_base::OutOfMemory;
 /// The resolved algorithm: the main graph and all that is inside it, seen in contracts as plain
 /// data. It is well formed, the lengths of its values fit, its sensors and actuators are numbered in
 /// declared order, and it stands for at most 2,048 flat operations.
-#[derive(Drop)]
 pub struct Tree {
     main: Vertex,
+}
+
+/// By hand, as that of a vertex.
+impl Drop for Tree {
+    fn drop(self) {
+        let Tree { main: _ } = self;
+    }
 }
 
 impl Model for Tree {
