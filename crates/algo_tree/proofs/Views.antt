@@ -1,5 +1,5 @@
 -- A declared vertex beside its plain data.
-use Rattle.std.proofs.Common.{◌≡◌, ◌≢◌, ℕ, zero, suc, ◌<◌, ◌≤◌, List, [], ◌∷◌, ◌++◌, length, get_or, map, refl, sym, ap, ◌∙◌, arith}
+use Rattle.std.proofs.Common.{◌≡◌, ◌≢◌, ℕ, zero, suc, ◌+◌, ◌<◌, ◌≤◌, List, [], ◌∷◌, ◌++◌, length, get_or, map, drop, drop-cons, refl, sym, ap, ap₂, ◌∙◌, arith}
 use Rattle.level_meaning.specs.declared.source.Source.{Source}
 use Rattle.algo_tree.specs.Tree.{vertex, and_vertex, Vertex as Plain}
 use Rattle.algo_tree.specs.View.{label_view, kind_view, view_step, view, vertices_view}
@@ -39,3 +39,10 @@ no_sensor _ outs h = refl
 pub no_actuator : (k : Kind) (lens : List ℕ) → ((n : ℕ) → k ≢ Actuator n) → actuator_length (kind_view k) lens ≡ []
 no_actuator (Actuator n) lens h = absurd (h n refl)
 no_actuator _ lens h = refl
+
+-- the vertex whose turn it is stands before those that are left
+pub left_from : (us : List Vertex) (i : ℕ) (u : Vertex) → i < length us → u ≡ get_or us i u
+    → vertices_view (drop i us) ≡ and_vertex (vertex (label_view (out-Vertex u)) (vertices_view (out-Vertex u).inner.items)) (vertices_view (drop (i + 1) us))
+left_from us i u lt is =
+    let one : suc i ≡ i + 1 = omega arith in
+    ap vertices_view (drop-cons us i u lt ∙ ap₂ (λ v k. v ∷ drop k us) (sym is) one) ∙ ap (λ v. and_vertex v (vertices_view (drop (i + 1) us))) (view_out u)

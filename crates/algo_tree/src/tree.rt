@@ -1,5 +1,5 @@
 //! The tree that is kept whole.
-ghost use Rattle.std.specs.Prelude.{◌≡◌, [], map, slice_index_or, option_to_list, IfOk};
+ghost use Rattle.std.specs.Prelude.{◌≡◌, [], map, slice_index_or, option_to_list, ◌++◌, IfOk, OnOk};
 ghost use Rattle.algo_tree.specs.View.{kind_view, view, vertices_view};
 ghost use Rattle.algo_tree.specs.Typed.{outs_of, source_length};
 ghost use Rattle.algo_tree.specs.Ends.{first_length, sensor_length, sensor_lengths, sensor_lengths_in, actuator_length, actuator_lengths, actuator_lengths_in};
@@ -89,11 +89,20 @@ fn sensor_lens_in(alloc: Global, vertices: &[Vertex]) -> Result<Vec<u32>, OutOfM
 {
     let mut lens = Vec::new(alloc);
     for vertex in vertices {
-        if let Some(len) = sensor_len(&vertex.kind, vertex.outs.as_slice()) {
-            lens.push(len)?;
-        }
+        let len = sensor_len(&vertex.kind, vertex.outs.as_slice());
+        add_len(&mut lens, len)?;
     }
     Ok(lens)
+}
+
+/// Adds a length, if there is one.
+fn add_len(lens: &mut Vec<u32>, len: Option<u32>) -> Result<(), OutOfMemory>
+    ensures { OnOk result (lens.new.items ≡ lens.old.items ++ option_to_list len) }
+{
+    if let Some(len) = len {
+        lens.push(len)?;
+    }
+    Ok(())
 }
 
 /// The length of a vertex that is a sensor.
@@ -111,9 +120,8 @@ fn actuator_lens_in(alloc: Global, vertices: &[Vertex]) -> Result<Vec<u32>, OutO
 {
     let mut lens = Vec::new(alloc);
     for vertex in vertices {
-        if let Some(len) = actuator_len(vertices, &vertex.kind, vertex.ins.as_slice()) {
-            lens.push(len)?;
-        }
+        let len = actuator_len(vertices, &vertex.kind, vertex.ins.as_slice());
+        add_len(&mut lens, len)?;
     }
     Ok(lens)
 }

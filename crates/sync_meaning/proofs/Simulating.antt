@@ -17,7 +17,7 @@ use Rattle.sync_meaning.specs.Store.{lengths}
 use Rattle.sync_meaning.specs.Sound.{IsSound, IsSensor, SensorsFit, AllSensorsFit}
 use Rattle.sync_meaning.specs.Run.{given}
 use Rattle.algo_tree.specs.Well.{IsWell}
-use Rattle.algo_tree.specs.View.{view, vertices_view, kind_view}
+use Rattle.algo_tree.specs.View.{view, vertices_view, kind_view, label_view}
 use Rattle.algo_tree.specs.declared.vertex.Vertex.{Vertex as Declared, out-Vertex}
 use Rattle.algo_tree.specs.declared.vertex.Kind as declared
 use Rattle.algo_tree.specs.declared.vertex.Kind.TheVariants.{Sensor, Actuator, Constant, Delay, Function, Explode, Implode, Merge, Graph, Switch, Repeat}
@@ -292,6 +292,20 @@ pub taken_next : (us : List Declared) (i : ℕ) (u : Declared) (n : ℕ) (look :
 taken_next us i u n look at lt is =
     ap (λ (vs : List Declared). all_joined (actuator_values look (vertices_view vs))) (drop-cons us i u lt ∙ ap (λ v. v ∷ drop (suc i) us) (sym at))
     ∙ rw add-one (ap all_joined (taken_head u n look (vertices_view (drop (suc i) us)) is))
+
+-- what is no actuator takes nothing
+no_value : (look : Source → Vector) (l : Label) (k : declared.Kind) → ((n : ℕ) → k ≡ Actuator n → ⊥) → actuator_value look l (kind_view k) ≡ []
+no_value look l (Actuator n) not = absurd (not n refl)
+no_value look l _ not = refl
+
+pub other_next : (us : List Declared) (i : ℕ) (u : Declared) (look : Source → Vector) → u ≡ get_or us i u → i < length us → ((n : ℕ) → (out-Vertex u).kind ≡ Actuator n → ⊥)
+    → all_joined (actuator_values look (vertices_view (drop i us))) ≡ all_joined (actuator_values look (vertices_view (drop (i + 1) us)))
+other_next us i u look at lt not =
+    let rest = vertices_view (drop (suc i) us) in
+    ap (λ (vs : List Declared). all_joined (actuator_values look (vertices_view vs))) (drop-cons us i u lt ∙ ap (λ v. v ∷ drop (suc i) us) (sym at))
+    ∙ ap (λ w. all_joined (actuator_values look (and_vertex w rest))) (view_out u)
+    ∙ ap (λ vs. all_joined (vs ++ actuator_values look rest)) (no_value look (label_view (out-Vertex u)) (out-Vertex u).kind not)
+    ∙ ap (λ (k : ℕ). all_joined (actuator_values look (vertices_view (drop k us)))) (sym (add-one i))
 
 pub row_typed : (u : Declared) → IsTree (view u) → (ins : Values) (table : List Values) → ins ≡ [] → map lengths table ≡ outs_of (vertices_in (view u)) → AllTyped (lengths ins) (map lengths table) (vertices_view (out-Vertex u).inner.items)
 row_typed u tree ins table none lens =

@@ -36,17 +36,23 @@ fn lengths_of(
     Ok(lens)
 }
 
+/// The length of the input of a body that a line feeds.
+fn fed_length(feed: &Feed, own: &[u32]) -> u32
+    ensures { result ≡ fed_length own.now feed.now }
+{
+    match feed {
+        Feed::Fork(_, _, len) => *len,
+        Feed::Diffuse(k) | Feed::Iterate(k, _) => own.get(*k as usize).copied().unwrap_or(0),
+    }
+}
+
 /// The lengths of the inputs of a body.
 fn fed_lengths(alloc: Global, feeds: &[Feed], own: &[u32]) -> Result<Vec<u32>, OutOfMemory>
     ensures { IfOk result (λ lens. lens.items ≡ map (fed_length own.now) feeds.now) }
 {
     let mut lens = Vec::new(alloc);
     for feed in feeds {
-        let len = match feed {
-            Feed::Fork(_, _, len) => *len,
-            Feed::Diffuse(k) | Feed::Iterate(k, _) => own.get(*k as usize).copied().unwrap_or(0),
-        };
-        lens.push(len)?;
+        lens.push(fed_length(feed, own))?;
     }
     Ok(lens)
 }

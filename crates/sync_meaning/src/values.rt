@@ -1,6 +1,6 @@
 //! The values of sources, and the case that a value selects.
 ghost use Rattle.std.specs.Prelude.{◌≡◌, ◌<◌, ◌≤◌, [], length, map, slice_set, slice_index_or};
-ghost use Rattle.level_meaning.specs.Level.{source_value, selected, all_hold, zeros as zeros_of};
+ghost use Rattle.level_meaning.specs.Level.{source_value, element_at, selected, all_hold, zeros as zeros_of};
 ghost use Rattle.algo_tree.specs.Typed.{source_length, AreLengths, AreGuardsTyped};
 ghost use Rattle.sync_meaning.specs.Store.{lengths};
 ghost use Rattle.sync_meaning.specs.Run.{given};
@@ -45,12 +45,19 @@ pub fn fill(into: &mut Ins, sources: &[Source], own: &Ins, table: &[Ins])
     }
 }
 
+/// The first of these values, or 0 where there is none.
+fn first_or_zero(v: &[i64]) -> i64
+    ensures { result ≡ element_at v.now 0 }
+{
+    v.first().copied().unwrap_or(0)
+}
+
 /// The number of the first case with the value of `v`, or the number of cases.
 pub fn selected(values: &[i64], v: &[i64]) -> usize
     ensures value { result ≡ selected values.now v.now }
     ensures within { result ≤ length values.now }
 {
-    let x = v.first().copied().unwrap_or(0);
+    let x = first_or_zero(v);
     for (i, y) in values.iter().enumerate() {
         if *y == x {
             return i;

@@ -8,7 +8,7 @@ use Rattle.sync_meaning.specs.Store.{lengths}
 use Rattle.sync_meaning.specs.Run.{given, in_lengths}
 use Rattle.sync_meaning.proofs.Index.{typed_at}
 use Rattle.sync_meaning.proofs.Cycle.{ins_are}
-use Rattle.sync_meaning.proofs.Simulating.{taken_next, typed_lengths}
+use Rattle.sync_meaning.proofs.Simulating.{taken_next, other_next, typed_lengths}
 use Rattle.sync_meaning.proofs.simulator.actuator_row.Goals as goal
 
 pub append_first-requires : goal.append_first-requires
@@ -35,3 +35,9 @@ loop-vertex-preserved c =
     let added = rw c.as_slice.ensures at c.in_ok-append_first.ensures in
     ap (λ (xs : List ℤ). xs ++ later) added ∙ append_assoc c.loop-vertex.row.items (input_value look (out-Vertex c.vertex-item.result).ins) later
     ∙ ap (λ (xs : List ℤ). c.loop-vertex.row.items ++ xs) (sym next) ∙ c.loop-vertex.invariant
+
+pub loop-vertex-preserved-in_default : goal.loop-vertex-preserved-in_default
+loop-vertex-preserved-in_default c =
+    let look = source_value c.args.own.now (given c.args.table.now) in
+    let next = other_next c.deref-vertex-items.result.now c.loop-vertex.vertex-index c.vertex-item.result look c.vertex-item.is c.loop-vertex-test.true c.in_default.not-Actuator in
+    ap (λ (xs : List ℤ). c.loop-vertex.row.items ++ xs) (sym next) ∙ c.loop-vertex.invariant

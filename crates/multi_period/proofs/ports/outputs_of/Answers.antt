@@ -1,0 +1,12 @@
+use Rattle.std.proofs.Common.{ℕ, ◌++◌, ◌∷◌, [], List, map, ap, sym, ◌∙◌, add-one}
+use Rattle.std.proofs.lemmas.List.{map_push}
+use Rattle.level_meaning.specs.declared.source.Source.{Source}
+use Rattle.level_meaning.specs.declared.source.Source.TheVariants.{Of}
+use Rattle.level_meaning.specs.Level.{numbers_below}
+use Rattle.multi_period.proofs.ports.outputs_of.Goals as goal
+
+pub loop-output-preserved : goal.loop-output-preserved
+loop-output-preserved c =
+    let i = c.loop-output.output in
+    let one = λ (k : ℕ). Of c.args.vertex k in
+    c.in_ok-push.ensures.items ∙ ap (λ (ss : List Source). ss ++ one i ∷ []) c.loop-output.invariant ∙ sym (map_push one (numbers_below i) i) ∙ ap (λ (m : ℕ). map one (numbers_below m)) (sym (add-one i))
