@@ -8,13 +8,13 @@ use crate::lines::{print_case, print_edge, print_frontier, print_output, print_r
 use crate::words::{print_named, print_sized, put, put_count, put_number, put_word};
 use algo_defs::{Case, Edge, FrontierLine, Output, Reference};
 use body_lang::Port;
-use syn_base::{Items, Name, OutOfMemory};
+use syn_base::OutOfMemory;
 
 /// Appends the line of a constant, or of a delay in version 1.
 pub(crate) fn print_values(
     key: &[u8],
     name: &[u8],
-    values: &Items<i64>,
+    values: &[i64],
     text: &mut Vec<u8>,
 ) -> Result<(), OutOfMemory>
     ensures { OnOk result (text.new.items ≡ text.old.items ++ line_of (value_words key.now name.now values.now)) }
@@ -31,7 +31,7 @@ pub(crate) fn print_delay(
     version: u32,
     name: &[u8],
     depth: u32,
-    values: &Items<i64>,
+    values: &[i64],
     text: &mut Vec<u8>,
 ) -> Result<(), OutOfMemory>
     ensures { OnOk result (text.new.items ≡ text.old.items ++ line_of (delay_words version name.now depth values.now)) }
@@ -48,75 +48,71 @@ pub(crate) fn print_delay(
 }
 
 /// Appends numbers, each after a space.
-fn put_numbers(values: &Items<i64>, text: &mut Vec<u8>) -> Result<(), OutOfMemory>
+fn put_numbers(values: &[i64], text: &mut Vec<u8>) -> Result<(), OutOfMemory>
     ensures { OnOk result (text.new.items ≡ text.old.items ++ spaced (map signed_decimal values.now)) }
 {
-    for value in values.as_slice() {
+    for value in values {
         put_number(*value, text)?;
     }
     Ok(())
 }
 
 /// Appends the lines of ports, of which each begins with this word.
-fn print_ports(key: &[u8], ports: &Items<Port>, text: &mut Vec<u8>) -> Result<(), OutOfMemory>
+fn print_ports(key: &[u8], ports: &[Port], text: &mut Vec<u8>) -> Result<(), OutOfMemory>
     ensures { OnOk result (text.new.items ≡ text.old.items ++ text_of (map (port_words key.now) ports.now)) }
 {
-    for port in ports.as_slice() {
+    for port in ports {
         print_sized(key, port.name.as_bytes(), port.len, text)?;
     }
     Ok(())
 }
 
 /// Appends the lines of outputs of a function with these inputs.
-fn print_outputs(
-    ins: &Items<Port>,
-    outputs: &Items<Output>,
-    text: &mut Vec<u8>,
-) -> Result<(), OutOfMemory>
+fn print_outputs(ins: &[Port], outputs: &[Output], text: &mut Vec<u8>) -> Result<(), OutOfMemory>
     requires { All (λ o. IsRead (map (λ p. p.name) ins.now) o.formula) outputs.now }
     ensures { OnOk result (text.new.items ≡ text.old.items ++ text_of (map (output_words ins.now) outputs.now)) }
 {
-    for output in outputs.as_slice() {
-        print_output(ins.as_slice(), output, text)?;
+    for output in outputs {
+        print_output(ins, output, text)?;
     }
     Ok(())
 }
 
 /// Appends the lines of references.
-fn print_references(references: &Items<Reference>, text: &mut Vec<u8>) -> Result<(), OutOfMemory>
+fn print_references(references: &[Reference], text: &mut Vec<u8>) -> Result<(), OutOfMemory>
     ensures { OnOk result (text.new.items ≡ text.old.items ++ text_of (map reference_words references.now)) }
 {
-    for reference in references.as_slice() {
+    for reference in references {
         print_reference(reference, text)?;
     }
     Ok(())
 }
 
 /// Appends the lines of edges.
-fn print_edges(edges: &Items<Edge>, text: &mut Vec<u8>) -> Result<(), OutOfMemory>
+fn print_edges(edges: &[Edge], text: &mut Vec<u8>) -> Result<(), OutOfMemory>
     ensures { OnOk result (text.new.items ≡ text.old.items ++ text_of (map edge_words edges.now)) }
 {
-    for edge in edges.as_slice() {
+    for edge in edges {
         print_edge(edge, text)?;
     }
     Ok(())
 }
 
 /// Appends the lines of cases.
-fn print_cases(cases: &Items<Case>, text: &mut Vec<u8>) -> Result<(), OutOfMemory>
+fn print_cases(cases: &[Case], text: &mut Vec<u8>) -> Result<(), OutOfMemory>
     ensures { OnOk result (text.new.items ≡ text.old.items ++ text_of (map case_words cases.now)) }
 {
-    for case in cases.as_slice() {
+    for case in cases {
         print_case(case, text)?;
     }
     Ok(())
 }
 
 /// Appends the frontier lines of a repetition.
-fn print_frontiers(lines: &Items<FrontierLine>, text: &mut Vec<u8>) -> Result<(), OutOfMemory>
+fn print_frontiers(lines: &[FrontierLine], text: &mut Vec<u8>) -> Result<(), OutOfMemory>
     ensures { OnOk result (text.new.items ≡ text.old.items ++ text_of (map frontier_words lines.now)) }
 {
-    for line in lines.as_slice() {
+    for line in lines {
         print_frontier(&line.frontier, text)?;
     }
     Ok(())
@@ -125,8 +121,8 @@ fn print_frontiers(lines: &Items<FrontierLine>, text: &mut Vec<u8>) -> Result<()
 /// Appends the lines of a function.
 pub(crate) fn print_function(
     name: &[u8],
-    ins: &Items<Port>,
-    outs: &Items<Output>,
+    ins: &[Port],
+    outs: &[Output],
     text: &mut Vec<u8>,
 ) -> Result<(), OutOfMemory>
     requires { All (λ o. IsRead (map (λ p. p.name) ins.now) o.formula) outs.now }
@@ -141,10 +137,10 @@ pub(crate) fn print_function(
 /// Appends the lines of a graph.
 pub(crate) fn print_graph(
     name: &[u8],
-    ins: &Items<Port>,
-    outs: &Items<Port>,
-    references: &Items<Reference>,
-    edges: &Items<Edge>,
+    ins: &[Port],
+    outs: &[Port],
+    references: &[Reference],
+    edges: &[Edge],
     text: &mut Vec<u8>,
 ) -> Result<(), OutOfMemory>
     ensures { OnOk result (text.new.items ≡ text.old.items ++ text_of (whole_graph name.now ins.now outs.now references.now edges.now)) }
@@ -160,32 +156,32 @@ pub(crate) fn print_graph(
 /// Appends the lines of a switch.
 pub(crate) fn print_switch(
     name: &[u8],
-    on: &Name,
-    ins: &Items<Port>,
-    outs: &Items<Port>,
-    cases: &Items<Case>,
-    otherwise: &Name,
+    on: &[u8],
+    ins: &[Port],
+    outs: &[Port],
+    cases: &[Case],
+    otherwise: &[u8],
     text: &mut Vec<u8>,
 ) -> Result<(), OutOfMemory>
     ensures { OnOk result (text.new.items ≡ text.old.items ++ text_of (whole_switch name.now on.now ins.now outs.now cases.now otherwise.now)) }
 {
     print_named(b"switch", name, text)?;
     print_inputs_and_cases(on, ins, outs, cases, text)?;
-    print_named(b"otherwise", otherwise.as_bytes(), text)?;
+    print_named(b"otherwise", otherwise, text)?;
     put(b"end\n", text)
 }
 
 /// Appends the lines of a switch between its first and the one with `otherwise`.
 fn print_inputs_and_cases(
-    on: &Name,
-    ins: &Items<Port>,
-    outs: &Items<Port>,
-    cases: &Items<Case>,
+    on: &[u8],
+    ins: &[Port],
+    outs: &[Port],
+    cases: &[Case],
     text: &mut Vec<u8>,
 ) -> Result<(), OutOfMemory>
     ensures { OnOk result (text.new.items ≡ text.old.items ++ text_of (switch_lines on.now ins.now outs.now cases.now)) }
 {
-    print_named(b"on", on.as_bytes(), text)?;
+    print_named(b"on", on, text)?;
     print_ports(b"in", ins, text)?;
     print_ports(b"out", outs, text)?;
     print_cases(cases, text)
@@ -195,8 +191,8 @@ fn print_inputs_and_cases(
 pub(crate) fn print_repeat(
     name: &[u8],
     copies: u32,
-    def: &Name,
-    lines: &Items<FrontierLine>,
+    def: &[u8],
+    lines: &[FrontierLine],
     text: &mut Vec<u8>,
 ) -> Result<(), OutOfMemory>
     ensures { OnOk result (text.new.items ≡ text.old.items ++ text_of (whole_repeat name.now copies def.now lines.now)) }
@@ -210,7 +206,7 @@ pub(crate) fn print_repeat(
 fn print_repeated(
     name: &[u8],
     copies: u32,
-    def: &Name,
+    def: &[u8],
     text: &mut Vec<u8>,
 ) -> Result<(), OutOfMemory>
     ensures { OnOk result (text.new.items ≡ text.old.items ++ line_of (codes "repeat" ∷ name.now ∷ count copies ∷ def.now ∷ [])) }
@@ -218,6 +214,6 @@ fn print_repeated(
     put(b"repeat", text)?;
     put_word(name, text)?;
     put_count(copies, text)?;
-    put_word(def.as_bytes(), text)?;
+    put_word(def, text)?;
     put(b"\n", text)
 }

@@ -58,15 +58,26 @@ fn print_definition(
     match body {
         Body::Sensor(len) => print_sized(b"sensor", name, *len, text),
         Body::Actuator(len) => print_sized(b"actuator", name, *len, text),
-        Body::Constant(values) => print_values(b"constant", name, values, text),
-        Body::Delay(depth, values) => { print_delay(version, name, *depth, values, text) }
-        Body::Function { ins, outs } => { print_function(name, ins, outs, text) }
+        Body::Constant(values) => print_values(b"constant", name, values.as_slice(), text),
+        Body::Delay(depth, values) => {
+            print_delay(version, name, *depth, values.as_slice(), text)
+        }
+        Body::Function { ins, outs } => {
+            print_function(name, ins.as_slice(), outs.as_slice(), text)
+        }
         Body::Graph {
             ins,
             outs,
             references,
             edges,
-        } => print_graph(name, ins, outs, references, edges, text),
+        } => print_graph(
+            name,
+            ins.as_slice(),
+            outs.as_slice(),
+            references.as_slice(),
+            edges.as_slice(),
+            text,
+        ),
         Body::Switch {
             on,
             ins,
@@ -74,7 +85,17 @@ fn print_definition(
             cases,
             otherwise,
             ..
-        } => print_switch(name, on, ins, outs, cases, otherwise, text),
-        Body::Repeat { copies, def, lines } => { print_repeat(name, *copies, def, lines, text) }
+        } => print_switch(
+            name,
+            on.as_bytes(),
+            ins.as_slice(),
+            outs.as_slice(),
+            cases.as_slice(),
+            otherwise.as_bytes(),
+            text,
+        ),
+        Body::Repeat { copies, def, lines } => {
+            print_repeat(name, *copies, def.as_bytes(), lines.as_slice(), text)
+        }
     }
 }

@@ -7,4 +7,4 @@ pub returns : goal.returns
 returns c =
     bytes_last c.put.result _ _ _ (line_of (codes "switch" ∷ c.args.name.now ∷ [])) _ c.in_ok-print_named.ensures
     (lines_last c.put.result _ _ _ (switch_lines c.args.on.now c.args.ins.now c.args.outs.now c.args.cases.now) (otherwise_lines c.args.otherwise.now) c.in_ok-print_inputs_and_cases.ensures
-    (bytes_last c.put.result _ _ _ (line_of (codes "otherwise" ∷ c.args.otherwise.now ∷ [])) (line_of end_words) (rw c.as_bytes.ensures.same at c.in_ok-print_named-2.ensures) c.put.ensures))
+    (bytes_last c.put.result _ _ _ (line_of (codes "otherwise" ∷ c.args.otherwise.now ∷ [])) (line_of end_words) c.in_ok-print_named-2.ensures c.put.ensures))
