@@ -19,5 +19,5 @@ pub mod Ready
 pub mod Runs
 pub mod Counting
 pub mod FewSequences
-mod RowFive
+pub mod RowFive
 mod RowNine
