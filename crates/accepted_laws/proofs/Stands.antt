@@ -1,5 +1,5 @@
 -- The flat graph that is defined stands for the flat list of its tree.
-use Rattle.std.proofs.Common.{◌≡◌, ℕ, zero, suc, ◌+◌, ◌≤◌, List, [], ◌∷◌, ◌++◌, map, length, Option, Some, None, refl, sym, ap, ap₂, ◌∙◌, subst, arith, add-zero, zero-add, append_assoc, length-append}
+use Rattle.std.proofs.Common.{◌≡◌, ℕ, zero, suc, ◌+◌, ◌≤◌, List, [], ◌∷◌, ◌++◌, map, length, Option, Some, None, refl, sym, ap, ap₂, ◌∙◌, subst, arith, zero-add, append_assoc, length-append}
 use Rattle.std.specs.Prelude.{slice_get, slice_index_or}
 use Rattle.std.proofs.lemmas.List.{get_or_at}
 use Rattle.body_lang.specs.Expr.{Expr}
@@ -32,6 +32,7 @@ use Rattle.flat_laws.proofs.Halves.{IsHalf, Follow, follow-main}
 use Rattle.flat_laws.proofs.KindTests.{long}
 use Rattle.flat_laws.proofs.Fits.{AllFit, fit-main}
 use Rattle.flat_laws.proofs.Lengths.{Outs}
+use Rattle.flat_laws.proofs.Valid.{outs-from}
 use Rattle.accepted_laws.specs.Flat.{FlatOfStands, FlatTakesTheSame, TreesHaveFlat}
 
 -- A task that a vertex of a flat graph tells: no graph, switch, repetition or delay is run.
@@ -148,13 +149,6 @@ made-at : (p v b : ℕ) (ops : List Operation) (i : ℕ) (op : Operation) → sl
 made-at p v b [] i op is = absurd (cc)
 made-at p v b (x ∷ ops) zero op is = let e : x ≡ op = cc in ap (λ (o : Operation). slice_index_or o.outs p 0) e
 made-at p v b (x ∷ ops) (suc i) op is = made-at p (suc v) (b + length (body_of x.task)) ops i op is
-
-outs-from : (vertices : List Vertex) (b : ℕ) (ops : List Operation) → ((i : ℕ) (op : Operation) → slice_get ops i ≡ Some op → (p : ℕ) → long vertices (Of (b + i) p) ≡ slice_index_or op.outs p 0) → Outs (long vertices) (λ k. refl) b ops
-outs-from vertices b [] h = tt
-outs-from vertices b (op ∷ ops) h = (
-  (λ p. subst (λ m. long vertices (Of m p) ≡ slice_index_or op.outs p 0) (add-zero b) (h 0 op refl p)),
-  outs-from vertices (suc b) ops (λ i o is p. let e : b + suc i ≡ suc b + i = omega arith in subst (λ m. long vertices (Of m p) ≡ slice_index_or o.outs p 0) e (h (suc i) o is p)),
-)
 
 outs-made : (ops : List Operation) → Outs (long (graph_of ops).vertices) (λ k. refl) 0 ops
 outs-made ops = outs-from (graph_of ops).vertices 0 ops (λ i op is p. subst (λ m. long (graph_of ops).vertices (Of m p) ≡ slice_index_or op.outs p 0) (sym (zero-add i)) (made-at p 0 0 ops i op is))

@@ -1,4 +1,5 @@
 pub mod Bounds
+pub mod Few
 pub mod Flags
 pub mod Names
 pub mod Rounds

@@ -12,11 +12,12 @@ use Rattle.executive_program.specs.Instructions.{Reader, reads, readers, turn}
 use Rattle.executive_program.specs.Places.{places, reader, reader_or, signals_empty, signals_full, takes_empty, takes_full, writer_of, written_at}
 use Rattle.executive_program.specs.WellFormed.{IsOnly, IsPair, ReadsAt, Stands, operator_of}
 use Rattle.executive_program.proofs.Passing.{empty_taken, full_taken, empty_signalled, full_signalled}
+use Rattle.executive_program.proofs.Reading.{reads_of, of_reads}
 use Rattle.program_walks.specs.Walks.{all_at, every, implies}
 use Rattle.buffer_check.specs.Pairs.{are_pairs, first_place, guards, has_operator, is_full_first, is_read_between, is_written_between, reads_between}
 use Rattle.program_walks.specs.Acts.{is_only, passes}
 use Rattle.program_walks.proofs.ListTests.{every_of, of_every, from_zero, to_zero, implied, implying}
-use Rattle.program_walks.proofs.Readings.{reads_test, same_numbers, test_reads}
+use Rattle.program_walks.proofs.Readings.{same_numbers}
 
 passed : (test : Instr → Bool) (x : Instr) → ((y : Instr) → test y ≡ true → y ≡ x) → (o : Option Instr) → passes test o ≡ true → o ≡ Some x
 passed test x same None h = absurd (false≢true h)
@@ -71,14 +72,14 @@ module _ (p : Program) where
 
   between_of : (b s after before : ℕ) → reads_between p b s after before ≡ true → (a k : ℕ) (x : Instr) → Stands p s a x → ReadsAt x k b → (after < a) × (a < before)
   between_of b s after before h a k x e t =
-      let r = and_parts (nat_lt after a) (nat_lt a before) (implied (reads b x) (nat_lt after a && nat_lt a before) (from_zero (between_test b after before) (turn p s) h a x e) (reads_test b k x t)) in
+      let r = and_parts (nat_lt after a) (nat_lt a before) (implied (reads b x) (nat_lt after a && nat_lt a before) (from_zero (between_test b after before) (turn p s) h a x e) (of_reads b k x t)) in
       (ltb-true after a r.0, ltb-true a before r.1)
 
   of_between : (b s after before : ℕ) → ((a k : ℕ) (x : Instr) → Stands p s a x → ReadsAt x k b → (after < a) × (a < before)) → reads_between p b s after before ≡ true
   of_between b s after before h =
       to_zero (between_test b after before) (turn p s) (λ a x e.
       implying (reads b x) (nat_lt after a && nat_lt a before) (λ t.
-      let r = test_reads b x t in let l = h a r.0 x e r.1 in both_true (lt-ltb after a l.0) (lt-ltb a before l.1)))
+      let r = reads_of b x t in let l = h a r.0 x e r.1 in both_true (lt-ltb after a l.0) (lt-ltb a before l.1)))
 
   abbrev Writes : ℕ → ℕ → ℕ → ℕ → ℕ → Type 0
   Writes q w at take signal = IsOnly p w take (Suc0 q) × IsOnly p w signal (Pre1 q) × (take < at) × (at < signal)

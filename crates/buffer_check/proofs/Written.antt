@@ -12,9 +12,10 @@ use Rattle.executive_program.specs.declared.program.Program.{Program}
 use Rattle.executive_program.specs.Instructions.{depth_of, is_guarded, operator, operator_in, reads, turn, turn_of, writes}
 use Rattle.executive_program.specs.Places.{places, writing}
 use Rattle.executive_program.specs.WellFormed.{IsBuffer, ReadsAt, Stands, WritesAt, operator_is}
+use Rattle.executive_program.proofs.Reading.{reads_of, of_reads, writes_of, of_writes}
 use Rattle.program_walks.specs.Walks.{implies}
 use Rattle.buffer_check.specs.Buffers.{are_buffers, has_places, is_buffer, is_near, is_operator, is_written_first, is_written_once, touches, writes_at, writes_only}
-use Rattle.program_walks.proofs.Readings.{or_left, or_right, or_cases, same_numbers, any_here, there_any, entry_is, is_entry, reads_test, test_reads}
+use Rattle.program_walks.proofs.Readings.{or_left, or_right, or_cases, same_numbers, entry_is, is_entry}
 use Rattle.program_walks.proofs.ListTests.{all_here, all_there, below_of, of_below, every_of, of_every, from_zero, to_zero, implied, implying}
 
 writes_is : (b port : ℕ) (o : Option Instr) → writes_at b port o ≡ true → (x : Instr) × (o ≡ Some x) × WritesAt x port b
@@ -53,26 +54,16 @@ is_only b port here (Call v ins outs) h =
 is_only b port here (Recv c q) h = implying (nat_eq c b) (here && nat_eq 0 port) (λ same. let r = h 0 (eqb-true c b same, refl) in both_true r.0 (eq-eqb 0 port r.1))
 is_only b port here _ h = refl
 
-writes_test : (b k : ℕ) (x : Instr) → WritesAt x k b → writes b x ≡ true
-writes_test b k (Call v ins outs) h = any_here b outs k h
-writes_test b k (Recv c q) h = eq-eqb c b h.0
-writes_test b k _ h = absurd h
-
-test_writes : (b : ℕ) (x : Instr) → writes b x ≡ true → (k : ℕ) × WritesAt x k b
-test_writes b (Call v ins outs) h = there_any b outs h
-test_writes b (Recv c q) h = (0, (eqb-true c b h, refl))
-test_writes b _ h = absurd (false≢true h)
-
 touches_test : (b k : ℕ) (x : Instr) → WritesAt x k b ⊎ ReadsAt x k b → touches b x ≡ true
 touches_test b k x h = elim h [
-  | inl w ↦ or_left (writes b x) (reads b x) (writes_test b k x w)
-  | inr r ↦ or_right (writes b x) (reads b x) (reads_test b k x r)
+  | inl w ↦ or_left (writes b x) (reads b x) (of_writes b k x w)
+  | inr r ↦ or_right (writes b x) (reads b x) (of_reads b k x r)
 ]
 
 test_touches : (b : ℕ) (x : Instr) → touches b x ≡ true → (k : ℕ) × (WritesAt x k b ⊎ ReadsAt x k b)
 test_touches b x h = elim (or_cases (writes b x) (reads b x) h) [
-  | inl w ↦ (let r = test_writes b x w in (r.0, inl r.1))
-  | inr r ↦ (let t = test_reads b x r in (t.0, inr t.1))
+  | inl w ↦ (let r = writes_of b x w in (r.0, inl r.1))
+  | inr r ↦ (let t = reads_of b x r in (t.0, inr t.1))
 ]
 
 module _ (p : Program) where
@@ -123,12 +114,12 @@ module _ (p : Program) where
   first_of : (b writer at : ℕ) → is_written_first p b writer at ≡ true → (a k : ℕ) (x : Instr) → Stands p writer a x → ReadsAt x k b → at < a
   first_of b writer at h a k x e t =
       ltb-true at a
-      (implied (reads b x) (nat_lt at a) (from_zero (λ (a : ℕ) (x : Instr). implies (reads b x) (nat_lt at a)) (turn p writer) h a x e) (reads_test b k x t))
+      (implied (reads b x) (nat_lt at a) (from_zero (λ (a : ℕ) (x : Instr). implies (reads b x) (nat_lt at a)) (turn p writer) h a x e) (of_reads b k x t))
 
   of_first : (b writer at : ℕ) → ((a k : ℕ) (x : Instr) → Stands p writer a x → ReadsAt x k b → at < a) → is_written_first p b writer at ≡ true
   of_first b writer at h =
       to_zero (λ (a : ℕ) (x : Instr). implies (reads b x) (nat_lt at a)) (turn p writer) (λ a x e.
-      implying (reads b x) (nat_lt at a) (λ t. let r = test_reads b x t in lt-ltb at a (h a r.0 x e r.1)))
+      implying (reads b x) (nat_lt at a) (λ t. let r = reads_of b x t in lt-ltb at a (h a r.0 x e r.1)))
 
   -- a buffer that no pair guards has one place
   shallow : (b : ℕ) (guarded : Bool) → is_guarded p b ≡ guarded → (is_guarded p b ≡ false → depth_of p b ≡ 1) → (nat_eq (depth_of p b) 1 || is_guarded p b) ≡ true

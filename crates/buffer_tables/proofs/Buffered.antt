@@ -4,6 +4,7 @@ use Rattle.std.specs.Prelude.{slice_get}
 use Rattle.std.specs.List.{list_all, list_any}
 use Rattle.std.specs.Cmp.Derive.{both_true}
 use Rattle.std.proofs.lemmas.Bool.{false≢true, and_parts, eqb-true, or_left, or_right, or_cases}
+use Rattle.std.proofs.Math.Bool.{and-true}
 use Rattle.mark_table.specs.declared.table.Mark.{Mark}
 use Rattle.executive_program.specs.declared.program.Instr.{Instr}
 use Rattle.executive_program.specs.declared.program.Instr.TheVariants.{Suc0, Suc1, Pre0, Pre1, Call, Send, Recv, Sync}
@@ -19,14 +20,10 @@ use Rattle.program_tables.specs.Marks.{named, marks_of}
 use Rattle.program_tables.proofs.Naming.{all_marks}
 use Rattle.program_tables.proofs.Lone.{same_tests, stands_are}
 
-and_true : (b : Bool) → (b && true) ≡ b
-and_true true = refl
-and_true false = refl
-
 -- written once
 only_one : (b port : ℕ) (here : Bool) (x : Instr) → all_at (λ k c. implies (nat_eq c b) (here && nat_eq k port)) 0 (named Written x) ≡ writes_only b port here x
 only_one b port here (Call v ins outs) = refl
-only_one b port here (Recv c q) = and_true (implies (nat_eq c b) (here && nat_eq 0 port))
+only_one b port here (Recv c q) = and-true (implies (nat_eq c b) (here && nat_eq 0 port))
 only_one b port here (Suc0 q) = refl
 only_one b port here (Suc1 q) = refl
 only_one b port here (Pre0 q) = refl

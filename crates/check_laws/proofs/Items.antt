@@ -12,10 +12,10 @@ use Rattle.executive_program.specs.declared.program.Instr.{Instr}
 use Rattle.executive_program.specs.declared.program.Instr.TheVariants.{Suc0, Suc1, Pre0, Pre1, Call, Send, Recv, Sync}
 use Rattle.executive_program.specs.declared.program.SeqCode.{SeqCode}
 use Rattle.executive_program.specs.declared.program.Program.{Program}
-use Rattle.executive_program.specs.Blocks.{repeated}
 use Rattle.executive_program.specs.Instructions.{prologue, prologue_of, operator, operator_in, communications, readers, is_communication}
 use Rattle.executive_program.specs.Places.{transfer, opening_signals, signals_of}
 use Rattle.executive_program.specs.WellFormed.{Stands, IsOrder}
+use Rattle.executive_program.proofs.Reading.{from_repeated}
 use Rattle.sequence_build_laws.proofs.Lists.{in_flat, map_at}
 use Rattle.sequence_build_laws.proofs.Loops.{code_there}
 use Rattle.sequence_build_laws.proofs.Sequences.{range_at, range_length}
@@ -24,11 +24,6 @@ use Rattle.check_laws.specs.Items.{NamesThere, IsTransferred, HasItems}
 use Rattle.check_laws.proofs.Orders.{Part, sends, receives, waits, part, transferred, Communication, communication}
 use Rattle.check_laws.proofs.Reading.{many}
 use Rattle.check_laws.proofs.Made.{all_made}
-
-from_repeated : {A : Type 0} (x : A) (n i : ℕ) (y : A) → slice_get (repeated x n) i ≡ Some y → y ≡ x
-from_repeated x zero i y e = absurd cc
-from_repeated x (suc n) zero y e = sym (same_Some x y e)
-from_repeated x (suc n) (suc i) y e = from_repeated x n i y e
 
 own_operator : (o n : ℕ) (media : List Medium) (k : ℕ) (q : Seq) → slice_get (communicators o n media) k ≡ Some q → q.operator ≡ o
 own_operator o n [] k q e = absurd cc

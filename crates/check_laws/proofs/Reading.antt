@@ -1,56 +1,23 @@
 -- In an order of a well-formed program each read stands after the write.
-use Rattle.std.proofs.Common.{◌≡◌, ℕ, zero, suc, ◌+◌, ◌<◌, Bool, true, false, not, cond, nat_eq, List, [], ◌∷◌, length, Option, Some, refl, sym, ap, subst, inl, inr, arith, ◌∙◌, eq-eqb}
+use Rattle.std.proofs.Common.{◌≡◌, ℕ, ◌+◌, ◌<◌, Bool, true, false, not, List, length, Option, Some, refl, sym, ap, subst, inl, inr, arith, ◌∙◌}
 use Rattle.std.specs.Prelude.{slice_get}
 use Rattle.std.specs.List.{list_any}
 use Rattle.std.specs.Cmp.Derive.{both_true}
-use Rattle.std.proofs.lemmas.Bool.{false≢true, eqb-true, cases_eq}
+use Rattle.std.proofs.lemmas.Bool.{cases_eq}
 use Rattle.std.proofs.lemmas.List.{length-map}
-use Rattle.std.proofs.lemmas.Option.{same_Some, slice_get_within}
+use Rattle.std.proofs.lemmas.Option.{slice_get_within}
 use Rattle.flat_graph.specs.Graph.{Graph}
 use Rattle.archi_graph.specs.declared.medium.Seq.{Seq}
 use Rattle.executive_program.specs.declared.program.Instr.{Instr}
-use Rattle.executive_program.specs.declared.program.Instr.TheVariants.{Call, Send, Recv}
 use Rattle.executive_program.specs.declared.program.SeqCode.{SeqCode}
 use Rattle.executive_program.specs.declared.program.Program.{Program}
-use Rattle.executive_program.specs.Blocks.{blocks}
-use Rattle.executive_program.specs.Instructions.{reads, writes, turn, turn_of, Reader, waits_for, readers_from, readers}
+use Rattle.executive_program.specs.Instructions.{reads, writes, turn, turn_of, Reader, readers_from, readers}
 use Rattle.executive_program.specs.Places.{pair, reader, reader_or, writing}
-use Rattle.executive_program.specs.WellFormed.{Stands, WritesAt, ReadsAt, IsOrder, operator_of, place_in}
-use Rattle.sequence_build_laws.proofs.Lists.{any_at, any_of, get_before, get_past, counts_tally}
+use Rattle.executive_program.specs.WellFormed.{Stands, ReadsAt, IsOrder, operator_of, place_in}
+use Rattle.executive_program.proofs.Reading.{any_at, any_of, of_reads, writes_of, to_readers, in_all}
+use Rattle.sequence_build_laws.proofs.Lists.{counts_tally}
 use Rattle.sequence_build_laws.proofs.Loops.{code_there}
-use Rattle.check_laws.proofs.Turns.{mine, place_rises}
-
-of_reads : (b k : ℕ) (x : Instr) → ReadsAt x k b → reads b x ≡ true
-of_reads b k (Call v ins outs) h = any_at (λ n. nat_eq n b) ins k b h (eq-eqb b b refl)
-of_reads b k (Send n o) h = eq-eqb n b h.0
-of_reads b k _ h = absurd h
-
-writes_of : (b : ℕ) (x : Instr) → writes b x ≡ true → (k : ℕ) × WritesAt x k b
-writes_of b (Call v ins outs) h = let q = any_of (λ n. nat_eq n b) outs h in (q.0, q.2 ∙ ap (λ (n : ℕ). Some n) (eqb-true q.1 b q.3))
-writes_of b (Recv n o) h = (0, (eqb-true n b h, refl))
-writes_of b _ h = absurd (false≢true h)
-
-reader_is : (b s t : ℕ) → s ≡ t → ◌≡◌ {A = Reader} (record { buffer = b; sequence = s }) (record { buffer = b; sequence = t })
-reader_is b s t e = ap (λ (n : ℕ). record { buffer = b; sequence = n }) e
-
-to_readers : (s : ℕ) (qs : List SeqCode) (b k : ℕ) (q : SeqCode) → slice_get qs k ≡ Some q → waits_for b q ≡ true → (i : ℕ) × (slice_get (readers_from s qs b) i ≡ Some (record { buffer = b; sequence = s + k }))
-to_readers s [] b k q e h = absurd cc
-to_readers s (y ∷ ys) b zero q e h = let t : waits_for b y ≡ true = ap (waits_for b) (same_Some y q e) ∙ h in
-    (0, rw t (ap (λ (r : Reader). Some r) (reader_is b s (s + 0) (omega arith))))
-to_readers s (y ∷ ys) b (suc k) q e h = by (waits_for b y) (to_readers (suc s) ys b k q e h)
-  where
-    by : (t : Bool) → (i : ℕ) × (slice_get (readers_from (suc s) ys b) i ≡ Some (record { buffer = b; sequence = suc s + k }))
-        → (i : ℕ) × (slice_get (cond t (record { buffer = b; sequence = s } ∷ readers_from (suc s) ys b) (readers_from (suc s) ys b)) i ≡ Some (record { buffer = b; sequence = s + suc k }))
-    by true r = (suc r.0, r.1 ∙ ap (λ (r : Reader). Some r) (reader_is b (suc s + k) (s + suc k) (omega arith)))
-    by false r = (r.0, r.1 ∙ ap (λ (r : Reader). Some r) (reader_is b (suc s + k) (s + suc k) (omega arith)))
-
--- what stands in a block stands in the list of all blocks
-in_all : {A : Type 0} (f : ℕ → List A) (n b k : ℕ) (x : A) → b < n → slice_get (f b) k ≡ Some x → (i : ℕ) × (slice_get (blocks f n) i ≡ Some x)
-in_all f zero b k x l e = absurd (omega arith)
-in_all f (suc n) b k x l e = elim (cases_eq b n) [
-  | inl q ↦ (length (blocks f n) + k, get_past (blocks f n) (f n) k ∙ ap (λ (m : ℕ). slice_get (f m) k) (sym q) ∙ e)
-  | inr q ↦ (let r = in_all f n b k x (omega arith) e in (r.0, get_before (blocks f n) (f n) r.0 x r.1))
-]
+use Rattle.sequence_build_laws.proofs.Turns.{mine, place_rises}
 
 module _ (p : Program) (g : Graph) (seqs : List Seq) (media : ℕ) (order : List ℕ) (h : IsOrder p g seqs media order) where
   pub many : length p.pairs ≡ length (readers p)

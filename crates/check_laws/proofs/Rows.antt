@@ -1,29 +1,13 @@
 -- The run computed on worked programs: one that comes to its end, the same with a signal moved, and one that stops.
-use Rattle.std.proofs.Common.{◌≡◌, ℕ, Bool, true, false, List, [], ◌∷◌, ◌++◌, Option, Some, None, refl, pos, ℤ}
+use Rattle.std.proofs.Common.{◌≡◌, ℕ, List, [], ◌∷◌, ◌++◌, Option, Some, None, refl}
+use Rattle.schedule.proofs.Examples.{bus_graph, bus_archi, speed_graph, speed_archi}
 use Rattle.executive_program.specs.declared.program.Instr.{Instr}
 use Rattle.executive_program.specs.declared.program.Instr.TheVariants.{Suc0, Suc1, Pre0, Pre1, Call, Send, Recv}
-use Rattle.executive_program.specs.declared.program.Buffer.{Buffer}
-use Rattle.executive_program.specs.declared.program.SeqCode.{SeqCode}
 use Rattle.executive_program.specs.declared.program.Program.{Program}
-use Rattle.flat_graph.specs.declared.vertex.Source.{Source}
-use Rattle.flat_graph.specs.declared.vertex.Vertex.{Vertex}
-use Rattle.flat_graph.specs.declared.vertex.Kind.{Kind}
-use Rattle.flat_graph.specs.declared.vertex.Guard.{Guard}
-use Rattle.flat_graph.specs.declared.vertex.Kind.TheVariants.{Sensor, Actuator, Function, Get, Set, Merge}
-use Rattle.flat_graph.specs.Graph.{Graph}
-use Rattle.syn_base.specs.declared.arithmetic.Op.TheVariants.{Add}
-use Rattle.body_lang.specs.Expr.{literal, element, index, apply}
-use Rattle.archi_graph.specs.declared.medium.Medium.{Medium}
-use Rattle.archi_graph.specs.Archi.{Architecture}
 use Rattle.archi_graph.specs.Sequences.{sequences}
+use Rattle.sequence_build_laws.proofs.Rows.{code, on, one, eight}
 use Rattle.check_laws.specs.Run.{Place, run, stuck}
 use Rattle.check_laws.specs.Tests.{Cause, sequences_differ, calls_wrong, transfers_wrong, buffers_wrong, pairs_wrong, prologue_wrong, stuck_at, cause}
-
-abbrev code : ℕ → Option ℕ → List Instr → List Instr → SeqCode
-code o m p t = record { seq = record { operator = o; medium = m }; prologue = p; turn = t }
-
-abbrev on : ℕ → ℕ → Buffer
-on o depth = record { operator = o; len = 1; depth = depth }
 
 abbrev place : ℕ → ℕ → Place
 place s a = record { sequence = s; at = a }
@@ -46,12 +30,6 @@ bus_ends = (refl, refl)
 bus_run : run (bus_code (Suc1 1 ∷ Call 2 (2 ∷ []) (3 ∷ []) ∷ Pre0 1 ∷ Call 4 (3 ∷ []) [] ∷ [])) ≡ 0 ∷ 0 ∷ 0 ∷ 0 ∷ 0 ∷ 1 ∷ 1 ∷ 1 ∷ 3 ∷ 3 ∷ 3 ∷ 2 ∷ 2 ∷ 2 ∷ 2 ∷ []
 bus_run = refl
 
-abbrev one : ℕ → Buffer
-one o = on o 1
-
-abbrev eight : Buffer
-eight = record { operator = 1; len = 8; depth = 1 }
-
 -- the first sensor is read at the end of its loop
 abbrev speed_code : Program
 speed_code = record {
@@ -66,55 +44,6 @@ speed_code = record {
 
 speed_stops : stuck speed_code ≡ place 0 1 ∷ place 1 0 ∷ place 2 1 ∷ place 3 1 ∷ []
 speed_stops = refl
-
-abbrev source : ℕ → Source
-source v = record { vertex = v; port = 0 }
-
-abbrev vertex : ℕ → Kind → List Source → List ℕ → Vertex
-vertex c k ins outs = record { name = c ∷ []; def = 68 ∷ []; kind = k; guards = []; ins = ins; outs = outs; twin = None }
-
-abbrev medium : ℕ → Bool → List ℕ → Medium
-medium c multi stands = record { name = c ∷ []; multi = multi; fixed = 1; per = 1; stands = stands }
-
-abbrev archi : List (List ℕ) → List Medium → Architecture
-archi operators media = record { operators = operators; media = media; depth = 1 }
-
-abbrev bus_graph : Graph
-bus_graph = record {
-  vertices = vertex 115 (Sensor 0) [] (1 ∷ []) ∷ vertex 102 (Function 0) (source 0 ∷ []) (1 ∷ []) ∷ vertex 103 (Function 0) (source 0 ∷ []) (1 ∷ [])
-      ∷ vertex 97 (Actuator 0) (source 1 ∷ []) [] ∷ vertex 98 (Actuator 1) (source 2 ∷ []) [] ∷ [];
-  bodies = (apply Add (element 0 index) (literal (pos 1)) ∷ []) ∷ [];
-}
-
-abbrev bus_archi : Architecture
-bus_archi = archi ((80 ∷ []) ∷ (81 ∷ []) ∷ []) (medium 109 false (0 ∷ 1 ∷ []) ∷ [])
-
-abbrev operation : ℕ → Kind → List Guard → List Source → List ℕ → Option ℕ → Vertex
-operation c k guards ins outs twin = record { name = c ∷ []; def = 68 ∷ []; kind = k; guards = guards; ins = ins; outs = outs; twin = twin }
-
-abbrev limits : List ℤ
-limits = pos 1 ∷ pos 2 ∷ []
-
-abbrev guard : ℕ → List Guard
-guard c = record { source = source 7; values = limits; case = c } ∷ []
-
-abbrev window : List ℤ
-window = pos 0 ∷ pos 0 ∷ pos 0 ∷ pos 0 ∷ pos 0 ∷ pos 0 ∷ pos 0 ∷ pos 0 ∷ []
-
-abbrev speed_graph : Graph
-speed_graph = record {
-  vertices = operation 97 (Sensor 0) [] [] (1 ∷ []) None ∷ operation 98 (Sensor 1) [] [] (1 ∷ []) None
-      ∷ operation 99 (Get window) [] [] (8 ∷ []) (Some 3) ∷ operation 100 Set [] (source 4 ∷ []) [] (Some 2)
-      ∷ operation 101 (Function 0) [] (source 2 ∷ source 0 ∷ []) (8 ∷ []) None ∷ operation 102 (Function 0) [] (source 4 ∷ []) (1 ∷ []) None
-      ∷ operation 103 (Function 0) [] (source 1 ∷ source 5 ∷ []) (1 ∷ []) None ∷ operation 104 (Function 0) [] (source 6 ∷ []) (1 ∷ []) None
-      ∷ operation 105 (Function 0) (guard 0) (source 6 ∷ []) (1 ∷ []) None ∷ operation 106 (Function 0) (guard 1) (source 6 ∷ []) (1 ∷ []) None ∷ operation 107 (Function 0) (guard 2) (source 6 ∷ []) (1 ∷ []) None
-      ∷ operation 108 (Merge limits) [] (source 7 ∷ source 8 ∷ source 9 ∷ source 10 ∷ []) (1 ∷ []) None
-      ∷ operation 109 (Actuator 0) [] (source 11 ∷ []) [] None ∷ operation 110 (Actuator 1) [] (source 5 ∷ []) [] None ∷ [];
-  bodies = (literal (pos 0) ∷ []) ∷ [];
-}
-
-abbrev speed_archi : Architecture
-speed_archi = archi ((80 ∷ []) ∷ (81 ∷ []) ∷ []) (record { name = 99 ∷ []; multi = true; fixed = 2; per = 1; stands = 0 ∷ 1 ∷ [] } ∷ [])
 
 -- the first cause for which a program of the two operators is not well formed
 abbrev bus_cause : Program → Option Cause

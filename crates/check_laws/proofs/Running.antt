@@ -12,8 +12,8 @@ use Rattle.executive_program.specs.WellFormed.{Stands, place_in, FollowsLoops}
 use Rattle.interleavings.proofs.Sums.{le_below, more_below, none_below}
 use Rattle.sequence_build_laws.proofs.Lists.{get_some, from_append, tally, counts_tally, tally-append, tally_grows, take_next}
 use Rattle.sequence_build_laws.proofs.Loops.{code_there}
+use Rattle.sequence_build_laws.proofs.Turns.{mine, seen, unseen, entry, place_here}
 use Rattle.check_laws.specs.Run.{Place, made, awaited, Keeps, is_past, may_go, is_ready, next, step_with, run_from, run, left_from, stuck, IsRun}
-use Rattle.check_laws.proofs.Turns.{mine, seen, unseen, entry, place_here}
 use Rattle.check_laws.proofs.Searches.{lowest_none, lowest_some, none_left, all_made}
 
 pub made_is : (order : List ℕ) (s : ℕ) → made order s ≡ tally (mine s) order
@@ -122,11 +122,12 @@ module _ (p : Program) where
   pub stops : next p (run p) ≡ None
   stops = stops_from (sum_below (λ s. length (turn p s)) (length p.seqs)) [] empty_run (omega arith)
 
-  -- Beside an order that keeps what is awaited, a run that stops has made all.
-  module _ (order : List ℕ) (follows : FollowsLoops p order) (keeps : Keeps p order) (done : List ℕ) (stopped : next p done ≡ None) where
-    ahead : (i : ℕ) → i ≤ length order → (t : ℕ) → tally (mine t) (take i order) ≤ tally (mine t) done
-    ahead zero l t = omega arith
-    ahead (suc i) l t = by (get_some order i l).0 (get_some order i l).1 (λ u. ahead i (omega arith) u)
+  -- An order is nowhere further than what is done, if no entry of it goes further.
+  module _ (order done : List ℕ)
+      (moves : (i s : ℕ) → slice_get order i ≡ Some s → i < length order → ((u : ℕ) → tally (mine u) (take i order) ≤ tally (mine u) done) → tally (mine s) (take i order) ≡ tally (mine s) done → ⊥) where
+    no_further : (i : ℕ) → i ≤ length order → (t : ℕ) → tally (mine t) (take i order) ≤ tally (mine t) done
+    no_further zero l t = omega arith
+    no_further (suc i) l t = by (get_some order i l).0 (get_some order i l).1 (λ u. no_further i (omega arith) u)
       where
         by : (s : ℕ) → slice_get order i ≡ Some s → ((u : ℕ) → tally (mine u) (take i order) ≤ tally (mine u) done) → tally (mine t) (take (suc i) order) ≤ tally (mine t) done
         by s e before = elim (cases_eq t s) [
@@ -137,35 +138,37 @@ module _ (p : Program) where
             step : take (suc i) order ≡ take i order ++ s ∷ []
             step = take_next order i s e
 
-            ready : tally (mine s) (take i order) ≡ tally (mine s) done → ⊥
-            ready same =
-                let low = follows.names i s e in
-                let grows = tally_grows (mine s) order i (length order) s e (eq-eqb s s refl) l in
-                let whole = ap (tally (mine s)) (take_all (length order) order (omega arith)) in
-                let lengths = sym (counts_tally (mine s) order) ∙ follows.lengths s low in
-                let x = get_some (turn p s) (tally (mine s) (take i order)) (omega arith) in
-                let m : made done s ≡ tally (mine s) (take i order) = made_is done s ∙ sym same in
-                let not_ready = lowest_none (is_ready p done) 0 (length p.seqs) stopped s (omega arith) (omega arith) in
-                let goes = ready_at done s (tally (mine s) (take i order)) x.0 m x.1 in
-                false≢true (sym not_ready ∙ goes ∙ past x.0 x.1 (awaited p s (tally (mine s) (take i order)) x.0) refl)
-              where
-                past : (x : Instr) → Stands p s (tally (mine s) (take i order)) x → (o : Option Place) → awaited p s (tally (mine s) (take i order)) x ≡ o → is_past p done o ≡ true
-                past x h None q = refl
-                past x h (Some y) q =
-                    let k = keeps s (tally (mine s) (take i order)) x y h q in
-                    let here = place_here order i s e in
-                    let there = seen order i y.sequence y.at (omega arith) (omega arith) in
-                    let w = before y.sequence in
-                    let m = made_is done y.sequence in
-                    lt-ltb y.at (made done y.sequence) (omega arith)
-
             own : tally (mine s) (take (suc i) order) ≤ tally (mine s) done
             own = let z = ap (tally (mine s)) step ∙ own_more (take i order) s in let w = before s in
-                elim (cases_lt (tally (mine s) (take i order)) (tally (mine s) done)) [ inl k ↦ omega arith | inr k ↦ absurd (ready (omega arith)) ]
+                elim (cases_lt (tally (mine s) (take i order)) (tally (mine s) done)) [ inl k ↦ omega arith | inr k ↦ absurd (moves i s e l before (omega arith)) ]
+
+  -- Beside an order that keeps what is awaited, a run that stops has made all.
+  module _ (order : List ℕ) (follows : FollowsLoops p order) (keeps : Keeps p order) (done : List ℕ) (stopped : next p done ≡ None) where
+    ordered_moves : (i s : ℕ) → slice_get order i ≡ Some s → i < length order → ((u : ℕ) → tally (mine u) (take i order) ≤ tally (mine u) done) → tally (mine s) (take i order) ≡ tally (mine s) done → ⊥
+    ordered_moves i s e l before same =
+        let low = follows.names i s e in
+        let grows = tally_grows (mine s) order i (length order) s e (eq-eqb s s refl) l in
+        let whole = ap (tally (mine s)) (take_all (length order) order (omega arith)) in
+        let lengths = sym (counts_tally (mine s) order) ∙ follows.lengths s low in
+        let x = get_some (turn p s) (tally (mine s) (take i order)) (omega arith) in
+        let m : made done s ≡ tally (mine s) (take i order) = made_is done s ∙ sym same in
+        let not_ready = lowest_none (is_ready p done) 0 (length p.seqs) stopped s (omega arith) (omega arith) in
+        let goes = ready_at done s (tally (mine s) (take i order)) x.0 m x.1 in
+        false≢true (sym not_ready ∙ goes ∙ past x.0 x.1 (awaited p s (tally (mine s) (take i order)) x.0) refl)
+      where
+        past : (x : Instr) → Stands p s (tally (mine s) (take i order)) x → (o : Option Place) → awaited p s (tally (mine s) (take i order)) x ≡ o → is_past p done o ≡ true
+        past x h None q = refl
+        past x h (Some y) q =
+            let k = keeps s (tally (mine s) (take i order)) x y h q in
+            let here = place_here order i s e in
+            let there = seen order i y.sequence y.at (omega arith) (omega arith) in
+            let w = before y.sequence in
+            let m = made_is done y.sequence in
+            lt-ltb y.at (made done y.sequence) (omega arith)
 
     pub made_all : (s : ℕ) → s < length p.seqs → length (turn p s) ≤ made done s
     made_all s l =
-        let z = ahead (length order) (omega arith) s in
+        let z = no_further order done ordered_moves (length order) (omega arith) s in
         let whole = ap (tally (mine s)) (take_all (length order) order (omega arith)) in
         let lengths = sym (counts_tally (mine s) order) ∙ follows.lengths s l in
         let m = made_is done s in
@@ -173,43 +176,26 @@ module _ (p : Program) where
 
   -- Beside any run, a run that stops has made all.
   module _ (order : List ℕ) (r : IsRun p order) (done : List ℕ) (stopped : next p done ≡ None) where
-    along : (i : ℕ) → i ≤ length order → (t : ℕ) → tally (mine t) (take i order) ≤ tally (mine t) done
-    along zero l t = omega arith
-    along (suc i) l t = by (get_some order i l).0 (get_some order i l).1 (λ u. along i (omega arith) u)
+    run_moves : (i s : ℕ) → slice_get order i ≡ Some s → i < length order → ((u : ℕ) → tally (mine u) (take i order) ≤ tally (mine u) done) → tally (mine s) (take i order) ≡ tally (mine s) done → ⊥
+    run_moves i s e l before same =
+        let low = r.names i s e in
+        let g = going (take i order) s (r.ready i s e) in
+        let m : made done s ≡ made (take i order) s = made_is done s ∙ sym same ∙ sym (made_is (take i order) s) in
+        let not_ready = lowest_none (is_ready p done) 0 (length p.seqs) stopped s (omega arith) (omega arith) in
+        false≢true (sym not_ready ∙ ready_at done s (made (take i order) s) g.it m g.stands ∙ past (awaited p s (made (take i order) s) g.it) g.past)
       where
-        by : (s : ℕ) → slice_get order i ≡ Some s → ((u : ℕ) → tally (mine u) (take i order) ≤ tally (mine u) done) → tally (mine t) (take (suc i) order) ≤ tally (mine t) done
-        by s e before = elim (cases_eq t s) [
-          | inl q ↦ subst (λ u. tally (mine u) (take (suc i) order) ≤ tally (mine u) done) (sym q) own
-          | inr q ↦ (let z = ap (tally (mine t)) step ∙ other_more (take i order) s t q in let w = before t in omega arith)
-        ]
-          where
-            step : take (suc i) order ≡ take i order ++ s ∷ []
-            step = take_next order i s e
-
-            past : (o : Option Place) → is_past p (take i order) o ≡ true → is_past p done o ≡ true
-            past None h = refl
-            past (Some y) h =
-                let z = ltb-true y.at (made (take i order) y.sequence) h in
-                let w = before y.sequence in
-                let a = made_is (take i order) y.sequence in
-                let b = made_is done y.sequence in
-                lt-ltb y.at (made done y.sequence) (omega arith)
-
-            ready : tally (mine s) (take i order) ≡ tally (mine s) done → ⊥
-            ready same =
-                let low = r.names i s e in
-                let g = going (take i order) s (r.ready i s e) in
-                let m : made done s ≡ made (take i order) s = made_is done s ∙ sym same ∙ sym (made_is (take i order) s) in
-                let not_ready = lowest_none (is_ready p done) 0 (length p.seqs) stopped s (omega arith) (omega arith) in
-                false≢true (sym not_ready ∙ ready_at done s (made (take i order) s) g.it m g.stands ∙ past (awaited p s (made (take i order) s) g.it) g.past)
-
-            own : tally (mine s) (take (suc i) order) ≤ tally (mine s) done
-            own = let z = ap (tally (mine s)) step ∙ own_more (take i order) s in let w = before s in
-                elim (cases_lt (tally (mine s) (take i order)) (tally (mine s) done)) [ inl k ↦ omega arith | inr k ↦ absurd (ready (omega arith)) ]
+        past : (o : Option Place) → is_past p (take i order) o ≡ true → is_past p done o ≡ true
+        past None h = refl
+        past (Some y) h =
+            let z = ltb-true y.at (made (take i order) y.sequence) h in
+            let w = before y.sequence in
+            let a = made_is (take i order) y.sequence in
+            let b = made_is done y.sequence in
+            lt-ltb y.at (made done y.sequence) (omega arith)
 
     pub no_less : (s : ℕ) → made order s ≤ made done s
     no_less s =
-        let z = along (length order) (omega arith) s in
+        let z = no_further order done run_moves (length order) (omega arith) s in
         let whole = ap (tally (mine s)) (take_all (length order) order (omega arith)) in
         let a = made_is order s in
         let b = made_is done s in

@@ -1,8 +1,8 @@
 -- What a well-formed program names is declared where it is named.
-use Rattle.std.proofs.Common.{◌≡◌, ℕ, zero, suc, ◌+◌, ◌<◌, ◌≤◌, ◌⊎◌, Bool, true, false, ◌&&◌, not, cond, nat_eq, nat_lt, List, [], ◌∷◌, ◌++◌, length, map, take, Option, Some, None, refl, sym, ap, subst, inl, inr, ⊎_elim, arith, ◌∙◌}
+use Rattle.std.proofs.Common.{◌≡◌, ℕ, zero, suc, ◌+◌, ◌<◌, ◌≤◌, ◌⊎◌, Bool, true, ◌&&◌, not, cond, nat_lt, List, [], ◌∷◌, ◌++◌, length, map, take, Option, Some, None, refl, sym, ap, subst, inl, inr, ⊎_elim, arith, ◌∙◌}
 use Rattle.std.specs.Prelude.{slice_get}
 use Rattle.std.specs.List.{list_any, list_all, count_by}
-use Rattle.std.proofs.lemmas.Bool.{false≢true, and_parts, and_from, eqb-true, ne_eqb, cases_eq, cases_order, lt-ltb, ltb-true}
+use Rattle.std.proofs.lemmas.Bool.{and_parts, and_from, ne_eqb, cases_eq, cases_order, lt-ltb, ltb-true}
 use Rattle.std.proofs.lemmas.List.{length-map}
 use Rattle.std.proofs.lemmas.List.Sums.{sum_by-cons}
 use Rattle.std.proofs.lemmas.Option.{same_Some, slice_get_within}
@@ -20,9 +20,10 @@ use Rattle.executive_program.specs.Instructions.{reads, writes, turn, turn_of, p
 use Rattle.executive_program.specs.MicroSteps.{transfers}
 use Rattle.executive_program.specs.Places.{places, reader, reader_or, writing, opening_signals, signals_of, opening_of}
 use Rattle.executive_program.specs.WellFormed.{Stands, WritesAt, ReadsAt, Communicates, IsTransfer, IsOrder, operator_is, operator_of}
+use Rattle.executive_program.proofs.Reading.{any_of, reads_of, from_readers, from_repeated}
 use Rattle.macro_code.specs.Text.{pairs_on}
 use Rattle.code_laws.proofs.Arguments.{is_small}
-use Rattle.code_laws.proofs.ListPlaces.{got_some, got_map, map_got, all_here, all_there, any_of}
+use Rattle.code_laws.proofs.ListPlaces.{got_some, got_map, map_got, all_here, all_there}
 use Rattle.code_text.specs.Text.{is_among}
 use Rattle.code_laws.proofs.Numbering.{on_has}
 use Rattle.code_laws.proofs.Instructions.{is_there, is_readable}
@@ -43,41 +44,6 @@ in_block f (suc n) i x e = by (got_either (blocks f n) (f n) i x e) (λ k. in_bl
         → (b : ℕ) × (b < suc n) × (j : ℕ) × (slice_get (f b) j ≡ Some x)
     by (inl k) again = let r = again k in let l = r.1 in (r.0, omega (arith, l), r.2, r.3)
     by (inr k) again = (n, omega arith, k.0, k.1)
-
-pub from_repeated : {A : Type 0} (x : A) (n i : ℕ) (y : A) → slice_get (repeated x n) i ≡ Some y → y ≡ x
-from_repeated x zero i y e = cc
-from_repeated x (suc n) zero y e = sym (same_Some x y e)
-from_repeated x (suc n) (suc i) y e = from_repeated x n i y e
-
--- what an instruction reads or writes, by place
-pub reads_of : (b : ℕ) (x : Instr) → reads b x ≡ true → (k : ℕ) × ReadsAt x k b
-reads_of b (Call v ins outs) h = let q = any_of (λ n. nat_eq n b) ins h in (q.0, q.2 ∙ ap (λ (n : ℕ). Some n) (eqb-true q.1 b q.3))
-reads_of b (Send n o) h = (0, (eqb-true n b h, refl))
-reads_of b _ h = absurd (false≢true h)
-
--- a reader waits for its buffer
-pub record Waits (qs : List SeqCode) (s b : ℕ) (x : Reader) : Type 0 where
-  pub at : ℕ
-  pub code : SeqCode
-  pub stands : slice_get qs at ≡ Some code
-  pub waits : waits_for b code ≡ true
-  pub is : x ≡ record { buffer = b; sequence = s + at }
-
-reader_is : (b s t : ℕ) → s ≡ t → ◌≡◌ {A = Reader} (record { buffer = b; sequence = s }) (record { buffer = b; sequence = t })
-reader_is b s t e = ap (λ (n : ℕ). record { buffer = b; sequence = n }) e
-
-from_readers : (s : ℕ) (qs : List SeqCode) (b i : ℕ) (x : Reader) → slice_get (readers_from s qs b) i ≡ Some x → Waits qs s b x
-from_readers s [] b i x e = absurd cc
-from_readers s (q ∷ qs) b i x e = by (waits_for b q) refl i e (λ i. from_readers (suc s) qs b i x)
-  where
-    rest : Waits qs (suc s) b x → Waits (q ∷ qs) s b x
-    rest r = record { at = suc r.at; code = r.code; stands = r.stands; waits = r.waits; is = r.is ∙ reader_is b (suc s + r.at) (s + suc r.at) (omega arith) }
-
-    by : (t : Bool) → waits_for b q ≡ t → (i : ℕ) → slice_get (cond t (record { buffer = b; sequence = s } ∷ readers_from (suc s) qs b) (readers_from (suc s) qs b)) i ≡ Some x
-        → ((i : ℕ) → slice_get (readers_from (suc s) qs b) i ≡ Some x → Waits qs (suc s) b x) → Waits (q ∷ qs) s b x
-    by true t zero e r = record { at = 0; code = q; stands = refl; waits = t; is = sym (same_Some _ x e) ∙ reader_is b s (s + 0) (omega arith) }
-    by true t (suc i) e r = rest (r i e)
-    by false t i e r = rest (r i e)
 
 module _ {A : Type 0} (f : A → Bool) where
   count_cons : (x : A) (xs : List A) → count_by f (x ∷ xs) ≡ cond (f x) 1 0 + count_by f xs

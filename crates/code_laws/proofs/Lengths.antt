@@ -1,10 +1,9 @@
 -- Each buffer of a well-formed program has an element: what a call writes is an output, and what a receive writes is as long as what was sent before.
-use Rattle.std.proofs.Common.{◌≡◌, ℕ, zero, suc, ◌+◌, ◌<◌, ◌≤◌, ◌⊎◌, Bool, true, false, not, cond, nat_eq, nat_le, List, [], ◌∷◌, ◌++◌, length, Option, Some, None, refl, sym, ap, subst, inl, inr, arith, ◌∙◌}
+use Rattle.std.proofs.Common.{◌≡◌, ℕ, zero, suc, ◌+◌, ◌<◌, ◌≤◌, ◌⊎◌, true, false, not, nat_le, List, [], ◌∷◌, length, Option, Some, None, refl, sym, ap, subst, inl, inr, arith, ◌∙◌}
 use Rattle.std.specs.Prelude.{slice_get}
-use Rattle.std.specs.List.{list_any, count_by}
-use Rattle.std.proofs.lemmas.Bool.{false≢true, and_parts, and_from, eqb-true, eq-eqb, cases_eq, cases_Bool, leb-true}
+use Rattle.std.specs.List.{list_any}
+use Rattle.std.proofs.lemmas.Bool.{and_parts, and_from, cases_eq, cases_Bool, leb-true}
 use Rattle.std.proofs.lemmas.List.{length-map}
-use Rattle.std.proofs.lemmas.List.Sums.{sum_by-cons}
 use Rattle.std.proofs.lemmas.Option.{same_Some, slice_get_within}
 use Rattle.flat_graph.specs.Graph.{Graph}
 use Rattle.flat_graph.specs.Valid.{is_flat, is_len}
@@ -15,78 +14,18 @@ use Rattle.executive_program.specs.declared.program.Instr.TheVariants.{Suc0, Suc
 use Rattle.executive_program.specs.declared.program.Buffer.{Buffer}
 use Rattle.executive_program.specs.declared.program.SeqCode.{SeqCode}
 use Rattle.executive_program.specs.declared.program.Program.{Program}
-use Rattle.executive_program.specs.Blocks.{blocks}
 use Rattle.executive_program.specs.Instructions.{reads, writes, turn, turn_of, operator, communications, Reader, waits_for, readers_from, readers, len_of, len_in}
 use Rattle.executive_program.specs.Places.{places, reader, reader_or, writing, pair, carried}
 use Rattle.executive_program.specs.WellFormed.{place_in, Stands, WritesAt, ReadsAt, IsOrder, IsTransfer, CarryOutputs, len_is, operator_of}
-use Rattle.code_laws.proofs.ListPlaces.{got_some, got_front, got_back, all_here, any_at, any_of}
+use Rattle.executive_program.proofs.Reading.{any_at, any_of, of_reads, writes_of, reader_is, to_readers, in_all}
+use Rattle.sequence_build_laws.proofs.Turns.{mine, place_rises}
+use Rattle.sequence_build_laws.proofs.Lists.{counts_tally}
+use Rattle.code_laws.proofs.ListPlaces.{got_some, all_here}
 use Rattle.code_laws.proofs.Named.{operations, operation_at}
 use Rattle.code_laws.proofs.Formed as formed
 
--- in one sequence, a later instruction has a later place
-place_other : (u t : ℕ) (us : List ℕ) (i : ℕ) → nat_eq u t ≡ false → place_in (u ∷ us) t i ≡ suc (place_in us t i)
-place_other u t us zero e = rw e refl
-place_other u t us (suc i) e = rw e refl
-
-place_again : (u t : ℕ) (us : List ℕ) (i : ℕ) → nat_eq u t ≡ true → place_in (u ∷ us) t (suc i) ≡ suc (place_in us t i)
-place_again u t us i e = rw e refl
-
-place_first : (u t : ℕ) (us : List ℕ) → nat_eq u t ≡ true → place_in (u ∷ us) t 0 ≡ 0
-place_first u t us e = rw e refl
-
-place_rises : (order : List ℕ) (s i j : ℕ) → i < j → j < count_by (λ (t : ℕ). nat_eq t s) order → place_in order s i < place_in order s j
-place_rises [] s i j l m = absurd (omega (arith, m))
-place_rises (u ∷ us) s i j l m =
-    let c = sum_by-cons (λ (t : ℕ). cond (nat_eq t s) 1 0) u us in
-    by (nat_eq u s) refl i j l (omega (arith, m, c)) (λ i j l m. place_rises us s i j l m)
-  where
-    by : (b : Bool) → nat_eq u s ≡ b → (i j : ℕ) → i < j → j < cond (nat_eq u s) 1 0 + count_by (λ (t : ℕ). nat_eq t s) us
-        → ((i j : ℕ) → i < j → j < count_by (λ (t : ℕ). nat_eq t s) us → place_in us s i < place_in us s j) → place_in (u ∷ us) s i < place_in (u ∷ us) s j
-    by true e i zero l m again = absurd (omega (arith, l))
-    by true e zero (suc j) l m again = let f = place_first u s us e in let g = place_again u s us j e in omega (arith, f, g)
-    by true e (suc i) (suc j) l m again =
-        let own : ◌≡◌ {A = ℕ} (cond (nat_eq u s) 1 0) 1 = ap (λ (b : Bool). cond b 1 0) e in
-        let r = again i j (omega (arith, l)) (omega (arith, m, own)) in
-        let f = place_again u s us i e in let g = place_again u s us j e in omega (arith, f, g, r)
-    by false e i j l m again =
-        let own : ◌≡◌ {A = ℕ} (cond (nat_eq u s) 1 0) 0 = ap (λ (b : Bool). cond b 1 0) e in
-        let r = again i j l (omega (arith, m, own)) in
-        let f = place_other u s us i e in let g = place_other u s us j e in omega (arith, f, g, r)
-
-in_blocks : {A : Type 0} (f : ℕ → List A) (n b j : ℕ) (x : A) → b < n → slice_get (f b) j ≡ Some x → (i : ℕ) × (slice_get (blocks f n) i ≡ Some x)
-in_blocks f zero b j x l e = absurd (omega (arith, l))
-in_blocks f (suc n) b j x l e = by (cases_eq b n) (λ k. in_blocks f n b j x k e)
-  where
-    by : (b ≡ n) ⊎ (b ≡ n → ⊥) → (b < n → (i : ℕ) × (slice_get (blocks f n) i ≡ Some x)) → (i : ℕ) × (slice_get (blocks f n ++ f n) i ≡ Some x)
-    by (inl same) again = (length (blocks f n) + j, got_back (blocks f n) (f n) j x (ap (λ (k : ℕ). slice_get (f k) j) (sym same) ∙ e))
-    by (inr other) again = let r = again (omega (arith, l, other)) in (r.0, got_front (blocks f n) (f n) r.0 x r.1)
-
-reader_is : (b s t : ℕ) → s ≡ t → ◌≡◌ {A = Reader} (record { buffer = b; sequence = s }) (record { buffer = b; sequence = t })
-reader_is b s t e = ap (λ (n : ℕ). record { buffer = b; sequence = n }) e
-
-to_readers : (s : ℕ) (qs : List SeqCode) (b k : ℕ) (q : SeqCode) → slice_get qs k ≡ Some q → waits_for b q ≡ true → (i : ℕ) × (slice_get (readers_from s qs b) i ≡ Some (record { buffer = b; sequence = s + k }))
-to_readers s [] b k q e h = absurd cc
-to_readers s (y ∷ ys) b zero q e h = let t : waits_for b y ≡ true = ap (waits_for b) (same_Some y q e) ∙ h in
-    (0, rw t (ap (λ (r : Reader). Some r) (reader_is b s (s + 0) (omega arith))))
-to_readers s (y ∷ ys) b (suc k) q e h = by (waits_for b y) (to_readers (suc s) ys b k q e h)
-  where
-    by : (t : Bool) → (i : ℕ) × (slice_get (readers_from (suc s) ys b) i ≡ Some (record { buffer = b; sequence = suc s + k }))
-        → (i : ℕ) × (slice_get (cond t (record { buffer = b; sequence = s } ∷ readers_from (suc s) ys b) (readers_from (suc s) ys b)) i ≡ Some (record { buffer = b; sequence = s + suc k }))
-    by true r = (suc r.0, r.1 ∙ ap (λ (r : Reader). Some r) (reader_is b (suc s + k) (s + suc k) (omega arith)))
-    by false r = (r.0, r.1 ∙ ap (λ (r : Reader). Some r) (reader_is b (suc s + k) (s + suc k) (omega arith)))
-
-of_reads : (b k : ℕ) (x : Instr) → ReadsAt x k b → reads b x ≡ true
-of_reads b k (Call v ins outs) h = any_at (λ n. nat_eq n b) ins k b h (eq-eqb b b refl)
-of_reads b k (Send n o) h = eq-eqb n b h.0
-of_reads b k _ h = absurd h
-
 received_of : (c d o r : ℕ) → ◌≡◌ {A = Instr} (Recv c o) (Recv d r) → c ≡ d
 received_of c d o r e = cc
-
-writes_of : (b : ℕ) (x : Instr) → writes b x ≡ true → (k : ℕ) × WritesAt x k b
-writes_of b (Call v ins outs) h = let q = any_of (λ n. nat_eq n b) outs h in (q.0, q.2 ∙ ap (λ (n : ℕ). Some n) (eqb-true q.1 b q.3))
-writes_of b (Recv n o) h = (0, (eqb-true n b h, refl))
-writes_of b _ h = absurd (false≢true h)
 
 module _ (p : Program) (g : Graph) (a : Architecture) (order : List ℕ) (h : IsOrder p g (sequences a) (length a.media) order) (flat : is_flat g ≡ true) where
   abbrev place : ℕ → ℕ → ℕ
@@ -98,7 +37,8 @@ module _ (p : Program) (g : Graph) (a : Architecture) (order : List ℕ) (h : Is
       let below = slice_get_within p.seqs s c.0 c.1 in
       let many = h.follows.lengths s below in
       let room = slice_get_within (turn p s) j x e in
-      place_rises order s i j l (omega (arith, many, room))
+      let mine_many = counts_tally (mine s) order in
+      place_rises order s i j l (omega (arith, many, mine_many, room))
 
   pairs_many : length p.pairs ≡ length (readers p)
   pairs_many = sym (length-map p.pairs (λ (o : ℕ). Some o)) ∙ ap (λ (os : List (Option ℕ)). length os) h.numbered ∙ length-map (readers p) (λ (r : Reader). operator_of p r.buffer)
@@ -112,7 +52,7 @@ module _ (p : Program) (g : Graph) (a : Architecture) (order : List ℕ) (h : Is
   pair_in : (b s : ℕ) (c : SeqCode) → b < length p.buffers → slice_get p.seqs s ≡ Some c → waits_for b c ≡ true → (q : ℕ) × (q < length p.pairs) × (reader p q ≡ record { buffer = b; sequence = s })
   pair_in b s c l e waits =
       let found = to_readers 0 p.seqs b s c e waits in
-      let it = in_blocks (readers_from 0 p.seqs) (length p.buffers) b found.0 (record { buffer = b; sequence = 0 + s }) l found.1 in
+      let it = in_all (readers_from 0 p.seqs) (length p.buffers) b found.0 (record { buffer = b; sequence = 0 + s }) l found.1 in
       pair_by b s it.0 it.1
 
   -- a sequence that reads a buffer which it does not write has a pair

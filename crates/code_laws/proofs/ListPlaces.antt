@@ -1,8 +1,8 @@
 -- Places of lists: what stands at a place of a joined list or of a map, tests by places, the first place that passes.
-use Rattle.std.proofs.Common.{◌≡◌, ℕ, zero, suc, ◌+◌, ◌≤◌, ◌<◌, Bool, ◌||◌, true, false, cond, nat_lt, List, [], ◌∷◌, ◌++◌, length, map, refl, ap, arith, ◌∙◌, subst, Some, None, position, ◌⊎◌, inl, inr, get_or}
+use Rattle.std.proofs.Common.{◌≡◌, ℕ, zero, suc, ◌+◌, ◌≤◌, ◌<◌, Bool, true, false, cond, nat_lt, List, [], ◌∷◌, ◌++◌, length, map, refl, ap, arith, ◌∙◌, subst, Some, None, position, ◌⊎◌, inl, inr, get_or}
 use Rattle.std.specs.Prelude.{slice_get}
-use Rattle.std.specs.List.{list_all, list_any, position_or_len, count_by}
-use Rattle.std.proofs.lemmas.Bool.{and_parts, and_from, lt-ltb, or_left, or_right, cases_Bool}
+use Rattle.std.specs.List.{list_all, position_or_len, count_by}
+use Rattle.std.proofs.lemmas.Bool.{and_parts, and_from, lt-ltb, cases_Bool}
 use Rattle.std.proofs.lemmas.Option.{same_Some, slice_get_within, slice_get-get_or, get_or_from_slice_get}
 use Rattle.std.proofs.lemmas.List.Sums.{sum_by-cons, position_or_len_is}
 
@@ -38,19 +38,6 @@ all_here test (y ∷ ys) h (suc i) x e = all_here test ys (and_parts (test y) (l
 pub all_there : {X : Type 0} (test : X → Bool) (xs : List X) → ((i : ℕ) (x : X) → slice_get xs i ≡ Some x → test x ≡ true) → list_all test xs ≡ true
 all_there test [] h = refl
 all_there test (y ∷ ys) h = and_from (test y) (list_all test ys) (h 0 y refl) (all_there test ys (λ i x e. h (suc i) x e))
-
-pub any_at : {X : Type 0} (test : X → Bool) (xs : List X) (i : ℕ) (x : X) → slice_get xs i ≡ Some x → test x ≡ true → list_any test xs ≡ true
-any_at test [] i x e h = cc
-any_at test (y ∷ ys) zero x e h = or_left (test y) (list_any test ys) (ap test (same_Some y x e) ∙ h)
-any_at test (y ∷ ys) (suc i) x e h = or_right (test y) (list_any test ys) (any_at test ys i x e h)
-
-pub any_of : {X : Type 0} (test : X → Bool) (xs : List X) → list_any test xs ≡ true → (i : ℕ) × (x : X) × (slice_get xs i ≡ Some x) × (test x ≡ true)
-any_of test [] h = cc
-any_of test (y ∷ ys) h = by (test y) refl h (λ k. any_of test ys k)
-  where
-    by : (b : Bool) → test y ≡ b → (b || list_any test ys) ≡ true → (list_any test ys ≡ true → (i : ℕ) × (x : _) × (slice_get ys i ≡ Some x) × (test x ≡ true)) → (i : ℕ) × (x : _) × (slice_get (y ∷ ys) i ≡ Some x) × (test x ≡ true)
-    by true e k again = (0, y, refl, e)
-    by false e k again = let r = again k in (suc r.0, r.1, r.2, r.3)
 
 -- an element that passes is counted, and one that is counted once stands at one place
 pub counted : {X : Type 0} (test : X → Bool) (xs : List X) (i : ℕ) (x : X) → slice_get xs i ≡ Some x → test x ≡ true → 1 ≤ count_by test xs

@@ -7,11 +7,11 @@ use Rattle.archi_graph.specs.Archi.{Architecture}
 use Rattle.executive_program.specs.declared.program.Instr.TheVariants.{Suc0, Suc1, Pre0, Pre1, Call, Send, Recv}
 use Rattle.executive_program.specs.declared.program.Program.{Program}
 use Rattle.macro_code.specs.Text.{macro_code}
+use Rattle.macro_code.proofs.Rows.{graph, archi, code, buffer, bus_program}
 use Rattle.code_text.specs.declared.fault.CodeError.{CodeError}
 use Rattle.code_text.specs.declared.fault.CodeCause.TheVariants.{BadLine, BadArgument, UnknownName}
 use Rattle.code_text.specs.Forms.{Bytes, macro_of}
 use Rattle.code_text.specs.Text.{program_in, refused}
-use Rattle.code_text.proofs.Texts.{graph, archi, code, buffer, bus_program}
 
 -- two operators on a bus; their buffers and pairs stand in the text operator by operator
 abbrev two : Architecture

@@ -2,11 +2,12 @@
 use Rattle.std.proofs.Common.{◌≡◌, [], ◌∷◌, ◌++◌, None, Ok, Err, refl}
 use Rattle.std.specs.Prelude.{codes}
 use Rattle.syn_base.specs.declared.limits.LimitKind.TheVariants.{Words}
+use Rattle.macro_code.proofs.Rows.{code, buffer}
 use Rattle.code_text.specs.declared.fault.CodeError.TheVariants.{Limit}
 use Rattle.code_text.specs.declared.fault.CodeCause.TheVariants.{BadLine, UnknownMacro, BadArgument, UnknownName}
 use Rattle.code_text.specs.Forms.{macro_of}
 use Rattle.code_text.specs.Text.{refused}
-use Rattle.code_text.proofs.Texts.{plain, three, code, buffer}
+use Rattle.code_text.proofs.Texts.{plain, three}
 
 -- A byte is not allowed, or the line has none of the forms.
 foreign : plain ((codes "processor_(P)" ++ 200 ∷ []) ∷ []) ≡ refused 1 BadLine

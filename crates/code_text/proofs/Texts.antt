@@ -1,39 +1,13 @@
 -- What worked texts say: one operator; two operators on a bus, with one place and with two; a speed controller; numbers in another order than the processors.
-use Rattle.std.proofs.Common.{◌≡◌, ℕ, true, List, [], ◌∷◌, ◌++◌, map, Option, Some, None, Result, Ok, refl}
+use Rattle.std.proofs.Common.{◌≡◌, List, [], ◌∷◌, ◌++◌, Some, None, Result, Ok, refl}
 use Rattle.std.specs.Prelude.{codes}
-use Rattle.flat_graph.specs.declared.vertex.Vertex.{Vertex}
-use Rattle.flat_graph.specs.declared.vertex.Kind.TheVariants.{Set}
-use Rattle.flat_graph.specs.Graph.{Graph}
-use Rattle.archi_graph.specs.declared.medium.Medium.{Medium}
-use Rattle.archi_graph.specs.Archi.{Architecture}
-use Rattle.executive_program.specs.declared.program.Instr.{Instr}
-use Rattle.executive_program.specs.declared.program.Instr.TheVariants.{Suc0, Suc1, Pre0, Pre1, Call, Send, Recv, Sync}
-use Rattle.executive_program.specs.declared.program.Buffer.{Buffer}
-use Rattle.executive_program.specs.declared.program.SeqCode.{SeqCode}
+use Rattle.executive_program.specs.declared.program.Instr.TheVariants.{Suc0, Suc1, Pre0, Pre1, Call, Send, Sync}
 use Rattle.executive_program.specs.declared.program.Program.{Program}
+use Rattle.macro_code.proofs.Rows.{graph, medium, archi, code, buffer, plain_program, bus_program, speed_program, speed_names}
 use Rattle.code_text.specs.declared.fault.CodeError.{CodeError}
 use Rattle.code_text.specs.Forms.{Bytes, macro_of}
 use Rattle.code_text.specs.declared.fault.CodeCause.TheVariants.{UnknownMacro}
 use Rattle.code_text.specs.Text.{program_in, refused}
-
--- of an operation the text has its name alone
-abbrev operation : Bytes → Vertex
-operation name = record { name = name; def = codes "D"; kind = Set; guards = []; ins = []; outs = []; twin = None }
-
-abbrev pub graph : List Bytes → Graph
-graph names = record { vertices = map operation names; bodies = [] }
-
-abbrev medium : Bytes → List ℕ → Medium
-medium name stands = record { name = name; multi = true; fixed = 1; per = 1; stands = stands }
-
-abbrev pub archi : List Bytes → List Medium → Architecture
-archi operators media = record { operators = operators; media = media; depth = 1 }
-
-abbrev pub code : ℕ → Option ℕ → List Instr → List Instr → SeqCode
-code o m p t = record { seq = record { operator = o; medium = m }; prologue = p; turn = t }
-
-abbrev pub buffer : ℕ → ℕ → ℕ → Buffer
-buffer o len depth = record { operator = o; len = len; depth = depth }
 
 -- lines, each with its line feed
 abbrev pub text : List Bytes → Bytes
@@ -43,9 +17,6 @@ text (l ∷ ls) = l ++ 10 ∷ text ls
 -- One operator.
 abbrev pub plain : List Bytes → Result Program CodeError
 plain ls = program_in (text ls) (graph (codes "s" ∷ codes "a" ∷ [])) (archi (codes "P" ∷ []) [])
-
-abbrev pub plain_program : Program
-plain_program = record { buffers = buffer 0 1 1 ∷ []; pairs = []; seqs = code 0 None [] (Call 0 [] (0 ∷ []) ∷ Call 1 (0 ∷ []) [] ∷ []) ∷ [] }
 
 plain_text : plain (codes "processor_(P)" ∷ codes "semaphores_()" ∷ codes "alloc_(b0,1)" ∷ codes "main_" ∷ codes "loop_" ∷ codes "op s(;b0)" ∷ codes "op a(b0;)" ∷ codes "endloop_" ∷ codes "endmain_" ∷ []) ≡ Ok plain_program
 unfolding macro_of
@@ -68,16 +39,6 @@ no_processor = refl
 -- Two operators on a bus.
 abbrev pub bus : List Bytes → Result Program CodeError
 bus ls = program_in (text ls) (graph (codes "s" ∷ codes "f" ∷ codes "g" ∷ codes "a" ∷ codes "b" ∷ [])) (archi (codes "P" ∷ codes "Q" ∷ []) (medium (codes "bus") (0 ∷ 1 ∷ []) ∷ []))
-
-abbrev pub bus_program : ℕ → List Instr → List Instr → Program
-bus_program depth first second = record {
-  buffers = buffer 0 1 depth ∷ buffer 0 1 1 ∷ buffer 1 1 depth ∷ buffer 1 1 1 ∷ [];
-  pairs = 0 ∷ 1 ∷ [];
-  seqs = code 0 None [] (Suc0 0 ∷ Call 0 [] (0 ∷ []) ∷ Pre1 0 ∷ Call 1 (0 ∷ []) (1 ∷ []) ∷ Call 3 (1 ∷ []) [] ∷ [])
-      ∷ code 0 (Some 0) first (Suc1 0 ∷ Send 0 1 ∷ Pre0 0 ∷ [])
-      ∷ code 1 None second (Suc1 1 ∷ Call 2 (2 ∷ []) (3 ∷ []) ∷ Pre0 1 ∷ Call 4 (3 ∷ []) [] ∷ [])
-      ∷ code 1 (Some 0) [] (Suc0 1 ∷ Recv 2 0 ∷ Pre1 1 ∷ []) ∷ [];
-}
 
 abbrev thread_p : List Bytes
 thread_p = codes "loop_" ∷ codes "Suc1_(0)" ∷ codes "send_(b0,Q)" ∷ codes "Pre0_(0)" ∷ codes "endloop_" ∷ codes "endthread_" ∷ []
@@ -141,24 +102,6 @@ another_order : three (codes "processor_(A)" ∷ codes "semaphores_(1,3)" ∷ co
     })
 unfolding macro_of
 another_order = refl
-
--- A speed controller.
-abbrev one : ℕ → Buffer
-one o = buffer o 1 1
-
-abbrev speed_program : Program
-speed_program = record {
-  buffers = one 0 ∷ buffer 1 8 1 ∷ one 1 ∷ buffer 1 8 1 ∷ one 1 ∷ one 0 ∷ one 0 ∷ one 0 ∷ one 0 ∷ one 0 ∷ one 0 ∷ one 0 ∷ one 0 ∷ [];
-  pairs = 0 ∷ 1 ∷ 1 ∷ 0 ∷ [];
-  seqs = code 0 None (Pre0 3 ∷ []) (Suc0 0 ∷ Call 0 [] (0 ∷ []) ∷ Pre1 0 ∷ Call 1 [] (5 ∷ []) ∷ Suc1 3 ∷ Call 6 (5 ∷ 6 ∷ []) (7 ∷ []) ∷ Pre0 3 ∷ Call 7 (7 ∷ []) (8 ∷ [])
-      ∷ Call 8 (8 ∷ 7 ∷ []) (9 ∷ []) ∷ Call 9 (8 ∷ 7 ∷ []) (10 ∷ []) ∷ Call 10 (8 ∷ 7 ∷ []) (11 ∷ []) ∷ Call 11 (8 ∷ 9 ∷ 10 ∷ 11 ∷ []) (12 ∷ []) ∷ Call 12 (12 ∷ []) [] ∷ [])
-      ∷ code 0 (Some 0) (Pre0 0 ∷ []) (Suc1 0 ∷ Send 0 1 ∷ Pre0 0 ∷ Suc0 3 ∷ Recv 6 1 ∷ Pre1 3 ∷ [])
-      ∷ code 1 None (Pre0 1 ∷ []) (Call 2 [] (1 ∷ []) ∷ Suc1 1 ∷ Call 4 (1 ∷ 2 ∷ []) (3 ∷ []) ∷ Pre0 1 ∷ Suc0 2 ∷ Call 5 (3 ∷ []) (4 ∷ []) ∷ Pre1 2 ∷ Call 13 (4 ∷ []) [] ∷ Call 3 (3 ∷ []) [] ∷ [])
-      ∷ code 1 (Some 0) (Pre0 2 ∷ []) (Suc0 1 ∷ Recv 2 0 ∷ Pre1 1 ∷ Suc1 2 ∷ Send 4 0 ∷ Pre0 2 ∷ []) ∷ [];
-}
-
-abbrev speed_names : List Bytes
-speed_names = codes "v" ∷ codes "r" ∷ codes "d:get" ∷ codes "d:set" ∷ codes "h" ∷ codes "f" ∷ codes "e" ∷ codes "k" ∷ codes "w.0" ∷ codes "w.1" ∷ codes "w.2" ∷ codes "w:y" ∷ codes "m" ∷ codes "n" ∷ []
 
 speed_text : program_in
     (codes "processor_(P)\nsemaphores_(0,3)\nalloc_(b0,1)\nalloc_(b5,1)\nalloc_(b6,1)\nalloc_(b7,1)\nalloc_(b8,1)\nalloc_(b9,1)\nalloc_(b10,1)\nalloc_(b11,1)\nalloc_(b12,1)\nthread_(can)\n"

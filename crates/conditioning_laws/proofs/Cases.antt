@@ -1,5 +1,6 @@
 -- A switch and its graph of guarded cases and merges do the same.
 use Rattle.std.proofs.Common.{◌≡◌, ◌≢◌, ℤ, ℕ, zero, suc, ◌+◌, ◌<◌, ◌≤◌, ◌==◌, inl, inr, List, [], ◌∷◌, ◌++◌, length, get_or, slice_index_or, map, Bool, true, false, cond, ◌&&◌, Option, Some, slice_get, refl, sym, ap, ap₂, ◌∙◌, subst, arith, eq-eqb, zero-add}
+use Rattle.std.proofs.Math.Bool.{and-true, and-false}
 use mathlib.Core.Path.{fun_ext}
 use Rattle.std.proofs.lemmas.List.{map-append}
 use Rattle.std.proofs.lemmas.Bool.{cases_lt, false≢true}
@@ -15,12 +16,12 @@ use Rattle.level_meaning.specs.Order.{IsAcyclic, IsBefore, AreBefore, GuardsBefo
 use Rattle.level_meaning.specs.Parts.{IsApart, HasDistinctParts}
 use Rattle.algo_tree.specs.Meaning.{node, nodes}
 use Rattle.algo_tree.specs.Well.{IsOwn, AreOwn, OwnGuards}
+use Rattle.pass_laws.proofs.SameParts.{same_itself, same_means}
 use Rattle.conditioning_laws.specs.Guarded.{guard_for, merge_of, merges, merge_sources}
 use Rattle.level_meaning.proofs.Fuel.{unique}
 use Rattle.level_meaning.proofs.InOrder.{acyclic-in_order}
 use Rattle.pass_laws.proofs.Segments.{OrderFrom, in_order-from, order-append, before_below}
 use Rattle.pass_laws.proofs.Lists.{append_left, append_right, map_below, at_below, mapped, map_map, none_past}
-use Rattle.conditioning_laws.proofs.Parts.{same_itself, same_means}
 use Rattle.conditioning_laws.proofs.Guards.{Follows, Under, hold-append, AllStill, at_found, still_found, graph-still}
 
 -- fed by the level's own inputs alone
@@ -45,14 +46,6 @@ selected-le (x ∷ xs) v = chosen_le (int_eq x (element_at v 0)) (selected xs v)
 
 unequal : (m n : ℕ) → m ≢ n → (m == n) ≡ false
 unequal m n h = elim (eqb_tells m n) [ inl same ↦ absurd (h same.1) | inr other ↦ other.0 ]
-
-and_true : (b : Bool) → (b && true) ≡ b
-and_true true = refl
-and_true false = refl
-
-and_false : (b : Bool) → (b && false) ≡ false
-and_false true = refl
-and_false false = refl
 
 both_same : {A : Type 0} (b : Bool) (x : A) → cond b x x ≡ x
 both_same true x = refl
@@ -111,10 +104,10 @@ module _ (D : List ℕ) (gs : List Guard) (m : ℕ) (values : List ℤ) (cs ds :
     one_more : (f : ℕ → Values) (i : ℕ) → all_hold (source_value ins' f) (gs ++ guard_for m values i ∷ []) ≡ (all_hold (source_value ins' f) gs && (sel == i))
     one_more f i =
         hold-append (source_value ins' f) gs (guard_for m values i ∷ [])
-        ∙ ap (λ b. all_hold (source_value ins' f) gs && b) (and_true (selected values (vector_at ins' m) == i) ∙ ap (λ v. selected values v == i) at_condition)
+        ∙ ap (λ b. all_hold (source_value ins' f) gs && b) (and-true (selected values (vector_at ins' m) == i) ∙ ap (λ v. selected values v == i) at_condition)
 
     not_chosen : (f : ℕ → Values) (i : ℕ) → sel ≢ i → all_hold (source_value ins' f) (gs ++ guard_for m values i ∷ []) ≡ false
-    not_chosen f i other = one_more f i ∙ ap (λ b. all_hold (source_value ins' f) gs && b) (unequal sel i other) ∙ and_false (all_hold (source_value ins' f) gs)
+    not_chosen f i other = one_more f i ∙ ap (λ b. all_hold (source_value ins' f) gs && b) (unequal sel i other) ∙ and-false (all_hold (source_value ins' f) gs)
 
     -- where a guard around the switch does not hold, nothing changes
     outside-still : (f : ℕ → Values) → all_hold (source_value ins' f) gs ≡ false → (i : ℕ) (ks es : List Node) → CasesUnder gs m values i ks es → AllStill row st (source_value ins' f) es

@@ -6,9 +6,9 @@ use Rattle.level_meaning.specs.declared.source.Source.TheVariants.{Own, Of}
 use Rattle.level_meaning.specs.declared.source.Guard.{Guard}
 use Rattle.level_meaning.specs.declared.part.Part.{Part}
 use Rattle.level_meaning.specs.Level.{Values, Vector, State, Path, Node, below, vector_at, zeros, selected, source_value, all_hold, with_node, same_part, find_node, node_outputs, node_next, out, level_value, graph_outputs, graph_next, graph_initial}
+use Rattle.pass_laws.proofs.SameParts.{same_means}
 use Rattle.conditioning_laws.specs.Guarded.{shift, guard_sources, own_guards}
 use Rattle.pass_laws.proofs.Lists.{append_right}
-use Rattle.conditioning_laws.proofs.Parts.{same_means}
 
 -- what looks at the sources of the new level sees what was seen at those of the old
 abbrev pub Follows : ℕ → (Source → Vector) → (Source → Vector) → Type 0

@@ -1,4 +1,3 @@
-pub mod Parts
 pub mod Guards
 pub mod Cases
 pub mod Carries

@@ -13,6 +13,7 @@ use Rattle.algo_tree.specs.Typed.{IsLength, AreLengths, label_of, outs_of, sourc
 use Rattle.pass_laws.specs.NoRepeat.{IsNoRepeat, HasNoRepeat, AllNoRepeat}
 use Rattle.pass_laws.specs.Relabelled.{with_kind}
 use Rattle.pass_laws.proofs.Lists.{append_left, append_right, map_map, map_below, at_below, long_below}
+use Rattle.pass_laws.proofs.Appends.{lengths-append}
 use Rattle.conditioning_laws.specs.Guarded.{shift, shift_guard, guard_sources, own_guards, guard_for, merges, merge_sources, switch_inside, guarded_by, guarded, guarded_all, guarded_cases}
 use Rattle.conditioning_laws.proofs.Guard.{count-nodes}
 use Rattle.pass_laws.proofs.Lists.{same_below, lengths-replicate}
@@ -22,10 +23,6 @@ each_of : (xs : List ℕ) (n : ℕ) → n ≡ length xs → xs ≡ map (λ q. ge
 each_of xs n e =
     let f = λ (q : ℕ). get_or xs q 0 in
     same_number_lists xs (map f (numbers_below n)) (sym e ∙ sym (long_below n f)) (λ i lt. sym (at_below n f i 0 (omega (arith, e, lt))))
-
-lengths-append : (xs ys : List ℕ) → AreLengths xs → AreLengths ys → AreLengths (xs ++ ys)
-lengths-append [] ys h k = k
-lengths-append (x ∷ xs) ys h k = (h.0, lengths-append xs ys h.1 k)
 
 length_in : (ns : List ℕ) (k : ℕ) → AreLengths ns → k < length ns → IsLength (get_or ns k 0)
 length_in [] k h lt = absurd (omega arith)

@@ -8,8 +8,8 @@ use Rattle.flat_graph.specs.declared.vertex.Kind.TheVariants.{Sensor, Actuator, 
 use Rattle.flat_graph.specs.Graph.{Graph}
 use Rattle.archi_graph.specs.Archi.{Architecture}
 use Rattle.schedule.specs.declared.decision.Transfer.{Transfer}
-use Rattle.schedule.specs.declared.decision.Decision.{Decision}
 use Rattle.schedule.specs.declared.decision.Schedule.{Schedule}
+use Rattle.schedule.proofs.Examples.{source, placed, schedule, plain_schedule}
 use Rattle.timing_chart.specs.Chart.{Bytes, Line}
 use Rattle.dates_text.specs.Listing.{dates_lines}
 
@@ -23,20 +23,11 @@ on k medium start end name = decimal k ∷ codes "on" ∷ medium ∷ decimal sta
 abbrev latest : ℕ → List Line
 latest l = (codes "latest" ∷ decimal l ∷ []) ∷ []
 
-abbrev source : ℕ → Source
-source v = record { vertex = v; port = 0 }
-
 abbrev vertex : Bytes → Kind → List Source → List ℕ → Vertex
 vertex name kind ins outs = record { name = name; def = codes "D"; kind = kind; guards = []; ins = ins; outs = outs; twin = None }
 
 abbrev carried : ℕ → ℕ → ℕ → ℕ → ℕ → Transfer
 carried v from to start end = record { source = source v; medium = 0; from = from; to = to; start = start; end = end }
-
-abbrev placed : ℕ → ℕ → ℕ → ℕ → List Transfer → Decision
-placed v o start end transfers = record { op = v; operator = o; start = start; end = end; transfers = transfers }
-
-abbrev schedule : List Decision → Schedule
-schedule ds = record { decisions = ds }
 
 -- on one operator
 abbrev plain_archi : Architecture
@@ -44,9 +35,6 @@ plain_archi = record { operators = codes "P" ∷ []; media = []; depth = 1 }
 
 abbrev plain_graph : Graph
 plain_graph = record { vertices = vertex (codes "s") (Sensor 0) [] (1 ∷ []) ∷ vertex (codes "a") (Actuator 0) (source 0 ∷ []) [] ∷ []; bodies = [] }
-
-abbrev plain_schedule : Schedule
-plain_schedule = schedule (placed 0 0 0 1 [] ∷ placed 1 0 1 3 [] ∷ [])
 
 plain_lines : dates_lines plain_graph plain_archi plain_schedule (1 ∷ 2 ∷ []) 2
     ≡ (op 0 0 1 (codes "s") ∷ op 0 1 3 (codes "a") ∷ op 1 3 4 (codes "s") ∷ op 1 4 6 (codes "a") ∷ latest 6)

@@ -4,5 +4,6 @@ pub mod Marks
 pub mod DepthTable
 pub mod Sums
 pub mod Passing
+pub mod Reading
 pub mod DeepPairs
 pub mod Formed

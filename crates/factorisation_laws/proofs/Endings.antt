@@ -1,44 +1,16 @@
 -- In an unrolled tree sensors and actuators stand where they stood.
-use Rattle.std.proofs.Common.{◌≡◌, ℕ, suc, List, [], ◌∷◌, ◌++◌, map, length, refl, sym, ap, ◌∙◌, subst}
+use Rattle.std.proofs.Common.{◌≡◌, ℕ, List, ◌++◌, length, refl, sym, ap, ◌∙◌, subst}
 use Rattle.level_meaning.specs.declared.frontier.Feed.{Feed}
-use Rattle.level_meaning.specs.declared.frontier.Feed.TheVariants.{Fork, Diffuse, Iterate}
 use Rattle.level_meaning.specs.declared.frontier.Give.{Give}
-use Rattle.level_meaning.specs.declared.frontier.Give.TheVariants.{Last, Join}
 use Rattle.level_meaning.specs.Level.{numbers_below}
 use Rattle.algo_tree.specs.Tree.{Label, Kind, sensor, actuator, constant, delay, function, explode, implode, merge, graph, switch, repeat, Vertex, vertex, Vertices, no_vertices, and_vertex}
 use Rattle.algo_tree.specs.View.{vertices_of}
 use Rattle.algo_tree.specs.Ends.{IsNoEnd, HasNoEnds, AllNoEnds, NoneInside, sensor_number, actuator_number, sensor_numbers, actuator_numbers, AreEndsNumbered}
-use Rattle.factorisation_laws.specs.Lines.{in_line_order}
-use Rattle.factorisation_laws.specs.Unrolled.{explodes, copy, copies, implodes, begin, unrolled_inside, unrolled_at, unroll, unroll_all}
-
-none-append : (xs ys : List Vertex) → AllNoEnds (vertices_of xs) → AllNoEnds (vertices_of ys) → AllNoEnds (vertices_of (xs ++ ys))
-none-append [] ys h k = k
-none-append (x ∷ xs) ys h k = (h.0, none-append xs ys h.1 k)
-
-none-explodes : (d : List ℕ) (n : ℕ) (fs : List Feed) → AllNoEnds (vertices_of (explodes d n fs))
-none-explodes d n [] = tt
-none-explodes d n (Fork name k len ∷ fs) = ((tt, tt), none-explodes d n fs)
-none-explodes d n (Diffuse k ∷ fs) = none-explodes d n fs
-none-explodes d n (Iterate k y ∷ fs) = none-explodes d n fs
-
-none-implodes : (d : List ℕ) (c n : ℕ) (os : List ℕ) (j : ℕ) (gs : List Give) → AllNoEnds (vertices_of (implodes d c n os j gs))
-none-implodes d c n os j [] = tt
-none-implodes d c n os j (Join name y ∷ gs) = ((tt, tt), none-implodes d c n os (suc j) gs)
-none-implodes d c n os j (Last y ∷ gs) = none-implodes d c n os (suc j) gs
-
-none-copy : (c : ℕ) (feeds : List Feed) (lb : Label) (vs : Vertices) → HasNoEnds (vertex lb vs) → (is : List ℕ) → AllNoEnds (vertices_of (map (copy c feeds lb vs) is))
-none-copy c feeds lb vs h [] = tt
-none-copy c feeds lb vs h (i ∷ is) = (h, none-copy c feeds lb vs h is)
-
-none-copies : (c : ℕ) (feeds : List Feed) (n : ℕ) (us : Vertices) → AllNoEnds us → AllNoEnds (vertices_of (copies c feeds n us))
-none-copies c feeds n no_vertices h = tt
-none-copies c feeds n (and_vertex (vertex lb vs) us) h = none-copy c feeds lb vs h.0 (numbers_below n)
+use Rattle.factorisation_laws.specs.Unrolled.{unrolled_inside, unrolled_at, unroll, unroll_all}
+use Rattle.factorisation_laws.proofs.Every.{every-repeat}
 
 none-repeat : (l : Label) (n : ℕ) (feeds : List Feed) (gives : List Give) (us : Vertices) → AllNoEnds us → AllNoEnds (vertices_of (unrolled_inside l.definition n feeds gives l.outs us))
-none-repeat l n feeds gives us h =
-    let d = l.definition in
-    let c = begin feeds in
-    none-append (explodes d n (in_line_order feeds)) _ (none-explodes d n (in_line_order feeds)) (none-append (copies c feeds n us) _ (none-copies c feeds n us h) (none-implodes d c n l.outs 0 gives))
+none-repeat = every-repeat HasNoEnds AllNoEnds tt (λ u us h k. (h, k)) (λ u us h. h) (λ d name ins outs. (tt, tt)) (λ d name ins outs. (tt, tt)) (λ c feeds lb vs i h. h)
 
 none-at : (l : Label) (k : Kind) (us : Vertices) → IsNoEnd k → AllNoEnds us → HasNoEnds (unrolled_at l k us)
 none-at l (repeat n feeds gives) us h all = (tt, none-repeat l n feeds gives us all)

@@ -4,6 +4,8 @@ pub mod Unroll
 pub mod Unrepeated
 pub mod Names
 pub mod Wellness
+pub mod Summed
+mod Every
 pub mod Counting
 pub mod Labels
 pub mod Endings

@@ -16,6 +16,7 @@ use Rattle.algo_tree.specs.View.{vertices_of}
 use Rattle.algo_tree.specs.Well.{IsOne, IsWell, AllWell}
 use Rattle.algo_tree.specs.Typed.{IsLength, AreLengths, label_of, outs_of, source_length, IsFed, AllFed, fed_length, given_length, IsKindTyped, IsTyped, AllTyped, IsBodyTyped, AreGuardsTyped}
 use Rattle.pass_laws.specs.Relabelled.{with_kind}
+use Rattle.pass_laws.proofs.Appends.{outs-append, typed-append}
 use Rattle.factorisation_laws.specs.Unrolled.{explodes, copy_sources, copy, implodes, give_sources, begin, unrolled_inside, unrolled_at, unroll, unroll_all}
 use Rattle.factorisation_laws.specs.Lines.{in_line_order, fork_place}
 use Rattle.factorisation_laws.proofs.Lines.{AllLines, all-lines, AreApart, apart-lines, IsLine, lines-are, many-lines, forked, long-forked, place-below, at-place}
@@ -39,15 +40,6 @@ one_part n (suc len) some h =
 
 sum-replicate : (n len : ℕ) → sum (replicate n len) ≡ n * len
 sum-replicate n len = sum_by-replicate (λ x. x) n len
-
--- the vertices of a level, segment by segment
-outs-append : (xs ys : List Vertex) → outs_of (vertices_of (xs ++ ys)) ≡ outs_of (vertices_of xs) ++ outs_of (vertices_of ys)
-outs-append [] ys = refl
-outs-append (x ∷ xs) ys = ap (λ os. (label_of x).outs ∷ os) (outs-append xs ys)
-
-typed-append : (own : List ℕ) (outs : List (List ℕ)) (xs ys : List Vertex) → AllTyped own outs (vertices_of xs) → AllTyped own outs (vertices_of ys) → AllTyped own outs (vertices_of (xs ++ ys))
-typed-append own outs [] ys h k = k
-typed-append own outs (x ∷ xs) ys h k = (h.0, typed-append own outs xs ys h.1 k)
 
 -- the lengths of the outputs of the explodes, and of the implodes from output j on
 abbrev explode_outs : ℕ → List Feed → List (List ℕ)

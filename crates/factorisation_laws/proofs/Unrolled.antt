@@ -1,5 +1,5 @@
 -- A repetition and its graph give the same.
-use Rattle.std.proofs.Common.{◌≡◌, ℤ, ℕ, zero, suc, ◌+◌, ◌-◌, ◌*◌, ◌<◌, ◌≤◌, ◌==◌, List, [], ◌∷◌, ◌++◌, length, get_or, slice_index_or, take, drop, map, replicate, Bool, true, false, cond, Option, Some, None, slice_get, refl, sym, ap, ap₂, ◌∙◌, subst, arith, eq-eqb, length-append, inl, inr, append-nil, zero-mul, zero-add, suc-add, add_assoc}
+use Rattle.std.proofs.Common.{◌≡◌, ℤ, ℕ, zero, suc, ◌+◌, ◌-◌, ◌*◌, ◌<◌, ◌≤◌, ◌==◌, List, [], ◌∷◌, ◌++◌, length, get_or, slice_index_or, take, drop, map, replicate, Bool, true, false, cond, Option, Some, None, refl, sym, ap, ap₂, ◌∙◌, subst, arith, eq-eqb, inl, inr, append-nil, zero-mul, zero-add, suc-add, add_assoc}
 use mathlib.Core.Path.{fun_ext}
 use Rattle.std.proofs.lemmas.List.{map-append, append_assoc}
 use Rattle.std.proofs.lemmas.Bool.{cases_lt, lt-ltb, le-ltb}
@@ -19,9 +19,10 @@ use Rattle.level_meaning.specs.Level.{Values, Vector, State, Path, Node, find_no
 use Rattle.level_meaning.specs.Order.{IsBefore, AreBefore, IsAcyclic, MeetsLevel}
 use Rattle.level_meaning.proofs.Fuel.{unique}
 use Rattle.level_meaning.proofs.InOrder.{acyclic-in_order}
-use Rattle.algo_tree.specs.Tree.{Label, Kind, sensor, actuator, constant, delay, function, explode, implode, merge, graph, switch, repeat, Vertices}
-use Rattle.algo_tree.specs.Meaning.{kind_outputs, asked_by, behaviour_of, node, nodes}
+use Rattle.algo_tree.specs.Tree.{Label, Vertices}
+use Rattle.algo_tree.specs.Meaning.{behaviour_of, node, nodes}
 use Rattle.algo_tree.specs.Well.{fork_names}
+use Rattle.pass_laws.proofs.Appends.{blind}
 use Rattle.factorisation_laws.specs.Lines.{in_line_order, fork_place}
 use Rattle.factorisation_laws.proofs.Lines.{AllLines, AreApart, apart-lines, IsLine, lines-are, many-lines, forked, long-forked, place-below, at-place}
 use Rattle.pass_laws.proofs.Segments.{OrderFrom, in_order-from, order-append, before_below, order_below, before-asked}
@@ -58,20 +59,6 @@ abbrev implode_values : ℕ → (ℕ → Values) → List Give → List Values
 implode_values n copy [] = []
 implode_values n copy (Join name y ∷ gs) = (joined copy y n ∷ []) ∷ implode_values n copy gs
 implode_values n copy (Last y ∷ gs) = implode_values n copy gs
-
--- a delay asks for no input, and its outputs tell nothing of one
-pub blind : (k : Kind) (outs : List ℕ) (cs : List Node) (row : Values) (st : State) (f : Source → Vector) (ss : List Source) → kind_outputs k outs cs row st (map f (asked_by k ss)) ≡ kind_outputs k outs cs row st (map f ss)
-blind (sensor m) outs cs row st f ss = refl
-blind (actuator m) outs cs row st f ss = refl
-blind (constant v) outs cs row st f ss = refl
-blind (delay v) outs cs row st f ss = refl
-blind (function es) outs cs row st f ss = refl
-blind explode outs cs row st f ss = refl
-blind implode outs cs row st f ss = refl
-blind (merge values) outs cs row st f ss = refl
-blind (graph sources) outs cs row st f ss = refl
-blind (switch values names) outs cs row st f ss = refl
-blind (repeat m feeds gives) outs cs row st f ss = refl
 
 module _ (d : List ℕ) (n : ℕ) (feeds : List Feed) (gives : List Give) (lens : List ℕ) (lb : Label) (vs : Vertices) where
   abbrev pub body : Behaviour

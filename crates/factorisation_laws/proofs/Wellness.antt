@@ -3,7 +3,6 @@ use Rattle.std.proofs.Common.{◌≡◌, ℕ, zero, suc, ◌<◌, ◌≤◌, ◌
 use Rattle.std.proofs.lemmas.List.{map-append}
 use Rattle.std.proofs.lemmas.Bool.Decides.{eqb_tells}
 use Rattle.level_meaning.specs.declared.source.Guard.{Guard}
-use Rattle.level_meaning.specs.declared.part.Part.{Part}
 use Rattle.level_meaning.specs.declared.part.Part.TheVariants.{Numbered, Port}
 use Rattle.level_meaning.specs.declared.frontier.Feed.{Feed}
 use Rattle.level_meaning.specs.declared.frontier.Feed.TheVariants.{Fork, Diffuse, Iterate}
@@ -16,6 +15,7 @@ use Rattle.algo_tree.specs.Tree.{Label, Kind, sensor, actuator, constant, delay,
 use Rattle.algo_tree.specs.Meaning.{node, nodes}
 use Rattle.algo_tree.specs.View.{vertices_of}
 use Rattle.algo_tree.specs.Well.{IsNewName, AreDistinctNames, fork_names, join_names, AreNumbered, IsEmpty, IsOne, AreOwn, OwnGuards, AreCases, IsKindWell, IsWell, AllWell}
+use Rattle.pass_laws.proofs.Appends.{well-append}
 use Rattle.factorisation_laws.specs.Lines.{in_line_order}
 use Rattle.factorisation_laws.proofs.Lines.{new-left, new-right, names-right, distinct-lines}
 use Rattle.factorisation_laws.specs.Unrolled.{explodes, copy, implodes, begin, unrolled_at, unroll, unroll_all}
@@ -98,11 +98,6 @@ module _ (d : List ℕ) (n : ℕ) (feeds : List Feed) (gives : List Give) (outs 
       distinct-append (map node (explodes d n S)) _ (distinct-explodes S (names-left (fork_names S) (join_names gives) h))
       (distinct-append (kids (numbers_below n)) _ (distinct-kids n) (distinct-implodes gives 0 (names-right (fork_names S) (join_names gives) h)) (kids-implodes (numbers_below n) gives 0))
       (explodes-rest S (numbers_below n) gives 0 h)
-
--- what is made is well
-well-append : (xs ys : List Vertex) → AllWell (vertices_of xs) → AllWell (vertices_of ys) → AllWell (vertices_of (xs ++ ys))
-well-append [] ys h k = k
-well-append (x ∷ xs) ys h k = (h.0, well-append xs ys h.1 k)
 
 well-explodes : (d : List ℕ) (n : ℕ) (fs : List Feed) → AllWell (vertices_of (explodes d n fs))
 well-explodes d n [] = tt

@@ -15,10 +15,10 @@ use Rattle.algo_tree.specs.Meaning.{past, act_row}
 use Rattle.algo_tree.specs.Counted.{operations}
 use Rattle.factorisation_laws.specs.Unrolled.{unroll}
 
-abbrev of : Part → List ℕ → List Source → List ℕ → Kind → Vertices → Vertex
+abbrev pub of : Part → List ℕ → List Source → List ℕ → Kind → Vertices → Vertex
 of p d ins outs k us = vertex (record { part = p; definition = d; ins = ins; guards = []; outs = outs; names = []; kind = k }) us
 
-abbrev alone : Part → List ℕ → List Source → List ℕ → Kind → Vertex
+abbrev pub alone : Part → List ℕ → List Source → List ℕ → Kind → Vertex
 alone p d ins outs k = of p d ins outs k no_vertices
 
 abbrev main_of : Vertices → Vertex

@@ -14,13 +14,13 @@ use Rattle.algo_tree.specs.Tree.{Label, Kind, sensor, actuator, constant, delay,
 use Rattle.algo_tree.specs.Counted.{operations as count}
 use Rattle.algo_tree.specs.Meaning.{node, nodes}
 use Rattle.algo_tree.specs.Valid.{IsTree}
+use Rattle.pass_laws.proofs.SameParts.{same_itself}
 use Rattle.flat_graph.specs.declared.vertex.Vertex.{Vertex}
 use Rattle.flat_graph.specs.Valid.{are_named_apart}
 use Rattle.inlining_laws.specs.Flat.{Operation, Task, runs, gets, sets, same_path}
 use Rattle.inlining_laws.specs.Inlined.{wire, wirings, stages, inlined_by, inlined, inlined_all, operations}
 use Rattle.inlining_laws.specs.Plain.{IsPlain}
 use Rattle.inlining_laws.proofs.Inlinable.{IsKindInlinable, CanInline, AllCanInline, can_inline}
-use Rattle.inlining_laws.proofs.Parts.{same_itself}
 use Rattle.inlining_laws.proofs.Cells.{Keeps, keeps-below}
 use Rattle.inlining_laws.proofs.Numbered.{path_itself}
 use Rattle.inlining_laws.proofs.Pairs.{AtAll, all-append, paths-vertex}

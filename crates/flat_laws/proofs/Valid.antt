@@ -31,7 +31,7 @@ use Rattle.flat_laws.proofs.Names.{IsNamedOperation, AreNamed, name-pass, named-
 use Rattle.flat_laws.proofs.NamesApart.{apart-main, named-apart}
 
 -- the outputs of operations have the lengths of the vertices that stand for them
-outs-from : (vertices : List Vertex) (b : ℕ) (ops : List Operation) → ((i : ℕ) (op : Operation) → slice_get ops i ≡ Some op → (p : ℕ) → long vertices (Of (b + i) p) ≡ slice_index_or op.outs p 0) → Outs (long vertices) (λ k. refl) b ops
+pub outs-from : (vertices : List Vertex) (b : ℕ) (ops : List Operation) → ((i : ℕ) (op : Operation) → slice_get ops i ≡ Some op → (p : ℕ) → long vertices (Of (b + i) p) ≡ slice_index_or op.outs p 0) → Outs (long vertices) (λ k. refl) b ops
 outs-from vertices b [] h = tt
 outs-from vertices b (op ∷ ops) h = (
   (λ p. subst (λ m. long vertices (Of m p) ≡ slice_index_or op.outs p 0) (add-zero b) (h 0 op refl p)),

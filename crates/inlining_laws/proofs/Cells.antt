@@ -12,12 +12,12 @@ use Rattle.level_meaning.specs.declared.part.Part.{Part}
 use Rattle.level_meaning.specs.Level.{Values, Vector, State, Path, Node, vector_at, zeros, all_hold, with_node, same_part, find_node, node_next, level_value, graph_next, graph_initial, delay_next}
 use Rattle.algo_tree.specs.Meaning.{node, nodes}
 use Rattle.level_meaning.specs.Parts.{IsApart, HasDistinctParts}
+use Rattle.pass_laws.proofs.SameParts.{same_itself, same_means}
 use Rattle.inlining_laws.specs.Flat.{Operation, Task, runs, gets, sets, Stages, stages_of, same_path, is_set, is_get, set_value, initial_value, pick, next_cells, first_cells, no_state}
 use Rattle.inlining_laws.specs.Inlined.{nowhere, wire, wirings, operation_of, stage_input, stages, inlined_by, inlined, inlined_all, inlined_level}
 use Rattle.algo_tree.specs.Counted.{operations as count}
 use Rattle.inlining_laws.proofs.Inlinable.{with_kind, IsKindInlinable, CanInline, AllCanInline}
 use Rattle.pass_laws.proofs.Lists.{map_map}
-use Rattle.inlining_laws.proofs.Parts.{same_itself, same_means}
 use Rattle.level_meaning.specs.Order.{IsAcyclic}
 use Rattle.inlining_laws.proofs.Long.{IsKindLong, IsLong, AllLong}
 use Rattle.inlining_laws.proofs.Wires.{long-inlined, Meets, meets-left, meets-right, hold-wired, own_wired, Reads, reads-all}

@@ -1,5 +1,4 @@
 pub mod Inlinable
-pub mod Parts
 pub mod Long
 pub mod Wires
 pub mod Leads

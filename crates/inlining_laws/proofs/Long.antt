@@ -6,8 +6,8 @@ use Rattle.level_meaning.specs.Level.{Vector, Values, State, Node, below, same_p
 use Rattle.level_meaning.specs.Parts.{IsApart, HasDistinctParts}
 use Rattle.algo_tree.specs.Tree.{Label, Kind, sensor, actuator, constant, delay, function, explode, implode, merge, graph, switch, repeat, Vertex, vertex, Vertices, no_vertices, and_vertex}
 use Rattle.algo_tree.specs.Meaning.{node, nodes, kind_next, kind_initial, behaviour_of}
+use Rattle.pass_laws.proofs.SameParts.{same_itself, same_means}
 use Rattle.inlining_laws.proofs.Inlinable.{IsKindInlinable, CanInline, AllCanInline}
-use Rattle.inlining_laws.proofs.Parts.{same_itself, same_means}
 
 -- what is kept below a vertex
 abbrev pub IsKindLong : Kind → State → Type 0 → Type 0

@@ -4,9 +4,9 @@ use Rattle.std.proofs.lemmas.Bool.{false≢true}
 use Rattle.level_meaning.specs.declared.source.Source.{Source}
 use Rattle.level_meaning.specs.declared.part.Part.TheVariants.{Numbered}
 use Rattle.level_meaning.specs.Level.{Vector, Values, Path, Node, level_value}
+use Rattle.pass_laws.proofs.SameParts.{same_itself}
 use Rattle.inlining_laws.specs.Flat.{Operation, Task, runs, gets, sets, flat_level, flat_value, no_state, Stages, stages_of, same_path, is_cell, is_set, is_get, set_value, initial_value, task_outputs, pick, next_cells, flat_past}
 use Rattle.inlining_laws.specs.Numbered.{Cells, numbered_node, numbered_level, numbered_value, numbered_set, numbered_past, with_operation, SameCells}
-use Rattle.inlining_laws.proofs.Parts.{same_itself}
 
 pub path_itself : (q : Path) → same_path q q ≡ true
 path_itself [] = refl

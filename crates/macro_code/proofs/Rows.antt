@@ -15,26 +15,26 @@ use Rattle.executive_program.specs.declared.program.Program.{Program}
 use Rattle.macro_code.specs.Text.{Bytes, instr_line, macro_code}
 
 -- of an operation the text has its name alone
-abbrev operation : Bytes → Vertex
+abbrev pub operation : Bytes → Vertex
 operation name = record { name = name; def = codes "D"; kind = Set; guards = []; ins = []; outs = []; twin = None }
 
-abbrev graph : List Bytes → Graph
+abbrev pub graph : List Bytes → Graph
 graph names = record { vertices = map operation names; bodies = [] }
 
-abbrev medium : Bytes → List ℕ → Medium
+abbrev pub medium : Bytes → List ℕ → Medium
 medium name stands = record { name = name; multi = true; fixed = 1; per = 1; stands = stands }
 
-abbrev archi : List Bytes → List Medium → Architecture
+abbrev pub archi : List Bytes → List Medium → Architecture
 archi operators media = record { operators = operators; media = media; depth = 1 }
 
-abbrev code : ℕ → Option ℕ → List Instr → List Instr → SeqCode
+abbrev pub code : ℕ → Option ℕ → List Instr → List Instr → SeqCode
 code o m p t = record { seq = record { operator = o; medium = m }; prologue = p; turn = t }
 
-abbrev buffer : ℕ → ℕ → ℕ → Buffer
+abbrev pub buffer : ℕ → ℕ → ℕ → Buffer
 buffer o len depth = record { operator = o; len = len; depth = depth }
 
 -- One operator.
-abbrev plain_program : Program
+abbrev pub plain_program : Program
 plain_program = record { buffers = buffer 0 1 1 ∷ []; pairs = []; seqs = code 0 None [] (Call 0 [] (0 ∷ []) ∷ Call 1 (0 ∷ []) [] ∷ []) ∷ [] }
 
 plain_text : macro_code plain_program (graph (codes "s" ∷ codes "a" ∷ [])) (archi (codes "P" ∷ []) []) ≡
@@ -43,7 +43,7 @@ unfolding digits
 plain_text = refl
 
 -- Two operators on a bus.
-abbrev bus_program : ℕ → List Instr → List Instr → Program
+abbrev pub bus_program : ℕ → List Instr → List Instr → Program
 bus_program depth first second = record {
   buffers = buffer 0 1 depth ∷ buffer 0 1 1 ∷ buffer 1 1 depth ∷ buffer 1 1 1 ∷ [];
   pairs = 0 ∷ 1 ∷ [];
@@ -77,10 +77,10 @@ sync_line : instr_line (record { vertices = []; operators = codes "A" ∷ codes 
 sync_line = refl
 
 -- A speed controller.
-abbrev one : ℕ → Buffer
+abbrev pub one : ℕ → Buffer
 one o = buffer o 1 1
 
-abbrev speed_program : Program
+abbrev pub speed_program : Program
 speed_program = record {
   buffers = one 0 ∷ buffer 1 8 1 ∷ one 1 ∷ buffer 1 8 1 ∷ one 1 ∷ one 0 ∷ one 0 ∷ one 0 ∷ one 0 ∷ one 0 ∷ one 0 ∷ one 0 ∷ one 0 ∷ [];
   pairs = 0 ∷ 1 ∷ 1 ∷ 0 ∷ [];
@@ -91,7 +91,7 @@ speed_program = record {
       ∷ code 1 (Some 0) (Pre0 2 ∷ []) (Suc0 1 ∷ Recv 2 0 ∷ Pre1 1 ∷ Suc1 2 ∷ Send 4 0 ∷ Pre0 2 ∷ []) ∷ [];
 }
 
-abbrev speed_names : List Bytes
+abbrev pub speed_names : List Bytes
 speed_names = codes "v" ∷ codes "r" ∷ codes "d:get" ∷ codes "d:set" ∷ codes "h" ∷ codes "f" ∷ codes "e" ∷ codes "k" ∷ codes "w.0" ∷ codes "w.1" ∷ codes "w.2" ∷ codes "w:y" ∷ codes "m" ∷ codes "n" ∷ []
 
 speed_text : macro_code speed_program (graph speed_names) (archi (codes "P" ∷ codes "Q" ∷ []) (medium (codes "can") (0 ∷ 1 ∷ []) ∷ [])) ≡

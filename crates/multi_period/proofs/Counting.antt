@@ -1,20 +1,17 @@
 -- How many operations a marked reference becomes.
-use Rattle.std.proofs.Common.{◌≡◌, ℕ, zero, suc, ◌+◌, ◌-◌, ◌*◌, ◌≤◌, List, [], ◌∷◌, ◌++◌, length, map, replicate, refl, sym, ap, ◌∙◌, arith, Option, Some, None, subst}
+use Rattle.std.proofs.Common.{◌≡◌, ℕ, zero, suc, ◌+◌, ◌-◌, ◌*◌, ◌≤◌, List, [], ◌∷◌, length, map, replicate, refl, sym, ap, ◌∙◌, arith, Option, Some, None, subst}
 use Rattle.level_meaning.specs.Level.{numbers_below}
 use Rattle.algo_tree.specs.Tree.{Label, Vertex, vertex, Vertices, no_vertices, and_vertex}
 use Rattle.algo_tree.specs.Meaning.{vertices_in}
 use Rattle.algo_tree.specs.Valid.{IsTree}
 use Rattle.algo_tree.specs.View.{vertices_of}
 use Rattle.algo_tree.specs.Counted.{operations_by, operations, operations_in}
+use Rattle.pass_laws.proofs.Appends.{counted-append}
 use Rattle.multi_period.specs.declared.mark.Mark.{Mark}
 use Rattle.multi_period.specs.Marks.{mark_at, IsMark, MayHave, AreMarked}
 use Rattle.multi_period.specs.Periods.{turns, keep, body, period_by, all_periods}
 use Rattle.multi_period.specs.Laws.{PeriodCounts, added_by, added, PeriodsCount}
 use Rattle.multi_period.proofs.Lists.{long_below}
-
-counted-append : (xs ys : List Vertex) → operations_in (vertices_of (xs ++ ys)) ≡ operations_in (vertices_of xs) + operations_in (vertices_of ys)
-counted-append [] ys = omega arith
-counted-append (x ∷ xs) ys = let more = counted-append xs ys in omega (arith, more)
 
 long_numbers : (n : ℕ) → length (numbers_below n) ≡ n
 long_numbers n = sym (long_map_id (numbers_below n)) ∙ long_below (λ i. i) n

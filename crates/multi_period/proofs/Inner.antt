@@ -7,30 +7,17 @@ use Rattle.level_meaning.specs.declared.source.Source.TheVariants.{Of}
 use Rattle.level_meaning.specs.declared.part.Part.TheVariants.{Named, Numbered}
 use Rattle.level_meaning.specs.Level.{Values, Vector, State, Path, Node, below, vector_at, numbers_below, source_value, with_node, node_outputs, node_next, out, level_value, case_look, case_outputs, graph_outputs, graph_next, switch_outputs, switch_next}
 use Rattle.level_meaning.specs.Parts.{HasDistinctParts}
-use Rattle.algo_tree.specs.Tree.{Label, Kind, sensor, actuator, constant, delay, function, explode, implode, merge, graph, switch, repeat, Vertices}
-use Rattle.algo_tree.specs.Meaning.{asked_by, kind_outputs, kind_next, node, nodes}
+use Rattle.algo_tree.specs.Tree.{Label, Vertices}
+use Rattle.algo_tree.specs.Meaning.{kind_outputs, kind_next, node, nodes}
 use Rattle.algo_tree.specs.View.{vertices_of}
 use Rattle.pass_laws.proofs.Views.{nodes-vertices_of}
+use Rattle.pass_laws.proofs.Appends.{blind}
 use Rattle.multi_period.specs.declared.mark.Mark.{Mark}
 use Rattle.multi_period.specs.Marks.{IsMark}
 use Rattle.multi_period.specs.Periods.{count, keep_name, keep, inputs_from, run, when_runs, otherwise, body}
 use Rattle.multi_period.proofs.Lists.{map_map, long_append, long_below, map_below, at_below, past_below, all_below, inputs_are}
 use Rattle.multi_period.proofs.Turns.{counts, turn, count_first}
 use Rattle.multi_period.proofs.Found.{found_at}
-
--- a delay asks for no input, and its outputs tell nothing of one
-pub blind : (k : Kind) (outs : List ℕ) (cs : List Node) (row : Values) (st : State) (f : Source → Vector) (ss : List Source) → kind_outputs k outs cs row st (map f (asked_by k ss)) ≡ kind_outputs k outs cs row st (map f ss)
-blind (sensor m) outs cs row st f ss = refl
-blind (actuator m) outs cs row st f ss = refl
-blind (constant v) outs cs row st f ss = refl
-blind (delay v) outs cs row st f ss = refl
-blind (function es) outs cs row st f ss = refl
-blind explode outs cs row st f ss = refl
-blind implode outs cs row st f ss = refl
-blind (merge values) outs cs row st f ss = refl
-blind (graph sources) outs cs row st f ss = refl
-blind (switch values names) outs cs row st f ss = refl
-blind (repeat m feeds gives) outs cs row st f ss = refl
 
 module _ (m : Mark) (l : Label) (us : Vertices) where
   abbrev pub q : ℕ

@@ -5,9 +5,10 @@ use lib.Seq.{take-suc, take_all}
 use Rattle.level_meaning.specs.declared.source.Source.{Source}
 use Rattle.level_meaning.specs.declared.source.Source.TheVariants.{Own, Of}
 use Rattle.level_meaning.specs.Level.{zeros, numbers_below}
-use Rattle.algo_tree.specs.Tree.{Label, Vertex, vertex, Vertices, no_vertices, and_vertex}
+use Rattle.algo_tree.specs.Tree.{Label, vertex, Vertices, no_vertices, and_vertex}
 use Rattle.algo_tree.specs.View.{vertices_of}
 use Rattle.algo_tree.specs.Typed.{IsLength, AreLengths, label_of, outs_of, source_length, AreGroups, IsTyped, AllTyped}
+use Rattle.pass_laws.proofs.Appends.{lengths-append, outs-append, typed-append}
 use Rattle.multi_period.specs.declared.mark.Mark.{Mark}
 use Rattle.multi_period.specs.Marks.{IsMark, AreMarked, MayHave}
 use Rattle.multi_period.specs.Periods.{count, keep, inputs_from, run, when_runs, otherwise, body, period, period_by, all_periods}
@@ -50,10 +51,6 @@ got [] i y d e = cc
 got (x ∷ xs) zero y d e = cc
 got (x ∷ xs) (suc i) y d e = got xs i y d e
 
-lengths-append : (xs ys : List ℕ) → AreLengths xs → AreLengths ys → AreLengths (xs ++ ys)
-lengths-append [] ys h k = k
-lengths-append (x ∷ xs) ys h k = (h.0, lengths-append xs ys h.1 k)
-
 length-at : (ns : List ℕ) (i : ℕ) → AreLengths ns → i < length ns → IsLength (slice_index_or ns i 0)
 length-at [] i h lt = absurd (omega arith)
 length-at (n ∷ ns) zero h lt = h.0
@@ -69,15 +66,6 @@ long_zeros (suc n) = ap suc (long_zeros n)
 ones-typed : (n : ℕ) → AreGroups (1 ∷ []) (replicate n (pos 1 ∷ []))
 ones-typed zero = tt
 ones-typed (suc n) = (refl, ones-typed n)
-
--- several vertices
-outs-append : (xs ys : List Vertex) → outs_of (vertices_of (xs ++ ys)) ≡ outs_of (vertices_of xs) ++ outs_of (vertices_of ys)
-outs-append [] ys = refl
-outs-append (x ∷ xs) ys = ap (λ os. (label_of x).outs ∷ os) (outs-append xs ys)
-
-typed-append : (own : List ℕ) (outs : List (List ℕ)) (xs ys : List Vertex) → AllTyped own outs (vertices_of xs) → AllTyped own outs (vertices_of ys) → AllTyped own outs (vertices_of (xs ++ ys))
-typed-append own outs [] ys h k = k
-typed-append own outs (x ∷ xs) ys h k = (h.0, typed-append own outs xs ys h.1 k)
 
 outs-keeps : (l : Label) (is : List ℕ) → outs_of (vertices_of (map (keep l) is)) ≡ map (λ i. slice_index_or l.outs i 0 ∷ []) is
 outs-keeps l [] = refl

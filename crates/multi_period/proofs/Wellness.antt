@@ -1,5 +1,5 @@
 -- The made tree has the form of a tree.
-use Rattle.std.proofs.Common.{◌≡◌, ℕ, zero, suc, ◌+◌, ◌<◌, List, [], ◌∷◌, ◌++◌, length, map, Bool, false, ◌&&◌, Option, Some, None, slice_get, refl, sym, ap, ap₂, ◌∙◌, subst, arith}
+use Rattle.std.proofs.Common.{◌≡◌, ℕ, zero, suc, ◌+◌, ◌<◌, List, [], ◌∷◌, length, map, Bool, false, ◌&&◌, Option, Some, None, slice_get, refl, sym, ap, ap₂, ◌∙◌, subst, arith}
 use mathlib.Core.Path.{fun_ext}
 use Rattle.level_meaning.specs.declared.source.Source.{Source}
 use Rattle.level_meaning.specs.declared.source.Source.TheVariants.{Own, Of}
@@ -7,11 +7,12 @@ use Rattle.level_meaning.specs.Level.{with_node, numbers_below}
 use Rattle.level_meaning.specs.Order.{guards_ready, sources_ready, is_ready, settled, IsAcyclic, AreBefore}
 use Rattle.level_meaning.specs.Parts.{HasDistinctParts}
 use Rattle.level_meaning.proofs.InOrder.{acyclic-in_order}
-use Rattle.algo_tree.specs.Tree.{Label, Kind, sensor, actuator, constant, delay, function, explode, implode, merge, graph, switch, repeat, Vertex, vertex, Vertices, no_vertices, and_vertex}
+use Rattle.algo_tree.specs.Tree.{Label, Kind, sensor, actuator, constant, delay, function, explode, implode, merge, graph, switch, repeat, vertex, Vertices, no_vertices, and_vertex}
 use Rattle.algo_tree.specs.Meaning.{asked_by, node, nodes}
 use Rattle.algo_tree.specs.View.{vertices_of}
 use Rattle.algo_tree.specs.Well.{AreOwn, IsKindWell, IsWell, AllWell}
 use Rattle.pass_laws.proofs.Segments.{OrderFrom, in_order-from, order-append, before-append, before_below, order_below, before-asked}
+use Rattle.pass_laws.proofs.Appends.{well-append}
 use Rattle.multi_period.specs.declared.mark.Mark.{Mark}
 use Rattle.multi_period.specs.Marks.{IsMarkable, IsMark, AreMarked, MayHave}
 use Rattle.multi_period.specs.Periods.{keep, inputs_from, run, body, period, period_by, all_periods}
@@ -31,11 +32,6 @@ asked-all (delay vs) ss h = absurd h
 asked-all explode ss h = absurd h
 asked-all implode ss h = absurd h
 asked-all (merge values) ss h = absurd h
-
--- several vertices
-pub well-append : (xs ys : List Vertex) → AllWell (vertices_of xs) → AllWell (vertices_of ys) → AllWell (vertices_of (xs ++ ys))
-well-append [] ys h k = k
-well-append (x ∷ xs) ys h k = (h.0, well-append xs ys h.1 k)
 
 well-keeps : (l : Label) (is : List ℕ) → AllWell (vertices_of (map (keep l) is))
 well-keeps l [] = tt

@@ -5,22 +5,16 @@ use Rattle.level_meaning.specs.declared.source.Source.{Source}
 use Rattle.level_meaning.specs.declared.source.Source.TheVariants.{Own, Of}
 use Rattle.level_meaning.specs.declared.part.Part.{Part}
 use Rattle.level_meaning.specs.declared.part.Part.TheVariants.{Named, Numbered, Port}
-use Rattle.level_meaning.specs.declared.frontier.Feed.{Feed}
 use Rattle.level_meaning.specs.declared.frontier.Feed.TheVariants.{Fork, Diffuse}
 use Rattle.level_meaning.specs.declared.frontier.Give.TheVariants.{Join}
 use Rattle.level_meaning.specs.Level.{Path}
-use Rattle.body_lang.specs.Expr.{Expr, index}
-use Rattle.algo_tree.specs.Tree.{Kind, sensor, actuator, delay, function, explode, implode, merge, graph, switch, repeat, Vertex, vertex, Vertices, no_vertices, and_vertex}
+use Rattle.body_lang.specs.Expr.{index}
+use Rattle.algo_tree.specs.Tree.{Kind, sensor, actuator, delay, function, explode, implode, merge, graph, switch, repeat, Vertex, Vertices, no_vertices, and_vertex}
+use Rattle.factorisation_laws.proofs.Worked.{of, alone}
 use Rattle.inlining_laws.specs.Flat.{runs, gets, sets}
 use Rattle.flat_laws.specs.FlatOf.{flat_of}
 use Rattle.operation_table.specs.Table.{Condition, Row, stage_row, row, table}
 use Rattle.operation_table.specs.Listed.{listed}
-
-abbrev of : Part → List ℕ → List Source → List ℕ → Kind → Vertices → Vertex
-of p d ins outs k us = vertex (record { part = p; definition = d; ins = ins; guards = []; outs = outs; names = []; kind = k }) us
-
-abbrev alone : Part → List ℕ → List Source → List ℕ → Kind → Vertex
-alone p d ins outs k = of p d ins outs k no_vertices
 
 abbrev only : Vertex → Vertices
 only u = and_vertex u no_vertices

@@ -3,3 +3,5 @@ pub mod Views
 pub mod Segments
 pub mod Lists
 pub mod Parts
+pub mod SameParts
+pub mod Appends

@@ -5,6 +5,7 @@ use Rattle.std.specs.List.{list_any, list_all}
 use Rattle.std.proofs.lemmas.Bool.{false≢true, and_parts, or_cases, le-leb, leb-true, leb-false, ltb-true}
 use Rattle.std.proofs.lemmas.List.{get_or-set_same, get_or-set_other, length-set}
 use Rattle.std.proofs.lemmas.List.Folds.{list_any-append}
+use Rattle.std.proofs.Math.Bool.{and-true, and-false, or-false}
 use Rattle.flat_graph.specs.declared.vertex.Vertex.{Vertex}
 use Rattle.schedule.specs.Acts.{Act, carry, run, start_of, end_of, Copy, copy, same_copy, read_by, made_by}
 use Rattle.schedule.specs.Windows.{covers, place, since, is_by, lesser_date, noted, noted_all, held_by, is_made, are_fed, fed_after, is_fresh, brings_new, is_in_time}
@@ -57,18 +58,6 @@ lesser_by (Some s) e date = same_bool (nat_le (min s e) date) (nat_le s date || 
       | inr r ↦ (let m = leb-true e date r in omega arith)
     ])
 
-and_true : (b : Bool) → (b && true) ≡ b
-and_true true = refl
-and_true false = refl
-
-and_false : (b : Bool) → (b && false) ≡ false
-and_false true = refl
-and_false false = refl
-
-or_false : (b : Bool) → (b || false) ≡ b
-or_false true = refl
-or_false false = refl
-
 -- one more copy: a test on its entry that joins what was there with what comes, as `is_by` and `is_some` do
 module _ (first : ℕ) (held : List (Option ℕ)) (size : length held ≡ 16384) (e : ℕ) (test : Option ℕ → Bool) (comes : Bool)
     (joins : (o : Option ℕ) → test (Some (lesser_date o e)) ≡ (test o || comes)) where
@@ -76,7 +65,7 @@ module _ (first : ℕ) (held : List (Option ℕ)) (size : length held ≡ 16384)
   noted_by k c h = by (covers first k) refl
     where
       other : same_copy c k ≡ false → test (since first held c) ≡ (test (since first held c) || (comes && same_copy c k))
-      other s = sym (or_false (test (since first held c))) ∙ ap (λ (b : Bool). test (since first held c) || b) (sym (and_false comes) ∙ ap (λ (b : Bool). comes && b) (sym s))
+      other s = sym (or-false (test (since first held c))) ∙ ap (λ (b : Bool). test (since first held c) || b) (sym (and-false comes) ∙ ap (λ (b : Bool). comes && b) (sym s))
 
       here : covers first k ≡ true → (s : Bool) → same_copy c k ≡ s
           → test (slice_index_or (slice_set held (place first k) (Some (lesser_date (since first held k) e))) (place first c) None) ≡ (test (since first held c) || (comes && same_copy c k))
@@ -86,7 +75,7 @@ module _ (first : ℕ) (held : List (Option ℕ)) (size : length held ≡ 16384)
           ap (λ (d : Copy). test (slice_index_or (slice_set held (place first k) (Some (lesser_date (since first held k) e))) (place first d) None)) same
           ∙ ap test (get_or-set_same held (place first k) (Some (lesser_date (since first held k) e)) None (omega arith))
           ∙ joins (since first held k)
-          ∙ (λ i. test (since first held (sym same i)) || sym (and_true comes) i)
+          ∙ (λ i. test (since first held (sym same i)) || sym (and-true comes) i)
           ∙ ap (λ (b : Bool). test (since first held c) || (comes && b)) (sym s)
       here j false s =
           ap test (get_or-set_other held (place first k) (place first c) (Some (lesser_date (since first held k) e)) None (λ q. false≢true (sym s ∙ apart first c k h j q)))
@@ -115,7 +104,7 @@ noted_all_size first held e (k ∷ ks) = noted_all_size first (noted first held 
 noted_all_by : (first : ℕ) (held : List (Option ℕ)) → length held ≡ 16384 → (e : ℕ) (test : Option ℕ → Bool) (comes : Bool)
     → ((o : Option ℕ) → test (Some (lesser_date o e)) ≡ (test o || comes)) → (ks : List Copy) (c : Copy) → covers first c ≡ true
     → test (since first (noted_all first held e ks) c) ≡ (test (since first held c) || (comes && list_any (same_copy c) ks))
-noted_all_by first held size e test comes joins [] c h = sym (or_false (test (since first held c))) ∙ ap (λ (b : Bool). test (since first held c) || b) (sym (and_false comes))
+noted_all_by first held size e test comes joins [] c h = sym (or-false (test (since first held c))) ∙ ap (λ (b : Bool). test (since first held c) || b) (sym (and-false comes))
 noted_all_by first held size e test comes joins (k ∷ ks) c h =
     noted_all_by first (noted first held e k) (noted_size first held e k ∙ size) e test comes joins ks c h
     ∙ ap (λ (b : Bool). b || (comes && list_any (same_copy c) ks)) (noted_by first held size e test comes joins k c h)
@@ -138,11 +127,11 @@ module _ (vertices : List Vertex) (first : ℕ) where
     size = noted_all_size first held (end_of x) (made_by vertices x) ∙ t.size;
     by_date = λ c date h.
         noted_all_by first held t.size (end_of x) (λ o. is_by o date) (nat_le (end_of x) date) (λ o. lesser_by o (end_of x) date) (made_by vertices x) c h
-        ∙ (λ i. t.by_date c date h i || sym (or_false (nat_le (end_of x) date && list_any (same_copy c) (made_by vertices x))) i)
+        ∙ (λ i. t.by_date c date h i || sym (or-false (nat_le (end_of x) date && list_any (same_copy c) (made_by vertices x))) i)
         ∙ sym (list_any-append (λ y. nat_le (end_of y) date && list_any (same_copy c) (made_by vertices y)) before (x ∷ []));
     made = λ c h.
         noted_all_by first held t.size (end_of x) is_some true (λ o. some_joins o) (made_by vertices x) c h
-        ∙ (λ i. t.made c h i || sym (or_false (list_any (same_copy c) (made_by vertices x))) i)
+        ∙ (λ i. t.made c h i || sym (or-false (list_any (same_copy c) (made_by vertices x))) i)
         ∙ sym (list_any-append (λ y. list_any (same_copy c) (made_by vertices y)) before (x ∷ []));
   }
     where

@@ -10,3 +10,4 @@ pub mod Lining
 pub mod Starts
 pub mod Tight
 pub mod Worked
+pub mod Examples

@@ -6,6 +6,7 @@ use Rattle.std.specs.Cmp.Derive.{both_true}
 use Rattle.std.proofs.lemmas.Bool.{false≢true, and_parts, le-leb, leb-true, ltb-true, eqb-true, eqb-false}
 use Rattle.std.proofs.lemmas.List.{append-nil, append_assoc, get_or-set_same, get_or-set_other, length-set}
 use Rattle.std.proofs.lemmas.List.Folds.{list_any-append, list_all-append}
+use Rattle.std.proofs.Math.Bool.{and-true, or-false}
 use Rattle.flat_graph.specs.declared.vertex.Kind.{Kind}
 use Rattle.flat_graph.specs.declared.vertex.Kind.TheVariants.{Set}
 use Rattle.flat_graph.specs.declared.vertex.Vertex.{Vertex}
@@ -24,14 +25,6 @@ use Rattle.schedule.specs.Lines.{IsSetting, IsStart, HasPlaces, follows, may_car
 use Rattle.schedule.proofs.Lined.{lined, lined_after}
 use Rattle.schedule.proofs.Copies.{same_bool}
 
-and_true : (b : Bool) → (b && true) ≡ b
-and_true true = refl
-and_true false = refl
-
-or_false : (b : Bool) → (b || false) ≡ b
-or_false true = refl
-or_false false = refl
-
 -- Dates that are told by the last one.
 later : (a b date : ℕ) → a ≤ b → nat_le b date ≡ (nat_le a date && nat_le b date)
 later a b date l = same_bool (nat_le b date) (nat_le a date && nat_le b date)
@@ -39,10 +32,10 @@ later a b date l = same_bool (nat_le b date) (nat_le a date && nat_le b date)
 
 ended_more : (test : Act → Bool) (before : List Act) (x : Act) (date : ℕ) → have_ended test (before ++ x ∷ []) date ≡ (have_ended test before date && (not (test x) || nat_le (end_of x) date))
 ended_more test before x date =
-    list_all-append (λ y. not (test y) || nat_le (end_of y) date) before (x ∷ []) ∙ ap (λ (b : Bool). have_ended test before date && b) (and_true (not (test x) || nat_le (end_of x) date))
+    list_all-append (λ y. not (test y) || nat_le (end_of y) date) before (x ∷ []) ∙ ap (λ (b : Bool). have_ended test before date && b) (and-true (not (test x) || nat_le (end_of x) date))
 
 any_more : (test : Act → Bool) (before : List Act) (x : Act) → list_any test (before ++ x ∷ []) ≡ (list_any test before || test x)
-any_more test before x = list_any-append test before (x ∷ []) ∙ ap (λ (b : Bool). list_any test before || b) (or_false (test x))
+any_more test before x = list_any-append test before (x ∷ []) ∙ ap (λ (b : Bool). list_any test before || b) (or-false (test x))
 
 lasting : (o : Option ℕ) (start end : ℕ) → lasts o start end ≡ true → start ≤ end
 lasting None start end h = absurd (false≢true h)
@@ -127,9 +120,9 @@ module _ (s : Setting) (g : Graph) (a : Architecture) (table : Table)
       let few = set.media in
       record {
         sizes = record { places = sizes.places; busy = sizes.busy; ends = length-set l.ends c.medium c.end ∙ sizes.ends };
-        placed = λ v. t.placed v ∙ sym (or_false (list_any (runs v) before)) ∙ sym (any_more (runs v) before (carry c));
-        on = λ v o. t.on v o ∙ sym (or_false (list_any (λ y. runs v y && is_on o y) before)) ∙ sym (any_more (λ y. runs v y && is_on o y) before (carry c));
-        busy = λ o date. t.busy o date ∙ sym (and_true (have_ended (is_on o) before date)) ∙ sym (ended_more (is_on o) before (carry c) date);
+        placed = λ v. t.placed v ∙ sym (or-false (list_any (runs v) before)) ∙ sym (any_more (runs v) before (carry c));
+        on = λ v o. t.on v o ∙ sym (or-false (list_any (λ y. runs v y && is_on o y) before)) ∙ sym (any_more (λ y. runs v y && is_on o y) before (carry c));
+        busy = λ o date. t.busy o date ∙ sym (and-true (have_ended (is_on o) before date)) ∙ sym (ended_more (is_on o) before (carry c) date);
         ends = λ m date. by m date (nat_eq c.medium m) refl long free (let sz = sizes.ends in omega arith);
       }
     where
@@ -143,7 +136,7 @@ module _ (s : Setting) (g : Graph) (a : Architecture) (table : Table)
           ∙ sym (ended_more (is_over m) before (carry c) date)
       by m date false e long free low =
           ap (λ (n : ℕ). nat_le n date) (get_or-set_other l.ends c.medium m c.end 0 (λ q. eqb-false c.medium m e (sym q)))
-          ∙ t.ends m date ∙ sym (and_true (have_ended (is_over m) before date)) ∙ (λ i. have_ended (is_over m) before date && (not (sym e i) || nat_le c.end date)) ∙ sym (ended_more (is_over m) before (carry c) date)
+          ∙ t.ends m date ∙ sym (and-true (have_ended (is_over m) before date)) ∙ (λ i. have_ended (is_over m) before date && (not (sym e i) || nat_le c.end date)) ∙ sym (ended_more (is_over m) before (carry c) date)
 
   -- what an operation that may run has
   record Runs (l : Lines) (d : Decision) : Type 0 where
@@ -192,7 +185,7 @@ module _ (s : Setting) (g : Graph) (a : Architecture) (table : Table)
         placed = λ v. at_place is_some (runs v) v (t.placed v) (λ e. sym e) (λ e. e) (not_some (slice_index_or l.places d.op None) r.fresh) r;
         on = λ v o. at_place (λ p. names p o) (λ y. runs v y && is_on o y) v (t.on v o) (λ e. ap (λ (b : Bool). b && nat_eq d.operator o) (sym e)) (λ e. ap (λ (b : Bool). b && nat_eq d.operator o) e) (no_name (slice_index_or l.places d.op None) o r.fresh) r;
         busy = λ o date. by o date (nat_eq d.operator o) refl r;
-        ends = λ m date. t.ends m date ∙ sym (and_true (have_ended (is_over m) before date)) ∙ sym (ended_more (is_over m) before (run d) date);
+        ends = λ m date. t.ends m date ∙ sym (and-true (have_ended (is_over m) before date)) ∙ sym (ended_more (is_over m) before (run d) date);
       }
     where
       at_place : (test : Option ℕ → Bool) (passes : Act → Bool) (v : ℕ) → test (slice_index_or l.places v None) ≡ list_any passes before
@@ -209,7 +202,7 @@ module _ (s : Setting) (g : Graph) (a : Architecture) (table : Table)
               ∙ now h ∙ ap (λ (b : Bool). b || passes (run d)) (sym before_none) ∙ sym (any_more passes before (run d))
           cases false h =
               ap test (get_or-set_other l.places d.op v (Some d.operator) None (λ q. eqb-false d.op v h (sym q)))
-              ∙ e ∙ sym (or_false (list_any passes before)) ∙ ap (λ (b : Bool). list_any passes before || b) (sym (past h)) ∙ sym (any_more passes before (run d))
+              ∙ e ∙ sym (or-false (list_any passes before)) ∙ ap (λ (b : Bool). list_any passes before || b) (sym (past h)) ∙ sym (any_more passes before (run d))
 
       by : (o date : ℕ) (b : Bool) → nat_eq d.operator o ≡ b → Runs l d → nat_le (slice_index_or (slice_set l.busy d.operator d.end) o 0) date ≡ have_ended (is_on o) (before ++ run d ∷ []) date
       by o date true e r =
@@ -220,7 +213,7 @@ module _ (s : Setting) (g : Graph) (a : Architecture) (table : Table)
           ∙ sym (ended_more (is_on o) before (run d) date)
       by o date false e r =
           ap (λ (n : ℕ). nat_le n date) (get_or-set_other l.busy d.operator o d.end 0 (λ q. eqb-false d.operator o e (sym q)))
-          ∙ t.busy o date ∙ sym (and_true (have_ended (is_on o) before date)) ∙ (λ i. have_ended (is_on o) before date && (not (sym e i) || nat_le d.end date)) ∙ sym (ended_more (is_on o) before (run d) date)
+          ∙ t.busy o date ∙ sym (and-true (have_ended (is_on o) before date)) ∙ (λ i. have_ended (is_on o) before date && (not (sym e i) || nat_le d.end date)) ∙ sym (ended_more (is_on o) before (run d) date)
 
   told_more : (l : Lines) (before : List Act) → Told l before → (x : Act) → may_follow s l x ≡ true → Told (lines_after s l x) (before ++ x ∷ [])
   told_more l before t (carry c) may = told_carry l before t c may

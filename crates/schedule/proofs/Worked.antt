@@ -9,13 +9,10 @@ use Rattle.flat_graph.specs.Graph.{Graph}
 use Rattle.archi_graph.specs.Archi.{Architecture}
 use Rattle.schedule.specs.declared.decision.Transfer.{Transfer}
 use Rattle.schedule.specs.declared.decision.Decision.{Decision}
-use Rattle.schedule.specs.declared.decision.Schedule.{Schedule}
 use Rattle.schedule.specs.Acts.{length_of}
 use Rattle.schedule.specs.Tight.{is_tight}
 use Rattle.schedule.specs.Valid.{is_valid}
-
-abbrev source : ℕ → Source
-source v = record { vertex = v; port = 0 }
+use Rattle.schedule.proofs.Examples.{source, placed, schedule}
 
 abbrev vertex : ℕ → Kind → List Source → List ℕ → Option ℕ → Vertex
 vertex c k ins outs twin = record { name = c ∷ []; def = 68 ∷ []; kind = k; guards = []; ins = ins; outs = outs; twin = twin }
@@ -26,12 +23,6 @@ bus = record { operators = (80 ∷ []) ∷ (81 ∷ []) ∷ []; media = record { 
 
 abbrev carried : ℕ → ℕ → ℕ → Transfer
 carried v start end = record { source = source v; medium = 0; from = 0; to = 1; start = start; end = end }
-
-abbrev placed : ℕ → ℕ → ℕ → ℕ → List Transfer → Decision
-placed v o start end transfers = record { op = v; operator = o; start = start; end = end; transfers = transfers }
-
-abbrev schedule : List Decision → Schedule
-schedule ds = record { decisions = ds }
 
 abbrev sum_of_two : Graph
 sum_of_two = record {

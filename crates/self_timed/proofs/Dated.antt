@@ -17,11 +17,12 @@ use Rattle.schedule.specs.Tight.{same_line, reads_from}
 use Rattle.executive_program.specs.declared.program.Buffer.{Buffer}
 use Rattle.executive_program.specs.declared.program.Program.{Program}
 use Rattle.executive_program.specs.Instructions.{number_or, depth_in}
+use Rattle.executive_program.proofs.Reading.{any_of}
 use Rattle.sequence_build_laws.specs.Serial.{copies, buffer_for}
 use Rattle.sequence_build_laws.specs.Built.{buffers_from, program_of, is_guarded}
-use Rattle.schedule.proofs.Copies.{few_outputs}
-use Rattle.sequence_build_laws.proofs.Lists.{any_of, get_some, tally, tally_grows, counts_tally}
-use Rattle.sequence_build_laws.proofs.Works.{copy_is, of_run}
+use Rattle.schedule.proofs.Copies.{few_outputs, copy_is}
+use Rattle.sequence_build_laws.proofs.Lists.{get_some, tally, tally_grows, counts_tally}
+use Rattle.sequence_build_laws.proofs.Works.{of_run}
 use Rattle.self_timed_laws.specs.Dates.{AreDates, has_reader}
 use Rattle.self_timed_laws.specs.Entries.{stated, is_transfer, entry_at, entry_of, row_in, lasting, AreWithin}
 use Rattle.self_timed_laws.proofs.Solution.{are_dates}

@@ -13,8 +13,10 @@ use Rattle.schedule.specs.declared.decision.Schedule.{Schedule}
 use Rattle.schedule.specs.Acts.{Act, carry, run, acts, Copy, same_copy, read_by, made_by}
 use Rattle.schedule.specs.Tight.{reads_from}
 use Rattle.schedule.specs.Valid.{is_valid}
-use Rattle.sequence_build_laws.proofs.Lists.{tally, counts_tally, tally-append, get_before, get_past, get_some, from_map, map_at, any_at, any_of, take_next}
-use Rattle.sequence_build_laws.proofs.Works.{copy_is, same_copy_self, read_made, one_maker}
+use Rattle.schedule.proofs.Copies.{copy_is, same_copy_self}
+use Rattle.executive_program.proofs.Reading.{any_at, any_of}
+use Rattle.sequence_build_laws.proofs.Lists.{tally, counts_tally, tally-append, get_before, get_past, get_some, from_map, map_at, take_next}
+use Rattle.sequence_build_laws.proofs.Works.{read_made, one_maker}
 use Rattle.self_timed_laws.specs.Entries.{is_transfer, entry_at, entry_of}
 use Rattle.self_timed_laws.specs.Dates.{with_act}
 use Rattle.self_timed.specs.declared.layout.Step.{Step}

@@ -13,8 +13,10 @@ use Rattle.schedule.specs.declared.decision.Schedule.{Schedule}
 use Rattle.schedule.specs.Acts.{Act, carry, run, acts, start_of, end_of, is_over, is_on, runs, Copy, copy, same_copy, read_by, made_by, latest, length_of}
 use Rattle.schedule.specs.Tight.{same_line, reads_from, is_tight}
 use Rattle.schedule.specs.Valid.{is_valid, is_held, is_there, have_ended, lasts, is_carried}
-use Rattle.sequence_build_laws.proofs.Lists.{any_of, all_at, get_take, take_get}
-use Rattle.sequence_build_laws.proofs.Works.{right_at, one_maker, copy_is}
+use Rattle.schedule.proofs.Copies.{copy_is}
+use Rattle.executive_program.proofs.Reading.{any_of}
+use Rattle.sequence_build_laws.proofs.Lists.{all_at, get_take, take_get}
+use Rattle.sequence_build_laws.proofs.Works.{right_at, one_maker}
 use Rattle.self_timed_laws.specs.Dates.{Event, greatest, with_act, in_line, brought, emptied, needs, start_by, AreDates}
 use Rattle.schedule.proofs.Tight.{tight_at, tight_where}
 use Rattle.self_timed_laws.specs.Laws.{NoneLonger, FirstAsStated}

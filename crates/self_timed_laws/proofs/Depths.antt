@@ -1,9 +1,9 @@
 -- A buffer that is read in another sequence is guarded by a pair, and so has the program's number of places.
-use Rattle.std.proofs.Common.{◌≡◌, ℕ, zero, suc, ◌+◌, ◌<◌, Bool, true, false, not, cond, List, [], ◌∷◌, length, Option, Some, None, refl, sym, ap, inl, inr, arith, ◌∙◌, eq-eqb}
+use Rattle.std.proofs.Common.{◌≡◌, ℕ, zero, suc, ◌+◌, Bool, true, false, not, [], length, Option, Some, None, refl, sym, ap, arith, ◌∙◌, eq-eqb}
 use Rattle.std.specs.Prelude.{slice_get}
 use Rattle.std.specs.List.{list_any}
 use Rattle.std.specs.Cmp.Derive.{both_true}
-use Rattle.std.proofs.lemmas.Bool.{false≢true, cases_eq}
+use Rattle.std.proofs.lemmas.Bool.{false≢true}
 use Rattle.std.proofs.lemmas.Option.{same_Some, slice_get_within}
 use Rattle.flat_graph.specs.Graph.{Graph}
 use Rattle.archi_graph.specs.declared.medium.Seq.{Seq}
@@ -12,40 +12,18 @@ use Rattle.archi_graph.specs.Sequences.{sequences}
 use Rattle.schedule.specs.declared.decision.Schedule.{Schedule}
 use Rattle.schedule.specs.Acts.{Act, carry, run, acts, Copy, copy, read_by, made_by}
 use Rattle.schedule.specs.Valid.{is_valid}
-use Rattle.executive_program.specs.declared.program.SeqCode.{SeqCode}
-use Rattle.executive_program.specs.Blocks.{blocks}
-use Rattle.executive_program.specs.Instructions.{reads, writes, Reader, waits_for, readers_from, depth_of, depth_in}
+use Rattle.executive_program.specs.Instructions.{reads, writes, readers_from, depth_of, depth_in}
 use Rattle.executive_program.specs.WellFormed.{ReadsAt}
+use Rattle.executive_program.proofs.Reading.{any_at, any_of, of_reads, writes_of, to_readers, in_all}
 use Rattle.sequence_build_laws.specs.Serial.{Step, step, projection, copies, buffer_for, plain_steps, plain_program, pairs, steps_of}
 use Rattle.sequence_build_laws.specs.Built.{program_with}
-use Rattle.sequence_build_laws.proofs.Lists.{any_at, any_of, get_before, get_past, map_at, starts}
+use Rattle.sequence_build_laws.proofs.Lists.{map_at, starts}
 use Rattle.sequence_build_laws.proofs.Loops.{codes_at}
-use Rattle.sequence_build_laws.proofs.Setting.{Setting, of_reads, writes_of}
+use Rattle.sequence_build_laws.proofs.Setting.{Setting}
 use Rattle.sequence_build_laws.proofs.Guards.{in_projection, projection_at}
 use Rattle.sequence_build_laws.proofs.Works.{made_buffer}
-use Rattle.sequence_build_laws.proofs.Steps.{sending, receiving, calling, write_place, writing, writes_there, writes_made, from_there, to_there, at_there, step_at, setting}
+use Rattle.sequence_build_laws.proofs.Steps.{sending, calling, write_place, writing, writes_there, writes_made, from_there, to_there, at_there, step_at, setting}
 use Rattle.schedule.specs.Tight.{same_line}
-
-reader_is : (b s t : ℕ) → s ≡ t → ◌≡◌ {A = Reader} (record { buffer = b; sequence = s }) (record { buffer = b; sequence = t })
-reader_is b s t e = ap (λ (n : ℕ). record { buffer = b; sequence = n }) e
-
-to_readers : (s : ℕ) (qs : List SeqCode) (b k : ℕ) (q : SeqCode) → slice_get qs k ≡ Some q → waits_for b q ≡ true → (i : ℕ) × (slice_get (readers_from s qs b) i ≡ Some (record { buffer = b; sequence = s + k }))
-to_readers s [] b k q e h = absurd cc
-to_readers s (y ∷ ys) b zero q e h = let t : waits_for b y ≡ true = ap (waits_for b) (same_Some y q e) ∙ h in
-    (0, rw t (ap (λ (r : Reader). Some r) (reader_is b s (s + 0) (omega arith))))
-to_readers s (y ∷ ys) b (suc k) q e h = by (waits_for b y) (to_readers (suc s) ys b k q e h)
-  where
-    by : (t : Bool) → (i : ℕ) × (slice_get (readers_from (suc s) ys b) i ≡ Some (record { buffer = b; sequence = suc s + k }))
-        → (i : ℕ) × (slice_get (cond t (record { buffer = b; sequence = s } ∷ readers_from (suc s) ys b) (readers_from (suc s) ys b)) i ≡ Some (record { buffer = b; sequence = s + suc k }))
-    by true r = (suc r.0, r.1 ∙ ap (λ (r : Reader). Some r) (reader_is b (suc s + k) (s + suc k) (omega arith)))
-    by false r = (r.0, r.1 ∙ ap (λ (r : Reader). Some r) (reader_is b (suc s + k) (s + suc k) (omega arith)))
-
-in_all : {A : Type 0} (f : ℕ → List A) (n b k : ℕ) (x : A) → b < n → slice_get (f b) k ≡ Some x → (i : ℕ) × (slice_get (blocks f n) i ≡ Some x)
-in_all f zero b k x l e = absurd (omega arith)
-in_all f (suc n) b k x l e = elim (cases_eq b n) [
-  | inl q ↦ (length (blocks f n) + k, get_past (blocks f n) (f n) k ∙ ap (λ (m : ℕ). slice_get (f m) k) (sym q) ∙ e)
-  | inr q ↦ (let r = in_all f n b k x (omega arith) e in (r.0, get_before (blocks f n) (f n) r.0 x r.1))
-]
 
 module _ (g : Graph) (a : Architecture) (ticks : ℕ → ℕ → Option ℕ) (s : Schedule) (right : is_archi a.operators a.media ≡ true) (valid : is_valid g a ticks s ≡ true) where
   -- the step of an act that reads, and its sequence

@@ -1,79 +1,12 @@
 -- The dates computed on worked examples: one operator; two operators on a bus, with one and with two places; a speed controller.
-use Rattle.std.proofs.Common.{◌≡◌, ℕ, suc, ◌+◌, ◌&&◌, Bool, true, List, [], ◌∷◌, Option, Some, None, refl, pos, ℤ}
+use Rattle.std.proofs.Common.{◌≡◌, ℕ, suc, ◌+◌, ◌&&◌, Bool, true, List, [], ◌∷◌, refl}
 use Rattle.std.specs.Prelude.{slice_index_or, ◌==◌}
-use Rattle.flat_graph.specs.declared.vertex.Source.{Source}
-use Rattle.flat_graph.specs.declared.vertex.Vertex.{Vertex}
-use Rattle.flat_graph.specs.declared.vertex.Kind.{Kind}
-use Rattle.flat_graph.specs.declared.vertex.Guard.{Guard}
-use Rattle.flat_graph.specs.declared.vertex.Kind.TheVariants.{Sensor, Actuator, Function, Get, Set, Merge}
-use Rattle.syn_base.specs.declared.arithmetic.Op.TheVariants.{Add}
-use Rattle.body_lang.specs.Expr.{literal, element, index, apply}
 use Rattle.flat_graph.specs.Graph.{Graph}
-use Rattle.schedule.specs.declared.decision.Transfer.{Transfer}
-use Rattle.schedule.specs.declared.decision.Decision.{Decision}
 use Rattle.schedule.specs.declared.decision.Schedule.{Schedule}
 use Rattle.schedule.specs.Acts.{Act, acts}
+use Rattle.schedule.proofs.Examples.{plain_graph, plain_schedule, bus_graph, bus_schedule, speed_graph, speed_schedule}
 use Rattle.self_timed_laws.specs.Dates.{start_by}
 use Rattle.self_timed_laws.specs.Entries.{lasting, dates_of_reaction}
-
-abbrev source : ℕ → Source
-source v = record { vertex = v; port = 0 }
-
-abbrev vertex : ℕ → Kind → List Source → List ℕ → Vertex
-vertex c k ins outs = record { name = c ∷ []; def = 68 ∷ []; kind = k; guards = []; ins = ins; outs = outs; twin = None }
-
-abbrev carried : ℕ → ℕ → ℕ → ℕ → ℕ → ℕ → Transfer
-carried v m from to start end = record { source = source v; medium = m; from = from; to = to; start = start; end = end }
-
-abbrev placed : ℕ → ℕ → ℕ → ℕ → List Transfer → Decision
-placed v o start end transfers = record { op = v; operator = o; start = start; end = end; transfers = transfers }
-
-abbrev schedule : List Decision → Schedule
-schedule ds = record { decisions = ds }
-
-abbrev plain_graph : Graph
-plain_graph = record { vertices = vertex 115 (Sensor 0) [] (1 ∷ []) ∷ vertex 97 (Actuator 0) (source 0 ∷ []) [] ∷ []; bodies = [] }
-
-abbrev plain_schedule : Schedule
-plain_schedule = schedule (placed 0 0 0 1 [] ∷ placed 1 0 1 3 [] ∷ [])
-
-abbrev bus_graph : Graph
-bus_graph = record {
-  vertices = vertex 115 (Sensor 0) [] (1 ∷ []) ∷ vertex 102 (Function 0) (source 0 ∷ []) (1 ∷ []) ∷ vertex 103 (Function 0) (source 0 ∷ []) (1 ∷ [])
-      ∷ vertex 97 (Actuator 0) (source 1 ∷ []) [] ∷ vertex 98 (Actuator 1) (source 2 ∷ []) [] ∷ [];
-  bodies = (apply Add (element 0 index) (literal (pos 1)) ∷ []) ∷ [];
-}
-
-abbrev bus_schedule : ℕ → ℕ → Schedule
-bus_schedule start end = schedule (placed 0 0 0 1 [] ∷ placed 1 0 1 11 [] ∷ placed 2 1 start end (carried 0 0 0 1 1 3 ∷ []) ∷ placed 4 1 13 14 [] ∷ placed 3 0 11 12 [] ∷ [])
-
-abbrev operation : ℕ → Kind → List Guard → List Source → List ℕ → Option ℕ → Vertex
-operation c k guards ins outs twin = record { name = c ∷ []; def = 68 ∷ []; kind = k; guards = guards; ins = ins; outs = outs; twin = twin }
-
-abbrev limits : List ℤ
-limits = pos 1 ∷ pos 2 ∷ []
-
-abbrev guard : ℕ → List Guard
-guard c = record { source = source 7; values = limits; case = c } ∷ []
-
-abbrev window : List ℤ
-window = pos 0 ∷ pos 0 ∷ pos 0 ∷ pos 0 ∷ pos 0 ∷ pos 0 ∷ pos 0 ∷ pos 0 ∷ []
-
-abbrev speed_graph : Graph
-speed_graph = record {
-  vertices = operation 97 (Sensor 0) [] [] (1 ∷ []) None ∷ operation 98 (Sensor 1) [] [] (1 ∷ []) None
-      ∷ operation 99 (Get window) [] [] (8 ∷ []) (Some 3) ∷ operation 100 Set [] (source 4 ∷ []) [] (Some 2)
-      ∷ operation 101 (Function 0) [] (source 2 ∷ source 0 ∷ []) (8 ∷ []) None ∷ operation 102 (Function 0) [] (source 4 ∷ []) (1 ∷ []) None
-      ∷ operation 103 (Function 0) [] (source 1 ∷ source 5 ∷ []) (1 ∷ []) None ∷ operation 104 (Function 0) [] (source 6 ∷ []) (1 ∷ []) None
-      ∷ operation 105 (Function 0) (guard 0) (source 6 ∷ []) (1 ∷ []) None ∷ operation 106 (Function 0) (guard 1) (source 6 ∷ []) (1 ∷ []) None ∷ operation 107 (Function 0) (guard 2) (source 6 ∷ []) (1 ∷ []) None
-      ∷ operation 108 (Merge limits) [] (source 7 ∷ source 8 ∷ source 9 ∷ source 10 ∷ []) (1 ∷ []) None
-      ∷ operation 109 (Actuator 0) [] (source 11 ∷ []) [] None ∷ operation 110 (Actuator 1) [] (source 5 ∷ []) [] None ∷ [];
-  bodies = (literal (pos 0) ∷ []) ∷ [];
-}
-
-abbrev speed_schedule : Schedule
-speed_schedule = schedule (placed 0 0 0 2 [] ∷ placed 2 1 0 0 [] ∷ placed 4 1 5 9 (carried 0 0 0 1 2 5 ∷ []) ∷ placed 5 1 9 15 [] ∷ placed 13 1 15 20 [] ∷ placed 3 1 20 20 []
-    ∷ placed 1 0 2 4 [] ∷ placed 6 0 18 21 (carried 5 0 1 0 15 18 ∷ []) ∷ placed 7 0 21 22 [] ∷ placed 8 0 22 23 [] ∷ placed 9 0 23 24 [] ∷ placed 10 0 24 25 [] ∷ placed 11 0 25 25 [] ∷ placed 12 0 25 27 [] ∷ [])
 
 -- the dates of a schedule where its entries last so long in each reaction
 abbrev dates_with : ℕ → Graph → Schedule → List (List ℕ) → ℕ → List (ℕ × ℕ)

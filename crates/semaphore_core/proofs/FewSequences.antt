@@ -1,46 +1,14 @@
--- A valid architecture has few sequences, and so has the program of a job on it.
-use Rattle.std.proofs.Common.{ℕ, ◌+◌, ◌*◌, ◌≤◌, Bool, true, false, List, [], ◌∷◌, length, ap, arith, suc-mul}
-use Rattle.std.specs.Prelude.{IsTrue, if◌then◌else◌, nat_le}
-use Rattle.std.specs.List.{list_all, sum_by, range_with_len}
-use Rattle.std.proofs.lemmas.Bool.{and_parts, leb-true}
+-- The program of a job on a valid architecture has few sequences.
+use Rattle.std.proofs.Common.{◌≤◌, List, length, ap, arith}
+use Rattle.std.specs.Prelude.{IsTrue}
 use Rattle.std.proofs.lemmas.List.{length-map}
-use Rattle.std.proofs.lemmas.List.Concat.{length-flat_map}
-use Rattle.std.proofs.lemmas.List.FromFn.{length-range_with_len}
-use Rattle.std.proofs.lemmas.List.Sums.{sum_by-cons}
-use Rattle.archi_graph.specs.declared.medium.Medium.{Medium}
 use Rattle.archi_graph.specs.declared.medium.Seq.{Seq}
-use Rattle.archi_graph.specs.Archi.{Architecture, is_archi, are_distinct, are_joined, is_medium, names_of, stands_at, stands_in_all}
-use Rattle.archi_graph.specs.Sequences.{communicator, communicators, sequences, sequences_of}
+use Rattle.archi_graph.specs.Archi.{Architecture, is_archi}
+use Rattle.archi_graph.specs.Sequences.{sequences}
+use Rattle.archi_graph.proofs.Few.{few}
 use Rattle.executive_program.specs.declared.program.SeqCode.{SeqCode}
 use Rattle.semaphore_core.specs.Job.{JobData}
 use Rattle.semaphore_core.specs.IsJob.{IsJobOn}
-
--- at most one communicator for each medium
-communicators_few : (o n : ℕ) (media : List Medium) → length (communicators o n media) ≤ length media
-communicators_few o n [] = omega arith
-communicators_few o n (m ∷ media) = by (stands_at m o) (communicators_few o (n + 1) media)
-  where
-    by : (b : Bool) → length (communicators o (n + 1) media) ≤ length media → length (if b then communicator o n ∷ communicators o (n + 1) media else communicators o (n + 1) media) ≤ length (m ∷ media)
-    by true e = omega arith
-    by false e = omega arith
-
-sum_few : (f : ℕ → ℕ) (b : ℕ) → ((x : ℕ) → f x ≤ b) → (xs : List ℕ) → sum_by f xs ≤ length xs * b
-sum_few f b h [] = omega arith
-sum_few f b h (x ∷ xs) = let e = sum_few f b h xs in let d = h x in omega (arith, sum_by-cons f x xs, suc-mul (length xs) b)
-
-few : (a : Architecture) → IsTrue (is_archi a.operators a.media) → length (sequences a) ≤ 272
-few a valid =
-    let joined = and_parts _ (are_joined (length a.operators) a.media) valid in
-    let distinct = and_parts _ (are_distinct (names_of a.operators a.media)) joined.0 in
-    let all = and_parts _ (list_all (is_medium (length a.operators)) a.media) distinct.0 in
-    let stands = and_parts _ (nat_le (stands_in_all a.media) 64) all.0 in
-    let media = and_parts _ (nat_le (length a.media) 16) stands.0 in
-    let operators = and_parts _ (nat_le (length a.operators) 16) media.0 in
-    let m = leb-true (length a.media) 16 media.1 in
-    let o = leb-true (length a.operators) 16 operators.1 in
-    let each : (x : ℕ) → length (sequences_of a.media x) ≤ 17 = λ x. (let e = communicators_few x 0 a.media in omega arith) in
-    let sum = sum_few (λ x. length (sequences_of a.media x)) 17 each (range_with_len 0 (length a.operators)) in
-    omega (arith, length-flat_map (sequences_of a.media) (range_with_len 0 (length a.operators)), length-range_with_len 0 (length a.operators))
 
 -- of the architecture that the job stands on
 pub few_sequences : (a : Architecture) (j : JobData) → IsJobOn a j → IsTrue (is_archi a.operators a.media) → length j.program.seqs ≤ 272

@@ -19,6 +19,6 @@ pub mod Ready
 pub mod Runs
 pub mod Counting
 pub mod FewSequences
-mod RowFive
+pub mod RowFive
 mod RowNine
 pub mod Appending

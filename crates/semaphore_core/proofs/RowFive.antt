@@ -25,11 +25,11 @@ use Rattle.executive_program.specs.Steps.{all_prologues, all_turns}
 use Rattle.executive_program.specs.Places.{writing, pair, transfer, calling, carried, opening_of}
 use Rattle.executive_program.specs.WellFormed.{place_in}
 
-abbrev sequence : ℕ → Option ℕ → List Instr → List Instr → SeqCode
+abbrev pub sequence : ℕ → Option ℕ → List Instr → List Instr → SeqCode
 sequence o m p t = record { seq = record { operator = o; medium = m }; prologue = p; turn = t }
 
 -- with buffers of this many places where a pair guards them
-abbrev program : ℕ → List Instr → List Instr → Program
+abbrev pub program : ℕ → List Instr → List Instr → Program
 program depth first second = record {
   buffers = record { operator = 0; len = 1; depth = depth } ∷ record { operator = 0; len = 1; depth = 1 }
       ∷ record { operator = 1; len = 1; depth = depth } ∷ record { operator = 1; len = 1; depth = 1 } ∷ [];
@@ -40,10 +40,10 @@ program depth first second = record {
       ∷ sequence 1 (Some 0) [] (Suc0 1 ∷ Recv 2 0 ∷ Pre1 1 ∷ []) ∷ [];
 }
 
-abbrev single : Program
+abbrev pub single : Program
 single = program 1 (Pre0 0 ∷ []) (Pre0 1 ∷ [])
 
-abbrev double : Program
+abbrev pub double : Program
 double = program 2 (Pre0 0 ∷ Pre0 0 ∷ []) (Pre0 1 ∷ Pre0 1 ∷ [])
 
 -- 10 words, 2 micro-steps before the loops and 23 in a reaction; with two places 12, 4 and 27
@@ -102,23 +102,23 @@ send_stands : (place_in order 1 1 ≡ 5) × (place_in order 3 1 ≡ 8) × (place
 send_stands = (refl, refl, refl)
 
 -- The job over three reactions, in which the sensor gives 5, -1 and 0, and the functions add 1.
-abbrev source : ℕ → Source
+abbrev pub source : ℕ → Source
 source v = record { vertex = v; port = 0 }
 
-abbrev vertex : Kind → List Source → List ℕ → Vertex
+abbrev pub vertex : Kind → List Source → List ℕ → Vertex
 vertex k ins outs = record { name = []; def = []; kind = k; guards = []; ins = ins; outs = outs; twin = None }
 
-abbrev graph : Graph
+abbrev pub graph : Graph
 graph = record {
   vertices = vertex (Sensor 0) [] (1 ∷ []) ∷ vertex (Function 0) (source 0 ∷ []) (1 ∷ []) ∷ vertex (Function 0) (source 0 ∷ []) (1 ∷ [])
       ∷ vertex (Actuator 0) (source 1 ∷ []) [] ∷ vertex (Actuator 1) (source 2 ∷ []) [] ∷ [];
   bodies = (apply Add (element 0 index) (literal (pos 1)) ∷ []) ∷ [];
 }
 
-abbrev reading : ℤ → List (List ℤ)
+abbrev pub reading : ℤ → List (List ℤ)
 reading z = (z ∷ []) ∷ []
 
-abbrev job : Program → JobData
+abbrev pub job : Program → JobData
 job p = record { program = p; graph = graph; media = 1; sensors = reading (pos 5) ∷ reading (negsuc 0) ∷ reading (pos 0) ∷ []; lens = 1 ∷ []; opening = [] }
 
 -- the greatest enabled sequence below n, and else n

@@ -1,26 +1,16 @@
 -- What is added in several steps.
 use Rattle.std.proofs.Common.{◌≡◌, ℕ, Bool, true, false, cond, nat_eq, List, [], ◌∷◌, ◌++◌, length, map, refl, sym, ap, arith, ◌∙◌, append_assoc, Vec, Global}
-use Rattle.std.specs.List.{filter}
 use Rattle.std.proofs.lemmas.List.{append-nil, map-append}
 use Rattle.flat_graph.specs.declared.vertex.Vertex.{Vertex}
 use Rattle.schedule.specs.declared.decision.Decision.{Decision}
 use Rattle.schedule.specs.Acts.{carry, run, acts_of, Copy}
 use Rattle.executive_program.specs.declared.program.Instr.{Instr}
 use Rattle.sequence_build_laws.specs.Serial.{Step, step, projection}
+use Rattle.sequence_build_laws.proofs.Guarded.{projection-append}
 use Rattle.sequence_build.specs.declared.made.Made.{Made}
 use Rattle.sequence_build.specs.Numbers.{place}
 use Rattle.sequence_build.specs.Made.{Makes, ComesTo as MakesUp, buffer_of}
 use Rattle.sequence_build.specs.Plain.{Adds, ComesTo, loop_at}
-
-pub projection-append : (xs ys : List Step) (s : ℕ) → projection (xs ++ ys) s ≡ projection xs s ++ projection ys s
-projection-append [] ys s = refl
-projection-append (x ∷ xs) ys s = by (nat_eq x.sequence s) (projection-append xs ys s)
-  where
-    by : (b : Bool) → projection (xs ++ ys) s ≡ projection xs s ++ projection ys s
-        → map (λ (x : Step). x.instr) (cond b (x ∷ filter (λ (x : Step). nat_eq x.sequence s) (xs ++ ys)) (filter (λ (x : Step). nat_eq x.sequence s) (xs ++ ys)))
-        ≡ map (λ (x : Step). x.instr) (cond b (x ∷ filter (λ (x : Step). nat_eq x.sequence s) xs) (filter (λ (x : Step). nat_eq x.sequence s) xs)) ++ projection ys s
-    by true e = ap (λ (l : List Instr). x.instr ∷ l) e
-    by false e = e
 
 pub one_projected : (q : ℕ) (x : Instr) (s : ℕ) → projection (step q x ∷ []) s ≡ cond (nat_eq q s) (x ∷ []) []
 one_projected q x s = by (nat_eq q s)

@@ -17,11 +17,11 @@ use Rattle.schedule.specs.Valid.{is_valid}
 use Rattle.executive_program.specs.declared.program.Buffer.{Buffer}
 use Rattle.executive_program.specs.Instructions.{turn_of}
 use Rattle.executive_program.specs.WellFormed.{Stands}
+use Rattle.executive_program.proofs.Reading.{writes_of}
 use Rattle.sequence_build_laws.specs.Serial.{copies, buffer, plain_steps, plain_program}
 use Rattle.sequence_build_laws.proofs.Lists.{in_flat, from_map}
 use Rattle.sequence_build_laws.proofs.Loops as loops
 use Rattle.sequence_build_laws.proofs.Sequences.{stands_low}
-use Rattle.sequence_build_laws.proofs.Setting.{writes_of}
 use Rattle.sequence_build_laws.proofs.Steps.{setting, written_once}
 use Rattle.sequence_build_laws.proofs.Works.{of_transfer, of_run, origin, output_of}
 use Rattle.sequence_build.specs.Numbers.{AreCovered}

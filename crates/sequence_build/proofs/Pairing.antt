@@ -5,13 +5,14 @@ use Rattle.std.specs.List.{list_any}
 use Rattle.std.proofs.lemmas.Bool.{false≢true, eqb-true, cases_Bool, and_parts}
 use Rattle.std.proofs.lemmas.Option.{same_Some}
 use Rattle.std.proofs.lemmas.List.{map-append}
+use Rattle.schedule.proofs.Copies.{same_bool}
 use Rattle.executive_program.specs.declared.program.Instr.{Instr}
 use Rattle.executive_program.specs.declared.program.SeqCode.{SeqCode}
 use Rattle.executive_program.specs.declared.program.Program.{Program}
 use Rattle.executive_program.specs.Blocks.{blocks}
 use Rattle.executive_program.specs.Instructions.{reads, writes, Reader, readers_from, readers}
-use Rattle.sequence_build_laws.proofs.Guards.{same_bool, in_blocks}
-use Rattle.sequence_build_laws.proofs.Lists.{any_at, any_of}
+use Rattle.executive_program.proofs.Reading.{any_at, any_of}
+use Rattle.sequence_build_laws.proofs.Guards.{in_blocks}
 use Rattle.sequence_build.specs.declared.uses.Use.{Use}
 use Rattle.sequence_build.specs.declared.uses.Place.{Place}
 use Rattle.sequence_build.specs.declared.pairs.Pair.{Pair}

@@ -5,6 +5,7 @@ use Rattle.std.specs.List.{list_any}
 use Rattle.std.proofs.lemmas.Bool.{false≢true, or_cases, ne_eqb, cases_Bool}
 use Rattle.std.proofs.lemmas.Option.{same_Some}
 use Rattle.std.proofs.lemmas.List.{append-nil}
+use Rattle.std.proofs.Math.Bool.{and-false}
 use Rattle.sequence_build.specs.declared.uses.Use.{Use}
 use Rattle.sequence_build.specs.Uses.{use_of, is_by, prolonged, last_of, noted, uses_in, first_from, last_from}
 
@@ -74,10 +75,6 @@ IsFresh s us = is_by s (last_of us) ≡ false
 noted_fresh : (s at : ℕ) (us : List Use) → IsFresh s us → noted s at us ≡ us ++ use_of s at at ∷ []
 noted_fresh s at us f = ap (λ (b : Bool). cond b (prolonged at (last_of us) us) (us ++ use_of s at at ∷ [])) f
 
-and_false : (b : Bool) → (b && false) ≡ false
-and_false true = refl
-and_false false = refl
-
 module _ {A : Type 0} (p : A → Bool) where
   uses_on : (s f l at : ℕ) (xs : List A) (us : List Use) → uses_in p s at xs (us ++ use_of s f l ∷ []) ≡ us ++ use_of s f (last_from p l at xs) ∷ []
   uses_on s f l at [] us = refl
@@ -120,7 +117,7 @@ module _ {A : Type 0} (p : A → Bool) where
     where
       by : (b : Bool) → (p x && not (list_any p (take n xs))) ≡ nat_eq (first_from p (suc at) xs) (suc at + n)
           → (p x && not (b || list_any p (take n xs))) ≡ nat_eq (cond b at (first_from p (suc at) xs)) (at + suc n)
-      by true h = and_false (p x) ∙ sym (ne_eqb at (at + suc n) (λ z. omega arith))
+      by true h = and-false (p x) ∙ sym (ne_eqb at (at + suc n) (λ z. omega arith))
       by false h = h ∙ ap (nat_eq (first_from p (suc at) xs)) (let z : suc at + n ≡ at + suc n = omega arith in z)
 
   last_none : (least at : ℕ) (xs : List A) → list_any p xs ≡ false → last_from p least at xs ≡ least
@@ -160,7 +157,7 @@ module _ {A : Type 0} (p : A → Bool) where
   last_is_at least at zero (y ∷ xs) x e h = by (cases_Bool (list_any p xs)) (ap p (sym (same_Some y x e)))
     where
       by : (list_any p xs ≡ true) ⊎ (list_any p xs ≡ false) → p x ≡ p y → (p x && not (list_any p xs)) ≡ nat_eq (last_from p (cond (p y) at least) (suc at) xs) (at + 0)
-      by (inl a) s = (λ i. p x && not (a i)) ∙ and_false (p x) ∙ sym (ne_eqb (last_from p (cond (p y) at least) (suc at) xs) (at + 0) (let z = last_low (cond (p y) at least) (suc at) xs a in λ w. omega arith))
+      by (inl a) s = (λ i. p x && not (a i)) ∙ and-false (p x) ∙ sym (ne_eqb (last_from p (cond (p y) at least) (suc at) xs) (at + 0) (let z = last_low (cond (p y) at least) (suc at) xs a in λ w. omega arith))
       by (inr a) s =
           let yes : p y ≡ true = elim (or_cases (p y) (list_any p xs) h) [ inl t ↦ t | inr t ↦ absurd (false≢true (sym a ∙ t)) ] in
           let is : last_from p (cond (p y) at least) (suc at) xs ≡ at + 0 = last_none (cond (p y) at least) (suc at) xs a ∙ ap (λ (b : Bool). cond b at least) yes ∙ (let z : at ≡ at + 0 = omega arith in z) in

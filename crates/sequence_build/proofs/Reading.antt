@@ -10,6 +10,7 @@ use Rattle.flat_graph.specs.declared.vertex.Vertex.{Vertex}
 use Rattle.schedule.specs.declared.decision.Decision.{Decision}
 use Rattle.schedule.specs.Acts.{run, Copy, copy, read_by, made_by, outputs_from, outputs_of, sources_of}
 use Rattle.executive_program.specs.declared.program.Instr.{Instr}
+use Rattle.sequence_build_laws.proofs.Guards.{map-map}
 use Rattle.sequence_build.specs.Plain.{loop_at, elements, outs_in, guards_in, ins_in}
 use Rattle.sequence_build.proofs.Deepening.{set_here, set_there}
 
@@ -28,10 +29,6 @@ made_at vertices d = by (slice_get vertices d.op)
     by : (o : Option Vertex) → map (copy d.operator) (outputs_of d.op o) ≡ map (copy d.operator) (outputs_from d.op 0 (outs_in o))
     by None = refl
     by (Some x) = refl
-
-map-map : {A B C : Type 0} (f : B → C) (g : A → B) (xs : List A) → map f (map g xs) ≡ map (λ x. f (g x)) xs
-map-map f g [] = refl
-map-map f g (x ∷ xs) = ap (λ (l : List _). f (g x) ∷ l) (map-map f g xs)
 
 pub read_at : (number : Copy → ℕ) (vertices : List Vertex) (d : Decision)
     → map number (read_by vertices (run d)) ≡ map (λ (y : Guard). number (copy d.operator y.source)) (guards_in (slice_get vertices d.op)) ++ map (λ x. number (copy d.operator x)) (ins_in (slice_get vertices d.op))

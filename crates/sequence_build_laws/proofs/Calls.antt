@@ -16,23 +16,24 @@ use Rattle.schedule.specs.declared.decision.Schedule.{Schedule}
 use Rattle.schedule.specs.Acts.{Act, carry, run, acts, is_on, runs, Copy, copy, outputs_from, outputs_of, sources_of, read_by, made_by}
 use Rattle.schedule.specs.Valid.{is_valid, follows_get}
 use Rattle.executive_program.specs.declared.program.Instr.{Instr}
-use Rattle.executive_program.specs.declared.program.Instr.TheVariants.{Suc0, Suc1, Pre0, Pre1, Call, Send, Recv, Sync}
+use Rattle.executive_program.specs.declared.program.Instr.TheVariants.{Call, Sync}
 use Rattle.executive_program.specs.declared.program.Program.{Program}
-use Rattle.executive_program.specs.Instructions.{turn, medium}
+use Rattle.executive_program.specs.Instructions.{medium}
 use Rattle.executive_program.specs.Instructions as core
 use Rattle.executive_program.specs.Places.{Places, places, calls, calling, ins_in, outs_in, carried}
 use Rattle.executive_program.specs.WellFormed.{Stands, IsCalled, CarryInOrder, CarryOutputs, HasLength, len_is}
 use Rattle.executive_program.proofs.Passing.{call_is}
+use Rattle.executive_program.proofs.Reading.{any_of}
 use Rattle.sequence_build_laws.specs.Serial.{Step, step, steps_of, buffer_for, copies}
 use Rattle.sequence_build_laws.specs.Built.{program_with}
-use Rattle.sequence_build_laws.proofs.Lists.{starts, starts_rise, any_of, get_take, map_at}
+use Rattle.sequence_build_laws.proofs.Lists.{starts, starts_rise, get_take, map_at}
 use Rattle.sequence_build_laws.proofs.Loops.{first_of_all}
 use Rattle.sequence_build_laws.proofs.Lines as lines
 use Rattle.sequence_build_laws.proofs.Setting.{Setting, order, Here, here, Core, core_of, placed, same_here, earlier_here}
 use Rattle.sequence_build_laws.proofs.Works as works
-use Rattle.sequence_build_laws.proofs.Works.{OfRun, of_run, one_run, output_of, read_buffer, made_buffer, read_made, Origin, origin}
+use Rattle.sequence_build_laws.proofs.Works.{of_run, one_run, output_of, read_buffer, made_buffer, read_made, origin}
 use Rattle.sequence_build_laws.proofs.Steps as steps
-use Rattle.sequence_build_laws.proofs.Steps.{Of, of_step, step_at, at_there}
+use Rattle.sequence_build_laws.proofs.Steps.{of_step, step_at, at_there}
 use Rattle.sequence_build_laws.proofs.Comms.{S, medium_of}
 use Rattle.sequence_build_laws.proofs.Transfers.{carries_source}
 

@@ -5,12 +5,15 @@ use Rattle.std.specs.List.{flat_map, filter, list_any}
 use Rattle.std.specs.Cmp.Derive.{both_true}
 use Rattle.std.proofs.lemmas.Bool.{false≢true, and_parts, and_right, eqb-true}
 use Rattle.std.proofs.lemmas.Option.{same_Some, slice_get_within}
+use Rattle.std.proofs.Math.Bool.{and-true}
 use Rattle.flat_graph.specs.Graph.{Graph}
 use Rattle.archi_graph.specs.declared.medium.Seq.{Seq}
 use Rattle.archi_graph.specs.Archi.{Architecture, is_archi}
 use Rattle.archi_graph.specs.Sequences.{sequences}
 use Rattle.schedule.specs.declared.decision.Transfer.{Transfer}
 use Rattle.schedule.specs.declared.decision.Schedule.{Schedule}
+use Rattle.schedule.proofs.Copies.{same_copy_self, same_bool}
+use Rattle.executive_program.proofs.Reading.{any_at}
 use Rattle.sequence_build_laws.specs.InTurn.{Standing, in_turn_after, in_turn}
 use Rattle.schedule.specs.Acts.{Act, carry, run, acts, is_over, copy, same_copy, made_by}
 use Rattle.schedule.specs.Valid.{is_valid}
@@ -21,16 +24,16 @@ use Rattle.executive_program.specs.Instructions.{Reader, is_communication, turn,
 use Rattle.executive_program.specs.WellFormed.{Stands}
 use Rattle.sequence_build_laws.specs.Serial.{Step, step, projection, numbers_where, same_medium, is_other, reads_first, reads_last, is_filled, pairs_where, block, steps_at, steps_of, number_of, plain_steps, pairs, serial}
 use Rattle.sequence_build_laws.specs.Built.{program_with}
-use Rattle.sequence_build_laws.proofs.Lists.{map_at, starts, take_flat, tally, tally_yes, tally_not, tally-append, tally_grows, tally_rises, any_at, take_get}
+use Rattle.sequence_build_laws.proofs.Lists.{map_at, starts, take_flat, tally, tally_yes, tally_not, tally-append, tally_grows, tally_rises, take_get}
 use Rattle.sequence_build_laws.proofs.Loops as loops
 use Rattle.sequence_build_laws.proofs.Loops.{is_of, tally-map}
 use Rattle.sequence_build_laws.proofs.Lines as lines
 use Rattle.sequence_build_laws.proofs.Lines.{is_plain, middle}
 use Rattle.sequence_build_laws.proofs.Setting.{Setting, Here, here, Core, core_of, placed}
 use Rattle.sequence_build_laws.proofs.Sequences.{one_sequence, medium_is_same, same_medium_of}
-use Rattle.sequence_build_laws.proofs.Works.{same_copy_self, read_made, of_transfer}
+use Rattle.sequence_build_laws.proofs.Works.{read_made, of_transfer}
 use Rattle.sequence_build_laws.proofs.Steps as steps
-use Rattle.sequence_build_laws.proofs.Steps.{Kind, kind_of, Of, of_step, step_at, sending, receiving, waiting, calling, from_there, to_there, at_there, sequence_there, setting}
+use Rattle.sequence_build_laws.proofs.Steps.{Kind, kind_of, of_step, step_at, waiting, calling, from_there, to_there, setting}
 
 -- a communication of this sequence
 abbrev pub comm_in : ℕ → Step → Bool
@@ -168,10 +171,6 @@ one_of_three false true false h n e = e
 one_of_three false false true h n e = e
 one_of_three false false false h n e = e
 
-and_true : (b : Bool) → (b && true) ≡ b
-and_true true = refl
-and_true false = refl
-
 flat_tally : {A : Type 0} (f : A → List Step) (p : Step → Bool) (r : A → Bool) (xs : List A) → ((i : ℕ) (x : A) → slice_get xs i ≡ Some x → tally p (f x) ≡ cond (r x) 1 0) → (n : ℕ)
     → tally p (flat_map f (take n xs)) ≡ tally r (take n xs)
 flat_tally f p r xs h zero = refl
@@ -205,7 +204,7 @@ module _ (g : Graph) (a : Architecture) (ticks : ℕ → ℕ → Option ℕ) (s 
 
   -- whether a sequence is the communicator that was looked for
   at_sequence : (n u : ℕ) (q : Seq) (o m : ℕ) → slice_get (sequences a) u ≡ Some q → slice_get (sequences a) n ≡ Some (record { operator = o; medium = Some m }) → nat_eq n u ≡ (nat_eq q.operator o && same_medium q.medium (Some m))
-  at_sequence n u q o m e h = Rattle.sequence_build_laws.proofs.Guards.same_bool (nat_eq n u) (nat_eq q.operator o && same_medium q.medium (Some m)) there back
+  at_sequence n u q o m e h = same_bool (nat_eq n u) (nat_eq q.operator o && same_medium q.medium (Some m)) there back
     where
       there : nat_eq n u ≡ true → (nat_eq q.operator o && same_medium q.medium (Some m)) ≡ true
       there t =
@@ -228,13 +227,13 @@ module _ (g : Graph) (a : Architecture) (ticks : ℕ → ℕ → Option ℕ) (s 
       let l = number_of g a s (record { operator = t.to; medium = Some t.medium }) in
       let ns = numbers_where (is_other t) 0 (sequences a) in
       let x : (nat_eq (number_of g a s (record { operator = t.from; medium = Some t.medium })) u && true) ≡ (nat_eq q.operator t.from && same_medium q.medium (Some t.medium))
-      = and_true (nat_eq n u) ∙ at_sequence n u q t.from t.medium e (from_there g a ticks s right valid i t k) in
+      = and-true (nat_eq n u) ∙ at_sequence n u q t.from t.medium e (from_there g a ticks s right valid i t k) in
       let y : (nat_eq (number_of g a s (record { operator = t.to; medium = Some t.medium })) u && true) ≡ (nat_eq q.operator t.to && same_medium q.medium (Some t.medium))
-      = and_true (nat_eq l u) ∙ at_sequence l u q t.to t.medium e (to_there g a ticks s right valid i t k) in
+      = and-true (nat_eq l u) ∙ at_sequence l u q t.to t.medium e (to_there g a ticks s right valid i t k) in
       let w : tally (comm_in u) (map (λ k. waiting g a s t k) (numbers_where (is_other t) 0 (sequences a))) ≡ cond (is_other t q) 1 0
       = tally-map (comm_in u) (λ k. waiting g a s t k) ns ∙ number_tally (is_other t) 0 u u (sequences a) q e (omega arith) in
       let on : same_medium q.medium (Some t.medium) ≡ nat_eq t.medium m = ap (λ (o : Option ℕ). same_medium o (Some t.medium)) h
-      ∙ Rattle.sequence_build_laws.proofs.Guards.same_bool (nat_eq m t.medium) (nat_eq t.medium m) (λ z. eq-eqb t.medium m (sym (eqb-true m t.medium z))) (λ z. eq-eqb m t.medium (sym (eqb-true t.medium m z))) in
+      ∙ same_bool (nat_eq m t.medium) (nat_eq t.medium m) (λ z. eq-eqb t.medium m (sym (eqb-true m t.medium z))) (λ z. eq-eqb m t.medium (sym (eqb-true t.medium m z))) in
       (λ j. cond (x j) (suc (cond (y j) (suc (tally (comm_in u) (map (λ k. waiting g a s t k) (numbers_where (is_other t) 0 (sequences a))))) (tally (comm_in u) (map (λ k. waiting g a s t k) (numbers_where (is_other t) 0 (sequences a))))))
       (cond (y j) (suc (tally (comm_in u) (map (λ k. waiting g a s t k) (numbers_where (is_other t) 0 (sequences a))))) (tally (comm_in u) (map (λ k. waiting g a s t k) (numbers_where (is_other t) 0 (sequences a))))))
       ∙ one_of_three (same_medium q.medium (Some t.medium)) (nat_eq q.operator t.from) (nat_eq q.operator t.to)

@@ -18,7 +18,7 @@ use Rattle.sequence_build_laws.specs.Serial.{Step, step, projection, codes, read
 use Rattle.sequence_build_laws.specs.Built.{buffers_from, operator_in as copy_operator}
 use Rattle.sequence_build_laws.specs.Guarded.{reads_in, lines_at, guarded_loop, opening, guarded_codes, guarded_buffers, operator_in, BuiltAreGuarded}
 
-projection-append : (xs ys : List Step) (s : ℕ) → projection (xs ++ ys) s ≡ projection xs s ++ projection ys s
+pub projection-append : (xs ys : List Step) (s : ℕ) → projection (xs ++ ys) s ≡ projection xs s ++ projection ys s
 projection-append [] ys s = refl
 projection-append (x ∷ xs) ys s = by (nat_eq x.sequence s) (projection-append xs ys s)
   where

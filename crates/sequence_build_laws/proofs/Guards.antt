@@ -8,6 +8,8 @@ use Rattle.std.proofs.lemmas.Option.{same_Some, slice_get_within}
 use Rattle.std.proofs.lemmas.List.{length-map, append-nil, length-take-le, take_all}
 use Rattle.std.proofs.lemmas.Grind.{flat_map-append}
 use Rattle.archi_graph.specs.declared.medium.Seq.{Seq}
+use Rattle.schedule.proofs.Copies.{same_bool}
+use Rattle.executive_program.proofs.Reading.{any_at, any_of, reads_of, of_reads, writes_of, of_writes}
 use Rattle.sequence_build_laws.specs.InTurn.{Standing, in_turn}
 use Rattle.schedule.specs.Acts.{Copy}
 use Rattle.executive_program.specs.declared.program.Instr.{Instr}
@@ -22,11 +24,11 @@ use Rattle.executive_program.specs.WellFormed.{Stands, WritesAt, ReadsAt, IsOnly
 use Rattle.executive_program.proofs.Passing as passing
 use Rattle.sequence_build_laws.specs.Serial.{Step, step, projection, codes, steps_at, reads_for, reads_first, reads_last, is_filled, pairs_where, block}
 use Rattle.sequence_build_laws.specs.Built.{operator_in}
-use Rattle.sequence_build_laws.proofs.Lists.{any_at, any_of, First, first, get_take, take_get, get_drop, get_some, FromTurn, from_map, map_at, InFlat, in_flat, flat_at, starts, from_filter, filter_at, tally, from_turn, turn_at, take_next, numbers-append}
-use Rattle.sequence_build_laws.proofs.Loops.{is_of, codes_at, codes_length, step_is, first_in, first_of_all, code_there}
+use Rattle.sequence_build_laws.proofs.Lists.{first, take_get, get_drop, get_some, from_map, map_at, in_flat, flat_at, starts, from_filter, filter_at, tally, from_turn, turn_at, take_next, numbers-append}
+use Rattle.sequence_build_laws.proofs.Loops.{is_of, codes_at, codes_length, step_is, first_in, first_of_all}
 use Rattle.sequence_build_laws.proofs.Lines as lines
 use Rattle.sequence_build_laws.proofs.Lines.{is_plain, middle, Line, Pair, full_taken, empty_taken, full_signalled, empty_signalled, full_taken_there, empty_taken_there, full_signalled_there, empty_signalled_there, middle_there}
-use Rattle.sequence_build_laws.proofs.Setting.{Setting, reads_of, of_reads, writes_of, of_writes, reads_plain, writes_plain, first_one, last_one, order, Here, here, there, before_of, same_here, earlier_here, line_of, Core, core_of, placed}
+use Rattle.sequence_build_laws.proofs.Setting.{Setting, reads_plain, writes_plain, first_one, last_one, order, Here, here, there, before_of, same_here, earlier_here, line_of, Core, core_of, placed}
 
 -- what stands in a projection stands in the order
 pub in_projection : (xs : List Step) (s a : ℕ) (x : Instr) → slice_get (projection xs s) a ≡ Some x → (i : ℕ) × (slice_get xs i ≡ Some (step s x))
@@ -38,12 +40,6 @@ in_projection xs s a x e =
 pub projection_at : (xs : List Step) (i s : ℕ) (x : Instr) → slice_get xs i ≡ Some (step s x) → (a : ℕ) × (slice_get (projection xs s) a ≡ Some x)
 projection_at xs i s x e =
     (tally (is_of s) (take i xs), map_at (λ (y : Step). y.instr) (filter (is_of s) xs) (tally (is_of s) (take i xs)) (step s x) (filter_at (is_of s) xs i (step s x) e (eq-eqb s s refl)))
-
-pub same_bool : (a b : Bool) → (a ≡ true → b ≡ true) → (b ≡ true → a ≡ true) → a ≡ b
-same_bool true true f g = refl
-same_bool true false f g = sym (f refl)
-same_bool false true f g = g refl
-same_bool false false f g = refl
 
 -- Tests that no semaphore line passes.
 module _ (pairs : List Reader) (plain : List Step) (test : Instr → Bool) (only : (x : Instr) → test x ≡ true → is_plain x ≡ true) (s : ℕ) where

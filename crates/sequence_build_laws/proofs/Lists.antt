@@ -1,8 +1,8 @@
 -- Places in lists: in joined lists, among those that pass a test, and elements with what stands round them.
 use Rattle.std.proofs.Common.{◌≡◌, ℕ, zero, suc, ◌+◌, ◌<◌, ◌≤◌, ◌⊎◌, Bool, true, false, cond, List, [], ◌∷◌, ◌++◌, length, map, take, drop, Some, refl, sym, ap, subst, inl, inr, arith, ◌∙◌, length-append, append_assoc}
 use Rattle.std.specs.Prelude.{slice_get}
-use Rattle.std.specs.List.{flat_map, filter, list_any, list_all, position_or_len, count_by}
-use Rattle.std.proofs.lemmas.Bool.{false≢true, cases_lt, cases_eq, or_left, or_right, or_cases, and_parts}
+use Rattle.std.specs.List.{flat_map, filter, list_all, position_or_len, count_by}
+use Rattle.std.proofs.lemmas.Bool.{false≢true, cases_lt, cases_eq, and_parts}
 use Rattle.std.proofs.lemmas.Option.{same_Some}
 use Rattle.std.proofs.lemmas.List.{append-nil, take-append-le}
 use Rattle.std.proofs.lemmas.List.Sums.{sum_by-cons}
@@ -252,16 +252,6 @@ from_numbers p n (x ∷ xs) j q e = by (p x) refl j e (λ i. from_numbers p (suc
     by true t zero e r = record { at = 0; it = x; stands = refl; passes = t; is = (let z = same_Some n q e in omega arith); rank = refl }
     by true t (suc j) e r = let h = r j e in record { at = suc h.at; it = h.it; stands = h.stands; passes = h.passes; is = (let z = h.is in omega arith); rank = ap (λ (k : ℕ). suc k) h.rank ∙ sym (tally_yes p x (take h.at xs) t) }
     by false t j e r = let h = r j e in record { at = suc h.at; it = h.it; stands = h.stands; passes = h.passes; is = (let z = h.is in omega arith); rank = h.rank ∙ sym (tally_not p x (take h.at xs) t) }
-
--- some element passes, or all do
-pub any_at : {A : Type 0} (p : A → Bool) (xs : List A) (i : ℕ) (x : A) → slice_get xs i ≡ Some x → p x ≡ true → list_any p xs ≡ true
-any_at p [] i x e t = absurd cc
-any_at p (y ∷ xs) zero x e t = or_left (p y) (list_any p xs) (ap p (same_Some y x e) ∙ t)
-any_at p (y ∷ xs) (suc i) x e t = or_right (p y) (list_any p xs) (any_at p xs i x e t)
-
-pub any_of : {A : Type 0} (p : A → Bool) (xs : List A) → list_any p xs ≡ true → (i : ℕ) × (x : A) × (slice_get xs i ≡ Some x) × (p x ≡ true)
-any_of p [] h = absurd (false≢true h)
-any_of p (y ∷ xs) h = elim (or_cases (p y) (list_any p xs) h) [ inl t ↦ (0, y, refl, t) | inr t ↦ (let r = any_of p xs t in (suc r.0, r.1, r.2, r.3)) ]
 
 pub all_at : {A : Type 0} (p : A → Bool) (xs : List A) → list_all p xs ≡ true → (i : ℕ) (x : A) → slice_get xs i ≡ Some x → p x ≡ true
 all_at p [] h i x e = absurd cc

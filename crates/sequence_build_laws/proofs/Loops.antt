@@ -12,8 +12,9 @@ use Rattle.executive_program.specs.declared.program.Program.{Program}
 use Rattle.executive_program.specs.Instructions.{turn, turn_of, prologue, prologue_of, medium, medium_in, operator, operator_in}
 use Rattle.executive_program.specs.Places.{sequence_where}
 use Rattle.executive_program.specs.WellFormed.{Stands, place_in, FollowsLoops}
+use Rattle.executive_program.proofs.Reading.{any_at, any_of}
 use Rattle.sequence_build_laws.specs.Serial.{Step, step, projection, codes}
-use Rattle.sequence_build_laws.proofs.Lists.{get_some, map_at, from_map, tally, tally_yes, tally_not, counts_tally, tally_grows, filter_at, from_filter, filter_length, any_at, any_of, First, first}
+use Rattle.sequence_build_laws.proofs.Lists.{get_some, map_at, from_map, tally, tally_yes, tally_not, counts_tally, tally_grows, filter_at, from_filter, filter_length, First, first}
 
 pub codes_at : (f t : ℕ → List Instr) (n k : ℕ) (qs : List Seq) (s : ℕ) (q : Seq) → slice_get qs s ≡ Some q → k ≡ n + s → slice_get (codes f t n qs) s ≡ Some (record { seq = q; prologue = f k; turn = t k })
 codes_at f t n k [] s q e h = absurd cc

@@ -1,23 +1,15 @@
 -- The definitions computed on worked examples: one operator; two operators on a bus; a relay over two media; two transfers over a medium of four operators.
-use Rattle.std.proofs.Common.{◌≡◌, ℕ, Bool, true, false, List, [], ◌∷◌, Option, Some, None, refl, pos, ℤ}
-use Rattle.std.specs.Prelude.{slice_index_or}
-use Rattle.flat_graph.specs.declared.vertex.Source.{Source}
-use Rattle.flat_graph.specs.declared.vertex.Vertex.{Vertex}
-use Rattle.flat_graph.specs.declared.vertex.Kind.{Kind}
-use Rattle.flat_graph.specs.declared.vertex.Guard.{Guard}
-use Rattle.flat_graph.specs.declared.vertex.Kind.TheVariants.{Sensor, Actuator, Function, Get, Set, Merge}
-use Rattle.syn_base.specs.declared.arithmetic.Op.TheVariants.{Add}
-use Rattle.body_lang.specs.Expr.{literal, element, index, apply}
+use Rattle.std.proofs.Common.{◌≡◌, ℕ, true, false, List, [], ◌∷◌, Option, Some, None, refl}
+use Rattle.flat_graph.specs.declared.vertex.Kind.TheVariants.{Sensor, Actuator, Function}
+use Rattle.body_lang.specs.Expr.{element, index}
 use Rattle.flat_graph.specs.Graph.{Graph}
 use Rattle.flat_graph.specs.Valid.{is_flat}
-use Rattle.archi_graph.specs.declared.medium.Medium.{Medium}
 use Rattle.archi_graph.specs.Archi.{Architecture, is_archi}
 use Rattle.archi_graph.specs.Sequences.{sequences}
-use Rattle.schedule.specs.declared.decision.Transfer.{Transfer}
-use Rattle.schedule.specs.declared.decision.Decision.{Decision}
 use Rattle.schedule.specs.declared.decision.Schedule.{Schedule}
 use Rattle.schedule.specs.Acts.{length_of}
 use Rattle.schedule.specs.Valid.{is_valid}
+use Rattle.schedule.proofs.Examples.{source, vertex, medium, archi, entry, carried, placed, schedule, plain_graph, plain_archi, plain_schedule, bus_graph, bus_archi, bus_schedule, bus_ticks, relay_archi, relay_schedule, multi_graph, multi_archi, multi_schedule, multi_ticks, speed_graph, speed_archi, speed_ticks, speed_schedule}
 use Rattle.executive_program.specs.declared.program.Instr.{Instr}
 use Rattle.executive_program.specs.declared.program.Instr.TheVariants.{Suc0, Suc1, Pre0, Pre1, Call, Send, Recv, Sync}
 use Rattle.executive_program.specs.declared.program.Buffer.{Buffer}
@@ -30,46 +22,11 @@ use Rattle.executive_program.specs.Steps.{all_prologues, all_turns}
 use Rattle.sequence_build_laws.proofs.Whole.{built_are_well_formed}
 use Rattle.sequence_build_laws.specs.Built.{program_with, program_of, order_of}
 
-abbrev source : ℕ → Source
-source v = record { vertex = v; port = 0 }
-
--- named by one letter
-abbrev vertex : ℕ → Kind → List Source → List ℕ → Vertex
-vertex c k ins outs = record { name = c ∷ []; def = 68 ∷ []; kind = k; guards = []; ins = ins; outs = outs; twin = None }
-
-abbrev medium : ℕ → Bool → List ℕ → Medium
-medium c multi stands = record { name = c ∷ []; multi = multi; fixed = 1; per = 1; stands = stands }
-
-abbrev archi : List (List ℕ) → List Medium → Architecture
-archi operators media = record { operators = operators; media = media; depth = 1 }
-
-abbrev entry : List (List (Option ℕ)) → ℕ → ℕ → Option ℕ
-entry rows v o = slice_index_or (slice_index_or rows v []) o None
-
-abbrev carried : ℕ → ℕ → ℕ → ℕ → ℕ → ℕ → Transfer
-carried v m from to start end = record { source = source v; medium = m; from = from; to = to; start = start; end = end }
-
-abbrev placed : ℕ → ℕ → ℕ → ℕ → List Transfer → Decision
-placed v o start end transfers = record { op = v; operator = o; start = start; end = end; transfers = transfers }
-
-abbrev schedule : List Decision → Schedule
-schedule ds = record { decisions = ds }
-
-abbrev code : ℕ → Option ℕ → List Instr → List Instr → SeqCode
+abbrev pub code : ℕ → Option ℕ → List Instr → List Instr → SeqCode
 code o m p t = record { seq = record { operator = o; medium = m }; prologue = p; turn = t }
 
-abbrev on : ℕ → ℕ → Buffer
+abbrev pub on : ℕ → ℕ → Buffer
 on o depth = record { operator = o; len = 1; depth = depth }
-
--- One operator: a sensor and an actuator.
-abbrev plain_graph : Graph
-plain_graph = record { vertices = vertex 115 (Sensor 0) [] (1 ∷ []) ∷ vertex 97 (Actuator 0) (source 0 ∷ []) [] ∷ []; bodies = [] }
-
-abbrev plain_archi : Architecture
-plain_archi = archi ((80 ∷ []) ∷ []) []
-
-abbrev plain_schedule : Schedule
-plain_schedule = schedule (placed 0 0 0 1 [] ∷ placed 1 0 1 3 [] ∷ [])
 
 plain_valid : (is_flat plain_graph ≡ true) × (is_archi plain_archi.operators plain_archi.media ≡ true)
     × (is_valid plain_graph plain_archi (entry ((Some 1 ∷ []) ∷ (Some 2 ∷ []) ∷ [])) plain_schedule ≡ true) × (length_of plain_schedule ≡ 3)
@@ -77,24 +34,6 @@ plain_valid = (refl, refl, refl, refl)
 
 plain_program : program_of plain_graph plain_archi plain_schedule ≡ record { buffers = on 0 1 ∷ []; pairs = []; seqs = code 0 None [] (Call 0 [] (0 ∷ []) ∷ Call 1 (0 ∷ []) [] ∷ []) ∷ [] }
 plain_program = refl
-
--- Two operators on a bus.
-abbrev bus_graph : Graph
-bus_graph = record {
-  vertices = vertex 115 (Sensor 0) [] (1 ∷ []) ∷ vertex 102 (Function 0) (source 0 ∷ []) (1 ∷ []) ∷ vertex 103 (Function 0) (source 0 ∷ []) (1 ∷ [])
-      ∷ vertex 97 (Actuator 0) (source 1 ∷ []) [] ∷ vertex 98 (Actuator 1) (source 2 ∷ []) [] ∷ [];
-  bodies = (apply Add (element 0 index) (literal (pos 1)) ∷ []) ∷ [];
-}
-
-abbrev bus_archi : Architecture
-bus_archi = archi ((80 ∷ []) ∷ (81 ∷ []) ∷ []) (medium 109 false (0 ∷ 1 ∷ []) ∷ [])
-
--- the second function starts at this date
-abbrev bus_schedule : ℕ → ℕ → Schedule
-bus_schedule start end = schedule (placed 0 0 0 1 [] ∷ placed 1 0 1 11 [] ∷ placed 2 1 start end (carried 0 0 0 1 1 3 ∷ []) ∷ placed 4 1 13 14 [] ∷ placed 3 0 11 12 [] ∷ [])
-
-abbrev bus_ticks : ℕ → ℕ → Option ℕ
-bus_ticks = entry ((Some 1 ∷ None ∷ []) ∷ (Some 10 ∷ Some 10 ∷ []) ∷ (Some 10 ∷ Some 10 ∷ []) ∷ (Some 1 ∷ Some 1 ∷ []) ∷ (Some 1 ∷ Some 1 ∷ []) ∷ [])
 
 bus_valid : (is_flat bus_graph ≡ true) × (is_archi bus_archi.operators bus_archi.media ≡ true) × (is_valid bus_graph bus_archi bus_ticks (bus_schedule 3 13) ≡ true)
     × (is_valid bus_graph bus_archi bus_ticks (bus_schedule 12 22) ≡ false) × (length_of (bus_schedule 3 13) ≡ 14)
@@ -120,13 +59,6 @@ bus_doubled = refl
 bus_numbers : (words (program_of bus_graph bus_archi (bus_schedule 3 13)) 1 ≡ 10) × (all_prologues (program_of bus_graph bus_archi (bus_schedule 3 13)) ≡ 2) × (all_turns (program_of bus_graph bus_archi (bus_schedule 3 13)) ≡ 23)
 bus_numbers = (refl, refl, refl)
 
--- A relay.
-abbrev relay_archi : Architecture
-relay_archi = archi ((65 ∷ []) ∷ (66 ∷ []) ∷ (67 ∷ []) ∷ []) (medium 120 false (0 ∷ 1 ∷ []) ∷ medium 121 false (1 ∷ 2 ∷ []) ∷ [])
-
-abbrev relay_schedule : Schedule
-relay_schedule = schedule (placed 0 0 0 1 [] ∷ placed 1 2 5 6 (carried 0 0 0 1 1 3 ∷ carried 0 1 1 2 3 5 ∷ []) ∷ [])
-
 relay_valid : (is_archi relay_archi.operators relay_archi.media ≡ true) × (is_valid plain_graph relay_archi (entry ((Some 1 ∷ None ∷ None ∷ []) ∷ (None ∷ None ∷ Some 1 ∷ []) ∷ [])) relay_schedule ≡ true) × (length_of relay_schedule ≡ 6)
 relay_valid = (refl, refl, refl)
 
@@ -142,22 +74,6 @@ relay_program : program_of plain_graph relay_archi relay_schedule ≡ record {
       ∷ code 2 (Some 1) [] (Suc0 2 ∷ Recv 2 1 ∷ Pre1 2 ∷ []) ∷ [];
 }
 relay_program = refl
-
--- Two transfers over a medium of four operators.
-abbrev multi_graph : Graph
-multi_graph = record {
-  vertices = vertex 115 (Sensor 0) [] (1 ∷ []) ∷ vertex 116 (Sensor 1) [] (1 ∷ []) ∷ vertex 97 (Actuator 0) (source 0 ∷ []) [] ∷ vertex 98 (Actuator 1) (source 1 ∷ []) [] ∷ [];
-  bodies = [];
-}
-
-abbrev multi_archi : Architecture
-multi_archi = archi ((65 ∷ []) ∷ (66 ∷ []) ∷ (67 ∷ []) ∷ (68 ∷ []) ∷ []) (medium 109 true (0 ∷ 1 ∷ 2 ∷ 3 ∷ []) ∷ [])
-
-abbrev multi_schedule : Schedule
-multi_schedule = schedule (placed 0 0 0 1 [] ∷ placed 2 1 3 4 (carried 0 0 0 1 1 3 ∷ []) ∷ placed 1 2 0 1 [] ∷ placed 3 3 5 6 (carried 1 0 2 3 3 5 ∷ []) ∷ [])
-
-abbrev multi_ticks : ℕ → ℕ → Option ℕ
-multi_ticks = entry ((Some 1 ∷ []) ∷ (None ∷ None ∷ Some 1 ∷ []) ∷ (None ∷ Some 1 ∷ []) ∷ (None ∷ None ∷ None ∷ Some 1 ∷ []) ∷ [])
 
 multi_valid : (is_flat multi_graph ≡ true) × (is_archi multi_archi.operators multi_archi.media ≡ true) × (is_valid multi_graph multi_archi multi_ticks multi_schedule ≡ true) × (length_of multi_schedule ≡ 6)
 multi_valid = (refl, refl, refl, refl)
@@ -203,49 +119,13 @@ star_loop = refl
 star_well_formed : IsOrder (program_of star_graph star_archi star_schedule) star_graph (sequences star_archi) 2 (order_of star_graph star_archi star_schedule)
 star_well_formed = built_are_well_formed star_graph star_archi star_ticks star_schedule refl refl refl refl
 
--- A speed controller: a delay, cases and a merge.
-abbrev operation : ℕ → Kind → List Guard → List Source → List ℕ → Option ℕ → Vertex
-operation c k guards ins outs twin = record { name = c ∷ []; def = 68 ∷ []; kind = k; guards = guards; ins = ins; outs = outs; twin = twin }
-
-abbrev limits : List ℤ
-limits = pos 1 ∷ pos 2 ∷ []
-
-abbrev guard : ℕ → List Guard
-guard c = record { source = source 7; values = limits; case = c } ∷ []
-
-abbrev window : List ℤ
-window = pos 0 ∷ pos 0 ∷ pos 0 ∷ pos 0 ∷ pos 0 ∷ pos 0 ∷ pos 0 ∷ pos 0 ∷ []
-
-abbrev speed_graph : Graph
-speed_graph = record {
-  vertices = operation 97 (Sensor 0) [] [] (1 ∷ []) None ∷ operation 98 (Sensor 1) [] [] (1 ∷ []) None
-      ∷ operation 99 (Get window) [] [] (8 ∷ []) (Some 3) ∷ operation 100 Set [] (source 4 ∷ []) [] (Some 2)
-      ∷ operation 101 (Function 0) [] (source 2 ∷ source 0 ∷ []) (8 ∷ []) None ∷ operation 102 (Function 0) [] (source 4 ∷ []) (1 ∷ []) None
-      ∷ operation 103 (Function 0) [] (source 1 ∷ source 5 ∷ []) (1 ∷ []) None ∷ operation 104 (Function 0) [] (source 6 ∷ []) (1 ∷ []) None
-      ∷ operation 105 (Function 0) (guard 0) (source 6 ∷ []) (1 ∷ []) None ∷ operation 106 (Function 0) (guard 1) (source 6 ∷ []) (1 ∷ []) None ∷ operation 107 (Function 0) (guard 2) (source 6 ∷ []) (1 ∷ []) None
-      ∷ operation 108 (Merge limits) [] (source 7 ∷ source 8 ∷ source 9 ∷ source 10 ∷ []) (1 ∷ []) None
-      ∷ operation 109 (Actuator 0) [] (source 11 ∷ []) [] None ∷ operation 110 (Actuator 1) [] (source 5 ∷ []) [] None ∷ [];
-  bodies = (literal (pos 0) ∷ []) ∷ [];
-}
-
-abbrev speed_archi : Architecture
-speed_archi = archi ((80 ∷ []) ∷ (81 ∷ []) ∷ []) (record { name = 99 ∷ []; multi = true; fixed = 2; per = 1; stands = 0 ∷ 1 ∷ [] } ∷ [])
-
-abbrev speed_ticks : ℕ → ℕ → Option ℕ
-speed_ticks = entry ((Some 2 ∷ []) ∷ (Some 2 ∷ []) ∷ (Some 0 ∷ Some 0 ∷ []) ∷ (Some 0 ∷ Some 0 ∷ []) ∷ (Some 4 ∷ Some 4 ∷ []) ∷ (Some 6 ∷ Some 6 ∷ []) ∷ (Some 3 ∷ Some 3 ∷ []) ∷ (Some 1 ∷ Some 1 ∷ [])
-    ∷ (Some 1 ∷ Some 1 ∷ []) ∷ (Some 1 ∷ Some 1 ∷ []) ∷ (Some 1 ∷ Some 1 ∷ []) ∷ (Some 0 ∷ Some 0 ∷ []) ∷ (Some 2 ∷ []) ∷ (None ∷ Some 5 ∷ []) ∷ [])
-
-abbrev speed_schedule : Schedule
-speed_schedule = schedule (placed 0 0 0 2 [] ∷ placed 2 1 0 0 [] ∷ placed 4 1 5 9 (carried 0 0 0 1 2 5 ∷ []) ∷ placed 5 1 9 15 [] ∷ placed 13 1 15 20 [] ∷ placed 3 1 20 20 []
-    ∷ placed 1 0 2 4 [] ∷ placed 6 0 18 21 (carried 5 0 1 0 15 18 ∷ []) ∷ placed 7 0 21 22 [] ∷ placed 8 0 22 23 [] ∷ placed 9 0 23 24 [] ∷ placed 10 0 24 25 [] ∷ placed 11 0 25 25 [] ∷ placed 12 0 25 27 [] ∷ [])
-
 speed_valid : (is_flat speed_graph ≡ true) × (is_archi speed_archi.operators speed_archi.media ≡ true) × (is_valid speed_graph speed_archi speed_ticks speed_schedule ≡ true) × (length_of speed_schedule ≡ 27)
 speed_valid = (refl, refl, refl, refl)
 
-abbrev one : ℕ → Buffer
+abbrev pub one : ℕ → Buffer
 one o = on o 1
 
-abbrev eight : Buffer
+abbrev pub eight : Buffer
 eight = record { operator = 1; len = 8; depth = 1 }
 
 speed_program : program_of speed_graph speed_archi speed_schedule ≡ record {

@@ -10,8 +10,9 @@ use Rattle.archi_graph.specs.declared.medium.Seq.{Seq}
 use Rattle.archi_graph.specs.Archi.{Architecture, is_archi, is_medium, stands_at, are_bounded, are_distinct, names_of, are_joined}
 use Rattle.archi_graph.specs.Sequences.{computation, communicator, communicators, sequences_of, sequences}
 use Rattle.archi_graph.proofs.Bounds.{stands_below}
+use Rattle.executive_program.proofs.Reading.{any_of}
 use Rattle.sequence_build_laws.specs.Serial.{same_medium, same_seq}
-use Rattle.sequence_build_laws.proofs.Lists.{any_of, all_at, first, in_flat, flat_at, starts}
+use Rattle.sequence_build_laws.proofs.Lists.{all_at, first, in_flat, flat_at, starts}
 
 same_medium_is : (m n : Option ℕ) → same_medium m n ≡ true → m ≡ n
 same_medium_is None None h = refl

@@ -1,21 +1,21 @@
 -- A program over a plain order whose reads stand after the writes: what the semaphore lines are proved from.
-use Rattle.std.proofs.Common.{◌≡◌, ℕ, suc, ◌+◌, ◌<◌, ◌⊎◌, Bool, true, false, ◌||◌, nat_eq, List, [], ◌∷◌, length, map, take, drop, Some, refl, sym, ap, subst, inl, inr, ◌∙◌, eq-eqb}
+use Rattle.std.proofs.Common.{◌≡◌, ℕ, suc, ◌+◌, ◌<◌, ◌⊎◌, Bool, true, false, ◌||◌, nat_eq, List, [], ◌∷◌, length, map, take, drop, Some, refl, sym, ap, subst, inl, inr, ◌∙◌}
 use Rattle.std.specs.Prelude.{slice_get}
 use Rattle.std.specs.List.{flat_map, list_any}
-use Rattle.std.proofs.lemmas.Bool.{false≢true, eqb-true, or_cases, or_from, cases_Bool}
+use Rattle.std.proofs.lemmas.Bool.{false≢true, or_cases, or_from, cases_Bool}
 use Rattle.std.proofs.lemmas.Option.{same_Some}
 use Rattle.archi_graph.specs.declared.medium.Seq.{Seq}
 use Rattle.sequence_build_laws.specs.InTurn.{Standing, in_turn}
 use Rattle.schedule.specs.Acts.{Copy}
 use Rattle.executive_program.specs.declared.program.Instr.{Instr}
-use Rattle.executive_program.specs.declared.program.Instr.TheVariants.{Suc0, Suc1, Pre0, Pre1, Call, Send, Recv}
+use Rattle.executive_program.specs.declared.program.Instr.TheVariants.{Suc0, Suc1, Pre0, Pre1}
 use Rattle.executive_program.specs.declared.program.Program.{Program}
 use Rattle.executive_program.specs.Blocks.{repeated}
 use Rattle.executive_program.specs.Instructions.{Reader, reads, writes, readers}
 use Rattle.executive_program.specs.WellFormed.{Stands, WritesAt, ReadsAt, place_in}
 use Rattle.sequence_build_laws.specs.Serial.{Step, step, projection, codes, steps_at, pairs_where, block}
 use Rattle.sequence_build_laws.specs.Built.{operator_in}
-use Rattle.sequence_build_laws.proofs.Lists.{any_at, any_of, turn_at, from_turn}
+use Rattle.sequence_build_laws.proofs.Lists.{turn_at, from_turn}
 use Rattle.sequence_build_laws.proofs.Lines as lines
 use Rattle.sequence_build_laws.proofs.Lines.{is_plain, middle, Line}
 
@@ -49,27 +49,6 @@ pub record Setting : Type 0 where
   pub written_once : (c e k h b : ℕ) (y z : Step) → slice_get plain c ≡ Some y → slice_get plain e ≡ Some z → WritesAt y.instr k b → WritesAt z.instr h b → (c ≡ e) × (k ≡ h)
   pub read_behind : (c k b : ℕ) (y : Step) → slice_get plain c ≡ Some y → ReadsAt y.instr k b → (e : ℕ) × (z : Step) × (h : ℕ) × (e < c) × (slice_get plain e ≡ Some z) × WritesAt z.instr h b
   pub near : (c k b : ℕ) (y : Step) → slice_get plain c ≡ Some y → WritesAt y.instr k b ⊎ ReadsAt y.instr k b → (it : Copy) × (q : Seq) × (slice_get copies b ≡ Some it) × (slice_get seqs y.sequence ≡ Some q) × (q.operator ≡ it.operator)
-
--- what an instruction reads and writes, as tests
-pub reads_of : (b : ℕ) (x : Instr) → reads b x ≡ true → (k : ℕ) × ReadsAt x k b
-reads_of b (Call v ins outs) h = let q = any_of (λ n. nat_eq n b) ins h in (q.0, q.2 ∙ ap (λ (n : ℕ). Some n) (eqb-true q.1 b q.3))
-reads_of b (Send n o) h = (0, (eqb-true n b h, refl))
-reads_of b _ h = absurd (false≢true h)
-
-pub of_reads : (b k : ℕ) (x : Instr) → ReadsAt x k b → reads b x ≡ true
-of_reads b k (Call v ins outs) h = any_at (λ n. nat_eq n b) ins k b h (eq-eqb b b refl)
-of_reads b k (Send n o) h = eq-eqb n b h.0
-of_reads b k _ h = absurd h
-
-pub writes_of : (b : ℕ) (x : Instr) → writes b x ≡ true → (k : ℕ) × WritesAt x k b
-writes_of b (Call v ins outs) h = let q = any_of (λ n. nat_eq n b) outs h in (q.0, q.2 ∙ ap (λ (n : ℕ). Some n) (eqb-true q.1 b q.3))
-writes_of b (Recv n o) h = (0, (eqb-true n b h, refl))
-writes_of b _ h = absurd (false≢true h)
-
-pub of_writes : (b k : ℕ) (x : Instr) → WritesAt x k b → writes b x ≡ true
-of_writes b k (Call v ins outs) h = any_at (λ n. nat_eq n b) outs k b h (eq-eqb b b refl)
-of_writes b k (Recv n o) h = eq-eqb n b h.0
-of_writes b k _ h = absurd h
 
 pub reads_plain : (b : ℕ) (x : Instr) → reads b x ≡ true → is_plain x ≡ true
 reads_plain b (Suc0 q) h = h

@@ -15,9 +15,10 @@ use Rattle.schedule.specs.Valid.{is_valid}
 use Rattle.executive_program.specs.declared.program.Instr.TheVariants.{Call, Send, Recv, Sync}
 use Rattle.executive_program.specs.Instructions.{Reader}
 use Rattle.executive_program.specs.WellFormed.{WritesAt, ReadsAt}
+use Rattle.executive_program.proofs.Reading.{any_at}
 use Rattle.sequence_build_laws.specs.Serial.{Step, step, is_other, copies, buffer_for, number_of, steps_of, plain_steps, plain_program, buffer, pairs, numbers_where}
 use Rattle.sequence_build_laws.specs.Built.{is_guarded, buffers_from, prologue, program_with}
-use Rattle.sequence_build_laws.proofs.Lists.{any_at, map_at, from_map, starts, in_flat, flat_at, starts_rise, from_numbers, get_some}
+use Rattle.sequence_build_laws.proofs.Lists.{map_at, from_map, starts, in_flat, flat_at, starts_rise, from_numbers, get_some}
 use Rattle.sequence_build_laws.proofs.Lines.{is_plain}
 use Rattle.sequence_build_laws.proofs.Setting.{Setting}
 use Rattle.sequence_build_laws.proofs.Sequences.{computation_there, communicator_of, stands_low}

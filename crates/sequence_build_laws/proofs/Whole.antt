@@ -17,13 +17,14 @@ use Rattle.executive_program.specs.Instructions.{Reader, depth_of, depth_in}
 use Rattle.executive_program.specs.Instructions.{is_guarded as guarded}
 use Rattle.executive_program.specs.Places.{places, carried}
 use Rattle.executive_program.specs.WellFormed.{Stands, WritesAt, ReadsAt, NamesIn, IsBuffer}
+use Rattle.executive_program.proofs.Reading.{any_of, of_writes, of_reads}
 use Rattle.sequence_build_laws.specs.Serial.{copies, pairs, serial}
 use Rattle.sequence_build_laws.specs.Built.{program_with, program_of, is_guarded, operator_in, BuiltAreWellFormed}
-use Rattle.sequence_build_laws.proofs.Lists.{get_some, any_of}
+use Rattle.sequence_build_laws.proofs.Lists.{get_some}
 use Rattle.sequence_build_laws.proofs.Loops as loops
 use Rattle.sequence_build_laws.proofs.Lines as lines
-use Rattle.sequence_build_laws.proofs.Lines.{Line, Pair}
-use Rattle.sequence_build_laws.proofs.Setting.{Setting, order, Here, here, Core, core_of, line_of, low_of}
+use Rattle.sequence_build_laws.proofs.Lines.{Line}
+use Rattle.sequence_build_laws.proofs.Setting.{Setting, order, Here, here, core_of, line_of, low_of}
 use Rattle.sequence_build_laws.proofs.Guards as guards
 use Rattle.sequence_build_laws.proofs.Works.{of_run}
 use Rattle.sequence_build_laws.proofs.Comms.{S}
@@ -64,8 +65,8 @@ module _ (g : Graph) (a : Architecture) (ticks : ℕ → ℕ → Option ℕ) (s 
       let l = slice_get_within (copies g a s) b n.0 n.2 in let z = It.buffers_many in omega arith
     where
       plainly : WritesAt x k b ⊎ ReadsAt x k b → lines.is_plain x ≡ true
-      plainly (inl v) = Rattle.sequence_build_laws.proofs.Setting.writes_plain b x (Rattle.sequence_build_laws.proofs.Setting.of_writes b k x v)
-      plainly (inr v) = Rattle.sequence_build_laws.proofs.Setting.reads_plain b x (Rattle.sequence_build_laws.proofs.Setting.of_reads b k x v)
+      plainly (inl v) = Rattle.sequence_build_laws.proofs.Setting.writes_plain b x (of_writes b k x v)
+      plainly (inr v) = Rattle.sequence_build_laws.proofs.Setting.reads_plain b x (of_reads b k x v)
 
   abbrev Names : Instr → Type 0
   Names x = NamesIn prog (order (S g a ticks s right valid depth)) (places prog) (carried prog) g x

@@ -1,8 +1,7 @@
 -- What a valid schedule's acts have done: each copy is made by one act, and is read after it.
-use Rattle.std.proofs.Common.{◌≡◌, ℕ, zero, suc, ◌+◌, ◌<◌, ◌≤◌, true, false, ◌&&◌, not, nat_eq, List, [], ◌∷◌, ◌++◌, length, take, Option, Some, None, refl, sym, ap, inl, inr, arith, ◌∙◌, eq-eqb}
+use Rattle.std.proofs.Common.{◌≡◌, ℕ, zero, suc, ◌+◌, ◌<◌, ◌≤◌, true, false, ◌&&◌, not, List, [], ◌∷◌, ◌++◌, length, take, Option, Some, None, refl, sym, ap, inl, inr, arith, ◌∙◌, eq-eqb}
 use Rattle.std.specs.Prelude.{slice_get, nat_lt, nat_le}
 use Rattle.std.specs.List.{list_any, list_all, range_with_len}
-use Rattle.std.specs.Cmp.Derive.{both_true}
 use Rattle.std.proofs.lemmas.Bool.{false≢true, and_parts, eqb-true, ltb-true, cases_lt, cases_eq, not-true}
 use Rattle.std.proofs.lemmas.Option.{same_Some, slice_get_within}
 use Rattle.std.proofs.lemmas.List.{append-nil, append_assoc}
@@ -16,21 +15,11 @@ use Rattle.schedule.specs.declared.decision.Decision.{Decision}
 use Rattle.schedule.specs.declared.decision.Schedule.{Schedule}
 use Rattle.schedule.specs.Acts.{Act, carry, run, acts, start_of, end_of, is_over, is_on, runs, Copy, copy, same_copy, outputs_from, outputs_of, read_by, made_by}
 use Rattle.schedule.specs.Valid.{is_valid, is_right, are_right, are_placed, is_act, is_held, is_there, have_ended, lasts, is_carried, follows_get}
+use Rattle.schedule.proofs.Copies.{copy_is, same_copy_self}
+use Rattle.executive_program.proofs.Reading.{any_at, any_of}
 use Rattle.sequence_build_laws.specs.Serial.{copies, buffer_for}
-use Rattle.sequence_build_laws.proofs.Lists.{any_at, any_of, all_at, first, get_take, take_get, from_map, in_flat, flat_at, starts, starts_rise}
+use Rattle.sequence_build_laws.proofs.Lists.{all_at, first, get_take, take_get, from_map, in_flat, flat_at, starts, starts_rise}
 use Rattle.sequence_build_laws.proofs.Sequences.{range_there}
-
-pub copy_is : (c d : Copy) → same_copy c d ≡ true → c ≡ d
-copy_is c d h =
-    let both = and_parts (nat_eq c.operator d.operator && nat_eq c.source.vertex d.source.vertex) (nat_eq c.source.port d.source.port) h in
-    let first = and_parts (nat_eq c.operator d.operator) (nat_eq c.source.vertex d.source.vertex) both.0 in
-    let o = eqb-true c.operator d.operator first.0 in
-    let v = eqb-true c.source.vertex d.source.vertex first.1 in
-    let k = eqb-true c.source.port d.source.port both.1 in
-    λ i. record { operator = o i; source = record { vertex = v i; port = k i } }
-
-pub same_copy_self : (c : Copy) → same_copy c c ≡ true
-same_copy_self c = both_true (both_true (eq-eqb c.operator c.operator refl) (eq-eqb c.source.vertex c.source.vertex refl)) (eq-eqb c.source.port c.source.port refl)
 
 pub output_from : (v port : ℕ) (ns : List ℕ) (k : ℕ) (x : Source) → slice_get (outputs_from v port ns) k ≡ Some x → (x.vertex ≡ v) × (x.port ≡ port + k) × (n : ℕ) × (slice_get ns k ≡ Some n)
 output_from v port [] k x e = absurd cc

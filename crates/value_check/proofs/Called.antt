@@ -51,10 +51,12 @@ module _ (p : Program) where
   pub only_call : (v s a : ℕ) → is_only p (calls v) s a ≡ true
       → Stands p s a (Call v (ins_in (slice_get (turn p s) a)) (outs_in (slice_get (turn p s) a))) × ((t b : ℕ) (ins outs : List ℕ) → Stands p t b (Call v ins outs) → (t ≡ s) × (b ≡ a))
   only_call v s a h =
-      let only = and_parts (passes (calls v) (slice_get (turn p s) a)) (every p (only_test v s a)) h in
-      (call_there v (slice_get (turn p s) a) only.0, λ t b ins outs e.
-      let r = and_parts (nat_eq t s) (nat_eq b a) (implied (calls v (Call v ins outs)) (nat_eq t s && nat_eq b a) (every_of p (only_test v s a) only.1 t b (Call v ins outs) e) (same_numbers v)) in
-      (eqb-true t s r.0, eqb-true b a r.1))
+      let only = and_parts (passes (calls v) (slice_get (turn p s) a)) (every p (only_test v s a)) h in (
+        call_there v (slice_get (turn p s) a) only.0,
+        λ t b ins outs e.
+            let r = and_parts (nat_eq t s) (nat_eq b a) (implied (calls v (Call v ins outs)) (nat_eq t s && nat_eq b a) (every_of p (only_test v s a) only.1 t b (Call v ins outs) e) (same_numbers v)) in
+            (eqb-true t s r.0, eqb-true b a r.1),
+      )
 
   pub of_only_call : (v s a : ℕ) (ins outs : List ℕ) → Stands p s a (Call v ins outs) → ((t b : ℕ) (ins outs : List ℕ) → Stands p t b (Call v ins outs) → (t ≡ s) × (b ≡ a)) → is_only p (calls v) s a ≡ true
   of_only_call v s a ins outs e only =
