@@ -4,7 +4,7 @@ use Rattle.std.specs.List.{flat_map}
 use Rattle.schedule.specs.Acts.{acts_of}
 use Rattle.sequence_build_laws.specs.Serial.{Step, projection}
 use Rattle.sequence_build.specs.Plain.{loop_at, steps_at}
-use Rattle.sequence_build.proofs.Adding.{projection-append}
+use Rattle.sequence_build_laws.proofs.Guarded.{projection-append}
 use Rattle.sequence_build.proofs.Appending.{appended, acts_left}
 use Rattle.sequence_build.proofs.site.Site.loops.Goals as goal
 
