@@ -29,6 +29,10 @@ def booked(crate, table):
     """Books the time before each module of a crate on its function."""
     before = None
     for written, file in sorted(modules(crate)):
+        # It is written when a check begins: the time before it and after it is no function's.
+        if file.startswith("rattle-last-used"):
+            before = None
+            continue
         name = re.sub(r"^Rattle-\w+-(proofs|specs)\.|\.oantt$|\.decls(?=\.oantt)", "", file)
         part = re.search(PARTS, name)
         if before is not None and written - before < LONGEST:
