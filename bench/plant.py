@@ -1,0 +1,51 @@
+#!/usr/bin/env python3
+"""`rt plant` with time for large crates: in a crate's folder,
+
+    ../../bench/plant.py [SECONDS] WORDS ..   `rt plant WORDS ..`, of which each batch of wrong bodies gets that many seconds, 1,500 if left out
+
+rt gives a batch of forty bodies four minutes, and then halves it, so that of a crate whose functions take minutes hardly a body is
+judged. Here a batch has twelve. What each body came to is told on standard error at once, with the time since the start, so that a run
+which is cut off has still shown something. The libraries below the crate have to stand built, as `bench/kit.py all check` leaves them:
+rt plant knows nothing of what other checkouts built."""
+import importlib.machinery
+import os
+import sys
+import time
+import types
+
+sys.dont_write_bytecode = True
+sys.path.insert(0, os.path.dirname(os.path.abspath(__file__)))
+import kit
+
+
+def planter():
+    """The script `rt-plant` beside the `rt` that the shell would run, with the kit's `rt` of this repository."""
+    path = os.path.join(os.path.dirname(os.path.realpath(kit.rt().__file__)), "rt-plant")
+    made = types.ModuleType("rt_plant")
+    made.__file__ = path
+    importlib.machinery.SourceFileLoader("rt_plant", path).exec_module(made)
+    crate = made.rt.Crate
+    if hasattr(crate, "stamp"):
+        crate.stamp = kit.once_each(crate.stamp)
+    crate.front_end = lambda it: 0
+    return made
+
+
+def main(words):
+    made, begun = planter(), time.monotonic()
+    made.SECONDS = int(words.pop(0)) if words[:1] and words[0].isdigit() else 1500
+    made.BATCH = 12
+    usual = made.read
+
+    def read(plants, said):
+        usual(plants, said)
+        for it in plants:
+            why = f"  ({it.why})" * bool(it.why)
+            print(f"{time.monotonic() - begun:6.0f} s  {it.kind:<10}  {it.f.shown}: {{ {it.body} }}{why}", file=sys.stderr, flush=True)
+
+    made.read = read
+    return made.main(*words)
+
+
+if __name__ == "__main__":
+    sys.exit(main(sys.argv[1:]))
