@@ -1,6 +1,6 @@
 //! The refusals of a line.
 ghost use Rattle.std.specs.Prelude.{◌≡◌};
-ghost use Rattle.algo_reader.specs.Given.{IsStop, stop, Adds, Has};
+ghost use Rattle.algo_reader.specs.Given.{IsStop, stop, Adds};
 ghost use Rattle.syn_base.specs.Limits.{bound_of};
 ghost use Rattle.algo_text.specs.Blocks.{is_above};
 ghost use Rattle.algo_defs.specs.declared.fault.AlgoCause.TheVariants.{NotText, BadLine, BadName, BadNumber, BadExpression, DuplicateName, UnknownName, BadDelay};

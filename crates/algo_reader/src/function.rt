@@ -8,11 +8,12 @@ ghost use Rattle.algo_reader.specs.Views.{function_view, function_def};
 use crate::fault::{bad_line, duplicate, push};
 use crate::formula::read_formula;
 use crate::ports::{Ports, read_port};
-use crate::words::Words;
+use crate::word::line_words;
 use algo_defs::{AlgoError, Body, Def, Output};
 use algo_text::Part;
 use std::alloc::Global;
 use syn_base::{Items, Name};
+use text_lines::Words;
 
 /// The lines of a function so far.
 #[derive(Drop)]
@@ -137,7 +138,7 @@ impl FunctionBlock {
         let Some(at) = equals_in(code) else {
             return Err(bad_line(number));
         };
-        let words = Words::of(alloc, &code[..at])?;
+        let words = line_words(alloc, &code[..at])?;
         self.result_words(alloc, number, &words, after(code, at + 1))
     }
 }

@@ -1,6 +1,5 @@
 //! The lines of a graph.
-ghost use Rattle.std.specs.Prelude.{◌≡◌, ◌≤◌, IsTrue, map, true, length};
-ghost use Rattle.syn_base.specs.Name.{is_name};
+ghost use Rattle.std.specs.Prelude.{◌≡◌, ◌≤◌, map, true, length};
 ghost use Rattle.algo_defs.specs.Words.{is_among};
 ghost use Rattle.algo_text.specs.Blocks.{in_line, out_line, reference_of, with_reference, plain_line, marked_line, reference_line, edge_line, is_taken, new_block};
 ghost use Rattle.algo_reader.specs.Given.{Makes, Steps};
@@ -9,11 +8,11 @@ ghost use Rattle.algo_reader.specs.Views.{graph_view, graph_def};
 use crate::fault::{above, bad_line, bad_name, bad_number, duplicate, is_above, push};
 use crate::ports::{Ports, read_port};
 use crate::word::{line_name, read_end, read_period};
-use crate::words::Words;
 use algo_defs::{AlgoError, Body, Def, Edge, Reference};
 use algo_text::Part;
 use std::alloc::Global;
 use syn_base::{Items, LimitKind, Name};
+use text_lines::Words;
 
 /// The lines of a graph so far.
 #[derive(Drop)]

@@ -14,6 +14,5 @@ mod repetition;
 mod switch;
 mod values;
 mod word;
-mod words;
 
 pub use reader::read_algo;

@@ -7,12 +7,12 @@ ghost use Rattle.algo_reader.specs.Lines.{port_of};
 
 use crate::fault::{above, bad_number, is_above, push};
 use crate::word::{line_name, read_count};
-use crate::words::Words;
 use algo_defs::AlgoError;
 use body_lang::Port;
 use std::alloc::Global;
 use std::marker::Model;
 use syn_base::{Items, LimitKind};
+use text_lines::Words;
 
 /// Ports up to their bound, seen as their list.
 #[derive(Drop)]

@@ -13,13 +13,13 @@ use crate::names::add_new;
 use crate::repetition::RepeatBlock;
 use crate::switch::SwitchBlock;
 use crate::values::{delay_depth, read_values};
-use crate::word::{begins, line_name, read_count, read_version};
-use crate::words::Words;
+use crate::word::{begins, line_name, line_words, read_count, read_version};
 use algo_defs::{AlgoError, Body, Def, Defs};
 use name_table::Names;
 use std::alloc::Global;
 use std::mem;
 use syn_base::{Items, LimitKind, Name};
+use text_lines::Words;
 
 /// A kind of block that its first line only names.
 #[derive(Clone, Copy, Drop)]
@@ -336,7 +336,9 @@ impl<'a> Reader<'a> {
         words: &Words,
         block: FunctionBlock,
     ) -> Result<(), AlgoError>
-        ensures { Steps result (reading self.new) (settle (function_end (record (reading self.old) { stage = in_function; block = function_view block }) number words.now)) }
+        ensures { Steps result (reading self.new)
+            (settle (function_end (record (reading self.old)
+            { stage = in_function; block = function_view block }) number words.now)) }
     {
         if words.len() != 1 || block.results.as_slice().is_empty() {
             return Err(bad_line(number));
@@ -346,7 +348,9 @@ impl<'a> Reader<'a> {
 
     /// `end`
     fn graph_end(&mut self, number: u32, words: &Words, block: GraphBlock) -> Result<(), AlgoError>
-        ensures { Steps result (reading self.new) (settle (graph_end (record (reading self.old) { stage = in_graph; block = graph_view block }) number words.now)) }
+        ensures { Steps result (reading self.new)
+            (settle (graph_end (record (reading self.old)
+            { stage = in_graph; block = graph_view block }) number words.now)) }
     {
         if words.len() != 1 {
             return Err(bad_line(number));
@@ -361,7 +365,9 @@ impl<'a> Reader<'a> {
         words: &Words,
         block: SwitchBlock,
     ) -> Result<(), AlgoError>
-        ensures { Steps result (reading self.new) (settle (switch_end (record (reading self.old) { stage = in_switch; block = switch_view block }) number words.now)) }
+        ensures { Steps result (reading self.new)
+            (settle (switch_end (record (reading self.old)
+            { stage = in_switch; block = switch_view block }) number words.now)) }
     {
         if words.len() != 1 {
             return Err(bad_line(number));
@@ -379,7 +385,9 @@ impl<'a> Reader<'a> {
         words: &Words,
         block: RepeatBlock,
     ) -> Result<(), AlgoError>
-        ensures { Steps result (reading self.new) (settle (repeat_end (record (reading self.old) { stage = in_repeat; block = repeat_view block }) number words.now)) }
+        ensures { Steps result (reading self.new)
+            (settle (repeat_end (record (reading self.old)
+            { stage = in_repeat; block = repeat_view block }) number words.now)) }
     {
         if words.len() != 1 {
             return Err(bad_line(number));
@@ -389,7 +397,8 @@ impl<'a> Reader<'a> {
 
     /// `end`: the open block becomes a definition.
     fn end_block(&mut self, number: u32, words: &Words) -> Result<(), AlgoError>
-        ensures { Steps result (reading self.new) (settle (any_end (stage_of self.old.place) (reading self.old) number words.now)) }
+        ensures { Steps result (reading self.new)
+            (settle (any_end (stage_of self.old.place) (reading self.old) number words.now)) }
     {
         match mem::replace(&mut self.place, Place::Between) {
             Place::InFunction(block) => self.function_end(number, words, block),
@@ -521,7 +530,9 @@ impl<'a> Reader<'a> {
         code: &[u8],
     ) -> Result<(), AlgoError>
         requires { 0 < length words.now }
-        ensures { Steps result (reading self.new) (settle (by_stage (stage_of self.old.place) (reading self.old) number words.now code.now)) }
+        ensures { Steps result (reading self.new)
+            (settle (by_stage (stage_of self.old.place) (reading self.old) number words.now
+            code.now)) }
     {
         match &self.place {
             Place::BeforeVersion => self.version_line(number, words),
@@ -541,7 +552,7 @@ impl<'a> Reader<'a> {
             return Err(not_text(number, place));
         }
         let code = text_lines::code(line);
-        let words = Words::of(alloc, code)?;
+        let words = line_words(alloc, code)?;
         if words.len() == 0 {
             return Ok(());
         }

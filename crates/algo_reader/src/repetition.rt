@@ -10,10 +10,10 @@ ghost use Rattle.algo_reader.specs.Views.{repeat_view, repeat_def, with_line};
 
 use crate::fault::{above, bad_line, duplicate, is_above, push};
 use crate::word::line_name;
-use crate::words::Words;
 use algo_defs::{AlgoError, Body, Def, Frontier, FrontierLine};
 use std::alloc::Global;
 use syn_base::{Items, LimitKind, Name};
+use text_lines::Words;
 
 /// The lines of a repetition so far.
 #[derive(Drop)]
@@ -80,7 +80,9 @@ impl RepeatBlock {
 
     /// Whether a line that gives this one port of the repetition may follow, or why not.
     fn check_port(&self, alloc: Global, number: u32, outer: &[u8]) -> Result<(), AlgoError>
-        ensures { (frontier : Frontier) → outer_names frontier ≡ outer.now ∷ [] → Steps result (with_line (repeat_view self.now) number frontier) (with_frontier (repeat_view self.now) number frontier) }
+        ensures { (frontier : Frontier) → outer_names frontier ≡ outer.now ∷ [] →
+            Steps result (with_line (repeat_view self.now) number frontier)
+            (with_frontier (repeat_view self.now) number frontier) }
     {
         let count = self.frontier.len() as u128 + 1;
         if is_above(LimitKind::Ports, count) {
@@ -100,7 +102,9 @@ impl RepeatBlock {
         outer: &[u8],
         last: &[u8],
     ) -> Result<(), AlgoError>
-        ensures { (frontier : Frontier) → outer_names frontier ≡ outer.now ∷ last.now ∷ [] → Steps result (with_line (repeat_view self.now) number frontier) (with_frontier (repeat_view self.now) number frontier) }
+        ensures { (frontier : Frontier) → outer_names frontier ≡ outer.now ∷ last.now ∷ [] →
+            Steps result (with_line (repeat_view self.now) number frontier)
+            (with_frontier (repeat_view self.now) number frontier) }
     {
         let count = self.frontier.len() as u128 + 1;
         if is_above(LimitKind::Ports, count) {

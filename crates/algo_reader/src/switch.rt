@@ -9,11 +9,11 @@ ghost use Rattle.algo_reader.specs.Views.{switch_view, switch_def, part_of, on_o
 use crate::fault::{above, bad_line, bad_number, duplicate, is_above, push};
 use crate::ports::{Ports, read_port};
 use crate::word::{line_name, read_number};
-use crate::words::Words;
 use algo_defs::{AlgoError, Body, Case, Def};
 use algo_text::Part;
 use std::alloc::Global;
 use syn_base::{Items, LimitKind, Name};
+use text_lines::Words;
 
 /// The part of a conditioned definition after its line `on` in which the last line stands.
 #[derive(Drop)]
@@ -89,7 +89,9 @@ impl SwitchBlock {
 
     /// The definition that the lines are, once the line `otherwise` was read.
     pub fn into_def(self) -> Option<Def>
-        ensures { MatchOption result (is_whole (switch_view self).part ≡ false) (λ def. (is_whole (switch_view self).part ≡ true) × (def ≡ switch_def (switch_view self))) }
+        ensures { MatchOption result (is_whole (switch_view self).part ≡ false)
+            (λ def. (is_whole (switch_view self).part ≡ true) ×
+            (def ≡ switch_def (switch_view self))) }
     {
         let (Some(on), SwitchPart::Whole(otherwise, otherwise_line)) = (self.on, self.part) else {
             return None;

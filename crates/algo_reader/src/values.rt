@@ -6,10 +6,10 @@ ghost use Rattle.algo_reader.specs.Given.{MakesList, Steps};
 
 use crate::fault::{above, bad_delay, bad_number, is_above, push};
 use crate::word::read_number;
-use crate::words::Words;
 use algo_defs::AlgoError;
 use std::alloc::Global;
 use syn_base::LimitKind;
+use text_lines::Words;
 
 /// The numbers that the words are from one on, or the first word that is none.
 pub fn read_values(

@@ -3,16 +3,27 @@ ghost use Rattle.std.specs.Prelude.{◌≡◌, ◌<◌, Some, None, IfOk, MatchO
 ghost use Rattle.std.specs.List.{before_first, after_first};
 ghost use Rattle.std.specs.Str.{bytes_eq};
 ghost use Rattle.syn_base.specs.Name.{is_name};
-ghost use Rattle.algo_reader.specs.Given.{GivesSome, IsNamed};
+ghost use Rattle.algo_reader.specs.Given.{GivesSome, Has, IsNamed};
 ghost use Rattle.algo_reader.specs.Lines.{some_name};
 ghost use Rattle.algo_text.specs.Words.{number_of, count_of, period_of, end_of, is_dot};
 ghost use Rattle.algo_text.specs.Text.{version_of};
+ghost use Rattle.text_lines.specs.Text.{words_of};
 
 use crate::fault::bad_name;
-use crate::words::Words;
 use algo_defs::{AlgoError, End};
 use std::alloc::Global;
 use syn_base::{Name, NameFault, read_int};
+use text_lines::Words;
+
+/// The words of a line without comment.
+pub fn line_words<'a>(alloc: Global, code: &'a [u8]) -> Result<Words<'a>, AlgoError>
+    ensures { Has result (words_of code.now) }
+{
+    match Words::of(alloc, code) {
+        Ok(words) => Ok(words),
+        Err(_) => Err(AlgoError::OutOfMemory),
+    }
+}
 
 /// The name that a word is, or none where it is no name.
 pub fn read_name(alloc: Global, w: &[u8]) -> Result<Option<Name>, AlgoError>

@@ -11,7 +11,7 @@ use Rattle.archi_graph.specs.Routes.{AreOperators}
 use Rattle.archi_defs.specs.declared.fault.ArchiError.{ArchiError}
 use Rattle.archi_defs.specs.declared.fault.ArchiError.TheVariants.{Refused, Limit, OutOfMemory}
 use Rattle.archi_defs.specs.declared.fault.ArchiCause.TheVariants.{BadMedium, Disconnected}
-use Rattle.archi_defs.specs.Text.{Reading, has_stands, media_are_right, no_medium, refused, apart, all_joined, operator_name, whole_of, whole, described}
+use Rattle.archi_defs.specs.Text.{Reading, has_stands, media_are_right, no_medium, refused, apart, all_joined, operator_name, whole, described}
 use Rattle.archi_reader.specs.Given.{Fails, IsStop}
 use Rattle.archi_reader.specs.Views.{IsSound, is_begun}
 use Rattle.archi_reader.proofs.Places.{further, first_or, position_cons, all_pass}

@@ -1,7 +1,5 @@
 //! The durations of a text, each definition and operator once.
-ghost use Rattle.std.specs.Prelude.{◌≡◌, ◌<◌, ◌&&◌, ◌==◌, [], ◌∷◌, ◌++◌, IfOk, OnOk, OnErr, length};
-ghost use Rattle.std.specs.List.{list_any};
-ghost use Rattle.std.specs.Str.{bytes_eq};
+ghost use Rattle.std.specs.Prelude.{◌≡◌, ◌<◌, []};
 ghost use Rattle.archi_reader.specs.Given.{Adds, Has};
 ghost use Rattle.archi_reader.specs.Durations.{is_given, AreGiven};
 

@@ -7,6 +7,9 @@ ghost use Rattle.archi_reader.specs.Canonical.{canonical_text, depth_lines};
 /// The canonical text of what a text describes says the same, in no more lines; but it always has the line of
 /// the depth where the text is of version 2.
 pub fn one_canonical_text()
-    ensures same { (text : Bytes) (d : Described) → description_of text ≡ Ok d → description_of (canonical_text d) ≡ Ok d }
-    ensures lines { (text : Bytes) (d : Described) → description_of text ≡ Ok d → length (lines_of (canonical_text d)) ≤ length (lines_of text) + length (depth_lines d.version d.archi.depth) }
+    ensures same { (text : Bytes) (d : Described) → description_of text ≡ Ok d →
+        description_of (canonical_text d) ≡ Ok d }
+    ensures lines { (text : Bytes) (d : Described) → description_of text ≡ Ok d →
+        length (lines_of (canonical_text d)) ≤ length (lines_of text) +
+        length (depth_lines d.version d.archi.depth) }
 {}

@@ -14,7 +14,6 @@ mod reader;
 mod stands;
 mod whole;
 mod word;
-mod words;
 
 pub use archi_defs::{ArchiCause, ArchiError, ArchiFault, ArchiText, DurationLine};
 pub use laws::one_canonical_text;

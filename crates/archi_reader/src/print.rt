@@ -1,5 +1,5 @@
 //! Printing the canonical text.
-ghost use Rattle.std.specs.Prelude.{◌≡◌, ◌++◌, [], ◌∷◌, OnOk, OnErr, IfOk, List, map, slice_index_or};
+ghost use Rattle.std.specs.Prelude.{◌≡◌, ◌++◌, [], ◌∷◌, OnOk, OnErr, IfOk, map};
 ghost use Rattle.std.specs.List.{flat_map};
 ghost use Rattle.archi_defs.specs.Text.{described_by};
 ghost use Rattle.archi_reader.specs.Canonical.{canonical_text, joined, text_of, number, depth_lines, opening_lines, operator_words, version_word, kind_word, medium_words, name_at, connect_words, connections_of, duration_words};
@@ -120,7 +120,8 @@ fn print_connections(
     media: &[Medium],
     text: &mut Vec<u8>,
 ) -> Result<(), OutOfMemory>
-    ensures { OnOk result (text.new.items ≡ text.old.items ++ text_of (flat_map (connections_of operators.now) media.now)) }
+    ensures { OnOk result (text.new.items ≡ text.old.items ++
+        text_of (flat_map (connections_of operators.now) media.now)) }
 {
     for medium in media {
         print_connections_of(operators, medium, text)?;
@@ -144,7 +145,8 @@ fn print_stands(
     stands: &[u32],
     text: &mut Vec<u8>,
 ) -> Result<(), OutOfMemory>
-    ensures { OnOk result (text.new.items ≡ text.old.items ++ text_of (map (connect_words operators.now medium.now) stands.now)) }
+    ensures { OnOk result (text.new.items ≡ text.old.items ++
+        text_of (map (connect_words operators.now medium.now) stands.now)) }
 {
     for operator in stands {
         print_connection(operators, medium, *operator, text)?;
@@ -170,7 +172,8 @@ fn print_connection(
     operator: u32,
     text: &mut Vec<u8>,
 ) -> Result<(), OutOfMemory>
-    ensures { OnOk result (text.new.items ≡ text.old.items ++ text_of (connect_words operators.now medium.now operator ∷ [])) }
+    ensures { OnOk result (text.new.items ≡ text.old.items ++
+        text_of (connect_words operators.now medium.now operator ∷ [])) }
 {
     put(b"connect ", text)?;
     put(medium.as_bytes(), text)?;
@@ -184,7 +187,8 @@ fn print_durations(
     durations: &[DurationLine],
     text: &mut Vec<u8>,
 ) -> Result<(), OutOfMemory>
-    ensures { OnOk result (text.new.items ≡ text.old.items ++ text_of (map (duration_words operators.now) durations.now)) }
+    ensures { OnOk result (text.new.items ≡ text.old.items ++
+        text_of (map (duration_words operators.now) durations.now)) }
 {
     for duration in durations {
         print_duration(operators, duration, text)?;
@@ -197,7 +201,8 @@ fn print_duration(
     duration: &DurationLine,
     text: &mut Vec<u8>,
 ) -> Result<(), OutOfMemory>
-    ensures { OnOk result (text.new.items ≡ text.old.items ++ text_of (duration_words operators.now duration.now ∷ [])) }
+    ensures { OnOk result (text.new.items ≡ text.old.items ++
+        text_of (duration_words operators.now duration.now ∷ [])) }
 {
     put(b"duration ", text)?;
     put(duration.def.as_bytes(), text)?;

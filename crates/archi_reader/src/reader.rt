@@ -1,5 +1,5 @@
 //! The lines of a text, one after the other.
-ghost use Rattle.std.specs.Prelude.{◌≡◌, ◌<◌, ◌≤◌, length, map};
+ghost use Rattle.std.specs.Prelude.{◌<◌, ◌≤◌, length};
 ghost use Rattle.text_lines.specs.Text.{lines_of};
 ghost use Rattle.archi_defs.specs.Text.{description_of, start, version_line, operator_line, medium_line, connect_line, duration_line, depth_line, connected, described_line, next_line};
 ghost use Rattle.archi_reader.specs.Given.{Steps, Gives, MakesReader};
@@ -11,12 +11,12 @@ use crate::fault::{
 };
 use crate::names::{is_taken, medium_at, operator_at};
 use crate::stands::{has_stand, with_stand};
-use crate::word::{begins, read_depth, read_name, read_up_to, read_version};
-use crate::words::Words;
+use crate::word::{begins, line_words, read_depth, read_name, read_up_to, read_version};
 use archi_defs::{ArchiError, ArchiText};
 use archi_graph::Medium;
 use std::alloc::Global;
 use syn_base::{Items, LimitKind, Name};
+use text_lines::Words;
 
 /// The most ticks of a transfer, fixed and for each element.
 const MOST_TRANSFER_TICKS: u32 = 1_000_000;
@@ -278,7 +278,7 @@ impl<'a> Reader<'a> {
         if let Some(place) = text_lines::foreign(line) {
             return Err(not_text(number, place));
         }
-        let words = Words::of(alloc, text_lines::code(line))?;
+        let words = line_words(alloc, text_lines::code(line))?;
         if words.len() == 0 {
             return Ok(());
         }

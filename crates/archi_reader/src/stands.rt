@@ -1,5 +1,5 @@
 //! The operators that stand at a medium.
-ghost use Rattle.std.specs.Prelude.{◌≡◌, ◌≤◌, ◌==◌, length, nat_lt, position, IfOk};
+ghost use Rattle.std.specs.Prelude.{◌≡◌, ◌≤◌, ◌==◌, length, nat_lt, position};
 ghost use Rattle.std.specs.List.{list_any, position_or_len};
 ghost use Rattle.archi_defs.specs.Text.{with_stand};
 ghost use Rattle.archi_reader.specs.Given.{Has};

@@ -1,16 +1,27 @@
 //! What the words of a line are.
-ghost use Rattle.std.specs.Prelude.{◌≡◌, ◌<◌, ◌≤◌, IfOk, MatchOption, true, false, length, slice_index_or, []};
+ghost use Rattle.std.specs.Prelude.{◌≡◌, ◌<◌, IfOk, MatchOption, true, false, length, slice_index_or, []};
 ghost use Rattle.std.specs.Str.{bytes_eq};
 ghost use Rattle.syn_base.specs.Name.{is_name};
 ghost use Rattle.syn_base.specs.Integer.{integer_of};
 ghost use Rattle.archi_defs.specs.Text.{depth_of, up_to, version_of};
-ghost use Rattle.archi_reader.specs.Given.{GivesSome};
+ghost use Rattle.text_lines.specs.Text.{words_of};
+ghost use Rattle.archi_reader.specs.Given.{GivesSome, Has};
 ghost use Rattle.archi_reader.specs.Views.{some_name};
 
-use crate::words::Words;
 use archi_defs::ArchiError;
 use std::alloc::Global;
 use syn_base::{Name, NameFault, read_int};
+use text_lines::Words;
+
+/// The words of a line without comment.
+pub fn line_words<'a>(alloc: Global, code: &'a [u8]) -> Result<Words<'a>, ArchiError>
+    ensures { Has result (words_of code.now) }
+{
+    match Words::of(alloc, code) {
+        Ok(words) => Ok(words),
+        Err(_) => Err(ArchiError::OutOfMemory),
+    }
+}
 
 /// The name that a word is, or none where it is no name.
 pub fn read_name(alloc: Global, w: &[u8]) -> Result<Option<Name>, ArchiError>

@@ -2,15 +2,18 @@
 //!
 //! Lines end at a line feed; the last line may lack one. Tab, carriage return and space are blanks.
 //! From `#` on a line is comment. `line_end` finds the end of a line, `code` cuts off its comment,
-//! `foreign` finds a byte that may not stand there, and `spans` cuts it into words.
+//! `foreign` finds a byte that may not stand there, and `Words` are its words.
 #![tactic(auto)]
 
-ghost use Rattle.std.specs.Prelude.{◌≡◌, ℕ, ◌+◌, ◌<◌, ◌≤◌, length, drop, take, map, None, Some, MatchResult, IfOk, All, position};
+mod words;
+
+ghost use Rattle.std.specs.Prelude.{◌≡◌, ◌+◌, ◌<◌, ◌≤◌, length, drop, map, None, Some, IfOk, All, position};
 ghost use Rattle.std.specs.List.{position_or_len};
 ghost use Rattle.text_lines.specs.Text.{is_feed, is_blank, is_foreign, is_hash, code_of, foreign_place, words_of, text_at, IsWithin};
 
 use std::alloc::Global;
 use syn_base::OutOfMemory;
+pub use words::Words;
 
 /// A part of a line, from a place up to another.
 #[derive(Clone, Copy, Drop)]
@@ -105,8 +108,8 @@ pub fn foreign(line: &[u8]) -> Option<usize>
     foreign_in(code(line))
 }
 
-/// The words of a line without comment.
-pub fn spans(alloc: Global, code: &[u8]) -> Result<Vec<Span>, OutOfMemory>
+/// Where the words of a line without comment stand.
+fn spans(alloc: Global, code: &[u8]) -> Result<Vec<Span>, OutOfMemory>
     ensures read { IfOk result (λ v. map (text_at code.now) v.items ≡ words_of code.now) }
     ensures within { IfOk result (λ v. All (IsWithin (length code.now)) v.items) }
 {

@@ -1,12 +1,11 @@
 //! The words of a line.
-ghost use Rattle.std.specs.Prelude.{◌≡◌, ◌<◌, List, ℕ, map, length, slice_index_or, [], All};
+ghost use Rattle.std.specs.Prelude.{◌≡◌, ◌<◌, List, ℕ, map, length, slice_index_or, [], All, IfOk};
 ghost use Rattle.text_lines.specs.Text.{text_at, IsWithin, words_of};
-ghost use Rattle.archi_reader.specs.Given.{Has};
 
-use archi_defs::ArchiError;
+use crate::{Span, spans};
 use std::alloc::Global;
 use std::marker::Model;
-use text_lines::Span;
+use syn_base::OutOfMemory;
 
 /// The words of a line, seen as their bytes.
 #[derive(Drop)]
@@ -28,13 +27,13 @@ impl<'a> Model for Words<'a> {
 
 impl<'a> Words<'a> {
     /// The words of a line without comment.
-    pub fn of(alloc: Global, code: &'a [u8]) -> Result<Words<'a>, ArchiError>
-        ensures { Has result (words_of code.now) }
+    pub fn of(alloc: Global, code: &'a [u8]) -> Result<Words<'a>, OutOfMemory>
+        ensures { IfOk result (λ words. words ≡ words_of code.now) }
     {
-        match text_lines::spans(alloc, code) {
-            Ok(spans) => Ok(Words { line: code, spans }),
-            Err(_) => Err(ArchiError::OutOfMemory),
-        }
+        Ok(Words {
+            line: code,
+            spans: spans(alloc, code)?,
+        })
     }
 
     /// How many words there are.
