@@ -1,4 +1,4 @@
+pub mod Makes
 pub mod Made
 pub mod Stages
 pub mod Meaning
-pub mod Makes

@@ -9,6 +9,7 @@ use Rattle.outside.specs.declared.file.File.{File}
 use Rattle.command_plan.specs.Plan.{Plan, give, refuse, read, outcome, ReadsOnly, GivesOnly}
 use Rattle.command_plan.specs.Ending.{Ending, done, refused, unread, unwritten, no_memory}
 use Rattle.command_plan.specs.Run.{Gives, FailsToRead, Makes, gives, refuses, not_read, was_read}
+use Rattle.command_plan.proofs.Makes.{only_asked}
 
 -- what was made is what is defined, or a file's count rose, or memory ran out
 pub data Made {R A : Type 0} (names : File → Option Bytes) (old new : Held) (plan : Plan R A) : Result A (Ending R) → Type 0 where
@@ -36,12 +37,12 @@ module _ {R A : Type 0} where
   made_on names old new plan plan' _ h wanting = wanting
 
   given_thing : (names : File → Option Bytes) (old new : Held) (a : A) (made : Result A (Ending R)) → Gives old new (Ok a) made → Made names old new (give a) made
-  given_thing names old new a made (inl e) = subst (λ r. Made names old new (give a) r) (sym e.0) (thing_made a (λ o p. same_some _ _ p))
-  given_thing names old new a made (inr e) = subst (λ r. Made names old new (give a) r) (sym e) wanting
+  given_thing names old new a made (inl e, same) = subst (λ r. Made names old new (give a) r) (sym e) (thing_made a (λ o p. same_some _ _ p))
+  given_thing names old new a made (inr e, same) = subst (λ r. Made names old new (give a) r) (sym e) wanting
 
   given_refusal : (names : File → Option Bytes) (old new : Held) (r : R) (made : Result A (Ending R)) → Gives old new (Err (refused r)) made → Made names old new (refuse r) made
-  given_refusal names old new r made (inl e) = subst (λ x. Made names old new (refuse r) x) (sym e.0) (refusal_made r (λ o p. same_some _ _ p))
-  given_refusal names old new r made (inr e) = subst (λ x. Made names old new (refuse r) x) (sym e) wanting
+  given_refusal names old new r made (inl e, same) = subst (λ x. Made names old new (refuse r) x) (sym e) (refusal_made r (λ o p. same_some _ _ p))
+  given_refusal names old new r made (inr e, same) = subst (λ x. Made names old new (refuse r) x) (sym e) wanting
 
   -- a file that is told and read is short
   read_on : (next : Bytes → Option (Result A R)) (refusal : R) (told : Option Bytes) (bytes : Bytes) (o : Result A R) → length bytes ≤ file_bound → IfSome told (λ b. bytes ≡ b)
@@ -99,11 +100,25 @@ module _ {R A : Type 0} where
       made_on names old new (next bytes) (read file name long next) made (λ o e. read_on (λ b. outcome old.told (next b)) long (old.told name) bytes o is.0.0 is.0.1 e)
       (made_before names old between new (next bytes) made is.1 (made_of names between new (next bytes) made (only.1 bytes) m))
 
+-- a file that is named is none that is not
+apart : {A : Type 0} (o : Option A) (a : A) → o ≡ Some a → o ≡ None → ⊥
+apart o a e n = cc
+
+-- The counts of files that are not named stay.
+pub unnamed_so : {R A : Type 0} (names : File → Option Bytes) (old new : Held) (plan : Plan R A) (made : Result A (Ending R)) → ReadsOnly names plan → Makes old new plan made
+    → (file : File) (name : Bytes) → names file ≡ None → new.faults file name ≡ old.faults file name
+unnamed_so names old new (give a) made only (gives g) file name e = g.1 file name
+unnamed_so names old new (refuse r) made only (refuses g) file name e = g.1 file name
+unnamed_so names old new (read asked given long next) _ only (not_read {ending = s} f) file name e =
+    only_asked asked given long old new s f file name (λ same. apart (names asked) given only.0 (ap names (sym same) ∙ e))
+unnamed_so names old new (read asked given long next) made only (was_read between bytes is m) file name e =
+    unnamed_so names between new (next bytes) made (only.1 bytes) m file name e ∙ is.2 file name (λ same. apart (names asked) given only.0 (ap names (sym same) ∙ e))
+
 -- what was given is something that the plan may give
 pub only_made : {R A : Type 0} (old new : Held) (P : A → Type 0) (plan : Plan R A) (made : Result A (Ending R)) (a : A) → made ≡ Ok a → GivesOnly P plan → Makes old new plan made → P a
-only_made old new P (give b) made a e h (gives (inl g)) = let same : b ≡ a = let q : Ok b ≡ Ok a = sym g.0 ∙ e in cc in subst P same h
-only_made old new P (give b) made a e h (gives (inr g)) = let q : Err no_memory ≡ Ok a = sym g ∙ e in cc
-only_made old new P (refuse r) made a e h (refuses (inl g)) = let q : Err (refused r) ≡ Ok a = sym g.0 ∙ e in cc
-only_made old new P (refuse r) made a e h (refuses (inr g)) = let q : Err no_memory ≡ Ok a = sym g ∙ e in cc
+only_made old new P (give b) made a e h (gives (inl g, stay)) = let same : b ≡ a = let q : Ok b ≡ Ok a = sym g ∙ e in cc in subst P same h
+only_made old new P (give b) made a e h (gives (inr g, stay)) = let q : Err no_memory ≡ Ok a = sym g ∙ e in cc
+only_made old new P (refuse r) made a e h (refuses (inl g, stay)) = let q : Err (refused r) ≡ Ok a = sym g ∙ e in cc
+only_made old new P (refuse r) made a e h (refuses (inr g, stay)) = let q : Err no_memory ≡ Ok a = sym g ∙ e in cc
 only_made old new P (read file name long next) _ a e h (not_read {ending = s} f) = let q : Err s ≡ Ok a = e in cc
 only_made old new P (read file name long next) made a e h (was_read between bytes is m) = only_made between new P (next bytes) made a e (h bytes) m

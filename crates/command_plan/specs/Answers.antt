@@ -1,5 +1,5 @@
 -- What an ending means.
-use Rattle.std.specs.Prelude.{◌≡◌, ◌≤◌, ◌⊎◌, List, [], length, Option, Some, Result, Ok, Err, IsOkAnd, IsSomeAnd}
+use Rattle.std.specs.Prelude.{◌≡◌, ◌≤◌, ◌⊎◌, List, [], length, Option, Some, None, Result, Ok, Err, IsOkAnd, IsSomeAnd}
 use Rattle.outside.specs.Bytes.{Bytes}
 use Rattle.outside.specs.Faults.{Rose}
 use Rattle.outside.specs.Shelf.{Held}
@@ -14,6 +14,10 @@ use Rattle.command_plan.specs.Run.{Ran}
 abbrev pub NoFault : (File → Option Bytes) → Held → Held → Type 0
 NoFault names held held' = (file : File) (name : Bytes) → names file ≡ Some name → ¬ Rose (held.faults file name) (held'.faults file name)
 
+-- no count changed of a file that the words do not name
+abbrev pub UnnamedStay : (File → Option Bytes) → Held → Held → Type 0
+UnnamedStay names held held' = (file : File) (name : Bytes) → names file ≡ None → held'.faults file name ≡ held.faults file name
+
 module _ {A J : Type 0} (stages : A → List (Stage J)) where
   -- it is written by one call, and no job is run for it
   abbrev pub IsOnce : A → Type 0
@@ -27,6 +31,8 @@ module _ {R A J D : Type 0} (leaves : J → D → D) (stages : A → List (Stage
   pub record Answers (plan : Plan R A) (names : File → Option Bytes) (held held' : Held) (sunk sunk' : Sunk) (driven driven' : D) (ending : Ending R) : Type 0 where
     -- the plan was carried out, over the bytes that were read, told or not
     pub ran : Ran leaves stages plan held held' sunk sunk' driven driven' ending
+    -- only files that the words name were asked for
+    pub unnamed_stay : UnnamedStay names held held'
     -- done: the text that is defined was appended, and all jobs were run
     pub done_means : ending ≡ done → (o : Result A R) → outcome held.told plan ≡ Some o
         → IsOkAnd o (λ a. Appends sunk sunk' (text_of (stages a)) × (driven' ≡ after_jobs leaves (jobs_of (stages a)) driven))

@@ -13,9 +13,9 @@ use Rattle.command_plan.specs.Ending.{Ending, done, refused, unread, unwritten, 
 abbrev pub SameFaults : Held → Held → Type 0
 SameFaults old new = (file : File) (name : Bytes) → new.faults file name ≡ old.faults file name
 
--- this answer, and no count changed; or want of memory in its place
+-- this answer, or want of memory in its place, and no count changed
 abbrev pub Gives : {R A : Type 0} → Held → Held → Result A (Ending R) → Result A (Ending R) → Type 0
-Gives old new answer made = ((made ≡ answer) × SameFaults old new) ⊎ (made ≡ Err no_memory)
+Gives old new answer made = ((made ≡ answer) ⊎ (made ≡ Err no_memory)) × SameFaults old new
 
 -- these bytes of a file were read, and no other file was asked for
 abbrev pub WasRead : File → Bytes → Held → Held → Bytes → Type 0
@@ -26,11 +26,11 @@ abbrev pub FailsToRead : {R : Type 0} → File → Bytes → R → Held → Held
 FailsToRead file name too_long old new (unread named) = (named ≡ file) × Rose (old.faults file name) (new.faults file name) × OthersStay file old new
 FailsToRead file name too_long old new (refused refusal) =
     (refusal ≡ too_long) × IfSome (old.told name) (λ bytes. file_bound < length bytes) × OthersStay file old new
-FailsToRead file name too_long old new no_memory = Unit {0}
+FailsToRead file name too_long old new no_memory = OthersStay file old new
 FailsToRead file name too_long old new _ = ⊥
 
 -- What the plan may give of a shelf that goes from old to new: what is to be made, or why there is nothing. Each file is asked for in its
--- turn alone, so the counts of a file whose turn does not come stay as they are, unless memory runs out.
+-- turn alone, so the counts of a file whose turn does not come stay as they are.
 pub data Makes {R A : Type 0} : Held → Held → Plan R A → Result A (Ending R) → Type 0 where
   gives : {old new : Held} {a : A} {made : Result A (Ending R)} → Gives old new (Ok a) made → Makes old new (give a) made
   refuses : {old new : Held} {refusal : R} {made : Result A (Ending R)} → Gives old new (Err (refused refusal)) made → Makes old new (refuse refusal) made

@@ -27,7 +27,7 @@ module _ {X : Type 0} (held : Held) (answer : Result X ArchiError) (next : X →
   by_error : (e : ArchiError) → answer ≡ Err e → Makes held held (after of_architecture answer next) (Err (ending_of (status_of_architecture e)))
   by_error (error.Refused fault) is = after_err held of_architecture answer next (error.Refused fault) is
   by_error (error.Limit fault) is = after_err held of_architecture answer next (error.Limit fault) is
-  by_error error.OutOfMemory is = memory held held (after of_architecture answer next)
+  by_error error.OutOfMemory is = memory held (after of_architecture answer next)
 
 module _ (main : Vertex) (text : Bytes) (next : Described → Table → Made) where
   abbrev durations_behind : Described → Made
@@ -45,7 +45,7 @@ module _ (main : Vertex) (text : Bytes) (next : Described → Table → Made) wh
   pub refused_so : (held : Held) (e : ArchiError) → MakesArchitecture main text (Err e) → Makes held held behind (Err (ending_of (status_of_architecture e)))
   refused_so held (error.Refused fault) h = is_refused held (error.Refused fault) h
   refused_so held (error.Limit fault) h = is_refused held (error.Limit fault) h
-  refused_so held error.OutOfMemory h = memory held held behind
+  refused_so held error.OutOfMemory h = memory held behind
 
   pub described_so : (old new : Held) (architecture : Architecture) (made : Result Given (Ending Refusal)) → IsArchitecture main text architecture
       → Makes old new (next (described architecture.text) architecture.durations) made → Makes old new behind made

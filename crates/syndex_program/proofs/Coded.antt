@@ -28,7 +28,7 @@ use Rattle.macro_check.specs.Causes.{cause_of}
 use Rattle.word_rule.specs.Driven.{Driven, driven_by}
 use Rattle.command_plan.specs.Ending.{Ending, no_memory, refused}
 use Rattle.command_plan.specs.Run.{Makes, Ran, WasRead, refuses, was_read}
-use Rattle.command_plan.proofs.Makes.{after_err, after_ok, memory}
+use Rattle.command_plan.proofs.Makes.{after_err, after_ok, memory, wanting}
 use Rattle.command_status.specs.Status.{Refusal, ending_of, failed_check, of_architecture, of_code, status_of_architecture, status_of_code}
 use Rattle.command_status.specs.declared.status.Status.{Status}
 use Rattle.top_plans.specs.Checks.{lacking, stop_of, told}
@@ -44,7 +44,7 @@ pub text_refused : (held : Held) (bytes : Bytes) (next : Described → Made) (e 
     → Makes held held (described_in bytes next) (Err (ending_of (status_of_architecture e)))
 text_refused held bytes next (architecture.Refused fault) is = after_err held of_architecture (description_of bytes) next (architecture.Refused fault) is
 text_refused held bytes next (architecture.Limit fault) is = after_err held of_architecture (description_of bytes) next (architecture.Limit fault) is
-text_refused held bytes next architecture.OutOfMemory is = memory held held (described_in bytes next)
+text_refused held bytes next architecture.OutOfMemory is = memory held (described_in bytes next)
 
 -- a text of an architecture was read, and then the plan went on with what it describes
 pub text_went_on : (name : Bytes) (a b c : Held) (text : ArchiText) (next : Described → Made) (made : Result Given (Ending Refusal))
@@ -78,14 +78,14 @@ module _ (g : Graph) (a : Archi) where
     pub code_refused : (held : Held) (e : CodeError) → Fails e (program_in text g a) → Makes held held (code_in text g a next) (Err (ending_of (status_of_code e)))
     code_refused held (code.Refused fault) is = after_err held of_code (program_in text g a) checked (code.Refused fault) is
     code_refused held (code.Limit fault) is = after_err held of_code (program_in text g a) checked (code.Limit fault) is
-    code_refused held code.OutOfMemory is = memory held held (code_in text g a next)
+    code_refused held code.OutOfMemory is = memory held (code_in text g a next)
 
     -- its program fails the check
     pub check_refused : (held : Held) (c : CheckCause) → IsLacking text g a c → Makes held held (code_in text g a next) (Err (refused (failed_check c)))
     check_refused held c (p, says, wants) =
         let is : lacking g a p ≡ Some c = lacks g a p (cause_of c) wants ∙ ap Some (same_cause c) in
         after_ok held held of_code (program_in text g a) checked (Err (refused (failed_check c))) p says
-        (subst (λ (o : Option CheckCause). Makes held held (unless_lacking o (next p)) (Err (refused (failed_check c)))) (sym is) (refuses (inl (refl, λ file name. refl))))
+        (subst (λ (o : Option CheckCause). Makes held held (unless_lacking o (next p)) (Err (refused (failed_check c)))) (sym is) (refuses (inl refl, λ file name. refl)))
 
     -- its program lacks nothing, and then the plan went on with it
     program_so : (old new : Held) (p : Program) (made : Result Given (Ending Refusal)) → IsProgram g a text p → Makes old new (next p) made → Makes old new (code_in text g a next) made
@@ -106,4 +106,4 @@ module _ (g : Graph) (a : Archi) where
 pub ran_so : (plan : Made) (made : Result Given (Ending Refusal)) (held held' : Held) (sunk sunk' : Sunk) (d d' : Driven) (ending : Ending Refusal)
     → Makes held held' plan made → EndsOrWants made sunk sunk' d d' ending → Ran driven_by stages plan held held' sunk sunk' d d' ending
 ran_so plan made held held' sunk sunk' d d' ending m (inl h) = (made, m, h)
-ran_so plan made held held' sunk sunk' d d' ending m (inr h) = (Err no_memory, memory held held' plan, h)
+ran_so plan made held held' sunk sunk' d d' ending m (inr h) = (Err no_memory, wanting held held' plan made m, h)

@@ -1,9 +1,9 @@
--- Words give a number of reactions that is at most 1,000.
+-- Words give numbers of layers and of reactions from 1 to 1,000.
 use Rattle.std.proofs.Common.{◌≡◌, ℕ, ◌≤◌, Bool, true, false, ◌&&◌, List, [], ◌∷◌, length, Option, Some, None, refl}
 use Rattle.std.specs.Prelude.{codes, if◌then◌else◌, nat_le}
 use Rattle.std.specs.List.{list_all}
 use Rattle.std.specs.Str.{bytes_eq}
-use Rattle.std.proofs.lemmas.Bool.{and_parts, leb-true}
+use Rattle.std.proofs.lemmas.Bool.{leb-true}
 use Rattle.syn_base.specs.Name.{is_digit}
 use Rattle.syn_base.specs.Integer.{number_of}
 use Rattle.command_words.specs.Command.{Arguments, Bytes, Command, check, sim, flat, chart, code, run, exec, arguments_of, command_by, command_of, counted, dated, exec_by, four, loaded, number_up_to, one, one_or_two, plain, plain_by, run_by, three, two, with_count}
@@ -70,16 +70,26 @@ by_exec (Some a) =
     by_workers (λ workers. four (λ alg archi text sensors. Some (exec alg archi text sensors workers)) a.plain)
     (λ workers. by_four (λ alg archi text sensors. Some (exec alg archi text sensors workers)) (λ alg archi text sensors. tt) a.plain) a.workers
 
-by_load : (o : Option ℕ) → AreCounted (loaded o)
-by_load None = tt
-by_load (Some n) = tt
+-- a number that is made where four tests hold, two of which bound it
+bounded : (make : Option ℕ → Option Command) → AreCounted (make None) → ((n : ℕ) → 1 ≤ n → n ≤ 1000 → AreCounted (make (Some n))) →
+    (a b c d : Bool) (n : ℕ) → (c ≡ true → 1 ≤ n) → (d ≡ true → n ≤ 1000) → AreCounted (make (if a && b && c && d then Some n else None))
+bounded make none some true true true true n p q = some n (p refl) (q refl)
+bounded make none some true true true false n p q = none
+bounded make none some true true false d n p q = none
+bounded make none some true false c d n p q = none
+bounded make none some false b c d n p q = none
+
+by_number : (make : Option ℕ → Option Command) → AreCounted (make None) → ((n : ℕ) → 1 ≤ n → n ≤ 1000 → AreCounted (make (Some n))) → (w : Bytes) →
+    AreCounted (make (number_up_to 1000 w))
+by_number make none some w =
+    bounded make none some (nat_le 1 (length w)) (list_all is_digit w) (nat_le 1 (number_of w)) (nat_le (number_of w) 1000) (number_of w)
+    (leb-true 1 (number_of w)) (leb-true (number_of w) 1000)
+
+by_load : (w : Bytes) → AreCounted (loaded (number_up_to 1000 w))
+by_load = by_number loaded tt (λ n low high. (low, high))
 
 by_dates : (a h g w : Bytes) → AreCounted (dated a h g (number_up_to 1000 w))
-by_dates a h g w = by (nat_le 1 (length w) && list_all is_digit w && nat_le 1 (number_of w) && nat_le (number_of w) 1000) refl
-  where
-    by : (b : Bool) → (nat_le 1 (length w) && list_all is_digit w && nat_le 1 (number_of w) && nat_le (number_of w) 1000) ≡ b → AreCounted (dated a h g (if b then Some (number_of w) else None))
-    by true e = leb-true (number_of w) 1000 (and_parts (nat_le 1 (length w) && list_all is_digit w && nat_le 1 (number_of w)) (nat_le (number_of w) 1000) e).1
-    by false e = tt
+by_dates a h g = by_number (dated a h g) tt (λ n low high. (low, high))
 
 by_name : (name : Bytes) (ws : List Bytes) → AreCounted (command_by name ws)
 by_name name ws =
@@ -91,7 +101,7 @@ by_name name ws =
     (either (bytes_eq name (codes "chart")) _ _ (by_plain (two (λ a h. Some (chart a h))) (by_two (λ a h. Some (chart a h)) (λ a h. tt)) none)
     (either (bytes_eq name (codes "code")) _ _ (by_plain (two (λ a h. Some (code a h))) (by_two (λ a h. Some (code a h)) (λ a h. tt)) none)
     (either (bytes_eq name (codes "run")) _ _ (by_run some)
-    (either (bytes_eq name (codes "load")) _ _ (by_plain (one (λ n. loaded (number_up_to 1000 n))) (by_one (λ n. loaded (number_up_to 1000 n)) (λ n. by_load (number_up_to 1000 n))) none)
+    (either (bytes_eq name (codes "load")) _ _ (by_plain (one (λ n. loaded (number_up_to 1000 n))) (by_one (λ n. loaded (number_up_to 1000 n)) by_load) none)
     (either (bytes_eq name (codes "exec")) _ _ (by_exec some)
     (either (bytes_eq name (codes "dates")) _ _ (by_plain (four (λ a h g n. dated a h g (number_up_to 1000 n))) (by_four (λ a h g n. dated a h g (number_up_to 1000 n)) by_dates) none) tt))))))))
 

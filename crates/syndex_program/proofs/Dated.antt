@@ -1,5 +1,5 @@
 -- The plan of dates, part by part.
-use Rattle.std.proofs.Common.{◌≡◌, ℕ, List, Result, Ok, Err, subst}
+use Rattle.std.proofs.Common.{◌≡◌, ℕ, List, Result, Err, subst}
 use Rattle.std.specs.Prelude.{Vec}
 use Rattle.outside.specs.Bytes.{Bytes}
 use Rattle.outside.specs.Shelf.{Held}
@@ -32,7 +32,7 @@ durations_refused A g a t s text run held next e h = by e (subst (λ (u : Schedu
     by : (e : ActualError) → answers.Gives {A = A} (Err e) (actual_of g a t (schedule_of g a t) text) → Makes held held (durations_in text g a t next) (Err (ending_of (status_of_durations e)))
     by (error.Refused fault) h = after_err held of_durations (actual_of g a t (schedule_of g a t) text) next (error.Refused fault) h
     by (error.Limit fault) h = after_err held of_durations (actual_of g a t (schedule_of g a t) text) next (error.Limit fault) h
-    by error.OutOfMemory h = memory held held (after of_durations (actual_of g a t (schedule_of g a t) text) next)
+    by error.OutOfMemory h = memory held (after of_durations (actual_of g a t (schedule_of g a t) text) next)
 
 -- the same of what was answered
 pub refused_by : {A : Type 0} (g : Graph) (a : Archi) (t : Table) (s : Schedule) (text : Bytes) → s ≡ schedule_of g a t → (r : Result (Vec ℕ A) ActualError) → answers.Gives r (actual_of g a t s text)

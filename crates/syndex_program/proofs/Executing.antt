@@ -34,7 +34,7 @@ module _ (main : Vertex) (a : Archi) (rows : Reactions) (p : Program) where
 
   module _ (next : Execution → Given) (held : Held) where
     pub given : limit_of (one_job e) ≡ None → Makes held held (execution_plan e next) (Ok (next e))
-    given none = is_within held held (limit_of (one_job e)) (give (next e)) (Ok (next e)) none (gives (inl (refl, λ file name. refl)))
+    given none = is_within held held (limit_of (one_job e)) (give (next e)) (Ok (next e)) none (gives (inl refl, λ file name. refl))
 
     pub stopped : (fault : LimitFault) → limit_of (one_job e) ≡ Some fault → Makes held held (execution_plan e next) (Err (refused (above fault)))
     stopped fault is = is_above held (limit_of (one_job e)) fault (give (next e)) is

@@ -1,5 +1,5 @@
 -- The windows that are left, one after another.
-use Rattle.std.proofs.Common.{◌≡◌, ℕ, zero, suc, ◌+◌, ◌-◌, ◌*◌, ◌<◌, ◌≤◌, List, [], ◌∷◌, map, length, refl, sym, ap, ◌∙◌, arith, add-one, zero-add, ◌++◌, length-append}
+use Rattle.std.proofs.Common.{◌≡◌, ℕ, zero, suc, ◌+◌, ◌-◌, ◌<◌, ◌≤◌, List, [], ◌∷◌, map, length, refl, sym, ap, ◌∙◌, arith, add-one, zero-add, ◌++◌, length-append}
 use Rattle.std.specs.Prelude.{slice_index_or}
 use Rattle.std.specs.List.{range_with_len}
 use Rattle.std.proofs.lemmas.List.{map-append}
@@ -18,8 +18,8 @@ use Rattle.act_text.specs.Text.{text_from}
 use Rattle.semaphore_core.specs.Job.{JobData, reactions}
 use Rattle.phase_laws.specs.Ended.{all_acts}
 use Rattle.phase_laws.specs.Windows.{window}
-use Rattle.run_laws.specs.Windows.{window_bound, windows_in, reactions_from, starts, window_text, window_jobs}
-use Rattle.top_plans.specs.Given.{Execution, acts_of, one_job, window_stage, window_stages}
+use Rattle.run_laws.specs.Windows.{windows_in, reactions_from, starts, window_text, window_jobs}
+use Rattle.top_plans.specs.Given.{Execution, acts_of, one_job, window_stages}
 use Rattle.job_windows.specs.Windowed.{WindowsData, first_of}
 use Rattle.syndex_program.specs.Sums.{AreFew}
 use Rattle.syndex_program.specs.Left.{starts_left, jobs_left, job_from, stage_from, stages_left}

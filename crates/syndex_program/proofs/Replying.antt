@@ -1,6 +1,5 @@
 -- What the two calls answer, from what was carried out.
-use Rattle.std.proofs.Common.{◌≡◌, Option, Some, None, Result, Ok, Err, inl, inr, refl, sym, subst}
-use Rattle.std.specs.Prelude.{◌⊎◌}
+use Rattle.std.proofs.Common.{◌≡◌, Option, Some, None, Err, inl, inr, refl, sym, subst}
 use Rattle.outside.specs.Shelf.{Held}
 use Rattle.outside.specs.Sink.{Sunk}
 use Rattle.command_plan.specs.Ending.{Ending, no_memory, refused}
@@ -25,10 +24,10 @@ module _ (law : PlainCommandsReply) (held held' : Held) (sunk sunk' err : Sunk) 
 module _ (law : PlainCommandsReply) (held : Held) (sunk err : Sunk) where
   -- words that are no command
   pub none_answered : PlainReplies None held held sunk sunk err err (Some (refused usage))
-  none_answered = inl (tt, law None tt held held sunk sunk (refused usage) (λ driven. (Err (refused usage), refuses (inl (refl, λ file name. refl)), (refl, refl, refl))))
+  none_answered = inl (tt, law None tt held held sunk sunk (refused usage) (λ driven. (Err (refused usage), refuses (inl refl, λ file name. refl), (refl, refl, refl))))
 
   plainly : (o : Option Command) → IsPlain o → PlainReplies o held held sunk sunk err err (Some no_memory)
-  plainly o is = inl (is, law o is held held sunk sunk no_memory (λ driven. (Err no_memory, memory held held (plan_of o), (refl, refl, refl))))
+  plainly o is = inl (is, law o is held held sunk sunk no_memory (λ driven. (Err no_memory, memory held (plan_of o), (refl, refl, refl))))
 
   -- the words take memory
   pub wanted : (o : Option Command) → PlainReplies o held held sunk sunk err err (Some no_memory)
@@ -45,7 +44,7 @@ module _ (law : PlainCommandsReply) (held : Held) (sunk err : Sunk) where
 
 -- nothing was read, written or driven: memory ran out
 pub wants : CommandsReply → (o : Option Command) (held : Held) (sunk : Sunk) (driven : Driven) → Replies o held held sunk sunk driven driven no_memory
-wants law o held sunk driven = law o held held sunk sunk driven driven no_memory (Err no_memory, memory held held (plan_of o), (refl, refl, refl))
+wants law o held sunk driven = law o held held sunk sunk driven driven no_memory (Err no_memory, memory held (plan_of o), (refl, refl, refl))
 
 -- the words are of a command that runs jobs, and nothing was read or written
 pub left_so : (o : Option Command) (held held' : Held) (sunk sunk' : Sunk) → LeavesJobs o held held' sunk sunk' → RunsIn o × (held' ≡ held) × (sunk' ≡ sunk)

@@ -1,5 +1,5 @@
 -- Carrying out the plan of a command, part by part.
-use Rattle.std.proofs.Common.{◌≡◌, List, Option, Some, None, Result, Ok, Err, refl, sym, subst, inl, inr}
+use Rattle.std.proofs.Common.{◌≡◌, Option, Some, None, Result, Ok, Err, refl, sym, subst, inl, inr}
 use Rattle.outside.specs.Bytes.{Bytes}
 use Rattle.outside.specs.Shelf.{Held}
 use Rattle.algo_defs.specs.declared.definition.Defs.{Defs}
@@ -31,7 +31,7 @@ module _ {X : Type 0} (held : Held) (answer : Result X AlgoError) (next : X → 
   by_error : (e : AlgoError) → answer ≡ Err e → Makes held held (after of_algorithm answer next) (Err (ending_of (status_of_algorithm e)))
   by_error (error.Refused fault) is = after_err held of_algorithm answer next (error.Refused fault) is
   by_error (error.Limit fault) is = after_err held of_algorithm answer next (error.Limit fault) is
-  by_error error.OutOfMemory is = memory held held (after of_algorithm answer next)
+  by_error error.OutOfMemory is = memory held (after of_algorithm answer next)
 
 module _ (text : Bytes) (next : Defs → Vertex → Made) where
   abbrev behind : Made
@@ -46,7 +46,7 @@ module _ (text : Bytes) (next : Defs → Vertex → Made) where
   pub refused_so : (held : Held) (e : AlgoError) → MakesAlgorithm text (Err e) → Makes held held behind (Err (ending_of (status_of_algorithm e)))
   refused_so held (error.Refused fault) h = is_refused held (error.Refused fault) h
   refused_so held (error.Limit fault) h = is_refused held (error.Limit fault) h
-  refused_so held error.OutOfMemory h = memory held held behind
+  refused_so held error.OutOfMemory h = memory held behind
 
   pub resolved_so : (old new : Held) (algorithm : Algorithm) (made : Result Given (Ending Refusal)) → IsAlgorithm text algorithm → Makes old new (next algorithm.defs algorithm.tree) made → Makes old new behind made
   resolved_so old new algorithm made is m =
@@ -63,7 +63,7 @@ pub table_refused : {X : Type 0} (held : Held) (answer : Result X SensorError) (
     → Makes held held (after of_sensors answer next) (Err (ending_of (status_of_sensors e)))
 table_refused held answer next (sensors.Refused fault) (inl is) = after_err held of_sensors answer next (sensors.Refused fault) is
 table_refused held answer next (sensors.Limit fault) (inl is) = after_err held of_sensors answer next (sensors.Limit fault) is
-table_refused held answer next sensors.OutOfMemory h = memory held held (after of_sensors answer next)
+table_refused held answer next sensors.OutOfMemory h = memory held (after of_sensors answer next)
 table_refused held answer next (sensors.Refused fault) (inr wants) = cc
 table_refused held answer next (sensors.Limit fault) (inr wants) = cc
 
@@ -79,7 +79,7 @@ rows_went_on main name a b c rows next made (table, read, is) m = was_read b tab
 
 -- more than there may be
 pub is_above : (held : Held) (o : Option LimitFault) (fault : LimitFault) (next : Made) → o ≡ Some fault → Makes held held (unless o next) (Err (refused (above fault)))
-is_above held o fault next is = subst (λ (x : Option LimitFault). Makes held held (unless x next) (Err (refused (above fault)))) (sym is) (refuses (inl (refl, λ file name. refl)))
+is_above held o fault next is = subst (λ (x : Option LimitFault). Makes held held (unless x next) (Err (refused (above fault)))) (sym is) (refuses (inl refl, λ file name. refl))
 
 pub is_within : (old new : Held) (o : Option LimitFault) (next : Made) (made : Result Given (Ending Refusal)) → o ≡ None → Makes old new next made → Makes old new (unless o next) made
 is_within old new o next made is m = subst (λ (x : Option LimitFault). Makes old new (unless x next) made) (sym is) m

@@ -1,10 +1,11 @@
--- Which numbers of reactions words may give.
+-- Which numbers words may give.
 use Rattle.std.specs.Prelude.{◌≤◌, Option, Some, None}
-use Rattle.command_words.specs.Command.{Command, dates}
+use Rattle.command_words.specs.Command.{Command, load, dates}
 
--- at most 1,000 are dated
+-- 1 to 1,000 layers are loaded, and 1 to 1,000 reactions are dated
 abbrev pub IsCounted : Command → Type 0
-IsCounted (dates a h g n) = n ≤ 1000
+IsCounted (load n) = (1 ≤ n) × (n ≤ 1000)
+IsCounted (dates a h g n) = (1 ≤ n) × (n ≤ 1000)
 IsCounted _ = Unit {0}
 
 abbrev pub AreCounted : Option Command → Type 0

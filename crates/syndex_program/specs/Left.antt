@@ -1,12 +1,10 @@
 -- The windows that are left of an execution, with their lines and their jobs.
-use Rattle.std.specs.Prelude.{◌≡◌, ℕ, ◌+◌, ◌-◌, ◌≤◌, List, [], ◌∷◌, map, length}
+use Rattle.std.specs.Prelude.{ℕ, ◌-◌, List, [], ◌∷◌, map}
 use Rattle.std.specs.List.{range_with_len}
 use Rattle.algo_tree.specs.Tree.{Vertex}
-use Rattle.algo_tree.specs.Ends.{actuator_lengths}
 use Rattle.act_text.specs.Names.{actuator_names}
-use Rattle.semaphore_core.specs.Job.{JobData, reactions, actuator_lens}
+use Rattle.semaphore_core.specs.Job.{JobData, reactions}
 use Rattle.command_plan.specs.Stage.{Stage}
-use Rattle.phase_laws.specs.Ended.{all_acts}
 use Rattle.phase_laws.specs.Windows.{window_job}
 use Rattle.run_laws.specs.Windows.{windows_in, reactions_from, window_text}
 use Rattle.top_plans.specs.Given.{acts_of}

@@ -1,5 +1,5 @@
 -- What the parts of a command answer.
-use Rattle.std.specs.Prelude.{◌≡◌, ℕ, List, Result, Ok, Err, Vec}
+use Rattle.std.specs.Prelude.{◌≡◌, ℕ, Result, Ok, Err, Vec}
 use Rattle.csv.specs.Reading.{default_config, records, strip_bom}
 use Rattle.outside.specs.Bytes.{Bytes}
 use Rattle.outside.specs.Shelf.{Held}

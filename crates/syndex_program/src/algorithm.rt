@@ -1,7 +1,7 @@
 //! The algorithm of a file: its definitions and the tree that they mean.
 ghost use Rattle.std.specs.Prelude.{◌≡◌, ◌≤◌, length};
 ghost use Rattle.outside.specs.Shelf.{Stays, file_bound};
-ghost use Rattle.syndex_program.specs.Reads.{IsAlgorithm, MakesAlgorithm, ReadsAlgorithm};
+ghost use Rattle.syndex_program.specs.Reads.{MakesAlgorithm, ReadsAlgorithm};
 
 use crate::files::read_file;
 use algo_defs::{AlgoError, Defs};

@@ -23,7 +23,8 @@ pub fn chart_text<S: Shelf>(
     architecture: &str,
 ) -> Result<Vec<u8>, Status>
     ensures stays { Stays (S.held shelf.old) (S.held shelf.new) }
-    ensures makes { Makes (S.held shelf.old) (S.held shelf.new) (chart_plan algorithm.now architecture.now) (text_in result) }
+    ensures makes { Makes (S.held shelf.old) (S.held shelf.new)
+        (chart_plan algorithm.now architecture.now) (text_in result) }
 {
     let algorithm = read_algorithm(alloc, shelf, algorithm)?;
     let architecture = read_architecture(alloc, shelf, architecture, &algorithm.tree)?;
@@ -33,7 +34,9 @@ pub fn chart_text<S: Shelf>(
 /// The timing chart of the pressure run.
 fn charted(alloc: Global, architecture: &Architecture) -> Result<Vec<u8>, OutOfMemory>
     requires { durations_of architecture.now.flat (described architecture.now.text) ≡ Ok architecture.now.durations }
-    ensures { IfOk result (λ text. text.items ≡ chart_of architecture.now.flat (described architecture.now.text) architecture.now.durations) }
+    ensures { IfOk result (λ text. text.items ≡
+        chart_of architecture.now.flat (described architecture.now.text)
+        architecture.now.durations) }
 {
     let schedule = scheduled(alloc, architecture)?;
     let mut text = Vec::new(alloc);

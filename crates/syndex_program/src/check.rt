@@ -1,5 +1,5 @@
 //! The command `check A [H]`.
-ghost use Rattle.std.specs.Prelude.{◌≡◌, ◌++◌, IfOk, None, Some, codes, option_map};
+ghost use Rattle.std.specs.Prelude.{◌≡◌, IfOk, None, Some, option_map};
 ghost use Rattle.algo_print.specs.Canonical.{canonical_text, ArePrintable};
 ghost use Rattle.command_plan.specs.Run.{Makes};
 ghost use Rattle.outside.specs.Shelf.{Stays};
@@ -26,7 +26,9 @@ pub fn check_texts<S: Shelf>(
     architecture: Option<&str>,
 ) -> Result<Vec<u8>, Status>
     ensures stays { Stays (S.held shelf.old) (S.held shelf.new) }
-    ensures makes { Makes (S.held shelf.old) (S.held shelf.new) (check_plan algorithm.now (option_map (λ name. name.now) architecture.entry)) (text_in result) }
+    ensures makes { Makes (S.held shelf.old) (S.held shelf.new)
+        (check_plan algorithm.now (option_map (λ name. name.now) architecture.entry))
+        (text_in result) }
 {
     match architecture {
         None => check_text(alloc, shelf, algorithm),
@@ -52,7 +54,8 @@ fn check_both<S: Shelf>(
     architecture: &str,
 ) -> Result<Vec<u8>, Status>
     ensures stays { Stays (S.held shelf.old) (S.held shelf.new) }
-    ensures makes { Makes (S.held shelf.old) (S.held shelf.new) (check_plan algorithm.now (Some architecture.now)) (text_in result) }
+    ensures makes { Makes (S.held shelf.old) (S.held shelf.new)
+        (check_plan algorithm.now (Some architecture.now)) (text_in result) }
 {
     let algorithm = read_algorithm(alloc, shelf, algorithm)?;
     let architecture = read_architecture(alloc, shelf, architecture, &algorithm.tree)?;

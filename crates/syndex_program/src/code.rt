@@ -27,7 +27,8 @@ pub fn code_text<S: Shelf>(
     architecture: &str,
 ) -> Result<Vec<u8>, Status>
     ensures stays { Stays (S.held shelf.old) (S.held shelf.new) }
-    ensures makes { Makes (S.held shelf.old) (S.held shelf.new) (code_plan algorithm.now architecture.now) (text_in result) }
+    ensures makes { Makes (S.held shelf.old) (S.held shelf.new)
+        (code_plan algorithm.now architecture.now) (text_in result) }
 {
     let algorithm = read_algorithm(alloc, shelf, algorithm)?;
     let architecture = read_architecture(alloc, shelf, architecture, &algorithm.tree)?;
@@ -37,7 +38,9 @@ pub fn code_text<S: Shelf>(
 /// The macro-code of the program that is built of the schedule, or why there is none.
 fn code_of(alloc: Global, architecture: &Architecture) -> Result<Vec<u8>, Status>
     requires { durations_of architecture.now.flat (described architecture.now.text) ≡ Ok architecture.now.durations }
-    ensures { (held : Held) → Makes held held (macro_plan architecture.now.flat architecture.now.text.archi architecture.now.durations) (text_in result) }
+    ensures { (held : Held) → Makes held held
+        (macro_plan architecture.now.flat architecture.now.text.archi architecture.now.durations)
+        (text_in result) }
 {
     let program = built(alloc, architecture)?;
     Ok(coded(

@@ -1,7 +1,7 @@
 //! The command `dates A H G N`.
 ghost use Rattle.std.specs.Prelude.{◌≡◌, ◌≤◌, IfOk, IsTrue, Ok, length, replicate};
 ghost use Rattle.command_plan.specs.Run.{Makes};
-ghost use Rattle.durations.specs.Table.{durations_of, entry_in};
+ghost use Rattle.durations.specs.Table.{entry_in};
 ghost use Rattle.outside.specs.Shelf.{Held, Stays, file_bound};
 ghost use Rattle.schedule.specs.Acts.{acts};
 ghost use Rattle.schedule.specs.Valid.{is_valid};
@@ -11,7 +11,7 @@ ghost use Rattle.dates_text.specs.Listing.{dates_text};
 ghost use Rattle.sequence_build_laws.specs.Built.{program_of};
 ghost use Rattle.syndex_program.specs.Builds.{BuildsProgram};
 ghost use Rattle.syndex_program.specs.Dates.{dated_in};
-ghost use Rattle.syndex_program.specs.Reads.{described, text_in};
+ghost use Rattle.syndex_program.specs.Reads.{text_in};
 ghost use Rattle.top_plans.specs.Plans.{dates_plan, schedule_of};
 
 use crate::algorithm::read_algorithm;
@@ -40,7 +40,8 @@ pub fn dates_listing<S: Shelf>(
 ) -> Result<Vec<u8>, Status>
     requires few { reactions ≤ 1000 }
     ensures stays { Stays (S.held shelf.old) (S.held shelf.new) }
-    ensures makes { Makes (S.held shelf.old) (S.held shelf.new) (dates_plan algorithm.now architecture.now durations.now reactions) (text_in result) }
+    ensures makes { Makes (S.held shelf.old) (S.held shelf.new)
+        (dates_plan algorithm.now architecture.now durations.now reactions) (text_in result) }
 {
     let algorithm = read_algorithm(alloc, shelf, algorithm)?;
     let architecture = read_architecture(alloc, shelf, architecture, &algorithm.tree)?;
@@ -59,9 +60,13 @@ fn dated(
 ) -> Result<Vec<u8>, Status>
     requires few { reactions ≤ 1000 }
     requires short { length text.now ≤ file_bound }
-    requires run { schedule.now ≡ schedule_of architecture.now.flat architecture.now.text.archi architecture.now.durations }
-    requires valid { IsTrue (is_valid architecture.now.flat architecture.now.text.archi (entry_in architecture.now.durations) schedule.now) }
-    ensures { (held : Held) → Makes held held (dated_in text.now architecture.now.flat architecture.now.text.archi architecture.now.durations reactions) (text_in result) }
+    requires run { schedule.now ≡ schedule_of architecture.now.flat architecture.now.text.archi
+        architecture.now.durations }
+    requires valid { IsTrue (is_valid architecture.now.flat architecture.now.text.archi
+        (entry_in architecture.now.durations) schedule.now) }
+    ensures { (held : Held) → Makes held held
+        (dated_in text.now architecture.now.flat architecture.now.text.archi
+        architecture.now.durations reactions) (text_in result) }
 {
     let ticks = actual_of(
         alloc,
@@ -82,8 +87,10 @@ fn built_by(
     architecture: &Architecture,
     schedule: &Schedule,
 ) -> Result<Program, Status>
-    requires run { schedule.now ≡ schedule_of architecture.now.flat architecture.now.text.archi architecture.now.durations }
-    requires valid { IsTrue (is_valid architecture.now.flat architecture.now.text.archi (entry_in architecture.now.durations) schedule.now) }
+    requires run { schedule.now ≡ schedule_of architecture.now.flat architecture.now.text.archi
+        architecture.now.durations }
+    requires valid { IsTrue (is_valid architecture.now.flat architecture.now.text.archi
+        (entry_in architecture.now.durations) schedule.now) }
     ensures builds { BuildsProgram architecture.now.flat architecture.now.text.archi architecture.now.durations result }
     ensures program { IfOk result (λ p. p ≡ program_of architecture.now.flat architecture.now.text.archi schedule.now) }
 {
@@ -109,11 +116,14 @@ fn listed(
     reactions: u32,
 ) -> Result<Vec<u8>, OutOfMemory>
     requires few { reactions ≤ 1000 }
-    requires valid { IsTrue (is_valid architecture.now.flat architecture.now.text.archi (entry_in architecture.now.durations) schedule.now) }
+    requires valid { IsTrue (is_valid architecture.now.flat architecture.now.text.archi
+        (entry_in architecture.now.durations) schedule.now) }
     requires program { program.now ≡ program_of architecture.now.flat architecture.now.text.archi schedule.now }
     requires entries { HaveEntries (entries_of architecture.now.flat schedule.now) (replicate reactions ticks.now) }
     requires within { AreWithin architecture.now.flat.vertices (acts schedule.now) (replicate reactions ticks.now) }
-    ensures { IfOk result (λ text. text.items ≡ dates_text architecture.now.flat architecture.now.text.archi schedule.now ticks.now reactions) }
+    ensures { IfOk result (λ text. text.items ≡
+        dates_text architecture.now.flat architecture.now.text.archi schedule.now ticks.now
+        reactions) }
 {
     // What the table of durations keeps is asked for: no duration is above 1,000,000,000.
     let _operators = architecture.durations.operators();

@@ -1,5 +1,5 @@
 //! The command `exec A H C S`: macro-code of any hand, checked and executed.
-ghost use Rattle.std.specs.Prelude.{◌≡◌, ◌≤◌, IfOk, Ok, length};
+ghost use Rattle.std.specs.Prelude.{◌≤◌, IfOk, Ok, length};
 ghost use Rattle.command_plan.specs.Run.{Makes};
 ghost use Rattle.command_status.specs.Status.{ending_of};
 ghost use Rattle.outside.specs.Shelf.{Stays};
@@ -41,7 +41,9 @@ pub fn read_foreign<S: Shelf>(
     sensors: &str,
 ) -> Result<Execution, Status>
     ensures stays { Stays (S.held shelf.old) (S.held shelf.new) }
-    ensures makes { (next : Executed → Given) → Makes (S.held shelf.old) (S.held shelf.new) (foreign_plan next algorithm.now architecture.now code.now sensors.now) (made_of next result) }
+    ensures makes { (next : Executed → Given) → Makes (S.held shelf.old) (S.held shelf.new)
+        (foreign_plan next algorithm.now architecture.now code.now sensors.now)
+        (made_of next result) }
     ensures executed { IfOk result IsExecuted }
 {
     accepted_have_flat();
@@ -92,7 +94,8 @@ pub fn write_exec<R: Threads + Wait + Sync, K: Sink, G: Gate>(
     driven: &mut Driven,
 ) -> Status
     requires { IsExecuted execution.now }
-    ensures { EndsOrWants (Ok (alone (executed execution.now))) (K.sunk out.old) (K.sunk out.new) driven.old driven.new (ending_of result) }
+    ensures { EndsOrWants (Ok (alone (executed execution.now))) (K.sunk out.old) (K.sunk out.new)
+        driven.old driven.new (ending_of result) }
 {
     match lines_of(alloc, execution, workers) {
         Ok(mut lines) => status_of(write_windows(alloc, &mut lines, out, drive, driven)),

@@ -65,7 +65,8 @@ pub fn read_execution<S: Shelf>(
     sensors: &str,
 ) -> Result<Execution, Status>
     ensures stays { Stays (S.held shelf.old) (S.held shelf.new) }
-    ensures makes { (next : Executed → Given) → Makes (S.held shelf.old) (S.held shelf.new) (files_plan next algorithm.now architecture.now sensors.now) (made_of next result) }
+    ensures makes { (next : Executed → Given) → Makes (S.held shelf.old) (S.held shelf.new)
+        (files_plan next algorithm.now architecture.now sensors.now) (made_of next result) }
     ensures executed { IfOk result IsExecuted }
 {
     accepted_have_flat();
@@ -79,7 +80,9 @@ pub fn read_execution<S: Shelf>(
 pub fn load_execution(alloc: Global, n: u32) -> Result<Execution, Status>
     requires from { 1 ≤ n }
     requires to { n ≤ 1000 }
-    ensures makes { (next : Executed → Given) (held : Held) → Makes held held (texts_plan next (load_algorithm n) load_architecture (load_table n)) (made_of next result) }
+    ensures makes { (next : Executed → Given) (held : Held) →
+        Makes held held (texts_plan next (load_algorithm n) load_architecture (load_table n))
+        (made_of next result) }
     ensures executed { IfOk result IsExecuted }
 {
     let (algorithm, architecture, table) = load_texts(alloc, n)?;
@@ -102,7 +105,9 @@ fn within_limits(
     requires has { HasFlat algorithm.tree }
     requires lens { rows.lens ≡ sensor_lengths algorithm.tree }
     requires few { length rows.reactions ≤ 10000 }
-    ensures makes { (next : Executed → Given) (held : Held) → Makes held held (rest_plan next algorithm.tree architecture.text.archi architecture.durations rows) (made_of next result) }
+    ensures makes { (next : Executed → Given) (held : Held) →
+        Makes held held (rest_plan next algorithm.tree architecture.text.archi
+        architecture.durations rows) (made_of next result) }
     ensures executed { IfOk result IsExecuted }
 {
     let program = built(alloc, &architecture)?;
@@ -123,7 +128,9 @@ pub fn limited(
     requires formed { IsWellFormed program flat (sequences text.archi) (length text.archi.media) }
     requires lens { rows.lens ≡ sensor_lengths algorithm.tree }
     requires few { length rows.reactions ≤ 10000 }
-    ensures makes { (next : Executed → Given) (held : Held) → Makes held held (execution_plan (execution algorithm.tree text.archi program rows) next) (made_of next result) }
+    ensures makes { (next : Executed → Given) (held : Held) →
+        Makes held held (execution_plan (execution algorithm.tree text.archi program rows) next)
+        (made_of next result) }
     ensures executed { IfOk result IsExecuted }
 {
     match run_limit(&program, &flat, &text.archi, &rows) {

@@ -17,7 +17,8 @@ pub fn read_file<S: Shelf>(
 ) -> Result<Vec<u8>, Status>
     ensures stays { Stays (S.held shelf.old) (S.held shelf.new) }
     ensures read { IfOk result (λ v. WasRead file name.now (S.held shelf.old) (S.held shelf.new) v.items) }
-    ensures not_read { IfErr result (λ status. FailsToRead file name.now (above file_limit) (S.held shelf.old) (S.held shelf.new) (ending_of status)) }
+    ensures not_read { IfErr result (λ status. FailsToRead file name.now (above file_limit)
+        (S.held shelf.old) (S.held shelf.new) (ending_of status)) }
 {
     match read_whole(alloc, shelf, file, name) {
         Ok(bytes) => Ok(bytes),

@@ -1,5 +1,5 @@
 //! The commands that run jobs.
-ghost use Rattle.std.specs.Prelude.{◌≡◌, map, IfOk, Some};
+ghost use Rattle.std.specs.Prelude.{map, IfOk, Some};
 ghost use Rattle.std.specs.String.{string_bytes};
 ghost use Rattle.command_plan.specs.Run.{Ends, Ran};
 ghost use Rattle.command_status.specs.Status.{ending_of};
@@ -12,7 +12,8 @@ ghost use Rattle.top_plans.specs.Names.{RunsJobs};
 ghost use Rattle.top_plans.specs.Plans.{head, plan_for, summary};
 ghost use Rattle.top_plans.specs.Replies.{Replies};
 ghost use Rattle.syndex_program.specs.Executes.{EndsOrWants, IsExecuted, made_of};
-ghost use Rattle.syndex_program.specs.Jobs.{IsFit, RunsIn};
+ghost use Rattle.syndex_program.specs.Counts.{IsCounted};
+ghost use Rattle.syndex_program.specs.Jobs.{RunsIn};
 ghost use Rattle.syndex_program.specs.Unread.{LeavesUnread};
 
 use crate::exec::{read_foreign, write_exec};
@@ -39,7 +40,9 @@ pub fn status_of<R: Threads + Wait + Sync, S: Shelf, K: Sink, G: Gate>(
     driven: &mut Driven,
 ) -> Status
     requires { RunsIn (command_of (map string_bytes words.now)) }
-    ensures replies { Replies (command_of (map string_bytes words.now)) (S.held shelf.old) (S.held shelf.new) (K.sunk out.old) (K.sunk out.new) driven.old driven.new (ending_of result) }
+    ensures replies { Replies (command_of (map string_bytes words.now)) (S.held shelf.old)
+        (S.held shelf.new) (K.sunk out.old) (K.sunk out.new) driven.old driven.new
+        (ending_of result) }
     ensures stays { Stays (S.held shelf.old) (S.held shelf.new) }
     ensures unread { LeavesUnread (command_of (map string_bytes words.now)) (S.held shelf.old) (S.held shelf.new) }
 {
@@ -61,8 +64,10 @@ fn status_for<R: Threads + Wait + Sync, S: Shelf, K: Sink, G: Gate>(
     driven: &mut Driven,
 ) -> Status
     requires jobs { RunsJobs (view_of command.now) }
-    requires fit { IsFit (view_of command.now) }
-    ensures ran { Ran driven_by stages (plan_for (view_of command.now)) (S.held shelf.old) (S.held shelf.new) (K.sunk out.old) (K.sunk out.new) driven.old driven.new (ending_of result) }
+    requires counted { IsCounted (view_of command.now) }
+    ensures ran { Ran driven_by stages (plan_for (view_of command.now)) (S.held shelf.old)
+        (S.held shelf.new) (K.sunk out.old) (K.sunk out.new) driven.old driven.new
+        (ending_of result) }
     ensures stays { Stays (S.held shelf.old) (S.held shelf.new) }
     ensures unread { LeavesUnread (Some (view_of command.now)) (S.held shelf.old) (S.held shelf.new) }
 {
@@ -109,7 +114,8 @@ fn run_made<R: Threads + Wait + Sync, K: Sink, G: Gate>(
     driven: &mut Driven,
 ) -> Status
     requires { IfOk made IsExecuted }
-    ensures { Ends driven_by stages (made_of (λ e. printed (head e) e) made) (K.sunk out.old) (K.sunk out.new) driven.old driven.new (ending_of result) }
+    ensures { Ends driven_by stages (made_of (λ e. printed (head e) e) made) (K.sunk out.old)
+        (K.sunk out.new) driven.old driven.new (ending_of result) }
 {
     match made {
         Ok(execution) => write_run(alloc, &execution, out, drive, workers, driven),
@@ -126,7 +132,8 @@ fn load_made<R: Threads + Wait + Sync, K: Sink, G: Gate>(
     driven: &mut Driven,
 ) -> Status
     requires { IfOk made IsExecuted }
-    ensures { Ends driven_by stages (made_of (λ e. summed e (summary e)) made) (K.sunk out.old) (K.sunk out.new) driven.old driven.new (ending_of result) }
+    ensures { Ends driven_by stages (made_of (λ e. summed e (summary e)) made) (K.sunk out.old)
+        (K.sunk out.new) driven.old driven.new (ending_of result) }
 {
     match made {
         Ok(execution) => write_load(alloc, &execution, out, drive, driven),
@@ -144,7 +151,8 @@ fn exec_made<R: Threads + Wait + Sync, K: Sink, G: Gate>(
     driven: &mut Driven,
 ) -> Status
     requires { IfOk made IsExecuted }
-    ensures { EndsOrWants (made_of alone made) (K.sunk out.old) (K.sunk out.new) driven.old driven.new (ending_of result) }
+    ensures { EndsOrWants (made_of alone made) (K.sunk out.old) (K.sunk out.new) driven.old
+        driven.new (ending_of result) }
 {
     match made {
         Ok(execution) => write_exec(alloc, &execution, out, drive, workers, driven),

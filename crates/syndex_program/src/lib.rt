@@ -53,7 +53,9 @@ pub fn plain_command<S: Shelf, K: Sink, E: Sink>(
     out: &mut K,
     err: &mut E,
 ) -> Option<Status>
-    ensures replies { PlainReplies (command_of (map string_bytes words.now)) (S.held shelf.old) (S.held shelf.new) (K.sunk out.old) (K.sunk out.new) (E.sunk err.old) (E.sunk err.new) (ending_in result) }
+    ensures replies { PlainReplies (command_of (map string_bytes words.now)) (S.held shelf.old)
+        (S.held shelf.new) (K.sunk out.old) (K.sunk out.new) (E.sunk err.old) (E.sunk err.new)
+        (ending_in result) }
     ensures line { IfSome result (λ status. Said (line_of status) (E.sunk err.old) (E.sunk err.new)) }
     ensures stays { Stays (S.held shelf.old) (S.held shelf.new) }
     ensures unread { LeavesUnread (command_of (map string_bytes words.now)) (S.held shelf.old) (S.held shelf.new) }
@@ -77,7 +79,9 @@ pub fn syndex<R: Threads + Wait + Sync, S: Shelf, K: Sink, E: Sink, G: Gate>(
     gate: &G,
     driven: &mut Driven,
 ) -> Status
-    ensures replies { Replies (command_of (map string_bytes words.now)) (S.held shelf.old) (S.held shelf.new) (K.sunk out.old) (K.sunk out.new) driven.old driven.new (ending_of result) }
+    ensures replies { Replies (command_of (map string_bytes words.now)) (S.held shelf.old)
+        (S.held shelf.new) (K.sunk out.old) (K.sunk out.new) driven.old driven.new
+        (ending_of result) }
     ensures line { Said (line_of result) (E.sunk err.old) (E.sunk err.new) }
     ensures stays { Stays (S.held shelf.old) (S.held shelf.new) }
     ensures unread { LeavesUnread (command_of (map string_bytes words.now)) (S.held shelf.old) (S.held shelf.new) }

@@ -47,7 +47,8 @@ impl<'a> Lines<'a> {
         drive: &Drive<R, G>,
         driven: &mut Driven,
     ) -> Result<Option<Vec<u8>>, OutOfMemory>
-        ensures { GoesOn (stages_left self.old.tree.now self.old.windows) (stages_left self.new.tree.now self.new.windows) driven.old driven.new result }
+        ensures { GoesOn (stages_left self.old.tree.now self.old.windows)
+            (stages_left self.new.tree.now self.new.windows) driven.old driven.new result }
     {
         let first = self.windows.first();
         match self.windows.run_next(alloc, drive, driven) {
@@ -72,7 +73,8 @@ pub fn write_windows<R: Threads + Wait + Sync, K: Sink, G: Gate>(
     drive: &Drive<R, G>,
     driven: &mut Driven,
 ) -> Result<(), Stopped>
-    ensures { Performs {R = Refusal} driven_by (stages_left lines.old.tree.now lines.old.windows) (K.sunk out.old) (K.sunk out.new) driven.old driven.new (ending_of result) }
+    ensures { Performs {R = Refusal} driven_by (stages_left lines.old.tree.now lines.old.windows)
+        (K.sunk out.old) (K.sunk out.new) driven.old driven.new (ending_of result) }
 {
     'windows: loop {
         let Ok(next) = lines.next(alloc, drive, driven) else {

@@ -1,5 +1,5 @@
 //! The command `load N`.
-ghost use Rattle.std.specs.Prelude.{◌≡◌, ◌≤◌, ◌<◌, ◌+ℤ◌, pos, [], length, slice_index_or, IfOk, OnOk, OnErr};
+ghost use Rattle.std.specs.Prelude.{◌≡◌, ◌≤◌, ◌<◌, ◌+ℤ◌, [], length, slice_index_or, IfOk, OnErr};
 ghost use Rattle.level_meaning.specs.Level.{all_joined};
 ghost use Rattle.body_lang.specs.Expr.{total};
 ghost use Rattle.syn_base.specs.Arithmetic.{wrapped};
@@ -38,7 +38,8 @@ pub fn write_load<R: Threads + Wait + Sync, K: Sink, G: Gate>(
     driven: &mut Driven,
 ) -> Status
     requires { IsExecuted execution.now }
-    ensures { let e = executed execution.now in Performs driven_by (stages (summed e (summary e))) (K.sunk out.old) (K.sunk out.new) driven.old driven.new (ending_of result) }
+    ensures { let e = executed execution.now in Performs driven_by (stages (summed e (summary e)))
+        (K.sunk out.old) (K.sunk out.new) driven.old driven.new (ending_of result) }
 {
     match summary_text(alloc, execution, drive, driven) {
         Ok(text) => put_text(out, &text),
@@ -55,8 +56,10 @@ fn summary_text<R: Threads + Wait + Sync, G: Gate>(
 ) -> Result<Vec<u8>, OutOfMemory>
     requires { IsExecuted execution.now }
     ensures text { IfOk result (λ text. text.items ≡ summary (executed execution.now)) }
-    ensures ran { IfOk result (λ text. driven.new ≡ after_jobs driven_by (window_jobs (one_job (executed execution.now))) driven.old) }
-    ensures some { OnErr result (RunsSome driven_by (window_jobs (one_job (executed execution.now))) driven.old driven.new) }
+    ensures ran { IfOk result (λ text. driven.new ≡
+        after_jobs driven_by (window_jobs (one_job (executed execution.now))) driven.old) }
+    ensures some { OnErr result (RunsSome driven_by
+        (window_jobs (one_job (executed execution.now))) driven.old driven.new) }
 {
     let mut windows = windows_of(alloc, execution, None)?;
     let sum = sum_of(alloc, &mut windows, drive, driven)?;
@@ -70,7 +73,8 @@ fn sum_of<R: Threads + Wait + Sync, G: Gate>(
     drive: &Drive<R, G>,
     driven: &mut Driven,
 ) -> Result<i64, OutOfMemory>
-    requires { AreFew (length (actuator_lens windows.old.job.graph windows.old.job.graph.vertices)) (all_acts windows.old.job) }
+    requires { AreFew (length (actuator_lens windows.old.job.graph windows.old.job.graph.vertices))
+        (all_acts windows.old.job) }
     ensures sum { IfOk result (λ sum. wrapped sum ≡ wrapped (total_left windows.old)) }
     ensures ran { IfOk result (λ sum. driven.new ≡ after_jobs driven_by (jobs_left windows.old) driven.old) }
     ensures some { OnErr result (RunsSome driven_by (jobs_left windows.old) driven.old driven.new) }

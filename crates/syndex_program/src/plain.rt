@@ -1,7 +1,7 @@
 //! The commands that run no job.
-ghost use Rattle.std.specs.Prelude.{◌≡◌, map, Some};
+ghost use Rattle.std.specs.Prelude.{map, Some};
 ghost use Rattle.std.specs.String.{string_bytes};
-ghost use Rattle.command_plan.specs.Run.{Ends, Performs, Ran};
+ghost use Rattle.command_plan.specs.Run.{Ends, Performs};
 ghost use Rattle.command_status.specs.Status.{ending_of};
 ghost use Rattle.command_words.specs.Command.{command_of};
 ghost use Rattle.command_words.specs.View.{view_of};
@@ -32,7 +32,8 @@ pub fn status_of<S: Shelf, K: Sink>(
     shelf: &mut S,
     out: &mut K,
 ) -> Option<Status>
-    ensures replies { RepliesOrLeaves (command_of (map string_bytes words.now)) (S.held shelf.old) (S.held shelf.new) (K.sunk out.old) (K.sunk out.new) result }
+    ensures replies { RepliesOrLeaves (command_of (map string_bytes words.now)) (S.held shelf.old)
+        (S.held shelf.new) (K.sunk out.old) (K.sunk out.new) result }
     ensures stays { Stays (S.held shelf.old) (S.held shelf.new) }
     ensures unread { LeavesUnread (command_of (map string_bytes words.now)) (S.held shelf.old) (S.held shelf.new) }
 {
@@ -52,7 +53,8 @@ fn status_for<S: Shelf, K: Sink>(
     out: &mut K,
 ) -> Option<Status>
     requires { IsCounted (view_of command.now) }
-    ensures ran { IsRunOrPlain (view_of command.now) (S.held shelf.old) (S.held shelf.new) (K.sunk out.old) (K.sunk out.new) result }
+    ensures ran { IsRunOrPlain (view_of command.now) (S.held shelf.old) (S.held shelf.new)
+        (K.sunk out.old) (K.sunk out.new) result }
     ensures stays { Stays (S.held shelf.old) (S.held shelf.new) }
     ensures unread { LeavesUnread (Some (view_of command.now)) (S.held shelf.old) (S.held shelf.new) }
 {
@@ -102,7 +104,8 @@ fn text_of<S: Shelf>(
 
 /// Writes the text that was made, or answers why there is none.
 fn write_text<K: Sink>(out: &mut K, made: Result<Vec<u8>, Status>) -> Status
-    ensures { (driven : Driven) → Ends driven_by stages (text_in made) (K.sunk out.old) (K.sunk out.new) driven driven (ending_of result) }
+    ensures { (driven : Driven) → Ends driven_by stages (text_in made) (K.sunk out.old)
+        (K.sunk out.new) driven driven (ending_of result) }
 {
     match made {
         Err(refused) => refused,
@@ -112,7 +115,8 @@ fn write_text<K: Sink>(out: &mut K, made: Result<Vec<u8>, Status>) -> Status
 
 /// Writes a text by one call.
 pub fn put_text<K: Sink>(out: &mut K, text: &[u8]) -> Status
-    ensures { (driven : Driven) → Performs driven_by (stages (written text.now)) (K.sunk out.old) (K.sunk out.new) driven driven (ending_of result) }
+    ensures { (driven : Driven) → Performs driven_by (stages (written text.now)) (K.sunk out.old)
+        (K.sunk out.new) driven driven (ending_of result) }
 {
     match write_whole(out, text) {
         Ok(()) => Status::Done,

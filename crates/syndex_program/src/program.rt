@@ -20,8 +20,10 @@ use syn_base::OutOfMemory;
 /// The schedule of the pressure run.
 pub fn scheduled(alloc: Global, architecture: &Architecture) -> Result<Schedule, OutOfMemory>
     requires { durations_of architecture.now.flat (described architecture.now.text) ≡ Ok architecture.now.durations }
-    ensures run { IfOk result (λ s. s ≡ schedule_of architecture.now.flat architecture.now.text.archi architecture.now.durations) }
-    ensures valid { IfOk result (λ s. IsTrue (is_valid architecture.now.flat architecture.now.text.archi (entry_in architecture.now.durations) s)) }
+    ensures run { IfOk result (λ s. s ≡ schedule_of architecture.now.flat
+        architecture.now.text.archi architecture.now.durations) }
+    ensures valid { IfOk result (λ s. IsTrue (is_valid architecture.now.flat
+        architecture.now.text.archi (entry_in architecture.now.durations) s)) }
 {
     let flat = &architecture.flat;
     let archi = &architecture.text.archi;

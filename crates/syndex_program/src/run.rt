@@ -32,7 +32,8 @@ pub fn write_run<R: Threads + Wait + Sync, K: Sink, G: Gate>(
     driven: &mut Driven,
 ) -> Status
     requires { IsExecuted execution.now }
-    ensures { let e = executed execution.now in Performs driven_by (stages (printed (head e) e)) (K.sunk out.old) (K.sunk out.new) driven.old driven.new (ending_of result) }
+    ensures { let e = executed execution.now in Performs driven_by (stages (printed (head e) e))
+        (K.sunk out.old) (K.sunk out.new) driven.old driven.new (ending_of result) }
 {
     status_of(write_parts(alloc, execution, out, drive, workers, driven))
 }
@@ -47,7 +48,9 @@ fn write_parts<R: Threads + Wait + Sync, K: Sink, G: Gate>(
     driven: &mut Driven,
 ) -> Result<(), Stopped>
     requires { IsExecuted execution.now }
-    ensures { let e = executed execution.now in Performs {R = Refusal} driven_by (stages (printed (head e) e)) (K.sunk out.old) (K.sunk out.new) driven.old driven.new (windows.ending_of result) }
+    ensures { let e = executed execution.now in Performs {R = Refusal} driven_by
+        (stages (printed (head e) e)) (K.sunk out.old) (K.sunk out.new) driven.old driven.new
+        (windows.ending_of result) }
 {
     let Ok(head) = head(alloc, execution) else {
         return Err(Stopped::OutOfMemory);

@@ -42,10 +42,10 @@ module _ {R A : Type 0} where
   no_stop a b e = cc
 
   never_made : (u : R) (old new : Held) (plan : Plan R A) (made : Result A (Ending R)) → Never u plan → Makes old new plan made → made ≡ Err (refused u) → ⊥
-  never_made u old new (give a) made n (gives (inl g)) e = no_stop a (refused u) (sym g.0 ∙ e)
-  never_made u old new (give a) made n (gives (inr g)) e = let q = same_stop no_memory (refused u) (sym g ∙ e) in cc
-  never_made u old new (refuse r) made n (refuses (inl g)) e = n (same_refused r u (same_stop (refused r) (refused u) (sym g.0 ∙ e)))
-  never_made u old new (refuse r) made n (refuses (inr g)) e = let q = same_stop no_memory (refused u) (sym g ∙ e) in cc
+  never_made u old new (give a) made n (gives (inl g, stay)) e = no_stop a (refused u) (sym g ∙ e)
+  never_made u old new (give a) made n (gives (inr g, stay)) e = let q = same_stop no_memory (refused u) (sym g ∙ e) in cc
+  never_made u old new (refuse r) made n (refuses (inl g, stay)) e = n (same_refused r u (same_stop (refused r) (refused u) (sym g ∙ e)))
+  never_made u old new (refuse r) made n (refuses (inr g, stay)) e = let q = same_stop no_memory (refused u) (sym g ∙ e) in cc
   never_made u old new (read file name long next) _ n (not_read {ending = s} f) e = by s f (same_stop s (refused u) e)
     where
       by : (s : Ending R) → FailsToRead file name long old new s → s ≡ refused u → ⊥

@@ -1,5 +1,5 @@
 use Rattle.std.proofs.Common.{◌≡◌, ◌∙◌, ap, subst, sym}
-use Rattle.std.specs.Prelude.{List, Ok, Err}
+use Rattle.std.specs.Prelude.{Ok, Err}
 use Rattle.std.proofs.lemmas.Result.{err_from_is_err_and}
 use Rattle.outside.specs.Bytes.{Bytes}
 use Rattle.algo_defs.specs.declared.definition.Defs.{Defs}
@@ -12,7 +12,7 @@ use Rattle.command_plan.specs.Plan.{give}
 use Rattle.command_plan.proofs.Makes.{gave, memory}
 use Rattle.command_status.specs.Status.{ending_of}
 use Rattle.top_plans.specs.Given.{written}
-use Rattle.top_plans.specs.Plans.{architecture_plan, chart_of, chart_plan}
+use Rattle.top_plans.specs.Plans.{architecture_plan, chart_of}
 use Rattle.syndex_program.specs.Reads.{described}
 use Rattle.syndex_program.proofs.Architectures as architecture
 use Rattle.syndex_program.proofs.Steps.{went_on}
@@ -38,7 +38,13 @@ pub returns-in_err-charted-clause-makes : goal.returns-in_err-charted-clause-mak
 returns-in_err-charted-clause-makes g c =
     let H = g.S.Shelf.held in
     let p = err_from_is_err_and c.from_residual-in_err-charted.result c.from_residual-in_err-charted.ensures.1 in
-    rw (p.1, p.2) (memory (H c.args.shelf.now) (H c.read_architecture.new.shelf) (chart_plan c.args.algorithm.now c.args.architecture.now))
+    rw (p.1, p.2) (
+    went_on c.args.algorithm.now (H c.args.shelf.now) (H c.read_algorithm.new.shelf) (H c.read_architecture.new.shelf) c.in_ok-algorithm.algorithm
+    (λ (defs : Defs) (main : Vertex). architecture_plan c.args.architecture.now main (λ (d : Described) (t : Table). give (written (chart_of (flat_of main) d t)))) _ c.in_ok-algorithm.ensures.reads
+    (architecture.went_on c.in_ok-algorithm.algorithm.tree c.args.architecture.now (H c.read_algorithm.new.shelf) (H c.read_architecture.new.shelf) (H c.read_architecture.new.shelf) c.in_ok-architecture.architecture
+    (λ (d : Described) (t : Table). give (written (chart_of (flat_of c.in_ok-algorithm.algorithm.tree) d t))) _ c.in_ok-architecture.ensures.reads
+    (memory (H c.read_architecture.new.shelf) _))
+    )
 
 pub returns-clause-makes : goal.returns-clause-makes
 returns-clause-makes g c =

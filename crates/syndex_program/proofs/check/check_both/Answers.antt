@@ -1,5 +1,5 @@
 use Rattle.std.proofs.Common.{ap}
-use Rattle.std.specs.Prelude.{List, Ok, Err, Some}
+use Rattle.std.specs.Prelude.{Ok, Err}
 use Rattle.std.proofs.lemmas.Result.{err_from_is_err_and}
 use Rattle.outside.specs.Bytes.{Bytes}
 use Rattle.algo_defs.specs.declared.definition.Defs.{Defs}
@@ -10,7 +10,7 @@ use Rattle.command_plan.specs.Plan.{give}
 use Rattle.command_plan.proofs.Makes.{gave, memory}
 use Rattle.command_status.specs.Status.{ending_of}
 use Rattle.top_plans.specs.Given.{written}
-use Rattle.top_plans.specs.Plans.{architecture_plan, both_texts, check_plan}
+use Rattle.top_plans.specs.Plans.{architecture_plan, both_texts}
 use Rattle.syndex_program.proofs.Architectures as architecture
 use Rattle.syndex_program.proofs.Steps.{went_on}
 use Rattle.syndex_program.proofs.check.check_both.Goals as goal
@@ -29,7 +29,13 @@ pub returns-in_err-both_printed-clause-makes : goal.returns-in_err-both_printed-
 returns-in_err-both_printed-clause-makes g c =
     let H = g.S.Shelf.held in
     let p = err_from_is_err_and c.from_residual-in_err-both_printed.result c.from_residual-in_err-both_printed.ensures.1 in
-    rw (p.1, p.2) (memory (H c.args.shelf.now) (H c.read_architecture.new.shelf) (check_plan c.args.algorithm.now (Some c.args.architecture.now)))
+    rw (p.1, p.2) (
+    went_on c.args.algorithm.now (H c.args.shelf.now) (H c.read_algorithm.new.shelf) (H c.read_architecture.new.shelf) c.in_ok-algorithm.algorithm
+    (λ (defs : Defs) (main : Vertex). architecture_plan c.args.architecture.now main (λ (d : Described) (t : Table). give (written (both_texts defs d)))) _ c.in_ok-algorithm.ensures.reads
+    (architecture.went_on c.in_ok-algorithm.algorithm.tree c.args.architecture.now (H c.read_algorithm.new.shelf) (H c.read_architecture.new.shelf) (H c.read_architecture.new.shelf) c.in_ok-architecture.architecture
+    (λ (d : Described) (t : Table). give (written (both_texts c.in_ok-algorithm.algorithm.defs d))) _ c.in_ok-architecture.ensures.reads
+    (memory (H c.read_architecture.new.shelf) _))
+    )
 
 pub returns-clause-makes : goal.returns-clause-makes
 returns-clause-makes g c =

@@ -1,5 +1,5 @@
 use Rattle.std.proofs.Common.{ap}
-use Rattle.std.specs.Prelude.{List, None, Ok}
+use Rattle.std.specs.Prelude.{Ok}
 use Rattle.std.proofs.lemmas.Result.{err_from_is_err_and}
 use Rattle.outside.specs.Bytes.{Bytes}
 use Rattle.algo_defs.specs.declared.definition.Defs.{Defs}
@@ -8,7 +8,6 @@ use Rattle.algo_tree.specs.Tree.{Vertex}
 use Rattle.command_plan.specs.Plan.{give}
 use Rattle.command_plan.proofs.Makes.{gave, memory}
 use Rattle.top_plans.specs.Given.{written}
-use Rattle.top_plans.specs.Plans.{check_plan}
 use Rattle.syndex_program.proofs.Steps.{went_on}
 use Rattle.syndex_program.proofs.check.check_text.Goals as goal
 
@@ -16,7 +15,10 @@ pub returns-in_err-printed-clause-makes : goal.returns-in_err-printed-clause-mak
 returns-in_err-printed-clause-makes g c =
     let H = g.S.Shelf.held in
     let p = err_from_is_err_and c.from_residual-in_err-printed.result c.from_residual-in_err-printed.ensures.1 in
-    rw (p.1, p.2) (memory (H c.args.shelf.now) (H c.read_algorithm.new.shelf) (check_plan c.args.algorithm.now None))
+    rw (p.1, p.2) (
+    went_on c.args.algorithm.now (H c.args.shelf.now) (H c.read_algorithm.new.shelf) (H c.read_algorithm.new.shelf) c.in_ok-algorithm.algorithm
+    (λ (defs : Defs) (main : Vertex). give (written (canonical_text defs))) _ c.in_ok-algorithm.ensures.reads (memory (H c.read_algorithm.new.shelf) _)
+    )
 
 pub returns-clause-makes : goal.returns-clause-makes
 returns-clause-makes g c =

@@ -22,7 +22,7 @@ pub returns-in_err-coded : goal.returns-in_err-coded
 returns-in_err-coded c =
     let given = c.args.architecture.now in
     let p = err_from_is_err_and c.from_residual-in_err-coded.result c.from_residual-in_err-coded.ensures.1 in
-    rw (p.1, p.2) (λ held. memory held held (macro_plan given.flat given.text.archi given.durations))
+    rw (p.1, p.2) (λ held. memory held (macro_plan given.flat given.text.archi given.durations))
 
 pub returns : goal.returns
 returns c = λ held.

@@ -1,4 +1,4 @@
-use Rattle.std.proofs.Common.{◌≡◌, ◌∙◌, ap, subst, length, sym}
+use Rattle.std.proofs.Common.{◌≡◌, ◌∙◌, ap, subst, length}
 use Rattle.std.specs.Prelude.{None, Some}
 use Rattle.durations.specs.Table.{entry_in}
 use Rattle.executive_program.specs.declared.program.Program.{Program}
@@ -31,4 +31,4 @@ returns-in-Err-Limit-clause-builds c = λ held next.
     is_above held (program_limit (program_by given.flat a given.durations) (length a.media)) c.in-Err-Limit.limit (next (program_by given.flat a given.durations)) over
 
 pub returns-in-Err-OutOfMemory-clause-builds : goal.returns-in-Err-OutOfMemory-clause-builds
-returns-in-Err-OutOfMemory-clause-builds c = λ held next. let given = c.args.architecture.now in memory held held (program_plan given.flat given.text.archi given.durations next)
+returns-in-Err-OutOfMemory-clause-builds c = λ held next. let given = c.args.architecture.now in memory held (program_plan given.flat given.text.archi given.durations next)

@@ -62,7 +62,7 @@ pub returns-in_err-listed : goal.returns-in_err-listed
 returns-in_err-listed c =
     let x = c.args.architecture.now in
     let p = err_from_is_err_and c.from_residual-in_err-listed.result c.from_residual-in_err-listed.ensures.1 in
-    rw (p.1, p.2) (λ held. memory held held (dated_in c.args.text.now x.flat x.text.archi x.durations c.args.reactions))
+    rw (p.1, p.2) (λ held. memory held (dated_in c.args.text.now x.flat x.text.archi x.durations c.args.reactions))
 
 pub returns : goal.returns
 returns c = λ held.

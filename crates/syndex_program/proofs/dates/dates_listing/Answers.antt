@@ -9,7 +9,7 @@ use Rattle.flat_graph.specs.Graph.{Graph}
 use Rattle.command_plan.specs.Run.{Makes, not_read, was_read}
 use Rattle.command_plan.proofs.Makes.{memory}
 use Rattle.command_status.specs.Status.{ending_of}
-use Rattle.top_plans.specs.Plans.{architecture_plan, dates_plan}
+use Rattle.top_plans.specs.Plans.{architecture_plan}
 use Rattle.syndex_program.specs.Dates.{dated_in}
 use Rattle.syndex_program.specs.Reads.{described, text_in}
 use Rattle.syndex_program.proofs.Architectures as architecture
@@ -37,7 +37,14 @@ pub returns-in_err-schedule-clause-makes : goal.returns-in_err-schedule-clause-m
 returns-in_err-schedule-clause-makes g c =
     let H = g.S.Shelf.held in
     let p = err_from_is_err_and c.from_residual-in_err-schedule.result c.from_residual-in_err-schedule.ensures.1 in
-    rw (p.1, p.2) (memory (H c.args.shelf.now) (H c.read_architecture.new.shelf) (dates_plan c.args.algorithm.now c.args.architecture.now c.args.durations.now c.args.reactions))
+    let algorithm = c.in_ok-algorithm.algorithm in
+    let next = behind_architecture c.args.durations.now c.args.reactions in
+    rw (p.1, p.2) (
+    went_on c.args.algorithm.now (H c.args.shelf.now) (H c.read_algorithm.new.shelf) (H c.read_architecture.new.shelf) algorithm
+    (λ (defs : Defs) (main : Vertex). architecture_plan c.args.architecture.now main (next main)) _ c.in_ok-algorithm.ensures.reads
+    (architecture.went_on algorithm.tree c.args.architecture.now (H c.read_algorithm.new.shelf) (H c.read_architecture.new.shelf) (H c.read_architecture.new.shelf) c.in_ok-architecture.architecture
+    (next algorithm.tree) _ c.in_ok-architecture.ensures.reads (memory (H c.read_architecture.new.shelf) _))
+    )
 
 pub returns-in_err-text-clause-makes : goal.returns-in_err-text-clause-makes
 returns-in_err-text-clause-makes g c =

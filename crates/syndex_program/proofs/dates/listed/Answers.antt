@@ -1,9 +1,7 @@
-use Rattle.std.proofs.Common.{◌≡◌, ◌∙◌, ℕ, List, All, length, replicate, ap, subst, sym}
-use Rattle.durations.specs.Table.{entry_in}
+use Rattle.std.proofs.Common.{ℕ, List, subst, sym}
 use Rattle.schedule.specs.Acts.{acts}
 use Rattle.self_timed_laws.specs.Entries.{AreWithin}
 use Rattle.self_timed.specs.Told.{HaveEntries, entries_of}
-use Rattle.dates_text.specs.Listing.{all_dates, dated_text}
 use Rattle.syndex_program.proofs.dates.listed.Goals as goal
 
 pub dates_text-requires-clause-valid : goal.dates_text-requires-clause-valid

@@ -14,7 +14,7 @@ use Rattle.syn_base.specs.Rows.{Reactions}
 use Rattle.command_plan.proofs.Makes.{memory}
 use Rattle.top_plans.specs.Given.{Given, Execution}
 use Rattle.top_plans.specs.Plans.{Made, code_in, described_in, execution, execution_plan, read_file, table_plan}
-use Rattle.syndex_program.specs.Executes.{foreign_plan, made_of}
+use Rattle.syndex_program.specs.Executes.{made_of}
 use Rattle.syndex_program.specs.Foreign.{ReadsProgram}
 use Rattle.syndex_program.proofs.Coded.{program_went_on, text_went_on}
 use Rattle.syndex_program.proofs.Steps.{went_on, rows_went_on}
@@ -72,7 +72,13 @@ pub returns-in_err-flat-clause-makes : goal.returns-in_err-flat-clause-makes
 returns-in_err-flat-clause-makes g c =
     let H = g.S.Shelf.held in
     let p = err_from_is_err_and c.from_residual-in_err-flat.result c.from_residual-in_err-flat.ensures.1 in
-    rw (p.1, p.2) (λ next. memory (H c.args.shelf.now) (H c.read_text.new.shelf) (foreign_plan next c.args.algorithm.now c.args.architecture.now c.args.code.now c.args.sensors.now))
+    let algorithm = c.in_ok-algorithm.algorithm in
+    rw (p.1, p.2) (λ next.
+    went_on c.args.algorithm.now (H c.args.shelf.now) (H c.read_algorithm.new.shelf) (H c.read_text.new.shelf) algorithm
+    (behind_algorithm next c.args.architecture.now c.args.code.now c.args.sensors.now) _ c.in_ok-algorithm.ensures.reads
+    (text_went_on c.args.architecture.now (H c.read_algorithm.new.shelf) (H c.read_text.new.shelf) (H c.read_text.new.shelf) c.in_ok-text.text
+    (behind_text next c.args.architecture.now c.args.code.now c.args.sensors.now algorithm.tree) _ c.in_ok-text.ensures.reads (memory (H c.read_text.new.shelf) _))
+    )
 
 pub returns-in_err-program-clause-makes : goal.returns-in_err-program-clause-makes
 returns-in_err-program-clause-makes g c =

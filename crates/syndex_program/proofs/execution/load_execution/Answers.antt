@@ -60,7 +60,7 @@ within_limits-requires-clause-few c = few_rows c.in_ok-algorithm-2.algorithm.tre
 pub returns-in_err-algorithm-clause-makes : goal.returns-in_err-algorithm-clause-makes
 returns-in_err-algorithm-clause-makes c =
     let p = err_from_is_err_and c.from_residual.result c.from_residual.ensures.1 in
-    rw (p.1, p.2) (λ next held. memory held held (texts_plan next (load_algorithm c.args.n) load_architecture (load_table c.args.n)))
+    rw (p.1, p.2) (λ next held. memory held (texts_plan next (load_algorithm c.args.n) load_architecture (load_table c.args.n)))
 
 pub returns-in_err-algorithm-2-clause-makes : goal.returns-in_err-algorithm-2-clause-makes
 returns-in_err-algorithm-2-clause-makes c =

@@ -1,5 +1,5 @@
 use Rattle.std.proofs.Common.{ap}
-use Rattle.std.specs.Prelude.{List, Ok}
+use Rattle.std.specs.Prelude.{Ok}
 use Rattle.std.proofs.lemmas.Result.{err_from_is_err_and}
 use Rattle.outside.specs.Bytes.{Bytes}
 use Rattle.algo_defs.specs.declared.definition.Defs.{Defs}
@@ -10,14 +10,16 @@ use Rattle.flat_laws.specs.FlatOf.{flat_of}
 use Rattle.flat_text.specs.Listing.{listing}
 use Rattle.syndex_program.proofs.Steps.{went_on}
 use Rattle.top_plans.specs.Given.{written}
-use Rattle.top_plans.specs.Plans.{flat_plan}
 use Rattle.syndex_program.proofs.flat.listing_text.Goals as goal
 
 pub returns-in_err-listed-clause-makes : goal.returns-in_err-listed-clause-makes
 returns-in_err-listed-clause-makes g c =
     let H = g.S.Shelf.held in
     let p = err_from_is_err_and c.from_residual-in_err-listed.result c.from_residual-in_err-listed.ensures.1 in
-    rw (p.1, p.2) (memory (H c.args.shelf.now) (H c.read_algorithm.new.shelf) (flat_plan c.args.algorithm.now))
+    rw (p.1, p.2) (
+    went_on c.args.algorithm.now (H c.args.shelf.now) (H c.read_algorithm.new.shelf) (H c.read_algorithm.new.shelf) c.in_ok-algorithm.algorithm
+    (λ (defs : Defs) (main : Vertex). give (written (listing (flat_of main)))) _ c.in_ok-algorithm.ensures.reads (memory (H c.read_algorithm.new.shelf) _)
+    )
 
 pub returns-clause-makes : goal.returns-clause-makes
 returns-clause-makes g c =

@@ -1,20 +1,21 @@
-use Rattle.std.proofs.Common.{◌≡◌, map, Option, subst, sym}
-use Rattle.std.specs.Prelude.{Some, None}
+use Rattle.std.proofs.Common.{map, Option, subst, sym}
+use Rattle.std.specs.Prelude.{Some}
 use Rattle.std.specs.String.{string_bytes}
 use Rattle.command_status.specs.Status.{ending_of}
 use Rattle.command_words.specs.Command.{Command, command_of}
 use Rattle.command_words.specs.View.{view_of}
 use Rattle.top_plans.specs.Replies.{Replies}
+use Rattle.syndex_program.specs.Counts.{AreCounted}
 use Rattle.syndex_program.specs.Jobs.{RunsIn}
-use Rattle.syndex_program.proofs.Loads.{IsFitIn, loads_are_fit}
+use Rattle.syndex_program.proofs.Counts.{counted_words}
 use Rattle.syndex_program.proofs.Replying.{wants}
 use Rattle.syndex_program.proofs.jobs.status_of.Goals as goal
 
 pub status_for-requires-clause-jobs : goal.status_for-requires-clause-jobs
 status_for-requires-clause-jobs g c = λ κs ls. subst RunsIn (sym (rw c.in-Ok-Some.field-0-is at c.in-Ok-Some.ensures)) c.requires
 
-pub status_for-requires-clause-fit : goal.status_for-requires-clause-fit
-status_for-requires-clause-fit g c = λ κs ls. subst IsFitIn (sym (rw c.in-Ok-Some.field-0-is at c.in-Ok-Some.ensures)) (loads_are_fit (map string_bytes c.args.words.now))
+pub status_for-requires-clause-counted : goal.status_for-requires-clause-counted
+status_for-requires-clause-counted g c = λ κs ls. subst AreCounted (sym (rw c.in-Ok-Some.field-0-is at c.in-Ok-Some.ensures)) (counted_words (map string_bytes c.args.words.now))
 
 pub unreachable-requires : goal.unreachable-requires
 unreachable-requires g c = subst RunsIn (sym (rw c.in-Ok-None.field-0-is at c.in-Ok-None.ensures)) c.requires

@@ -18,7 +18,7 @@ pub returns-in_err-schedule : goal.returns-in_err-schedule
 returns-in_err-schedule c =
     let given = c.args.architecture.now in
     let p = err_from_is_err_and c.from_residual.result c.from_residual.ensures.1 in
-    rw (p.1, p.2) (λ held next. memory held held (program_plan given.flat given.text.archi given.durations next))
+    rw (p.1, p.2) (λ held next. memory held (program_plan given.flat given.text.archi given.durations next))
 
 pub returns-in-Ok : goal.returns-in-Ok
 returns-in-Ok c =
@@ -35,4 +35,4 @@ returns-in-Err-Limit c = λ held next.
     is_above held (program_limit (program_by given.flat a given.durations) (length a.media)) c.in-Err-Limit.limit (next (program_by given.flat a given.durations)) over
 
 pub returns : goal.returns
-returns c = λ held next. let given = c.args.architecture.now in memory held held (program_plan given.flat given.text.archi given.durations next)
+returns c = λ held next. let given = c.args.architecture.now in memory held (program_plan given.flat given.text.archi given.durations next)

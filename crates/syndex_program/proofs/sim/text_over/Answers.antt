@@ -13,7 +13,7 @@ use Rattle.syndex_program.proofs.sim.text_over.Goals as goal
 pub returns-in_err-width : goal.returns-in_err-width
 returns-in_err-width c =
     let p = err_from_is_err_and c.from_residual.result c.from_residual.ensures.1 in
-    rw (p.1, p.2) (λ held. memory held held (rows_plan c.args.tree.now c.args.rows.now))
+    rw (p.1, p.2) (λ held. memory held (rows_plan c.args.tree.now c.args.rows.now))
 
 pub returns-in-Some : goal.returns-in-Some
 returns-in-Some c = λ held.
@@ -27,7 +27,7 @@ returns-in-Some c = λ held.
 pub returns-in_err-simulated-in-None : goal.returns-in_err-simulated-in-None
 returns-in_err-simulated-in-None c =
     let p = err_from_is_err_and c.from_residual-in_err-simulated-in-None.result c.from_residual-in_err-simulated-in-None.ensures.1 in
-    rw (p.1, p.2) (λ held. memory held held (rows_plan c.args.tree.now c.args.rows.now))
+    rw (p.1, p.2) (λ held. memory held (rows_plan c.args.tree.now c.args.rows.now))
 
 pub returns-in_ok-simulated-in-None : goal.returns-in_ok-simulated-in-None
 returns-in_ok-simulated-in-None c = λ held.
