@@ -6,7 +6,7 @@ use Rattle.std.proofs.lemmas.List.{length-set, length-replicate, get_or-replicat
 use Rattle.consistent_cuts.specs.Sites.{step_at, reaction_at, place_at}
 use Rattle.consistent_cuts.specs.Precedence.{one_more}
 use Rattle.interleavings.specs.System as theory
-use Rattle.interleavings.specs.System.{Micro, State, put, place_number, take as taken, see, sub, signal, await, advance, load, store}
+use Rattle.interleavings.specs.System.{Micro, State, put, place_number, load, store}
 use Rattle.level_meaning.specs.Level.{Vector, element_at, vector_at}
 use Rattle.flat_graph.specs.declared.vertex.Vertex.{Vertex}
 use Rattle.flat_graph.specs.declared.vertex.Kind.TheVariants.{Actuator}

@@ -8,7 +8,7 @@ use Rattle.std.proofs.lemmas.List.FromFn.{length-map-range_with_len, get_or-map-
 use Rattle.std.proofs.lemmas.Nat.{div-mul-add, mod-mul-add}
 use Rattle.std.proofs.lemmas.Option.{same_Some}
 use Rattle.interleavings.specs.System as theory
-use Rattle.interleavings.specs.System.{State, is_signal, is_take, advances, total}
+use Rattle.interleavings.specs.System.{is_signal, is_take, advances, total}
 use Rattle.level_meaning.specs.Level.{Values, Vector, element_at, vector_at, zeros}
 use Rattle.flat_graph.specs.declared.vertex.Kind.{Kind}
 use Rattle.flat_graph.specs.declared.vertex.Kind.TheVariants.{Sensor, Actuator, Function, Constant, Get, Set, Explode, Implode, Merge}

@@ -60,9 +60,6 @@ module _ (f : ℕ → ℕ) where
       by (inl x) q = let r = q x in let w = r.within in record { block = r.block; at = r.at; within = omega arith; inner = r.inner; is = r.is }
       by (inr x) q = record { block = n; at = l - sum_below f n; within = omega arith; inner = omega arith; is = omega arith }
 
-  pub member_below : (n a : ℕ) → a < n → f a ≤ sum_below f n
-  member_below n a h = let x = sum_rises n (suc a) h in omega arith
-
 pub sum_const : (c n : ℕ) → sum_below (λ _. c) n ≡ n * c
 sum_const c zero = omega (arith, zero-mul c)
 sum_const c (suc n) = let e = sum_const c n in omega (arith, suc-mul n c)

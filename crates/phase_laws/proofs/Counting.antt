@@ -7,6 +7,7 @@ use Rattle.std.proofs.lemmas.Bool.{cases_eq, cases_Bool, both_ways}
 use Rattle.std.proofs.lemmas.List.Sums.{sum_by-cons}
 use Rattle.consistent_cuts.specs.Sites.{hit}
 use Rattle.interleavings.specs.System.{Micro}
+use Rattle.interleavings.proofs.Sums.{none_below}
 use Rattle.interleavings.specs.Owners.{sum_below}
 
 module _ {A : Type 0} (f : A → Bool) where
@@ -30,16 +31,12 @@ module _ {A : Type 0} (f : A → Bool) where
   count_less (y ∷ ys) zero x e h = let u = count_cons y ys in let v = one_here y x e h in omega arith
   count_less (y ∷ ys) (suc a) x e h = let r = count_less ys a x e h in let u = count_cons y ys in let v = count_cons y (take a ys) in omega arith
 
-sum_none : (f : ℕ → ℕ) (n : ℕ) → ((i : ℕ) → i < n → f i ≡ 0) → sum_below f n ≡ 0
-sum_none f zero h = refl
-sum_none f (suc n) h = let r = sum_none f n (λ i l. h i (omega arith)) in let z = h n (omega arith) in omega arith
-
 sum_one : (f : ℕ → ℕ) (n i : ℕ) → i < n → f i ≡ 1 → ((j : ℕ) → (j ≡ i → ⊥) → f j ≡ 0) → sum_below f n ≡ 1
 sum_one f zero i l h o = absurd (omega arith)
 sum_one f (suc n) i l h o = by (cases_eq i n) (λ k. sum_one f n i k h o)
   where
     by : (i ≡ n) ⊎ (i ≡ n → ⊥) → (i < n → sum_below f n ≡ 1) → sum_below f (suc n) ≡ 1
-    by (inl e) r = let z = sum_none f n (λ j k. o j (λ q. omega arith)) in let y = ap f e in omega arith
+    by (inl e) r = let z = none_below f n (λ j k. o j (λ q. omega arith)) in let y = ap f e in omega arith
     by (inr e) r = let z = r (omega arith) in let y = o n (λ q. e (sym q)) in omega arith
 
 -- What passes one test of a family passes exactly one of its members.
@@ -47,7 +44,7 @@ pub covered : (all : Micro → Bool) (one : ℕ → Micro → Bool) (n : ℕ) (o
     → ((d : Micro) → o ≡ Some d → all d ≡ true → (i : ℕ) × (i < n) × (one i d ≡ true) × ((j : ℕ) → one j d ≡ true → j ≡ i))
     → ((d : Micro) (j : ℕ) → one j d ≡ true → all d ≡ true)
     → hit all o ≡ sum_below (λ i. hit (one i) o) n
-covered all one n None f g = sym (sum_none (λ i. hit (one i) None) n (λ i l. refl))
+covered all one n None f g = sym (none_below (λ i. hit (one i) None) n (λ i l. refl))
 covered all one n (Some d) f g = by (cases_Bool (all d))
   where
     no_hit : (j : ℕ) → (one j d ≡ true → ⊥) → hit (one j) (Some d) ≡ 0
@@ -55,4 +52,4 @@ covered all one n (Some d) f g = by (cases_Bool (all d))
 
     by : (all d ≡ true) ⊎ (all d ≡ false) → hit all (Some d) ≡ sum_below (λ i. hit (one i) (Some d)) n
     by (inl e) = let q = f d refl e in rw e (sym (sum_one (λ i. hit (one i) (Some d)) n q.0 q.1 (rw q.2 refl) (λ j k. no_hit j (λ u. k (q.3 j u)))))
-    by (inr e) = rw e (sym (sum_none (λ i. hit (one i) (Some d)) n (λ j l. no_hit j (λ u. both_ways (all d) e (g d j u)))))
+    by (inr e) = rw e (sym (none_below (λ i. hit (one i) (Some d)) n (λ j l. no_hit j (λ u. both_ways (all d) e (g d j u)))))

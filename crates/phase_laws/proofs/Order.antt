@@ -7,6 +7,7 @@ use Rattle.std.proofs.lemmas.Bool.{ne_eqb, eq-eqb, cases_eq, cases_order, cases_
 use Rattle.std.proofs.Math.Nat.{mul-le-mul_right}
 use native.Mathlib.Nat.{suc-mul}
 use Rattle.interleavings.specs.System.{System, Micro, take as taken, see, signal, await}
+use Rattle.interleavings.proofs.Sums.{member_below}
 use Rattle.interleavings.specs.Owners.{Owner}
 use Rattle.interleavings.specs.Media.{Half}
 use Rattle.interleavings.specs.Pairs.{IsSemaphore}
@@ -21,7 +22,7 @@ use Rattle.executive_program.specs.Places.{Places}
 use Rattle.executive_program.specs.WellFormed.{Stands, Before, place_in, place}
 use Rattle.executive_program.specs.WellFormed as WF
 use Rattle.phase_laws.specs.Discipline.{signaller, half, spot, stride, steps, front}
-use Rattle.phase_laws.proofs.Blocks.{sum_same_block, sum_inside, block_at_is, inside, member_below, blocks_length}
+use Rattle.phase_laws.proofs.Blocks.{sum_same_block, sum_inside, block_at_is, inside, blocks_length}
 use Rattle.phase_laws.proofs.Places.{stands_sequence, at_turn, Origin, origin, earlier, front_sequence, slice_get_some}
 use Rattle.phase_laws.proofs.Setting.{Parts, Conditions, system_of}
 use Rattle.phase_laws.proofs.Counting.{count_cons, one_if}

@@ -4,7 +4,7 @@ use Rattle.std.specs.Prelude.{slice_index_or}
 use Rattle.std.proofs.lemmas.Bool.{cases_lt, le-ltb}
 use Rattle.std.proofs.lemmas.Option.{none-some}
 use Rattle.interleavings.specs.System as theory
-use Rattle.interleavings.specs.System.{State, Micro, take as taken, see, sub, signal, await, advance, load, store}
+use Rattle.interleavings.specs.System.{Micro}
 use Rattle.interleavings.specs.Laws as laws_of_theory
 use Rattle.executive_program.specs.declared.steps.MicroStep.{MicroStep}
 use Rattle.executive_program.specs.declared.steps.MicroStep.TheVariants.{Take, See, Lower, Signal, Await, Advance, Load, Store}

@@ -1,99 +1,28 @@
 -- The pairs that are computed from a well-formed program guard its buffers.
-use Rattle.std.proofs.Common.{◌≡◌, ℕ, zero, suc, ◌+◌, ◌-◌, ◌<◌, ◌≤◌, ◌⊎◌, Bool, true, false, ◌||◌, not, cond, nat_eq, List, [], ◌∷◌, length, Option, Some, None, refl, sym, ap, subst, inl, inr, arith, ◌∙◌, eq-eqb, ne_eqb}
+use Rattle.std.proofs.Common.{◌≡◌, ℕ, zero, suc, ◌+◌, ◌-◌, ◌<◌, ◌≤◌, ◌⊎◌, Bool, true, false, not, List, length, Option, Some, None, refl, sym, ap, subst, inl, inr, arith, ◌∙◌, eq-eqb, ne_eqb}
 use Rattle.std.specs.Prelude.{slice_get}
 use Rattle.std.specs.List.{list_any}
 use Rattle.std.specs.Cmp.Derive.{both_true}
-use Rattle.std.proofs.lemmas.Bool.{false≢true, and_parts, eqb-true, cases_Bool, cases_eq}
+use Rattle.std.proofs.lemmas.Bool.{and_parts, cases_eq}
 use Rattle.std.proofs.lemmas.List.{length-map}
-use Rattle.std.proofs.lemmas.Option.{same_Some, slice_get_within}
+use Rattle.std.proofs.lemmas.Option.{slice_get_within}
 use Rattle.interleavings.specs.Owners.{sum_below}
+use Rattle.interleavings.proofs.Sums.{same_below}
 use Rattle.flat_graph.specs.declared.vertex.Source.{Source}
 use Rattle.flat_graph.specs.Graph.{Graph}
 use Rattle.archi_graph.specs.declared.medium.Seq.{Seq}
 use Rattle.executive_program.specs.declared.program.Instr.{Instr}
-use Rattle.executive_program.specs.declared.program.Instr.TheVariants.{Pre0, Call, Send, Recv}
+use Rattle.executive_program.specs.declared.program.Instr.TheVariants.{Pre0}
 use Rattle.executive_program.specs.declared.program.SeqCode.{SeqCode}
 use Rattle.executive_program.specs.declared.program.Program.{Program}
 use Rattle.executive_program.specs.Blocks.{repeated}
 use Rattle.executive_program.specs.Instructions.{reads, writes, turn, turn_of, prologue, prologue_of, Reader, waits_for, readers_from, readers, depth_of, depth_at, pair_depth}
 use Rattle.executive_program.specs.Places.{places, pair, reader, reader_or, writing, opening_signals, signals_of, opening_of}
 use Rattle.executive_program.specs.WellFormed.{Stands, WritesAt, ReadsAt, IsBuffer, IsOrderBy, operator_of}
+use Rattle.executive_program.proofs.Reading.{any_at, any_of, reads_of, of_reads, writes_of, of_writes, Waits, from_readers, to_readers, from_repeated}
 use Rattle.phase_laws.proofs.Blocks.{blocks_at, blocks_length, InBlock, in_block, sum_rises}
 use Rattle.phase_laws.proofs.Places.{slice_get_some, stands_sequence}
 use Rattle.phase_laws.proofs.Setting.{AreGuarded, Conditions}
-
--- some element of a list passes the test, or none does
-or_right : (a b : Bool) → b ≡ true → (a || b) ≡ true
-or_right true b h = refl
-or_right false b h = h
-
-any_at : {X : Type 0} (test : X → Bool) (xs : List X) (i : ℕ) (x : X) → slice_get xs i ≡ Some x → test x ≡ true → list_any test xs ≡ true
-any_at test [] i x e h = absurd cc
-any_at test (y ∷ ys) zero x e h = let t : test y ≡ true = ap test (same_Some y x e) ∙ h in rw t refl
-any_at test (y ∷ ys) (suc i) x e h = or_right (test y) (list_any test ys) (any_at test ys i x e h)
-
-any_of : {X : Type 0} (test : X → Bool) (xs : List X) → list_any test xs ≡ true → (i : ℕ) × (x : X) × (slice_get xs i ≡ Some x) × (test x ≡ true)
-any_of test [] h = absurd (false≢true h)
-any_of test (y ∷ ys) h = by (cases_Bool (test y)) (λ k. any_of test ys k)
-  where
-    by : (test y ≡ true) ⊎ (test y ≡ false) → (list_any test ys ≡ true → (i : ℕ) × (x : _) × (slice_get ys i ≡ Some x) × (test x ≡ true)) → (i : ℕ) × (x : _) × (slice_get (y ∷ ys) i ≡ Some x) × (test x ≡ true)
-    by (inl e) r = (0, y, refl, e)
-    by (inr e) r = let q = r (ap (λ (b : Bool). b || list_any test ys) (sym e) ∙ h) in (suc q.0, q.1, q.2, q.3)
-
-reads_of : (b : ℕ) (x : Instr) → reads b x ≡ true → (k : ℕ) × ReadsAt x k b
-reads_of b (Call v ins outs) h = let q = any_of (λ n. nat_eq n b) ins h in (q.0, q.2 ∙ ap (λ (n : ℕ). Some n) (eqb-true q.1 b q.3))
-reads_of b (Send n o) h = (0, (eqb-true n b h, refl))
-reads_of b _ h = absurd (false≢true h)
-
-of_reads : (b k : ℕ) (x : Instr) → ReadsAt x k b → reads b x ≡ true
-of_reads b k (Call v ins outs) h = any_at (λ n. nat_eq n b) ins k b h (eq-eqb b b refl)
-of_reads b k (Send n o) h = eq-eqb n b h.0
-of_reads b k _ h = absurd h
-
-writes_of : (b : ℕ) (x : Instr) → writes b x ≡ true → (k : ℕ) × WritesAt x k b
-writes_of b (Call v ins outs) h = let q = any_of (λ n. nat_eq n b) outs h in (q.0, q.2 ∙ ap (λ (n : ℕ). Some n) (eqb-true q.1 b q.3))
-writes_of b (Recv n o) h = (0, (eqb-true n b h, refl))
-writes_of b _ h = absurd (false≢true h)
-
-of_writes : (b k : ℕ) (x : Instr) → WritesAt x k b → writes b x ≡ true
-of_writes b k (Call v ins outs) h = any_at (λ n. nat_eq n b) outs k b h (eq-eqb b b refl)
-of_writes b k (Recv n o) h = eq-eqb n b h.0
-of_writes b k _ h = absurd h
-
--- entry i of the readers of buffer b, of which the first sequence has number s
-pub record Waits (qs : List SeqCode) (s b : ℕ) (x : Reader) : Type 0 where
-  pub at : ℕ
-  pub code : SeqCode
-  pub stands : slice_get qs at ≡ Some code
-  pub waits : waits_for b code ≡ true
-  pub is : x ≡ record { buffer = b; sequence = s + at }
-
-reader_is : (b s t : ℕ) → s ≡ t → ◌≡◌ {A = Reader} (record { buffer = b; sequence = s }) (record { buffer = b; sequence = t })
-reader_is b s t e = ap (λ (n : ℕ). record { buffer = b; sequence = n }) e
-
-from_readers : (s : ℕ) (qs : List SeqCode) (b i : ℕ) (x : Reader) → slice_get (readers_from s qs b) i ≡ Some x → Waits qs s b x
-from_readers s [] b i x e = absurd cc
-from_readers s (q ∷ qs) b i x e = by (waits_for b q) refl i e (λ i. from_readers (suc s) qs b i x)
-  where
-    rest : Waits qs (suc s) b x → Waits (q ∷ qs) s b x
-    rest r = record { at = suc r.at; code = r.code; stands = r.stands; waits = r.waits; is = r.is ∙ reader_is b (suc s + r.at) (s + suc r.at) (omega arith) }
-
-    by : (t : Bool) → waits_for b q ≡ t → (i : ℕ) → slice_get (cond t (record { buffer = b; sequence = s } ∷ readers_from (suc s) qs b) (readers_from (suc s) qs b)) i ≡ Some x
-        → ((i : ℕ) → slice_get (readers_from (suc s) qs b) i ≡ Some x → Waits qs (suc s) b x) → Waits (q ∷ qs) s b x
-    by true t zero e r = record { at = 0; code = q; stands = refl; waits = t; is = sym (same_Some _ x e) ∙ reader_is b s (s + 0) (omega arith) }
-    by true t (suc i) e r = rest (r i e)
-    by false t i e r = rest (r i e)
-
-to_readers : (s : ℕ) (qs : List SeqCode) (b k : ℕ) (q : SeqCode) → slice_get qs k ≡ Some q → waits_for b q ≡ true → (i : ℕ) × (slice_get (readers_from s qs b) i ≡ Some (record { buffer = b; sequence = s + k }))
-to_readers s [] b k q e h = absurd cc
-to_readers s (y ∷ ys) b zero q e h = let t : waits_for b y ≡ true = ap (waits_for b) (same_Some y q e) ∙ h in
-    (0, rw t (ap (λ (r : Reader). Some r) (reader_is b s (s + 0) (omega arith))))
-to_readers s (y ∷ ys) b (suc k) q e h = by (waits_for b y) (to_readers (suc s) ys b k q e h)
-  where
-    by : (t : Bool) → (i : ℕ) × (slice_get (readers_from (suc s) ys b) i ≡ Some (record { buffer = b; sequence = suc s + k }))
-        → (i : ℕ) × (slice_get (cond t (record { buffer = b; sequence = s } ∷ readers_from (suc s) ys b) (readers_from (suc s) ys b)) i ≡ Some (record { buffer = b; sequence = s + suc k }))
-    by true r = (suc r.0, r.1 ∙ ap (λ (r : Reader). Some r) (reader_is b (suc s + k) (s + suc k) (omega arith)))
-    by false r = (r.0, r.1 ∙ ap (λ (r : Reader). Some r) (reader_is b (suc s + k) (s + suc k) (omega arith)))
 
 repeated_length : {A : Type 0} (x : A) (n : ℕ) → length (repeated x n) ≡ n
 repeated_length x zero = refl
@@ -103,15 +32,6 @@ repeated_at : {A : Type 0} (x : A) (n i : ℕ) → i < n → slice_get (repeated
 repeated_at x zero i h = absurd (omega arith)
 repeated_at x (suc n) zero h = refl
 repeated_at x (suc n) (suc i) h = repeated_at x n i (omega arith)
-
-from_repeated : {A : Type 0} (x : A) (n i : ℕ) (y : A) → slice_get (repeated x n) i ≡ Some y → y ≡ x
-from_repeated x zero i y e = absurd cc
-from_repeated x (suc n) zero y e = sym (same_Some x y e)
-from_repeated x (suc n) (suc i) y e = from_repeated x n i y e
-
-sum_same : (f g : ℕ → ℕ) (n : ℕ) → ((i : ℕ) → f i ≡ g i) → sum_below f n ≡ sum_below g n
-sum_same f g zero h = refl
-sum_same f g (suc n) h = let e = sum_same f g n h in let d = h n in omega arith
 
 module _ (p : Program) (order : List ℕ) (carried : ℕ → Source) (g : Graph) (seqs : List Seq) (media : ℕ) (h : IsOrderBy p order (places p) carried g seqs media) where
   many : length p.pairs ≡ length (readers p)
@@ -222,7 +142,7 @@ module _ (p : Program) (order : List ℕ) (carried : ℕ → Source) (g : Graph)
   signals_length s q = repeated_length (Pre0 q) (opening_signals p s q)
 
   starts : (s q : ℕ) → sum_below (λ i. length (signals_of p s i)) q ≡ sum_below (opening_signals p s) q
-  starts s q = sum_same (λ i. length (signals_of p s i)) (opening_signals p s) q (signals_length s)
+  starts s q = same_below (λ i. length (signals_of p s i)) (opening_signals p s) q (λ i l. signals_length s i)
 
   own_signals : (q : ℕ) → opening_signals p (reader p q).sequence q ≡ depth_of p (reader p q).buffer
   own_signals q = rw (eq-eqb (reader p q).sequence (reader p q).sequence refl) refl

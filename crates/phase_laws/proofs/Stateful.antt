@@ -6,6 +6,7 @@ use Rattle.std.proofs.lemmas.Option.{slice_get_within}
 use Rattle.std.proofs.lemmas.Bool.{and_parts, leb-true}
 use Rattle.std.proofs.lemmas.List.{length-map, length-replicate, get_or_at}
 use Rattle.interleavings.specs.System.{Micro}
+use Rattle.interleavings.proofs.Sums.{member_below}
 use Rattle.flat_graph.specs.declared.vertex.Kind.{Kind}
 use Rattle.flat_graph.specs.declared.vertex.Kind.TheVariants.{Actuator, Set}
 use Rattle.flat_graph.specs.declared.vertex.Vertex.{Vertex}
@@ -23,7 +24,7 @@ use Rattle.semaphore_core.specs.Job.{JobData}
 use Rattle.semaphore_core.specs.Told.{last_load}
 use Rattle.executive_program.specs.WellFormed.{Stands}
 use Rattle.phase_laws.specs.Values.{IsSupplied}
-use Rattle.phase_laws.proofs.Blocks.{sum_inside, member_below, blocks_length}
+use Rattle.phase_laws.proofs.Blocks.{sum_inside, blocks_length}
 use Rattle.phase_laws.proofs.Places.{block_is}
 use Rattle.phase_laws.proofs.StepsAt.{loads_count, stores_count}
 use Rattle.phase_laws.proofs.Joined.{len_at_is}

@@ -1,5 +1,5 @@
 -- The micro-step of the core at which a sequence stands, by its instruction: how loads and stores go on with the registers.
-use Rattle.std.proofs.Common.{◌≡◌, ℕ, zero, suc, ◌+◌, ◌-◌, ◌*◌, ◌%◌, ◌<◌, Bool, true, false, cond, List, [], ◌∷◌, ◌++◌, length, take, Option, Some, None, refl, sym, ap, arith, ◌∙◌, length-append}
+use Rattle.std.proofs.Common.{◌≡◌, ℕ, suc, ◌+◌, ◌-◌, ◌*◌, ◌%◌, ◌<◌, Bool, true, false, cond, List, [], ◌∷◌, ◌++◌, length, take, Option, Some, None, refl, sym, ap, arith, ◌∙◌, length-append}
 use Rattle.std.specs.Prelude.{slice_get, nat_eq}
 use Rattle.std.specs.List.{count_by}
 use Rattle.std.proofs.lemmas.Option.{slice_get_within}
@@ -8,6 +8,7 @@ use native.Mathlib.Nat.{mul-one}
 use Rattle.consistent_cuts.specs.Sites.{step_at, place_at}
 use Rattle.interleavings.specs.System.{Micro, take as taken, see, sub, advance}
 use Rattle.interleavings.specs.Owners.{sum_below}
+use Rattle.interleavings.proofs.Sums.{same_below}
 use Rattle.executive_program.specs.declared.program.Instr.{Instr}
 use Rattle.executive_program.specs.declared.program.Instr.TheVariants.{Suc0, Suc1, Pre0, Pre1, Call, Send, Recv, Sync}
 use Rattle.executive_program.specs.declared.program.Program.{Program}
@@ -25,8 +26,7 @@ use Rattle.phase_laws.proofs.Blocks.{blocks_length, blocks_at, get-append_past, 
 use Rattle.phase_laws.proofs.Standing.{Here}
 
 pub sum_equal : (f h : ℕ → ℕ) (n : ℕ) → ((i : ℕ) → f i ≡ h i) → sum_below f n ≡ sum_below h n
-sum_equal f h zero e = refl
-sum_equal f h (suc n) e = let a = sum_equal f h n e in let b = e n in omega arith
+sum_equal f h n e = same_below f h n (λ i l. e i)
 
 same_blocks : {A B : Type 0} (f : ℕ → List A) (h : ℕ → List B) (n : ℕ) → ((a : ℕ) → length (f a) ≡ length (h a)) → length (blocks f n) ≡ length (blocks h n)
 same_blocks f h n e = blocks_length f n ∙ sum_equal (λ a. length (f a)) (λ a. length (h a)) n e ∙ sym (blocks_length h n)
