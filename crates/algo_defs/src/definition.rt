@@ -126,8 +126,18 @@ pub struct Def {
 }
 
 /// The definitions of a text, in order, with the version that its first line gives.
-#[derive(Drop)]
 pub struct Defs {
     pub version: u32,
     pub defs: Items<Def>,
+}
+
+/// By hand, so that a proof walks through what it drops here alone, and not on each way out of each
+/// function that owns one.
+impl Drop for Defs {
+    fn drop(self) {
+        let Defs {
+            version: _,
+            defs: _,
+        } = self;
+    }
 }

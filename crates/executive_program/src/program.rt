@@ -54,9 +54,38 @@ pub struct SeqCode {
 }
 
 /// A program: its buffers, the operator of each pair of semaphores, and the code of each sequence.
-#[derive(Drop)]
 pub struct Program {
     pub buffers: Items<Buffer>,
     pub pairs: Items<u32>,
     pub seqs: Items<SeqCode>,
+}
+
+/// By hand, so that a proof walks through what it drops here alone, and not on each way out of each
+/// function that owns one.
+impl Drop for Program {
+    fn drop(self) {
+        let Program {
+            buffers: _,
+            pairs: _,
+            seqs: _,
+        } = self;
+    }
+}
+
+impl Program {
+    ghost use Rattle.std.specs.Prelude.{◌≡◌};
+
+    /// Its buffers, the operators of its pairs, and the code of each sequence.
+    pub fn into_parts(self) -> (Items<Buffer>, Items<u32>, Items<SeqCode>)
+        ensures buffers { result.0 ≡ self.buffers }
+        ensures pairs { result.1 ≡ self.pairs }
+        ensures seqs { result.2 ≡ self.seqs }
+    {
+        let Program {
+            buffers,
+            pairs,
+            seqs,
+        } = self;
+        (buffers, pairs, seqs)
+    }
 }

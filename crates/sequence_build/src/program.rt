@@ -37,7 +37,7 @@ fn with_pairs(
 ) -> Result<Program, OutOfMemory>
     ensures { IfOk result (λ p. p ≡ paired depth pairs.now plain) }
 {
-    let Program { buffers, seqs, .. } = plain;
+    let (buffers, _, seqs) = plain.into_parts();
     let mut buffers = buffers.into_vec();
     let operators = operators_of(alloc, buffers.as_slice(), pairs)?;
     deepen_all(&mut buffers, pairs, depth);
@@ -57,11 +57,7 @@ fn with_lines(
 ) -> Result<Program, OutOfMemory>
     ensures { IfOk result (λ p. p ≡ lined depth pairs.now program) }
 {
-    let Program {
-        buffers,
-        pairs: operators,
-        seqs,
-    } = program;
+    let (buffers, operators, seqs) = program.into_parts();
     Ok(Program {
         buffers,
         pairs: operators,

@@ -1,5 +1,5 @@
 //! The vectors of each reaction: what the sensors gave, and what the actuators take.
-ghost use Rattle.std.specs.Prelude.{◌≡◌, ◌+◌, ◌<◌, ◌≤◌, ◌++◌, ◌∷◌, [], length, take, drop, slice_index, slice_index_or, sum, IfOk, OnOk, OnErr};
+ghost use Rattle.std.specs.Prelude.{◌≡◌, ◌+◌, ◌<◌, ◌≤◌, ◌++◌, ◌∷◌, [], length, take, drop, slice_index, sum, IfOk, OnOk, OnErr};
 ghost use Rattle.syn_base.specs.Rows.{cut, element, with_element, vector_of, AreCut};
 
 use crate::items::Items;
@@ -46,7 +46,10 @@ impl Rows {
 
     fn push(&mut self, row: &[i64]) -> Result<(), OutOfMemory>
         requires { length row.now ≡ sum self.old.lens }
-        ensures ok { OnOk result (self.new ≡ record self.old { reactions = self.old.reactions ++ cut self.old.lens row.now ∷ [] }) }
+        ensures ok { OnOk result (self.new ≡ record self.old {
+          reactions = self.old.reactions ++
+              cut self.old.lens row.now ∷ [];
+        }) }
         ensures err { OnErr result (self.new ≡ self.old) }
     {
         let row = Vec::from_slice(self.alloc, row)?;
@@ -101,9 +104,16 @@ impl Rows {
 
 /// What the sensors give in each reaction: vectors of the sensors' lengths, sensors in declared
 /// order. Contracts see the lengths, and the list of reactions.
-#[derive(Drop)]
 pub struct SensorRows {
     rows: Rows,
+}
+
+/// By hand, so that a proof walks through what it drops here alone, and not on each way out of each
+/// function that owns one.
+impl Drop for SensorRows {
+    fn drop(self) {
+        let SensorRows { rows: _ } = self;
+    }
 }
 
 impl Model for SensorRows {
@@ -134,7 +144,10 @@ impl SensorRows {
     /// Adds a reaction, its vectors one after the other. After want of memory all is as before.
     pub fn push(&mut self, row: &[i64]) -> Result<(), OutOfMemory>
         requires { length row.now ≡ sum self.old.lens }
-        ensures ok { OnOk result (self.new ≡ record self.old { reactions = self.old.reactions ++ cut self.old.lens row.now ∷ [] }) }
+        ensures ok { OnOk result (self.new ≡ record self.old {
+          reactions = self.old.reactions ++
+              cut self.old.lens row.now ∷ [];
+        }) }
         ensures err { OnErr result (self.new ≡ self.old) }
     {
         self.rows.push(row)
@@ -187,9 +200,16 @@ impl SensorRows {
 
 /// What the actuators take in each reaction: vectors of the actuators' lengths, actuators in declared
 /// order. Contracts see the lengths, and the list of reactions.
-#[derive(Drop)]
 pub struct ActRows {
     rows: Rows,
+}
+
+/// By hand, so that a proof walks through what it drops here alone, and not on each way out of each
+/// function that owns one.
+impl Drop for ActRows {
+    fn drop(self) {
+        let ActRows { rows: _ } = self;
+    }
 }
 
 impl Model for ActRows {
@@ -220,7 +240,10 @@ impl ActRows {
     /// Adds a reaction, its vectors one after the other. After want of memory all is as before.
     pub fn push(&mut self, row: &[i64]) -> Result<(), OutOfMemory>
         requires { length row.now ≡ sum self.old.lens }
-        ensures ok { OnOk result (self.new ≡ record self.old { reactions = self.old.reactions ++ cut self.old.lens row.now ∷ [] }) }
+        ensures ok { OnOk result (self.new ≡ record self.old {
+          reactions = self.old.reactions ++
+              cut self.old.lens row.now ∷ [];
+        }) }
         ensures err { OnErr result (self.new ≡ self.old) }
     {
         self.rows.push(row)

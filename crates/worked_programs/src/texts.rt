@@ -34,14 +34,28 @@ pub(crate) struct Texts<'a> {
 }
 
 /// A program with what it runs on.
-#[derive(Drop)]
 pub(crate) struct Worked {
     flat: Flat,
-    archi: Archi,
+    architecture: ArchiText,
     program: Program,
     order: Vec<u32>,
     rows: SensorRows,
     ghost lens: { rows.lens ≡ sensor_lens flat.vertices },
+}
+
+/// By hand, so that a proof walks through what it drops here alone, and not on each way out of each
+/// function that owns one.
+impl Drop for Worked {
+    fn drop(self) {
+        let Worked {
+            flat: _,
+            architecture: _,
+            program: _,
+            order: _,
+            rows: _,
+            ..
+        } = self;
+    }
 }
 
 /// The tree of a text, or its first refusal.
@@ -67,11 +81,10 @@ fn flat(alloc: Global, text: &[u8]) -> Result<Flat, Fail>
 
 /// The architecture of a text, whatever its durations are.
 #[tactic(auto, using(algo_reader::proofs::LineCounts::lines_at_most))]
-fn archi(alloc: Global, text: &[u8]) -> Result<Archi, Fail>
+fn architecture(alloc: Global, text: &[u8]) -> Result<ArchiText, Fail>
     requires { length text.now ≤ 4000 }
 {
-    let ArchiText { archi, .. } = read_archi(alloc, text)?;
-    Ok(archi)
+    Ok(read_archi(alloc, text)?)
 }
 
 /// The program of macro-code.
@@ -132,13 +145,13 @@ impl Worked {
         assert!(rt; texts.architecture.len() <= 4000);
         assert!(rt; texts.code.len() <= 4000);
         let flat = flat(alloc, texts.algorithm)?;
-        let archi = archi(alloc, texts.architecture)?;
-        let program = program(alloc, texts.code, &flat, &archi)?;
+        let architecture = architecture(alloc, texts.architecture)?;
+        let program = program(alloc, texts.code, &flat, &architecture.archi)?;
         let order = numbers(alloc, texts.order)?;
         let rows = sensed(rt, alloc, &flat, texts.rows)?;
         Ok(Worked {
             flat,
-            archi,
+            architecture,
             program,
             order,
             rows,
@@ -149,12 +162,13 @@ impl Worked {
     pub(crate) fn job<'a>(&'a self, rt: &impl Abort, alloc: Global) -> Result<Job<'a>, Fail> {
         let Worked {
             flat,
-            archi,
+            architecture,
             program,
             order,
             rows,
             ..
         } = self;
+        let archi = &architecture.archi;
         assert!(rt; is_order(program, flat, archi, order.as_slice()));
         assert!(rt; rows.count() <= 10_000);
         let opening = opening_of(alloc, flat)?;
