@@ -1,5 +1,5 @@
 -- What an accepted text describes is an architecture.
-use Rattle.std.proofs.Common.{◌≡◌, ℕ, ◌+◌, Bool, not, true, false, ◌==◌, if◌then◌else◌, List, [], ◌∷◌, length, Option, Some, None, position, Result, Ok, Err, refl, sym, ap, subst, ◌∙◌, arith}
+use Rattle.std.proofs.Common.{◌≡◌, ℕ, ◌+◌, Bool, not, true, false, ◌==◌, if◌then◌else◌, List, [], ◌∷◌, length, Option, Some, None, position, Result, Ok, Err, refl, sym, subst, ◌∙◌, arith}
 use Rattle.text_lines.specs.Text.{lines_of}
 use Rattle.archi_graph.specs.declared.medium.Medium.{Medium}
 use Rattle.archi_graph.specs.Archi.{is_archi, is_depth}

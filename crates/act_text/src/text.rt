@@ -63,7 +63,9 @@ fn append_reaction(
 ) -> Result<(), OutOfMemory>
     requires names { length names.now ≤ length rows.now.lens }
     requires reaction { k < length rows.now.reactions }
-    ensures { OnOk result (text.new.items ≡ text.old.items ++ reaction_text number 0 (map (λ s. s.now) names.now) (slice_index_or rows.now.reactions k [])) }
+    ensures { OnOk result (text.new.items ≡ text.old.items ++
+        reaction_text number 0 (map (λ s. s.now) names.now)
+        (slice_index_or rows.now.reactions k [])) }
 {
     for (a, name) in names.iter().enumerate() {
         append_line(text, number, name, rows.vector(k, a))?;

@@ -2,7 +2,6 @@
 ghost use Rattle.std.specs.Prelude.{◌≡◌, ◌+◌, ◌<◌, ◌≤◌, IfOk, Some, codes, length, replicate, slice_get, slice_index};
 ghost use Rattle.std.specs.List.{All, position_or_len, sum_by};
 ghost use Rattle.std.specs.Str.{bytes_eq};
-ghost use Rattle.algo_rules.specs.Links.{links_of};
 ghost use Rattle.algo_rules.specs.Placed.{Checks};
 ghost use Rattle.algo_rules.specs.Resolved.{is_fork, operations, too_many};
 ghost use Rattle.algo_rules.specs.WellRead.{IsWellRead};

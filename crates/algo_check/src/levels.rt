@@ -30,7 +30,8 @@ pub struct Levels {
 pub fn levels_of(alloc: Global, defs: &Defs) -> Result<Levels, AlgoError>
     requires distinct { AreDistinctNames (map (λ d. d.name) defs.now.defs) }
     requires few { length defs.now.defs ≤ 4000000000 }
-    ensures checks { Checks result (first_of (unknown defs.now.defs ∷ misplaced defs.now.defs ∷ recursive defs.now.defs ∷ too_deep defs.now.defs ∷ [])) }
+    ensures checks { Checks result (first_of (unknown defs.now.defs ∷ misplaced defs.now.defs ∷
+        recursive defs.now.defs ∷ too_deep defs.now.defs ∷ [])) }
     ensures leveled { IfOk result (λ l. AreLeveled defs.now.defs l.links l.depths) }
 {
     let links = links_of(alloc, defs)?;

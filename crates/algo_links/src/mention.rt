@@ -1,5 +1,5 @@
 //! The lines that name a definition.
-ghost use Rattle.std.specs.Prelude.{◌≡◌, IfOk, map, true, false, ◌++◌, ◌∷◌, []};
+ghost use Rattle.std.specs.Prelude.{◌≡◌, IfOk, map, true, false};
 ghost use Rattle.algo_rules.specs.Links.{mentions};
 
 use algo_defs::{Body, Case, Def, Reference};
@@ -51,7 +51,8 @@ fn references_of<'a>(
     alloc: Global,
     references: &'a [Reference],
 ) -> Result<Vec<Mention<'a>>, OutOfMemory>
-    ensures { IfOk result (λ ms. ms.items ≡ map (λ r. record { line = r.line; def = r.def; is_reference = true }) references.now) }
+    ensures { IfOk result (λ ms. ms.items ≡ map
+        (λ r. record { line = r.line; def = r.def; is_reference = true }) references.now) }
 {
     let mut mentions = Vec::new(alloc);
     for reference in references {
@@ -66,7 +67,8 @@ fn references_of<'a>(
 
 /// The `case` lines of a conditioned definition.
 fn cases_of<'a>(alloc: Global, cases: &'a [Case]) -> Result<Vec<Mention<'a>>, OutOfMemory>
-    ensures { IfOk result (λ ms. ms.items ≡ map (λ c. record { line = c.line; def = c.def; is_reference = false }) cases.now) }
+    ensures { IfOk result (λ ms. ms.items ≡ map
+        (λ c. record { line = c.line; def = c.def; is_reference = false }) cases.now) }
 {
     let mut mentions = Vec::new(alloc);
     for case in cases {

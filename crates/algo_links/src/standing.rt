@@ -1,6 +1,5 @@
 //! Which definitions may stand where.
-ghost use Rattle.std.specs.Prelude.{◌≡◌, Some, codes, slice_get};
-ghost use Rattle.std.specs.Str.{bytes_eq};
+ghost use Rattle.std.specs.Prelude.{◌≡◌, Some, slice_get};
 ghost use Rattle.algo_rules.specs.Links.{is_main, is_end, may_be_inner, may_stand, links_of};
 ghost use Rattle.algo_rules.specs.Placed.{Checks};
 ghost use Rattle.algo_links.specs.Placing.{places_of, misplaced_in, misplaced_all};

@@ -143,7 +143,8 @@ pub(crate) fn print_graph(
     edges: &[Edge],
     text: &mut Vec<u8>,
 ) -> Result<(), OutOfMemory>
-    ensures { OnOk result (text.new.items ≡ text.old.items ++ text_of (whole_graph name.now ins.now outs.now references.now edges.now)) }
+    ensures { OnOk result (text.new.items ≡ text.old.items ++
+        text_of (whole_graph name.now ins.now outs.now references.now edges.now)) }
 {
     print_named(b"graph", name, text)?;
     print_ports(b"in", ins, text)?;
@@ -163,7 +164,8 @@ pub(crate) fn print_switch(
     otherwise: &[u8],
     text: &mut Vec<u8>,
 ) -> Result<(), OutOfMemory>
-    ensures { OnOk result (text.new.items ≡ text.old.items ++ text_of (whole_switch name.now on.now ins.now outs.now cases.now otherwise.now)) }
+    ensures { OnOk result (text.new.items ≡ text.old.items ++
+        text_of (whole_switch name.now on.now ins.now outs.now cases.now otherwise.now)) }
 {
     print_named(b"switch", name, text)?;
     print_inputs_and_cases(on, ins, outs, cases, text)?;
@@ -179,7 +181,8 @@ fn print_inputs_and_cases(
     cases: &[Case],
     text: &mut Vec<u8>,
 ) -> Result<(), OutOfMemory>
-    ensures { OnOk result (text.new.items ≡ text.old.items ++ text_of (switch_lines on.now ins.now outs.now cases.now)) }
+    ensures { OnOk result (text.new.items ≡ text.old.items ++
+        text_of (switch_lines on.now ins.now outs.now cases.now)) }
 {
     print_named(b"on", on, text)?;
     print_ports(b"in", ins, text)?;
@@ -195,7 +198,8 @@ pub(crate) fn print_repeat(
     lines: &[FrontierLine],
     text: &mut Vec<u8>,
 ) -> Result<(), OutOfMemory>
-    ensures { OnOk result (text.new.items ≡ text.old.items ++ text_of (whole_repeat name.now copies def.now lines.now)) }
+    ensures { OnOk result (text.new.items ≡ text.old.items ++
+        text_of (whole_repeat name.now copies def.now lines.now)) }
 {
     print_repeated(name, copies, def, text)?;
     print_frontiers(lines, text)?;
@@ -209,7 +213,8 @@ fn print_repeated(
     def: &[u8],
     text: &mut Vec<u8>,
 ) -> Result<(), OutOfMemory>
-    ensures { OnOk result (text.new.items ≡ text.old.items ++ line_of (codes "repeat" ∷ name.now ∷ count copies ∷ def.now ∷ [])) }
+    ensures { OnOk result (text.new.items ≡ text.old.items ++
+        line_of (codes "repeat" ∷ name.now ∷ count copies ∷ def.now ∷ [])) }
 {
     put(b"repeat", text)?;
     put_word(name, text)?;

@@ -12,11 +12,13 @@ ghost use Rattle.algo_print.specs.ReadBack.{Says, bare};
 pub fn canonical_text_reads_back()
     ensures printable { (text : Bytes) (defs : Defs) → definitions_of text ≡ Ok defs → ArePrintable defs.defs }
     ensures back { (text : Bytes) (defs : Defs) → definitions_of text ≡ Ok defs → Says (canonical_text defs) defs }
-    ensures lines { (text : Bytes) (defs : Defs) → definitions_of text ≡ Ok defs → length (lines_of (canonical_text defs)) ≤ length (lines_of text) }
+    ensures lines { (text : Bytes) (defs : Defs) → definitions_of text ≡ Ok defs →
+        length (lines_of (canonical_text defs)) ≤ length (lines_of text) }
 {}
 
 /// The canonical text does not depend on the numbers of lines, so that the canonical text of what a
 /// canonical text says is that text.
 pub fn lines_do_not_matter()
-    ensures { (defs others : Defs) → defs.version ≡ others.version → map bare defs.defs ≡ map bare others.defs → canonical_text defs ≡ canonical_text others }
+    ensures { (defs others : Defs) → defs.version ≡ others.version →
+        map bare defs.defs ≡ map bare others.defs → canonical_text defs ≡ canonical_text others }
 {}

@@ -51,7 +51,8 @@ pub fn build_vertex(
 ) -> Result<Vertex, OutOfMemory>
     requires planned { ArePlanned builder.now }
     requires placed { IsPlaced builder.now.defs.now builder.now.table.now name.now place }
-    ensures { IfOk result (λ v. view v ≡ vertex_within builder.now.defs.now fuel seat.part name.now seat.ins seat.sensor seat.actuator) }
+    ensures { IfOk result (λ v. view v ≡ vertex_within builder.now.defs.now fuel seat.part name.now
+        seat.ins seat.sensor seat.actuator) }
 {
     if fuel == 0 {
         return empty_vertex(alloc, name, seat);
@@ -75,7 +76,8 @@ pub fn build_vertex(
 fn places_of<'a>(builder: &Builder<'a>, place: usize) -> &'a [u32]
     requires planned { ArePlanned builder.now }
     requires below { place < length builder.now.defs.now }
-    ensures { (d : Definition) → slice_get builder.now.defs.now place ≡ Some d → ArePlaced builder.now.defs.now builder.now.table.now (named d.body) result.now }
+    ensures { (d : Definition) → slice_get builder.now.defs.now place ≡ Some d →
+        ArePlaced builder.now.defs.now builder.now.table.now (named d.body) result.now }
 {
     builder.links[place].as_slice()
 }
@@ -89,7 +91,9 @@ fn numbered(
     sensor: u32,
     actuator: u32,
 ) -> Result<Kind, OutOfMemory>
-    ensures { IfOk result (λ k. (ds : List Definition) (make : Making) (own : PortLists) → kind_view plan.now ≡ kind_by ds make own 0 0 body.now → kind_view k ≡ kind_by ds make own sensor actuator body.now) }
+    ensures { IfOk result (λ k. (ds : List Definition) (make : Making) (own : PortLists) →
+        kind_view plan.now ≡ kind_by ds make own 0 0 body.now →
+        kind_view k ≡ kind_by ds make own sensor actuator body.now) }
 {
     match body {
         Body::Sensor(_) => Ok(Kind::Sensor(sensor)),
@@ -114,7 +118,8 @@ fn build_inner(
     requires read { IsWellRead body.now }
     requires placed { ArePlaced builder.now.defs.now builder.now.table.now (named body.now) places.now }
     requires wires { wires.now ≡ wires_by builder.now.defs.now body.now }
-    ensures { IfOk result (λ us. map view us.items ≡ inner_by builder.now.defs.now (vertex_within builder.now.defs.now fuel) body.now) }
+    ensures { IfOk result (λ us. map view us.items ≡
+        inner_by builder.now.defs.now (vertex_within builder.now.defs.now fuel) body.now) }
 {
     match body {
         Body::Graph {
@@ -161,7 +166,9 @@ fn build_copy(
 ) -> Result<Vec<Vertex>, OutOfMemory>
     requires planned { ArePlanned builder.now }
     requires placed { ArePlaced builder.now.defs.now builder.now.table.now (name.now ∷ []) places.now }
-    ensures { IfOk result (λ us. map view us.items ≡ vertex_within builder.now.defs.now fuel (Numbered 0) name.now (owns 0 (length (ports_of builder.now.defs.now name.now).ins)) 0 0 ∷ []) }
+    ensures { IfOk result (λ us. map view us.items ≡
+        vertex_within builder.now.defs.now fuel (Numbered 0) name.now
+        (owns 0 (length (ports_of builder.now.defs.now name.now).ins)) 0 0 ∷ []) }
 {
     let place = places[0] as usize;
     let ins = own_inputs(alloc, 0, builder.table[place].ins.as_slice().len())?;
@@ -203,8 +210,11 @@ fn build_cases(
     names: &Cases,
 ) -> Result<Vec<Vertex>, OutOfMemory>
     requires planned { ArePlanned builder.now }
-    requires placed { ArePlaced builder.now.defs.now builder.now.table.now (map (λ c. c.def) names.now.cases.now ++ names.now.otherwise.now ∷ []) places.now }
-    ensures { IfOk result (λ us. map view us.items ≡ cases_from builder.now.defs.now (vertex_within builder.now.defs.now fuel) names.now.ins 0 (map (λ c. c.def) names.now.cases.now ++ names.now.otherwise.now ∷ [])) }
+    requires placed { ArePlaced builder.now.defs.now builder.now.table.now
+        (map (λ c. c.def) names.now.cases.now ++ names.now.otherwise.now ∷ []) places.now }
+    ensures { IfOk result (λ us. map view us.items ≡
+        cases_from builder.now.defs.now (vertex_within builder.now.defs.now fuel) names.now.ins 0
+        (map (λ c. c.def) names.now.cases.now ++ names.now.otherwise.now ∷ [])) }
 {
     let mut inner = Vec::new(alloc);
     for (number, place) in places.iter().enumerate() {
@@ -245,7 +255,10 @@ fn build_references(
     requires planned { ArePlanned builder.now }
     requires wired { IsWired builder.now graph.now }
     requires few { length graph.now.references.now ≤ 64 }
-    ensures { IfOk result (λ us. map view us.items ≡ references_from builder.now.defs.now (vertex_within builder.now.defs.now fuel) graph.now.ins.now graph.now.references.now graph.now.edges.now 0 0 graph.now.references.now) }
+    ensures { IfOk result (λ us. map view us.items ≡
+        references_from builder.now.defs.now (vertex_within builder.now.defs.now fuel)
+        graph.now.ins.now graph.now.references.now graph.now.edges.now 0 0
+        graph.now.references.now) }
 {
     let mut inner = Vec::new(alloc);
     let mut sensors: u32 = 0;
@@ -275,7 +288,12 @@ fn reference_seat(
     sensors: u32,
     actuators: u32,
 ) -> Result<Seat, OutOfMemory>
-    ensures { IfOk result (λ s. s ≡ record { part = Named reference.now.name; ins = wires.now; sensor = sensors; actuator = actuators }) }
+    ensures { IfOk result (λ s. s ≡ record {
+      part = Named reference.now.name;
+      ins = wires.now;
+      sensor = sensors;
+      actuator = actuators;
+    }) }
 {
     Ok(Seat {
         part: Part::Named(copy_name(alloc, &reference.name)?),
@@ -357,7 +375,9 @@ fn label_of(
     ensures name { IfOk result (λ l. l.definition ≡ name.now) }
     ensures outs { IfOk result (λ l. l.outs ≡ lens_of own.now.outs) }
     ensures names { IfOk result (λ l. l.names ≡ map (λ p. p.name) own.now.outs) }
-    ensures kind { IfOk result (λ l. (ds : List Definition) (make : Making) (own : PortLists) → kind_view plan.now ≡ kind_by ds make own 0 0 body.now → kind_view l.kind ≡ kind_by ds make own seat.now.sensor seat.now.actuator body.now) }
+    ensures kind { IfOk result (λ l. (ds : List Definition) (make : Making) (own : PortLists) →
+        kind_view plan.now ≡ kind_by ds make own 0 0 body.now →
+        kind_view l.kind ≡ kind_by ds make own seat.now.sensor seat.now.actuator body.now) }
 {
     let definition = copy_name(alloc, name)?;
     let outs = port_lens(alloc, own.outs.as_slice())?;
@@ -374,7 +394,10 @@ fn label_of(
 impl Label {
     /// The vertex that stands there, with this inside it.
     fn vertex(self, alloc: Global, seat: Seat, inner: Vec<Vertex>) -> Vertex
-        ensures { (outs : List Port) → self.outs ≡ lens_of outs → self.names ≡ map (λ p. p.name) outs → view result ≡ vertex seat.part self.definition seat.ins outs (kind_view self.kind) (map view inner.items) }
+        ensures { (outs : List Port) → self.outs ≡ lens_of outs →
+            self.names ≡ map (λ p. p.name) outs →
+            view result ≡ vertex seat.part self.definition seat.ins outs (kind_view self.kind)
+            (map view inner.items) }
     {
         Vertex {
             definition: self.definition,

@@ -116,7 +116,8 @@ fn iterate(
     input: &Name,
     given: &Name,
 ) -> Result<Option<Feed>, OutOfMemory>
-    ensures { IfOk result (λ f. (last : List ℕ) → f ≡ feed_by inner.now outer.now name.now (Iterate from.now input.now given.now last)) }
+    ensures { IfOk result (λ f. (last : List ℕ) →
+        f ≡ feed_by inner.now outer.now name.now (Iterate from.now input.now given.now last)) }
 {
     if name.as_bytes() != input.as_bytes() {
         return Ok(None);

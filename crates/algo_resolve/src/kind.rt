@@ -78,7 +78,8 @@ impl<'a> Checked<'a> {
 
 /// The kind of a switch with these cases and outputs.
 fn switch_kind(alloc: Global, cases: &Items<Case>, outs: &Items<Port>) -> Result<Kind, OutOfMemory>
-    ensures { IfOk result (λ k. kind_view k ≡ plain_switch (map (λ c. c.value) cases.now) (map (λ p. p.name) outs.now)) }
+    ensures { IfOk result (λ k. kind_view k ≡
+        plain_switch (map (λ c. c.value) cases.now) (map (λ p. p.name) outs.now)) }
 {
     let values = case_values(alloc, cases.as_slice())?;
     let names = port_names(alloc, outs.as_slice())?;
@@ -93,7 +94,9 @@ fn repeat_kind(
     own: &Ports,
     lines: &Items<FrontierLine>,
 ) -> Result<Kind, OutOfMemory>
-    ensures { IfOk result (λ k. kind_view k ≡ plain_repeat copies (map (λ p. feed_of inner.now own.now lines.now p.name) inner.now.ins) (flat_map (λ l. give_by inner.now own.now l.frontier) lines.now)) }
+    ensures { IfOk result (λ k. kind_view k ≡
+        plain_repeat copies (map (λ p. feed_of inner.now own.now lines.now p.name) inner.now.ins)
+        (flat_map (λ l. give_by inner.now own.now l.frontier) lines.now)) }
 {
     let feeds = feeds(alloc, inner, own, lines.as_slice())?;
     let gives = gives(alloc, inner, lines.as_slice())?;

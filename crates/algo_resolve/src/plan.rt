@@ -1,9 +1,8 @@
 //! What all vertices of a definition have in common, made once for the definition.
-ghost use Rattle.std.specs.Prelude.{◌≡◌, ◌<◌, IfOk, Some, length, map, slice_get};
+ghost use Rattle.std.specs.Prelude.{◌≡◌, ◌<◌, IfOk, Some, map, slice_get};
 ghost use Rattle.algo_links.specs.Linked.{named};
 ghost use Rattle.algo_rules.specs.Placed.{ArePlaced};
 ghost use Rattle.algo_rules.specs.Resolved.{sources_to};
-ghost use Rattle.algo_rules.specs.WellRead.{IsWellRead};
 ghost use Rattle.algo_resolve.specs.Parts.{AreReady, IsPlacedGraph, of};
 ghost use Rattle.algo_resolve.specs.Plans.{plan_of, plan_view, wires_by};
 
@@ -81,7 +80,9 @@ fn wires(
 /// The sources of the inputs of each reference of a graph.
 fn all_inputs(alloc: Global, graph: &Graph) -> Result<Items<Items<Source>>, OutOfMemory>
     requires { IsPlacedGraph graph.now }
-    ensures { IfOk result (λ ws. ws ≡ map (λ r. sources_to (of graph.now) graph.now.ins.now graph.now.references.now graph.now.edges.now (Some r.name) (of graph.now r.def).ins) graph.now.references.now) }
+    ensures { IfOk result (λ ws. ws ≡ map (λ r. sources_to (of graph.now) graph.now.ins.now
+        graph.now.references.now graph.now.edges.now (Some r.name) (of graph.now r.def).ins)
+        graph.now.references.now) }
 {
     let mut all = Vec::new(alloc);
     for (at, reference) in graph.references.iter().enumerate() {
@@ -99,7 +100,9 @@ fn inputs(
 ) -> Result<Items<Source>, OutOfMemory>
     requires placed { IsPlacedGraph graph.now }
     requires there { slice_get graph.now.references.now at ≡ Some reference.now }
-    ensures { IfOk result (λ ss. ss ≡ sources_to (of graph.now) graph.now.ins.now graph.now.references.now graph.now.edges.now (Some reference.now.name) (of graph.now reference.now.def).ins) }
+    ensures { IfOk result (λ ss. ss ≡ sources_to (of graph.now) graph.now.ins.now
+        graph.now.references.now graph.now.edges.now (Some reference.now.name)
+        (of graph.now reference.now.def).ins) }
 {
     let owner = Some(reference.name.copy(alloc)?);
     let place = graph.places[at] as usize;

@@ -121,7 +121,8 @@ fn build_main(alloc: Global, builder: &Builder, place: usize) -> Result<Vertex, 
 
 /// The place of the definition of `main`, if there is one.
 fn main_place(defs: &[Def]) -> Option<usize>
-    ensures found { MatchOption result (definition defs.now (codes "main") ≡ None) (λ p. definition defs.now (codes "main") ≡ slice_get defs.now p) }
+    ensures found { MatchOption result (definition defs.now (codes "main") ≡ None)
+        (λ p. definition defs.now (codes "main") ≡ slice_get defs.now p) }
     ensures below { IfSome result (λ p. p < length defs.now) }
 {
     for (place, def) in defs.iter().enumerate() {

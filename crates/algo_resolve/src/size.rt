@@ -1,7 +1,6 @@
 //! How large a tree is going to be, counted without making it.
-ghost use Rattle.std.specs.Prelude.{◌≡◌, ◌+◌, ◌-◌, ◌^◌, ◌<◌, IfOk, IsTrue, ◌↔◌, Some, length, min, replicate, slice_get, slice_index};
+ghost use Rattle.std.specs.Prelude.{◌≡◌, ◌-◌, ◌^◌, ◌<◌, IfOk, Some, min, replicate, slice_get, slice_index};
 ghost use Rattle.std.specs.List.{sum_by};
-ghost use Rattle.algo_defs.specs.declared.definition.Def.{Def as Definition};
 ghost use Rattle.algo_rules.specs.WellRead.{IsWellRead};
 ghost use Rattle.algo_check.specs.Counts.{row};
 ghost use Rattle.algo_resolve.specs.Parts.{AreReady};
@@ -49,7 +48,8 @@ fn next_sizes(alloc: Global, checked: &Checked, sizes: &[u64]) -> Result<Vec<u64
 fn size_at(checked: &Checked, sizes: &[u64], place: usize, def: &Def) -> u64
     requires ready { AreReady checked.now }
     requires there { slice_get checked.now.defs.now place ≡ Some def.now }
-    ensures { result ≡ min (size_by (min (sum_by (slice_index sizes.now) (row checked.now.defs.now place)) (2 ^ 64 - 1)) def.now.body) (2 ^ 64 - 1) }
+    ensures { result ≡ min (size_by (min (sum_by (slice_index sizes.now)
+        (row checked.now.defs.now place)) (2 ^ 64 - 1)) def.now.body) (2 ^ 64 - 1) }
 {
     size_of(&def.body, total_at(sizes, checked.links[place].as_slice()))
 }

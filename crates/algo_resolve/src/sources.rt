@@ -37,7 +37,9 @@ impl<'a> Graph<'a> {
         ports: &[Port],
     ) -> Result<Items<Source>, OutOfMemory>
         requires { IsPlacedGraph self.now }
-        ensures { IfOk result (λ sources. sources ≡ sources_to (of self.now) self.now.ins.now self.now.references.now self.now.edges.now owner.now ports.now) }
+        ensures { IfOk result (λ sources. sources ≡
+            sources_to (of self.now) self.now.ins.now self.now.references.now self.now.edges.now
+            owner.now ports.now) }
     {
         let edges = edges_into(alloc, self.edges, owner)?;
         self.sources_among(alloc, &edges, ports)
@@ -51,7 +53,9 @@ impl<'a> Graph<'a> {
         ports: &[Port],
     ) -> Result<Items<Source>, OutOfMemory>
         requires { IsPlacedGraph self.now }
-        ensures { IfOk result (λ sources. sources ≡ map (λ p. source_among (of self.now) self.now.ins.now self.now.references.now (map (λ e. e.now) edges.now) p.name) ports.now) }
+        ensures { IfOk result (λ sources. sources ≡
+            map (λ p. source_among (of self.now) self.now.ins.now self.now.references.now
+            (map (λ e. e.now) edges.now) p.name) ports.now) }
     {
         let mut sources = Vec::new(alloc);
         for port in ports {
@@ -63,7 +67,8 @@ impl<'a> Graph<'a> {
     /// Where the first of these edges into a port of this name comes from.
     fn source_among(&self, edges: &[&Edge], port: &Name) -> Result<Source, OutOfMemory>
         requires { IsPlacedGraph self.now }
-        ensures { IfOk result (λ s. s ≡ source_among (of self.now) self.now.ins.now self.now.references.now (map (λ e. e.now) edges.now) port.now) }
+        ensures { IfOk result (λ s. s ≡ source_among (of self.now) self.now.ins.now
+            self.now.references.now (map (λ e. e.now) edges.now) port.now) }
     {
         for edge in edges {
             if edge.to.port.as_bytes() == port.as_bytes() {
@@ -76,7 +81,8 @@ impl<'a> Graph<'a> {
     /// The source that an edge comes from.
     fn source_from(&self, end: &End) -> Result<Source, OutOfMemory>
         requires { IsPlacedGraph self.now }
-        ensures { IfOk result (λ s. s ≡ source_from (of self.now) self.now.ins.now self.now.references.now end.now.owner end.now.port) }
+        ensures { IfOk result (λ s. s ≡ source_from (of self.now) self.now.ins.now
+            self.now.references.now end.now.owner end.now.port) }
     {
         let Some(owner) = &end.owner else {
             return Ok(Source::Own(small(find_port(self.ins, end.port.as_bytes()))?));
@@ -100,7 +106,8 @@ impl<'a> Graph<'a> {
     /// The ports of the reference of a name, if there is one.
     fn named(&self, name: &Name) -> Option<&'a Ports>
         requires { IsPlacedGraph self.now }
-        ensures { MatchOption result (ports_at (of self.now) self.now.references.now name.now ≡ no_ports) (λ p. p.now ≡ ports_at (of self.now) self.now.references.now name.now) }
+        ensures { MatchOption result (ports_at (of self.now) self.now.references.now name.now ≡
+            no_ports) (λ p. p.now ≡ ports_at (of self.now) self.now.references.now name.now) }
     {
         let at = find_reference(self.references, name.as_bytes());
         if at < self.places.len() {

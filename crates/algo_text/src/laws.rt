@@ -12,5 +12,6 @@ ghost use Rattle.algo_text.specs.Grammatical.{IsFormula};
 /// that is no port; and Limit exactly where there are more than 512 tokens, with their number.
 #[tactic(auto, using(crate::proofs::Judged::formula_law))]
 pub fn formulas_are_grammatical()
-    ensures { (line : ℕ) (ports : List Bytes) (text : Bytes) (r : Result Expr AlgoError) → (formula_of line ports text ≡ r) ↔ IsFormula ports text line r }
+    ensures { (line : ℕ) (ports : List Bytes) (text : Bytes) (r : Result Expr AlgoError) →
+        (formula_of line ports text ≡ r) ↔ IsFormula ports text line r }
 {}

@@ -1,5 +1,5 @@
 //! How many flat operations a vertex stands for, without expanding it.
-ghost use Rattle.std.specs.Prelude.{◌≡◌, ◌^◌, ◌-◌, ◌+◌, ◌≤◌, length, min};
+ghost use Rattle.std.specs.Prelude.{◌≡◌, ◌^◌, ◌-◌, ◌+◌, length, min};
 ghost use Rattle.algo_tree.specs.View.{kind_view, view};
 ghost use Rattle.algo_tree.specs.Well.{fork_names, join_names};
 ghost use Rattle.algo_tree.specs.Counted.{operations, operations_by};

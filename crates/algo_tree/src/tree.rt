@@ -116,7 +116,9 @@ fn sensor_len(kind: &Kind, outs: &[u32]) -> Option<u32>
 }
 
 fn actuator_lens_in(alloc: Global, vertices: &[Vertex]) -> Result<Vec<u32>, OutOfMemory>
-    ensures { IfOk result (λ lens. lens.items ≡ actuator_lengths_in (source_length [] (outs_of (vertices_view vertices.now))) (vertices_view vertices.now)) }
+    ensures { IfOk result (λ lens. lens.items ≡
+        actuator_lengths_in (source_length [] (outs_of (vertices_view vertices.now)))
+        (vertices_view vertices.now)) }
 {
     let mut lens = Vec::new(alloc);
     for vertex in vertices {
@@ -128,7 +130,8 @@ fn actuator_lens_in(alloc: Global, vertices: &[Vertex]) -> Result<Vec<u32>, OutO
 
 /// The length of a vertex of the main graph that is an actuator.
 fn actuator_len(vertices: &[Vertex], kind: &Kind, ins: &[Source]) -> Option<u32>
-    ensures { option_to_list result ≡ actuator_length (kind_view kind.now) (map (source_length [] (outs_of (vertices_view vertices.now))) ins.now) }
+    ensures { option_to_list result ≡ actuator_length (kind_view kind.now)
+        (map (source_length [] (outs_of (vertices_view vertices.now))) ins.now) }
 {
     match kind {
         Kind::Actuator(_) => Some(taken_len(vertices, ins)),

@@ -1,5 +1,5 @@
 -- What the text of an architecture says: its version, operators, media, depth and durations, or its first refusal. Lines are numbered from 1.
-use Rattle.std.specs.Prelude.{ℕ, ◌+◌, Bool, true, false, not, ◌&&◌, ◌||◌, ◌==◌, nat_le, nat_lt, List, [], ◌∷◌, ◌++◌, length, map, position, slice_index_or, slice_set, Option, Some, None, is_some, Result, Ok, Err, if◌then◌else◌, codes, ℤ, pos, negsuc}
+use Rattle.std.specs.Prelude.{ℕ, ◌+◌, Bool, false, not, ◌&&◌, ◌||◌, ◌==◌, nat_le, nat_lt, List, [], ◌∷◌, ◌++◌, length, map, position, slice_index_or, slice_set, Option, Some, None, is_some, Result, Ok, Err, if◌then◌else◌, codes, ℤ, pos, negsuc}
 use Rattle.std.specs.List.{list_any, range_with_len}
 use Rattle.std.specs.Str.{bytes_eq}
 use Rattle.text_lines.specs.Text.{lines_of, words_of, code_of, foreign_place}

@@ -40,7 +40,10 @@ fn are_all_set(flags: &[bool]) -> bool
 
 fn one_hop_further(near: &Flags, media: &[Medium]) -> Flags
     requires { AreOperators 16 media.now }
-    ensures { (o : ℕ) → o < 16 → slice_index_or result o false ≡ (slice_index_or near.now o false || list_any (λ m. stands_at m o && list_any (λ p. slice_index_or near.now p false) m.stands) media.now) }
+    ensures { (o : ℕ) → o < 16 → slice_index_or result o false ≡
+        (slice_index_or near.now o false ||
+        list_any (λ m. stands_at m o && list_any (λ p. slice_index_or near.now p false) m.stands)
+        media.now) }
 {
     let mut far = *near;
     for medium in media {
@@ -61,7 +64,8 @@ fn is_any_set(flags: &Flags, operators: &[u32]) -> bool
 
 fn set_all(flags: &mut Flags, operators: &[u32])
     requires { All (λ o. o < 16) operators.now }
-    ensures { (o : ℕ) → o < 16 → slice_index_or flags.new o false ≡ (slice_index_or flags.old o false || list_any (nat_eq o) operators.now) }
+    ensures { (o : ℕ) → o < 16 → slice_index_or flags.new o false ≡
+        (slice_index_or flags.old o false || list_any (nat_eq o) operators.now) }
 {
     for o in operators {
         flags[*o as usize] = true;

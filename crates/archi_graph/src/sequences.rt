@@ -1,7 +1,7 @@
 //! The sequences of an architecture, in their order.
 ghost use Rattle.std.specs.Prelude.{◌≡◌, ◌≤◌, ◌++◌, length, OnOk, IfOk};
-ghost use Rattle.std.specs.List.{flat_map, list_any, range_with_len};
-ghost use Rattle.archi_graph.specs.Sequences.{communicators, sequences_of};
+ghost use Rattle.std.specs.List.{flat_map, range_with_len};
+ghost use Rattle.archi_graph.specs.Sequences.{sequences_of};
 ghost use Rattle.archi_graph.specs.Archi.{stands_at};
 
 use crate::medium::{Medium, Seq};

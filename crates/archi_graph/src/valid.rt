@@ -1,5 +1,5 @@
 //! Which operators and media make an architecture.
-ghost use Rattle.std.specs.Prelude.{◌≡◌, length, nat_le, nat_lt};
+ghost use Rattle.std.specs.Prelude.{◌≡◌, nat_le, nat_lt};
 ghost use Rattle.std.specs.List.{count_by, list_all};
 ghost use Rattle.std.specs.Str.{bytes_eq};
 ghost use Rattle.archi_graph.specs.Archi.{are_bounded, are_distinct, ascends_from, is_archi, is_medium, may_stand, names_of, occurs_once, stands_in_all};

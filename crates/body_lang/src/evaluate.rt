@@ -1,7 +1,7 @@
 //! The value of an expression, and the outputs of a function.
-ghost use Rattle.std.specs.Prelude.{◌≡◌, ◌<◌, ◌↔◌, IsTrue, IfSome, length, map, pos, slice_index_or, All};
+ghost use Rattle.std.specs.Prelude.{◌≡◌, ◌<◌, ◌↔◌, IsTrue, IfSome, length};
 ghost use Rattle.syn_base.specs.Arithmetic.{wrapped};
-ghost use Rattle.body_lang.specs.Expr.{view, value_of, vector_at, element_at, total, PortsBelow};
+ghost use Rattle.body_lang.specs.Expr.{view, value_of, element_at, total, PortsBelow};
 
 use crate::expression::Expr;
 use crate::inputs::Ins;

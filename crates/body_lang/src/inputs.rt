@@ -1,5 +1,5 @@
 //! The values at the ports of an operation.
-ghost use Rattle.std.specs.Prelude.{◌≡◌, ◌+◌, ◌<◌, ◌≤◌, ◌++◌, length, take, drop, slice_index, slice_index_or, slice_set, map, replicate, pos, [], IfOk};
+ghost use Rattle.std.specs.Prelude.{◌≡◌, ◌+◌, ◌<◌, ◌≤◌, ◌++◌, length, take, drop, slice_index_or, slice_set, map, replicate, pos, IfOk};
 ghost use Rattle.syn_base.specs.Rows.{with_value};
 ghost use Rattle.body_lang.specs.Expr.{vector_at, zeros};
 

@@ -24,7 +24,10 @@ pub fn one_place_fails()
 /// A text has one answer over the same ports, want of memory aside: one expression, or one fault at
 /// one place.
 pub fn one_answer_for_text()
-    ensures expression { (ports : List Bytes) (text : Bytes) (d e : Expr) → Reads ports text (Ok d) → Reads ports text (Ok e) → view d ≡ view e }
-    ensures either { (ports : List Bytes) (text : Bytes) (e : Expr) (f : BodyFault) → Reads ports text (Ok e) → Reads ports text (Err f) → f ≡ OutOfMemory }
-    ensures fault { (ports : List Bytes) (text : Bytes) (f g : BodyFault) → f ≢ OutOfMemory → g ≢ OutOfMemory → Reads ports text (Err f) → Reads ports text (Err g) → f ≡ g }
+    ensures expression { (ports : List Bytes) (text : Bytes) (d e : Expr) →
+        Reads ports text (Ok d) → Reads ports text (Ok e) → view d ≡ view e }
+    ensures either { (ports : List Bytes) (text : Bytes) (e : Expr) (f : BodyFault) →
+        Reads ports text (Ok e) → Reads ports text (Err f) → f ≡ OutOfMemory }
+    ensures fault { (ports : List Bytes) (text : Bytes) (f g : BodyFault) → f ≢ OutOfMemory →
+        g ≢ OutOfMemory → Reads ports text (Err f) → Reads ports text (Err g) → f ≡ g }
 {}

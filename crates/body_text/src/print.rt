@@ -16,7 +16,8 @@ pub fn print_body(e: &Expr, ports: &[Port], out: &mut Vec<u8>) -> Result<(), Out
     requires { IsRead (map (λ p. p.name) ports.now) (view e.now) }
     ensures text { OnOk result (out.new.items ≡ out.old.items ++ canonical (map (λ p. p.name) ports.now) (view e.now)) }
     ensures err { OnErr result (out.new.items ≡ out.old.items) }
-    ensures reads_back { IsBody (map (λ p. p.name) ports.now) (canonical (map (λ p. p.name) ports.now) (view e.now)) (view e.now) }
+    ensures reads_back { IsBody (map (λ p. p.name) ports.now)
+        (canonical (map (λ p. p.name) ports.now) (view e.now)) (view e.now) }
 {
     let before = out.len();
     match print_expression(e, ports, out) {
@@ -66,7 +67,8 @@ fn print_expression(e: &Expr, ports: &[Port], out: &mut Vec<u8>) -> Result<(), O
 #[cycle(printed)]
 fn print_ended(e: &Expr, mark: &[u8], ports: &[Port], out: &mut Vec<u8>) -> Result<(), OutOfMemory>
     requires { PortsBelow (length ports.now) (view e.now) }
-    ensures text { OnOk result (out.new.items ≡ out.old.items ++ (canonical (map (λ p. p.name) ports.now) (view e.now) ++ mark.now)) }
+    ensures text { OnOk result (out.new.items ≡ out.old.items ++
+        (canonical (map (λ p. p.name) ports.now) (view e.now) ++ mark.now)) }
     ensures front { take (length out.old.items) out.new.items ≡ out.old.items }
 {
     print_expression(e, ports, out)?;

@@ -1,9 +1,9 @@
 //! Reading an expression by recursive descent over its tokens.
-ghost use Rattle.std.specs.Prelude.{◌≡◌, ◌+◌, ◌<◌, ◌≤◌, ◌^◌, length, suc, codes, IfOk, OnErr, option_map, if◌then◌else◌, nat_lt};
+ghost use Rattle.std.specs.Prelude.{◌≡◌, ◌+◌, ◌<◌, ◌≤◌, ◌^◌, length, codes, IfOk, OnErr, option_map, if◌then◌else◌, nat_lt};
 ghost use Rattle.body_text.specs.Cut.{token_view};
-ghost use Rattle.body_text.specs.Parse.{parse, alone, named, element_of, arguments_of, negation_of, apply_of, select_of, sum_of, index_of, ended, begins, first_token};
+ghost use Rattle.body_text.specs.Parse.{parse, alone, named, element_of, arguments_of, negation_of, apply_of, select_of, sum_of, ended, begins, first_token};
 ghost use Rattle.body_text.specs.Ports.{port_number};
-ghost use Rattle.body_text.specs.Answers.{Answers, tokens_of, names_of, behind_of, IsIndex, Makes};
+ghost use Rattle.body_text.specs.Answers.{Answers, names_of, behind_of, IsIndex, Makes};
 ghost use Rattle.std.specs.Option.{option_or};
 ghost use Rattle.body_lang.specs.Expr.{view};
 ghost use Rattle.body_lang.specs.Expr as plain;
@@ -46,7 +46,9 @@ impl<'a> Reader<'a> {
     #[tactic(auto, using(crate::proofs::Steps::alone_err, crate::proofs::Steps::alone_more, crate::proofs::Steps::alone_all))]
     pub fn whole(&self) -> Result<Read, Stop>
         requires { length self.now.ports.now ≤ 4000000000 }
-        ensures { Answers (names_of self.now.ports.now) self.now.tokens.now 0 0 (alone (parse (length self.now.tokens.now + 1) (behind_of 0 self.now.tokens.now))) result }
+        ensures { Answers (names_of self.now.ports.now) self.now.tokens.now 0 0
+            (alone (parse (length self.now.tokens.now + 1) (behind_of 0 self.now.tokens.now)))
+            result }
     {
         let read = self.expression(0, self.tokens.len() + 1)?;
         if read.next < self.tokens.len() {
@@ -60,7 +62,8 @@ impl<'a> Reader<'a> {
     fn expression(&self, start: usize, depth: usize) -> Result<Read, Stop>
         requires ports { length self.now.ports.now ≤ 4000000000 }
         requires start { start ≤ length self.now.tokens.now }
-        ensures { Answers (names_of self.now.ports.now) self.now.tokens.now start 0 (parse depth (behind_of start self.now.tokens.now)) result }
+        ensures { Answers (names_of self.now.ports.now) self.now.tokens.now start 0
+            (parse depth (behind_of start self.now.tokens.now)) result }
     {
         if depth == 0 {
             return Err(Stop::At(start));
@@ -83,7 +86,8 @@ impl<'a> Reader<'a> {
     fn named(&self, name: &[u8], start: usize, depth: usize) -> Result<Read, Stop>
         requires ports { length self.now.ports.now ≤ 4000000000 }
         requires start { start < length self.now.tokens.now }
-        ensures { Answers (names_of self.now.ports.now) self.now.tokens.now start 0 (named (parse depth) name.now (behind_of (start + 1) self.now.tokens.now)) result }
+        ensures { Answers (names_of self.now.ports.now) self.now.tokens.now start 0
+            (named (parse depth) name.now (behind_of (start + 1) self.now.tokens.now)) result }
     {
         if self.has(start + 1, Mark::OpenSquare) {
             return self.element(name, start, depth);
@@ -103,7 +107,8 @@ impl<'a> Reader<'a> {
     fn element(&self, name: &[u8], start: usize, depth: usize) -> Result<Read, Stop>
         requires ports { length self.now.ports.now ≤ 4000000000 }
         requires start { start + 2 ≤ length self.now.tokens.now }
-        ensures { Answers (names_of self.now.ports.now) self.now.tokens.now start 0 (element_of (parse depth) name.now (behind_of (start + 2) self.now.tokens.now)) result }
+        ensures { Answers (names_of self.now.ports.now) self.now.tokens.now start 0
+            (element_of (parse depth) name.now (behind_of (start + 2) self.now.tokens.now)) result }
     {
         let index = self.ended(start + 2, Mark::CloseSquare, depth)?;
         let port = self.port(name);
@@ -115,7 +120,8 @@ impl<'a> Reader<'a> {
     fn form(&self, word: Word, start: usize, depth: usize) -> Result<Read, Stop>
         requires ports { length self.now.ports.now ≤ 4000000000 }
         requires start { start + 2 ≤ length self.now.tokens.now }
-        ensures { Answers (names_of self.now.ports.now) self.now.tokens.now start 0 (arguments_of (parse depth) word (behind_of (start + 2) self.now.tokens.now)) result }
+        ensures { Answers (names_of self.now.ports.now) self.now.tokens.now start 0
+            (arguments_of (parse depth) word (behind_of (start + 2) self.now.tokens.now)) result }
     {
         match word {
             Word::Select => self.select(start, depth),
@@ -129,7 +135,8 @@ impl<'a> Reader<'a> {
     fn negation(&self, start: usize, depth: usize) -> Result<Read, Stop>
         requires ports { length self.now.ports.now ≤ 4000000000 }
         requires start { start + 2 ≤ length self.now.tokens.now }
-        ensures { Answers (names_of self.now.ports.now) self.now.tokens.now start 0 (negation_of (parse depth) (behind_of (start + 2) self.now.tokens.now)) result }
+        ensures { Answers (names_of self.now.ports.now) self.now.tokens.now start 0
+            (negation_of (parse depth) (behind_of (start + 2) self.now.tokens.now)) result }
     {
         let a = self.ended(start + 2, Mark::CloseRound, depth)?;
         negated(self.alloc, a)
@@ -139,7 +146,8 @@ impl<'a> Reader<'a> {
     fn apply(&self, op: Op, start: usize, depth: usize) -> Result<Read, Stop>
         requires ports { length self.now.ports.now ≤ 4000000000 }
         requires start { start + 2 ≤ length self.now.tokens.now }
-        ensures { Answers (names_of self.now.ports.now) self.now.tokens.now start 0 (apply_of (parse depth) op (behind_of (start + 2) self.now.tokens.now)) result }
+        ensures { Answers (names_of self.now.ports.now) self.now.tokens.now start 0
+            (apply_of (parse depth) op (behind_of (start + 2) self.now.tokens.now)) result }
     {
         let a = self.ended(start + 2, Mark::Comma, depth)?;
         let b = self.ended(a.next, Mark::CloseRound, depth)?;
@@ -150,7 +158,8 @@ impl<'a> Reader<'a> {
     fn select(&self, start: usize, depth: usize) -> Result<Read, Stop>
         requires ports { length self.now.ports.now ≤ 4000000000 }
         requires start { start + 2 ≤ length self.now.tokens.now }
-        ensures { Answers (names_of self.now.ports.now) self.now.tokens.now start 0 (select_of (parse depth) (behind_of (start + 2) self.now.tokens.now)) result }
+        ensures { Answers (names_of self.now.ports.now) self.now.tokens.now start 0
+            (select_of (parse depth) (behind_of (start + 2) self.now.tokens.now)) result }
     {
         let condition = self.ended(start + 2, Mark::Comma, depth)?;
         let a = self.ended(condition.next, Mark::Comma, depth)?;
@@ -163,7 +172,8 @@ impl<'a> Reader<'a> {
     fn ended(&self, start: usize, mark: Mark, depth: usize) -> Result<Read, Stop>
         requires ports { length self.now.ports.now ≤ 4000000000 }
         requires start { start ≤ length self.now.tokens.now }
-        ensures { Answers (names_of self.now.ports.now) self.now.tokens.now start 1 (ended (parse depth) mark (behind_of start self.now.tokens.now)) result }
+        ensures { Answers (names_of self.now.ports.now) self.now.tokens.now start 1
+            (ended (parse depth) mark (behind_of start self.now.tokens.now)) result }
     {
         let mut read = self.expression(start, depth)?;
         if !self.has(read.next, mark) {
@@ -177,7 +187,8 @@ impl<'a> Reader<'a> {
     fn sum(&self, start: usize) -> Result<Read, Stop>
         requires ports { length self.now.ports.now ≤ 4000000000 }
         requires start { start + 2 ≤ length self.now.tokens.now }
-        ensures { Answers (names_of self.now.ports.now) self.now.tokens.now start 0 (sum_of (behind_of (start + 2) self.now.tokens.now)) result }
+        ensures { Answers (names_of self.now.ports.now) self.now.tokens.now start 0
+            (sum_of (behind_of (start + 2) self.now.tokens.now)) result }
     {
         let Some(Token::Name(name)) = self.token(start + 2) else {
             return Err(Stop::At(start + 2));
@@ -288,7 +299,8 @@ fn applied(alloc: Global, op: Op, a: Read, b: Read) -> Result<Read, Stop>
 
 /// A selection by a condition, whose parts were read in this order.
 fn selected(alloc: Global, condition: Read, a: Read, b: Read) -> Result<Read, Stop>
-    ensures { Makes (plain.select (view condition.value) (view a.value) (view b.value)) b.next (option_or (option_or condition.unknown a.unknown) b.unknown) result }
+    ensures { Makes (plain.select (view condition.value) (view a.value) (view b.value)) b.next
+        (option_or (option_or condition.unknown a.unknown) b.unknown) result }
 {
     let unknown = condition.unknown.or(a.unknown).or(b.unknown);
     let next = b.next;

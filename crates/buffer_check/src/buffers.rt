@@ -2,10 +2,8 @@
 ghost use Rattle.std.specs.Prelude.{◌≡◌, ◌&&◌, nat_eq, nat_lt, slice_get};
 ghost use Rattle.std.specs.List.{list_all};
 ghost use Rattle.executive_program.specs.Instructions.{is_guarded, reads, turn};
-ghost use Rattle.executive_program.specs.Places.{writing};
 ghost use Rattle.program_walks.specs.Walks.{all_at, implies};
 ghost use Rattle.buffer_check.specs.Buffers.{are_buffers, has_places, is_buffer, is_buffer_at, is_near, is_operator, is_written_first, is_written_once, touches, writes_at, writes_only};
-ghost use Rattle.program_walks.specs.Walks.{names};
 
 use executive_program::{Instr, Program};
 use program_walks::{
@@ -62,7 +60,8 @@ fn writes_only(instr: &Instr, buffer: usize, port: usize, here: bool) -> bool
 }
 
 fn all_write_only(list: &[Instr], sequence: usize, buffer: usize, written: Written) -> bool
-    ensures { result ≡ all_at (λ a x. writes_only buffer written.port (nat_eq sequence written.writer && nat_eq a written.at) x) 0 list.now }
+    ensures { result ≡ all_at (λ a x. writes_only buffer written.port
+        (nat_eq sequence written.writer && nat_eq a written.at) x) 0 list.now }
 {
     for (at, instr) in list.iter().enumerate() {
         let here = sequence == written.writer && at == written.at;
@@ -107,7 +106,8 @@ fn all_near(list: &[Instr], buffer: usize, near: bool) -> bool
 }
 
 fn near_in(program: &Program, list: &[Instr], buffer: usize, operator: u32) -> bool
-    ensures { result ≡ list_all (λ x. implies (touches buffer x) (is_operator (slice_get program.now.buffers buffer) operator)) list.now }
+    ensures { result ≡ list_all (λ x. implies (touches buffer x)
+        (is_operator (slice_get program.now.buffers buffer) operator)) list.now }
 {
     all_near(list, buffer, is_on_operator(program, buffer, operator))
 }

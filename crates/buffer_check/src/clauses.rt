@@ -16,8 +16,10 @@ use executive_program::Program;
 /// where one sequence does both, and has one place.
 pub fn buffers_are_right(program: &Program, order: &[u32]) -> bool
     ensures test { result ≡ are_buffers program.now }
-    ensures sound { result ≡ true → (b : ℕ) → b < length program.now.buffers → IsBuffer program.now order.now (places program.now) b }
-    ensures complete { ((b : ℕ) → b < length program.now.buffers → IsBuffer program.now order.now (places program.now) b) → result ≡ true }
+    ensures sound { result ≡ true → (b : ℕ) → b < length program.now.buffers →
+        IsBuffer program.now order.now (places program.now) b }
+    ensures complete { ((b : ℕ) → b < length program.now.buffers →
+        IsBuffer program.now order.now (places program.now) b) → result ≡ true }
 {
     are_right(program)
 }
@@ -27,9 +29,14 @@ pub fn buffers_are_right(program: &Program, order: &[u32]) -> bool
 /// in order round the write and the reads of its reader.
 pub fn pairs_guard(program: &Program, order: &[u32]) -> bool
     ensures test { result ≡ are_pairs program.now order.now }
-    ensures numbered { result ≡ true → map (λ o. Some o) program.now.pairs ≡ map (λ r. operator_of program.now r.buffer) (readers program.now) }
-    ensures sound { result ≡ true → (q : ℕ) → q < length program.now.pairs → IsPair program.now order.now (places program.now) q }
-    ensures complete { map (λ o. Some o) program.now.pairs ≡ map (λ r. operator_of program.now r.buffer) (readers program.now) → ((q : ℕ) → q < length program.now.pairs → IsPair program.now order.now (places program.now) q) → result ≡ true }
+    ensures numbered { result ≡ true → map (λ o. Some o) program.now.pairs ≡
+        map (λ r. operator_of program.now r.buffer) (readers program.now) }
+    ensures sound { result ≡ true → (q : ℕ) → q < length program.now.pairs →
+        IsPair program.now order.now (places program.now) q }
+    ensures complete { map (λ o. Some o) program.now.pairs ≡
+        map (λ r. operator_of program.now r.buffer) (readers program.now) →
+        ((q : ℕ) → q < length program.now.pairs →
+        IsPair program.now order.now (places program.now) q) → result ≡ true }
 {
     are_guarded(program, order)
 }
@@ -38,8 +45,12 @@ pub fn pairs_guard(program: &Program, order: &[u32]) -> bool
 /// empty semaphore for each place of the buffer, and nothing else, where the pairs are numbered right.
 pub fn prologues_open(program: &Program) -> bool
     ensures test { result ≡ are_opened program.now }
-    ensures sound { result ≡ true → (s : ℕ) → s < length program.now.seqs → prologue program.now s ≡ opening_of program.now s }
-    ensures complete { map (λ o. Some o) program.now.pairs ≡ map (λ r. operator_of program.now r.buffer) (readers program.now) → ((s : ℕ) → s < length program.now.seqs → prologue program.now s ≡ opening_of program.now s) → result ≡ true }
+    ensures sound { result ≡ true → (s : ℕ) → s < length program.now.seqs →
+        prologue program.now s ≡ opening_of program.now s }
+    ensures complete { map (λ o. Some o) program.now.pairs ≡
+        map (λ r. operator_of program.now r.buffer) (readers program.now) →
+        ((s : ℕ) → s < length program.now.seqs →
+        prologue program.now s ≡ opening_of program.now s) → result ≡ true }
 {
     are_opened(program)
 }

@@ -1,5 +1,5 @@
 //! Each pair of semaphores guards its buffer for its reader.
-ghost use Rattle.std.specs.Prelude.{◌≡◌, ◌&&◌, ◌≤◌, nat_eq, nat_lt, length, slice_get};
+ghost use Rattle.std.specs.Prelude.{◌≡◌, ◌&&◌, ◌≤◌, nat_lt, length, slice_get};
 ghost use Rattle.executive_program.specs.Instructions.{reads, readers_from};
 ghost use Rattle.executive_program.specs.WellFormed.{operator_of};
 ghost use Rattle.program_walks.specs.Walks.{all_at, implies};
@@ -150,7 +150,9 @@ fn guards_from(
     reading: Reading,
     writing: Stand,
 ) -> bool
-    ensures { result ≡ guards_from program.now order.now pair (record { buffer = reading.buffer; sequence = reading.sequence }) writing.sequence writing.at }
+    ensures { result ≡ guards_from program.now order.now pair
+        (record { buffer = reading.buffer; sequence = reading.sequence }) writing.sequence
+        writing.at }
 {
     pair < program.pairs.as_slice().len()
         && has_operator(program, pair, reading.buffer)
@@ -160,7 +162,8 @@ fn guards_from(
 }
 
 fn guards(program: &Program, order: &[u32], pair: usize, reading: Reading) -> bool
-    ensures { result ≡ guards program.now order.now pair (record { buffer = reading.buffer; sequence = reading.sequence }) }
+    ensures { result ≡ guards program.now order.now pair
+        (record { buffer = reading.buffer; sequence = reading.sequence }) }
 {
     let sequence = writer_of(program, reading.buffer);
     let at = written_at(program, reading.buffer);

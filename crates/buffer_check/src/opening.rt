@@ -1,10 +1,10 @@
 //! Each sequence has its prologue: the signals that let the writers of its buffers begin.
-ghost use Rattle.std.specs.Prelude.{◌≡◌, length, nat_eq};
+ghost use Rattle.std.specs.Prelude.{◌≡◌};
 ghost use Rattle.std.specs.List.{count_by, list_all};
 ghost use Rattle.executive_program.specs.Instructions.{readers, readers_from};
 ghost use Rattle.executive_program.specs.Places.{signals_empty};
 ghost use Rattle.program_walks.specs.Walks.{all_at, passed};
-ghost use Rattle.buffer_check.specs.Opened.{are_opened, opens, rise, rises, signals_for, signals_right};
+ghost use Rattle.buffer_check.specs.Opened.{are_opened, opens, rises, signals_for, signals_right};
 
 use crate::guarding::Reading;
 use executive_program::{Instr, Program};
@@ -36,7 +36,8 @@ fn count_signals(list: &[Instr], pair: usize) -> usize
 
 /// How often a sequence signals the empty semaphore of the pair of a reader before its loop.
 fn signals_for(program: &Program, reading: Reading, sequence: usize) -> usize
-    ensures { result ≡ signals_for program.now (record { buffer = reading.buffer; sequence = reading.sequence }) sequence }
+    ensures { result ≡ signals_for program.now
+        (record { buffer = reading.buffer; sequence = reading.sequence }) sequence }
 {
     if reading.sequence == sequence {
         depth_of(program, reading.buffer) as usize
@@ -48,7 +49,8 @@ fn signals_for(program: &Program, reading: Reading, sequence: usize) -> usize
 /// Whether each sequence signals the empty semaphore of a pair before its loop as often as it is to: the
 /// reader once for each place of the buffer, and no other.
 fn all_signal(program: &Program, pair: usize, reading: Reading) -> bool
-    ensures { result ≡ all_at (signals_right program.now pair (record { buffer = reading.buffer; sequence = reading.sequence })) 0 program.now.seqs }
+    ensures { result ≡ all_at (signals_right program.now pair
+        (record { buffer = reading.buffer; sequence = reading.sequence })) 0 program.now.seqs }
 {
     for (sequence, code) in program.seqs.as_slice().iter().enumerate() {
         if count_signals(code.prologue.as_slice(), pair)

@@ -1,5 +1,5 @@
 //! Buffers are written once, touched on their own operator alone, and deep only where another sequence reads them.
-ghost use Rattle.std.specs.Prelude.{◌≡◌, ℕ, ◌<◌, ◌&&◌, not, nat_eq, nat_lt, length, slice_get};
+ghost use Rattle.std.specs.Prelude.{◌≡◌, ℕ, ◌<◌, ◌&&◌, nat_eq, nat_lt, length, slice_get};
 ghost use Rattle.std.specs.List.{list_all, list_any};
 ghost use Rattle.buffer_check.specs.Buffers.{are_buffers, has_places, is_buffer, is_buffer_at, is_near, is_operator, is_written_first, is_written_once, writes_at};
 ghost use Rattle.executive_program.specs.Instructions.{is_guarded, operator};
@@ -29,7 +29,8 @@ fn is_written(list: &[Instr], buffer: usize, write: Write) -> bool
 }
 
 fn are_one(writes: &[Mark], write: Write) -> bool
-    ensures { result ≡ list_all (λ m. nat_eq m.sequence write.writer && nat_eq m.at write.at && nat_eq m.port write.port) writes.now }
+    ensures { result ≡ list_all (λ m. nat_eq m.sequence write.writer && nat_eq m.at write.at &&
+        nat_eq m.port write.port) writes.now }
 {
     writes.iter().all(|mark| {
         mark.sequence == write.writer && mark.at == write.at && mark.port == write.port
@@ -60,7 +61,8 @@ fn is_mark_near(program: &Program, buffer: usize, mark: Mark) -> bool
 }
 
 fn are_near(program: &Program, buffer: usize, marks: &[Mark]) -> bool
-    ensures { result ≡ list_all (λ m. is_operator (slice_get program.now.buffers buffer) (operator program.now m.sequence)) marks.now }
+    ensures { result ≡ list_all (λ m. is_operator (slice_get program.now.buffers buffer)
+        (operator program.now m.sequence)) marks.now }
 {
     marks
         .iter()
@@ -68,7 +70,10 @@ fn are_near(program: &Program, buffer: usize, marks: &[Mark]) -> bool
 }
 
 fn both_near(program: &Program, buffer: usize, writes: &[Mark], reads: &[Mark]) -> bool
-    ensures { result ≡ (list_all (λ m. is_operator (slice_get program.now.buffers buffer) (operator program.now m.sequence)) writes.now && list_all (λ m. is_operator (slice_get program.now.buffers buffer) (operator program.now m.sequence)) reads.now) }
+    ensures { result ≡ (list_all (λ m. is_operator (slice_get program.now.buffers buffer)
+        (operator program.now m.sequence)) writes.now &&
+        list_all (λ m. is_operator (slice_get program.now.buffers buffer)
+        (operator program.now m.sequence)) reads.now) }
 {
     are_near(program, buffer, writes) && are_near(program, buffer, reads)
 }

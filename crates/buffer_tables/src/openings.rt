@@ -1,5 +1,5 @@
 //! The prologues signal the empty semaphores as often as their buffers have places.
-ghost use Rattle.std.specs.Prelude.{◌≡◌, ℕ, ◌+◌, ◌<◌, true, false, length, replicate, IfOk};
+ghost use Rattle.std.specs.Prelude.{◌≡◌, ◌+◌, ◌<◌, true, false, length, replicate, IfOk};
 ghost use Rattle.std.specs.List.{list_all};
 ghost use Rattle.executive_program.specs.Instructions.{prologue, readers};
 ghost use Rattle.executive_program.specs.Places.{signals_empty};

@@ -1,14 +1,13 @@
 //! Each pair of semaphores guards its buffer for its reader.
-ghost use Rattle.std.specs.Prelude.{◌≡◌, ℕ, ◌<◌, ◌&&◌, nat_eq, nat_lt, length, slice_get, IfOk};
+ghost use Rattle.std.specs.Prelude.{◌≡◌, ◌<◌, ◌&&◌, nat_eq, nat_lt, length, slice_get, IfOk};
 ghost use Rattle.std.specs.List.{list_all};
 ghost use Rattle.buffer_check.specs.Pairs.{has_operator, is_read_between, is_written_between};
 ghost use Rattle.executive_program.specs.WellFormed.{operator_of};
 ghost use Rattle.executive_program.specs.Places.{writer_of, written_at};
-ghost use Rattle.mark_table.specs.Rows.{row};
 ghost use Rattle.program_tables.specs.declared.roles.Role.TheVariants.{Read, Written};
 ghost use Rattle.program_tables.specs.Marks.{first_at, lone, marks_of};
-ghost use Rattle.program_walks.specs.Walks.{all_at, implies};
-ghost use Rattle.buffer_tables.specs.Readings.{ArePairs, readings};
+ghost use Rattle.program_walks.specs.Walks.{implies};
+ghost use Rattle.buffer_tables.specs.Readings.{ArePairs};
 
 use crate::readings::Reading;
 use executive_program::Program;
@@ -56,7 +55,8 @@ fn has_operator(program: &Program, pair: usize, buffer: usize) -> bool
 }
 
 fn is_written_within(takes: &[Mark], signals: &[Mark], write: Write) -> bool
-    ensures { result ≡ (lone write.writer takes.now && lone write.writer signals.now && nat_lt (first_at takes.now) write.at && nat_lt write.at (first_at signals.now)) }
+    ensures { result ≡ (lone write.writer takes.now && lone write.writer signals.now &&
+        nat_lt (first_at takes.now) write.at && nat_lt write.at (first_at signals.now)) }
 {
     is_lone(takes, write.writer)
         && is_lone(signals, write.writer)
@@ -89,19 +89,23 @@ fn is_written_right(
     requires tables { ArePairs program.now tables.now }
     requires within { pair < length program.now.pairs }
     requires writes { writes.now ≡ marks_of program.now Written buffer }
-    ensures { result ≡ is_written_between program.now pair (writer_of program.now buffer) (written_at program.now buffer) }
+    ensures { result ≡ is_written_between program.now pair (writer_of program.now buffer)
+        (written_at program.now buffer) }
 {
     is_written_between(program, tables, pair, write_of(program, buffer, writes))
 }
 
 fn are_between(reads: &[Mark], sequence: usize, after: usize, before: usize) -> bool
-    ensures { result ≡ list_all (λ m. implies (nat_eq m.sequence sequence) (nat_lt after m.at && nat_lt m.at before)) reads.now }
+    ensures { result ≡ list_all (λ m. implies (nat_eq m.sequence sequence) (nat_lt after m.at &&
+        nat_lt m.at before)) reads.now }
 {
     reads.iter().all(|mark| mark.sequence != sequence || (after < mark.at && mark.at < before))
 }
 
 fn is_read_within(takes: &[Mark], signals: &[Mark], sequence: usize, reads: &[Mark]) -> bool
-    ensures { result ≡ (lone sequence takes.now && lone sequence signals.now && list_all (λ m. implies (nat_eq m.sequence sequence) (nat_lt (first_at takes.now) m.at && nat_lt m.at (first_at signals.now))) reads.now) }
+    ensures { result ≡ (lone sequence takes.now && lone sequence signals.now &&
+        list_all (λ m. implies (nat_eq m.sequence sequence) (nat_lt (first_at takes.now) m.at &&
+        nat_lt m.at (first_at signals.now))) reads.now) }
 {
     is_lone(takes, sequence)
         && is_lone(signals, sequence)
@@ -143,7 +147,11 @@ pub fn guards(
     requires tables { ArePairs program.now tables.now }
     requires writes { writes.now ≡ marks_of program.now Written reading.buffer }
     requires reads { reads.now ≡ marks_of program.now Read reading.buffer }
-    ensures { result ≡ (nat_lt pair (length program.now.pairs) && has_operator (slice_get program.now.pairs pair) (operator_of program.now reading.buffer) && is_written_between program.now pair (writer_of program.now reading.buffer) (written_at program.now reading.buffer) && is_read_between program.now pair reading.buffer reading.sequence) }
+    ensures { result ≡ (nat_lt pair (length program.now.pairs) &&
+        has_operator (slice_get program.now.pairs pair) (operator_of program.now reading.buffer) &&
+        is_written_between program.now pair (writer_of program.now reading.buffer)
+        (written_at program.now reading.buffer) &&
+        is_read_between program.now pair reading.buffer reading.sequence) }
 {
     pair < program.pairs.as_slice().len()
         && has_operator(program, pair, reading.buffer)

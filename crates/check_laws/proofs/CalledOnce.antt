@@ -1,5 +1,5 @@
 -- The test of calls is true exactly where each operation is called once.
-use Rattle.std.proofs.Common.{◌≡◌, ℕ, true, ◌&&◌, List, refl, sym, subst}
+use Rattle.std.proofs.Common.{◌≡◌, ℕ, true, List, refl, sym, subst}
 use Rattle.std.specs.Prelude.{slice_get, Option, Some, is_none}
 use Rattle.std.specs.Cmp.Derive.{both_true}
 use Rattle.std.proofs.lemmas.Bool.{and_parts}

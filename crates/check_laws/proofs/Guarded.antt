@@ -1,5 +1,5 @@
 -- The test of pairs is true exactly where they are numbered and stand round the write and the reads.
-use Rattle.std.proofs.Common.{◌≡◌, ℕ, ◌<◌, true, ◌&&◌, List, map, length}
+use Rattle.std.proofs.Common.{◌≡◌, ℕ, ◌<◌, true, ◌&&◌, map, length}
 use Rattle.std.specs.Prelude.{Some, nat_lt, slice_get}
 use Rattle.std.specs.Cmp.Derive.{both_true}
 use Rattle.std.proofs.lemmas.Bool.{and_parts}

@@ -1,5 +1,5 @@
 -- The test of transfers is true exactly where each transfer has its parts.
-use Rattle.std.proofs.Common.{◌≡◌, ℕ, ◌<◌, true, ◌&&◌, refl}
+use Rattle.std.proofs.Common.{◌≡◌, ℕ, ◌<◌, true, refl}
 use Rattle.std.specs.Cmp.Derive.{both_true}
 use Rattle.std.proofs.lemmas.Bool.{and_parts}
 use Rattle.executive_program.specs.declared.program.Program.{Program}

@@ -24,7 +24,6 @@ use Rattle.code_laws.proofs.Forms.{is_argument}
 use Rattle.code_laws.proofs.Named.{names, AreNamed}
 use Rattle.code_laws.proofs.Numbering.{numbers}
 use Rattle.code_laws.proofs.ReadLines as lines
-use Rattle.code_laws.proofs.ReadLines.{Reads}
 use Rattle.code_laws.proofs.Instructions.{Read, stands, one_argument}
 
 -- one argument that is a name

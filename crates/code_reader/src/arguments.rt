@@ -4,7 +4,6 @@ ghost use Rattle.std.specs.List.{position_or_len, slice_split};
 ghost use Rattle.archi_graph.specs.Archi.{ascends_from};
 ghost use Rattle.code_text.specs.Forms.{arguments_of, buffer_in, declared_by, declaration_in, each_in, is_comma, number_in};
 ghost use Rattle.code_text.specs.Text.{one_of, two_of};
-ghost use Rattle.code_reader.specs.Given.{Has};
 ghost use Rattle.code_reader.specs.Views.{AreTwo, HasNumbers, HasWords, IsDeclaration, IsWord, texts_of};
 
 use crate::form::cut_at;

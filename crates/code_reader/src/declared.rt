@@ -1,5 +1,5 @@
 //! Lines that declare pairs and buffers.
-ghost use Rattle.std.specs.Prelude.{◌≡◌, ◌++◌, OnOk, is_none, map};
+ghost use Rattle.std.specs.Prelude.{◌≡◌, ◌++◌, OnOk, map};
 ghost use Rattle.code_text.specs.Text.{declaration_of, numbered, pairs_of};
 ghost use Rattle.code_reader.specs.Given.{GivesNumbers};
 ghost use Rattle.code_reader.specs.Views.{GivesDeclaration};

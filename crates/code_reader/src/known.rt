@@ -1,5 +1,5 @@
 //! What the operations, operators and media of a text are.
-ghost use Rattle.std.specs.Prelude.{◌≡◌, ◌∷◌, [], IfOk, IfSome, ◌<◌, length, map, position, true};
+ghost use Rattle.std.specs.Prelude.{◌≡◌, IfOk, IfSome, ◌<◌, length, map, position, true};
 ghost use Rattle.std.specs.Str.{bytes_eq};
 ghost use Rattle.flat_graph.specs.Valid.{are_named_apart};
 ghost use Rattle.code_text.specs.Text.{follows, is_among, last_of, medium_names, medium_of, name_of, operation_names, known, operator_of, place_in, processor_of, thread_of};

@@ -1,6 +1,5 @@
 //! Which numbers were told.
 ghost use Rattle.std.specs.Prelude.{◌≡◌, ℕ, ◌<◌, ◌||◌, OnErr, OnOk, false, nat_eq, slice_index_or};
-ghost use Rattle.std.specs.List.{list_any};
 ghost use Rattle.code_reader.specs.Numbers.{is_marked};
 
 use std::alloc::{AllocError, Global};

@@ -1,5 +1,5 @@
 //! Code as a text has it: its numbers of buffers and pairs may be wider than those of a program.
-ghost use Rattle.std.specs.Prelude.{◌≡◌, map};
+ghost use Rattle.std.specs.Prelude.{map};
 ghost use Rattle.code_reader.specs.Given.{Has};
 ghost use Rattle.code_reader.specs.Views.{code_of, instr_of};
 

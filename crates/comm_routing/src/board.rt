@@ -7,7 +7,7 @@ ghost use Rattle.comm_routing.specs.Placing.{ticks_in};
 ghost use Rattle.route_table.specs.Table.{route_in};
 ghost use Rattle.comm_routing.specs.Tables.{after_operation, after_transfer, after_transfers, with_outputs};
 ghost use Rattle.comm_routing.specs.Start.{HasFewOutputs, IsStart, all_lens};
-ghost use Rattle.comm_routing.specs.Walk.{fetch, fetch_all, fetch_from, pass, step, steps, walk};
+ghost use Rattle.comm_routing.specs.Walk.{fetch, fetch_all, pass, step, steps, walk};
 
 use crate::start::{firsts, lens, no_dates, no_ends, no_places, zeros};
 use archi_graph::{Hop, Medium};
@@ -108,9 +108,12 @@ impl Board {
 
     /// The operation is placed, and its operator holds its outputs. It takes no memory.
     pub(crate) fn run(&mut self, decision: &Decision, outs: &[u32])
-        requires operation { (decision.now.op < length self.old.first) × (decision.now.op < length self.old.places) × (decision.now.op < length self.old.ended) }
+        requires operation { (decision.now.op < length self.old.first) ×
+            (decision.now.op < length self.old.places) × (decision.now.op < length self.old.ended) }
         requires operator { decision.now.operator < 16 }
-        requires places { (j : ℕ) → j < length outs.now → (slice_index_or self.old.first decision.now.op 0 + j) * self.old.operators + decision.now.operator < length self.old.held }
+        requires places { (j : ℕ) → j < length outs.now →
+            (slice_index_or self.old.first decision.now.op 0 + j) * self.old.operators +
+            decision.now.operator < length self.old.held }
         ensures { self.new ≡ after_operation self.old outs.now decision.now }
     {
         let op = decision.op as usize;
@@ -236,7 +239,8 @@ fn over(
     requires medium { (number < length media.now) × (length media.now ≤ 16) }
     requires output { HasOutput board.now source }
     requires fits { max (slice_index_or ends.old number 0) date + time_in media.now board.now number source < 2 ^ 64 }
-    ensures { walk ends.new result ≡ pass (time_in media.now board.now) (held_in board.now) source number (walk ends.old date) }
+    ensures { walk ends.new result ≡ pass (time_in media.now board.now) (held_in board.now) source
+        number (walk ends.old date) }
 {
     let number = number as usize;
     let end = ends[number].max(date) + time(board, &media[number], source);
@@ -257,7 +261,8 @@ fn along(
     requires output { HasOutput board.now source }
     requires route { HasRoute media.now board.now source route.now }
     requires fits { Fits media.now board.now source (walk ends.old date) route.now }
-    ensures { walk ends.new result ≡ steps (time_in media.now board.now) (held_in board.now) source (walk ends.old date) route.now }
+    ensures { walk ends.new result ≡ steps (time_in media.now board.now) (held_in board.now) source
+        (walk ends.old date) route.now }
 {
     let mut date = date;
     for hop in route {
@@ -277,8 +282,10 @@ pub(crate) fn to_far(
 ) -> u64
     requires medium { (hop.medium < length media.now) × (length media.now ≤ 16) }
     requires place { HasPlace board.now (copy hop.to source) }
-    requires fits { max (slice_index_or ends.old hop.medium 0) date + time_in media.now board.now hop.medium source < 2 ^ 64 }
-    ensures { walk ends.new result ≡ step (time_in media.now board.now) (held_in board.now) source (walk ends.old date) hop }
+    requires fits { max (slice_index_or ends.old hop.medium 0) date +
+        time_in media.now board.now hop.medium source < 2 ^ 64 }
+    ensures { walk ends.new result ≡ step (time_in media.now board.now) (held_in board.now) source
+        (walk ends.old date) hop }
 {
     match board.held(source, hop.to) {
         Some(date) => date,
@@ -299,8 +306,12 @@ fn fetched(
     requires few { length media.now ≤ 16 }
     requires operator { operator < routes.now.operators }
     requires way { HasWay media.now board.now (route_in routes.now) routes.now.operators operator source }
-    requires fits { Fits media.now board.now source (walk ends.old (ticks_in (held_in board.now (copy (on_in board.now source.vertex) source)))) (route_in routes.now (on_in board.now source.vertex) operator) }
-    ensures { walk ends.new result ≡ fetch (time_in media.now board.now) (held_in board.now) (on_in board.now) (route_in routes.now) operator source ends.old }
+    requires fits { Fits media.now board.now source
+        (walk ends.old (ticks_in (held_in board.now
+        (copy (on_in board.now source.vertex) source))))
+        (route_in routes.now (on_in board.now source.vertex) operator) }
+    ensures { walk ends.new result ≡ fetch (time_in media.now board.now) (held_in board.now)
+        (on_in board.now) (route_in routes.now) operator source ends.old }
 {
     if let Some(date) = board.held(source, operator) {
         return date;
@@ -339,7 +350,8 @@ pub(crate) fn arrival(
     requires operator { operator < routes.now.operators }
     requires ways { All (HasWay media.now board.now (route_in routes.now) routes.now.operators operator) sources.now }
     requires fits { FitsAll media.now board.now (route_in routes.now) operator sources.now (walk board.now.ends 0) }
-    ensures { result ≡ (fetch_all (time_in media.now board.now) (held_in board.now) (on_in board.now) (route_in routes.now) operator sources.now (walk board.now.ends 0)).date }
+    ensures { result ≡ (fetch_all (time_in media.now board.now) (held_in board.now)
+        (on_in board.now) (route_in routes.now) operator sources.now (walk board.now.ends 0)).date }
 {
     let mut ends = board.ends;
     let mut latest = 0;

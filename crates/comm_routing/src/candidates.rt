@@ -1,7 +1,7 @@
 //! The candidates, and their arrivals as far as they are known.
-ghost use Rattle.std.specs.Prelude.{◌≡◌, ℕ, ◌+◌, ◌<◌, ◌≤◌, ◌∷◌, [], All, true, false, ◌&&◌, not, IfOk, if◌then◌else◌, length, map, nat_eq, slice_index_or, slice_set, take, replicate};
+ghost use Rattle.std.specs.Prelude.{◌≡◌, ℕ, ◌+◌, ◌<◌, ◌≤◌, [], All, true, false, ◌&&◌, IfOk, if◌then◌else◌, length, nat_eq, slice_index_or, slice_set, take, replicate};
 ghost use Rattle.std.specs.List.{list_all, list_any};
-ghost use Rattle.flat_graph.specs.Order.{depends_on, get_half};
+ghost use Rattle.flat_graph.specs.Order.{get_half};
 ghost use Rattle.comm_routing.specs.Dependents.{AreDependents};
 ghost use Rattle.comm_routing.specs.Candidates.{AreArrivals, CanArrive, HasSize, HasWalks, IsBehind, IsListed, IsUpdated, flag_in, is_candidate_in, is_free_in, is_placed_in, places_from, row_at, sought_in};
 
@@ -48,7 +48,8 @@ impl Ready {
         requires operation { op < length vertices.now }
         requires listed { IsListed (length vertices.now) self.old }
         ensures listed { IsListed (length vertices.now) self.new }
-        ensures marked { self.new.flags.items ≡ slice_set self.old.flags.items op (is_candidate_in vertices.now board.now op) }
+        ensures marked { self.new.flags.items ≡ slice_set self.old.flags.items op
+            (is_candidate_in vertices.now board.now op) }
     {
         let place = op as usize;
         let is_ready = is_candidate(vertices, board, place);
@@ -68,7 +69,8 @@ impl Ready {
         requires operations { All (λ v. v < length vertices.now) ops.now }
         requires listed { IsListed (length vertices.now) self.old }
         ensures listed { IsListed (length vertices.now) self.new }
-        ensures marked { (v : ℕ) → list_any (nat_eq v) ops.now ≡ true → flag_in self.new v ≡ is_candidate_in vertices.now board.now v }
+        ensures marked { (v : ℕ) → list_any (nat_eq v) ops.now ≡ true →
+            flag_in self.new v ≡ is_candidate_in vertices.now board.now v }
         ensures others { (v : ℕ) → list_any (nat_eq v) ops.now ≡ false → flag_in self.new v ≡ flag_in self.old v }
     {
         for op in ops {
@@ -153,7 +155,8 @@ fn no_flags(alloc: Global, len: usize) -> Result<Vec<bool>, OutOfMemory>
 fn mark(vertices: &[Vertex], board: &Board, flags: &mut [bool])
     requires { length flags.old ≡ length vertices.now }
     ensures size { length flags.new ≡ length vertices.now }
-    ensures marked { (v : ℕ) → v < length vertices.now → slice_index_or flags.new v false ≡ is_candidate_in vertices.now board.now v }
+    ensures marked { (v : ℕ) → v < length vertices.now →
+        slice_index_or flags.new v false ≡ is_candidate_in vertices.now board.now v }
 {
     for op in 0..vertices.len() {
         flags[op] = is_candidate(vertices, board, op);
@@ -214,8 +217,11 @@ fn renew(walks: &Walks, ready: &Ready, dependents: &[u32], keeps: bool, rows: &m
     requires reads { length rows.old ≤ length walks.now.reads.now }
     requires ways { (v : ℕ) → v < length rows.old → flag_in ready.now v ≡ true → CanArrive walks.now v }
     ensures size { length rows.new ≡ length rows.old }
-    ensures found { (v : ℕ) → flag_in ready.now v ≡ true → list_any (nat_eq v) (sought_in keeps dependents.now ready.now) ≡ true → AreArrivals walks.now v (row_at rows.new v) }
-    ensures kept { (v : ℕ) → list_any (nat_eq v) (sought_in keeps dependents.now ready.now) ≡ false → row_at rows.new v ≡ row_at rows.old v }
+    ensures found { (v : ℕ) → flag_in ready.now v ≡ true →
+        list_any (nat_eq v) (sought_in keeps dependents.now ready.now) ≡ true →
+        AreArrivals walks.now v (row_at rows.new v) }
+    ensures kept { (v : ℕ) → list_any (nat_eq v) (sought_in keeps dependents.now ready.now) ≡
+        false → row_at rows.new v ≡ row_at rows.old v }
 {
     let sought = sought(keeps, dependents, ready.as_slice());
     find(walks, sought, ready.flags.as_slice(), rows);
@@ -236,7 +242,8 @@ fn find(walks: &Walks, ops: &[u32], flags: &[bool], rows: &mut [[u64; 16]])
     requires reads { length flags.now ≤ length walks.now.reads.now }
     requires ways { (v : ℕ) → v < length flags.now → slice_index_or flags.now v false ≡ true → CanArrive walks.now v }
     ensures size { length rows.new ≡ length flags.now }
-    ensures found { (v : ℕ) → slice_index_or flags.now v false ≡ true → list_any (nat_eq v) ops.now ≡ true → AreArrivals walks.now v (row_at rows.new v) }
+    ensures found { (v : ℕ) → slice_index_or flags.now v false ≡ true →
+        list_any (nat_eq v) ops.now ≡ true → AreArrivals walks.now v (row_at rows.new v) }
     ensures kept { (v : ℕ) → list_any (nat_eq v) ops.now ≡ false → row_at rows.new v ≡ row_at rows.old v }
 {
     for op in ops {

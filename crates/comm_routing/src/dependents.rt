@@ -39,7 +39,9 @@ fn no_lists(alloc: Global, count: usize) -> Result<Vec<Vec<u32>>, OutOfMemory>
 /// Puts an operation last into the list of each one on which it depends.
 fn note(lists: &mut Vec<Vec<u32>>, vertex: &Vertex, op: u32) -> Result<(), OutOfMemory>
     ensures size { vec_len lists.new ≡ vec_len lists.old }
-    ensures noted { OnOk result ((u : ℕ) → u < vec_len lists.old → list_at lists.new.items u ≡ list_at lists.old.items u ++ repeated op u (depends_on vertex.now)) }
+    ensures noted { OnOk result ((u : ℕ) → u < vec_len lists.old →
+        list_at lists.new.items u ≡ list_at lists.old.items u ++
+        repeated op u (depends_on vertex.now)) }
 {
     note_guards(lists, vertex.guards.as_slice(), op)?;
     note_sources(lists, vertex.ins.as_slice(), op)?;
@@ -49,7 +51,9 @@ fn note(lists: &mut Vec<Vec<u32>>, vertex: &Vertex, op: u32) -> Result<(), OutOf
 
 fn note_guards(lists: &mut Vec<Vec<u32>>, guards: &[Guard], op: u32) -> Result<(), OutOfMemory>
     ensures size { vec_len lists.new ≡ vec_len lists.old }
-    ensures noted { OnOk result ((u : ℕ) → u < vec_len lists.old → list_at lists.new.items u ≡ list_at lists.old.items u ++ repeated op u (map (λ g. g.source.vertex) guards.now)) }
+    ensures noted { OnOk result ((u : ℕ) → u < vec_len lists.old →
+        list_at lists.new.items u ≡ list_at lists.old.items u ++
+        repeated op u (map (λ g. g.source.vertex) guards.now)) }
 {
     for guard in guards {
         note_one(lists, guard.source.vertex, op)?;
@@ -59,7 +63,9 @@ fn note_guards(lists: &mut Vec<Vec<u32>>, guards: &[Guard], op: u32) -> Result<(
 
 fn note_sources(lists: &mut Vec<Vec<u32>>, sources: &[Source], op: u32) -> Result<(), OutOfMemory>
     ensures size { vec_len lists.new ≡ vec_len lists.old }
-    ensures noted { OnOk result ((u : ℕ) → u < vec_len lists.old → list_at lists.new.items u ≡ list_at lists.old.items u ++ repeated op u (map (λ s. s.vertex) sources.now)) }
+    ensures noted { OnOk result ((u : ℕ) → u < vec_len lists.old →
+        list_at lists.new.items u ≡ list_at lists.old.items u ++
+        repeated op u (map (λ s. s.vertex) sources.now)) }
 {
     for source in sources {
         note_one(lists, source.vertex, op)?;
@@ -74,7 +80,9 @@ fn note_half(
     op: u32,
 ) -> Result<(), OutOfMemory>
     ensures size { vec_len lists.new ≡ vec_len lists.old }
-    ensures noted { OnOk result ((u : ℕ) → u < vec_len lists.old → list_at lists.new.items u ≡ list_at lists.old.items u ++ repeated op u (get_half kind.now twin)) }
+    ensures noted { OnOk result ((u : ℕ) → u < vec_len lists.old →
+        list_at lists.new.items u ≡ list_at lists.old.items u ++
+        repeated op u (get_half kind.now twin)) }
 {
     if let Kind::Set = kind {
         if let Some(twin) = twin {
@@ -87,7 +95,8 @@ fn note_half(
 /// Puts an operation last into the list of this one, if there is such a list.
 fn note_one(lists: &mut Vec<Vec<u32>>, on: u32, op: u32) -> Result<(), OutOfMemory>
     ensures size { vec_len lists.new ≡ vec_len lists.old }
-    ensures noted { OnOk result ((u : ℕ) → u < vec_len lists.old → list_at lists.new.items u ≡ list_at lists.old.items u ++ repeated op u (on ∷ [])) }
+    ensures noted { OnOk result ((u : ℕ) → u < vec_len lists.old →
+        list_at lists.new.items u ≡ list_at lists.old.items u ++ repeated op u (on ∷ [])) }
 {
     let on = on as usize;
     if on < lists.len() {

@@ -58,7 +58,13 @@ impl<'a> Draft<'a> {
     ) -> Result<Draft<'a>, OutOfMemory>
         requires fits { IsOf flat.now archi.now durations.now }
         requires routes { IsTableOf archi.now routes.now }
-        ensures { IfOk result (λ d. d ≡ record { graph = flat.now; archi = archi.now; routes = routes.now; durations = durations.now; decisions = [] }) }
+        ensures { IfOk result (λ d. d ≡ record {
+          graph = flat.now;
+          archi = archi.now;
+          routes = routes.now;
+          durations = durations.now;
+          decisions = [];
+        }) }
     {
         let site = Site {
             flat,
@@ -87,7 +93,8 @@ impl<'a> Draft<'a> {
 
     /// The candidates, ascending. It takes no memory.
     pub fn ready(&self) -> &[u32]
-        ensures { result.now ≡ filter (is_candidate (task_of self.now) (acts_of self.now.decisions)) (range_with_len 0 (length self.now.graph.vertices)) }
+        ensures { result.now ≡ filter (is_candidate (task_of self.now)
+            (acts_of self.now.decisions)) (range_with_len 0 (length self.now.graph.vertices)) }
     {
         self.progress.candidates.ready.as_slice()
     }

@@ -35,7 +35,8 @@ pub(crate) fn decide(
     requires operator { (operator < routes.now.operators) × (operator < 16) }
     requires operation { op < length flat.now.vertices }
     requires reads { reads.now ≡ distinct (sources (routing flat.now archi.now routes.now) op) }
-    requires ways { All (HasWay archi.now.media board.now (route_in routes.now) routes.now.operators operator) reads.now }
+    requires ways { All (HasWay archi.now.media board.now (route_in routes.now)
+        routes.now.operators operator) reads.now }
     requires fits { FitsAll archi.now.media board.now (route_in routes.now) operator reads.now (walk board.now.ends 0) }
     requires ends { start_in (routing flat.now archi.now routes.now) board.now op operator + ticks < 2 ^ 64 }
     ensures { IfOk result (λ d. d ≡ decision_in (routing flat.now archi.now routes.now) board.now op operator ticks) }
@@ -63,9 +64,12 @@ pub(crate) fn decide(
 /// What a decision does to the tables. It takes no memory.
 pub(crate) fn apply(board: &mut Board, decision: &Decision, outs: &[u32])
     requires operator { decision.now.operator < 16 }
-    requires operation { (decision.now.op < length board.old.first) × (decision.now.op < length board.old.places) × (decision.now.op < length board.old.ended) }
+    requires operation { (decision.now.op < length board.old.first) ×
+        (decision.now.op < length board.old.places) × (decision.now.op < length board.old.ended) }
     requires lands { All (λ c. HasPlace board.old (copy c.to c.source) × (c.medium < 16)) decision.now.transfers }
-    requires outputs { (j : ℕ) → j < length outs.now → (slice_index_or board.old.first decision.now.op 0 + j) * board.old.operators + decision.now.operator < length board.old.held }
+    requires outputs { (j : ℕ) → j < length outs.now →
+        (slice_index_or board.old.first decision.now.op 0 + j) * board.old.operators +
+        decision.now.operator < length board.old.held }
     ensures { board.new ≡ after_operation (after_transfers board.old decision.now.transfers) outs.now decision.now }
 {
     carry_all(board, decision.transfers.as_slice());
@@ -88,16 +92,27 @@ pub(crate) fn place(
 ) -> Result<bool, OutOfMemory>
     requires few { length archi.now.media ≤ 16 }
     requires operator { (operator < routes.now.operators) × (operator < 16) }
-    requires operation { (op < length flat.now.vertices) × (op < length board.old.first) × (op < length board.old.places) × (op < length board.old.ended) }
+    requires operation { (op < length flat.now.vertices) × (op < length board.old.first) ×
+        (op < length board.old.places) × (op < length board.old.ended) }
     requires reads { reads.now ≡ distinct (sources (routing flat.now archi.now routes.now) op) }
-    requires ways { All (HasWay archi.now.media board.old (route_in routes.now) routes.now.operators operator) reads.now }
+    requires ways { All (HasWay archi.now.media board.old (route_in routes.now)
+        routes.now.operators operator) reads.now }
     requires fits { FitsAll archi.now.media board.old (route_in routes.now) operator reads.now (walk board.old.ends 0) }
     requires ends { start_in (routing flat.now archi.now routes.now) board.old op operator + ticks < 2 ^ 64 }
-    requires lands { All (λ c. HasPlace board.old (copy c.to c.source) × (c.medium < 16)) (transfers_in (routing flat.now archi.now routes.now) board.old op operator) }
-    requires outputs { (j : ℕ) → j < length (outs_of (routing flat.now archi.now routes.now) op) → (slice_index_or board.old.first op 0 + j) * board.old.operators + operator < length board.old.held }
-    ensures decided { OnOk result (decisions.new.items ≡ decisions.old.items ++ decision_in (routing flat.now archi.now routes.now) board.old op operator ticks ∷ []) }
-    ensures tables { OnOk result (board.new ≡ after_operation (after_transfers board.old (transfers_in (routing flat.now archi.now routes.now) board.old op operator)) (outs_of (routing flat.now archi.now routes.now) op) (decision_in (routing flat.now archi.now routes.now) board.old op operator ticks)) }
-    ensures quiet { IfOk result (λ quiet. IsTrue quiet → transfers_in (routing flat.now archi.now routes.now) board.old op operator ≡ []) }
+    requires lands { All (λ c. HasPlace board.old (copy c.to c.source) ×
+        (c.medium < 16)) (transfers_in (routing flat.now archi.now routes.now) board.old op
+        operator) }
+    requires outputs { (j : ℕ) → j < length (outs_of (routing flat.now archi.now routes.now) op) →
+        (slice_index_or board.old.first op 0 + j) * board.old.operators + operator <
+        length board.old.held }
+    ensures decided { OnOk result (decisions.new.items ≡ decisions.old.items ++
+        decision_in (routing flat.now archi.now routes.now) board.old op operator ticks ∷ []) }
+    ensures tables { OnOk result (board.new ≡ after_operation
+        (after_transfers board.old (transfers_in (routing flat.now archi.now routes.now) board.old
+        op operator)) (outs_of (routing flat.now archi.now routes.now) op)
+        (decision_in (routing flat.now archi.now routes.now) board.old op operator ticks)) }
+    ensures quiet { IfOk result (λ quiet. IsTrue quiet →
+        transfers_in (routing flat.now archi.now routes.now) board.old op operator ≡ []) }
     ensures refused { OnErr result ((decisions.new.items ≡ decisions.old.items) × (board.new ≡ board.old)) }
 {
     let decision = decide(
@@ -137,7 +152,8 @@ pub(crate) fn start(
     twin: Option<u32>,
 ) -> u64
     requires { operator < 16 }
-    ensures { result ≡ max arrival (max (slice_index_or board.now.busy operator 0) (greatest (map (λ u. slice_index_or board.now.ended u 0) (get_half kind.now twin)))) }
+    ensures { result ≡ max arrival (max (slice_index_or board.now.busy operator 0)
+        (greatest (map (λ u. slice_index_or board.now.ended u 0) (get_half kind.now twin)))) }
 {
     arrival.max(board.busy(operator).max(half_end(board, kind, twin)))
 }

@@ -69,11 +69,18 @@ pub(crate) fn place_next(
     operator: u32,
     progress: &mut Progress,
 ) -> Result<(), OutOfMemory>
-    requires keeps { Keeps (drafted site.now progress.old.decisions.items) progress.old.board reads.now progress.old.candidates }
-    requires may { IsTrue (may_place (task_of (drafted site.now progress.old.decisions.items)) (acts_of progress.old.decisions.items) op operator) }
-    ensures placed { OnOk result (drafted site.now progress.new.decisions.items ≡ after_placing (drafted site.now progress.old.decisions.items) op operator) }
-    ensures keeps { OnOk result (Keeps (after_placing (drafted site.now progress.old.decisions.items) op operator) progress.new.board reads.now progress.new.candidates) }
-    ensures refused { OnErr result ((progress.new.decisions.items ≡ progress.old.decisions.items) × (progress.new.board ≡ progress.old.board) × (progress.new.candidates ≡ progress.old.candidates)) }
+    requires keeps { Keeps (drafted site.now progress.old.decisions.items) progress.old.board
+        reads.now progress.old.candidates }
+    requires may { IsTrue (may_place (task_of (drafted site.now progress.old.decisions.items))
+        (acts_of progress.old.decisions.items) op operator) }
+    ensures placed { OnOk result (drafted site.now progress.new.decisions.items ≡
+        after_placing (drafted site.now progress.old.decisions.items) op operator) }
+    ensures keeps { OnOk result (Keeps (after_placing
+        (drafted site.now progress.old.decisions.items) op operator) progress.new.board reads.now
+        progress.new.candidates) }
+    ensures refused { OnErr result ((progress.new.decisions.items ≡ progress.old.decisions.items) ×
+        (progress.new.board ≡ progress.old.board) ×
+        (progress.new.candidates ≡ progress.old.candidates)) }
 {
     let quiet = place(
         alloc,
@@ -106,7 +113,8 @@ pub(crate) fn may_place_next(site: &Site, progress: &Progress, op: u32, operator
     requires columns { site.now.durations.now.operators ≡ length site.now.archi.now.operators }
     requires places { length progress.now.board.places ≡ length site.now.flat.now.vertices }
     requires flags { length progress.now.candidates.ready.flags.items ≡ length site.now.flat.now.vertices }
-    ensures { result ≡ may_place_in (drafted site.now progress.now.decisions.items) progress.now.board progress.now.candidates op operator }
+    ensures { result ≡ may_place_in (drafted site.now progress.now.decisions.items)
+        progress.now.board progress.now.candidates op operator }
 {
     let place = op as usize;
     if place >= progress.candidates.ready.flags.len() {
@@ -120,7 +128,8 @@ fn may_stand(site: &Site, board: &Board, op: u32, operator: u32) -> bool
     requires columns { site.now.durations.now.operators ≡ length site.now.archi.now.operators }
     requires operation { op < length site.now.flat.now.vertices }
     requires places { length board.now.places ≡ length site.now.flat.now.vertices }
-    ensures { (ds : List Decision) (c : Candidates) → result ≡ may_stand_in (drafted site.now ds) board.now c op operator }
+    ensures { (ds : List Decision) (c : Candidates) →
+        result ≡ may_stand_in (drafted site.now ds) board.now c op operator }
 {
     if operator as usize >= site.archi.operators().len() {
         return false;

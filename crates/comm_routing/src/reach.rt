@@ -1,5 +1,5 @@
 //! What arrivals are found by.
-ghost use Rattle.std.specs.Prelude.{◌≡◌, ℕ, ◌<◌, ◌≤◌, length, slice_index_or};
+ghost use Rattle.std.specs.Prelude.{◌≡◌, ◌<◌, length};
 ghost use Rattle.comm_routing.specs.Candidates.{AreArrivals, CanArrive, HasWalks, arrival_at};
 
 use crate::board::{Board, arrival};

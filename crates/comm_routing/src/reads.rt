@@ -80,7 +80,9 @@ fn note_guards(
     requires marked { IsMarked operations mark marks.old reads.old.items }
     requires there { All (λ g. IsThere operations g.source) guards.now }
     ensures marked { OnOk result (IsMarked operations mark marks.new reads.new.items) }
-    ensures noted { OnOk result ((rest : List Source) → reads.new.items ++ distinct_after reads.new.items rest ≡ reads.old.items ++ distinct_after reads.old.items (map (λ g. g.source) guards.now ++ rest)) }
+    ensures noted { OnOk result ((rest : List Source) →
+        reads.new.items ++ distinct_after reads.new.items rest ≡ reads.old.items ++
+        distinct_after reads.old.items (map (λ g. g.source) guards.now ++ rest)) }
 {
     for guard in guards {
         note(operations, guard.source, mark, marks, reads)?;

@@ -1,5 +1,5 @@
 //! Tables before the first decision.
-ghost use Rattle.std.specs.Prelude.{◌≡◌, ℕ, ◌≤◌, ◌*◌, None, All, IfOk, length, slice_index_or};
+ghost use Rattle.std.specs.Prelude.{◌≡◌, ℕ, ◌≤◌, None, All, IfOk, length, slice_index_or};
 ghost use Rattle.comm_routing.specs.Start.{HasFewOutputs, all_lens, firsts_from};
 
 use flat_graph::Vertex;

@@ -1,5 +1,5 @@
 //! The line of a refused text of the durations that really occur.
-ghost use Rattle.std.specs.Prelude.{◌≡◌, is_ok};
+ghost use Rattle.std.specs.Prelude.{is_ok};
 ghost use Rattle.outside.specs.Sink.{Wrote};
 ghost use Rattle.command_status.specs.Lines.{durations_line, named_line};
 

@@ -1,5 +1,5 @@
 //! The line on the error sink, written piece by piece without memory.
-ghost use Rattle.std.specs.Prelude.{◌≡◌, is_ok, map};
+ghost use Rattle.std.specs.Prelude.{◌≡◌, is_ok};
 ghost use Rattle.outside.specs.Sink.{Wrote};
 ghost use Rattle.command_status.specs.Lines.{algorithm_detail, algorithm_line, algorithm_word, counts_line, file_word, head, limit_line, line_of, names_line, number_line, sensors_detail, sensors_line, sensors_word, word_line, Said};
 

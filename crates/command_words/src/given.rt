@@ -153,7 +153,9 @@ fn command<'a>(alloc: Global) -> Result<Command<'a>, AllocError>
 }
 
 fn given_in<'a>(matches: &ArgMatches<'a>) -> Option<Given<'a>>
-    ensures { (name a : Bytes) (b c d w : Option Bytes) (rs : List Row) → subcommand_rows_of matches.now ≡ Some (name, rs) → Tells rs a b c d w → IsSomeAnd result (Is name a b c d w) }
+    ensures { (name a : Bytes) (b c d w : Option Bytes) (rs : List Row) →
+        subcommand_rows_of matches.now ≡ Some (name, rs) → Tells rs a b c d w →
+        IsSomeAnd result (Is name a b c d w) }
 {
     let (name, inner) = matches.subcommand()?;
     let first = inner.get_str("first")?;

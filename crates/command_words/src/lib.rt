@@ -215,7 +215,8 @@ fn load<'a>(plain: &[&'a str]) -> Option<Command<'a>>
 }
 
 fn dates<'a>(plain: &[&'a str]) -> Option<Command<'a>>
-    ensures { option_map view_of result ≡ four (λ a h g n. dated a h g (number_up_to 1000 n)) (map (λ w. w.now) plain.now) }
+    ensures { option_map view_of result ≡ four (λ a h g n. dated a h g (number_up_to 1000 n))
+        (map (λ w. w.now) plain.now) }
 {
     match plain {
         [algorithm, architecture, durations, count] => {
@@ -248,7 +249,8 @@ fn run_with<'a>(
     sensors: &'a str,
     workers: Option<&str>,
 ) -> Option<Command<'a>>
-    ensures { option_map view_of result ≡ run_with algorithm.now architecture.now sensors.now (option_map (λ w. w.now) workers.entry) }
+    ensures { option_map view_of result ≡ run_with algorithm.now architecture.now sensors.now
+        (option_map (λ w. w.now) workers.entry) }
 {
     let workers = match workers {
         Some(text) => Some(number_up_to(MOST_WORKERS, text.as_bytes())?),
@@ -280,7 +282,8 @@ fn exec_with<'a>(
     sensors: &'a str,
     workers: Option<&str>,
 ) -> Option<Command<'a>>
-    ensures { option_map view_of result ≡ exec_with algorithm.now architecture.now code.now sensors.now (option_map (λ w. w.now) workers.entry) }
+    ensures { option_map view_of result ≡ exec_with algorithm.now architecture.now code.now
+        sensors.now (option_map (λ w. w.now) workers.entry) }
 {
     let workers = match workers {
         Some(count) => Some(number_up_to(MOST_WORKERS, count.as_bytes())?),

@@ -41,7 +41,8 @@ fn merge_ins(
     cases: u32,
     output: u32,
 ) -> Result<Vec<Source>, OutOfMemory>
-    ensures { IfOk result (λ ss. ss.items ≡ Source.Own condition ∷ map (λ i. Source.Of i output) (numbers_below cases)) }
+    ensures { IfOk result (λ ss. ss.items ≡ Source.Own condition ∷
+        map (λ i. Source.Of i output) (numbers_below cases)) }
 {
     let outputs = case_outputs(alloc, cases, output)?;
     let mut all = vec![in alloc; Source::Own(condition)]?;
@@ -57,7 +58,8 @@ fn merge(
     name: &[u8],
     len: u32,
 ) -> Result<Vertex, OutOfMemory>
-    ensures { IfOk result (λ u. view u ≡ merge_of switch.now.definition.now switch.now.guards.now switch.now.condition switch.now.values.now switch.now.cases output name.now len) }
+    ensures { IfOk result (λ u. view u ≡ merge_of switch.now.definition.now switch.now.guards.now
+        switch.now.condition switch.now.values.now switch.now.cases output name.now len) }
 {
     let ins = merge_ins(alloc, switch.condition, switch.cases, output)?;
     let outs = vec![in alloc; len]?;
@@ -91,7 +93,9 @@ pub fn add_merges(
     names: &[Items<u8>],
     all: &mut Vec<Vertex>,
 ) -> Result<(), OutOfMemory>
-    ensures { OnOk result (map view all.new.items ≡ map view all.old.items ++ merges_listed switch.now.definition.now switch.now.guards.now switch.now.condition switch.now.values.now switch.now.cases outs.now 0 names.now) }
+    ensures { OnOk result (map view all.new.items ≡ map view all.old.items ++
+        merges_listed switch.now.definition.now switch.now.guards.now switch.now.condition
+        switch.now.values.now switch.now.cases outs.now 0 names.now) }
 {
     let mut place = 0;
     for name in names {

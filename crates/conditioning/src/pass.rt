@@ -2,7 +2,7 @@
 ghost use Rattle.std.specs.Prelude.{◌≡◌, [], IfOk, map};
 ghost use Rattle.algo_tree.specs.declared.vertex.Vertex.{out-Vertex};
 ghost use Rattle.algo_tree.specs.Counted.{operations};
-ghost use Rattle.algo_tree.specs.View.{view, vertices_view};
+ghost use Rattle.algo_tree.specs.View.{view};
 ghost use Rattle.operation_paths.specs.Named.{HasNames};
 ghost use Rattle.pass_laws.specs.SameMeaning.{KeepsMeaning};
 ghost use Rattle.pass_laws.specs.NoRepeat.{HasNoRepeat};
@@ -128,7 +128,8 @@ fn guard_cases(
     values: &[i64],
     vertices: &Vec<Vertex>,
 ) -> Result<Vec<Vertex>, OutOfMemory>
-    ensures { IfOk result (λ us. map view us.items ≡ cases_listed guards.now handed values.now 0 (map view vertices.now.items)) }
+    ensures { IfOk result (λ us. map view us.items ≡
+        cases_listed guards.now handed values.now 0 (map view vertices.now.items)) }
 {
     let mut all = Vec::new(alloc);
     for vertex in vertices {

@@ -22,7 +22,12 @@ struct Kept {
 
 /// Copies of what a vertex keeps.
 fn kept_of(alloc: Global, vertex: &Vertex) -> Result<Kept, OutOfMemory>
-    ensures { IfOk result (λ kept. kept ≡ record { part = (out-Vertex vertex.now).part; definition = (out-Vertex vertex.now).definition; outs = (out-Vertex vertex.now).outs; names = (out-Vertex vertex.now).names }) }
+    ensures { IfOk result (λ kept. kept ≡ record {
+      part = (out-Vertex vertex.now).part;
+      definition = (out-Vertex vertex.now).definition;
+      outs = (out-Vertex vertex.now).outs;
+      names = (out-Vertex vertex.now).names;
+    }) }
 {
     let definition = copy_bytes(alloc, vertex.definition.as_slice())?;
     let outs = copy_lens(alloc, vertex.outs.as_slice())?;
@@ -43,7 +48,8 @@ pub fn as_operation(
     before: u32,
     vertex: &Vertex,
 ) -> Result<Vertex, OutOfMemory>
-    ensures { IfOk result (λ u. view u ≡ operation_under guards.now before (label_view (out-Vertex vertex.now)) (kind_view (out-Vertex vertex.now).kind)) }
+    ensures { IfOk result (λ u. view u ≡ operation_under guards.now before
+        (label_view (out-Vertex vertex.now)) (kind_view (out-Vertex vertex.now).kind)) }
 {
     let ins = shifted_sources(alloc, before, vertex.ins.as_slice())?;
     let guards = guards_under(alloc, guards, before, vertex.guards.as_slice())?;
@@ -71,7 +77,8 @@ pub fn as_graph(
     outputs: Vec<Source>,
     inner: Vec<Vertex>,
 ) -> Result<Vertex, OutOfMemory>
-    ensures { IfOk result (λ u. view u ≡ graph_under guards.now before (label_view (out-Vertex vertex.now)) outputs.items (vertices_view inner.items)) }
+    ensures { IfOk result (λ u. view u ≡ graph_under guards.now before
+        (label_view (out-Vertex vertex.now)) outputs.items (vertices_view inner.items)) }
 {
     let ins = handed(alloc, guards, before, vertex.ins.as_slice())?;
     let kept = kept_of(alloc, vertex)?;

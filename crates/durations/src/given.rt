@@ -45,7 +45,9 @@ impl<'a> OnOperator<'a> {
 
     /// Gives a definition these ticks, unless it has some.
     fn add(&mut self, def: &'a [u8], ticks: u64) -> Result<(), OutOfMemory>
-        ensures { OnOk result ((other : Bytes) → ticks_at self.new other ≡ first_of (ticks_at self.old other) (if bytes_eq def.now other then Some ticks else None)) }
+        ensures { OnOk result ((other : Bytes) →
+            ticks_at self.new other ≡ first_of (ticks_at self.old other)
+            (if bytes_eq def.now other then Some ticks else None)) }
     {
         if self.ticks.get(def).is_none() {
             self.ticks.insert(def, ticks)?;

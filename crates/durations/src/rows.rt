@@ -1,6 +1,5 @@
 //! The rows of the table.
 ghost use Rattle.std.specs.Prelude.{◌≡◌, ℕ, ◌<◌, ◌≤◌, IfOk, List, None, length, map, true};
-ghost use Rattle.flat_graph.specs.Graph.{Graph};
 ghost use Rattle.archi_defs.specs.Text.{described_by};
 ghost use Rattle.archi_defs.specs.declared.text.DurationLine.{DurationLine};
 ghost use Rattle.durations.specs.Lines.{AreDurations};

@@ -10,7 +10,7 @@ use Rattle.executive_program.specs.declared.program.Instr.{Instr}
 use Rattle.executive_program.specs.declared.program.Instr.TheVariants.{Suc0, Suc1, Pre0, Pre1, Call, Send, Recv, Sync}
 use Rattle.executive_program.specs.declared.program.Buffer.{Buffer}
 use Rattle.executive_program.specs.declared.program.Program.{Program}
-use Rattle.executive_program.specs.Instructions.{is_communication, turn, prologue, medium, operator, len_of, depth_of, is_guarded, communications, readers, Reader}
+use Rattle.executive_program.specs.Instructions.{is_communication, turn, prologue, medium, operator, len_of, depth_of, is_guarded, communications, readers}
 use Rattle.executive_program.specs.MicroSteps.{transfers}
 use Rattle.executive_program.specs.Places.{Places, places, opening_of, carried}
 

@@ -1,5 +1,5 @@
 //! The micro-steps of a program's sequences, laid out so that each is found by its number.
-ghost use Rattle.std.specs.Prelude.{count_by, ◌≡◌, ◌+◌, ◌*◌, ◌^◌, ◌<◌, ◌≤◌, ◌++◌, ◌∷◌, cond, [], true, length, IfOk, OnOk, slice_get, slice_index_or, Some, vec_len};
+ghost use Rattle.std.specs.Prelude.{count_by, ◌≡◌, ◌+◌, ◌*◌, ◌^◌, ◌<◌, ◌≤◌, ◌++◌, ◌∷◌, cond, [], true, length, IfOk, OnOk, slice_index_or, Some, vec_len};
 ghost use Rattle.executive_program.specs.Blocks.{blocks};
 ghost use Rattle.executive_program.specs.Expanded.{AreSteps};
 ghost use Rattle.executive_program.specs.Sizes.{pair_depths};
@@ -106,7 +106,8 @@ fn push_loads(
     first: usize,
 ) -> Result<(), OutOfMemory>
     requires { first + len < 2 ^ 64 }
-    ensures steps { OnOk result (out.new.items ≡ out.old.items ++ blocks (load_step call.vertex call.loads call.micros buffer first) len) }
+    ensures steps { OnOk result (out.new.items ≡ out.old.items ++
+        blocks (load_step call.vertex call.loads call.micros buffer first) len) }
     ensures made { OnOk result (vec_len out.new ≡ vec_len out.old + len) }
 {
     for number in 0..len {
@@ -128,7 +129,8 @@ fn push_stores(
 ) -> Result<(), OutOfMemory>
     requires fits { first + len < 2 ^ 64 }
     requires after_loads { call.loads ≤ first }
-    ensures steps { OnOk result (out.new.items ≡ out.old.items ++ blocks (store_step call.vertex call.loads call.micros buffer first) len) }
+    ensures steps { OnOk result (out.new.items ≡ out.old.items ++
+        blocks (store_step call.vertex call.loads call.micros buffer first) len) }
     ensures made { OnOk result (vec_len out.new ≡ vec_len out.old + len) }
 {
     for number in 0..len {
@@ -191,7 +193,9 @@ fn push_all_loads(
     call: CallSize,
     ins: &[u32],
 ) -> Result<(), OutOfMemory>
-    ensures steps { OnOk result (out.new.items ≡ out.old.items ++ blocks (input_steps program.now call.vertex call.loads call.micros ins.now) (length ins.now)) }
+    ensures steps { OnOk result (out.new.items ≡ out.old.items ++
+        blocks (input_steps program.now call.vertex call.loads call.micros ins.now)
+        (length ins.now)) }
     ensures made { OnOk result (vec_len out.new ≡ vec_len out.old + elements_in program.now ins.now) }
 {
     let begin = out.len();
@@ -212,7 +216,9 @@ fn push_all_stores(
     begin: usize,
 ) -> Result<(), OutOfMemory>
     requires { begin + call.loads ≡ vec_len out.old }
-    ensures { OnOk result (out.new.items ≡ out.old.items ++ blocks (output_steps program.now call.vertex call.loads call.micros outs.now) (length outs.now)) }
+    ensures { OnOk result (out.new.items ≡ out.old.items ++
+        blocks (output_steps program.now call.vertex call.loads call.micros outs.now)
+        (length outs.now)) }
 {
     for buffer in outs {
         let len = buffer_len(program, *buffer);
@@ -300,7 +306,8 @@ fn push_instr(
 ) -> Result<(), OutOfMemory>
     requires depths { depths.now ≡ pair_depths program.now }
     requires fits { (2 * at.communications < 2 ^ 64) × (2 * at.before + 2 < 2 ^ 64) }
-    ensures { OnOk result (out.new.items ≡ out.old.items ++ steps_of program.now at.medium at.communications at.before instr.now) }
+    ensures { OnOk result (out.new.items ≡ out.old.items ++
+        steps_of program.now at.medium at.communications at.before instr.now) }
 {
     match instr {
         Instr::Suc0(pair) => push_take(out, 2 * *pair as u64, depth_at(depths, *pair))?,
@@ -329,7 +336,10 @@ fn push_send(
     buffer: u32,
 ) -> Result<(), OutOfMemory>
     requires { (2 * at.communications < 2 ^ 64) × (2 * at.before + 2 < 2 ^ 64) }
-    ensures { OnOk result (out.new.items ≡ out.old.items ++ (Await at.medium (2 * at.before) (2 * at.communications) true ∷ (blocks (send_step at.medium buffer) (len_of program.now buffer) ++ Advance at.medium ∷ []))) }
+    ensures { OnOk result (out.new.items ≡ out.old.items ++
+        (Await at.medium (2 * at.before) (2 * at.communications) true ∷
+        (blocks (send_step at.medium buffer) (len_of program.now buffer) ++ Advance at.medium ∷
+        []))) }
 {
     out.push(at.await_half(0, true))?;
     push_sends(out, at.medium, buffer, buffer_len(program, buffer))?;
@@ -345,7 +355,10 @@ fn push_receive(
     buffer: u32,
 ) -> Result<(), OutOfMemory>
     requires { (2 * at.communications < 2 ^ 64) × (2 * at.before + 2 < 2 ^ 64) }
-    ensures { OnOk result (out.new.items ≡ out.old.items ++ (Await at.medium (2 * at.before + 1) (2 * at.communications) true ∷ (blocks (receive_step at.medium buffer) (len_of program.now buffer) ++ Advance at.medium ∷ []))) }
+    ensures { OnOk result (out.new.items ≡ out.old.items ++
+        (Await at.medium (2 * at.before + 1) (2 * at.communications) true ∷
+        (blocks (receive_step at.medium buffer) (len_of program.now buffer) ++ Advance at.medium ∷
+        []))) }
 {
     out.push(at.await_half(1, true))?;
     push_receives(out, at.medium, buffer, buffer_len(program, buffer))?;

@@ -3,10 +3,10 @@
 //! Pairs are numbered by the list of each buffer with each sequence that reads it and does not write it. One
 //! walk over each sequence marks these buffers, so that the table takes time in proportion to the program, and
 //! to the sequences times the buffers.
-ghost use Rattle.std.specs.Prelude.{◌≡◌, ℕ, ◌+◌, ◌<◌, ◌≤◌, ◌^◌, ◌++◌, cond, true, false, nat_eq, length, map, replicate, slice_index_or, slice_set, IfOk, OnOk};
+ghost use Rattle.std.specs.Prelude.{◌≡◌, ℕ, ◌+◌, ◌<◌, ◌^◌, ◌++◌, cond, true, false, nat_eq, length, replicate, slice_index_or, slice_set, IfOk, OnOk};
 ghost use Rattle.std.specs.List.{count_by, list_any};
 ghost use Rattle.executive_program.specs.Instructions.{reads, writes, waits_for};
-ghost use Rattle.executive_program.specs.Sizes.{pair_depths, depths_of};
+ghost use Rattle.executive_program.specs.Sizes.{pair_depths};
 
 use crate::program::{Instr, Program, SeqCode};
 use std::alloc::Global;
@@ -23,7 +23,9 @@ fn put_mark(marks: &mut [bool], at: usize, mark: bool)
 
 /// Gives these buffers a mark.
 fn mark_all(marks: &mut [bool], buffers: &[u32], mark: bool)
-    ensures { (b : ℕ) → b < length marks.old → slice_index_or marks.new b false ≡ cond (list_any (λ c. nat_eq c b) buffers.now) mark (slice_index_or marks.old b false) }
+    ensures { (b : ℕ) → b < length marks.old →
+        slice_index_or marks.new b false ≡
+        cond (list_any (λ c. nat_eq c b) buffers.now) mark (slice_index_or marks.old b false) }
 {
     for buffer in buffers {
         put_mark(marks, *buffer as usize, mark);
@@ -32,7 +34,9 @@ fn mark_all(marks: &mut [bool], buffers: &[u32], mark: bool)
 
 /// Marks the buffers that an instruction reads.
 fn mark_reads(marks: &mut [bool], instr: &Instr)
-    ensures { (b : ℕ) → b < length marks.old → slice_index_or marks.new b false ≡ cond (reads b instr.now) true (slice_index_or marks.old b false) }
+    ensures { (b : ℕ) → b < length marks.old →
+        slice_index_or marks.new b false ≡
+        cond (reads b instr.now) true (slice_index_or marks.old b false) }
 {
     match instr {
         Instr::Call { ins, .. } => mark_all(marks, ins.as_slice(), true),
@@ -43,7 +47,9 @@ fn mark_reads(marks: &mut [bool], instr: &Instr)
 
 /// Takes the marks off the buffers that an instruction writes.
 fn unmark_writes(marks: &mut [bool], instr: &Instr)
-    ensures { (b : ℕ) → b < length marks.old → slice_index_or marks.new b false ≡ cond (writes b instr.now) false (slice_index_or marks.old b false) }
+    ensures { (b : ℕ) → b < length marks.old →
+        slice_index_or marks.new b false ≡
+        cond (writes b instr.now) false (slice_index_or marks.old b false) }
 {
     match instr {
         Instr::Call { outs, .. } => mark_all(marks, outs.as_slice(), false),
@@ -54,7 +60,9 @@ fn unmark_writes(marks: &mut [bool], instr: &Instr)
 
 /// Marks the buffers that some of these instructions read.
 fn mark_all_reads(marks: &mut [bool], list: &[Instr])
-    ensures { (b : ℕ) → b < length marks.old → slice_index_or marks.new b false ≡ cond (list_any (reads b) list.now) true (slice_index_or marks.old b false) }
+    ensures { (b : ℕ) → b < length marks.old →
+        slice_index_or marks.new b false ≡
+        cond (list_any (reads b) list.now) true (slice_index_or marks.old b false) }
 {
     for instr in list {
         mark_reads(marks, instr);
@@ -63,7 +71,9 @@ fn mark_all_reads(marks: &mut [bool], list: &[Instr])
 
 /// Takes the marks off the buffers that some of these instructions write.
 fn unmark_all_writes(marks: &mut [bool], list: &[Instr])
-    ensures { (b : ℕ) → b < length marks.old → slice_index_or marks.new b false ≡ cond (list_any (writes b) list.now) false (slice_index_or marks.old b false) }
+    ensures { (b : ℕ) → b < length marks.old →
+        slice_index_or marks.new b false ≡
+        cond (list_any (writes b) list.now) false (slice_index_or marks.old b false) }
 {
     for instr in list {
         unmark_writes(marks, instr);
@@ -73,7 +83,8 @@ fn unmark_all_writes(marks: &mut [bool], list: &[Instr])
 /// Of each buffer, whether a sequence reads it and does not write it.
 fn waiting(alloc: Global, code: &SeqCode, buffers: usize) -> Result<Vec<bool>, OutOfMemory>
     ensures many { IfOk result (λ marks. length marks.items ≡ buffers) }
-    ensures each { IfOk result (λ marks. (b : ℕ) → b < buffers → slice_index_or marks.items b false ≡ waits_for b code.now) }
+    ensures each { IfOk result (λ marks. (b : ℕ) → b < buffers →
+        slice_index_or marks.items b false ≡ waits_for b code.now) }
 {
     let mut marks = vec![in alloc; false; buffers]?;
     mark_all_reads(&mut marks, code.turn.as_slice());
@@ -93,7 +104,9 @@ fn raised(count: u64, mark: bool) -> u64
 fn add_marks(counts: &mut [u64], marks: &[bool])
     requires many { length marks.now ≡ length counts.old }
     requires few { (b : ℕ) → slice_index_or counts.old b 0 + 1 < 2 ^ 64 }
-    ensures { (b : ℕ) → b < length counts.old → slice_index_or counts.new b 0 ≡ slice_index_or counts.old b 0 + cond (slice_index_or marks.now b false) 1 0 }
+    ensures { (b : ℕ) → b < length counts.old →
+        slice_index_or counts.new b 0 ≡ slice_index_or counts.old b 0 +
+        cond (slice_index_or marks.now b false) 1 0 }
 {
     for b in 0..counts.len() {
         counts[b] = raised(counts[b], marks[b]);
@@ -103,7 +116,8 @@ fn add_marks(counts: &mut [u64], marks: &[bool])
 /// How many sequences read each buffer and do not write it.
 fn reader_counts(alloc: Global, program: &Program) -> Result<Vec<u64>, OutOfMemory>
     ensures many { IfOk result (λ counts. length counts.items ≡ length program.now.buffers) }
-    ensures each { IfOk result (λ counts. (b : ℕ) → b < length program.now.buffers → slice_index_or counts.items b 0 ≡ count_by (waits_for b) program.now.seqs) }
+    ensures each { IfOk result (λ counts. (b : ℕ) → b < length program.now.buffers →
+        slice_index_or counts.items b 0 ≡ count_by (waits_for b) program.now.seqs) }
 {
     let buffers = program.buffers.as_slice().len();
     let mut counts = vec![in alloc; 0; buffers]?;

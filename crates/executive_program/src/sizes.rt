@@ -1,8 +1,8 @@
 //! How many micro-steps a program has, counted without laying them out, and how many words its table has.
-ghost use Rattle.std.specs.Prelude.{◌≡◌, ℕ, ◌+◌, ◌-◌, ◌*◌, ◌^◌, ◌<◌, ◌≤◌, ◌∷◌, List, None, false, length, min, slice_index_or};
+ghost use Rattle.std.specs.Prelude.{◌≡◌, ◌+◌, ◌-◌, ◌*◌, ◌^◌, ◌<◌, ◌≤◌, ◌∷◌, List, None, false, min, slice_index_or};
 ghost use Rattle.std.specs.List.{sum_by};
 ghost use Rattle.executive_program.specs.declared.program.Instr.{Instr};
-ghost use Rattle.executive_program.specs.Sizes.{deep_pairs, looks_at, looks_in, looks_of, opened_after, pair_depths, plain_in, plain_of, plain_prologues, plain_turns};
+ghost use Rattle.executive_program.specs.Sizes.{deep_pairs, looks_in, looks_of, opened_after, pair_depths, plain_in, plain_of, plain_prologues, plain_turns};
 ghost use Rattle.executive_program.specs.MicroSteps.{wire_len, words};
 ghost use Rattle.executive_program.specs.Steps.{all_turns};
 ghost use Rattle.interleavings.specs.Owners.{sum_below};
@@ -89,7 +89,8 @@ fn looks_in(depths: &[u32], list: &[Instr]) -> u128
 /// The looks of all loops in one reaction, by the table of pairs, or the last value of the type where
 /// they are more.
 fn turn_looks(program: &Program, depths: &[u32]) -> u128
-    ensures { result ≡ min (sum_by (λ q. looks_in (λ r. slice_index_or depths.now r 1) q.turn) program.now.seqs) (2 ^ 128 - 1) }
+    ensures { result ≡ min (sum_by (λ q. looks_in (λ r. slice_index_or depths.now r 1) q.turn)
+        program.now.seqs) (2 ^ 128 - 1) }
 {
     let mut total: u128 = 0;
     for code in program.seqs.as_slice() {
@@ -120,7 +121,9 @@ impl Opened {
     /// One more signal of a pair.
     fn open(&mut self, pair: u32)
         requires { self.old.count + 1 < 2 ^ 64 }
-        ensures value { (xs : List Instr) → self.new.count + opened_after self.new.last self.new.again xs ≡ self.old.count + opened_after self.old.last self.old.again (Instr.Pre0 pair ∷ xs) }
+        ensures value { (xs : List Instr) → self.new.count +
+            opened_after self.new.last self.new.again xs ≡ self.old.count +
+            opened_after self.old.last self.old.again (Instr.Pre0 pair ∷ xs) }
         ensures few { self.new.count ≤ self.old.count + 1 }
     {
         if self.last != Some(pair) {
@@ -135,7 +138,9 @@ impl Opened {
     /// One more instruction.
     fn add(&mut self, instr: &Instr)
         requires { self.old.count + 1 < 2 ^ 64 }
-        ensures value { (xs : List Instr) → self.new.count + opened_after self.new.last self.new.again xs ≡ self.old.count + opened_after self.old.last self.old.again (instr.now ∷ xs) }
+        ensures value { (xs : List Instr) → self.new.count +
+            opened_after self.new.last self.new.again xs ≡ self.old.count +
+            opened_after self.old.last self.old.again (instr.now ∷ xs) }
         ensures few { self.new.count ≤ self.old.count + 1 }
     {
         match instr {

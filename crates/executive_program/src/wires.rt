@@ -1,5 +1,5 @@
 //! The wires of a program's media.
-ghost use Rattle.std.specs.Prelude.{◌≡◌, max, take};
+ghost use Rattle.std.specs.Prelude.{◌≡◌, max};
 ghost use Rattle.executive_program.specs.MicroSteps.{sent_len, longest_sent, longest_in, wire_len};
 
 use crate::expand::buffer_len;

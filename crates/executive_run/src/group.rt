@@ -58,7 +58,8 @@ impl<'a> Group<'a> {
         requires there { seq < length fabric.now.job.program.seqs }
         requires drives { seq % fabric.now.groups ≡ self.old.driver.group }
         ensures goes { GoesOn self.old.driver self.new.driver result.steps }
-        ensures others { (s : ℕ) → s ≢ seq → slice_index_or self.new.driver.counts s 0 ≡ slice_index_or self.old.driver.counts s 0 }
+        ensures others { (s : ℕ) → s ≢ seq → slice_index_or self.new.driver.counts s 0 ≡
+            slice_index_or self.old.driver.counts s 0 }
         ensures ends { GoesTo self.new.driver seq result.waiting }
         ensures alone { fabric.now.groups ≡ 1 → IsHalted self.new.driver seq }
     {

@@ -138,7 +138,8 @@ pub fn copy_ins(
 /// Output `output` of each of the copies, in order.
 fn outputs_of(alloc: Global, copies: Copies, output: u32) -> Result<Vec<Source>, OutOfMemory>
     requires { copies.begin + copies.count ≤ MOST_VERTICES }
-    ensures { IfOk result (λ ins. ins.items ≡ map (λ i. Source.Of (copies.begin + i) output) (numbers_below copies.count)) }
+    ensures { IfOk result (λ ins. ins.items ≡
+        map (λ i. Source.Of (copies.begin + i) output) (numbers_below copies.count)) }
 {
     let mut ins = Vec::new(alloc);
     for i in 0..copies.count {
@@ -180,7 +181,8 @@ pub fn add_implodes(
     all: &mut Vec<Vertex>,
 ) -> Result<(), OutOfMemory>
     requires { copies.begin + copies.count ≤ MOST_VERTICES }
-    ensures { OnOk result (map view all.new.items ≡ map view all.old.items ++ imploded definition.now copies.begin copies.count outs.now 0 gives.now) }
+    ensures { OnOk result (map view all.new.items ≡ map view all.old.items ++
+        imploded definition.now copies.begin copies.count outs.now 0 gives.now) }
 {
     let mut place = 0;
     for give in gives {
@@ -210,8 +212,9 @@ pub fn give_sources(
     for give in gives {
         let source = match give {
             Give::Join(..) => {
+                let implode = Source::Of(copies.begin + copies.count + joins, 0);
                 joins += 1;
-                Source::Of(copies.begin + copies.count + (joins - 1), 0)
+                implode
             }
             Give::Last(output) => Source::Of(copies.begin + (copies.count - 1), *output),
         };

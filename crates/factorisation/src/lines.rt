@@ -1,5 +1,5 @@
 //! The lines that feed the body of a repetition, in the order in which they stand in the text.
-ghost use Rattle.std.specs.Prelude.{◌≡◌, ◌≤◌, ◌<◌, IfOk, OnOk, length, map};
+ghost use Rattle.std.specs.Prelude.{◌≡◌, ◌≤◌, ◌<◌, IfOk, length, map};
 ghost use Rattle.std.specs.List.{insert};
 ghost use Rattle.algo_tree.specs.Well.{fork_names};
 ghost use Rattle.factorisation_laws.specs.Lines.{fork_place, in_line_order as ordered, outer_of as outer_input, put_line};

@@ -6,7 +6,7 @@ ghost use Rattle.algo_tree.specs.Counted.{operations};
 ghost use Rattle.algo_tree.specs.Meaning.{vertices_in};
 ghost use Rattle.algo_tree.specs.Typed.{label_of};
 ghost use Rattle.algo_tree.specs.View.{view, vertices_view};
-ghost use Rattle.algo_tree.specs.Well.{fork_names, join_names, IsOne, IsWell, AllWell};
+ghost use Rattle.algo_tree.specs.Well.{fork_names, IsOne, IsWell, AllWell};
 ghost use Rattle.operation_paths.specs.Named.{HasNames};
 ghost use Rattle.pass_laws.specs.SameMeaning.{KeepsMeaning};
 ghost use Rattle.pass_laws.specs.NoRepeat.{HasNoRepeat};
@@ -108,7 +108,9 @@ fn unroll_inside(
     requires kind { (out-Vertex vertex.now).kind ≡ Kind.Repeat copies.count feeds.now gives.now }
     requires well { IsWell (view vertex.now) }
     requires small { vertices_made (view vertex.now) ≤ MOST_VERTICES }
-    ensures { IfOk result (λ us. map view us.items ≡ unrolled_inside (label_of (view vertex.now)).definition copies.count feeds.now gives.now (label_of (view vertex.now)).outs (unroll_all (vertices_in (view vertex.now)))) }
+    ensures { IfOk result (λ us. map view us.items ≡
+        unrolled_inside (label_of (view vertex.now)).definition copies.count feeds.now gives.now
+        (label_of (view vertex.now)).outs (unroll_all (vertices_in (view vertex.now)))) }
 {
     let definition = vertex.definition.as_slice();
     let lines = in_line_order(alloc, feeds)?;
@@ -141,7 +143,8 @@ fn add_copies(
     requires few { length (fork_names feeds.now) ≤ MOST_VERTICES }
     requires bodies { vertices_made_in (vertices_view inner.now.items) ≤ MOST_VERTICES }
     requires small { copies.begin + copies.count ≤ MOST_VERTICES }
-    ensures { OnOk result (map view all.new.items ≡ map view all.old.items ++ copied copies.begin feeds.now copies.count (unroll_all (vertices_view inner.now.items))) }
+    ensures { OnOk result (map view all.new.items ≡ map view all.old.items ++
+        copied copies.begin feeds.now copies.count (unroll_all (vertices_view inner.now.items))) }
 {
     add_copies_of(alloc, &inner[0], copies, feeds, lines, all)
 }
@@ -161,7 +164,9 @@ fn add_copies_of(
     requires few { length (fork_names feeds.now) ≤ MOST_VERTICES }
     requires bodies { vertices_made (view body.now) ≤ MOST_VERTICES }
     requires small { copies.begin + copies.count ≤ MOST_VERTICES }
-    ensures { OnOk result (map view all.new.items ≡ map view all.old.items ++ copied copies.begin feeds.now copies.count (and_vertex (unrolled (view body.now)) no_vertices)) }
+    ensures { OnOk result (map view all.new.items ≡ map view all.old.items ++
+        copied copies.begin feeds.now copies.count
+        (and_vertex (unrolled (view body.now)) no_vertices)) }
 {
     for i in 0..copies.count {
         let vertex = unroll_vertex(alloc, body)?;

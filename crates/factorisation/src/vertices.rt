@@ -32,7 +32,14 @@ struct Label {
 
 /// What is said of this vertex beside its kind.
 fn copied_label(alloc: Global, vertex: &Vertex) -> Result<Label, OutOfMemory>
-    ensures { IfOk result (λ b. b ≡ record { part = (out-Vertex vertex.now).part; definition = (out-Vertex vertex.now).definition; ins = (out-Vertex vertex.now).ins; guards = (out-Vertex vertex.now).guards; outs = (out-Vertex vertex.now).outs; names = (out-Vertex vertex.now).names }) }
+    ensures { IfOk result (λ b. b ≡ record {
+      part = (out-Vertex vertex.now).part;
+      definition = (out-Vertex vertex.now).definition;
+      ins = (out-Vertex vertex.now).ins;
+      guards = (out-Vertex vertex.now).guards;
+      outs = (out-Vertex vertex.now).outs;
+      names = (out-Vertex vertex.now).names;
+    }) }
 {
     let definition = copy_bytes(alloc, vertex.definition.as_slice())?;
     let outs = copy_lens(alloc, vertex.outs.as_slice())?;
@@ -57,7 +64,9 @@ fn remade(
     kind: Kind,
     inner: Vec<Vertex>,
 ) -> Result<Vertex, OutOfMemory>
-    ensures { IfOk result (λ u. view u ≡ plain_vertex (with_kind (label_view (out-Vertex vertex.now)) (kind_view kind)) (vertices_view inner.items)) }
+    ensures { IfOk result (λ u. view u ≡ plain_vertex
+        (with_kind (label_view (out-Vertex vertex.now)) (kind_view kind))
+        (vertices_view inner.items)) }
 {
     let copy = copied_label(alloc, vertex)?;
     Ok(Vertex {
@@ -78,7 +87,8 @@ pub fn with_inside(
     vertex: &Vertex,
     inner: Vec<Vertex>,
 ) -> Result<Vertex, OutOfMemory>
-    ensures { IfOk result (λ u. view u ≡ plain_vertex (label_view (out-Vertex vertex.now)) (vertices_view inner.items)) }
+    ensures { IfOk result (λ u. view u ≡ plain_vertex (label_view (out-Vertex vertex.now))
+        (vertices_view inner.items)) }
 {
     let kind = copy_kind(alloc, &vertex.kind)?;
     remade(alloc, vertex, kind, inner)
@@ -95,7 +105,10 @@ pub fn as_graph(
     requires some { 0 < copies.count }
     requires few { length (join_names gives.now) ≤ MOST_VERTICES }
     requires small { copies.begin + copies.count ≤ MOST_VERTICES }
-    ensures { IfOk result (λ u. view u ≡ plain_vertex (with_kind (label_view (out-Vertex vertex.now)) (graph (sources_given copies.begin copies.count 0 gives.now))) (vertices_view inner.items)) }
+    ensures { IfOk result (λ u. view u ≡ plain_vertex
+        (with_kind (label_view (out-Vertex vertex.now))
+        (graph (sources_given copies.begin copies.count 0 gives.now)))
+        (vertices_view inner.items)) }
 {
     let sources = give_sources(alloc, copies, gives)?;
     remade(alloc, vertex, Kind::Graph(Items::new(sources)), inner)
@@ -113,7 +126,8 @@ pub fn as_copy(
     requires lines { map (λ f. f.now) lines.now ≡ in_line_order feeds.now }
     requires few { length (fork_names feeds.now) ≤ MOST_VERTICES }
     requires small { copies.begin + i ≤ MOST_VERTICES }
-    ensures { IfOk result (λ u. view u ≡ copy copies.begin feeds.now (label_of (view body)) (vertices_in (view body)) i) }
+    ensures { IfOk result (λ u. view u ≡ copy copies.begin feeds.now (label_of (view body))
+        (vertices_in (view body)) i) }
 {
     let ins = copy_ins(alloc, copies, i, feeds, lines)?;
     body.part = Part::Numbered(i);

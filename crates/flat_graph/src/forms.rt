@@ -1,5 +1,5 @@
 //! The inputs and outputs of each kind.
-ghost use Rattle.std.specs.Prelude.{◌≡◌, length, map, slice_get, sum, Some};
+ghost use Rattle.std.specs.Prelude.{◌≡◌, map, slice_get, sum, Some};
 ghost use Rattle.std.specs.List.{list_all};
 ghost use Rattle.body_lang.specs.Expr.{view};
 ghost use Rattle.flat_graph.specs.Graph.{lens_of};

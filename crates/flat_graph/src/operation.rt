@@ -35,14 +35,17 @@ fn fire_vertex(
     row: &[i64],
     outs: &mut Ins,
 )
-    requires fits { IsTrue (fits bodies.now vertex.now.kind (take (length vertex.now.ins) (map length ins.now)) vertex.now.outs) }
+    requires fits { IsTrue (fits bodies.now vertex.now.kind
+        (take (length vertex.now.ins) (map length ins.now)) vertex.now.outs) }
     requires short { All (λ n. n ≤ 64) vertex.now.outs }
     requires ins { length vertex.now.ins + length vertex.now.guards ≡ length ins.now }
     requires cell { length cell.old ≡ kind_cell_len vertex.now.kind (take (length vertex.now.ins) (map length ins.now)) }
     requires row { length row.now ≡ kind_seen_len vertex.now.kind vertex.now.outs }
     requires outs { map length outs.old ≡ vertex.now.outs }
-    ensures outs { outs.new ≡ fired bodies.now vertex.now cell.old row.now (drop (length vertex.now.ins) ins.now) (take (length vertex.now.ins) ins.now) }
-    ensures cell { cell.new ≡ kept vertex.now cell.old (drop (length vertex.now.ins) ins.now) (take (length vertex.now.ins) ins.now) }
+    ensures outs { outs.new ≡ fired bodies.now vertex.now cell.old row.now
+        (drop (length vertex.now.ins) ins.now) (take (length vertex.now.ins) ins.now) }
+    ensures cell { cell.new ≡ kept vertex.now cell.old (drop (length vertex.now.ins) ins.now)
+        (take (length vertex.now.ins) ins.now) }
 {
     let count = vertex.ins.as_slice().len();
     let lens = vertex.outs.as_slice();

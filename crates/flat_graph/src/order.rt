@@ -35,7 +35,10 @@ fn are_all_set(flags: &[bool]) -> bool
 
 fn one_round_more(before: &Flags, vertices: &[Vertex]) -> Flags
     requires { length vertices.now ≤ 2048 }
-    ensures { (v : ℕ) → slice_index_or result v false ≡ (slice_index_or before.now v false || with_vertex (slice_get vertices.now v) false (λ x. list_all (λ u. slice_index_or before.now u false) (depends_on x))) }
+    ensures { (v : ℕ) → slice_index_or result v false ≡
+        (slice_index_or before.now v false ||
+        with_vertex (slice_get vertices.now v) false
+        (λ x. list_all (λ u. slice_index_or before.now u false) (depends_on x))) }
 {
     let mut done = *before;
     for (v, vertex) in vertices.iter().enumerate() {
@@ -46,7 +49,8 @@ fn one_round_more(before: &Flags, vertices: &[Vertex]) -> Flags
 
 fn is_done_now(before: &Flags, v: usize, vertex: &Vertex) -> bool
     requires { v < 2048 }
-    ensures { result ≡ (slice_index_or before.now v false || list_all (λ u. slice_index_or before.now u false) (depends_on vertex.now)) }
+    ensures { result ≡ (slice_index_or before.now v false ||
+        list_all (λ u. slice_index_or before.now u false) (depends_on vertex.now)) }
 {
     before[v] || is_ready(before, vertex)
 }

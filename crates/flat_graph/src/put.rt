@@ -1,6 +1,5 @@
 //! Writing the outputs of an operation.
-ghost use Rattle.std.specs.Prelude.{◌≡◌, ◌+◌, ◌<◌, ◌≤◌, IsTrue, [], ◌∷◌, All, length, map, take, slice_index, slice_index_or, slice_set, sum};
-ghost use Rattle.std.specs.List.{list_all};
+ghost use Rattle.std.specs.Prelude.{◌≡◌, ◌+◌, ◌<◌, ◌≤◌, [], ◌∷◌, All, length, map, take, slice_set, sum};
 ghost use Rattle.body_lang.specs.Expr.{view, function_outputs, vector_of, value_of, PortsBelow};
 ghost use Rattle.flat_graph.specs.Put.{over};
 ghost use Rattle.level_meaning.specs.Level.{all_joined, parts_of, vector_at, zeros};

@@ -1,27 +1,26 @@
 -- The sensors and actuators of a flat graph have the lengths that those of the tree have.
-use Rattle.std.proofs.Common.{◌≡◌, ℕ, zero, suc, List, [], ◌∷◌, ◌++◌, length, map, get_or, Option, Some, None, refl, sym, ap, ap₂, ◌∙◌, subst, arith}
+use Rattle.std.proofs.Common.{◌≡◌, ℕ, suc, List, [], ◌∷◌, ◌++◌, length, map, Option, Some, None, refl, sym, ap, ap₂, ◌∙◌, subst, arith}
 use Rattle.body_lang.specs.Expr.{Expr}
 use Rattle.level_meaning.specs.declared.source.Source.{Source}
 use Rattle.level_meaning.specs.Level.{Path}
 use Rattle.algo_tree.specs.Tree as tree
 use Rattle.algo_tree.specs.Tree.{Label, sensor, actuator, constant, delay, function, explode, implode, merge, graph, switch, repeat, vertex, Vertices, no_vertices, and_vertex}
-use Rattle.algo_tree.specs.Ends.{IsNoEnd, first_length, sensor_length, actuator_length, sensor_lengths_in, actuator_lengths_in, sensor_lengths, actuator_lengths}
-use Rattle.algo_tree.specs.Meaning.{vertices_in, nodes}
-use Rattle.algo_tree.specs.Typed.{label_of, outs_of, source_length, IsKindTyped, IsTyped, AllTyped, IsBodyTyped}
+use Rattle.algo_tree.specs.Ends.{IsNoEnd, first_length, sensor_length, actuator_length, sensor_lengths_in, actuator_lengths_in}
+use Rattle.algo_tree.specs.Meaning.{nodes}
+use Rattle.algo_tree.specs.Typed.{outs_of, source_length, IsKindTyped, IsTyped, AllTyped, IsBodyTyped}
 use Rattle.algo_tree.specs.Valid.{IsTree}
 use Rattle.flat_graph.specs.declared.vertex.Kind.{Kind}
 use Rattle.flat_graph.specs.declared.vertex.Kind.TheVariants.{Sensor, Actuator, Function, Constant, Get, Set, Explode, Implode, Merge}
 use Rattle.flat_graph.specs.declared.vertex.Vertex.{Vertex}
 use Rattle.flat_graph.specs.Graph.{Graph, lens_of}
 use Rattle.flat_graph.specs.Laws.{sensor_len, sensor_lens}
-use Rattle.flat_graph.specs.Meaning.{level_source}
 use Rattle.inlining_laws.specs.Flat.{Operation, Task, runs, gets, sets}
 use Rattle.inlining_laws.specs.Inlined.{wire, wirings, operations}
 use Rattle.inlining_laws.specs.Plain.{IsPlain}
 use Rattle.inlining_laws.proofs.Inlinable.{IsKindInlinable, CanInline, can_inline}
 use Rattle.pass_laws.proofs.Lists.{map_map}
 use Rattle.flat_laws.specs.EndLengths.{actuator_len, actuator_lens, HasEndLengths}
-use Rattle.flat_laws.specs.Stands.{task_of, operation_at, AllStand, Stands}
+use Rattle.flat_laws.specs.Stands.{task_of, AllStand, Stands}
 use Rattle.flat_laws.proofs.Ends.{IsNoEndTask, told_in, told_of, main_wire, told-main}
 use Rattle.flat_laws.proofs.Fits.{AllFit, IsTaskFit, fit-main}
 use Rattle.flat_laws.proofs.KindTests.{long, lens-same}

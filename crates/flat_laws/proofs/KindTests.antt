@@ -1,5 +1,5 @@
 -- Inputs and outputs that have the lengths of the tree pass the tests of a flat graph, kind by kind.
-use Rattle.std.proofs.Common.{◌≡◌, ℕ, zero, suc, ◌+◌, ◌≤◌, ◌==◌, ◌&&◌, nat_le, nat_lt, true, List, [], ◌∷◌, length, map, replicate, sum, slice_index_or, slice_get, Option, refl, sym, ap, ◌∙◌, subst, arith, eq-eqb, le-leb, lt-ltb}
+use Rattle.std.proofs.Common.{◌≡◌, ℕ, zero, suc, ◌+◌, ◌≤◌, ◌==◌, ◌&&◌, nat_le, nat_lt, true, List, [], ◌∷◌, length, map, replicate, sum, slice_index_or, slice_get, Option, refl, ap, ◌∙◌, subst, arith, eq-eqb, le-leb, lt-ltb}
 use Rattle.std.specs.List.{list_all}
 use Rattle.std.proofs.lemmas.Bool.{and_from}
 use Rattle.std.proofs.lemmas.List.{length-replicate}

@@ -20,7 +20,7 @@ use Rattle.flat_graph.specs.Meaning.{level_source, level_guard, sensed, is_get, 
 use Rattle.flat_graph.proofs.Settled.{same_guards, same_inputs}
 use Rattle.flat_graph.proofs.Fired.{is_kept, first_reads, last_reads}
 use Rattle.inlining_laws.specs.Flat as list
-use Rattle.inlining_laws.specs.Flat.{Operation, Task, runs, gets, sets, is_set, task_outputs, initial_value, flat_value, flat_past, flat_taken}
+use Rattle.inlining_laws.specs.Flat.{Operation, gets, is_set, task_outputs, initial_value, flat_past, flat_taken}
 use Rattle.inlining_laws.specs.Inlined.{operations}
 use Rattle.inlining_laws.specs.Plain.{IsPlain}
 use Rattle.inlining_laws.specs.Numbered.{Cells, SameCells, numbered_node, numbered_level, numbered_value, numbered_set, numbered_past, with_operation}

@@ -1,5 +1,5 @@
 -- The flat graph of an algorithm, as a function of its tree. Each function operation has a body of its own, in order.
-use Rattle.std.specs.Prelude.{ℕ, suc, ◌-◌, ◌+◌, List, [], ◌∷◌, ◌++◌, map, length, Option, Some, None, slice_index_or}
+use Rattle.std.specs.Prelude.{ℕ, suc, ◌-◌, ◌+◌, List, [], ◌∷◌, ◌++◌, map, length, Option, Some, None}
 use Rattle.body_lang.specs.Expr.{Expr}
 use Rattle.level_meaning.specs.declared.source.Source as of_level
 use Rattle.level_meaning.specs.declared.source.Source.TheVariants.{Own, Of}

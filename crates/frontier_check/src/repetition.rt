@@ -65,7 +65,8 @@ fn outer_len(
 ) -> Option<u32>
     requires few { copies ≤ 64 }
     requires lens { HasShortPorts inner.now }
-    ensures { (line : ℕ) → frontier_fault copies inner.now (all_used before.now) line frontier.now ≡ fault_by line result }
+    ensures { (line : ℕ) → frontier_fault copies inner.now (all_used before.now) line
+        frontier.now ≡ fault_by line result }
 {
     match frontier {
         Frontier::Fork { inner: input, .. } => {
@@ -92,7 +93,8 @@ fn outer_len(
 /// The length of an inner input, if it is there and no line before uses it.
 fn open_len(ins: &[Port], before: &[FrontierLine], name: &Name) -> Option<u32>
     requires { AreShort ins.now }
-    ensures open { result ≡ len_where (has_port ins.now name.now && not (is_among name.now (all_used before.now))) ins.now name.now }
+    ensures open { result ≡ len_where (has_port ins.now name.now &&
+        not (is_among name.now (all_used before.now))) ins.now name.now }
     ensures short { IfSome result (λ len. len ≤ 64) }
 {
     let len = port_len(ins, name)?;

@@ -31,7 +31,8 @@ pub fn check_graph(
     requires few { length references.now ≤ 64 }
     requires outs { length outs.now ≤ 65 }
     requires ins { All (λ p. length (slice_index_or table.now p no_ports).ins ≤ 65) places.now }
-    ensures { Checks result (graph_fault defs.now (ports_of defs.now) line (record { ins = ins.now; outs = outs.now }) references.now edges.now) }
+    ensures { Checks result (graph_fault defs.now (ports_of defs.now) line
+        (record { ins = ins.now; outs = outs.now }) references.now edges.now) }
 {
     GraphParts {
         line,
@@ -52,7 +53,8 @@ impl<'a> GraphParts<'a> {
         requires placed { IsPlacedGraph self.now }
         requires few { length self.now.references.now ≤ 64 }
         requires rows { HasRows self.now }
-        ensures { Checks result (graph_fault self.now.defs.now (of self.now) self.now.line (own self.now) self.now.references.now self.now.edges.now) }
+        ensures { Checks result (graph_fault self.now.defs.now (of self.now) self.now.line
+            (own self.now) self.now.references.now self.now.edges.now) }
     {
         let Ok(mut marks) = self.no_marks(alloc) else {
             return Err(AlgoError::OutOfMemory);

@@ -1,8 +1,7 @@
 //! References that depend on themselves.
-ghost use Rattle.std.specs.Prelude.{◌≡◌, ◌≤◌, ◌<◌, ◌++◌, ◌&&◌, ℕ, IfOk, Some, None, length, map};
-ghost use Rattle.std.specs.List.{All, list_any};
+ghost use Rattle.std.specs.Prelude.{◌≡◌, ◌≤◌, ◌<◌, ◌++◌, ◌&&◌, IfOk, Some, None, length, map};
+ghost use Rattle.std.specs.List.{list_any};
 ghost use Rattle.std.specs.Str.{bytes_eq};
-ghost use Rattle.algo_defs.specs.Words.{Bytes};
 ghost use Rattle.algo_rules.specs.Graphs.{cycle_fault, dependences, is_delay, names_of, same_owner, source_of, sources};
 ghost use Rattle.algo_rules.specs.Links.{definition};
 ghost use Rattle.algo_rules.specs.Placed.{Checks};
@@ -63,7 +62,8 @@ impl<'a> GraphParts<'a> {
     /// Whether a reference of this name is a delay.
     fn is_delayed(&self, name: &[u8]) -> bool
         requires { IsPlacedGraph self.now }
-        ensures { result ≡ list_any (λ r. bytes_eq name.now r.name && is_delay (definition self.now.defs.now r.def)) self.now.references.now }
+        ensures { result ≡ list_any (λ r. bytes_eq name.now r.name &&
+            is_delay (definition self.now.defs.now r.def)) self.now.references.now }
     {
         for (at, reference) in self.references.iter().enumerate() {
             let def = &self.defs[self.places[at] as usize];
@@ -78,7 +78,8 @@ impl<'a> GraphParts<'a> {
     fn add_source(&self, sources: &mut Vec<u32>, owner: &Option<Name>) -> Result<(), OutOfMemory>
         requires placed { IsPlacedGraph self.now }
         requires few { length self.now.references.now ≤ 64 }
-        ensures { IfOk result (λ _. sources.new.items ≡ sources.old.items ++ source_of self.now.defs.now self.now.references.now owner.now) }
+        ensures { IfOk result (λ _. sources.new.items ≡ sources.old.items ++
+            source_of self.now.defs.now self.now.references.now owner.now) }
     {
         let Some(owner) = owner else {
             return Ok(());
@@ -108,7 +109,8 @@ impl<'a> GraphParts<'a> {
     fn dependences(&self, alloc: Global) -> Result<Vec<Items<u32>>, OutOfMemory>
         requires placed { IsPlacedGraph self.now }
         requires few { length self.now.references.now ≤ 64 }
-        ensures { IfOk result (λ links. links.items ≡ dependences self.now.defs.now self.now.references.now self.now.edges.now) }
+        ensures { IfOk result (λ links. links.items ≡
+            dependences self.now.defs.now self.now.references.now self.now.edges.now) }
     {
         let mut links = Vec::new(alloc);
         for reference in self.references {
@@ -122,7 +124,10 @@ impl<'a> GraphParts<'a> {
         requires placed { IsPlacedGraph self.now }
         requires few { length self.now.references.now ≤ 64 }
         requires inside { AreInside (dependences self.now.defs.now self.now.references.now self.now.edges.now) }
-        ensures { IfOk result (λ flags. flags.items ≡ map (reaches_itself (dependences self.now.defs.now self.now.references.now self.now.edges.now)) (numbers (dependences self.now.defs.now self.now.references.now self.now.edges.now))) }
+        ensures { IfOk result (λ flags. flags.items ≡
+            map (reaches_itself (dependences self.now.defs.now self.now.references.now
+            self.now.edges.now)) (numbers (dependences self.now.defs.now self.now.references.now
+            self.now.edges.now))) }
     {
         let links = self.dependences(alloc)?;
         reaching(alloc, links.as_slice())
@@ -133,7 +138,10 @@ impl<'a> GraphParts<'a> {
         requires placed { IsPlacedGraph self.now }
         requires few { length self.now.references.now ≤ 64 }
         requires inside { AreInside (dependences self.now.defs.now self.now.references.now self.now.edges.now) }
-        ensures { IfOk result (λ names. names.items ≡ names_of self.now.defs.now self.now.references.now (dependences self.now.defs.now self.now.references.now self.now.edges.now) 0 self.now.references.now) }
+        ensures { IfOk result (λ names. names.items ≡
+            names_of self.now.defs.now self.now.references.now
+            (dependences self.now.defs.now self.now.references.now self.now.edges.now) 0
+            self.now.references.now) }
     {
         let flags = self.cycle_flags(alloc)?;
         flagged(alloc, flags.as_slice(), self.references)

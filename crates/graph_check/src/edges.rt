@@ -16,7 +16,9 @@ impl<'a> GraphParts<'a> {
     /// Whether an edge joins two ports of one length, into an end that no edge before has.
     fn check_edge(&self, alloc: Global, edge: &Edge, is_twice: bool) -> Result<(), AlgoError>
         requires { IsPlacedGraph self.now }
-        ensures { Checks result (edge_by is_twice edge.now (port_len (givers self.now edge.now.from.owner) edge.now.from.port) (port_len (takers self.now edge.now.to.owner) edge.now.to.port)) }
+        ensures { Checks result (edge_by is_twice edge.now
+            (port_len (givers self.now edge.now.from.owner) edge.now.from.port)
+            (port_len (takers self.now edge.now.to.owner) edge.now.to.port)) }
     {
         let Some(from) = self.giver_len(&edge.from) else {
             return Err(unknown(alloc, edge.line, &edge.from));
@@ -40,7 +42,8 @@ impl<'a> GraphParts<'a> {
         requires rows { HasRows self.now }
         requires room { length marks.old ≡ (length self.now.references.now + 1) * 65 }
         requires none { AreMarked self.now marks.old [] }
-        ensures faults { Checks result (first_of (edge_faults (of self.now) (own self.now) self.now.references.now [] self.now.edges.now)) }
+        ensures faults { Checks result (first_of (edge_faults (of self.now) (own self.now)
+            self.now.references.now [] self.now.edges.now)) }
         ensures marked { IfOk result (λ _. AreMarked self.now marks.new self.now.edges.now) }
     {
         for edge in self.edges {

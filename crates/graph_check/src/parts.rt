@@ -1,5 +1,5 @@
 //! A graph with the definitions that its references name, and what its ends are.
-ghost use Rattle.std.specs.Prelude.{◌≡◌, ◌≤◌, MatchOption, bytes_eq, slice_index_or, length};
+ghost use Rattle.std.specs.Prelude.{◌≡◌, ◌≤◌, MatchOption, bytes_eq, length};
 ghost use Rattle.algo_rules.specs.Graphs.{place, port_len};
 ghost use Rattle.algo_rules.specs.Ports.{number_of, no_ports};
 ghost use Rattle.graph_check.specs.Parts.{named, givers, takers, IsPlacedGraph};

@@ -1,5 +1,5 @@
 //! Ends of a graph into which no edge leads.
-ghost use Rattle.std.specs.Prelude.{◌≡◌, ◌≤◌, length, Some, None};
+ghost use Rattle.std.specs.Prelude.{◌≤◌, length, Some, None};
 ghost use Rattle.algo_rules.specs.Graphs.{open_fault, open_faults};
 ghost use Rattle.algo_rules.specs.Links.{first_of};
 ghost use Rattle.algo_rules.specs.Placed.{Checks};
@@ -25,7 +25,8 @@ impl<'a> GraphParts<'a> {
         requires placed { IsPlacedGraph self.now }
         requires few { length self.now.references.now ≤ 64 }
         requires marked { AreMarked self.now marks.now self.now.edges.now }
-        ensures { Checks result (open_fault (of self.now) (own self.now) self.now.references.now self.now.edges.now reference.now.line (Some reference.now.name) ins.now) }
+        ensures { Checks result (open_fault (of self.now) (own self.now) self.now.references.now
+            self.now.edges.now reference.now.line (Some reference.now.name) ins.now) }
     {
         let name = reference.name.as_bytes();
         for port in ins {
@@ -40,7 +41,8 @@ impl<'a> GraphParts<'a> {
     fn check_outputs(&self, alloc: Global, outs: &[Port], marks: &[bool]) -> Result<(), AlgoError>
         requires few { length self.now.references.now ≤ 64 }
         requires marked { AreMarked self.now marks.now self.now.edges.now }
-        ensures { Checks result (open_fault (of self.now) (own self.now) self.now.references.now self.now.edges.now self.now.line None outs.now) }
+        ensures { Checks result (open_fault (of self.now) (own self.now) self.now.references.now
+            self.now.edges.now self.now.line None outs.now) }
     {
         for port in outs {
             if !is_marked(marks, self.output_spot(port.name.as_bytes())) {
@@ -56,7 +58,8 @@ impl<'a> GraphParts<'a> {
         requires placed { IsPlacedGraph self.now }
         requires few { length self.now.references.now ≤ 64 }
         requires marked { AreMarked self.now marks.now self.now.edges.now }
-        ensures { Checks result (first_of (open_faults (of self.now) (own self.now) self.now.references.now self.now.line self.now.edges.now)) }
+        ensures { Checks result (first_of (open_faults (of self.now) (own self.now)
+            self.now.references.now self.now.line self.now.edges.now)) }
     {
         for (at, reference) in self.references.iter().enumerate() {
             let ports = &self.table[self.places[at] as usize];

@@ -4,7 +4,7 @@ use Rattle.level_meaning.specs.declared.source.Guard.{Guard}
 use Rattle.level_meaning.specs.declared.source.Source.{Source}
 use Rattle.level_meaning.specs.declared.source.Source.TheVariants.{Own, Of}
 use Rattle.algo_tree.specs.Tree as tree
-use Rattle.algo_tree.specs.Tree.{Label, Vertices, vertex, no_vertices, and_vertex, sensor, actuator, constant, delay, function, explode, implode, merge, graph, switch, repeat}
+use Rattle.algo_tree.specs.Tree.{Label, Vertices, vertex, and_vertex, sensor, actuator, constant, delay, function, explode, implode, merge, graph, switch, repeat}
 use Rattle.algo_tree.specs.View.{kind_view, label_view, view, vertices_view}
 use Rattle.algo_tree.specs.declared.vertex.Kind.{Kind}
 use Rattle.algo_tree.specs.declared.vertex.Kind.TheVariants.{Sensor, Actuator, Constant, Delay, Function, Explode, Implode, Merge, Graph, Switch, Repeat}

@@ -69,9 +69,14 @@ fn add_level(
     requires plain { AllPlain (vertices_view vertices.now.items) }
     requires names { AllNamed (vertices_view vertices.now.items) }
     requires acyclic { IsAcyclic (nodes_of vertices.now.items) }
-    requires linked { (at : Path → Path) → AllLinked (inlined_level own.now (length all.old.vertices.items) at (vertices_view vertices.now.items)) }
-    ensures count { OnOk result (length all.new.vertices.items ≡ length all.old.vertices.items + count_all (vertices_view vertices.now.items)) }
-    ensures added { OnOk result ((at : Path → Path) → Prefixes path.now at → Adds (graph_of all.old) (graph_of all.new) (λ b. inlined_level own.now b at (vertices_view vertices.now.items))) }
+    requires linked { (at : Path → Path) → AllLinked
+        (inlined_level own.now (length all.old.vertices.items) at
+        (vertices_view vertices.now.items)) }
+    ensures count { OnOk result (length all.new.vertices.items ≡ length all.old.vertices.items +
+        count_all (vertices_view vertices.now.items)) }
+    ensures added { OnOk result ((at : Path → Path) → Prefixes path.now at →
+        Adds (graph_of all.old) (graph_of all.new)
+        (λ b. inlined_level own.now b at (vertices_view vertices.now.items))) }
 {
     let first = number(all.vertices.len())?;
     let leds = lead_level(alloc, first, own, vertices)?;
@@ -91,9 +96,15 @@ fn add_vertices(
     requires well { AllWell (vertices_view vertices.now.items) }
     requires plain { AllPlain (vertices_view vertices.now.items) }
     requires names { AllNamed (vertices_view vertices.now.items) }
-    requires linked { (at : Path → Path) → AllLinked (inlined_all (led level.now.leds.now level.now.own.now) (length all.old.vertices.items) at (vertices_view vertices.now.items)) }
-    ensures count { OnOk result (length all.new.vertices.items ≡ length all.old.vertices.items + count_all (vertices_view vertices.now.items)) }
-    ensures added { OnOk result ((at : Path → Path) → Prefixes path.now at → Adds (graph_of all.old) (graph_of all.new) (λ b. inlined_all (led level.now.leds.now level.now.own.now) b at (vertices_view vertices.now.items))) }
+    requires linked { (at : Path → Path) → AllLinked
+        (inlined_all (led level.now.leds.now level.now.own.now) (length all.old.vertices.items) at
+        (vertices_view vertices.now.items)) }
+    ensures count { OnOk result (length all.new.vertices.items ≡ length all.old.vertices.items +
+        count_all (vertices_view vertices.now.items)) }
+    ensures added { OnOk result ((at : Path → Path) → Prefixes path.now at →
+        Adds (graph_of all.old) (graph_of all.new)
+        (λ b. inlined_all (led level.now.leds.now level.now.own.now) b at
+        (vertices_view vertices.now.items))) }
 {
     for vertex in vertices {
         add_vertex(alloc, level, path, vertex, all)?;
@@ -113,9 +124,14 @@ fn add_vertex(
     requires well { IsWell (view vertex.now) }
     requires plain { IsPlain (view vertex.now) }
     requires names { IsNamed (view vertex.now) }
-    requires linked { (at : Path → Path) → AllLinked (inlined (led level.now.leds.now level.now.own.now) (length all.old.vertices.items) at (view vertex.now)) }
-    ensures count { OnOk result (length all.new.vertices.items ≡ length all.old.vertices.items + count (view vertex.now)) }
-    ensures added { OnOk result ((at : Path → Path) → Prefixes path.now at → Adds (graph_of all.old) (graph_of all.new) (λ b. inlined (led level.now.leds.now level.now.own.now) b at (view vertex.now))) }
+    requires linked { (at : Path → Path) → AllLinked
+        (inlined (led level.now.leds.now level.now.own.now) (length all.old.vertices.items) at
+        (view vertex.now)) }
+    ensures count { OnOk result (length all.new.vertices.items ≡ length all.old.vertices.items +
+        count (view vertex.now)) }
+    ensures added { OnOk result ((at : Path → Path) → Prefixes path.now at →
+        Adds (graph_of all.old) (graph_of all.new)
+        (λ b. inlined (led level.now.leds.now level.now.own.now) b at (view vertex.now))) }
 {
     let text = joined(alloc, path, &vertex.part)?;
     match &vertex.kind {
@@ -139,9 +155,15 @@ fn add_graph(
     requires well { IsWell (view vertex.now) }
     requires plain { IsPlain (view vertex.now) }
     requires names { IsNamed (view vertex.now) }
-    requires linked { (at : Path → Path) → AllLinked (inlined (led level.now.leds.now level.now.own.now) (length all.old.vertices.items) at (view vertex.now)) }
-    ensures count { OnOk result (length all.new.vertices.items ≡ length all.old.vertices.items + count (view vertex.now)) }
-    ensures added { OnOk result ((at : Path → Path) → Prefixes text.now (λ q. at ((out-Vertex vertex.now).part ∷ q)) → Adds (graph_of all.old) (graph_of all.new) (λ b. inlined (led level.now.leds.now level.now.own.now) b at (view vertex.now))) }
+    requires linked { (at : Path → Path) → AllLinked
+        (inlined (led level.now.leds.now level.now.own.now) (length all.old.vertices.items) at
+        (view vertex.now)) }
+    ensures count { OnOk result (length all.new.vertices.items ≡ length all.old.vertices.items +
+        count (view vertex.now)) }
+    ensures added { OnOk result ((at : Path → Path) →
+        Prefixes text.now (λ q. at ((out-Vertex vertex.now).part ∷ q)) →
+        Adds (graph_of all.old) (graph_of all.new)
+        (λ b. inlined (led level.now.leds.now level.now.own.now) b at (view vertex.now))) }
 {
     let own = follow_all(alloc, level, vertex.ins.as_slice())?;
     add_level(alloc, &own, text, &vertex.inner, all)

@@ -38,7 +38,8 @@ pub fn lead_level(
 ) -> Result<Vec<Led>, OutOfMemory>
     requires well { AllWell (vertices_view vertices.now.items) }
     requires acyclic { IsAcyclic (nodes_of vertices.now.items) }
-    ensures { IfOk result (λ leds. led leds.items own.now ≡ wire (wirings first (vertices_view vertices.now.items)) own.now) }
+    ensures { IfOk result (λ leds. led leds.items own.now ≡
+        wire (wirings first (vertices_view vertices.now.items)) own.now) }
 {
     let numbers = first_numbers(alloc, first, vertices)?;
     let order = find_order(alloc, vertices)?;

@@ -61,7 +61,8 @@ fn outputs_of(
     sources: &[Source],
 ) -> Result<Vec<Output>, OutOfMemory>
     requires { AreFound (map (led level.now.leds.now level.now.own.now) sources.now) }
-    ensures { IfOk result (λ os. map level_source os.items ≡ map (led level.now.leds.now level.now.own.now) sources.now) }
+    ensures { IfOk result (λ os. map level_source os.items ≡
+        map (led level.now.leds.now level.now.own.now) sources.now) }
 {
     let mut all = Vec::with_capacity(alloc, sources.len())?;
     for source in sources {
@@ -87,7 +88,8 @@ fn conditions(
     guards: &[Guard],
 ) -> Result<Vec<Condition>, OutOfMemory>
     requires { GuardsFound (map (wire_guard (led level.now.leds.now level.now.own.now)) guards.now) }
-    ensures { IfOk result (λ cs. map level_guard cs.items ≡ map (wire_guard (led level.now.leds.now level.now.own.now)) guards.now) }
+    ensures { IfOk result (λ cs. map level_guard cs.items ≡
+        map (wire_guard (led level.now.leds.now level.now.own.now)) guards.now) }
 {
     let mut all = Vec::new(alloc);
     for guard in guards {
@@ -116,8 +118,11 @@ fn operation(
     form: Form<'_>,
 ) -> Result<Operation, OutOfMemory>
     requires definition { IsTrue (is_name (out-Vertex vertex.now).definition) }
-    requires guards { GuardsFound (map (wire_guard (led level.now.leds.now level.now.own.now)) (out-Vertex vertex.now).guards) }
-    ensures is { IfOk result (λ x. IsOperation (led level.now.leds.now level.now.own.now) (label_view (out-Vertex vertex.now)) (map level_source form.entry.ins.items) form.entry.outs.now x) }
+    requires guards { GuardsFound (map (wire_guard (led level.now.leds.now level.now.own.now))
+        (out-Vertex vertex.now).guards) }
+    ensures is { IfOk result (λ x. IsOperation (led level.now.leds.now level.now.own.now)
+        (label_view (out-Vertex vertex.now)) (map level_source form.entry.ins.items)
+        form.entry.outs.now x) }
     ensures name { IfOk result (λ x. x.name ≡ form.entry.name.items) }
     ensures task { IfOk result (λ x. x.kind ≡ form.entry.task) }
     ensures twin { IfOk result (λ x. x.twin ≡ form.entry.twin) }
@@ -154,7 +159,9 @@ fn stage_ins(
     get: u32,
 ) -> Result<Vec<Output>, OutOfMemory>
     requires { is_last ≡ true → AreFound (map (led level.now.leds.now level.now.own.now) sources.now) }
-    ensures { IfOk result (λ os. map level_source os.items ≡ (if is_last then map (led level.now.leds.now level.now.own.now) sources.now else Of (get + 2) 0 ∷ [])) }
+    ensures { IfOk result (λ os. map level_source os.items ≡
+        (if is_last then map (led level.now.leds.now level.now.own.now) sources.now
+        else Of (get + 2) 0 ∷ [])) }
 {
     if is_last {
         return outputs_of(alloc, level, sources);
@@ -183,8 +190,10 @@ fn get_half(
     set: u32,
 ) -> Result<Operation, OutOfMemory>
     requires definition { IsTrue (is_name (out-Vertex vertex.now).definition) }
-    requires guards { GuardsFound (map (wire_guard (led level.now.leds.now level.now.own.now)) (out-Vertex vertex.now).guards) }
-    ensures is { IfOk result (λ x. IsOperation (led level.now.leds.now level.now.own.now) (label_view (out-Vertex vertex.now)) [] (out-Vertex vertex.now).outs x) }
+    requires guards { GuardsFound (map (wire_guard (led level.now.leds.now level.now.own.now))
+        (out-Vertex vertex.now).guards) }
+    ensures is { IfOk result (λ x. IsOperation (led level.now.leds.now level.now.own.now)
+        (label_view (out-Vertex vertex.now)) [] (out-Vertex vertex.now).outs x) }
     ensures name { IfOk result (λ x. x.name ≡ stage.now.path.now ++ (codes ":get" ++ text_of_stage stage.now.number)) }
     ensures task { IfOk result (λ x. x.kind ≡ Task.Get stage.now.values.now) }
     ensures twin { IfOk result (λ x. x.twin ≡ Some set) }
@@ -211,8 +220,10 @@ fn set_half(
     get: u32,
 ) -> Result<Operation, OutOfMemory>
     requires definition { IsTrue (is_name (out-Vertex vertex.now).definition) }
-    requires guards { GuardsFound (map (wire_guard (led level.now.leds.now level.now.own.now)) (out-Vertex vertex.now).guards) }
-    ensures is { IfOk result (λ x. IsOperation (led level.now.leds.now level.now.own.now) (label_view (out-Vertex vertex.now)) (map level_source ins.items) [] x) }
+    requires guards { GuardsFound (map (wire_guard (led level.now.leds.now level.now.own.now))
+        (out-Vertex vertex.now).guards) }
+    ensures is { IfOk result (λ x. IsOperation (led level.now.leds.now level.now.own.now)
+        (label_view (out-Vertex vertex.now)) (map level_source ins.items) [] x) }
     ensures name { IfOk result (λ x. x.name ≡ stage.now.path.now ++ (codes ":set" ++ text_of_stage stage.now.number)) }
     ensures task { IfOk result (λ x. x.kind ≡ Task.Set) }
     ensures twin { IfOk result (λ x. x.twin ≡ Some get) }
@@ -238,9 +249,13 @@ fn add_stage(
     all: &mut Inlined,
 ) -> Result<(), OutOfMemory>
     requires definition { IsTrue (is_name (out-Vertex vertex.now).definition) }
-    requires guards { GuardsFound (map (wire_guard (led level.now.leds.now level.now.own.now)) (out-Vertex vertex.now).guards) }
+    requires guards { GuardsFound (map (wire_guard (led level.now.leds.now level.now.own.now))
+        (out-Vertex vertex.now).guards) }
     ensures count { OnOk result (length all.new.vertices.items ≡ length all.old.vertices.items + 2) }
-    ensures added { OnOk result ((at : Path) → path_text at ≡ stage.now.path.now → Adds (graph_of all.old) (graph_of all.new) (λ b. stage_pair (led level.now.leds.now level.now.own.now) at stage.now.number (label_view (out-Vertex vertex.now)) stage.now.values.now (map level_source ins.items))) }
+    ensures added { OnOk result ((at : Path) → path_text at ≡ stage.now.path.now →
+        Adds (graph_of all.old) (graph_of all.new)
+        (λ b. stage_pair (led level.now.leds.now level.now.own.now) at stage.now.number
+        (label_view (out-Vertex vertex.now)) stage.now.values.now (map level_source ins.items))) }
 {
     let get = number(all.vertices.len())?;
     let set = number(all.vertices.len() + 1)?;
@@ -261,9 +276,14 @@ pub fn add_delay(
     all: &mut Inlined,
 ) -> Result<(), OutOfMemory>
     requires definition { IsTrue (is_name (out-Vertex vertex.now).definition) }
-    requires linked { AllLinked (stages (led level.now.leds.now level.now.own.now) (length all.old.vertices.items) [] (label_view (out-Vertex vertex.now)) 0 groups.now) }
-    ensures count { OnOk result (length all.new.vertices.items ≡ length all.old.vertices.items + 2 * length groups.now) }
-    ensures added { OnOk result ((at : Path) → path_text at ≡ path.now → Adds (graph_of all.old) (graph_of all.new) (λ b. stages (led level.now.leds.now level.now.own.now) b at (label_view (out-Vertex vertex.now)) 0 groups.now)) }
+    requires linked { AllLinked (stages (led level.now.leds.now level.now.own.now)
+        (length all.old.vertices.items) [] (label_view (out-Vertex vertex.now)) 0 groups.now) }
+    ensures count { OnOk result (length all.new.vertices.items ≡ length all.old.vertices.items +
+        2 * length groups.now) }
+    ensures added { OnOk result ((at : Path) → path_text at ≡ path.now →
+        Adds (graph_of all.old) (graph_of all.new)
+        (λ b. stages (led level.now.leds.now level.now.own.now) b at
+        (label_view (out-Vertex vertex.now)) 0 groups.now)) }
 {
     for at in 0..groups.len() {
         let is_last = at + 1 == groups.len();
@@ -319,10 +339,16 @@ pub fn add_operation(
 ) -> Result<(), OutOfMemory>
     requires definition { IsTrue (is_name (out-Vertex vertex.now).definition) }
     requires ins { AreFound (map (led level.now.leds.now level.now.own.now) (out-Vertex vertex.now).ins) }
-    requires guards { GuardsFound (map (wire_guard (led level.now.leds.now level.now.own.now)) (out-Vertex vertex.now).guards) }
+    requires guards { GuardsFound (map (wire_guard (led level.now.leds.now level.now.own.now))
+        (out-Vertex vertex.now).guards) }
     requires kind { IsRun (kind_view (out-Vertex vertex.now).kind) }
     ensures count { OnOk result (length all.new.vertices.items ≡ length all.old.vertices.items + 1) }
-    ensures added { OnOk result ((at : Path) → path_text at ≡ path.items → Adds (graph_of all.old) (graph_of all.new) (λ b. operation_of (led level.now.leds.now level.now.own.now) at 0 (label_view (out-Vertex vertex.now)) (map (led level.now.leds.now level.now.own.now) (out-Vertex vertex.now).ins) (out-Vertex vertex.now).outs (runs (kind_view (out-Vertex vertex.now).kind)) ∷ [])) }
+    ensures added { OnOk result ((at : Path) → path_text at ≡ path.items →
+        Adds (graph_of all.old) (graph_of all.new)
+        (λ b. operation_of (led level.now.leds.now level.now.own.now) at 0
+        (label_view (out-Vertex vertex.now))
+        (map (led level.now.leds.now level.now.own.now) (out-Vertex vertex.now).ins)
+        (out-Vertex vertex.now).outs (runs (kind_view (out-Vertex vertex.now).kind)) ∷ [])) }
 {
     let ins = outputs_of(alloc, level, vertex.ins.as_slice())?;
     let form = Form {

@@ -1,5 +1,5 @@
 //! Trees that a pass of flattening leaves as they are, so that it need not be made.
-ghost use Rattle.std.specs.Prelude.{◌≡◌, [], true, false};
+ghost use Rattle.std.specs.Prelude.{◌≡◌, true, false};
 ghost use Rattle.algo_tree.specs.View.{kind_view, view};
 ghost use Rattle.pass_laws.specs.NoRepeat.{IsNoRepeat};
 ghost use Rattle.factorisation_laws.specs.Unrolled.{unroll as unrolled};

@@ -4,7 +4,7 @@ use mathlib.Core.Path.{fun_ext}
 use Rattle.std.proofs.lemmas.List.{append_assoc}
 use Rattle.level_meaning.specs.declared.source.Source.{Source}
 use Rattle.algo_tree.specs.Tree.{Label, Kind, sensor, actuator, constant, delay, function, explode, implode, merge, graph, switch, repeat, Vertex, vertex, Vertices, no_vertices, and_vertex}
-use Rattle.level_meaning.specs.Level.{Values, Vector, State, Path, vector_at, level_value, graph_next}
+use Rattle.level_meaning.specs.Level.{Values, Vector, State, Path, vector_at}
 use Rattle.algo_tree.specs.Meaning.{nodes, past, actuator_values, actuator_value, input_value}
 use Rattle.level_meaning.specs.Order.{IsAcyclic}
 use Rattle.inlining_laws.specs.Flat.{Operation, Stages, stages_of, node_of, flat_level, flat_value, no_state, next_cells, flat_past, flat_taken, taken}

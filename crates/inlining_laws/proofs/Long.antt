@@ -1,12 +1,12 @@
 -- Each delay of a tree keeps as many values as it looks back.
-use Rattle.std.proofs.Common.{◌≡◌, ℕ, zero, suc, ◌+◌, ◌≤◌, List, [], ◌∷◌, ◌++◌, length, map, drop, Bool, true, false, cond, Some, refl, sym, ap, ◌∙◌, subst, arith, length-append}
+use Rattle.std.proofs.Common.{◌≡◌, ◌+◌, ◌≤◌, List, [], ◌∷◌, ◌++◌, length, map, drop, Bool, true, false, cond, Some, refl, sym, ap, ◌∙◌, subst, arith, length-append}
 use mathlib.Core.Path.{fun_ext}
 use Rattle.level_meaning.specs.declared.source.Source.{Source}
-use Rattle.level_meaning.specs.Level.{Vector, Values, State, Node, below, same_part, with_node, find_node, all_hold, node_next, level_value, graph_next, graph_initial, delay_next}
+use Rattle.level_meaning.specs.Level.{Vector, Values, State, Node, below, with_node, find_node, all_hold, node_next, level_value, graph_next, graph_initial, delay_next}
 use Rattle.level_meaning.specs.Parts.{IsApart, HasDistinctParts}
 use Rattle.algo_tree.specs.Tree.{Label, Kind, sensor, actuator, constant, delay, function, explode, implode, merge, graph, switch, repeat, Vertex, vertex, Vertices, no_vertices, and_vertex}
-use Rattle.algo_tree.specs.Meaning.{node, nodes, kind_next, kind_initial, behaviour_of}
-use Rattle.pass_laws.proofs.SameParts.{same_itself, same_means}
+use Rattle.algo_tree.specs.Meaning.{node, nodes, kind_next, kind_initial}
+use Rattle.pass_laws.proofs.SameParts.{same_itself}
 use Rattle.inlining_laws.proofs.Inlinable.{IsKindInlinable, CanInline, AllCanInline}
 
 -- what is kept below a vertex

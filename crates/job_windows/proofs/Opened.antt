@@ -1,5 +1,5 @@
 -- The next window is a job that meets no limit, and what is left of it opens the one after it.
-use Rattle.std.proofs.Common.{◌≡◌, ℕ, ◌+◌, ◌*◌, ◌-◌, ◌<◌, ◌≤◌, true, Option, None, Some, length, sym, drop, min, ap, arith, ◌∙◌, length-take}
+use Rattle.std.proofs.Common.{◌≡◌, ℕ, ◌+◌, ◌-◌, ◌<◌, true, Option, None, Some, length, sym, drop, ap, arith, ◌∙◌, length-take}
 use Rattle.syn_base.specs.Rows.{Reactions, AreCut}
 use Rattle.syn_base.specs.declared.limits.LimitFault.{LimitFault}
 use Rattle.level_meaning.specs.Level.{Values}

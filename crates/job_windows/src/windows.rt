@@ -80,7 +80,8 @@ impl<'a> JobWindows<'a> {
         requires limit { limit_of (whole_job program.now flat.now archi.now rows.now) ≡ None }
         requires from { 1 ≤ workers }
         requires to { workers ≤ 80 }
-        ensures { IfOk result (λ windows. windows ≡ record { job = whole_job program.now flat.now archi.now rows.now; next = 0 }) }
+        ensures { IfOk result (λ windows. windows ≡
+            record { job = whole_job program.now flat.now archi.now rows.now; next = 0 }) }
     {
         let opening = opening_of(alloc, flat)?;
         Ok(JobWindows {

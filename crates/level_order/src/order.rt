@@ -1,6 +1,5 @@
 //! The order in which the vertices of a level run.
-ghost use Rattle.std.specs.Prelude.{◌≡◌, ◌<◌, ◌&&◌, ℕ, [], IfOk, OnOk, IsTrue, map, length, not, true, false, replicate, slice_index_or};
-ghost use Rattle.algo_tree.specs.declared.vertex.Vertex.{out-Vertex};
+ghost use Rattle.std.specs.Prelude.{◌≡◌, ◌<◌, ◌&&◌, ℕ, [], IfOk, OnOk, IsTrue, length, not, true, false, replicate};
 ghost use Rattle.algo_tree.specs.View.{view};
 ghost use Rattle.algo_tree.specs.Meaning.{node};
 ghost use Rattle.level_meaning.specs.Order.{source_ready, sources_ready, guards_ready, is_ready, IsAcyclic};

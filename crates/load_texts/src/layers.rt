@@ -1,7 +1,6 @@
 //! The main graph of a load: layers of four functions, and what follows the last one.
-ghost use Rattle.std.specs.Prelude.{◌≡◌, ◌+◌, ◌*◌, ◌%◌, ◌<◌, ◌++◌, OnOk, codes};
-ghost use Rattle.load_texts.specs.Lines.{lines_text};
-ghost use Rattle.load_texts.specs.Algorithm.{edge, edges_from_layer, edges_of_layers, last_edges, last_references, layer_edges, layer_references, main_edges, main_graph, main_references, mix_edges, mix_name, mix_reference, output_end, references_of_layers};
+ghost use Rattle.std.specs.Prelude.{◌≡◌, ◌+◌, ◌%◌, ◌<◌, ◌++◌, OnOk};
+ghost use Rattle.load_texts.specs.Algorithm.{edge, edges_from_layer, edges_of_layers, layer_edges, layer_references, main_edges, main_graph, main_references, mix_edges, mix_name, mix_reference, output_end, references_of_layers};
 
 use crate::lines::append_lines;
 use grown_text::{append, append_count};
@@ -130,7 +129,8 @@ fn append_mix_edge(
     port: &[u8],
 ) -> Result<(), OutOfMemory>
     requires { from.0 < 8 }
-    ensures { OnOk result (out.new.items ≡ out.old.items ++ edge (output_end from.0 from.1) (mix_name (from.0 + 1) i ++ port.now)) }
+    ensures { OnOk result (out.new.items ≡ out.old.items ++
+        edge (output_end from.0 from.1) (mix_name (from.0 + 1) i ++ port.now)) }
 {
     append(out, b"edge ")?;
     append_output(out, from.0, from.1)?;

@@ -1,7 +1,6 @@
 //! The sensor table of a load.
 ghost use Rattle.std.specs.Prelude.{◌≡◌, ◌++◌, ◌≤◌, IfOk, OnOk};
 ghost use Rattle.load_texts.specs.Table.{next_state, row, rows, state_after, table_text, value_field, value_fields};
-ghost use Rattle.load_texts.specs.Lines.{lines_text};
 
 use crate::generator::Generator;
 use crate::lines::append_lines;

@@ -13,7 +13,7 @@ use crate::tables::Tables;
 use executive_program::{Instr, Program};
 use mark_table::Mark;
 use program_tables::{Crossing, number_at};
-use program_walks::{Stand, medium_of, turn_of};
+use program_walks::{Stand, medium_of};
 use syn_base::{Items, OutOfMemory};
 
 /// A transfer in the table of transfers.
@@ -84,7 +84,8 @@ pub fn transfer_of(
 ) -> Option<Crossing>
     requires tables { AreTables program.now tables.now }
     requires within { at < length (turn program.now sequence) }
-    ensures { result ≡ crossing_at (crossings program.now tables.now.media) (medium program.now sequence) (communications program.now sequence at) }
+    ensures { result ≡ crossing_at (crossings program.now tables.now.media)
+        (medium program.now sequence) (communications program.now sequence at) }
 {
     crossing_at(
         tables.crossings.as_slice(),
@@ -102,7 +103,8 @@ fn transfer_before(
 ) -> Option<Crossing>
     requires tables { AreTables program.now tables.now }
     requires within { at < length (turn program.now sequence) }
-    ensures { result ≡ crossing_before (crossings program.now tables.now.media) (medium program.now sequence) (communications program.now sequence at) }
+    ensures { result ≡ crossing_before (crossings program.now tables.now.media)
+        (medium program.now sequence) (communications program.now sequence at) }
 {
     let number = number_at(program, tables.numbers.as_slice(), sequence, at);
     if number == 0 {

@@ -64,7 +64,9 @@ fn is_called_at(
     call: Stand,
 ) -> bool
     requires { (v : ℕ) → v < operations → row calls.now v ≡ marks_of program.now Called v }
-    ensures { result ≡ (lone call.sequence marks.now && is_none (medium program.now call.sequence) && is_before_twin program.now call.sequence call.at x.now.kind x.now.twin) }
+    ensures { result ≡ (lone call.sequence marks.now &&
+        is_none (medium program.now call.sequence) &&
+        is_before_twin program.now call.sequence call.at x.now.kind x.now.twin) }
 {
     is_lone(marks, call.sequence)
         && medium_of(program, call.sequence).is_none()

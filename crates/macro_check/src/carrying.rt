@@ -52,7 +52,8 @@ fn origin_of(program: &Program, tables: &Tables, write: Write, instr: &Instr) ->
 fn origin_at(program: &Program, tables: &Tables, write: Write) -> Origin
     requires tables { AreTables program.now tables.now }
     requires transferred { AreTransferred program.now tables.now.media }
-    ensures { result ≡ origin_of program.now write.writer write.at write.port (slice_get (turn program.now write.writer) write.at) }
+    ensures { result ≡ origin_of program.now write.writer write.at write.port
+        (slice_get (turn program.now write.writer) write.at) }
 {
     match turn_of(program, write.writer).get(write.at) {
         Some(instr) => origin_of(program, tables, write, instr),

@@ -129,10 +129,14 @@ pub fn macro_check(
     program: &Program,
 ) -> Result<Vec<u32>, CheckError>
     requires { (s : ℕ) → length (turn program.now s) < 2 ^ 32 }
-    ensures accepted { IfOk result (λ order. IsOrder program.now flat.now (sequences archi.now) (length archi.now.media) order.items) }
-    ensures told { IfErr result (Refuses (λ c. cause program.now flat.now.vertices (sequences archi.now) (length archi.now.operators) (length archi.now.media) ≡ Some c)) }
-    ensures refused { IfErr result (Refuses (IsCause program.now flat.now (sequences archi.now) (length archi.now.operators) (length archi.now.media))) }
-    ensures complete { IsWellFormed program.now flat.now (sequences archi.now) (length archi.now.media) → IfErr result (Refuses (λ c. ⊥)) }
+    ensures accepted { IfOk result (λ order. IsOrder program.now flat.now (sequences archi.now)
+        (length archi.now.media) order.items) }
+    ensures told { IfErr result (Refuses (λ c. cause program.now flat.now.vertices
+        (sequences archi.now) (length archi.now.operators) (length archi.now.media) ≡ Some c)) }
+    ensures refused { IfErr result (Refuses (IsCause program.now flat.now (sequences archi.now)
+        (length archi.now.operators) (length archi.now.media))) }
+    ensures complete { IsWellFormed program.now flat.now (sequences archi.now)
+        (length archi.now.media) → IfErr result (Refuses (λ c. ⊥)) }
 {
     let vertices = flat.vertices();
     let operators = archi.operators().len();

@@ -1,7 +1,7 @@
 //! Buffers carry what the calls take and give, and transfers receive what is sent, in the same length.
 ghost use Rattle.std.specs.Prelude.{◌≡◌, ◌+◌, ◌<◌, ◌≤◌, ◌&&◌, Some, drop, length, nat_eq, slice_get};
 ghost use Rattle.executive_program.specs.Instructions.{turn};
-ghost use Rattle.executive_program.specs.Places.{carried, ins_in, outs_in};
+ghost use Rattle.executive_program.specs.Places.{carried};
 ghost use Rattle.program_walks.specs.Walks.{all_at};
 ghost use Rattle.value_check.specs.Calls.{carries, carry_guards, carry_inputs, gives, gives_at, has_len, takes};
 ghost use Rattle.value_check.specs.Carries.{same_source};
@@ -156,7 +156,8 @@ fn is_given_as(
     len: u32,
     buffer: u32,
 ) -> bool
-    ensures { result ≡ (has_len (slice_get program.now.buffers buffer) len && same_source (met_in sources.now buffer) (record { vertex = operation; port = port })) }
+    ensures { result ≡ (has_len (slice_get program.now.buffers buffer) len &&
+        same_source (met_in sources.now buffer) (record { vertex = operation; port = port })) }
 {
     has_len(program, buffer, len) && is_source(sources, buffer as usize, operation, port)
 }

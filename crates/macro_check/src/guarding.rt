@@ -39,7 +39,8 @@ fn all_guard(program: &Program, tables: &Tables, readings: &[Reading]) -> bool
 
 fn guard_each(program: &Program, tables: &Tables, readings: &[Reading]) -> bool
     requires { AreTables program.now tables.now }
-    ensures { result ≡ (nat_eq (length program.now.pairs) (length readings.now) && all_at (guards_by program.now) 0 readings.now) }
+    ensures { result ≡ (nat_eq (length program.now.pairs) (length readings.now) &&
+        all_at (guards_by program.now) 0 readings.now) }
 {
     program.pairs.as_slice().len() == readings.len() && all_guard(program, tables, readings)
 }

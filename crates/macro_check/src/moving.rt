@@ -97,7 +97,9 @@ fn is_moved_by(
 ) -> bool
     requires table { places.now ≡ places_of program.now }
     requires made { moved ≡ crossing_by program.now number moved.sender moved.receiver }
-    ensures { result ≡ (is_sent program.now medium number moved.sender moved.receiver && is_received program.now medium number moved.sender moved.receiver && list_all (other_waits program.now number moved.sender moved.receiver) communicators.now) }
+    ensures { result ≡ (is_sent program.now medium number moved.sender moved.receiver &&
+        is_received program.now medium number moved.sender moved.receiver &&
+        list_all (other_waits program.now number moved.sender moved.receiver) communicators.now) }
 {
     is_sent(program, medium, number, moved)
         && is_received(program, medium, number, moved)

@@ -1,5 +1,5 @@
 //! The sequences are the architecture's, and what instructions name is there.
-ghost use Rattle.std.specs.Prelude.{◌≡◌, length};
+ghost use Rattle.std.specs.Prelude.{◌≡◌};
 ghost use Rattle.std.specs.List.{flat_map, list_all, range_with_len};
 ghost use Rattle.archi_graph.specs.Sequences.{sequences_of};
 ghost use Rattle.executive_program.specs.declared.program.SeqCode.{SeqCode};
@@ -34,7 +34,8 @@ fn are_there(program: &Program, operations: usize, operators: usize, list: &[Ins
 }
 
 fn loops_there(program: &Program, operations: usize, operators: usize) -> bool
-    ensures { result ≡ list_all (λ (q : SeqCode). list_all (all_there program.now operations operators) q.turn) program.now.seqs }
+    ensures { result ≡ list_all (λ (q : SeqCode). list_all
+        (all_there program.now operations operators) q.turn) program.now.seqs }
 {
     program.seqs.as_slice().iter().all(|code| are_there(
         program,
@@ -45,7 +46,8 @@ fn loops_there(program: &Program, operations: usize, operators: usize) -> bool
 }
 
 fn prologues_there(program: &Program, operations: usize, operators: usize) -> bool
-    ensures { result ≡ list_all (λ (q : SeqCode). list_all (all_there program.now operations operators) q.prologue) program.now.seqs }
+    ensures { result ≡ list_all (λ (q : SeqCode). list_all
+        (all_there program.now operations operators) q.prologue) program.now.seqs }
 {
     program.seqs.as_slice().iter().all(|code| are_there(
         program,
@@ -58,7 +60,8 @@ fn prologues_there(program: &Program, operations: usize, operators: usize) -> bo
 /// Whether the sequences are those of this many operators at these media, in order, and what instructions name
 /// is there, in loops and in prologues.
 pub fn are_named(program: &Program, operations: usize, operators: usize, media: &[Medium]) -> bool
-    ensures { result ≡ are_named program.now operations operators (flat_map (sequences_of media.now) (range_with_len 0 operators)) }
+    ensures { result ≡ are_named program.now operations operators
+        (flat_map (sequences_of media.now) (range_with_len 0 operators)) }
 {
     are_sequences(program.seqs.as_slice(), operators, media)
         && loops_there(program, operations, operators)

@@ -69,7 +69,8 @@ fn step(
     requires few { sequence < 2 ^ 32 }
     requires within { sequence < length done.old }
     requires there { slice_index done.old sequence < length (turn program.now sequence) }
-    ensures { OnOk result (IsStep program.now sequence order.old.items done.old looks.old.items order.new.items done.new looks.new.items) }
+    ensures { OnOk result (IsStep program.now sequence order.old.items done.old looks.old.items
+        order.new.items done.new looks.new.items) }
 {
     let at = done[sequence];
     let instr = &turn_of(program, sequence)[at];
@@ -93,7 +94,8 @@ fn look(
     requires few { length program.now.seqs ≤ 2 ^ 32 }
     requires going { IsGoing program.now order.old.items done.old (looks.old.items ++ sequence ∷ []) }
     ensures going { OnOk result (IsGoing program.now order.new.items done.new looks.new.items) }
-    ensures less { OnOk result (to_do program.now order.new.items looks.new.items < to_do program.now order.old.items (looks.old.items ++ sequence ∷ [])) }
+    ensures less { OnOk result (to_do program.now order.new.items looks.new.items <
+        to_do program.now order.old.items (looks.old.items ++ sequence ∷ [])) }
 {
     if !is_ready(program, tables, done, sequence) {
         return Ok(());
@@ -128,7 +130,8 @@ fn push_stop(
 ) -> Result<(), OutOfMemory>
     requires few { sequence < 2 ^ 32 }
     requires loops { length (turn program.now sequence) < 2 ^ 32 }
-    ensures { OnOk result (map place_of left.new.items ≡ map place_of left.old.items ++ stop_at program.now done.now sequence) }
+    ensures { OnOk result (map place_of left.new.items ≡ map place_of left.old.items ++
+        stop_at program.now done.now sequence) }
 {
     let at = count_at(done, sequence);
     if at < turn_of(program, sequence).len() {
@@ -144,7 +147,8 @@ fn push_stop(
 pub fn stops(alloc: Global, program: &Program, done: &[usize]) -> Result<Vec<Stop>, OutOfMemory>
     requires few { length program.now.seqs ≤ 2 ^ 32 }
     requires loops { (s : ℕ) → length (turn program.now s) < 2 ^ 32 }
-    ensures { IfOk result (λ left. map place_of left.items ≡ left_in program.now done.now zero (length program.now.seqs)) }
+    ensures { IfOk result (λ left. map place_of left.items ≡
+        left_in program.now done.now zero (length program.now.seqs)) }
 {
     let mut left = Vec::new(alloc);
     for sequence in 0..program.seqs.as_slice().len() {

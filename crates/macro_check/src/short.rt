@@ -1,5 +1,5 @@
 //! The check numbers places with 32 bits.
-ghost use Rattle.std.specs.Prelude.{◌≡◌, ℕ, ◌<◌, ◌^◌, ◌↔◌, IsTrue, length};
+ghost use Rattle.std.specs.Prelude.{ℕ, ◌<◌, ◌^◌, ◌↔◌, IsTrue, length};
 ghost use Rattle.executive_program.specs.Instructions.{turn};
 
 use executive_program::Program;

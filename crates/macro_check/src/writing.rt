@@ -1,5 +1,5 @@
 //! The buffers of a program: each is written once and carries what is called for and what is sent.
-ghost use Rattle.std.specs.Prelude.{◌≡◌, ℕ, ◌<◌, ◌≤◌, ◌&&◌, length, nat_eq, IfOk};
+ghost use Rattle.std.specs.Prelude.{◌≡◌, ◌<◌, ◌≤◌, ◌&&◌, length, nat_eq, IfOk};
 ghost use Rattle.std.specs.List.{list_all};
 ghost use Rattle.check_laws.specs.Items.{AreTransferred};
 ghost use Rattle.check_laws.specs.Tests.{are_written};

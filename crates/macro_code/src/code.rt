@@ -47,7 +47,8 @@ fn append_processors(
     named: &Named,
     program: &Program,
 ) -> Result<(), OutOfMemory>
-    ensures { OnOk result (out.new.items ≡ out.old.items ++ processors_from (names_of named.now) program.now 0 named.now.operators.now) }
+    ensures { OnOk result (out.new.items ≡ out.old.items ++
+        processors_from (names_of named.now) program.now 0 named.now.operators.now) }
 {
     for operator in 0..named.operators.len() {
         append_processor(alloc, out, named, program, operator)?;

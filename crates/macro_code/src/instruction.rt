@@ -1,5 +1,5 @@
 //! Lines of instructions.
-ghost use Rattle.std.specs.Prelude.{◌≡◌, ◌++◌, ◌∷◌, [], OnOk, map};
+ghost use Rattle.std.specs.Prelude.{◌≡◌, ◌++◌, ◌∷◌, [], OnOk};
 ghost use Rattle.macro_code.specs.Text.{body_text, buffer_name, call_line, code_text, instr_line, line, names_of, operator_name};
 
 use crate::arguments::{
@@ -74,7 +74,8 @@ fn append_transfer(
     buffer: u32,
     operator: u32,
 ) -> Result<(), OutOfMemory>
-    ensures { OnOk result (out.new.items ≡ out.old.items ++ line name (buffer_name buffer ∷ operator_name (names_of named.now) operator ∷ [])) }
+    ensures { OnOk result (out.new.items ≡ out.old.items ++
+        line name (buffer_name buffer ∷ operator_name (names_of named.now) operator ∷ [])) }
 {
     append_opening(out, name)?;
     append_buffer(out, buffer as usize)?;

@@ -38,7 +38,8 @@ fn append_declarations(
     program: &Program,
     operator: usize,
 ) -> Result<(), OutOfMemory>
-    ensures { OnOk result (out.new.items ≡ out.old.items ++ declarations operator program.now.pairs program.now.buffers) }
+    ensures { OnOk result (out.new.items ≡ out.old.items ++
+        declarations operator program.now.pairs program.now.buffers) }
 {
     append_semaphores(alloc, out, program.pairs.as_slice(), operator)?;
     append_allocs(out, program.buffers.as_slice(), operator)
@@ -64,7 +65,8 @@ fn append_semaphores(
     pairs: &[u32],
     operator: usize,
 ) -> Result<(), OutOfMemory>
-    ensures { OnOk result (out.new.items ≡ out.old.items ++ line Semaphores (map decimal (pairs_on operator 0 pairs.now))) }
+    ensures { OnOk result (out.new.items ≡ out.old.items ++
+        line Semaphores (map decimal (pairs_on operator 0 pairs.now))) }
 {
     let numbers = pairs_on(alloc, pairs, operator)?;
     append_opening(out, Macro::Semaphores)?;
@@ -102,7 +104,8 @@ fn append_alloc(
     buffer: Buffer,
     operator: usize,
 ) -> Result<(), OutOfMemory>
-    ensures { OnOk result (out.new.items ≡ out.old.items ++ cond (nat_eq buffer.operator operator) (alloc_line number buffer) []) }
+    ensures { OnOk result (out.new.items ≡ out.old.items ++
+        cond (nat_eq buffer.operator operator) (alloc_line number buffer) []) }
 {
     if buffer.operator as usize == operator {
         append_declaration(out, number, buffer)
@@ -133,7 +136,8 @@ fn append_threads(
     seqs: &[SeqCode],
     operator: usize,
 ) -> Result<(), OutOfMemory>
-    ensures { OnOk result (out.new.items ≡ out.old.items ++ flat_map (thread_text (names_of named.now) operator) seqs.now) }
+    ensures { OnOk result (out.new.items ≡ out.old.items ++
+        flat_map (thread_text (names_of named.now) operator) seqs.now) }
 {
     for code in seqs {
         append_thread(out, named, code, operator)?;
@@ -167,7 +171,8 @@ fn append_mains(
     seqs: &[SeqCode],
     operator: usize,
 ) -> Result<(), OutOfMemory>
-    ensures { OnOk result (out.new.items ≡ out.old.items ++ flat_map (main_text (names_of named.now) seqs.now operator) seqs.now) }
+    ensures { OnOk result (out.new.items ≡ out.old.items ++
+        flat_map (main_text (names_of named.now) seqs.now operator) seqs.now) }
 {
     for code in seqs {
         append_main(out, named, seqs, code, operator)?;

@@ -1,5 +1,5 @@
 //! Places by the number that they name.
-ghost use Rattle.std.specs.Prelude.{◌≡◌, ℕ, ◌<◌, length, map, nat_eq, replicate, IfOk, OnOk, []};
+ghost use Rattle.std.specs.Prelude.{◌≡◌, ℕ, ◌<◌, map, nat_eq, replicate, IfOk, OnOk, []};
 ghost use Rattle.std.specs.List.{filter};
 ghost use Rattle.mark_table.specs.Rows.{added, row};
 

@@ -1,5 +1,5 @@
 //! Copies of vertices.
-ghost use Rattle.std.specs.Prelude.{◌≡◌, [], IfOk, map};
+ghost use Rattle.std.specs.Prelude.{◌≡◌, IfOk, map};
 ghost use Rattle.algo_tree.specs.View.{kind_view, view};
 ghost use Rattle.multi_period.specs.Periods.{run as runs};
 ghost use Rattle.multi_period.specs.Seen.{AreKept, ArePorts, label_seen, of_seen, relabelled as labelled, with_inner};

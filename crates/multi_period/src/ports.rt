@@ -1,6 +1,5 @@
 //! Sources by their numbers.
-ghost use Rattle.std.specs.Prelude.{◌≡◌, ◌≤◌, ◌<◌, ◌+◌, ◌^◌, suc, IfOk, map};
-ghost use Rattle.level_meaning.specs.Level.{numbers_below};
+ghost use Rattle.std.specs.Prelude.{◌≡◌, ◌<◌, ◌+◌, ◌^◌, IfOk};
 ghost use Rattle.multi_period.specs.Periods.{inputs_from as inputs, outputs_of as outputs, firsts as first_outputs};
 ghost use Rattle.multi_period.specs.Seen.{ArePorts, label_seen};
 

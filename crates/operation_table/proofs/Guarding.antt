@@ -1,18 +1,17 @@
 -- Putting cases under guards keeps the operations of a tree without repetitions: a guard is a condition.
 use Rattle.std.proofs.Common.{◌≡◌, ℕ, suc, ℤ, List, [], ◌∷◌, ◌++◌, length, map, append-nil, slice_index_or, refl, sym, ap, ap₂, ◌∙◌}
-use Rattle.std.proofs.lemmas.List.{append_assoc, map-append}
+use Rattle.std.proofs.lemmas.List.{map-append}
 use Rattle.level_meaning.specs.declared.source.Guard.{Guard}
-use Rattle.level_meaning.specs.declared.part.Part.TheVariants.{Numbered, Port}
+use Rattle.level_meaning.specs.declared.part.Part.TheVariants.{Numbered}
 use Rattle.level_meaning.specs.Level.{Path}
 use Rattle.algo_tree.specs.Tree.{Label, Kind, sensor, actuator, constant, delay, function, explode, implode, merge, graph, switch, repeat, Vertex, vertex, Vertices, no_vertices, and_vertex}
-use Rattle.algo_tree.specs.Code.{count_of, join}
-use Rattle.algo_tree.specs.Typed.{label_of}
+use Rattle.algo_tree.specs.Code.{count_of}
 use Rattle.algo_tree.specs.Valid.{IsTree}
 use Rattle.algo_tree.specs.Well.{IsKindWell, IsWell, AllWell}
 use Rattle.pass_laws.specs.NoRepeat.{IsNoRepeat, HasNoRepeat, AllNoRepeat}
 use Rattle.conditioning_laws.specs.Guarded.{shift_guard, own_guards, guard_for, merges, guarded_by, guarded, guarded_all, guarded_cases, guard}
 use Rattle.inlining_laws.specs.Flat.{runs}
-use Rattle.operation_table.specs.Table.{Condition, Row, row, port, merge_rows, rows_by, condition_of, inside, conditions_of, unit_rows, graph_rows, case_rows, copy_rows, table}
+use Rattle.operation_table.specs.Table.{Condition, Row, row, port, merge_rows, rows_by, condition_of, inside, graph_rows, case_rows, copy_rows, table}
 use Rattle.operation_table.proofs.Rows.{vertex_rows, rows-join}
 
 abbrev pub conditions : List Guard → List Condition

@@ -1,5 +1,5 @@
 -- The flat list of a tree of graphs and operations has the operations of the tree.
-use Rattle.std.proofs.Common.{◌≡◌, ℕ, suc, ◌+◌, List, [], ◌∷◌, ◌++◌, map, append-nil, slice_index_or, refl, sym, ap, ap₂, ◌∙◌}
+use Rattle.std.proofs.Common.{◌≡◌, ℕ, suc, ◌+◌, List, [], ◌∷◌, ◌++◌, map, refl, sym, ap, ap₂, ◌∙◌}
 use Rattle.std.proofs.lemmas.List.{append_assoc, map-append}
 use Rattle.level_meaning.specs.declared.source.Source.{Source}
 use Rattle.level_meaning.specs.declared.source.Guard.{Guard}
@@ -7,13 +7,12 @@ use Rattle.level_meaning.specs.declared.part.Part.TheVariants.{Numbered}
 use Rattle.level_meaning.specs.Level.{Vector, Path}
 use Rattle.algo_tree.specs.Tree.{Label, Kind, sensor, actuator, constant, delay, function, explode, implode, merge, graph, switch, repeat, Vertex, vertex, Vertices, no_vertices, and_vertex}
 use Rattle.algo_tree.specs.Counted.{operations as count}
-use Rattle.algo_tree.specs.Typed.{label_of}
 use Rattle.algo_tree.specs.Valid.{IsTree}
 use Rattle.algo_tree.specs.Well.{IsKindWell, IsWell, AllWell}
 use Rattle.inlining_laws.specs.Flat.{Operation, Task, runs, gets, sets}
 use Rattle.inlining_laws.specs.Inlined.{wire, wirings, wire_guard, operation_of, stage_input, stages, inlined_by, inlined, inlined_all, operations}
 use Rattle.inlining_laws.specs.Plain.{IsKindPlain, IsPlain, AllPlain}
-use Rattle.operation_table.specs.Table.{Condition, Row, stage_row, delay_rows, rows_by, condition_of, inside, conditions_of, unit_rows, graph_rows, case_rows, copy_rows, table}
+use Rattle.operation_table.specs.Table.{Row, stage_row, delay_rows, rows_by, condition_of, inside, graph_rows, case_rows, copy_rows, table}
 use Rattle.operation_table.proofs.Rows.{vertex_rows}
 use Rattle.operation_table.proofs.Guarding.{conditions}
 

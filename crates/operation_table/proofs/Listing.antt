@@ -1,5 +1,5 @@
 -- The flat graph of a flat list has its operations.
-use Rattle.std.proofs.Common.{◌≡◌, ℕ, zero, suc, ◌+◌, List, [], ◌∷◌, ◌++◌, length, map, get_or, append-nil, length-append, refl, sym, ap, ap₂, ◌∙◌, arith, add-zero}
+use Rattle.std.proofs.Common.{◌≡◌, ℕ, suc, ◌+◌, List, [], ◌∷◌, ◌++◌, length, map, get_or, length-append, refl, sym, ap, ap₂, ◌∙◌, add-zero}
 use Rattle.std.proofs.lemmas.List.{append_assoc}
 use Rattle.body_lang.specs.Expr.{Expr}
 use Rattle.level_meaning.specs.declared.source.Guard.{Guard}
@@ -13,13 +13,12 @@ use Rattle.conditioning_laws.specs.Guarded.{guard}
 use Rattle.conditioning_laws.proofs.Trees.{tree-guard}
 use Rattle.inlining_laws.specs.Flat.{Operation, Task, runs, gets, sets}
 use Rattle.inlining_laws.specs.Inlined.{operations}
-use Rattle.flat_laws.specs.FlatOf.{flat_guard, flat_kind, body_of, vertex_of, vertices_from, bodies_of, graph_of, flat_of}
+use Rattle.flat_laws.specs.FlatOf.{flat_guard, flat_kind, body_of, vertex_of, vertices_from, bodies_of, flat_of}
 use Rattle.flat_laws.specs.Names.{name_of}
 use Rattle.flat_laws.specs.Stands.{task_of}
 use Rattle.flat_laws.proofs.Flattened.{flattened-plain}
-use Rattle.operation_paths.specs.Texts.{path_text}
-use Rattle.operation_table.specs.Table.{Condition, Row, row, condition_of, table}
-use Rattle.operation_table.specs.Listed.{guard_condition, vertex_row, listed, HasOperations}
+use Rattle.operation_table.specs.Table.{condition_of}
+use Rattle.operation_table.specs.Listed.{guard_condition, vertex_row, HasOperations}
 use Rattle.operation_table.proofs.Unrolling.{table-unroll}
 use Rattle.operation_table.proofs.Guarding.{conditions, table-guard}
 use Rattle.operation_table.proofs.Inlining.{operation_row, IsFlatKind, IsFlatTask, AllFlat, table-inlined, all-flat}

@@ -1,8 +1,8 @@
 -- The rows of several vertices, one after another.
-use Rattle.std.proofs.Common.{◌≡◌, List, [], ◌∷◌, ◌++◌, map, refl, sym, ap, ◌∙◌}
+use Rattle.std.proofs.Common.{◌≡◌, List, [], ◌∷◌, ◌++◌, refl, sym, ap, ◌∙◌}
 use Rattle.std.proofs.lemmas.List.{append_assoc}
 use Rattle.level_meaning.specs.Level.{Path}
-use Rattle.algo_tree.specs.Tree.{Vertex, vertex, Vertices, no_vertices, and_vertex}
+use Rattle.algo_tree.specs.Tree.{Vertex, Vertices, no_vertices, and_vertex}
 use Rattle.algo_tree.specs.Code.{join}
 use Rattle.algo_tree.specs.Typed.{label_of}
 use Rattle.algo_tree.specs.View.{vertices_of}

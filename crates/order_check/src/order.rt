@@ -45,7 +45,9 @@ fn are_values_right(program: &Program, order: &[u32], flat: &Flat, media: usize)
 
 /// The whole test, over this many operators and these media.
 fn passes(program: &Program, order: &[u32], flat: &Flat, operators: usize, media: &[Medium]) -> bool
-    ensures { result ≡ is_order program.now flat.now.vertices (flat_map (sequences_of media.now) (range_with_len 0 operators)) (length media.now) order.now }
+    ensures { result ≡ is_order program.now flat.now.vertices
+        (flat_map (sequences_of media.now) (range_with_len 0 operators)) (length media.now)
+        order.now }
 {
     are_sequences(program.seqs.as_slice(), operators, media)
         && are_followed(program, order)

@@ -4,7 +4,7 @@ ghost use Rattle.std.specs.List.{flat_map, range_with_len};
 ghost use Rattle.archi_graph.specs.Archi.{stands_at};
 ghost use Rattle.archi_graph.specs.Sequences.{communicators, sequences_of};
 ghost use Rattle.program_walks.specs.Walks.{passed};
-ghost use Rattle.order_check.specs.Sequenced.{are_sequences, is_of, is_sequence, same_medium};
+ghost use Rattle.order_check.specs.Sequenced.{are_sequences, is_sequence, same_medium};
 
 use archi_graph::Medium;
 use executive_program::SeqCode;

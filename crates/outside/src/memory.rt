@@ -1,6 +1,6 @@
 //! Shelves and sinks in memory, and a gate that does nothing.
 
-ghost use Rattle.std.specs.Prelude.{◌≡◌, ◌≤◌, ◌<◌, ◌-◌, [], length, min, take, replicate, option_map, MatchOption, IfOk, IfSome, IsErr, OnErr, IsTrue, is_ok, if◌then◌else◌, not};
+ghost use Rattle.std.specs.Prelude.{◌≡◌, ◌≤◌, ◌<◌, ◌-◌, [], length, min, take, replicate, option_map, MatchOption, IfOk, IfSome, IsErr, OnErr, is_ok, if◌then◌else◌, not};
 ghost use Rattle.outside.specs.Bytes.{named};
 ghost use Rattle.outside.specs.Faults.{Rose};
 ghost use Rattle.outside.specs.Shelf.{Stays, OthersStay, Took};
@@ -78,12 +78,15 @@ impl Shelf for ShelfMem {
     fn piece(&mut self, file: File, name: &str, at: u64, into: &mut [u8]) -> Result<usize, Failed>
         ensures stays { Stays (memory_held self.old) (memory_held self.new) }
         ensures others { OthersStay file (memory_held self.old) (memory_held self.new) }
-        ensures failed { OnErr result (Rose ((memory_held self.old).faults file name.now) ((memory_held self.new).faults file name.now)) }
+        ensures failed { OnErr result (Rose ((memory_held self.old).faults file name.now)
+            ((memory_held self.new).faults file name.now)) }
         ensures fits { IfOk result (λ n. n ≤ length into.old) }
-        ensures took { IfOk result (λ n. IfSome ((memory_held self.old).told name.now) (λ bytes. Took bytes at n into.new)) }
+        ensures took { IfOk result (λ n. IfSome ((memory_held self.old).told name.now)
+            (λ bytes. Took bytes at n into.new)) }
 
         // It fails exactly where nothing is read, and counts each call.
-        ensures count { MatchOption (read_next self.old name.now) (IsErr result) (λ bytes. result ≡ Ok (min (length into.old) (length bytes - at))) }
+        ensures count { MatchOption (read_next self.old name.now) (IsErr result) (λ bytes. result ≡
+            Ok (min (length into.old) (length bytes - at))) }
         ensures after { self.new ≡ (if is_ok result then after_read self.old else after_fault self.old file) }
     {
         let call = self.calls;
@@ -167,7 +170,14 @@ impl SinkMem {
         failing: Vec<u64>,
     ) -> Result<SinkMem, OutOfMemory>
         requires { 1 ≤ most }
-        ensures { IfOk result (λ s. s ≡ record { bytes = []; room = room; failing = failing.items; most = most; faults = 0; calls = 0 }) }
+        ensures { IfOk result (λ s. s ≡ record {
+          bytes = [];
+          room = room;
+          failing = failing.items;
+          most = most;
+          faults = 0;
+          calls = 0;
+        }) }
     {
         let bytes = Vec::with_capacity(alloc, room)?;
         Ok(SinkMem {
@@ -217,7 +227,8 @@ impl Sink for SinkMem {
 
         // It fails exactly where no room is left or the call is to fail, and takes what fits.
         ensures fails { is_ok result ≡ not (put_fails self.old) }
-        ensures count { IfOk result (λ n. (n ≡ put_takes self.old bytes.now) × (self.new ≡ after_put self.old bytes.now n)) }
+        ensures count { IfOk result (λ n. (n ≡ put_takes self.old bytes.now) ×
+            (self.new ≡ after_put self.old bytes.now n)) }
         ensures err { OnErr result (self.new ≡ after_fault self.old) }
     {
         let call = self.calls;
@@ -241,7 +252,6 @@ pub struct SinkSure;
 
 impl Sink for SinkSure {
     ghost use Rattle.std.specs.Prelude.{None};
-    ghost use Rattle.outside.specs.Sink.{Sunk};
 
     ghost sunk = { λ _. record { told = None; faults = 0 } };
 

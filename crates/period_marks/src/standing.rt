@@ -1,5 +1,5 @@
 //! Where marks may stand.
-ghost use Rattle.std.specs.Prelude.{◌≡◌, ◌&&◌, map, slice_get};
+ghost use Rattle.std.specs.Prelude.{◌≡◌, ◌&&◌, slice_get};
 ghost use Rattle.algo_defs.specs.declared.fault.AlgoCause.TheVariants.{BadEvery};
 ghost use Rattle.algo_rules.specs.Links.{fault, is_main as names_main, links_of, may_be_inner as inner};
 ghost use Rattle.algo_rules.specs.Placed.{Checks};

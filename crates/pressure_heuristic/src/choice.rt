@@ -58,7 +58,8 @@ fn next_of(choice: Choice) -> Option<Next>
 /// The candidate of greatest least pressure, the first of those that have it.
 fn choose(draft: &Draft, durations: &Durations, tails: &[u64]) -> Option<Choice>
     requires guide { IsGuide draft.now durations.now tails.now }
-    ensures { IsGreatestChoice (task_of draft.now) (acts_of draft.now.decisions) (candidates (task_of draft.now) (acts_of draft.now.decisions)) result }
+    ensures { IsGreatestChoice (task_of draft.now) (acts_of draft.now.decisions)
+        (candidates (task_of draft.now) (acts_of draft.now.decisions)) result }
 {
     let ready = draft.ready();
     let mut best = None;
@@ -107,7 +108,9 @@ fn pressure_of(stand: Option<Stand>) -> u64
 fn least_stand(draft: &Draft, durations: &Durations, tails: &[u64], op: u32) -> Option<Stand>
     requires guide { IsGuide draft.now durations.now tails.now }
     requires candidate { IsTrue (is_candidate (task_of draft.now) (acts_of draft.now.decisions) op) }
-    ensures { IsLeastStand (task_of draft.now) (acts_of draft.now.decisions) op (filter (may_stand (task_of draft.now) (acts_of draft.now.decisions) op) (operators (task_of draft.now))) result }
+    ensures { IsLeastStand (task_of draft.now) (acts_of draft.now.decisions) op
+        (filter (may_stand (task_of draft.now) (acts_of draft.now.decisions) op)
+        (operators (task_of draft.now))) result }
 {
     let mut best = None;
     let mut operator = durations.operators();

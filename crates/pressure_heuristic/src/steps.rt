@@ -1,5 +1,5 @@
 //! Adequation: the pressure run from its first decision to its last.
-ghost use Rattle.std.specs.Prelude.{◌≡◌, ◌≤◌, [], IfOk, IsTrue, length};
+ghost use Rattle.std.specs.Prelude.{◌≡◌, [], IfOk, IsTrue, length};
 ghost use Rattle.durations.specs.Fitting.{IsOf};
 ghost use Rattle.durations.specs.Table.{entry_in};
 ghost use Rattle.schedule.specs.Tight.{is_tight};

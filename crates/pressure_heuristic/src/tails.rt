@@ -1,7 +1,7 @@
 //! The longest times from the ends of operations on.
 ghost use Rattle.std.specs.Prelude.{◌≡◌, ℕ, ◌+◌, ◌*◌, ◌<◌, ◌≤◌, IfOk, length, map, slice_index_or, ◌∷◌, [], IsTrue};
 ghost use Rattle.flat_graph.specs.Order.{depends_on, get_half, is_acyclic};
-ghost use Rattle.pressure_heuristic.specs.Tails.{least_in, raised, so_far, tails_in};
+ghost use Rattle.pressure_heuristic.specs.Tails.{raised, so_far, tails_in};
 
 use durations::Durations;
 use flat_graph::{Guard, Kind, Source, Vertex};
@@ -25,7 +25,9 @@ pub(crate) fn all_tails(
     requires acyclic { IsTrue (is_acyclic vertices.now) }
     ensures size { IfOk result (λ tails. length tails.items ≡ length vertices.now) }
     ensures low { IfOk result (λ tails. (v : ℕ) → slice_index_or tails.items v 0 ≤ 2048000000000) }
-    ensures tails { IfOk result (λ tails. (v : ℕ) → v < length vertices.now → slice_index_or tails.items v 0 ≡ tails_in vertices.now durations.now (length vertices.now) v) }
+    ensures tails { IfOk result (λ tails. (v : ℕ) → v < length vertices.now →
+        slice_index_or tails.items v 0 ≡ tails_in vertices.now durations.now (length vertices.now)
+        v) }
 {
     let operations = vertices.len();
     let mut dates = zeros(alloc, operations)?;
@@ -91,7 +93,9 @@ fn all_rounds(
     requires rows { length durations.now.rows ≡ length vertices.now }
     ensures size { IfOk result (λ tails. length tails.items ≡ length vertices.now) }
     ensures low { IfOk result (λ tails. (v : ℕ) → slice_index_or tails.items v 0 ≤ 2048000000000) }
-    ensures tails { IfOk result (λ tails. (v : ℕ) → v < length vertices.now → slice_index_or tails.items v 0 ≡ tails_in vertices.now durations.now (length vertices.now) v) }
+    ensures tails { IfOk result (λ tails. (v : ℕ) → v < length vertices.now →
+        slice_index_or tails.items v 0 ≡ tails_in vertices.now durations.now (length vertices.now)
+        v) }
 {
     let operations = vertices.len();
     let mut tails = zeros(alloc, operations)?;
@@ -133,7 +137,9 @@ fn one_round(
     requires low { (v : ℕ) → slice_index_or before.now v 0 ≤ 1000000000 * round }
     ensures size { IfOk result (λ next. length next.items ≡ length vertices.now) }
     ensures low { IfOk result (λ next. (v : ℕ) → slice_index_or next.items v 0 ≤ 1000000000 * (round + 1)) }
-    ensures next { IfOk result (λ next. (v : ℕ) → v < length vertices.now → slice_index_or next.items v 0 ≡ so_far vertices.now durations.now (λ s. slice_index_or before.now s 0) (length vertices.now) v) }
+    ensures next { IfOk result (λ next. (v : ℕ) → v < length vertices.now →
+        slice_index_or next.items v 0 ≡ so_far vertices.now durations.now
+        (λ s. slice_index_or before.now s 0) (length vertices.now) v) }
 {
     let mut next = zeros(alloc, vertices.len())?;
     raise_all(next.as_mut_slice(), vertices, durations, before, round);
@@ -155,7 +161,9 @@ fn raise_all(
     requires zero { (v : ℕ) → slice_index_or dates.old v 0 ≡ 0 }
     ensures size { length dates.new ≡ length vertices.now }
     ensures low { (v : ℕ) → slice_index_or dates.new v 0 ≤ 1000000000 * (round + 1) }
-    ensures next { (v : ℕ) → v < length vertices.now → slice_index_or dates.new v 0 ≡ so_far vertices.now durations.now (λ s. slice_index_or before.now s 0) (length vertices.now) v }
+    ensures next { (v : ℕ) → v < length vertices.now →
+        slice_index_or dates.new v 0 ≡ so_far vertices.now durations.now
+        (λ s. slice_index_or before.now s 0) (length vertices.now) v }
 {
     for op in 0..vertices.len() {
         let date = durations.least(op as u32) + before[op];
@@ -166,7 +174,9 @@ fn raise_all(
 /// Raises the dates of the operations on which this one depends.
 fn raise(dates: &mut [u64], vertex: &Vertex, date: u64)
     ensures size { length dates.new ≡ length dates.old }
-    ensures raised { (v : ℕ) → v < length dates.old → slice_index_or dates.new v 0 ≡ raised (depends_on vertex.now) v date (slice_index_or dates.old v 0) }
+    ensures raised { (v : ℕ) → v < length dates.old →
+        slice_index_or dates.new v 0 ≡ raised (depends_on vertex.now) v date
+        (slice_index_or dates.old v 0) }
 {
     raise_guards(dates, vertex.guards.as_slice(), date);
     raise_sources(dates, vertex.ins.as_slice(), date);
@@ -175,7 +185,9 @@ fn raise(dates: &mut [u64], vertex: &Vertex, date: u64)
 
 fn raise_guards(dates: &mut [u64], guards: &[Guard], date: u64)
     ensures size { length dates.new ≡ length dates.old }
-    ensures raised { (v : ℕ) → v < length dates.old → slice_index_or dates.new v 0 ≡ raised (map (λ g. g.source.vertex) guards.now) v date (slice_index_or dates.old v 0) }
+    ensures raised { (v : ℕ) → v < length dates.old →
+        slice_index_or dates.new v 0 ≡ raised (map (λ g. g.source.vertex) guards.now) v date
+        (slice_index_or dates.old v 0) }
 {
     for guard in guards {
         raise_one(dates, guard.source.vertex, date);
@@ -184,7 +196,9 @@ fn raise_guards(dates: &mut [u64], guards: &[Guard], date: u64)
 
 fn raise_sources(dates: &mut [u64], sources: &[Source], date: u64)
     ensures size { length dates.new ≡ length dates.old }
-    ensures raised { (v : ℕ) → v < length dates.old → slice_index_or dates.new v 0 ≡ raised (map (λ s. s.vertex) sources.now) v date (slice_index_or dates.old v 0) }
+    ensures raised { (v : ℕ) → v < length dates.old →
+        slice_index_or dates.new v 0 ≡ raised (map (λ s. s.vertex) sources.now) v date
+        (slice_index_or dates.old v 0) }
 {
     for source in sources {
         raise_one(dates, source.vertex, date);
@@ -193,7 +207,9 @@ fn raise_sources(dates: &mut [u64], sources: &[Source], date: u64)
 
 fn raise_half(dates: &mut [u64], kind: &Kind, twin: Option<u32>, date: u64)
     ensures size { length dates.new ≡ length dates.old }
-    ensures raised { (v : ℕ) → v < length dates.old → slice_index_or dates.new v 0 ≡ raised (get_half kind.now twin) v date (slice_index_or dates.old v 0) }
+    ensures raised { (v : ℕ) → v < length dates.old →
+        slice_index_or dates.new v 0 ≡ raised (get_half kind.now twin) v date
+        (slice_index_or dates.old v 0) }
 {
     if let Kind::Set = kind {
         if let Some(twin) = twin {
@@ -204,7 +220,8 @@ fn raise_half(dates: &mut [u64], kind: &Kind, twin: Option<u32>, date: u64)
 
 fn raise_one(dates: &mut [u64], op: u32, date: u64)
     ensures size { length dates.new ≡ length dates.old }
-    ensures raised { (v : ℕ) → v < length dates.old → slice_index_or dates.new v 0 ≡ raised (op ∷ []) v date (slice_index_or dates.old v 0) }
+    ensures raised { (v : ℕ) → v < length dates.old →
+        slice_index_or dates.new v 0 ≡ raised (op ∷ []) v date (slice_index_or dates.old v 0) }
 {
     let op = op as usize;
     if op < dates.len() {

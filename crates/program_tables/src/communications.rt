@@ -1,5 +1,5 @@
 //! The communications of each sequence, and the communicators of each medium.
-ghost use Rattle.std.specs.Prelude.{◌≡◌, ℕ, ◌<◌, ◌++◌, length, slice_get, slice_index, IfOk, OnOk};
+ghost use Rattle.std.specs.Prelude.{◌≡◌, ℕ, ◌<◌, length, slice_get, slice_index, IfOk};
 ghost use Rattle.executive_program.specs.Instructions.{communications, number_or, turn};
 ghost use Rattle.executive_program.specs.Places.{communication_at};
 ghost use Rattle.mark_table.specs.Rows.{row};

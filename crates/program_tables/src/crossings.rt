@@ -1,6 +1,5 @@
 //! The transfers of each medium.
 ghost use Rattle.std.specs.Prelude.{◌≡◌, ℕ, ◌<◌, length, slice_get, IfOk};
-ghost use Rattle.executive_program.specs.Instructions.{turn};
 ghost use Rattle.executive_program.specs.Places.{buffer_in, is_receive, is_send};
 ghost use Rattle.mark_table.specs.Rows.{row};
 ghost use Rattle.program_tables.specs.Communications.{communicators_of, places_of};

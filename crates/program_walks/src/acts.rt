@@ -64,7 +64,8 @@ fn is_act_at(list: &[Instr], at: usize, act: Act, pair: usize) -> bool
 }
 
 fn no_other_in(list: &[Instr], sequence: usize, act: Act, pair: usize, stand: Stand) -> bool
-    ensures { result ≡ all_at (λ b y. implies (is_act act pair y) (nat_eq sequence stand.sequence && nat_eq b stand.at)) 0 list.now }
+    ensures { result ≡ all_at (λ b y. implies (is_act act pair y)
+        (nat_eq sequence stand.sequence && nat_eq b stand.at)) 0 list.now }
 {
     for (place, instr) in list.iter().enumerate() {
         let here = sequence == stand.sequence && place == stand.at;
@@ -76,7 +77,8 @@ fn no_other_in(list: &[Instr], sequence: usize, act: Act, pair: usize, stand: St
 }
 
 fn no_other(program: &Program, act: Act, pair: usize, stand: Stand) -> bool
-    ensures { result ≡ every program.now (λ t b y. implies (is_act act pair y) (nat_eq t stand.sequence && nat_eq b stand.at)) }
+    ensures { result ≡ every program.now (λ t b y. implies (is_act act pair y)
+        (nat_eq t stand.sequence && nat_eq b stand.at)) }
 {
     for (sequence, code) in program.seqs.as_slice().iter().enumerate() {
         if !no_other_in(code.turn.as_slice(), sequence, act, pair, stand) {

@@ -1,8 +1,8 @@
 //! What an instruction is, and what it reads and writes.
-ghost use Rattle.std.specs.Prelude.{◌≡◌, nat_eq, Some};
+ghost use Rattle.std.specs.Prelude.{◌≡◌, nat_eq};
 ghost use Rattle.std.specs.List.{list_any, count_by};
 ghost use Rattle.executive_program.specs.Instructions.{is_communication, reads, writes};
-ghost use Rattle.executive_program.specs.Places.{calls, is_receive, is_send, signals_empty, signals_full, takes_empty, takes_full};
+ghost use Rattle.executive_program.specs.Places.{calls, signals_empty, signals_full, takes_empty, takes_full};
 
 use executive_program::Instr;
 

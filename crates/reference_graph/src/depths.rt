@@ -1,5 +1,5 @@
 //! The depth of each vertex, or the first that reaches itself.
-ghost use Rattle.std.specs.Prelude.{◌≡◌, ◌<◌, ◌≤◌, length, IfOk};
+ghost use Rattle.std.specs.Prelude.{◌<◌, ◌≤◌, length, IfOk};
 ghost use Rattle.reference_graph.specs.Answer.{AreDepths, AreInside};
 
 use crate::ranks::without_return;

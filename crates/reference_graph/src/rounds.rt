@@ -1,6 +1,6 @@
 //! Depths as they are defined, references followed once more in each round. It is exact for any links,
 //! and slow.
-ghost use Rattle.std.specs.Prelude.{◌≡◌, ◌+◌, ◌<◌, ◌≤◌, ℕ, length, map, slice_index, IfOk};
+ghost use Rattle.std.specs.Prelude.{◌≡◌, ◌<◌, ◌≤◌, ℕ, length, map, slice_index, IfOk};
 ghost use Rattle.reference_graph.specs.Links.{depths, numbers};
 ghost use Rattle.reference_graph.specs.Answer.{AreInside};
 ghost use Rattle.reference_graph.specs.Settled.{depth_by};

@@ -1,20 +1,20 @@
 -- The computed routes are the least ones: they are chosen from all routes of this many hops.
-use Rattle.std.proofs.Common.{◌≡◌, ℕ, zero, suc, ◌+◌, ◌-◌, ◌*◌, ◌<◌, ◌≤◌, Bool, true, false, cond, ◌||◌, ◌==◌, List, [], ◌∷◌, ◌++◌, map, length, Option, Some, None, refl, sym, ap, subst, arith, ◌∙◌, ◌⊎◌, inl, inr, length-append}
-use Rattle.std.specs.Prelude.{Contains, IsSomeAnd, IsTrue, slice_get, slice_index_or, nat_eq}
+use Rattle.std.proofs.Common.{◌≡◌, ℕ, zero, suc, ◌+◌, ◌-◌, ◌*◌, ◌<◌, ◌≤◌, Bool, true, false, cond, ◌||◌, ◌==◌, List, [], ◌∷◌, ◌++◌, map, length, Some, refl, sym, ap, subst, arith, ◌∙◌, ◌⊎◌, inl, inr, length-append}
+use Rattle.std.specs.Prelude.{Contains, slice_get, slice_index_or, nat_eq}
 use Rattle.std.specs.List.{flat_map, list_any, range_with_len}
 use Rattle.std.proofs.lemmas.Bool.{eqb-true, eq-eqb}
 use Rattle.std.proofs.lemmas.List.{get_or_append_left, get_or-append_right}
 use Rattle.std.proofs.lemmas.List.FromFn.{get_or-map-range_with_len, length-map-range_with_len}
 use Rattle.archi_graph.specs.declared.medium.Medium.{Medium}
 use Rattle.archi_graph.specs.declared.medium.Hop.{Hop}
-use Rattle.archi_graph.specs.Archi.{Architecture, is_archi, stands_at}
+use Rattle.archi_graph.specs.Archi.{Architecture, stands_at}
 use Rattle.archi_graph.specs.Routes.{IsHop, IsRoute}
 use Rattle.route_table.specs.Least.{is_less, IsLeastRoute}
-use Rattle.route_table.specs.Table.{RouteTable, IsTableOf, level_in, route_in}
+use Rattle.route_table.specs.Table.{level_in, route_in}
 use Rattle.route_table.proofs.Joined.{all_joined, facts, route_on}
 use Rattle.route_table.proofs.Order.{less_not, less_self, less_turned, longer_is_not_less, not_less_is_no_shorter}
 use Rattle.route_table.proofs.Picks.{some_and, some_with, stands_of}
-use Rattle.route_laws.specs.Routes.{hops_over, hops_from, stay, routes_within, lesser, least_among, or_no_hop, least_route, routes_from, table_of, RoutesAreLeast}
+use Rattle.route_laws.specs.Routes.{hops_over, hops_from, stay, routes_within, lesser, least_among, or_no_hop, least_route, table_of, RoutesAreLeast}
 
 -- an element of a list
 abbrev IsIn : {A : Type 0} → List A → A → Type 0

@@ -56,7 +56,8 @@ fn add_routes_from(
     requires so_far { IsKnownWithin media.now routes.old hops }
     ensures grows { OnOk result (Grows routes.old routes.new) }
     ensures keeps { OnOk result (IsKnownWithin media.now routes.new hops) }
-    ensures further { OnOk result ((to : ℕ) → to < routes.old.operators → Covers media.now routes.new (hops + 1) from to) }
+    ensures further { OnOk result ((to : ℕ) → to < routes.old.operators →
+        Covers media.now routes.new (hops + 1) from to) }
 {
     for to in 0..routes.operators() {
         add_route(alloc, hops, media, from, to, routes)?;

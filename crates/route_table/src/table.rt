@@ -50,7 +50,8 @@ impl Routes {
     /// A table of this many operators in which only the routes from operators to themselves are there.
     pub(crate) fn new(alloc: Global, operators: u32) -> Result<Routes, OutOfMemory>
         requires { operators ≤ 16 }
-        ensures { IfOk result (λ t. (t.operators ≡ operators) × (length t.routes ≡ operators * operators) × ((from to : ℕ) → route_in t from to ≡ [])) }
+        ensures { IfOk result (λ t. (t.operators ≡ operators) ×
+            (length t.routes ≡ operators * operators) × ((from to : ℕ) → route_in t from to ≡ [])) }
     {
         Ok(Routes {
             operators,
@@ -81,7 +82,8 @@ impl Routes {
         ensures operators { self.new.operators ≡ self.old.operators }
         ensures size { length self.new.routes ≡ length self.old.routes }
         ensures put { route_in self.new from to ≡ route }
-        ensures others { (o d : ℕ) → o < self.old.operators → d < self.old.operators → ((o ≢ from) ⊎ (d ≢ to)) → route_in self.new o d ≡ route_in self.old o d }
+        ensures others { (o d : ℕ) → o < self.old.operators → d < self.old.operators →
+            ((o ≢ from) ⊎ (d ≢ to)) → route_in self.new o d ≡ route_in self.old o d }
     {
         let place = place(self.operators, from, to);
         self.routes[place] = route;

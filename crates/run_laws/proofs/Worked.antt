@@ -1,5 +1,5 @@
 -- Windows of worked runs.
-use Rattle.std.proofs.Common.{◌≡◌, ℕ, ◌+◌, ◌*◌, refl, [], ◌∷◌, map, sum}
+use Rattle.std.proofs.Common.{◌≡◌, ◌+◌, ◌*◌, refl, [], ◌∷◌, map, sum}
 use Rattle.run_laws.specs.Windows.{starts, reactions_from}
 
 two_windows : starts 300 ≡ 0 ∷ 256 ∷ []

@@ -3,7 +3,6 @@ ghost use Rattle.std.specs.Prelude.{◌≡◌, ◌<◌, ◌≤◌, ◌+◌, ◌/
 ghost use Rattle.std.specs.List.{list_all, range_with_len};
 ghost use Rattle.durations.specs.Table.{entry_in};
 ghost use Rattle.schedule.specs.Acts.{acts_of};
-ghost use Rattle.schedule.specs.Lines.{IsSetting};
 ghost use Rattle.schedule.specs.Valid.{is_valid};
 ghost use Rattle.schedule.specs.Windows.{are_fed_from};
 
@@ -44,7 +43,8 @@ pub fn is_valid(flat: &Flat, archi: &Archi, durations: &Durations, schedule: &Sc
 /// Whether each act reads what is held, and brings what is not there.
 fn are_fed(vertices: &[Vertex], decisions: &[Decision]) -> bool
     requires { length vertices.now ≤ 2048 }
-    ensures { result ≡ list_all (are_fed_from vertices.now (acts_of decisions.now)) (range_with_len 0 ((length vertices.now + 15) / 16)) }
+    ensures { result ≡ list_all (are_fed_from vertices.now (acts_of decisions.now))
+        (range_with_len 0 ((length vertices.now + 15) / 16)) }
 {
     let windows = (vertices.len() as u32 + 15) / 16;
     (0..windows).all(|window| are_fed_from(vertices, decisions, window))

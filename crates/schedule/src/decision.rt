@@ -1,6 +1,6 @@
 //! Decisions of a schedule.
-ghost use Rattle.std.specs.Prelude.{◌≡◌, ◌++◌, ◌∷◌, [], map};
-ghost use Rattle.schedule.specs.Acts.{acts_of, carry, latest, length_of, run};
+ghost use Rattle.std.specs.Prelude.{◌≡◌, map};
+ghost use Rattle.schedule.specs.Acts.{acts_of, carry, latest, length_of};
 
 use flat_graph::Source;
 use syn_base::Items;

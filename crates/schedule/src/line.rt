@@ -1,12 +1,12 @@
 //! The acts of each operator and of each medium, one after another.
-ghost use Rattle.std.specs.Prelude.{◌≡◌, ℕ, ◌<◌, ◌≤◌, ◌==◌, ◌&&◌, ◌+◌, ◌++◌, ◌∷◌, List, None, Some, IsTrue, length, map, slice_get, slice_index_or, slice_set, nat_eq, nat_le, is_some};
-ghost use Rattle.std.specs.List.{list_all, list_any, range_with_len};
-ghost use Rattle.flat_graph.specs.Graph.{len_of, with_vertex};
+ghost use Rattle.std.specs.Prelude.{◌≡◌, ℕ, ◌<◌, ◌≤◌, ◌==◌, ◌&&◌, ◌+◌, ◌++◌, ◌∷◌, List, None, Some, IsTrue, length, map, slice_index_or, slice_set, is_some};
+ghost use Rattle.std.specs.List.{list_all, range_with_len};
+ghost use Rattle.flat_graph.specs.Graph.{len_of};
 ghost use Rattle.flat_graph.specs.Valid.{names};
 ghost use Rattle.archi_graph.specs.Archi.{stands_at};
 ghost use Rattle.schedule.specs.Acts.{Act, acts_of, carry, run};
 ghost use Rattle.schedule.specs.Valid.{is_carried, lasts};
-ghost use Rattle.schedule.specs.Lines.{IsSetting, IsStart, HasPlaces, are_in_line, are_all_placed, follows, lines_after, may_carry, may_run, runs_in_time};
+ghost use Rattle.schedule.specs.Lines.{IsSetting, IsStart, HasPlaces, are_in_line, are_all_placed, follows, may_carry, may_run, runs_in_time};
 
 use crate::decision::{Decision, Transfer};
 use crate::setting::Setting;
@@ -52,7 +52,9 @@ impl Lines {
         requires setting { IsSetting setting.now }
         requires sizes { HasPlaces self.old }
         ensures sizes { HasPlaces self.new }
-        ensures follows { (rest : List Act) → are_in_line setting.now self.old (map carry decision.now.transfers ++ run decision.now ∷ rest) ≡ (result && are_in_line setting.now self.new rest) }
+        ensures follows { (rest : List Act) → are_in_line setting.now self.old
+            (map carry decision.now.transfers ++ run decision.now ∷ rest) ≡
+            (result && are_in_line setting.now self.new rest) }
     {
         if !self.carry_all(setting, decision.transfers.as_slice()) {
             return false;
@@ -68,7 +70,8 @@ impl Lines {
         requires setting { IsSetting setting.now }
         requires sizes { HasPlaces self.old }
         ensures sizes { HasPlaces self.new }
-        ensures follows { (rest : List Act) → are_in_line setting.now self.old (map carry transfers.now ++ rest) ≡ (result && are_in_line setting.now self.new rest) }
+        ensures follows { (rest : List Act) → are_in_line setting.now self.old
+            (map carry transfers.now ++ rest) ≡ (result && are_in_line setting.now self.new rest) }
     {
         for transfer in transfers {
             if !self.may_carry(setting, *transfer) {
@@ -81,14 +84,24 @@ impl Lines {
 
     fn carry(&mut self, transfer: Transfer)
         requires { transfer.medium < length self.old.ends }
-        ensures { self.new ≡ record { places = self.old.places; busy = self.old.busy; ends = slice_set self.old.ends transfer.medium transfer.end } }
+        ensures { self.new ≡ record {
+          places = self.old.places;
+          busy = self.old.busy;
+          ends = slice_set self.old.ends transfer.medium transfer.end;
+        } }
     {
         self.ends[transfer.medium as usize] = transfer.end;
     }
 
     fn run(&mut self, decision: &Decision)
         requires { (decision.now.op < length self.old.places) × (decision.now.operator < length self.old.busy) }
-        ensures { self.new ≡ record { places = slice_set self.old.places decision.now.op (Some decision.now.operator); busy = slice_set self.old.busy decision.now.operator decision.now.end; ends = self.old.ends } }
+        ensures { self.new ≡ record {
+          places = slice_set self.old.places decision.now.op
+              (Some decision.now.operator);
+          busy = slice_set self.old.busy decision.now.operator
+              decision.now.end;
+          ends = self.old.ends;
+        } }
     {
         self.places[decision.op as usize] = Some(decision.operator);
         self.busy[decision.operator as usize] = decision.end;

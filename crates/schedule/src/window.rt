@@ -1,5 +1,5 @@
 //! Copies of values on operators: whether each act reads what is held when it starts.
-ghost use Rattle.std.specs.Prelude.{◌≡◌, ℕ, ◌<◌, ◌≤◌, ◌+◌, ◌&&◌, ◌++◌, ◌∷◌, List, None, Some, IsTrue, true, length, map, slice_get, slice_index_or};
+ghost use Rattle.std.specs.Prelude.{◌≡◌, ℕ, ◌<◌, ◌+◌, ◌&&◌, ◌++◌, ◌∷◌, List, None, Some, IsTrue, true, length, map, slice_index_or};
 ghost use Rattle.std.specs.List.{list_all};
 ghost use Rattle.flat_graph.specs.declared.vertex.Vertex.{Vertex};
 ghost use Rattle.schedule.specs.Acts.{Act, acts_of, carry, copy, outputs_from, run, sources_of};
@@ -44,7 +44,9 @@ impl Window {
     fn take(&mut self, vertices: &[Vertex], decision: &Decision) -> bool
         requires { length self.old.held ≡ 16384 }
         ensures size { length self.new.held ≡ 16384 }
-        ensures fed { (rest : List Act) → are_fed vertices.now self.old (map carry decision.now.transfers ++ run decision.now ∷ rest) ≡ (result && are_fed vertices.now self.new rest) }
+        ensures fed { (rest : List Act) → are_fed vertices.now self.old
+            (map carry decision.now.transfers ++ run decision.now ∷ rest) ≡
+            (result && are_fed vertices.now self.new rest) }
     {
         if !self.carry_all(decision.transfers.as_slice()) {
             return false;
@@ -55,7 +57,9 @@ impl Window {
     fn carry_all(&mut self, transfers: &[Transfer]) -> bool
         requires { length self.old.held ≡ 16384 }
         ensures size { length self.new.held ≡ 16384 }
-        ensures fed { (vertices : List Vertex) (rest : List Act) → are_fed vertices self.old (map carry transfers.now ++ rest) ≡ (result && are_fed vertices self.new rest) }
+        ensures fed { (vertices : List Vertex) (rest : List Act) →
+            are_fed vertices self.old (map carry transfers.now ++ rest) ≡
+            (result && are_fed vertices self.new rest) }
     {
         for transfer in transfers {
             if !self.carry(*transfer) {
@@ -68,8 +72,13 @@ impl Window {
     fn carry(&mut self, transfer: Transfer) -> bool
         requires { length self.old.held ≡ 16384 }
         ensures size { length self.new.held ≡ 16384 }
-        ensures fed { result ≡ (is_new self.old (copy transfer.to transfer.source) && (is_in_time self.old transfer.start (copy transfer.from transfer.source) && true)) }
-        ensures noted { IsTrue result → self.new ≡ record { first = self.old.first; held = noted self.old.first self.old.held transfer.end (copy transfer.to transfer.source) } }
+        ensures fed { result ≡ (is_new self.old (copy transfer.to transfer.source) &&
+            (is_in_time self.old transfer.start (copy transfer.from transfer.source) && true)) }
+        ensures noted { IsTrue result → self.new ≡ record {
+          first = self.old.first;
+          held = noted self.old.first self.old.held transfer.end
+              (copy transfer.to transfer.source);
+        } }
     {
         if !self.is_new(transfer.to, transfer.source) {
             return false;
@@ -84,7 +93,8 @@ impl Window {
     fn run(&mut self, vertices: &[Vertex], decision: &Decision) -> bool
         requires { length self.old.held ≡ 16384 }
         ensures size { length self.new.held ≡ 16384 }
-        ensures fed { (rest : List Act) → are_fed vertices.now self.old (run decision.now ∷ rest) ≡ (result && are_fed vertices.now self.new rest) }
+        ensures fed { (rest : List Act) → are_fed vertices.now self.old (run decision.now ∷ rest) ≡
+            (result && are_fed vertices.now self.new rest) }
     {
         let op = decision.op as usize;
         if op >= vertices.len() {
@@ -101,7 +111,8 @@ impl Window {
     #[tactic(auto, using(crate::proofs::Starts::reads_by_parts))]
     fn reads(&self, decision: &Decision, vertex: &Vertex) -> bool
         requires { length self.now.held ≡ 16384 }
-        ensures { result ≡ list_all (is_in_time self.now decision.now.start) (map (copy decision.now.operator) (sources_of (Some vertex.now))) }
+        ensures { result ≡ list_all (is_in_time self.now decision.now.start)
+            (map (copy decision.now.operator) (sources_of (Some vertex.now))) }
     {
         self.reads_guards(decision, vertex.guards.as_slice())
             && self.reads_inputs(decision, vertex.ins.as_slice())
@@ -109,14 +120,16 @@ impl Window {
 
     fn reads_guards(&self, decision: &Decision, guards: &[Guard]) -> bool
         requires { length self.now.held ≡ 16384 }
-        ensures { result ≡ list_all (λ g. is_in_time self.now decision.now.start (copy decision.now.operator g.source)) guards.now }
+        ensures { result ≡ list_all (λ g. is_in_time self.now decision.now.start
+            (copy decision.now.operator g.source)) guards.now }
     {
         guards.iter().all(|guard| self.is_in_time(decision.start, decision.operator, guard.source))
     }
 
     fn reads_inputs(&self, decision: &Decision, sources: &[Source]) -> bool
         requires { length self.now.held ≡ 16384 }
-        ensures { result ≡ list_all (λ x. is_in_time self.now decision.now.start (copy decision.now.operator x)) sources.now }
+        ensures { result ≡ list_all (λ x. is_in_time self.now decision.now.start
+            (copy decision.now.operator x)) sources.now }
     {
         sources.iter().all(|source| self.is_in_time(decision.start, decision.operator, *source))
     }
@@ -124,7 +137,11 @@ impl Window {
     fn note_outputs(&mut self, decision: &Decision, outs: &[u32])
         requires { length self.old.held ≡ 16384 }
         ensures size { length self.new.held ≡ 16384 }
-        ensures noted { self.new ≡ record { first = self.old.first; held = noted_all self.old.first self.old.held decision.now.end (map (copy decision.now.operator) (outputs_from decision.now.op 0 outs.now)) } }
+        ensures noted { self.new ≡ record {
+          first = self.old.first;
+          held = noted_all self.old.first self.old.held decision.now.end
+              (map (copy decision.now.operator) (outputs_from decision.now.op 0 outs.now));
+        } }
     {
         for (port, _out) in outs.iter().enumerate() {
             if port < 64 {
@@ -141,7 +158,10 @@ impl Window {
     fn note(&mut self, date: u64, operator: u32, source: Source)
         requires { length self.old.held ≡ 16384 }
         ensures size { length self.new.held ≡ 16384 }
-        ensures noted { self.new ≡ record { first = self.old.first; held = noted self.old.first self.old.held date (copy operator source) } }
+        ensures noted { self.new ≡ record {
+          first = self.old.first;
+          held = noted self.old.first self.old.held date (copy operator source);
+        } }
     {
         if self.covers(operator, source) {
             let place = self.place(operator, source);

@@ -40,7 +40,14 @@ impl Desk {
         inputs: u32,
         delay: Option<u32>,
     ) -> Result<Desk, OutOfMemory>
-        ensures { IfOk result (λ d. lens_of_desk d ≡ record { reads = reads.now; gives = gives.now; guards = guards; inputs = inputs; delay = delay }) }
+        ensures { IfOk result (λ d. lens_of_desk d ≡
+            record {
+              reads = reads.now;
+              gives = gives.now;
+              guards = guards;
+              inputs = inputs;
+              delay = delay;
+            }) }
     {
         Ok(Desk {
             read: Ins::new(alloc, reads)?,
@@ -69,8 +76,10 @@ impl Desk {
     /// Reads the vectors of the operation's sources from the registers.
     pub fn read(&mut self, registers: &Registers)
         requires { self.old.inputs + self.old.guards ≡ length self.old.read }
-        ensures conditions { drop self.old.inputs self.new.read ≡ take self.old.guards (loaded_in self.old registers.now.values) }
-        ensures inputs { take self.old.inputs self.new.read ≡ drop self.old.guards (loaded_in self.old registers.now.values) }
+        ensures conditions { drop self.old.inputs self.new.read ≡
+            take self.old.guards (loaded_in self.old registers.now.values) }
+        ensures inputs { take self.old.inputs self.new.read ≡
+            drop self.old.guards (loaded_in self.old registers.now.values) }
         ensures lens { map length self.new.read ≡ map length self.old.read }
         ensures rest { self.new ≡ record self.old { read = self.new.read } }
     {

@@ -60,8 +60,10 @@ impl<'a> Job<'a> {
         opening: Items<Items<i64>>,
     ) -> Result<Job<'a>, LimitFault>
         requires { FitTogether archi.now (job_of program.now flat.now archi.now rows.now opening) }
-        ensures job { IfOk result (λ job. (job ≡ job_of program.now flat.now archi.now rows.now opening) × (limit_of job ≡ None)) }
-        ensures limit { IfErr result (λ fault. limit_of (job_of program.now flat.now archi.now rows.now opening) ≡ Some fault) }
+        ensures job { IfOk result (λ job. (job ≡ job_of program.now flat.now archi.now rows.now
+            opening) × (limit_of job ≡ None)) }
+        ensures limit { IfErr result (λ fault. limit_of
+            (job_of program.now flat.now archi.now rows.now opening) ≡ Some fault) }
     {
         rows.are_cut();
         match limit_fault(program, flat, rows.count()) {

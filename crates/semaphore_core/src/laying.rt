@@ -1,5 +1,5 @@
 //! A desk for each operation, when a state is opened.
-ghost use Rattle.std.specs.Prelude.{◌≡◌, ◌+◌, ◌^◌, ◌<◌, ◌++◌, ◌≤◌, cond, take, map, length, slice_get, Some, IfOk, OnOk, IsTrue};
+ghost use Rattle.std.specs.Prelude.{◌≡◌, ◌+◌, ◌^◌, ◌<◌, ◌++◌, ◌≤◌, cond, map, length, slice_get, Some, IfOk, OnOk, IsTrue};
 ghost use Rattle.flat_graph.specs.Meaning.{delay_number};
 ghost use Rattle.semaphore_core.specs.Operation.{delay_by};
 ghost use Rattle.flat_graph.specs.Valid.{is_flat};

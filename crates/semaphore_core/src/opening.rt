@@ -1,6 +1,5 @@
 //! What a state holds when it is opened: zeros, the opening cells, and room for registers.
-ghost use Rattle.std.specs.Prelude.{◌≡◌, ◌+◌, ◌*◌, ◌<◌, ◌≤◌, ◌++◌, ◌∷◌, [], length, map, max, replicate, pos, take, IfOk, OnOk, slice_index_or, cond, false};
-ghost use Rattle.std.specs.List.{range_with_len};
+ghost use Rattle.std.specs.Prelude.{◌≡◌, ◌+◌, ◌*◌, ◌<◌, ◌++◌, map, replicate, IfOk, OnOk, slice_index_or, cond, false};
 ghost use Rattle.level_meaning.specs.Level.{zeros};
 ghost use Rattle.flat_graph.specs.Graph.{len_of as source_len, lens_of};
 ghost use Rattle.flat_graph.specs.Meaning.{initial_cell, initial_cells};
@@ -154,7 +153,8 @@ fn push_lens_if(
     mine: bool,
     lens: &mut Vec<u32>,
 ) -> Result<(), OutOfMemory>
-    ensures { OnOk result (lens.new.items ≡ lens.old.items ++ map (λ l. cond mine l 0) (lens_of flat.now.vertices sources.now)) }
+    ensures { OnOk result (lens.new.items ≡ lens.old.items ++
+        map (λ l. cond mine l 0) (lens_of flat.now.vertices sources.now)) }
 {
     if mine {
         push_lens(flat, sources, lens)
@@ -165,7 +165,8 @@ fn push_lens_if(
 
 /// The length of the row of an operation, where it is an actuator: 0 where its rows are not laid out.
 fn push_row_len(flat: &Flat, x: &Vertex, mine: bool, lens: &mut Vec<u32>) -> Result<(), OutOfMemory>
-    ensures { OnOk result (lens.new.items ≡ lens.old.items ++ map (λ l. cond mine l 0) (actuator_len flat.now x.now x.now.kind)) }
+    ensures { OnOk result (lens.new.items ≡ lens.old.items ++
+        map (λ l. cond mine l 0) (actuator_len flat.now x.now x.now.kind)) }
 {
     match &x.kind {
         Kind::Actuator(_) => push_lens_if(flat, x.ins.as_slice(), mine, lens),

@@ -1,5 +1,5 @@
 //! What operations keep and take: the delays' cells and the actuators' rows.
-ghost use Rattle.std.specs.Prelude.{◌≡◌, ℕ, true, ◌+◌, ◌<◌, ◌≤◌, ◌++◌, length, map, take, drop, slice_get, slice_index_or, slice_set, Some, None, [], IfSome, IfOk, false, replicate};
+ghost use Rattle.std.specs.Prelude.{◌≡◌, ℕ, true, ◌<◌, length, map, slice_get, slice_index_or, Some, None, [], IfOk, false, replicate};
 ghost use Rattle.level_meaning.specs.Level.{zeros};
 ghost use Rattle.semaphore_core.specs.AtOpening.{lens_for};
 ghost use Rattle.level_meaning.specs.Level.{vector_at};
@@ -34,8 +34,14 @@ fn fire_on(desk: &mut Desk, flat: &Flat, vertex: u32, cells: &mut Vec<Vec<i64>>,
     requires gives { map length desk.old.outs ≡ out_lens flat.now vertex }
     requires cell { HasCell (map (λ c. c.items) cells.old.items) desk.old.delay (cell_len flat.now vertex) }
     requires seen { length seen.now ≡ seen_len flat.now vertex }
-    ensures outs { desk.new ≡ record desk.old { outs = fired_at flat.now vertex (cell_at (map (λ c. c.items) cells.old.items) desk.old.delay) seen.now desk.old.read } }
-    ensures cells { map (λ c. c.items) cells.new.items ≡ with_cell (map (λ c. c.items) cells.old.items) desk.old.delay (kept_at flat.now vertex (cell_at (map (λ c. c.items) cells.old.items) desk.old.delay) desk.old.read) }
+    ensures outs { desk.new ≡ record desk.old {
+      outs = fired_at flat.now vertex
+          (cell_at (map (λ c. c.items) cells.old.items) desk.old.delay) seen.now desk.old.read;
+    } }
+    ensures cells { map (λ c. c.items) cells.new.items ≡
+        with_cell (map (λ c. c.items) cells.old.items) desk.old.delay
+        (kept_at flat.now vertex (cell_at (map (λ c. c.items) cells.old.items) desk.old.delay)
+        desk.old.read) }
 {
     match desk.delay() {
         None => desk.fire(flat, vertex, &mut [], seen),
@@ -63,7 +69,10 @@ pub fn put_row(rows: &mut ActRows, reaction: usize, actuator: usize, vector: &[i
 fn take_row(rows: &mut ActRows, vertex: &Vertex, reaction: usize, desk: &Desk)
     requires reaction { reaction < length rows.old.reactions }
     requires actuator { TakesRow vertex.now rows.old.lens desk.now.read }
-    ensures { rows.new ≡ record rows.old { reactions = rows_by vertex.now.kind reaction (vector_at desk.now.read 0) rows.old.reactions } }
+    ensures { rows.new ≡ record rows.old {
+      reactions = rows_by vertex.now.kind reaction
+          (vector_at desk.now.read 0) rows.old.reactions;
+    } }
 {
     match &vertex.kind {
         Kind::Actuator(actuator) => put_row(rows, reaction, *actuator as usize, desk.input(0)),
@@ -85,14 +94,40 @@ fn operate(
     requires valid { is_flat job.now.graph ≡ true }
     requires there { slice_get job.now.graph.vertices vertex ≡ Some x.now }
     requires desk { IsDesk job.now.graph vertex x.now (lens_of_desk desk.old) }
-    requires cell { HasCell (map (λ c. c.items) cells.old.items) (delay_of job.now.graph vertex x.now) (cell_len job.now.graph vertex) }
-    requires sensor { (i : ℕ) → x.now.kind ≡ Sensor i → (i < length job.now.lens) × (slice_index_or job.now.lens i 0 ≡ seen_len job.now.graph vertex) }
-    requires actuator { (a : ℕ) → x.now.kind ≡ Actuator a → (a < length rows.old.lens) × (slice_index_or rows.old.lens a 0 ≡ slice_index_or (lens_of job.now.graph.vertices x.now.ins) 0 0) }
+    requires cell { HasCell (map (λ c. c.items) cells.old.items)
+        (delay_of job.now.graph vertex x.now) (cell_len job.now.graph vertex) }
+    requires sensor { (i : ℕ) → x.now.kind ≡ Sensor i →
+        (i < length job.now.lens) × (slice_index_or job.now.lens i 0 ≡
+        seen_len job.now.graph vertex) }
+    requires actuator { (a : ℕ) → x.now.kind ≡ Actuator a →
+        (a < length rows.old.lens) × (slice_index_or rows.old.lens a 0 ≡
+        slice_index_or (lens_of job.now.graph.vertices x.now.ins) 0 0) }
     requires reaction { (reaction < length job.now.sensors) × (reaction < length rows.old.reactions) }
     requires room { outputs_len job.now.graph vertex < registers.old.room }
-    ensures registers { registers.new ≡ record registers.old { values = (compute_by job.now.graph job.now.sensors vertex reaction registers.old.values (record { registers = registers.old.values; cells = map (λ c. c.items) cells.old.items; rows = rows.old.reactions }) (Some x.now)).registers } }
-    ensures cells { map (λ c. c.items) cells.new.items ≡ (compute_by job.now.graph job.now.sensors vertex reaction registers.old.values (record { registers = registers.old.values; cells = map (λ c. c.items) cells.old.items; rows = rows.old.reactions }) (Some x.now)).cells }
-    ensures rows { rows.new ≡ record rows.old { reactions = (compute_by job.now.graph job.now.sensors vertex reaction registers.old.values (record { registers = registers.old.values; cells = map (λ c. c.items) cells.old.items; rows = rows.old.reactions }) (Some x.now)).rows } }
+    ensures registers { registers.new ≡ record registers.old {
+      values = (compute_by job.now.graph job.now.sensors vertex reaction registers.old.values
+          (record {
+            registers = registers.old.values;
+            cells = map (λ c. c.items) cells.old.items;
+            rows = rows.old.reactions;
+          }) (Some x.now)).registers;
+    } }
+    ensures cells { map (λ c. c.items) cells.new.items ≡
+        (compute_by job.now.graph job.now.sensors vertex reaction registers.old.values
+        (record {
+          registers = registers.old.values;
+          cells = map (λ c. c.items) cells.old.items;
+          rows = rows.old.reactions;
+        }) (Some x.now)).cells }
+    ensures rows { rows.new ≡ record rows.old {
+      reactions =
+          (compute_by job.now.graph job.now.sensors vertex reaction registers.old.values
+          (record {
+            registers = registers.old.values;
+            cells = map (λ c. c.items) cells.old.items;
+            rows = rows.old.reactions;
+          }) (Some x.now)).rows;
+    } }
     ensures desk { lens_of_desk desk.new ≡ lens_of_desk desk.old }
 {
     desk.read(registers);
@@ -151,7 +186,8 @@ impl Operations {
     /// desks are those of all.
     pub fn for_some(alloc: Global, job: &Job, mine: &[bool]) -> Result<Operations, OutOfMemory>
         ensures cells { IfOk result (λ k. k.cells ≡ job.now.opening) }
-        ensures lens { IfOk result (λ k. k.lens ≡ lens_for job.now.graph (λ v. slice_index_or mine.now v false) 0 job.now.graph.vertices) }
+        ensures lens { IfOk result (λ k. k.lens ≡ lens_for job.now.graph
+            (λ v. slice_index_or mine.now v false) 0 job.now.graph.vertices) }
         ensures rows { IfOk result (λ k. k.rows ≡ replicate (length job.now.sensors) (map zeros k.lens)) }
         ensures ready { IfOk result (λ k. AreReady job.now k) }
         ensures laid_out { IfOk result (λ k. (v : ℕ) → slice_index_or mine.now v false ≡ true → HasRow job.now k.lens v) }

@@ -1,7 +1,7 @@
 //! What an operation reads, from the registers, and what it gives, into them.
-ghost use Rattle.std.specs.Prelude.{◌≡◌, ◌+◌, ◌*◌, ◌^◌, ◌<◌, ◌≤◌, length, map, take, drop, sum, slice_set, slice_index_or, pos};
-ghost use Rattle.level_meaning.specs.Level.{vector_at, element_at};
-ghost use Rattle.semaphore_core.specs.Operation.{vector_in, vectors_from, ReadsPorts};
+ghost use Rattle.std.specs.Prelude.{◌≡◌, ◌+◌, ◌^◌, ◌<◌, ◌≤◌, length, map, take, drop, sum, slice_set};
+ghost use Rattle.level_meaning.specs.Level.{vector_at};
+ghost use Rattle.semaphore_core.specs.Operation.{vector_in, ReadsPorts};
 
 use crate::registers::Registers;
 use body_lang::Ins;

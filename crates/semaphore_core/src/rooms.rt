@@ -1,6 +1,5 @@
 //! How many registers the micro-steps of a sequence need.
-ghost use Rattle.std.specs.Prelude.{◌≡◌, ◌+◌, ◌<◌, ◌≤◌, length, map, max, sum, take, IfOk};
-ghost use Rattle.flat_graph.specs.Fire.{out_lens};
+ghost use Rattle.std.specs.Prelude.{◌≡◌, ◌+◌, ◌<◌, max, sum, IfOk};
 ghost use Rattle.semaphore_core.specs.Held.{outputs_len, top_load, top_store, top, highest};
 ghost use Rattle.semaphore_core.specs.AtOpening.{empty_registers, all_registers};
 

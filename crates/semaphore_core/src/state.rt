@@ -1,6 +1,6 @@
 //! The state of a run, and one micro-step of it.
-ghost use Rattle.std.specs.Prelude.{◌≡◌, ℕ, ◌+◌, ◌*◌, ◌%◌, ◌^◌, ◌<◌, ◌≤◌, length, slice_index_or, slice_set, slice_get, Some, IsTrue, IfOk, cond, pos, map};
-ghost use Rattle.semaphore_core.specs.Core.{count, counted, done_in, next, reaction, step, run_from, enabled_in, is_enabled, load_by, store_by, with_element, home_of, slot_of, opening};
+ghost use Rattle.std.specs.Prelude.{◌≡◌, ℕ, ◌+◌, ◌*◌, ◌%◌, ◌^◌, ◌<◌, length, slice_index_or, slice_set, Some, IfOk};
+ghost use Rattle.semaphore_core.specs.Core.{count, counted, done_in, next, reaction, step, run_from, enabled_in, is_enabled, load_by, store_by, home_of, slot_of, opening};
 ghost use Rattle.semaphore_core.specs.Held.{AreReady, HasRow, IsOpened, FitsWord, NeedsReaction, answer, kept_of, top, top_load, top_store};
 ghost use Rattle.executive_program.specs.Instructions.{HasPlaces, depth_of};
 
@@ -156,7 +156,8 @@ impl State {
         requires rows { (v : ℕ) → HasRow job.now self.old.lens v }
         requires reaction { reaction < length job.now.sensors }
         requires counted { (seq < length self.old.core.counts) × (count self.old.core seq + 1 < 2 ^ 64) }
-        requires room { (seq < length self.old.rooms) × (top_store job.now.graph what < slice_index_or self.old.rooms seq 0) }
+        requires room { (seq < length self.old.rooms) ×
+            (top_store job.now.graph what < slice_index_or self.old.rooms seq 0) }
         ensures { self.new ≡ record self.old { core = store_by job.now self.old.core seq place what reaction } }
     {
         self.counts[seq] += 1;
@@ -180,7 +181,10 @@ impl State {
 
     /// Puts a word in a semaphore.
     fn put_semaphore(&mut self, x: u64, word: u64)
-        ensures { self.new ≡ record self.old { core = record self.old.core { semaphores = slice_set self.old.core.semaphores x word } } }
+        ensures { self.new ≡ record self.old {
+          core = record self.old.core
+              { semaphores = slice_set self.old.core.semaphores x word };
+        } }
     {
         let x = x as usize;
         if x < self.semaphores.len() {
@@ -190,7 +194,10 @@ impl State {
 
     /// Puts a word in the turn of a medium.
     fn put_turn(&mut self, medium: u32, word: u64)
-        ensures { self.new ≡ record self.old { core = record self.old.core { turns = slice_set self.old.core.turns medium word } } }
+        ensures { self.new ≡ record self.old {
+          core = record self.old.core
+              { turns = slice_set self.old.core.turns medium word };
+        } }
     {
         let medium = medium as usize;
         if medium < self.turns.len() {

@@ -1,5 +1,5 @@
 //! Words and elements that are shared among sequences.
-ghost use Rattle.std.specs.Prelude.{◌≡◌, ◌+◌, ◌-◌, ◌*◌, ◌/◌, ◌^◌, ◌<◌, ◌≤◌, length, slice_index_or, slice_set, pos, [], cond, nat_eq, nat_le};
+ghost use Rattle.std.specs.Prelude.{◌≡◌, ◌+◌, ◌-◌, ◌*◌, ◌/◌, ◌<◌, slice_index_or, slice_set, pos};
 ghost use Rattle.consistent_cuts.specs.Sites.{reaction_at};
 ghost use Rattle.semaphore_core.specs.Core.{turn_reached};
 ghost use Rattle.semaphore_core.specs.Elements.{element_in, with_element_in};

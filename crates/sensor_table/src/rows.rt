@@ -55,7 +55,8 @@ fn push_row(
     rows: &mut SensorRows,
 ) -> Result<(), SensorError>
     requires { columns ≡ suc (sum rows.old.lens) }
-    ensures { Pushes (row_of rows.old.lens (length rows.old.reactions) (fields_of fields.now)) rows.old rows.new result }
+    ensures { Pushes (row_of rows.old.lens (length rows.old.reactions) (fields_of fields.now))
+        rows.old rows.new result }
 {
     let reaction = rows.count();
     if reaction as u128 >= LimitKind::Reactions.bound() {
@@ -86,7 +87,8 @@ fn read_row(
 ) -> Result<Vec<i64>, SensorError>
     requires columns { 0 < columns }
     requires reaction { reaction < bound_of Reactions }
-    ensures { GivesList result (with_error (refused (suc reaction)) (values_in columns reaction (fields_of fields.now))) }
+    ensures { GivesList result (with_error (refused (suc reaction))
+        (values_in columns reaction (fields_of fields.now))) }
 {
     let row = reaction as u64 + 1;
     if fields.len() != columns {

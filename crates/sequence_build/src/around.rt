@@ -1,7 +1,7 @@
 //! The semaphore lines round the instructions of a loop.
-ghost use Rattle.std.specs.Prelude.{◌≡◌, ℕ, ◌<◌, ◌≤◌, ◌++◌, ◌∷◌, [], cond, map, nat_eq, OnOk, IfOk, length, replicate, slice_get, vec_len};
+ghost use Rattle.std.specs.Prelude.{◌≡◌, ℕ, ◌<◌, ◌++◌, ◌∷◌, [], cond, map, OnOk, IfOk, replicate, vec_len};
 ghost use Rattle.executive_program.specs.declared.program.Instr.TheVariants.{Pre0};
-ghost use Rattle.sequence_build.specs.Around.{Gathers, Surrounds, all_between, between, code_with, codes_with, is_at, is_then, line_of, lines_after, lines_before, list_at, loop_with, moment_of, opening_with};
+ghost use Rattle.sequence_build.specs.Around.{Gathers, Surrounds, all_between, between, code_with, codes_with, is_at, line_of, lines_after, lines_before, list_at, loop_with, moment_of, opening_with};
 
 use crate::made::number;
 use crate::pairs::Pair;
@@ -80,7 +80,9 @@ fn note_at(
     pair: u32,
 ) -> Result<(), OutOfMemory>
     ensures many { vec_len lists.new ≡ vec_len lists.old }
-    ensures noted { OnOk result ((a : ℕ) → a < vec_len lists.old → list_at lists.new.items a ≡ list_at lists.old.items a ++ cond (is_at place sequence a) (pair ∷ []) []) }
+    ensures noted { OnOk result ((a : ℕ) → a < vec_len lists.old →
+        list_at lists.new.items a ≡ list_at lists.old.items a ++
+        cond (is_at place sequence a) (pair ∷ []) []) }
 {
     if let Some(place) = place {
         if place.sequence == sequence && place.at < lists.len() {

@@ -107,7 +107,8 @@ impl Made {
 
     /// What these transfers bring.
     fn carry_all(&mut self, vertices: &[Vertex], transfers: &[Transfer]) -> Result<(), OutOfMemory>
-        ensures { OnOk result (Makes vertices.now self.old self.new (flat_map (made_by vertices.now) (map carry transfers.now))) }
+        ensures { OnOk result (Makes vertices.now self.old self.new
+            (flat_map (made_by vertices.now) (map carry transfers.now))) }
     {
         for transfer in transfers {
             self.make(vertices, transfer.to, transfer.source)?;
@@ -122,7 +123,8 @@ impl Made {
         decision: &Decision,
         outs: &[u32],
     ) -> Result<(), OutOfMemory>
-        ensures { OnOk result (Makes vertices.now self.old self.new (map (copy decision.now.operator) (outputs_from decision.now.op 0 outs.now))) }
+        ensures { OnOk result (Makes vertices.now self.old self.new
+            (map (copy decision.now.operator) (outputs_from decision.now.op 0 outs.now))) }
     {
         for (port, _out) in outs.iter().enumerate() {
             let source = Source {
@@ -144,7 +146,8 @@ impl Made {
 
     /// What a decision makes.
     fn take(&mut self, vertices: &[Vertex], decision: &Decision) -> Result<(), OutOfMemory>
-        ensures { OnOk result (Makes vertices.now self.old self.new (flat_map (made_by vertices.now) (acts_of (decision.now ∷ [])))) }
+        ensures { OnOk result (Makes vertices.now self.old self.new
+            (flat_map (made_by vertices.now) (acts_of (decision.now ∷ [])))) }
     {
         self.carry_all(vertices, decision.transfers.as_slice())?;
         self.run(vertices, decision)?;
@@ -158,8 +161,11 @@ pub fn made_of(
     vertices: &[Vertex],
     decisions: &[Decision],
 ) -> Result<Made, OutOfMemory>
-    ensures buffers { IfOk result (λ m. m.buffers.items ≡ map (buffer_of vertices.now) (flat_map (made_by vertices.now) (acts_of decisions.now))) }
-    ensures places { IfOk result (λ m. m.places.items ≡ map (place (length vertices.now)) (flat_map (made_by vertices.now) (acts_of decisions.now))) }
+    ensures buffers { IfOk result (λ m. m.buffers.items ≡
+        map (buffer_of vertices.now) (flat_map (made_by vertices.now) (acts_of decisions.now))) }
+    ensures places { IfOk result (λ m. m.places.items ≡
+        map (place (length vertices.now))
+        (flat_map (made_by vertices.now) (acts_of decisions.now))) }
 {
     let mut made = Made::new(alloc);
     for decision in decisions {

@@ -26,7 +26,8 @@ fn size_for(places: &[u32]) -> usize
 /// For each place the number, from 0, of the first of these that is this place. A place where none is has
 /// the number of how many they are, or stands beyond the table, which is as long as these need it to be.
 pub fn numbers_of(alloc: Global, places: &[u32]) -> Result<Vec<u32>, OutOfMemory>
-    ensures { IfOk result (λ t. (k : ℕ) → slice_index_or t.items k (length places.now) ≡ position_or_len (nat_eq k) places.now) }
+    ensures { IfOk result (λ t. (k : ℕ) → slice_index_or t.items k (length places.now) ≡
+        position_or_len (nat_eq k) places.now) }
 {
     let size = size_for(places);
     let table = first_numbers(alloc, size, places)?;
@@ -37,7 +38,8 @@ pub fn numbers_of(alloc: Global, places: &[u32]) -> Result<Vec<u32>, OutOfMemory
 /// many they are where none is.
 fn first_numbers(alloc: Global, size: usize, places: &[u32]) -> Result<Vec<u32>, OutOfMemory>
     ensures many { IfOk result (λ t. length t.items ≡ size) }
-    ensures each { IfOk result (λ t. (k : ℕ) → k < size → slice_index_or t.items k 0 ≡ position_or_len (nat_eq k) places.now) }
+    ensures each { IfOk result (λ t. (k : ℕ) → k < size →
+        slice_index_or t.items k 0 ≡ position_or_len (nat_eq k) places.now) }
 {
     let count = number(places.len())?;
     let mut table = table_of(alloc, size, count)?;

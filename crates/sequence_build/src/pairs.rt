@@ -1,5 +1,5 @@
 //! The pairs of semaphores: each buffer with each sequence that reads it and does not write it.
-ghost use Rattle.std.specs.Prelude.{◌≡◌, ◌++◌, ◌∷◌, map, length, OnOk, IfOk, slice_get, vec_len};
+ghost use Rattle.std.specs.Prelude.{◌≡◌, ◌++◌, map, length, OnOk, IfOk, slice_get, vec_len};
 ghost use Rattle.sequence_build_laws.specs.Guarded.{operator_in};
 ghost use Rattle.sequence_build.specs.Pairs.{deep_buffer, deepened, is_in, pairs_below, pairs_with};
 
@@ -90,7 +90,8 @@ pub fn operators_of(
     buffers: &[Buffer],
     pairs: &[Pair],
 ) -> Result<Vec<u32>, OutOfMemory>
-    ensures { IfOk result (λ operators. operators.items ≡ map (λ p. operator_in (slice_get buffers.now p.buffer)) pairs.now) }
+    ensures { IfOk result (λ operators. operators.items ≡
+        map (λ p. operator_in (slice_get buffers.now p.buffer)) pairs.now) }
 {
     let mut operators = Vec::new(alloc);
     for pair in pairs {

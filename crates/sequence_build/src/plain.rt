@@ -48,7 +48,8 @@ fn plain_codes(
     places: &[u32],
 ) -> Result<Items<SeqCode>, OutOfMemory>
     requires covered { AreCovered (length flat.now.vertices) (copies flat.now archi.now schedule.now) }
-    requires places { places.now ≡ map (place (length flat.now.vertices)) (flat_map (made_by flat.now.vertices) (acts schedule.now)) }
+    requires places { places.now ≡ map (place (length flat.now.vertices))
+        (flat_map (made_by flat.now.vertices) (acts schedule.now)) }
     ensures { IfOk result (λ codes. codes ≡ (plain_program flat.now archi.now schedule.now).seqs) }
 {
     let copies = number(places.len())?;

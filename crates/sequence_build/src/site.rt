@@ -34,7 +34,9 @@ fn push_instr(instrs: &mut Vec<Instr>, instr: Instr) -> Result<(), OutOfMemory>
 /// Adds an instruction to the loop at a place, if that is there.
 fn push_at(loops: &mut Vec<Vec<Instr>>, at: u32, instr: Instr) -> Result<(), OutOfMemory>
     ensures many { vec_len loops.new ≡ vec_len loops.old }
-    ensures adds { OnOk result ((s : ℕ) → s < vec_len loops.old → loop_at loops.new.items s ≡ loop_at loops.old.items s ++ cond (nat_eq at s) (instr ∷ []) []) }
+    ensures adds { OnOk result ((s : ℕ) → s < vec_len loops.old →
+        loop_at loops.new.items s ≡ loop_at loops.old.items s ++
+        cond (nat_eq at s) (instr ∷ []) []) }
 {
     let at = at as usize;
     if at < loops.len() {
@@ -179,7 +181,8 @@ impl<'a> Site<'a> {
         transfers: &[Transfer],
     ) -> Result<(), OutOfMemory>
         ensures many { vec_len loops.new ≡ vec_len loops.old }
-        ensures adds { OnOk result (Adds loops.old.items loops.new.items (flat_map (steps_at self.now) (map carry transfers.now))) }
+        ensures adds { OnOk result (Adds loops.old.items loops.new.items
+            (flat_map (steps_at self.now) (map carry transfers.now))) }
     {
         for transfer in transfers {
             self.carry(loops, *transfer)?;
@@ -194,7 +197,8 @@ impl<'a> Site<'a> {
         operator: u32,
         guards: &[Guard],
     ) -> Result<(), OutOfMemory>
-        ensures { OnOk result (ins.new.items ≡ ins.old.items ++ map (λ d. numbering self.now (copy operator d.source)) guards.now) }
+        ensures { OnOk result (ins.new.items ≡ ins.old.items ++
+            map (λ d. numbering self.now (copy operator d.source)) guards.now) }
     {
         for guard in guards {
             ins.push(self.buffer(operator, guard.source))?;
@@ -209,7 +213,8 @@ impl<'a> Site<'a> {
         operator: u32,
         sources: &[Source],
     ) -> Result<(), OutOfMemory>
-        ensures { OnOk result (ins.new.items ≡ ins.old.items ++ map (λ x. numbering self.now (copy operator x)) sources.now) }
+        ensures { OnOk result (ins.new.items ≡ ins.old.items ++
+            map (λ x. numbering self.now (copy operator x)) sources.now) }
     {
         for source in sources {
             ins.push(self.buffer(operator, *source))?;
@@ -235,7 +240,9 @@ impl<'a> Site<'a> {
         decision: &Decision,
         lens: &[u32],
     ) -> Result<(), OutOfMemory>
-        ensures { OnOk result (outs.new.items ≡ outs.old.items ++ map (numbering self.now) (map (copy decision.now.operator) (outputs_from decision.now.op 0 lens.now))) }
+        ensures { OnOk result (outs.new.items ≡ outs.old.items ++
+            map (numbering self.now) (map (copy decision.now.operator)
+            (outputs_from decision.now.op 0 lens.now))) }
     {
         for (port, _len) in lens.iter().enumerate() {
             let source = Source {
@@ -285,7 +292,8 @@ impl<'a> Site<'a> {
         decision: &Decision,
     ) -> Result<(), OutOfMemory>
         ensures many { vec_len loops.new ≡ vec_len loops.old }
-        ensures adds { OnOk result (Adds loops.old.items loops.new.items (flat_map (steps_at self.now) (acts_of (decision.now ∷ [])))) }
+        ensures adds { OnOk result (Adds loops.old.items loops.new.items
+            (flat_map (steps_at self.now) (acts_of (decision.now ∷ [])))) }
     {
         self.carry_all(loops, decision.transfers.as_slice())?;
         self.call(alloc, loops, decision)?;

@@ -19,7 +19,7 @@ use Rattle.executive_program.specs.declared.program.Instr.{Instr}
 use Rattle.executive_program.specs.declared.program.Instr.TheVariants.{Suc0, Suc1, Pre0, Pre1, Call, Send, Recv, Sync}
 use Rattle.executive_program.specs.declared.program.SeqCode.{SeqCode}
 use Rattle.executive_program.specs.declared.program.Program.{Program}
-use Rattle.executive_program.specs.Instructions.{is_communication, turn, turn_of, medium, medium_in, operator, communications, writes}
+use Rattle.executive_program.specs.Instructions.{is_communication, turn, turn_of, medium, medium_in, operator, communications}
 use Rattle.executive_program.specs.Instructions as core
 use Rattle.executive_program.specs.MicroSteps.{is_on, sent_in, sent_by, sent, first_of, transfers, transfers_on}
 use Rattle.executive_program.specs.Places.{places, sequence_where, Writing, writing, writer_of, written_at, communication_at, is_send, is_receive, buffer_in, transfer, carried, carried_within, source_by, sent_source}
@@ -35,7 +35,7 @@ use Rattle.sequence_build_laws.proofs.Guards as guards
 use Rattle.sequence_build_laws.proofs.Sequences.{medium_low}
 use Rattle.sequence_build_laws.proofs.Works.{output_of, made_buffer, read_buffer, read_lower}
 use Rattle.sequence_build_laws.proofs.Steps as steps
-use Rattle.sequence_build_laws.proofs.Steps.{Kind, Of, of_step, Writes, writes_of, sending, receiving, from_there, to_there, setting}
+use Rattle.sequence_build_laws.proofs.Steps.{Kind, of_step, sending, receiving, from_there, to_there}
 use Rattle.sequence_build_laws.proofs.Comms.{comm_of, onto, count_all, medium_of, operator_of, p, S}
 
 -- the place of a communication by its number

@@ -1,11 +1,11 @@
 -- What is printed is read back.
-use Rattle.std.proofs.Common.{◌≡◌, ℕ, zero, suc, ◌+◌, ◌*◌, ◌-◌, ◌^◌, ◌≤◌, ◌<◌, ℤ, pos, negsuc, neg_ℤ, List, [], ◌∷◌, Option, Some, None, Result, Ok, Err, Bool, true, false, ◌&&◌, ◌==◌, if◌then◌else◌, nat_le, refl, arith, rules, length, ap, ◌∙◌, sym, subst, ne_eqb, w64, FitsSigned}
+use Rattle.std.proofs.Common.{◌≡◌, ℕ, suc, ◌-◌, ◌^◌, ◌≤◌, ◌<◌, ℤ, pos, negsuc, List, [], ◌∷◌, Option, Some, None, Result, Ok, Err, Bool, true, false, ◌&&◌, ◌==◌, if◌then◌else◌, nat_le, refl, arith, rules, length, ap, ◌∙◌, subst, ne_eqb, w64, FitsSigned}
 use Rattle.std.specs.List.{list_all}
 use Rattle.std.specs.Fmt.{decimal, signed_decimal}
 use Rattle.std.proofs.lemmas.Fmt.{digits_decimal, digits_value-decimal, decimal_nonempty}
 use Rattle.std.proofs.lemmas.Str.Parse.{IsNumeralModel, numerals_by_fold}
 use Rattle.syn_base.specs.Name.{is_digit}
-use Rattle.syn_base.specs.Integer.{integer_of, behind_minus, signed, unless_other, from_digits, with_sign, first_other, number_after, number_of}
+use Rattle.syn_base.specs.Integer.{integer_of, behind_minus, unless_other, from_digits, with_sign, first_other, number_after, number_of}
 use Rattle.syn_base.specs.declared.integer.NumFault.{NumFault}
 use Rattle.syn_base.specs.declared.integer.NumFault.TheVariants.{TooLarge}
 use Rattle.std.proofs.lemmas.Bool.{le-leb}

@@ -26,7 +26,8 @@ fn is_output(source: Source, giver: usize, p: usize) -> bool
 
 /// Whether sources are the first outputs of a vertex, in order.
 fn are_outputs(sources: &[Source], giver: usize) -> bool
-    ensures { IsTrue result → (p : ℕ) (s : Source) → p < length sources.now → slice_index_or sources.now p s ≡ Of giver p }
+    ensures { IsTrue result → (p : ℕ) (s : Source) → p < length sources.now →
+        slice_index_or sources.now p s ≡ Of giver p }
 {
     for (p, source) in sources.iter().enumerate() {
         if !is_output(*source, giver, p) {
@@ -38,7 +39,9 @@ fn are_outputs(sources: &[Source], giver: usize) -> bool
 
 /// The vertex whose outputs, all of them and in order, the sources are.
 fn giver_of(sources: &[Source], table: &[Ins]) -> Option<usize>
-    ensures { IfSome result (λ r. (r < length table.now) × ((own : Values) → map (source_value own (given table.now)) sources.now ≡ given table.now r)) }
+    ensures { IfSome result (λ r. (r < length table.now) ×
+        ((own : Values) → map (source_value own (given table.now)) sources.now ≡
+        given table.now r)) }
 {
     let Some(Source::Of(r, _)) = sources.first() else {
         return None;
@@ -62,7 +65,9 @@ fn write_from(table: &mut [Ins], at: usize, giver: usize, es: &[Expr])
     requires count { length es.now ≡ length (slice_index_or table.old at []) }
     requires lens { AreLengths (lengths (slice_index_or table.old at [])) }
     requires ports { AllPortsBelow (length (slice_index_or table.old giver [])) (map expression es.now) }
-    ensures { table.new ≡ slice_set table.old at (function_outputs (lengths (slice_index_or table.old at [])) (map expression es.now) (slice_index_or table.old giver [])) }
+    ensures { table.new ≡ slice_set table.old at
+        (function_outputs (lengths (slice_index_or table.old at [])) (map expression es.now)
+        (slice_index_or table.old giver [])) }
 {
     if giver < at {
         let (before, rest) = table.split_at_mut(at);
@@ -88,7 +93,9 @@ pub fn run_function(
     requires count { length es.now ≡ length (slice_index_or table.old.items at []) }
     requires lens { AreLengths (lengths (slice_index_or table.old.items at [])) }
     requires ports { AllPortsBelow (length sources.now) (map expression es.now) }
-    ensures values { table.new.items ≡ slice_set table.old.items at (function_outputs (lengths (slice_index_or table.old.items at [])) (map expression es.now) (map (source_value own.now (given table.old.items)) sources.now)) }
+    ensures values { table.new.items ≡ slice_set table.old.items at
+        (function_outputs (lengths (slice_index_or table.old.items at [])) (map expression es.now)
+        (map (source_value own.now (given table.old.items)) sources.now)) }
     ensures lens { lengths ins.new ≡ lengths ins.old }
 {
     match giver_of(sources, table) {

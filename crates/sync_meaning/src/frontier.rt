@@ -1,5 +1,5 @@
 //! Fork, diffuse, iterate and join: what goes into the copies of a repetition, and what comes out.
-ghost use Rattle.std.specs.Prelude.{◌≡◌, ◌<◌, ◌≤◌, ◌*◌, length, map, replicate, slice_index, slice_index_or, slice_set, [], ◌-◌, ◌+◌};
+ghost use Rattle.std.specs.Prelude.{◌≡◌, ◌<◌, ◌*◌, length, map, replicate, slice_index, slice_index_or, slice_set, [], ◌-◌, ◌+◌};
 ghost use Rattle.level_meaning.specs.Level.{copy_input, give_value, joined};
 ghost use Rattle.algo_tree.specs.Typed.{AreLengths, AllFed, IsFed, fed_length, given_length};
 ghost use Rattle.sync_meaning.specs.Store.{lengths};
@@ -13,7 +13,8 @@ use level_meaning::{Feed, Give};
 fn fed<'a>(feed: &Feed, own: &'a Ins, table: &'a [Ins], i: usize) -> &'a [i64]
     requires copy { i < length table.now }
     requires there { 0 < fed_length (lengths own.now) feed.now }
-    requires fed { IsFed (length table.now) (lengths own.now) (slice_index_or (map lengths table.now) (i - 1) []) feed.now }
+    requires fed { IsFed (length table.now) (lengths own.now)
+        (slice_index_or (map lengths table.now) (i - 1) []) feed.now }
     ensures value { result.now ≡ copy_input own.now (given table.now (i - 1)) i feed.now }
     ensures len { length result.now ≡ fed_length (lengths own.now) feed.now }
 {
@@ -38,7 +39,8 @@ pub fn feed(into: &mut Ins, feeds: &[Feed], own: &Ins, table: &[Ins], i: usize)
     requires copy { i < length table.now }
     requires there { AreLengths (lengths into.old) }
     requires lens { lengths into.old ≡ map (fed_length (lengths own.now)) feeds.now }
-    requires fed { AllFed (length table.now) (lengths own.now) (slice_index_or (map lengths table.now) (i - 1) []) feeds.now }
+    requires fed { AllFed (length table.now) (lengths own.now)
+        (slice_index_or (map lengths table.now) (i - 1) []) feeds.now }
     ensures values { into.new ≡ map (copy_input own.now (given table.now (i - 1)) i) feeds.now }
     ensures lens { lengths into.new ≡ lengths into.old }
 {
@@ -52,7 +54,8 @@ fn write_join(outs: &mut Ins, p: usize, y: usize, table: &[Ins])
     requires place { p < length outs.old }
     requires lens { AreLengths (lengths outs.old) }
     requires there { 0 < slice_index (slice_index_or (map lengths table.now) 0 []) y }
-    requires len { length (slice_index_or outs.old p []) ≡ length table.now * slice_index (slice_index_or (map lengths table.now) 0 []) y }
+    requires len { length (slice_index_or outs.old p []) ≡ length table.now *
+        slice_index (slice_index_or (map lengths table.now) 0 []) y }
     requires same { map lengths table.now ≡ replicate (length table.now) (slice_index_or (map lengths table.now) 0 []) }
     ensures { outs.new ≡ slice_set outs.old p (joined (given table.now) y (length table.now)) }
 {
@@ -69,7 +72,8 @@ fn write_give(outs: &mut Ins, p: usize, give: &Give, table: &[Ins])
     requires copies { 0 < length table.now }
     requires place { p < length outs.old }
     requires lens { AreLengths (lengths outs.old) }
-    requires len { slice_index (lengths outs.old) p ≡ given_length (length table.now) (slice_index_or (map lengths table.now) 0 []) give.now }
+    requires len { slice_index (lengths outs.old) p ≡
+        given_length (length table.now) (slice_index_or (map lengths table.now) 0 []) give.now }
     requires same { map lengths table.now ≡ replicate (length table.now) (slice_index_or (map lengths table.now) 0 []) }
     ensures { outs.new ≡ slice_set outs.old p (give_value (given table.now) (length table.now) give.now) }
 {
@@ -83,7 +87,8 @@ fn write_give(outs: &mut Ins, p: usize, give: &Give, table: &[Ins])
 pub fn write_gives(outs: &mut Ins, gives: &[Give], table: &[Ins])
     requires copies { 0 < length table.now }
     requires there { AreLengths (lengths outs.old) }
-    requires lens { lengths outs.old ≡ map (given_length (length table.now) (slice_index_or (map lengths table.now) 0 [])) gives.now }
+    requires lens { lengths outs.old ≡ map (given_length (length table.now)
+        (slice_index_or (map lengths table.now) 0 [])) gives.now }
     requires same { map lengths table.now ≡ replicate (length table.now) (slice_index_or (map lengths table.now) 0 []) }
     ensures values { outs.new ≡ map (give_value (given table.now) (length table.now)) gives.now }
     ensures lens { lengths outs.new ≡ lengths outs.old }

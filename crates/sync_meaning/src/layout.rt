@@ -1,7 +1,5 @@
 //! The stores beside a tree, as they are before the first reaction.
-ghost use Rattle.std.specs.Prelude.{◌≡◌, ◌<◌, ◌∷◌, [], ℕ, length, map, replicate, slice_index, slice_index_or, IfOk};
-ghost use Rattle.body_lang.specs.Expr.{zeros};
-ghost use Rattle.algo_tree.specs.declared.vertex.Vertex.{out-Vertex};
+ghost use Rattle.std.specs.Prelude.{◌≡◌, ◌<◌, [], ℕ, length, map, replicate, slice_index_or, IfOk};
 ghost use Rattle.algo_tree.specs.View.{view, vertices_view};
 ghost use Rattle.algo_tree.specs.Typed.{source_length, fed_length, outs_of, label_of, IsTyped, AllTyped, IsBodyTyped};
 ghost use Rattle.algo_tree.specs.Well.{IsWell, AllWell, IsOne};
@@ -27,7 +25,8 @@ fn lengths_of(
     own: &[u32],
     level: &[Vertex],
 ) -> Result<Vec<u32>, OutOfMemory>
-    ensures { IfOk result (λ lens. lens.items ≡ map (source_length own.now (outs_of (vertices_view level.now))) sources.now) }
+    ensures { IfOk result (λ lens. lens.items ≡
+        map (source_length own.now (outs_of (vertices_view level.now))) sources.now) }
 {
     let mut lens = Vec::new(alloc);
     for source in sources {
@@ -100,7 +99,8 @@ fn turns_of(alloc: Global, vertices: &Vec<Vertex>) -> Result<Turns, OutOfMemory>
 
 /// The places of the delays of a level.
 fn delay_places(alloc: Global, vertices: &Vec<Vertex>) -> Result<Vec<usize>, OutOfMemory>
-    ensures { IfOk result (λ places. AreDelays (delay_flags (vertices_view vertices.now.items)) (length vertices.now.items) places.items) }
+    ensures { IfOk result (λ places. AreDelays (delay_flags (vertices_view vertices.now.items))
+        (length vertices.now.items) places.items) }
 {
     let mut places = Vec::new(alloc);
     for r in 0..vertices.len() {
@@ -210,7 +210,9 @@ fn copy_stores(
 ) -> Result<Vec<Store>, OutOfMemory>
     requires well { IsWell (view body.now) }
     requires typed { IsTyped lens.now (view body.now) }
-    ensures { IfOk result (λ ks. (length ks.items ≡ count) × ((i : ℕ) (k : Store) → i < count → IsFirst lens.now (view body.now) (slice_index_or ks.items i k))) }
+    ensures { IfOk result (λ ks. (length ks.items ≡ count) ×
+        ((i : ℕ) (k : Store) → i < count →
+        IsFirst lens.now (view body.now) (slice_index_or ks.items i k))) }
 {
     let mut stores = Vec::new(alloc);
     for i in 0..count {
@@ -231,7 +233,8 @@ fn copies(
     requires one { IsOne (vertices_view inner.now.items) }
     requires well { AllWell (vertices_view inner.now.items) }
     requires typed { IsBodyTyped (map (fed_length lens.now) feeds.now) (vertices_view inner.now.items) }
-    ensures { IfOk result (λ p. AreCopies (map (fed_length lens.now) feeds.now) count inner.now.items p.0.items p.1.items) }
+    ensures { IfOk result (λ p. AreCopies (map (fed_length lens.now) feeds.now) count
+        inner.now.items p.0.items p.1.items) }
 {
     let body = &inner[0];
     let fed = fed_lengths(alloc, feeds, lens)?;

@@ -43,7 +43,8 @@ fn write_output(outs: &mut Ins, p: usize, e: &Expr, ins: &Ins)
     requires place { p < length outs.old }
     requires lens { AreLengths (lengths outs.old) }
     requires ports { PortsBelow (length ins.now) (expression e.now) }
-    ensures { outs.new ≡ slice_set outs.old p (vector_of (length (slice_index_or outs.old p [])) (value_of (expression e.now) ins.now)) }
+    ensures { outs.new ≡ slice_set outs.old p
+        (vector_of (length (slice_index_or outs.old p [])) (value_of (expression e.now) ins.now)) }
 {
     let len = outs.vector(p).len() as u32;
     for j in 0..len {
@@ -83,7 +84,9 @@ pub fn write_at(outs: &mut Ins, p: usize, at: usize, part: &[i64])
     requires place { p < length outs.old }
     requires lens { AreLengths (lengths outs.old) }
     requires room { at + length part.now ≤ length (slice_index_or outs.old p []) }
-    ensures { outs.new ≡ slice_set outs.old p ((take at (slice_index_or outs.old p []) ++ part.now) ++ drop (at + length part.now) (slice_index_or outs.old p [])) }
+    ensures { outs.new ≡ slice_set outs.old p
+        ((take at (slice_index_or outs.old p []) ++ part.now) ++
+        drop (at + length part.now) (slice_index_or outs.old p [])) }
 {
     for (j, x) in part.iter().enumerate() {
         outs.set(p, at + j, *x);

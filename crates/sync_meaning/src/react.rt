@@ -154,7 +154,8 @@ fn react_copies(
     requires reaction { k < length rows.now.reactions }
     requires lens { map lengths table.old.items ≡ replicate (length stores.old.items) (label_of (view body.now)).outs }
     requires fit { CopiesAllFit (map (fed_length (lengths own.now)) feeds.now) (view body.now) stores.old.items }
-    ensures { CopiesReact (length stores.old.items) (view body.now) feeds.now (row_of rows.now k) own.now stores.old.items stores.new.items table.new.items }
+    ensures { CopiesReact (length stores.old.items) (view body.now) feeds.now (row_of rows.now k)
+        own.now stores.old.items stores.new.items table.new.items }
 {
     for i in 0..stores.len() {
         let store = &mut stores[i];
@@ -180,7 +181,8 @@ fn react_case(
     requires conditioned { 0 < length ins.now }
     requires fit { AllFit (lengths ins.now) [] (vertices_view cases.now.items) stores.old.items }
     requires lens { AllGive (lengths outs.old) (outs_of (vertices_view cases.now.items)) }
-    ensures { CaseReacts (selected_at values.now ins.now) cases.now.items (row_of rows.now k) ins.now stores.old.items stores.new.items outs.new }
+    ensures { CaseReacts (selected_at values.now ins.now) cases.now.items (row_of rows.now k)
+        ins.now stores.old.items stores.new.items outs.new }
 {
     let at = selected(values, ins.vector(0));
     run_case(&cases[at], rows, k, ins, &mut stores[at], outs);
@@ -201,7 +203,8 @@ fn run_case(
     requires reaction { k < length rows.now.reactions }
     requires fit { Fits (in_lengths (lengths own.now) [] (view vertex.now)) (view vertex.now) store.old }
     requires lens { lengths outs.old ≡ (label_of (view vertex.now)).outs }
-    ensures { NodeReacts (view vertex.now) (in_lengths (lengths own.now) [] (view vertex.now)) (row_of rows.now k) (case_look own.now) store.old store.new outs.new }
+    ensures { NodeReacts (view vertex.now) (in_lengths (lengths own.now) [] (view vertex.now))
+        (row_of rows.now k) (case_look own.now) store.old store.new outs.new }
 {
     if !do_guards_hold(vertex.guards.as_slice(), own, &[]) {
         clear(outs);
@@ -222,14 +225,18 @@ pub fn run_level(
     table: &mut Vec<Ins>,
     stores: &mut Vec<Store>,
 )
-    requires sound { AreSound rows.now.lens (lengths own.now) (map lengths table.old.items) (vertices_view vertices.now.items) }
+    requires sound { AreSound rows.now.lens (lengths own.now) (map lengths table.old.items)
+        (vertices_view vertices.now.items) }
     requires acyclic { IsAcyclic (nodes_of vertices.now.items) }
     requires distinct { HasDistinctParts (nodes_of vertices.now.items) }
     requires reaction { k < length rows.now.reactions }
     requires turns { HasTurns (nodes_of vertices.now.items) (delay_flags (vertices_view vertices.now.items)) turns.now }
     requires lens { map lengths table.old.items ≡ outs_of (vertices_view vertices.now.items) }
-    requires fit { AllFit (lengths own.now) (map lengths table.old.items) (vertices_view vertices.now.items) stores.old.items }
-    ensures { LevelReacts vertices.now.items (row_of rows.now k) own.now (outs_of (vertices_view vertices.now.items)) stores.old.items stores.new.items table.new.items }
+    requires fit { AllFit (lengths own.now) (map lengths table.old.items)
+        (vertices_view vertices.now.items) stores.old.items }
+    ensures { LevelReacts vertices.now.items (row_of rows.now k) own.now
+        (outs_of (vertices_view vertices.now.items)) stores.old.items stores.new.items
+        table.new.items }
 {
     for r in &turns.order {
         let at = *r;
@@ -250,12 +257,17 @@ fn run_node(
     store: &mut Store,
 )
     requires place { at < length table.old.items }
-    requires guards { AreGuardsTyped (source_length (lengths own.now) (map lengths table.old.items)) (label_of (view vertex.now)).guards }
-    requires sound { IsSound rows.now.lens (in_lengths (lengths own.now) (map lengths table.old.items) (view vertex.now)) (view vertex.now) }
+    requires guards { AreGuardsTyped (source_length (lengths own.now)
+        (map lengths table.old.items)) (label_of (view vertex.now)).guards }
+    requires sound { IsSound rows.now.lens (in_lengths (lengths own.now)
+        (map lengths table.old.items) (view vertex.now)) (view vertex.now) }
     requires reaction { k < length rows.now.reactions }
-    requires fit { Fits (in_lengths (lengths own.now) (map lengths table.old.items) (view vertex.now)) (view vertex.now) store.old }
+    requires fit { Fits (in_lengths (lengths own.now) (map lengths table.old.items)
+        (view vertex.now)) (view vertex.now) store.old }
     requires lens { lengths (slice_index_or table.old.items at []) ≡ (label_of (view vertex.now)).outs }
-    ensures { RunsAt (view vertex.now) (in_lengths (lengths own.now) (map lengths table.old.items) (view vertex.now)) (row_of rows.now k) (source_value own.now (given table.old.items)) store.old store.new at table.old.items table.new.items }
+    ensures { RunsAt (view vertex.now) (in_lengths (lengths own.now) (map lengths table.old.items)
+        (view vertex.now)) (row_of rows.now k) (source_value own.now (given table.old.items))
+        store.old store.new at table.old.items table.new.items }
 {
     if !do_guards_hold(vertex.guards.as_slice(), own, table) {
         clear(&mut table[at]);
@@ -286,10 +298,13 @@ fn advance_delays(
     table: &Vec<Ins>,
     stores: &mut Vec<Store>,
 )
-    requires delays { AreDelays (delay_flags (vertices_view vertices.now.items)) (length vertices.now.items) delays.now.items }
+    requires delays { AreDelays (delay_flags (vertices_view vertices.now.items))
+        (length vertices.now.items) delays.now.items }
     requires typed { AllTyped (lengths own.now) (map lengths table.now.items) (vertices_view vertices.now.items) }
-    requires fit { AllFit (lengths own.now) (map lengths table.now.items) (vertices_view vertices.now.items) stores.old.items }
-    ensures { AllAdvance (lengths own.now) (map lengths table.now.items) vertices.now.items (source_value own.now (given table.now.items)) stores.old.items stores.new.items }
+    requires fit { AllFit (lengths own.now) (map lengths table.now.items)
+        (vertices_view vertices.now.items) stores.old.items }
+    ensures { AllAdvance (lengths own.now) (map lengths table.now.items) vertices.now.items
+        (source_value own.now (given table.now.items)) stores.old.items stores.new.items }
 {
     for r in delays {
         let at = *r;
@@ -299,10 +314,13 @@ fn advance_delays(
 
 /// A delay takes the value at its input, where its guards hold.
 fn advance(vertex: &Vertex, own: &Ins, table: &[Ins], store: &mut Store)
-    requires guards { AreGuardsTyped (source_length (lengths own.now) (map lengths table.now)) (label_of (view vertex.now)).guards }
+    requires guards { AreGuardsTyped (source_length (lengths own.now) (map lengths table.now))
+        (label_of (view vertex.now)).guards }
     requires typed { IsTyped (in_lengths (lengths own.now) (map lengths table.now) (view vertex.now)) (view vertex.now) }
-    requires fit { Fits (in_lengths (lengths own.now) (map lengths table.now) (view vertex.now)) (view vertex.now) store.old }
-    ensures { Advances (view vertex.now) (in_lengths (lengths own.now) (map lengths table.now) (view vertex.now)) (source_value own.now (given table.now)) store.old store.new }
+    requires fit { Fits (in_lengths (lengths own.now) (map lengths table.now) (view vertex.now))
+        (view vertex.now) store.old }
+    ensures { Advances (view vertex.now) (in_lengths (lengths own.now) (map lengths table.now)
+        (view vertex.now)) (source_value own.now (given table.now)) store.old store.new }
 {
     let Kind::Delay(_) = &vertex.kind else {
         return;
@@ -316,8 +334,10 @@ fn advance(vertex: &Vertex, own: &Ins, table: &[Ins], store: &mut Store)
 fn take_input(kept: &mut Ins, sources: &[Source], own: &Ins, table: &[Ins])
     requires some { 0 < length sources.now }
     requires there { AreLengths (map (source_length (lengths own.now) (map lengths table.now)) sources.now) }
-    requires kept { AreOf (slice_index_or (map (source_length (lengths own.now) (map lengths table.now)) sources.now) 0 0) kept.old }
-    ensures kept { kept.new ≡ drop 1 kept.old ++ slice_index_or (map (source_value own.now (given table.now)) sources.now) 0 [] ∷ [] }
+    requires kept { AreOf (slice_index_or (map (source_length (lengths own.now)
+        (map lengths table.now)) sources.now) 0 0) kept.old }
+    ensures kept { kept.new ≡ drop 1 kept.old ++
+        slice_index_or (map (source_value own.now (given table.now)) sources.now) 0 [] ∷ [] }
     ensures lens { lengths kept.new ≡ lengths kept.old }
 {
     keep_last(kept, value_of(sources[0], own, table));

@@ -51,7 +51,8 @@ fn append_first(
     table: &[Ins],
 ) -> Result<(), OutOfMemory>
     requires { AreLengths (map (source_length (lengths own.now) (map lengths table.now)) sources.now) }
-    ensures { OnOk result (row.new.items ≡ row.old.items ++ input_value (source_value own.now (given table.now)) sources.now) }
+    ensures { OnOk result (row.new.items ≡ row.old.items ++
+        input_value (source_value own.now (given table.now)) sources.now) }
 {
     if let Some(source) = sources.first() {
         row.extend_from_slice(value_of(*source, own, table))?;
@@ -67,7 +68,9 @@ fn actuator_row(
     table: &[Ins],
 ) -> Result<Vec<i64>, OutOfMemory>
     requires { AllTyped (lengths own.now) (map lengths table.now) (vertices_view vertices.now.items) }
-    ensures { IfOk result (λ row. row.items ≡ all_joined (actuator_values (source_value own.now (given table.now)) (vertices_view vertices.now.items))) }
+    ensures { IfOk result (λ row. row.items ≡
+        all_joined (actuator_values (source_value own.now (given table.now))
+        (vertices_view vertices.now.items))) }
 {
     let mut row = Vec::new(alloc);
     for vertex in vertices {

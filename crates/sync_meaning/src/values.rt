@@ -1,6 +1,6 @@
 //! The values of sources, and the case that a value selects.
 ghost use Rattle.std.specs.Prelude.{◌≡◌, ◌<◌, ◌≤◌, [], length, map, slice_set, slice_index_or};
-ghost use Rattle.level_meaning.specs.Level.{source_value, element_at, selected, all_hold, zeros as zeros_of};
+ghost use Rattle.level_meaning.specs.Level.{source_value, element_at, selected, all_hold};
 ghost use Rattle.algo_tree.specs.Typed.{source_length, AreLengths, AreGuardsTyped};
 ghost use Rattle.sync_meaning.specs.Store.{lengths};
 ghost use Rattle.sync_meaning.specs.Run.{given};

@@ -10,7 +10,7 @@ use flat_graph::Flat;
 use grown_text::{append, append_count};
 use schedule::{Decision, Schedule, Transfer};
 use std::alloc::Global;
-use syn_base::{Name, OutOfMemory};
+use syn_base::OutOfMemory;
 
 /// Appends the chart of a schedule: for each operator `operator NAME`, and then a line `START END
 /// OPERATION` for each operation that runs on it; for each medium `medium NAME`, and then a line
@@ -59,7 +59,9 @@ fn append_operators(
     named: &Named,
     decisions: &[Decision],
 ) -> Result<(), OutOfMemory>
-    ensures { OnOk result (out.new.items ≡ out.old.items ++ text_of (operator_parts named.now.vertices.now named.now.operators.now (acts_of decisions.now) 0 named.now.operators.now)) }
+    ensures { OnOk result (out.new.items ≡ out.old.items ++
+        text_of (operator_parts named.now.vertices.now named.now.operators.now
+        (acts_of decisions.now) 0 named.now.operators.now)) }
 {
     for (operator, name) in named.operators.iter().enumerate() {
         append_head(out, b"operator", name.as_bytes())?;
@@ -74,7 +76,9 @@ fn append_media(
     media: &[Medium],
     decisions: &[Decision],
 ) -> Result<(), OutOfMemory>
-    ensures { OnOk result (out.new.items ≡ out.old.items ++ text_of (medium_parts named.now.vertices.now named.now.operators.now (acts_of decisions.now) 0 media.now)) }
+    ensures { OnOk result (out.new.items ≡ out.old.items ++
+        text_of (medium_parts named.now.vertices.now named.now.operators.now
+        (acts_of decisions.now) 0 media.now)) }
 {
     for (number, medium) in media.iter().enumerate() {
         append_head(out, b"medium", medium.name.as_bytes())?;
@@ -90,7 +94,9 @@ fn append_on(
     operator: usize,
     decisions: &[Decision],
 ) -> Result<(), OutOfMemory>
-    ensures { OnOk result (out.new.items ≡ out.old.items ++ text_of (map (act_line named.now.vertices.now named.now.operators.now) (filter (is_on operator) (acts_of decisions.now)))) }
+    ensures { OnOk result (out.new.items ≡ out.old.items ++
+        text_of (map (act_line named.now.vertices.now named.now.operators.now)
+        (filter (is_on operator) (acts_of decisions.now)))) }
 {
     for decision in decisions {
         if decision.operator as usize == operator {
@@ -107,7 +113,9 @@ fn append_over(
     medium: usize,
     decisions: &[Decision],
 ) -> Result<(), OutOfMemory>
-    ensures { OnOk result (out.new.items ≡ out.old.items ++ text_of (map (act_line named.now.vertices.now named.now.operators.now) (filter (is_over medium) (acts_of decisions.now)))) }
+    ensures { OnOk result (out.new.items ≡ out.old.items ++
+        text_of (map (act_line named.now.vertices.now named.now.operators.now)
+        (filter (is_over medium) (acts_of decisions.now)))) }
 {
     for decision in decisions {
         append_transfers(out, named, medium, decision.transfers.as_slice())?;
@@ -121,7 +129,9 @@ fn append_transfers(
     medium: usize,
     transfers: &[Transfer],
 ) -> Result<(), OutOfMemory>
-    ensures { OnOk result (out.new.items ≡ out.old.items ++ text_of (map (act_line named.now.vertices.now named.now.operators.now) (filter (is_over medium) (map carry transfers.now)))) }
+    ensures { OnOk result (out.new.items ≡ out.old.items ++
+        text_of (map (act_line named.now.vertices.now named.now.operators.now)
+        (filter (is_over medium) (map carry transfers.now)))) }
 {
     for transfer in transfers {
         if transfer.medium as usize == medium {

@@ -1,5 +1,5 @@
 //! Lines of a chart.
-ghost use Rattle.std.specs.Prelude.{◌≡◌, ◌++◌, ◌∷◌, [], OnOk, codes, slice_index_or};
+ghost use Rattle.std.specs.Prelude.{◌≡◌, ◌++◌, ◌∷◌, [], OnOk, codes};
 ghost use Rattle.std.specs.Fmt.{decimal};
 ghost use Rattle.schedule.specs.Acts.{carry, run};
 ghost use Rattle.timing_chart.specs.Chart.{act_line, line_text, operation_name, operator_name, rest_of_line};
@@ -22,7 +22,8 @@ pub fn append_operation(
     named: &Named,
     decision: &Decision,
 ) -> Result<(), OutOfMemory>
-    ensures { OnOk result (out.new.items ≡ out.old.items ++ line_text (act_line named.now.vertices.now named.now.operators.now (run decision.now))) }
+    ensures { OnOk result (out.new.items ≡ out.old.items ++
+        line_text (act_line named.now.vertices.now named.now.operators.now (run decision.now))) }
 {
     append_dates(out, decision.start, decision.end)?;
     append(out, operation_name(named.vertices, decision.op))?;
@@ -36,7 +37,8 @@ pub fn append_transfer(
     named: &Named,
     transfer: Transfer,
 ) -> Result<(), OutOfMemory>
-    ensures { OnOk result (out.new.items ≡ out.old.items ++ line_text (act_line named.now.vertices.now named.now.operators.now (carry transfer))) }
+    ensures { OnOk result (out.new.items ≡ out.old.items ++
+        line_text (act_line named.now.vertices.now named.now.operators.now (carry transfer))) }
 {
     append_dates(out, transfer.start, transfer.end)?;
     append_value(out, named.vertices, transfer)?;
@@ -45,7 +47,8 @@ pub fn append_transfer(
 
 /// Appends both dates, each before a blank.
 fn append_dates(out: &mut Vec<u8>, start: u64, end: u64) -> Result<(), OutOfMemory>
-    ensures { OnOk result (out.new.items ≡ out.old.items ++ (decimal start ++ (codes " " ++ (decimal end ++ codes " ")))) }
+    ensures { OnOk result (out.new.items ≡ out.old.items ++
+        (decimal start ++ (codes " " ++ (decimal end ++ codes " ")))) }
 {
     append_count(out, start as usize)?;
     append(out, b" ")?;
@@ -59,7 +62,9 @@ fn append_value(
     vertices: &[Vertex],
     transfer: Transfer,
 ) -> Result<(), OutOfMemory>
-    ensures { OnOk result (out.new.items ≡ out.old.items ++ (operation_name vertices.now [] transfer.source.vertex ++ (codes " " ++ decimal transfer.source.port))) }
+    ensures { OnOk result (out.new.items ≡ out.old.items ++
+        (operation_name vertices.now [] transfer.source.vertex ++
+        (codes " " ++ decimal transfer.source.port))) }
 {
     append(out, operation_name(vertices, transfer.source.vertex))?;
     append(out, b" ")?;
@@ -68,7 +73,9 @@ fn append_value(
 
 /// Appends both operators, and the end of the line.
 fn append_ends(out: &mut Vec<u8>, operators: &[Name], transfer: Transfer) -> Result<(), OutOfMemory>
-    ensures { OnOk result (out.new.items ≡ out.old.items ++ rest_of_line (operator_name [] operators.now transfer.from ∷ operator_name [] operators.now transfer.to ∷ [])) }
+    ensures { OnOk result (out.new.items ≡ out.old.items ++
+        rest_of_line (operator_name [] operators.now transfer.from ∷
+        operator_name [] operators.now transfer.to ∷ [])) }
 {
     append(out, b" ")?;
     append(out, operator_name(operators, transfer.from))?;

@@ -63,7 +63,8 @@ fn are_guards_ready(done: &[bool], guards: &[Guard]) -> bool
 
 /// The outputs of a delay ask for none of its inputs.
 fn are_asked_ready(done: &[bool], kind: &Kind, sources: &[Source]) -> bool
-    ensures { result ≡ sources_ready (λ q. slice_index_or done.now q false) (asked_by (kind_view kind.now) sources.now) }
+    ensures { result ≡ sources_ready (λ q. slice_index_or done.now q false)
+        (asked_by (kind_view kind.now) sources.now) }
 {
     match kind {
         Kind::Delay(_) => true,

@@ -1,5 +1,5 @@
 //! Lists of lengths.
-ghost use Rattle.std.specs.Prelude.{◌≡◌, ◌==◌, ◌&&◌, ◌∷◌, [], IfOk, length, map, slice_index_or, sum};
+ghost use Rattle.std.specs.Prelude.{◌≡◌, ◌==◌, ◌&&◌, ◌∷◌, [], IfOk, map, slice_index_or, sum};
 ghost use Rattle.std.specs.List.{list_all};
 ghost use Rattle.std.specs.Str.{bytes_eq};
 ghost use Rattle.algo_tree.specs.View.{vertices_view};
@@ -93,7 +93,8 @@ pub fn source_lens(
     vertices: &[Vertex],
     sources: &[Source],
 ) -> Result<Vec<u32>, OutOfMemory>
-    ensures { IfOk result (λ lens. lens.items ≡ map (source_length own.now (outs_of (vertices_view vertices.now))) sources.now) }
+    ensures { IfOk result (λ lens. lens.items ≡
+        map (source_length own.now (outs_of (vertices_view vertices.now))) sources.now) }
 {
     let mut lens = Vec::new(alloc);
     for source in sources {

@@ -71,7 +71,9 @@ fn is_small(main: &Vertex) -> bool
 }
 
 fn are_ends_in_place(vertices: &[Vertex]) -> bool
-    ensures { result ≡ (none_inside (vertices_view vertices.now) && (counts_from 0 (sensor_numbers (vertices_view vertices.now)) && counts_from 0 (actuator_numbers (vertices_view vertices.now)))) }
+    ensures { result ≡ (none_inside (vertices_view vertices.now) &&
+        (counts_from 0 (sensor_numbers (vertices_view vertices.now)) &&
+        counts_from 0 (actuator_numbers (vertices_view vertices.now)))) }
 {
     is_none_inside(vertices) && are_sensors_numbered(vertices) && are_actuators_numbered(vertices)
 }

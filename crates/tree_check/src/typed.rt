@@ -57,7 +57,9 @@ fn inner_lens(
     inner: &[Vertex],
     sources: &[Source],
 ) -> Result<Vec<u32>, OutOfMemory>
-    ensures { IfOk result (λ taken. taken.items ≡ inner_lengths (kind_view kind.now) lens.now (outs_of (vertices_view inner.now)) sources.now) }
+    ensures { IfOk result (λ taken. taken.items ≡
+        inner_lengths (kind_view kind.now) lens.now (outs_of (vertices_view inner.now))
+        sources.now) }
 {
     match kind {
         Kind::Graph(_) => source_lens(alloc, lens, inner, sources),
@@ -79,7 +81,8 @@ fn is_guarded(lens: &[u32], kind: &Kind, inner: &[Vertex], guards: &[Guard]) -> 
 }
 
 fn are_guards_typed(own: &[u32], vertices: &[Vertex], guards: &[Guard]) -> bool
-    ensures { result ≡ list_all (is_guard_typed (source_length own.now (outs_of (vertices_view vertices.now)))) guards.now }
+    ensures { result ≡ list_all (is_guard_typed
+        (source_length own.now (outs_of (vertices_view vertices.now)))) guards.now }
 {
     guards
         .iter()
@@ -101,7 +104,8 @@ fn fits(
     kind: &Kind,
     inner: &[Vertex],
 ) -> Result<bool, OutOfMemory>
-    ensures { IfOk result (λ answer. answer ≡ fits (kind_view kind.now) lens.now outs.now (outs_of (vertices_view inner.now))) }
+    ensures { IfOk result (λ answer. answer ≡
+        fits (kind_view kind.now) lens.now outs.now (outs_of (vertices_view inner.now))) }
 {
     match kind {
         Kind::Sensor(_) => Ok(lens.is_empty() && outs.len() == 1),
@@ -143,7 +147,8 @@ fn all_have(outs: &[u32], groups: &[Items<i64>]) -> bool
 }
 
 fn is_function(lens: &[u32], outs: &[u32], es: &[Expr]) -> bool
-    ensures { result ≡ ((length es.now == length outs.now) && list_all (ports_below (length lens.now)) (map expression es.now)) }
+    ensures { result ≡ ((length es.now == length outs.now) &&
+        list_all (ports_below (length lens.now)) (map expression es.now)) }
 {
     es.len() == outs.len() && are_expressions(es, lens.len())
 }
@@ -191,14 +196,17 @@ fn is_given(
     inner: &[Vertex],
     sources: &[Source],
 ) -> Result<bool, OutOfMemory>
-    ensures { IfOk result (λ answer. answer ≡ bytes_eq outs.now (map (source_length lens.now (outs_of (vertices_view inner.now))) sources.now)) }
+    ensures { IfOk result (λ answer. answer ≡
+        bytes_eq outs.now (map (source_length lens.now (outs_of (vertices_view inner.now)))
+        sources.now)) }
 {
     let given = source_lens(alloc, lens, inner, sources)?;
     Ok(outs == given.as_slice())
 }
 
 fn is_switch(lens: &[u32], outs: &[u32], names: usize, cases: &[Vertex]) -> bool
-    ensures { result ≡ ((slice_index_or lens.now 0 0 == 1) && (all_give outs.now (outs_of (vertices_view cases.now)) && (names == length outs.now))) }
+    ensures { result ≡ ((slice_index_or lens.now 0 0 == 1) &&
+        (all_give outs.now (outs_of (vertices_view cases.now)) && (names == length outs.now))) }
 {
     len_at(lens, 0) == 1 && all_give(outs, cases) && names == outs.len()
 }
@@ -222,7 +230,10 @@ fn is_repeat(
     gives: &[Give],
     inner: &[Vertex],
 ) -> bool
-    ensures { result ≡ (list_all (is_fed copies lens.now (slice_index_or (outs_of (vertices_view inner.now)) 0 [])) feeds.now && bytes_eq outs.now (map (given_length copies (slice_index_or (outs_of (vertices_view inner.now)) 0 [])) gives.now)) }
+    ensures { result ≡ (list_all (is_fed copies lens.now
+        (slice_index_or (outs_of (vertices_view inner.now)) 0 [])) feeds.now &&
+        bytes_eq outs.now (map (given_length copies
+        (slice_index_or (outs_of (vertices_view inner.now)) 0 [])) gives.now)) }
 {
     let body = body_outs(inner);
     are_fed(copies, lens, body, feeds) && are_given(copies, body, gives, outs)

@@ -2,7 +2,7 @@
 ghost use Rattle.std.specs.Prelude.{◌≡◌, ◌++◌, ◌&&◌, ◌==◌, IfOk, length, suc};
 ghost use Rattle.level_meaning.specs.Level.{same_part};
 ghost use Rattle.level_meaning.specs.declared.part.Part.TheVariants.{Named, Numbered, Port};
-ghost use Rattle.algo_tree.specs.Meaning.{node, nodes};
+ghost use Rattle.algo_tree.specs.Meaning.{nodes};
 ghost use Rattle.algo_tree.specs.View.{kind_view, view, vertices_view};
 ghost use Rattle.algo_tree.specs.Well.{fork_names, join_names};
 ghost use Rattle.tree_check.specs.Acyclic.{is_acyclic};
@@ -38,7 +38,8 @@ fn is_kind_well(
     guards: &[Guard],
     inner: &[Vertex],
 ) -> Result<bool, OutOfMemory>
-    ensures { IfOk result (λ answer. answer ≡ is_kind_well (kind_view kind.now) guards.now (nodes (vertices_view inner.now))) }
+    ensures { IfOk result (λ answer. answer ≡
+        is_kind_well (kind_view kind.now) guards.now (nodes (vertices_view inner.now))) }
 {
     match kind {
         Kind::Graph(_) => is_graph_well(alloc, guards, inner),
@@ -60,7 +61,9 @@ fn is_kind_well(
 }
 
 fn is_graph_well(alloc: Global, guards: &[Guard], inner: &[Vertex]) -> Result<bool, OutOfMemory>
-    ensures { IfOk result (λ answer. answer ≡ (are_no_guards guards.now && (is_acyclic (nodes (vertices_view inner.now)) && has_distinct_parts (nodes (vertices_view inner.now))))) }
+    ensures { IfOk result (λ answer. answer ≡
+        (are_no_guards guards.now && (is_acyclic (nodes (vertices_view inner.now)) &&
+        has_distinct_parts (nodes (vertices_view inner.now))))) }
 {
     if !are_no_guards(guards) || !is_acyclic(alloc, inner)? {
         return Ok(false);

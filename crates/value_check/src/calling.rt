@@ -144,7 +144,8 @@ fn called_at(program: &Program, operation: usize) -> usize
 }
 
 fn is_before(program: &Program, stand: Stand, twin: usize) -> bool
-    ensures { result ≡ (nat_eq stand.sequence (caller_of program.now twin) && nat_lt stand.at (called_at program.now twin)) }
+    ensures { result ≡ (nat_eq stand.sequence (caller_of program.now twin) &&
+        nat_lt stand.at (called_at program.now twin)) }
 {
     stand.sequence == caller_of(program, twin) && stand.at < called_at(program, twin)
 }
@@ -182,7 +183,8 @@ pub fn outs_of(list: &[Instr], at: usize) -> &[u32]
 }
 
 fn takes_at(program: &Program, vertices: &[Vertex], stand: Stand, x: &Vertex) -> bool
-    ensures { result ≡ takes program.now vertices.now (ins_in (slice_get (turn program.now stand.sequence) stand.at)) x.now.guards x.now.ins }
+    ensures { result ≡ takes program.now vertices.now
+        (ins_in (slice_get (turn program.now stand.sequence) stand.at)) x.now.guards x.now.ins }
 {
     takes(
         program,
@@ -193,7 +195,8 @@ fn takes_at(program: &Program, vertices: &[Vertex], stand: Stand, x: &Vertex) ->
 }
 
 fn gives_from(program: &Program, operation: usize, stand: Stand, x: &Vertex) -> bool
-    ensures { result ≡ gives program.now operation (outs_in (slice_get (turn program.now stand.sequence) stand.at)) x.now.outs }
+    ensures { result ≡ gives program.now operation
+        (outs_in (slice_get (turn program.now stand.sequence) stand.at)) x.now.outs }
 {
     gives(
         program,

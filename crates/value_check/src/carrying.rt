@@ -1,5 +1,5 @@
 //! What buffers carry: an output of an operation, over any number of transfers.
-ghost use Rattle.std.specs.Prelude.{◌≡◌, count_by, nat_eq, slice_get, take};
+ghost use Rattle.std.specs.Prelude.{◌≡◌, count_by, slice_get, take};
 ghost use Rattle.executive_program.specs.Instructions.{communications, is_communication, medium, turn};
 ghost use Rattle.executive_program.specs.MicroSteps.{sent, sent_in, transfers};
 ghost use Rattle.executive_program.specs.Places.{carried, output_at};
@@ -104,7 +104,8 @@ fn communications(program: &Program, sequence: usize, at: usize) -> usize
 }
 
 fn received_at(program: &Program, sequence: usize, at: usize) -> Origin
-    ensures { result ≡ received (sent_on program.now (medium program.now sequence) (communications program.now sequence at)) }
+    ensures { result ≡ received (sent_on program.now (medium program.now sequence)
+        (communications program.now sequence at)) }
 {
     received(sent_on(
         program,

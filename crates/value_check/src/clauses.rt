@@ -19,8 +19,11 @@ use flat_graph::Flat;
 /// set half in one sequence.
 pub fn operations_are_called(program: &Program, flat: &Flat, order: &[u32]) -> bool
     ensures test { result ≡ are_called program.now flat.now.vertices }
-    ensures sound { result ≡ true → (v : ℕ) (x : Vertex) → slice_get flat.now.vertices v ≡ Some x → IsCalled program.now order.now (places program.now) (carried program.now) flat.now v x }
-    ensures complete { ((v : ℕ) (x : Vertex) → slice_get flat.now.vertices v ≡ Some x → IsCalled program.now order.now (places program.now) (carried program.now) flat.now v x) → result ≡ true }
+    ensures sound { result ≡ true → (v : ℕ) (x : Vertex) → slice_get flat.now.vertices v ≡ Some x →
+        IsCalled program.now order.now (places program.now) (carried program.now) flat.now v x }
+    ensures complete { ((v : ℕ) (x : Vertex) → slice_get flat.now.vertices v ≡ Some x →
+        IsCalled program.now order.now (places program.now) (carried program.now) flat.now v x) →
+        result ≡ true }
 {
     are_called(program, flat.vertices())
 }
@@ -30,8 +33,10 @@ pub fn operations_are_called(program: &Program, flat: &Flat, order: &[u32]) -> b
 /// that is sent.
 pub fn transfers_are_right(program: &Program, order: &[u32], media: usize) -> bool
     ensures test { result ≡ are_transfers program.now order.now media }
-    ensures sound { result ≡ true → (m t : ℕ) → m < media → t < transfers program.now m → IsTransfer program.now order.now (places program.now) m t }
-    ensures complete { ((m t : ℕ) → m < media → t < transfers program.now m → IsTransfer program.now order.now (places program.now) m t) → result ≡ true }
+    ensures sound { result ≡ true → (m t : ℕ) → m < media → t < transfers program.now m →
+        IsTransfer program.now order.now (places program.now) m t }
+    ensures complete { ((m t : ℕ) → m < media → t < transfers program.now m →
+        IsTransfer program.now order.now (places program.now) m t) → result ≡ true }
 {
     are_transfers(program, order, media)
 }
@@ -39,8 +44,12 @@ pub fn transfers_are_right(program: &Program, order: &[u32], media: usize) -> bo
 /// Whether each received buffer carries what the sent one does, in each transfer of this many media.
 pub fn transfers_keep_sources(program: &Program, media: usize) -> bool
     ensures test { result ≡ are_kept program.now media }
-    ensures sound { result ≡ true → (m t : ℕ) → m < media → t < transfers program.now m → carried program.now (transfer program.now m t).received ≡ carried program.now (transfer program.now m t).sent }
-    ensures complete { ((m t : ℕ) → m < media → t < transfers program.now m → carried program.now (transfer program.now m t).received ≡ carried program.now (transfer program.now m t).sent) → result ≡ true }
+    ensures sound { result ≡ true → (m t : ℕ) → m < media → t < transfers program.now m →
+        carried program.now (transfer program.now m t).received ≡
+        carried program.now (transfer program.now m t).sent }
+    ensures complete { ((m t : ℕ) → m < media → t < transfers program.now m →
+        carried program.now (transfer program.now m t).received ≡
+        carried program.now (transfer program.now m t).sent) → result ≡ true }
 {
     are_kept(program, media)
 }

@@ -1,10 +1,10 @@
 //! Each transfer has its send, its receive, and the waits of the other communicators, in this order.
-ghost use Rattle.std.specs.Prelude.{◌≡◌, ◌+◌, ◌&&◌, not, nat_eq, nat_lt, slice_get};
+ghost use Rattle.std.specs.Prelude.{◌≡◌, ◌+◌, ◌&&◌, nat_eq, nat_lt, slice_get};
 ghost use Rattle.executive_program.specs.Instructions.{len_of, medium, operator, turn};
 ghost use Rattle.executive_program.specs.MicroSteps.{is_on, transfers};
 ghost use Rattle.executive_program.specs.Places.{buffer_in, communication_at, is_receive, is_send, receives_at, sends_at};
 ghost use Rattle.executive_program.specs.WellFormed.{place_in};
-ghost use Rattle.program_walks.specs.Walks.{all_at, all_below, implies};
+ghost use Rattle.program_walks.specs.Walks.{all_at, all_below};
 ghost use Rattle.value_check.specs.Transfers.{are_transfers, buffer_at, is_before_next, is_later, is_other, is_received, is_sent, stands_at, waits_at, is_receive_from, is_send_to, is_transfer, is_transfer_between, is_wait, place_of, receiver_of, sender_of, waits};
 
 use executive_program::{Instr, Program, SeqCode};
@@ -147,7 +147,8 @@ fn is_later(program: &Program, order: &[u32], number: usize, receiver: usize, st
 }
 
 fn waits_for_ends(program: &Program, ends: Ends, list: &[Instr], at: usize, holds: bool) -> bool
-    ensures { result ≡ is_wait (operator program.now ends.sender) (operator program.now ends.receiver) holds (slice_get list.now at) }
+    ensures { result ≡ is_wait (operator program.now ends.sender)
+        (operator program.now ends.receiver) holds (slice_get list.now at) }
 {
     is_wait(
         list,
@@ -166,7 +167,8 @@ fn waits_at(
     list: &[Instr],
     stand: Stand,
 ) -> bool
-    ensures { result ≡ waits_at program.now order.now number ends.sender ends.receiver stand.sequence list.now stand.at }
+    ensures { result ≡ waits_at program.now order.now number ends.sender ends.receiver
+        stand.sequence list.now stand.at }
 {
     let later = is_later(program, order, number, ends.receiver, stand);
     waits_for_ends(program, ends, list, stand.at, later)
@@ -180,7 +182,8 @@ fn waits_in(
     list: &[Instr],
     sequence: usize,
 ) -> bool
-    ensures { result ≡ waits_at program.now order.now number ends.sender ends.receiver sequence list.now (communication_at list.now number) }
+    ensures { result ≡ waits_at program.now order.now number ends.sender ends.receiver sequence
+        list.now (communication_at list.now number) }
 {
     let at = communication_at(list, number);
     waits_at(program, order, number, ends, list, Stand { sequence, at })
@@ -200,7 +203,8 @@ fn waits(
     sequence: usize,
     code: &SeqCode,
 ) -> bool
-    ensures { result ≡ waits program.now order.now crossing.medium crossing.number ends.sender ends.receiver sequence code.now }
+    ensures { result ≡ waits program.now order.now crossing.medium crossing.number ends.sender
+        ends.receiver sequence code.now }
 {
     !is_other(crossing.medium, ends, sequence, code.seq.medium)
         || waits_in(
@@ -214,7 +218,8 @@ fn waits(
 }
 
 fn all_wait(program: &Program, order: &[u32], crossing: Crossing, ends: Ends) -> bool
-    ensures { result ≡ all_at (waits program.now order.now crossing.medium crossing.number ends.sender ends.receiver) 0 program.now.seqs }
+    ensures { result ≡ all_at (waits program.now order.now crossing.medium crossing.number
+        ends.sender ends.receiver) 0 program.now.seqs }
 {
     for (sequence, code) in program.seqs.as_slice().iter().enumerate() {
         if !waits(program, order, crossing, ends, sequence, code) {
@@ -256,20 +261,23 @@ fn is_received(program: &Program, crossing: Crossing, ends: Ends) -> bool
 }
 
 fn is_got_from(program: &Program, number: usize, receiver: usize, operator: u32) -> bool
-    ensures { result ≡ is_receive_from operator (slice_get (turn program.now receiver) (stands_at program.now receiver number)) }
+    ensures { result ≡ is_receive_from operator
+        (slice_get (turn program.now receiver) (stands_at program.now receiver number)) }
 {
     let turn = turn_of(program, receiver);
     is_receive_from(turn, communication_at(turn, number), operator)
 }
 
 fn is_in_order(program: &Program, order: &[u32], number: usize, ends: Ends) -> bool
-    ensures { result ≡ nat_lt (place_of program.now order.now ends.sender number) (place_of program.now order.now ends.receiver number) }
+    ensures { result ≡ nat_lt (place_of program.now order.now ends.sender number)
+        (place_of program.now order.now ends.receiver number) }
 {
     place_of(program, order, ends.sender, number) < place_of(program, order, ends.receiver, number)
 }
 
 fn is_before(program: &Program, order: &[u32], next: Crossing, received: usize) -> bool
-    ensures { result ≡ nat_lt received (place_of program.now order.now (sender_of program.now next.medium next.number) next.number) }
+    ensures { result ≡ nat_lt received (place_of program.now order.now
+        (sender_of program.now next.medium next.number) next.number) }
 {
     received < place_of(program, order, sender_of(program, next), next.number)
 }
@@ -295,7 +303,8 @@ fn is_before_next(program: &Program, order: &[u32], crossing: Crossing, receiver
 }
 
 fn is_as_long(program: &Program, number: usize, ends: Ends) -> bool
-    ensures { result ≡ nat_eq (len_of program.now (buffer_at program.now ends.receiver number)) (len_of program.now (buffer_at program.now ends.sender number)) }
+    ensures { result ≡ nat_eq (len_of program.now (buffer_at program.now ends.receiver number))
+        (len_of program.now (buffer_at program.now ends.sender number)) }
 {
     let received = buffer_at(program, ends.receiver, number) as usize;
     let sent = buffer_at(program, ends.sender, number) as usize;
@@ -303,7 +312,8 @@ fn is_as_long(program: &Program, number: usize, ends: Ends) -> bool
 }
 
 fn is_transfer_between(program: &Program, order: &[u32], crossing: Crossing, ends: Ends) -> bool
-    ensures { result ≡ is_transfer_between program.now order.now crossing.medium crossing.number ends.sender ends.receiver }
+    ensures { result ≡ is_transfer_between program.now order.now crossing.medium crossing.number
+        ends.sender ends.receiver }
 {
     is_sent(program, crossing, ends)
         && is_received(program, crossing, ends)

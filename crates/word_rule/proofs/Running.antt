@@ -1,7 +1,7 @@
 -- What the steps on a table need holds of every job: lengths, bounds, and that what a micro-step names is there.
-use Rattle.std.proofs.Common.{◌≡◌, ℕ, zero, suc, ◌+◌, ◌*◌, ◌%◌, ◌^◌, ◌<◌, ◌≤◌, ◌⊎◌, inl, inr, Bool, true, false, cond, List, [], length, get_or, Option, Some, None, refl, ap, subst, arith, ◌∙◌, ℤ, pos, suc-mul, mul-le-mul_right}
+use Rattle.std.proofs.Common.{◌≡◌, ℕ, ◌+◌, ◌*◌, ◌%◌, ◌<◌, ◌≤◌, ◌⊎◌, inl, inr, Bool, true, false, cond, List, [], length, get_or, Option, Some, None, refl, ap, subst, arith, ◌∙◌, ℤ, pos, suc-mul, mul-le-mul_right}
 use Rattle.std.specs.Prelude.{slice_get, nat_lt}
-use Rattle.std.proofs.lemmas.Bool.{cases_eq, cases_lt}
+use Rattle.std.proofs.lemmas.Bool.{cases_lt}
 use Rattle.std.proofs.lemmas.List.{length-map, length-replicate, get_or-map}
 use Rattle.std.proofs.lemmas.Nat.{mod_below}
 use Rattle.std.proofs.lemmas.Option.{same_Some, slice_get_past}
@@ -21,7 +21,7 @@ use Rattle.executive_program.specs.MicroSteps.{code, wire_len}
 use Rattle.executive_program.specs.Steps.{steps, steps_by}
 use Rattle.semaphore_core.specs.Job.{JobData, reactions}
 use Rattle.semaphore_core.specs.IsJob.{IsJob}
-use Rattle.semaphore_core.specs.Core.{Core, opening, count, full, run, home_of, slot_of}
+use Rattle.semaphore_core.specs.Core.{Core, opening, count, full, run}
 use Rattle.semaphore_core.specs.Held.{made}
 use Rattle.semaphore_core.proofs.Opened.{full_total}
 use Rattle.semaphore_core.proofs.Jobs.{has_places, few_steps, prologue_bare}
@@ -35,7 +35,6 @@ use Rattle.phase_laws.proofs.AgreePlaces.{lists_many, buffer_list, wire_list}
 use Rattle.phase_laws.proofs.OwnValues.{compute_their_values}
 use Rattle.phase_laws.proofs.Reached.{reached_have_laws}
 use Rattle.phase_laws.proofs.Together.{have_laws, jobs_are_supplied}
-use Rattle.word_rule.specs.Words.{element_lens}
 use Rattle.word_rule.specs.Given.{IsShaped, HasRoom, IsHere, IsThere, RunsOnWords}
 
 -- place q of this many elements each

@@ -70,7 +70,9 @@ fn copy_words(closed: &Closed<(), Global>, words: &mut Vec<u64>)
     requires full { IsFull closed.now.words }
     requires sized { slots_len closed.now.words ≡ length words.old.items + 1 }
     ensures long { length words.new.items ≡ length words.old.items }
-    ensures each { (k : ℕ) → k < length words.old.items → slice_index_or words.new.items k 0 ≡ slice_index_or (slots_items closed.now.words) (k + 1) 0 }
+    ensures each { (k : ℕ) → k < length words.old.items →
+        slice_index_or words.new.items k 0 ≡
+        slice_index_or (slots_items closed.now.words) (k + 1) 0 }
 {
     let len = words.len();
     for i in 0..len {

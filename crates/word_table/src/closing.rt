@@ -152,8 +152,10 @@ fn gather_all<'a>(woven: &mut Woven<'a>, mut drivers: Vec<Driver<'a>>) -> Option
     requires woven { IsWoven woven.old }
     requires drivers { AreDrivers (woven_view woven.old) drivers.items }
     ensures same { IsSameFabric woven.old woven.new }
-    ensures gathered { IsGathered woven.old.job.now woven.old.groups 0 (counts_of (woven_view woven.old) drivers.entry.items) woven.new.remains }
-    ensures seat { SeatHolds woven.old.job.now woven.old.table.table woven.old.groups 0 result (counts_of (woven_view woven.old) drivers.entry.items) }
+    ensures gathered { IsGathered woven.old.job.now woven.old.groups 0
+        (counts_of (woven_view woven.old) drivers.entry.items) woven.new.remains }
+    ensures seat { SeatHolds woven.old.job.now woven.old.table.table woven.old.groups 0 result
+        (counts_of (woven_view woven.old) drivers.entry.items) }
 {
     let mut seat = None;
     while let Some(driver) = drivers.pop() {

@@ -23,7 +23,9 @@ fn put(list: &mut Vec<u32>, at: u32, number: u32)
 /// Puts the number of a sequence at each operation that its loop calls.
 fn put_calls(turn: &[Instr], seq: u32, callers: &mut Vec<u32>)
     ensures long { length callers.new.items ≡ length callers.old.items }
-    ensures each { (v : ℕ) → v < length callers.old.items → slice_index_or callers.new.items v 0 ≡ cond (list_any (calls v) turn.now) seq (slice_index_or callers.old.items v 0) }
+    ensures each { (v : ℕ) → v < length callers.old.items →
+        slice_index_or callers.new.items v 0 ≡
+        cond (list_any (calls v) turn.now) seq (slice_index_or callers.old.items v 0) }
 {
     for instr in turn {
         if let Instr::Call { vertex, .. } = instr {

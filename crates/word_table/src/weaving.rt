@@ -95,7 +95,8 @@ struct Layout {
 fn layout_of(alloc: Global, job: &Job) -> Result<Layout, OutOfMemory>
     ensures turns { IfOk result (λ l. l.turns ≡ turn_word job.now 0) }
     ensures starts_there { IfOk result (λ l. length l.starts.items ≡ length (element_lens job.now)) }
-    ensures starts { IfOk result (λ l. (h : ℕ) → h < length l.starts.items → slice_index_or l.starts.items h 0 ≡ elements_start job.now h) }
+    ensures starts { IfOk result (λ l. (h : ℕ) → h < length l.starts.items →
+        slice_index_or l.starts.items h 0 ≡ elements_start job.now h) }
     ensures len { IfOk result (λ l. l.len ≡ table_len job.now) }
 {
     let program = job.program();

@@ -171,7 +171,8 @@ impl<'a> Woven<'a> {
         requires can { CanMake self.now share.old next }
         ensures of { IsOf self.now share.new }
         ensures same { SameDriver share.old share.new }
-        ensures made { result ≡ true → Steps (share_view share.old) (share_view share.new) next.seq next.reaction next.step }
+        ensures made { result ≡ true → Steps (share_view share.old) (share_view share.new) next.seq
+            next.reaction next.step }
         ensures missed { result ≡ false → Misses (share_view share.old) (share_view share.new) next.reaction next.step }
     {
         match next.step {
@@ -207,7 +208,8 @@ impl<'a> Woven<'a> {
         requires of { IsOf self.now share.now }
         requires there { seq < length self.now.job.now.program.seqs }
         requires drives { seq % share.now.groups ≡ share.now.group }
-        ensures next { IfSome result (λ n. (n ≡ slice_index_or (share_view share.now).counts seq 0) × (n < full share.now.job.now seq)) }
+        ensures next { IfSome result (λ n. (n ≡ slice_index_or (share_view share.now).counts seq
+            0) × (n < full share.now.job.now seq)) }
         ensures none { IfNone result (slice_index_or (share_view share.now).counts seq 0 ≡ full share.now.job.now seq) }
     {
         let count = share.counts[seq as usize];

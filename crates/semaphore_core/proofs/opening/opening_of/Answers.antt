@@ -1,5 +1,5 @@
 -- One more operation.
-use Rattle.std.proofs.Common.{◌≡◌, ℕ, ◌<◌, List, refl, get_or, length, ap, subst, ◌∙◌}
+use Rattle.std.proofs.Common.{◌<◌, List, refl, get_or, length, ap, subst, ◌∙◌}
 use Rattle.flat_graph.specs.declared.vertex.Vertex.{Vertex}
 use Rattle.flat_graph.specs.Meaning.{initial_cell, initial_cells}
 use Rattle.semaphore_core.proofs.Appending.{appended}

@@ -1,5 +1,5 @@
 -- One more operation.
-use Rattle.std.proofs.Common.{◌≡◌, ℕ, ◌<◌, List, refl, get_or, length, ap, subst, ◌∙◌}
+use Rattle.std.proofs.Common.{◌<◌, List, refl, get_or, length, ap, subst, ◌∙◌}
 use Rattle.flat_graph.specs.declared.vertex.Vertex.{Vertex}
 use Rattle.flat_graph.specs.Laws.{sensor_len, sensor_lens}
 use Rattle.semaphore_core.proofs.Appending.{appended}

@@ -6,7 +6,7 @@ use Rattle.run_laws.specs.Windows.{reactions_from}
 use Rattle.phase_laws.specs.Windows.{window}
 use Rattle.word_rule.specs.Driven.{driven_by}
 use Rattle.word_table.specs.Closed.{IsAtEnd}
-use Rattle.job_windows.specs.Windowed.{RunsNext, WindowsData, first_of, next_job, whole_job}
+use Rattle.job_windows.specs.Windowed.{RunsNext, WindowsData, first_of}
 use Rattle.job_windows.proofs.Opened.{is_next, next_fits, not_refused, is_window}
 use Rattle.job_windows.proofs.windows.JobWindows.run_next.Goals as goal
 
