@@ -2,7 +2,7 @@ use Rattle.std.proofs.Common.{refl}
 use Rattle.syndex_program.proofs.plain.text_of.Goals as goal
 
 pub dates_listing-requires : goal.dates_listing-requires
-dates_listing-requires g c = record { few = rw c.in-Dates.is at c.requires }
+dates_listing-requires g c = record { few = (rw c.in-Dates.is at c.requires).1 }
 
 pub returns-in-Check-clause-makes : goal.returns-in-Check-clause-makes
 returns-in-Check-clause-makes g c = rw c.in-Check.is ((λ h. h), c.check_texts.ensures.makes)
