@@ -53,7 +53,6 @@ impl Drop for Worked {
             program: _,
             order: _,
             rows: _,
-            ..
         } = self;
     }
 }
