@@ -1,7 +1,9 @@
 #!/usr/bin/env python3
 """`rt plant` with time for large crates: in a crate's folder,
 
-    ../../bench/plant.py [SECONDS] WORDS ..   `rt plant WORDS ..`, of which each batch of wrong bodies gets that many seconds, 1,500 if left out
+    ../../bench/plant.py [SECONDS] [LOG] WORDS ..   `rt plant WORDS ..`, of which each batch of wrong bodies gets that many seconds, 1,500 if
+                                                    left out. LOG is what an earlier run over the same sources told on standard error:
+                                                    what it judged is not tried again.
 
 rt gives a batch of forty bodies four minutes, and then halves it, so that of a crate whose functions take minutes hardly a body is
 judged. Here a batch has twelve. What each body came to is told on standard error at once, with the time since the start, so that a run
@@ -9,6 +11,7 @@ which is cut off has still shown something. The libraries below the crate have t
 rt plant knows nothing of what other checkouts built."""
 import importlib.machinery
 import os
+import re
 import sys
 import time
 import types
@@ -31,17 +34,41 @@ def planter():
     return made
 
 
+def shown(plant):
+    """The function and the body, as a line of the log has them."""
+    return f"{plant.f.shown}: {{ {plant.body} }}"
+
+
+def judged(log):
+    """What each body came to, by the lines of an earlier run."""
+    found = {}
+    with open(log, encoding="utf-8") as lines:
+        for line in lines:
+            told = re.fullmatch(r" *\d+ s  (\S+) +(.* \})(?:  \((.*)\))?\n", line)
+            if told:
+                found[told[2]] = told[1], told[3] or ""
+    return found
+
+
 def main(words):
     made, begun = planter(), time.monotonic()
     made.SECONDS = int(words.pop(0)) if words[:1] and words[0].isdigit() else 1500
     made.BATCH = 12
-    usual = made.read
+    known = judged(words.pop(0)) if words[:1] and os.path.isfile(words[0]) else {}
+    usual, judge = made.read, made.Copy.judge
+
+    def what_is_left(copy, plants):
+        for it in plants:
+            it.kind, it.why = known.get(shown(it), (it.kind, it.why))
+        judge(copy, [it for it in plants if shown(it) not in known])
+
+    made.Copy.judge = what_is_left
 
     def read(plants, said):
         usual(plants, said)
         for it in plants:
             why = f"  ({it.why})" * bool(it.why)
-            print(f"{time.monotonic() - begun:6.0f} s  {it.kind:<10}  {it.f.shown}: {{ {it.body} }}{why}", file=sys.stderr, flush=True)
+            print(f"{time.monotonic() - begun:6.0f} s  {it.kind:<10}  {shown(it)}{why}", file=sys.stderr, flush=True)
 
     made.read = read
     return made.main(*words)
