@@ -1,14 +1,15 @@
 #!/usr/bin/env python3
 """`rt plant` with time for large crates: in a crate's folder,
 
-    ../../bench/plant.py [SECONDS] [LOG] WORDS ..   `rt plant WORDS ..`, of which each batch of wrong bodies gets that many seconds, 1,500 if
-                                                    left out. LOG is what an earlier run over the same sources told on standard error:
-                                                    what it judged is not tried again.
+    ../../bench/plant.py [SECONDS] [LOG] [--as-built] WORDS ..   `rt plant WORDS ..`, of which each batch of wrong bodies gets that many
+                                                                 seconds, 1,500 if left out. LOG is what an earlier run over the same
+                                                                 sources told on standard error: what it judged is not tried again.
 
 rt gives a batch of forty bodies four minutes, and then halves it, so that of a crate whose functions take minutes hardly a body is
 judged. Here a batch has twelve. What each body came to is told on standard error at once, with the time since the start, so that a run
 which is cut off has still shown something. The libraries below the crate have to stand built, as `bench/kit.py all check` leaves them:
-rt plant knows nothing of what other checkouts built."""
+rt plant knows nothing of what other checkouts built. With --as-built they are taken as they stand, as a run of `.ci/run` over the same
+sources leaves them: these hold the statements and not the proofs of what is below, so that a batch takes a fraction of the time."""
 import importlib.machinery
 import os
 import re
@@ -21,7 +22,7 @@ sys.path.insert(0, os.path.dirname(os.path.abspath(__file__)))
 import kit
 
 
-def planter():
+def planter(as_built):
     """The script `rt-plant` beside the `rt` that the shell would run, with the kit's `rt` of this repository."""
     path = os.path.join(os.path.dirname(os.path.realpath(kit.rt().__file__)), "rt-plant")
     made = types.ModuleType("rt_plant")
@@ -31,6 +32,8 @@ def planter():
     if hasattr(crate, "stamp"):
         crate.stamp = kit.once_each(crate.stamp)
     crate.front_end = lambda it: 0
+    if as_built:
+        crate.is_built = lambda it: os.path.isdir(it.rlib)
     return made
 
 
@@ -51,7 +54,8 @@ def judged(log):
 
 
 def main(words):
-    made, begun = planter(), time.monotonic()
+    made, begun = planter("--as-built" in words), time.monotonic()
+    words = [it for it in words if it != "--as-built"]
     made.SECONDS = int(words.pop(0)) if words[:1] and words[0].isdigit() else 1500
     made.BATCH = 12
     known = judged(words.pop(0)) if words[:1] and os.path.isfile(words[0]) else {}
