@@ -31,7 +31,7 @@ module _ {R A J D : Type 0} (leaves : J → D → D) (stages : A → List (Stage
   pub record Answers (plan : Plan R A) (names : File → Option Bytes) (held held' : Held) (sunk sunk' : Sunk) (driven driven' : D) (ending : Ending R) : Type 0 where
     -- the plan was carried out, over the bytes that were read, told or not
     pub ran : Ran leaves stages plan held held' sunk sunk' driven driven' ending
-    -- only files that the words name were asked for
+    -- the counts of files that the words do not name are as before
     pub unnamed_stay : UnnamedStay names held held'
     -- done: the text that is defined was appended, and all jobs were run
     pub done_means : ending ≡ done → (o : Result A R) → outcome held.told plan ≡ Some o

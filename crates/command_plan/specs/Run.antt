@@ -17,11 +17,11 @@ SameFaults old new = (file : File) (name : Bytes) → new.faults file name ≡ o
 abbrev pub Gives : {R A : Type 0} → Held → Held → Result A (Ending R) → Result A (Ending R) → Type 0
 Gives old new answer made = ((made ≡ answer) ⊎ (made ≡ Err no_memory)) × SameFaults old new
 
--- these bytes of a file were read, and no other file was asked for
+-- these bytes of a file were read, and no count of another file changed
 abbrev pub WasRead : File → Bytes → Held → Held → Bytes → Type 0
 WasRead file name old new bytes = IsRead name old bytes × Stays old new × OthersStay file old new
 
--- a file was not read, and no other one was asked for: its count of faults rose, it is too long, or memory ran out
+-- a file was not read: its count of faults rose, it is too long, or memory ran out; no count of another file changed
 abbrev pub FailsToRead : {R : Type 0} → File → Bytes → R → Held → Held → Ending R → Type 0
 FailsToRead file name too_long old new (unread named) = (named ≡ file) × Rose (old.faults file name) (new.faults file name) × OthersStay file old new
 FailsToRead file name too_long old new (refused refusal) =
@@ -29,8 +29,8 @@ FailsToRead file name too_long old new (refused refusal) =
 FailsToRead file name too_long old new no_memory = OthersStay file old new
 FailsToRead file name too_long old new _ = ⊥
 
--- What the plan may give of a shelf that goes from old to new: what is to be made, or why there is nothing. Each file is asked for in its
--- turn alone, so the counts of a file whose turn does not come stay as they are.
+-- What the plan may give of a shelf that goes from old to new: what is to be made, or why there is nothing. Files are read
+-- one by one, and the counts of a file whose turn does not come stay as they are.
 pub data Makes {R A : Type 0} : Held → Held → Plan R A → Result A (Ending R) → Type 0 where
   gives : {old new : Held} {a : A} {made : Result A (Ending R)} → Gives old new (Ok a) made → Makes old new (give a) made
   refuses : {old new : Held} {refusal : R} {made : Result A (Ending R)} → Gives old new (Err (refused refusal)) made → Makes old new (refuse refusal) made
