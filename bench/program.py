@@ -1,5 +1,5 @@
-"""The built program, which the scripts beside this file time: not the script `syndex`, which first looks whether it is current. And
-the files that they give it."""
+"""The built program, which the scripts beside this file time and tests/refusals.py runs: not the script
+`syndex`, which first looks whether it is current. And the files that they give it."""
 import os
 import sys
 

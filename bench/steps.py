@@ -8,31 +8,13 @@ The copy takes over what earlier checks kept; in a new clone everything below is
 import os
 import shutil
 import subprocess
+import sys
 import tempfile
 
-TOP = os.path.dirname(os.path.dirname(os.path.abspath(__file__)))
+sys.path.insert(0, os.path.join(os.path.dirname(os.path.dirname(os.path.abspath(__file__))), "tools"))
+from repository import TOP, Listing
 
-
-def needed(name):
-    """The crate and all below it, by the repository's list."""
-    below = {}
-    with open(os.path.join(TOP, "crates.txt"), encoding="utf-8") as it:
-        for line in it:
-            line = line.split("#")[0]
-            if ":" in line:
-                crate, rest = line.split(":", 1)
-                below[crate.split()[0]] = rest.split()
-    found = []
-    def add(crate):
-        if crate in below and crate not in found:
-            found.append(crate)
-            for other in below[crate]:
-                add(other)
-    add(name)
-    return found
-
-
-CRATES = needed("worked_programs")
+CRATES = Listing().lowest_first(["worked_programs"])
 RUNS = 20
 # two prologues of one micro-step, and 10,000 reactions of 23
 STEPS = RUNS * (2 + 10_000 * 23)

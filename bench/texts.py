@@ -6,13 +6,15 @@ the ratios of the times, so that the growth shows on a noisy machine.
 What is timed is a program that is put into a copy of the repository, which is thrown away. The copy takes over what
 earlier checks kept; in a new clone everything below is proved first."""
 import os
+import re
 import shutil
 import subprocess
+import sys
 import tempfile
 
-TOP = os.path.dirname(os.path.dirname(os.path.abspath(__file__)))
-USES = "algo_reader algo_print archi_reader algo_text algo_defs archi_defs archi_graph body_text body_lang text_lines syn_base"
-CRATES = USES + " case_table name_table"
+sys.path.insert(0, os.path.join(os.path.dirname(os.path.dirname(os.path.abspath(__file__))), "tools"))
+from repository import TOP, Listing
+
 MIB = 1024 * 1024
 PROGRAM = """//! Reads a text and prints its canonical text, and tells how long both took.
 #![tactic(auto)]
@@ -76,6 +78,11 @@ fn main(rt: HostRuntime) {
 """
 
 
+LISTING = Listing()
+USED = [it for it in re.findall(r"(?m)^use (\w+)::", PROGRAM) if it in LISTING.rows]
+CRATES = LISTING.lowest_first(USED)
+
+
 def filled(size, head, line):
     """The head, and as many lines (or blocks of lines) as there is room for."""
     parts, room, k = [head], size - len(head), 0
@@ -108,12 +115,12 @@ KINDS = {
 def copy(room):
     """The crates that are needed, with what is kept of their checks, and the program."""
     shutil.copy(os.path.join(TOP, "HANDLES"), room)
-    for name in CRATES.split():
+    for name in CRATES:
         shutil.copytree(os.path.join(TOP, "crates", name), os.path.join(room, "crates", name))
     with open(os.path.join(TOP, "crates.txt"), encoding="utf-8") as it:
-        lines = [line for line in it if line.split(":")[0] in CRATES.split()]
+        lines = [line for line in it if line.split(":")[0] in CRATES]
     with open(os.path.join(room, "crates.txt"), "w", encoding="utf-8") as it:
-        it.writelines(lines + [f"timing: {USES}\n"])
+        it.writelines(lines + [f"timing: {' '.join(CRATES)}\n"])
     crate = os.path.join(room, "crates", "timing")
     os.makedirs(os.path.join(crate, "src"))
     with open(os.path.join(crate, "src", "main.rt"), "w", encoding="utf-8") as it:

@@ -1,14 +1,17 @@
 #!/usr/bin/env python3
 """The processor time of the gate, crate by crate: for its proof, its tests and its must-fail edits.
 
-    bench/gate.py ci [NAME..]   runs `rt ci` and measures it: while it runs, the time of each process of the prover is looked at
-                                every half second, and booked on the crate and the kind of work that its words name.
-                                A process's last half second is not seen.
-    bench/gate.py parts [NAME..] measures the parts themselves, one crate at a time, in a copy of the repository: the tests from nothing,
-                                the proof from nothing, the edits. Crates below those named are proved first, unmeasured.
-                                What earlier checks kept is not used for the crates named.
+    tools/gate.py ci               runs `rt ci` and measures it: while it runs, the time of each process
+                                   of the prover is looked at every half second, and booked on the crate
+                                   and the kind of work that its words name. A process's last half
+                                   second is not seen.
+    tools/gate.py parts [NAME..]   measures the parts themselves, one crate at a time, in a copy of the
+                                   repository: the tests from nothing, the proof from nothing, the edits
+                                   that stand in the gate. Crates below those named are proved first,
+                                   unmeasured. What earlier checks kept is not used for those named.
 
-Both print a line a crate in minutes of a processor, the greatest first, and the sums. The log of `rt ci` has no times itself."""
+Both print a line a crate in minutes of a processor, the greatest first, and the sums. The log of
+`rt ci` has no times itself."""
 import os
 import shutil
 import subprocess
@@ -16,35 +19,10 @@ import sys
 import tempfile
 import time
 
-TOP = os.path.dirname(os.path.dirname(os.path.abspath(__file__)))
+from repository import TOP, Listing, files, text_of
+
 TICK = os.sysconf("SC_CLK_TCK")
 KINDS = ("proof", "tests", "edits")
-
-
-def crates():
-    """The libraries of the repository that each crate stands on, by crates.txt."""
-    rows = {}
-    with open(f"{TOP}/crates.txt", encoding="utf-8") as it:
-        for line in it:
-            name, colon, below = line.partition("#")[0].partition(":")
-            if colon:
-                rows[name.split()[0]] = below.split()
-    return {name: [it for it in below if it in rows] for name, below in rows.items()}
-
-
-def lowest_first(rows, names):
-    """These crates and all below them, each after those that it stands on."""
-    found = []
-
-    def add(name):
-        if name not in found:
-            for it in rows[name]:
-                add(it)
-            found.append(name)
-
-    for name in names:
-        add(name)
-    return found
 
 
 class Table:
@@ -115,10 +93,10 @@ def watch(process):
     return table
 
 
-def measure_ci(names):
+def measure_ci():
     """Runs the gate with its own output, and prints the table."""
     start = time.monotonic()
-    with subprocess.Popen(["rt", "ci", *names], cwd=TOP, stdin=subprocess.DEVNULL) as process:
+    with subprocess.Popen(["rt", "ci"], cwd=TOP, stdin=subprocess.DEVNULL) as process:
         try:
             table = watch(process)
         except (OSError, ValueError, IndexError) as fault:
@@ -140,23 +118,18 @@ def spent(words, folder):
 
 
 def has_tests(folder):
-    for at, _, files in os.walk(f"{folder}/src"):
-        for file in files:
-            with open(f"{at}/{file}", encoding="utf-8") as it:
-                if "#[test]" in it.read():
-                    return True
-    return False
+    return any("#[test]" in text_of(it) for it in files(folder, ["src"], (".rt",)))
 
 
 def measure_parts(names):
     """Measures the parts of each crate in a copy, which is thrown away, and prints the table."""
-    rows = crates()
-    table, wanted = Table(), names or list(rows)
+    listing = Listing()
+    table, wanted = Table(), names or list(listing.rows)
     with tempfile.TemporaryDirectory(prefix="gate-") as room:
         top = f"{room}/top"
         shutil.copytree(TOP, top, ignore=shutil.ignore_patterns(".git", "out"), symlinks=True)
         os.mkdir(f"{top}/.git")
-        for name in lowest_first(rows, wanted):
+        for name in listing.lowest_first(wanted):
             folder = f"{top}/crates/{name}"
             if name not in wanted:
                 if os.path.isdir(f"{TOP}/crates/{name}/out/rlib"):
@@ -188,9 +161,9 @@ def measure(table, name, folder, top):
 
 def main(words):
     part, names = words[:1], words[1:]
-    if part == ["ci"] and all(it in crates() for it in names):
-        return measure_ci(names)
-    if part == ["parts"] and all(it in crates() for it in names):
+    if words == ["ci"]:
+        return measure_ci()
+    if part == ["parts"] and all(it in Listing().rows for it in names):
         return measure_parts(names)
     print(__doc__, file=sys.stderr)
     return 2

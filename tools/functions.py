@@ -1,7 +1,7 @@
 #!/usr/bin/env python3
 """Where the time of a proof goes: the functions of a crate that took longest, by the times at which the prover wrote what it had checked.
 
-    bench/functions.py [CRATE] [--most N]   of a crate, or of all, whose `out/` keeps a check from nothing with one job
+    tools/functions.py [CRATE] [--most N]   of a crate, or of all, whose `out/` keeps a check from nothing with one job
 
 Times are by the clock, so of a machine that did little else. `walk` is the walk over a function's code, which grows with the paths
 on which large owned values are dropped; `search` is the search for its goals; `other` is what states and links them."""

@@ -4,7 +4,7 @@ macro-code: the code of an example, with lines and bytes changed at random. Wher
 the same; where it takes one, `exec` has to come to a limit, to the check of the program, or to the sensors, which are not there.
 Prints how often each cause came, and every text on which they differ; ends with status 1 where there is one.
 
-    bench/refusals.py [COUNT [SEED]]"""
+    tests/refusals.py [COUNT [SEED]]"""
 import collections
 import os
 import random
@@ -12,6 +12,7 @@ import subprocess
 import sys
 import tempfile
 
+sys.path.insert(0, os.path.join(os.path.dirname(os.path.dirname(os.path.abspath(__file__))), "bench"))
 from program import built_program, written, TOP
 from shapes import lanes, operators_for
 

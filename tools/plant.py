@@ -1,15 +1,19 @@
 #!/usr/bin/env python3
 """`rt plant` with time for large crates: in a crate's folder,
 
-    ../../bench/plant.py [SECONDS] [LOG] [--as-built] WORDS ..   `rt plant WORDS ..`, of which each batch of wrong bodies gets that many
-                                                                 seconds, 1,500 if left out. LOG is what an earlier run over the same
-                                                                 sources told on standard error: what it judged is not tried again.
+    ../../tools/plant.py [SECONDS] [LOG] [--as-built] WORDS ..
 
-rt gives a batch of forty bodies four minutes, and then halves it, so that of a crate whose functions take minutes hardly a body is
-judged. Here a batch has twelve. What each body came to is told on standard error at once, with the time since the start, so that a run
-which is cut off has still shown something. The libraries below the crate have to stand built, as `bench/kit.py all check` leaves them:
-rt plant knows nothing of what other checkouts built. With --as-built they are taken as they stand, as a run of `.ci/run` over the same
-sources leaves them: these hold the statements and not the proofs of what is below, so that a batch takes a fraction of the time."""
+runs `rt plant WORDS ..`, of which each batch of wrong bodies gets that many seconds, 1,500 if left
+out. LOG is what an earlier run over the same sources told on standard error: what it judged is not
+tried again.
+
+rt gives a batch of forty bodies four minutes, and then halves it, so that of a crate whose functions
+take minutes hardly a body is judged. Here a batch has twelve. What each body came to is told on
+standard error at once, with the time since the start, so that a run which is cut off has still shown
+something. The libraries below the crate have to stand built, as `tools/kit.py all check` leaves them:
+rt plant knows nothing of what other checkouts built. With --as-built they are taken as they stand, as
+a run of `.ci/run` over the same sources leaves them: these hold the statements and not the proofs of
+what is below, so that a batch takes a fraction of the time."""
 import importlib.machinery
 import os
 import re
@@ -21,20 +25,28 @@ sys.dont_write_bytecode = True
 sys.path.insert(0, os.path.dirname(os.path.abspath(__file__)))
 import kit
 
+# What of rt-plant is changed or made here: calls with their parameters, and what their code has to say.
+CALLS = {"main": ["words"], "read": ["plants", "said"], "Copy.judge": ["self", "plants"]}
+SAID = {
+    "Copy.judge": "at + BATCH",
+    "Copy.check": "min(SECONDS",
+    "Plant.__init__": "self.f, self.kind, self.why",
+    "read": "it.kind, it.why",
+}
 
-def planter(as_built):
-    """The script `rt-plant` beside the `rt` that the shell would run, with the kit's `rt` of this repository."""
+
+def loaded():
+    """The script `rt-plant` beside the `rt` that the shell would run."""
     path = os.path.join(os.path.dirname(os.path.realpath(kit.rt().__file__)), "rt-plant")
     made = types.ModuleType("rt_plant")
     made.__file__ = path
     importlib.machinery.SourceFileLoader("rt_plant", path).exec_module(made)
-    crate = made.rt.Crate
-    if hasattr(crate, "stamp"):
-        crate.stamp = kit.once_each(crate.stamp)
-    crate.front_end = lambda it: 0
-    if as_built:
-        crate.is_built = lambda it: os.path.isdir(it.rlib)
     return made
+
+
+def faults():
+    """What of rt-plant is not as this script expects it."""
+    yield from kit.shape_faults(loaded(), "rt-plant", CALLS, SAID)
 
 
 def shown(plant):
@@ -54,7 +66,8 @@ def judged(log):
 
 
 def main(words):
-    made, begun = planter("--as-built" in words), time.monotonic()
+    made, begun = loaded(), time.monotonic()
+    kit.change(made.rt.Crate, "--as-built" in words)
     words = [it for it in words if it != "--as-built"]
     made.SECONDS = int(words.pop(0)) if words[:1] and words[0].isdigit() else 1500
     made.BATCH = 12

@@ -1,0 +1,59 @@
+#!/usr/bin/env python3
+"""Whether docs/CLAIMS.md has a line for each crate: a row of a table whose first cell names it, in the
+section of its room, in the order of crates.txt. A row may name several crates, with commas.
+
+    tools/claims.py   a line for each crate without a row, or with one at another place"""
+import re
+import sys
+
+from repository import Listing, text_of
+
+PATH = "docs/CLAIMS.md"
+
+
+def sections(text):
+    """The headings of the second degree, each with the crates of the rows below it and their lines."""
+    found = {}
+    rows = None
+    for number, line in enumerate(text.split("\n"), 1):
+        if line.startswith("## "):
+            rows = found.setdefault(line[3:].strip(), [])
+        cell = re.match(r"\| *((?:`\w+`(?:, *)?)+) *\|", line)
+        if cell and rows is not None:
+            rows += [(name, number) for name in re.findall(r"`(\w+)`", cell[1])]
+    return found
+
+
+def of_room(listing, room, rows, homes):
+    """What is wrong with the rows of one room."""
+    for name, number in rows:
+        if name not in listing.rows:
+            yield f"{PATH}:{number}: `{name}` is no crate of crates.txt"
+        elif homes[name] != room:
+            yield f"{PATH}:{number}: `{name}` stands in the room {homes[name]}"
+    here = [name for name, _ in rows if homes.get(name) == room]
+    for name in sorted({it for it in here if here.count(it) > 1}):
+        yield f"{PATH}: `{name}` has two rows"
+    if here != sorted(here, key=list(listing.rows).index):
+        yield f"{PATH}: the rows of {room} are not in the order of crates.txt"
+
+
+def faults():
+    listing = Listing()
+    homes = {name: room.name for room in listing.rooms for name in room.crates}
+    found = sections(text_of(f"{listing.top}/{PATH}"))
+    for room in listing.rooms:
+        if room.name not in found:
+            yield f"{PATH}: there is no section {room.name}"
+    for room, rows in found.items():
+        yield from of_room(listing, room, rows, homes)
+    told = {name for rows in found.values() for name, _ in rows}
+    for name in listing.rows:
+        if name not in told:
+            yield f"{PATH}: `{name}` has no row in the room {homes.get(name, '(none)')}"
+
+
+if __name__ == "__main__":
+    wrong = list(faults())
+    print(*wrong, sep="\n", end="\n" if wrong else "")
+    sys.exit(1 if wrong else 0)

@@ -1,0 +1,139 @@
+#!/usr/bin/env python3
+"""The kit's `rt` as a module, for scripts that need of it what no word of the command line gives.
+
+    tools/kit.py [--as-built] WORDS ..   `rt WORDS ..` for whoever builds what has passed the gate
+
+It leaves out the quick pass over all sources, which tells of errors before the first proof: over
+ninety crates that are not built it takes a quarter of an hour and 15 GB. A crate beside which hardly
+another one can be proved gets as many processors as rt gives a crate that is proved by itself, also
+under `all --jobs N`. The sum of a crate's files and of all below it takes those of each crate once,
+not once for each path that leads there, of which there are millions. With --as-built the libraries
+of the repository are taken as they stand, whatever their sources say now: for whoever has just built
+them, as a run of the gate does.
+
+`faults` tells which of the calls that are changed here is no longer as it was: then `build` and the
+other scripts that stand on this one would run without the change, or not at all."""
+import importlib.machinery
+import importlib.util
+import inspect
+import os
+import shutil
+import sys
+import threading
+
+# The calls of rt that are changed or made here, by their path, each with its parameters.
+CALLS = {
+    "main": ["words"],
+    "rtlib.crates_below": ["top"],
+    "rtlib.Crate.below": ["self"],
+    "rtlib.Crate.stamp": ["self"],
+    "rtlib.Crate.front_end": ["self"],
+    "rtlib.Crate.is_built": ["self"],
+    "rtlib.Crate.build_rlib": ["self", "flags", "anew"],
+    "rtlib.Crate.check": ["self", "flags"],
+}
+# What a call has to say in its code for the change to do what it is for.
+SAID = {
+    "rtlib.Crate.stamp": "dep.stamp() for dep in self.deps",
+    "rtlib.Crate.is_built": "os.path.isdir(self.rlib)",
+    "rtlib.Crate.build_rlib": "self.is_built()",
+    "rtlib.every": ".front_end()",
+}
+
+
+def rt():
+    """The script `rt` that the shell would run."""
+    path = os.path.realpath(shutil.which("rt") or sys.exit("there is no command rt: install the kit"))
+    loader = importlib.machinery.SourceFileLoader("rt", path)
+    made = importlib.util.module_from_spec(importlib.util.spec_from_loader("rt", loader))
+    loader.exec_module(made)
+    return made
+
+
+def member(module, path):
+    """What stands at this path in a module, or None."""
+    for name in path.split("."):
+        module = getattr(module, name, None)
+    return module
+
+
+def shape_faults(module, name, calls, said):
+    """What is not as the changes expect it, of calls with their parameters and of words in their code."""
+    for path, wanted in calls.items():
+        call = member(module, path)
+        if not callable(call):
+            yield f"{name} has no call {path}"
+        elif (found := list(inspect.signature(call).parameters)) != wanted:
+            yield f"{name}: {path} takes ({', '.join(found)}), and not ({', '.join(wanted)})"
+    for path, words in said.items():
+        call = member(module, path)
+        if not callable(call):
+            yield f"{name} has no call {path}"
+        elif words not in inspect.getsource(call):
+            yield f"{name}: {path} no longer says {words}"
+
+
+def faults():
+    """What of rt is not as this script and tools/plant.py expect it."""
+    if not shutil.which("rt"):
+        yield "there is no command rt: install the kit"
+        return
+    yield from shape_faults(rt(), "rt", CALLS, SAID)
+    import plant
+
+    yield from plant.faults()
+
+
+def names_alone(crates):
+    """The crates each of which stands above or below nearly all others."""
+    below = {it.name: {other.name for other in it.below()} for it in crates}
+    above = {name: [other for other in below if name in below[other]] for name in below}
+    return {name for name in below if len(below[name]) + len(above[name]) >= 0.95 * (len(below) - 1)}
+
+
+def once_each(usual):
+    """A call over a crate and, by itself, over those below it, which asks each crate once in each
+    outermost call."""
+    known = threading.local()
+
+    def call(crate):
+        if hasattr(known, "told"):
+            if crate.name not in known.told:
+                known.told[crate.name] = usual(crate)
+            return known.told[crate.name]
+        known.told = {}
+        try:
+            return usual(crate)
+        finally:
+            del known.told
+
+    return call
+
+
+def change(crate, as_built):
+    """Changes what all scripts change in the kit's class of crates."""
+    if hasattr(crate, "stamp"):
+        crate.stamp = once_each(crate.stamp)
+    crate.front_end = lambda it: 0
+    if as_built:
+        crate.is_built = lambda it: os.path.isdir(it.rlib)
+
+
+def main(words):
+    as_built = words[:1] == ["--as-built"]
+    words, made = words[as_built:], rt()
+    crate = made.rtlib.Crate
+    change(crate, as_built)
+    alone = names_alone(made.rtlib.crates_below(os.getcwd()))
+    for name in ("build_rlib", "check"):
+        usual = getattr(crate, name, None)
+        if usual:
+            # A crate that is proved alone anyway is not told to take one processor.
+            flags_of = lambda it, flags: [] if it.name in alone else flags
+            call = lambda it, flags, *more, usual=usual, **named: usual(it, flags_of(it, flags), *more, **named)
+            setattr(crate, name, call)
+    return made.main(words)
+
+
+if __name__ == "__main__":
+    sys.exit(main(sys.argv[1:]))

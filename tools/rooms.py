@@ -1,0 +1,107 @@
+#!/usr/bin/env python3
+"""Writes the rooms of the repository into README.md and docs/ARCHITECTURE.md, between marker comments.
+
+Rooms, parts and their sentences come from crates.txt, in its order; what a crate is comes from the
+first paragraph of the file that it begins with. So each sentence about a crate has one source.
+
+    tools/rooms.py           rewrites both
+    tools/rooms.py --check   tells which is not as it would be written, with status 1"""
+import sys
+import textwrap
+
+from repository import Listing, root_of, text_of
+
+BEGIN, END = "<!-- rooms: made by tools/rooms.py -->", "<!-- rooms: end -->"
+WIDTH = 100
+
+
+def first_paragraph(folder):
+    """What the crate says of itself first, as one line; empty where it says nothing."""
+    root, lines = root_of(folder), []
+    for line in text_of(root).split("\n") if root else []:
+        if not line.startswith("//!") or line == "//!":
+            break
+        lines.append(line[3:].strip())
+    return " ".join(lines)
+
+
+def wrapped(text, first="", rest=""):
+    """A paragraph; no name in backticks is broken, as none of them has a blank or a hyphen to break at."""
+    how = {"break_long_words": False, "break_on_hyphens": False}
+    return textwrap.fill(text, WIDTH, initial_indent=first, subsequent_indent=rest, **how)
+
+
+def crate_lines(listing, names):
+    """A list item for each crate."""
+    for name in names:
+        said = first_paragraph(f"{listing.top}/crates/{name}")
+        yield wrapped(f"`{name}`: {said}", "- ", "  ")
+
+
+def room_list(listing):
+    """The rooms with their crates, for whoever looks where something is done."""
+    parts = []
+    for room in listing.rooms:
+        parts += [f"### {room.name}", wrapped(room.sentence())]
+        in_parts = {it for part in room.parts for it in part.crates}
+        loose = [it for it in room.crates if it not in in_parts]
+        if loose:
+            parts.append("\n".join(crate_lines(listing, loose)))
+        for part in room.parts:
+            parts.append(wrapped(f"**{part.name}.** {part.sentence()}".strip()))
+            parts.append("\n".join(crate_lines(listing, part.crates)))
+    return "\n\n".join(filter(None, parts))
+
+
+def room_table(listing):
+    """A row for each room."""
+    rows = ["| room | crates |", "|---|---|"]
+    for room in listing.rooms:
+        names = ", ".join(f"`{it}`" for it in room.crates)
+        rows.append(f"| **{room.name}.** {room.sentence()} | {names} |")
+    return "\n".join(rows)
+
+
+MADE = {"README.md": room_table, "docs/ARCHITECTURE.md": room_list}
+
+
+def written(listing, path, make):
+    """The text of a file with its made part anew, or None where the markers are not there once."""
+    text = text_of(f"{listing.top}/{path}")
+    if text.count(BEGIN) != 1 or text.count(END) != 1 or text.index(BEGIN) > text.index(END):
+        return text, None
+    before, _, rest = text.partition(BEGIN)
+    return text, f"{before}{BEGIN}\n\n{make(listing)}\n\n{END}{rest.partition(END)[2]}"
+
+
+def faults():
+    listing = Listing()
+    for name in listing.rows:
+        if not first_paragraph(f"{listing.top}/crates/{name}"):
+            yield f"crates/{name}: its first file does not begin with //! and what the crate is"
+    for path, make in MADE.items():
+        text, made = written(listing, path, make)
+        if made is None:
+            yield f"{path}: it needs one line {BEGIN} and after it one line {END}"
+        elif made != text:
+            yield f"{path}: its rooms are not those of crates.txt and the crates: run tools/rooms.py"
+
+
+def main(words):
+    if words not in ([], ["--check"]):
+        print(__doc__, file=sys.stderr)
+        return 2
+    listing = Listing()
+    for path, make in MADE.items() if not words else ():
+        text, made = written(listing, path, make)
+        if made not in (None, text):
+            with open(f"{listing.top}/{path}", "w", encoding="utf-8") as it:
+                it.write(made)
+            print(f"{path}: its rooms are written anew")
+    wrong = list(faults())
+    print(*wrong, sep="\n", end="\n" if wrong else "")
+    return 1 if wrong else 0
+
+
+if __name__ == "__main__":
+    sys.exit(main(sys.argv[1:]))
