@@ -270,11 +270,12 @@ def record(revision):
     archive = subprocess.run(words, stdout=subprocess.PIPE, check=True).stdout
     with tempfile.TemporaryDirectory(prefix="edits-") as room:
         with tarfile.open(fileobj=io.BytesIO(archive)) as it:
-            it.extractall(room, **({"filter": "data"} if hasattr(tarfile, "data_filter") else {}))
+            filtered = {"filter": "data"} if hasattr(tarfile, "data_filter") else {}
+            it.extractall(room, **filtered)
         late = not_current()
         found = [it for it in late if edits_of(f"{room}/crates/{it}")]
         note({it: sum_of(f"{room}/crates/{it}") for it in found})
-    print(f"edits: {len(found)} sums of {revision} noted; {len(not_current())} of {len(beside())} crates are not current")
+    print(f"edits: {len(found)} sums of {revision} noted; {len(not_current())} crates are not current")
     return 0
 
 

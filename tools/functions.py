@@ -1,10 +1,13 @@
 #!/usr/bin/env python3
-"""Where the time of a proof goes: the functions of a crate that took longest, by the times at which the prover wrote what it had checked.
+"""Where the time of a proof goes: the functions of a crate that took longest, by the times at which
+the prover wrote what it had checked.
 
-    tools/functions.py [CRATE] [--most N]   of a crate, or of all, whose `out/` keeps a check from nothing with one job
+    tools/functions.py [CRATE] [--most N]   of a crate, or of all, whose `out/` keeps a check from
+                                            nothing with one job
 
-Times are by the clock, so of a machine that did little else. `walk` is the walk over a function's code, which grows with the paths
-on which large owned values are dropped; `search` is the search for its goals; `other` is what states and links them."""
+Times are by the clock, so of a machine that did little else. `walk` is the walk over a function's
+code, which grows with the paths on which large owned values are dropped; `search` is the search for
+its goals; `other` is what states and links them."""
 import argparse
 import collections
 import os
@@ -55,9 +58,8 @@ def main():
     print("seconds    walk  search   other  so far")
     for (crate, function), times in rows[: given.most]:
         told += times.total()
-        print(
-            f"{times.total():7.1f} {times['walk']:7.1f} {times['search']:7.1f} {times['other']:7.1f} {100 * told / whole:6.1f}%  {crate}::{function}"
-        )
+        parts = "".join(f"{times[it]:8.1f}" for it in ("walk", "search", "other"))
+        print(f"{times.total():7.1f}{parts} {100 * told / whole:6.1f}%  {crate}::{function}")
     print(f"{whole:7.1f} in all, of {len(rows)}")
 
 

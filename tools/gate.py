@@ -46,7 +46,8 @@ class Table:
 
 
 def work_of(words, folder):
-    """The crate and the kind of work of a process of the prover, by its words and its folder; None for any other process."""
+    """The crate and the kind of work of a process of the prover, by its words and its folder; None for
+    any other process."""
     if len(words) < 4 or os.path.basename(words[0]) != "rattle" or "--crate-name" not in words[:-1]:
         return None
     name = words[words.index("--crate-name") + 1]
@@ -110,8 +111,10 @@ def measure_ci():
 
 
 def spent(words, folder):
-    """Runs a command and answers its status and the seconds of a processor that it and all that it waited for took."""
-    process = subprocess.Popen(words, cwd=folder, stdin=subprocess.DEVNULL, stdout=subprocess.DEVNULL, stderr=subprocess.DEVNULL)
+    """Runs a command and answers its status and the seconds of a processor that it took, with all that
+    it waited for."""
+    how = dict.fromkeys(("stdin", "stdout", "stderr"), subprocess.DEVNULL)
+    process = subprocess.Popen(words, cwd=folder, **how)
     _, status, usage = os.wait4(process.pid, 0)
     process.returncode = os.waitstatus_to_exitcode(status)
     return process.returncode, usage.ru_utime + usage.ru_stime

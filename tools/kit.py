@@ -119,19 +119,23 @@ def change(crate, as_built):
         crate.is_built = lambda it: os.path.isdir(it.rlib)
 
 
+def with_flags(usual, flags_of):
+    """A call of a crate whose flags are what this function makes of them."""
+    return lambda it, flags, *more, **named: usual(it, flags_of(it, flags), *more, **named)
+
+
 def main(words):
     as_built = words[:1] == ["--as-built"]
     words, made = words[as_built:], rt()
     crate = made.rtlib.Crate
     change(crate, as_built)
     alone = names_alone(made.rtlib.crates_below(os.getcwd()))
+    # A crate that is proved alone anyway is not told to take one processor.
+    flags_of = lambda it, flags: [] if it.name in alone else flags
     for name in ("build_rlib", "check"):
         usual = getattr(crate, name, None)
         if usual:
-            # A crate that is proved alone anyway is not told to take one processor.
-            flags_of = lambda it, flags: [] if it.name in alone else flags
-            call = lambda it, flags, *more, usual=usual, **named: usual(it, flags_of(it, flags), *more, **named)
-            setattr(crate, name, call)
+            setattr(crate, name, with_flags(usual, flags_of))
     return made.main(words)
 
 

@@ -5,7 +5,8 @@ Rooms, parts and their sentences come from crates.txt, in its order; what a crat
 first paragraph of the file that it begins with. So each sentence about a crate has one source.
 
     tools/rooms.py           rewrites both
-    tools/rooms.py --check   tells which is not as it would be written, with status 1"""
+    tools/rooms.py --check   tells which is not as it would be written, and which heading of the pages
+                             that go by rooms is none of them, with status 1"""
 import sys
 import textwrap
 
@@ -63,6 +64,9 @@ def room_table(listing):
 
 
 MADE = {"README.md": room_table, "docs/ARCHITECTURE.md": room_list}
+# Pages that are written by hand in the order of the rooms: what their headings begin with, and the
+# heading at which the rooms end.
+BY_ROOM = {"docs/DEFINITIONS.md": ("## ", None), "docs/PROOFS.md": ("### ", "## Tricks")}
 
 
 def written(listing, path, make):
@@ -72,6 +76,23 @@ def written(listing, path, make):
         return text, None
     before, _, rest = text.partition(BEGIN)
     return text, f"{before}{BEGIN}\n\n{make(listing)}\n\n{END}{rest.partition(END)[2]}"
+
+
+def of_headings(listing, path, begins, end):
+    """Headings of a page by rooms that name none, or not in their order."""
+    rooms, last = [it.name for it in listing.rooms], -1
+    for number, line in enumerate(text_of(f"{listing.top}/{path}").split("\n"), 1):
+        if end and line.startswith(end):
+            return
+        if not line.startswith(begins):
+            continue
+        room = line[len(begins):].strip()
+        if room not in rooms:
+            yield f"{path}:{number}: {room} is no room of crates.txt"
+        elif rooms.index(room) < last:
+            yield f"{path}:{number}: {room} is not where crates.txt has it"
+        else:
+            last = rooms.index(room)
 
 
 def faults():
@@ -85,6 +106,8 @@ def faults():
             yield f"{path}: it needs one line {BEGIN} and after it one line {END}"
         elif made != text:
             yield f"{path}: its rooms are not those of crates.txt and the crates: run tools/rooms.py"
+    for path, (begins, end) in BY_ROOM.items():
+        yield from of_headings(listing, path, begins, end)
 
 
 def main(words):
