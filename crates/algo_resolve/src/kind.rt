@@ -20,7 +20,7 @@ use algo_tree::Kind;
 use body_lang::{Body as Function, Expr, Port};
 use std::alloc::Global;
 use syn_base::{Items, Name, OutOfMemory};
-use tree_copy::copy_numbers;
+use algo_tree::copy_numbers;
 
 impl<'a> Checked<'a> {
     /// The kind of the vertices of this definition, which has the ports `own`. The definitions that it

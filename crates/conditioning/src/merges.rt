@@ -5,12 +5,11 @@ ghost use Rattle.algo_tree.specs.View.{view};
 ghost use Rattle.conditioning_laws.specs.Guarded.{merge_of, merge_sources};
 ghost use Rattle.conditioning.specs.Listed.{merges_listed};
 
-use crate::conditions::number;
 use algo_tree::{Kind, Vertex};
 use level_meaning::{Guard, Part, Source};
 use std::alloc::Global;
-use syn_base::{Items, OutOfMemory};
-use tree_copy::{copy_bytes, copy_guards, copy_numbers};
+use syn_base::{Items, OutOfMemory, to_u32};
+use algo_tree::{copy_bytes, copy_guards, copy_numbers};
 
 /// What the merges of a switch have in common: its definition, the guards around it as its inside sees
 /// them, the number of its conditioning input, the values of its cases, and the number of these.
@@ -99,7 +98,7 @@ pub fn add_merges(
 {
     let mut place = 0;
     for name in names {
-        let output = number(place)?;
+        let output = to_u32(place)?;
         let len = len_at(outs, place);
         all.push(merge(alloc, switch, output, name.as_slice(), len)?)?;
         place += 1;

@@ -9,7 +9,7 @@ use algo_tree::{Kind, Vertex};
 use level_meaning::{Guard, Part, Source};
 use std::alloc::Global;
 use syn_base::{Items, OutOfMemory};
-use tree_copy::{copy_bytes, copy_kind, copy_lens, copy_names, copy_part};
+use algo_tree::{copy_bytes, copy_kind, copy_lens, copy_names, copy_part};
 
 /// What a vertex keeps under guards.
 #[derive(Drop)]

@@ -10,7 +10,7 @@ use algo_tree::{Kind, MOST_VERTICES, Vertex};
 use level_meaning::{Feed, Give, Part, Source};
 use std::alloc::Global;
 use syn_base::{Items, OutOfMemory};
-use tree_copy::copy_bytes;
+use algo_tree::copy_bytes;
 
 /// The copies of a repetition: the number of the first, and how many there are.
 #[derive(Clone, Copy)]

@@ -14,7 +14,7 @@ ghost use Rattle.macro_check.specs.Tabled.{AreTables};
 use crate::awaiting::transfer_of;
 use crate::tables::Tables;
 use executive_program::{Instr, Program};
-use mark_table::Mark;
+use program_tables::Mark;
 use program_tables::{Crossing, Write, write_of};
 use program_walks::turn_of;
 use std::alloc::Global;

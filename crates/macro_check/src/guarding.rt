@@ -6,7 +6,7 @@ ghost use Rattle.check_laws.specs.Tests.{are_guarded};
 ghost use Rattle.macro_check.specs.Tabled.{AreTables, guards_by};
 
 use crate::tables::Tables;
-use buffer_tables::{Reading, guards};
+use program_tables::{Reading, guards};
 use executive_program::Program;
 
 /// Whether a pair guards the buffer of a reading for its sequence.

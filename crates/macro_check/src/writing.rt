@@ -9,7 +9,7 @@ ghost use Rattle.macro_check.specs.Tabled.{AreTables};
 use crate::carrying::{find_sources, origin_in};
 use crate::fitting::are_fitting;
 use crate::tables::Tables;
-use buffer_tables::are_buffers;
+use program_tables::are_buffers;
 use executive_program::Program;
 use flat_graph::Vertex;
 use program_tables::Crossing;

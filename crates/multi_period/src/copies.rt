@@ -9,7 +9,7 @@ use algo_tree::{Kind, Vertex};
 use level_meaning::{Part, Source};
 use std::alloc::Global;
 use syn_base::{Items, OutOfMemory};
-use tree_copy::{
+use algo_tree::{
     copy_bytes, copy_guards, copy_kind, copy_lens, copy_names, copy_part, copy_sources,
 };
 

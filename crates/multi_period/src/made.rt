@@ -13,7 +13,7 @@ use algo_tree::{Kind, Vertex};
 use level_meaning::{Part, Source};
 use std::alloc::Global;
 use syn_base::{Items, OutOfMemory};
-use tree_copy::{copy_bytes, copy_lens, copy_names, copy_part, copy_sources};
+use algo_tree::{copy_bytes, copy_lens, copy_names, copy_part, copy_sources};
 
 /// A vertex of a definition of its own, which listings call `every`.
 fn made(

@@ -11,7 +11,7 @@ use algo_defs::{AlgoError, Body, Def, Defs, Reference};
 use algo_links::links_of;
 use multi_period::Mark;
 use std::alloc::Global;
-use syn_base::OutOfMemory;
+use syn_base::{OutOfMemory, to_u32};
 
 /// The marks on the references of `main`, in order. The definitions resolve to a tree.
 ///
@@ -56,16 +56,6 @@ fn marks_of(alloc: Global, body: &Body) -> Result<Vec<Mark>, OutOfMemory>
     }
 }
 
-/// The place of a reference. No text has 2^32 of them: more would be want of memory.
-fn number(place: usize) -> Result<u32, OutOfMemory>
-    ensures { IfOk result (λ n. n ≡ place) }
-{
-    match u32::try_from(place) {
-        Ok(number) => Ok(number),
-        Err(_) => Err(OutOfMemory),
-    }
-}
-
 /// The marks on these references, each with its place.
 fn marks_on(alloc: Global, references: &[Reference]) -> Result<Vec<Mark>, OutOfMemory>
     ensures { IfOk result (λ ms. ms.items ≡ marks_from 0 references.now) }
@@ -74,7 +64,7 @@ fn marks_on(alloc: Global, references: &[Reference]) -> Result<Vec<Mark>, OutOfM
     for place in 0..references.len() {
         if let Some(every) = references[place].every {
             marks.push(Mark {
-                reference: number(place)?,
+                reference: to_u32(place)?,
                 every,
             })?;
         }

@@ -8,7 +8,7 @@ ghost use Rattle.program_tables.specs.Marks.{first_at, lone, marks_of};
 
 use crate::roles::Role;
 use executive_program::Program;
-use mark_table::Mark;
+use crate::mark_table::Mark;
 use program_walks::Stand;
 
 /// Where a buffer is written: its sequence, its place there, and the number of the output.

@@ -11,21 +11,10 @@ use executive_program::Buffer;
 use flat_graph::{Source, Vertex};
 use schedule::{Decision, Transfer};
 use std::alloc::Global;
-use syn_base::OutOfMemory;
+use syn_base::{OutOfMemory, to_u32};
 
 /// The place of all copies that have none of their own, beyond every other.
 const NOWHERE: u32 = 2_097_152;
-
-/// A count as the number of an output, a buffer or a pair. Where it does not fit the answer is want of
-/// memory, which that many of them would long have met.
-pub fn number(count: usize) -> Result<u32, OutOfMemory>
-    ensures { IfOk result (λ n. n ≡ count) }
-{
-    match u32::try_from(count) {
-        Ok(number) => Ok(number),
-        Err(_) => Err(OutOfMemory),
-    }
-}
 
 /// The place of a copy in a table of the outputs of this many operations and of operators. The first
 /// outputs come first, so that a table in which no operation has a second one is short.
@@ -129,7 +118,7 @@ impl Made {
         for (port, _out) in outs.iter().enumerate() {
             let source = Source {
                 vertex: decision.op,
-                port: number(port)?,
+                port: to_u32(port)?,
             };
             self.make(vertices, decision.operator, source)?;
         }

@@ -7,6 +7,7 @@ mod items;
 mod limits;
 mod memory;
 mod name;
+mod narrow;
 mod rows;
 mod shape;
 
@@ -16,5 +17,6 @@ pub use items::Items;
 pub use limits::{LimitFault, LimitKind};
 pub use memory::OutOfMemory;
 pub use name::{Name, NameFault};
+pub use narrow::to_u32;
 pub use rows::{ActRows, SensorRows};
 pub use shape::Shape;
