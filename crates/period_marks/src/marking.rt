@@ -1,5 +1,6 @@
 //! The marks on the references of `main`.
 ghost use Rattle.std.specs.Prelude.{◌≡◌, ◌≤◌, IfOk, None, codes, length, map};
+ghost use Rattle.syn_base.specs.Limits.{most_in_text};
 ghost use Rattle.algo_tree.specs.Well.{AreDistinctNames};
 ghost use Rattle.algo_rules.specs.Links.{definition};
 ghost use Rattle.algo_rules.specs.Resolved.{refusal};
@@ -21,7 +22,7 @@ use syn_base::{OutOfMemory, to_u32};
 pub fn marks(alloc: Global, defs: &Defs) -> Result<Vec<Mark>, AlgoError>
     requires resolved { refusal defs.now.defs ≡ None }
     requires distinct { AreDistinctNames (map (λ d. d.name) defs.now.defs) }
-    requires few { length defs.now.defs ≤ 4000000000 }
+    requires few { length defs.now.defs ≤ most_in_text }
     ensures { Gives result (marking_of defs.now.defs) }
 {
     let Ok(links) = links_of(alloc, defs) else {

@@ -1,6 +1,7 @@
 //! The acts of each operator and of each medium, one after another.
 ghost use Rattle.std.specs.Prelude.{◌≡◌, ℕ, ◌<◌, ◌≤◌, ◌==◌, ◌&&◌, ◌+◌, ◌++◌, ◌∷◌, List, None, Some, IsTrue, length, map, slice_index_or, slice_set, is_some};
 ghost use Rattle.std.specs.List.{list_all, range_with_len};
+ghost use Rattle.syn_base.specs.Limits.{most_operations};
 ghost use Rattle.flat_graph.specs.Graph.{len_of};
 ghost use Rattle.flat_graph.specs.Valid.{names};
 ghost use Rattle.archi_graph.specs.Archi.{stands_at};
@@ -128,7 +129,7 @@ impl Lines {
         requires setting { IsSetting setting.now }
         requires sizes { HasPlaces self.now }
         ensures may { result ≡ may_run setting.now self.now decision.now }
-        ensures places { IsTrue result → (decision.now.op < 2048) × (decision.now.operator < 16) }
+        ensures places { IsTrue result → (decision.now.op < most_operations) × (decision.now.operator < 16) }
     {
         let op = decision.op as usize;
         if op >= setting.vertices.len() {
@@ -185,7 +186,7 @@ impl Lines {
     }
 
     fn are_all_placed(&self, operations: usize) -> bool
-        requires few { operations ≤ 2048 }
+        requires few { operations ≤ most_operations }
         requires sizes { HasPlaces self.now }
         ensures { result ≡ list_all (λ v. is_some (slice_index_or self.now.places v None)) (range_with_len 0 operations) }
     {
