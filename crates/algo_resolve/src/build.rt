@@ -20,11 +20,10 @@ use crate::kind::{port_lens, port_names};
 use crate::lookup::copy_name;
 use algo_defs::{Body, Case, Def, Reference};
 use algo_rules::Ports;
-use algo_tree::{Kind, Vertex};
+use algo_tree::{Kind, Vertex, copy_kind, copy_sources};
 use level_meaning::{Part, Source};
 use std::alloc::Global;
 use syn_base::{Items, Name, OutOfMemory, to_u32};
-use algo_tree::{copy_kind, copy_sources};
 
 /// Where a vertex stands.
 #[derive(Drop)]

@@ -2,8 +2,8 @@
 ghost use Rattle.std.specs.Prelude.{◌≡◌, IfOk};
 ghost use Rattle.algo_tree.specs.View.{kind_view};
 
-use crate::label_copies::{copy_bytes, copy_names, copy_numbers, copy_sources};
 use crate::Kind;
+use crate::label_copies::{copy_bytes, copy_names, copy_numbers, copy_sources};
 use level_meaning::{Feed, Give};
 use std::alloc::Global;
 use syn_base::{Items, OutOfMemory};

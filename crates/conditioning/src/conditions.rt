@@ -2,10 +2,10 @@
 ghost use Rattle.std.specs.Prelude.{◌≡◌, ◌++◌, [], ◌∷◌, IfOk, map};
 ghost use Rattle.conditioning_laws.specs.Guarded.{shift, shift_guard, guard_sources, guard_for, own_guards as guards_owned};
 
+use algo_tree::{copy_guards, copy_numbers};
 use level_meaning::{Guard, Source};
 use std::alloc::Global;
 use syn_base::{OutOfMemory, to_u32};
-use algo_tree::{copy_guards, copy_numbers};
 
 /// A source of a level, where `before` further inputs stand before the level's own.
 fn shifted(before: u32, source: Source) -> Result<Source, OutOfMemory>

@@ -5,11 +5,10 @@ ghost use Rattle.algo_tree.specs.View.{view};
 ghost use Rattle.conditioning_laws.specs.Guarded.{merge_of, merge_sources};
 ghost use Rattle.conditioning.specs.Listed.{merges_listed};
 
-use algo_tree::{Kind, Vertex};
+use algo_tree::{Kind, Vertex, copy_bytes, copy_guards, copy_numbers};
 use level_meaning::{Guard, Part, Source};
 use std::alloc::Global;
-use syn_base::{Items, OutOfMemory, to_u32};
-use algo_tree::{copy_bytes, copy_guards, copy_numbers};
+use syn_base::{Items, OutOfMemory, len_at, to_u32};
 
 /// What the merges of a switch have in common: its definition, the guards around it as its inside sees
 /// them, the number of its conditioning input, the values of its cases, and the number of these.
@@ -76,12 +75,6 @@ fn merge(
         kind: Kind::Merge(values),
         inner: Vec::new(alloc),
     })
-}
-
-fn len_at(lens: &[u32], at: usize) -> u32
-    ensures { result ≡ slice_index_or lens.now at 0 }
-{
-    if at < lens.len() { lens[at] } else { 0 }
 }
 
 /// Adds a merge for each output, in order, of the length of the switch's output.

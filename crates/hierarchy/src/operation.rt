@@ -18,13 +18,12 @@ ghost use Rattle.hierarchy.specs.Built.{Adds, IsOperation, IsRun, body_added, gr
 
 use crate::names::{glued, stage_text};
 use crate::wires::{Level, follow};
-use algo_tree::{Kind, Vertex};
+use algo_tree::{Kind, Vertex, copy_lens, copy_numbers};
 use body_lang::Body;
 use flat_graph::{Guard as Condition, Kind as Task, Source as Output, Vertex as Operation};
 use level_meaning::{Guard, Source};
 use std::alloc::Global;
 use syn_base::{Items, Name, NameFault, OutOfMemory, to_u32};
-use algo_tree::{copy_lens, copy_numbers};
 
 /// Operations and the bodies of their functions, as they are so far.
 #[derive(Drop)]

@@ -10,8 +10,7 @@ ghost use Rattle.check_laws.specs.Tests.{are_called, is_called};
 
 use executive_program::Program;
 use flat_graph::{Kind, Vertex};
-use program_tables::{Mark, MarkTable};
-use program_tables::{call_of, is_lone};
+use program_tables::{Mark, MarkTable, call_of, is_lone};
 use program_walks::{Stand, caller_of, first_call, medium_of, turn_of};
 
 /// The first call of an operation. Of one beyond the table it is looked for in the whole program.

@@ -11,9 +11,8 @@ ghost use Rattle.check_laws.specs.Tests.{are_moved, are_transferred, is_moved};
 ghost use Rattle.macro_check.specs.Tabled.{other_waits, waits_in};
 
 use executive_program::Program;
-use program_tables::{Mark, MarkTable};
 use order_check::{are_communicators, are_counted, are_on_media};
-use program_tables::{Crossing, place_of_communication};
+use program_tables::{Crossing, Mark, MarkTable, place_of_communication};
 use program_walks::{is_on, medium_of, operator_of, turn_of};
 use syn_base::Items;
 use value_check::{is_receive_from, is_send_to, is_wait};

@@ -8,9 +8,9 @@ ghost use Rattle.program_tables.specs.declared.roles.Role.TheVariants.{Read, Wri
 ghost use Rattle.program_tables.specs.Marks.{marks_of};
 ghost use Rattle.program_walks.specs.Walks.{implies};
 
-use executive_program::{Instr, Program};
 use crate::mark_table::{Mark, MarkTable};
 use crate::queries::{Write, write_of};
+use executive_program::{Instr, Program};
 use program_walks::{depth_of, is_entry, operator_of, turn_of};
 
 fn is_written(list: &[Instr], buffer: usize, write: Write) -> bool

@@ -5,8 +5,8 @@ ghost use Rattle.executive_program.specs.Places.{communication_at};
 ghost use Rattle.program_tables.specs.MarkRows.{row};
 ghost use Rattle.program_tables.specs.Communications.{communicators_from, communicators_of, numbers_from, numbers_of, places_from, places_of};
 
-use executive_program::{Instr, Program};
 use crate::mark_table::{Mark, MarkTable};
+use executive_program::{Instr, Program};
 use program_walks::{is_communication, turn_of};
 use std::alloc::Global;
 use syn_base::{Items, OutOfMemory};

@@ -6,8 +6,8 @@ ghost use Rattle.program_tables.specs.Communications.{communicators_of, places_o
 ghost use Rattle.program_tables.specs.Crossings.{crossing, crossing_by, crossings, crossings_on, first_where, receives_in, sends_in};
 
 use crate::communications::place_of_communication;
-use executive_program::{Instr, Program};
 use crate::mark_table::{Mark, MarkTable};
+use executive_program::{Instr, Program};
 use program_walks::{transfers, turn_of};
 use std::alloc::Global;
 use syn_base::{Items, OutOfMemory};

@@ -3,9 +3,9 @@ ghost use Rattle.std.specs.Prelude.{◌≡◌, ℕ, ◌<◌, ◌++◌, IfOk, OnO
 ghost use Rattle.program_tables.specs.MarkRows.{row};
 ghost use Rattle.program_tables.specs.Marks.{marks_at, marks_from, marks_in, marks_of};
 
+use crate::mark_table::{Mark, MarkTable};
 use crate::roles::{Role, numbers_named};
 use executive_program::{Instr, Program};
-use crate::mark_table::{Mark, MarkTable};
 use std::alloc::Global;
 use syn_base::OutOfMemory;
 

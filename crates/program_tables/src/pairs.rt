@@ -9,12 +9,12 @@ ghost use Rattle.program_tables.specs.Marks.{first_at, lone, marks_of};
 ghost use Rattle.program_walks.specs.Walks.{implies};
 ghost use Rattle.program_tables.specs.Readings.{ArePairs};
 
-use crate::readings::Reading;
-use executive_program::Program;
 use crate::mark_table::{Mark, MarkTable};
 use crate::marks::find_marks;
 use crate::queries::{Write, first_at, is_lone, write_of};
+use crate::readings::Reading;
 use crate::roles::Role;
+use executive_program::Program;
 use std::alloc::Global;
 use syn_base::OutOfMemory;
 

@@ -6,8 +6,8 @@ ghost use Rattle.program_tables.specs.Marks.{marks_of};
 ghost use Rattle.program_tables.specs.Readings.{is_new, readings, readings_in};
 
 use crate::buffers::is_in;
-use executive_program::Program;
 use crate::mark_table::{Mark, MarkTable};
+use executive_program::Program;
 use std::alloc::Global;
 use syn_base::OutOfMemory;
 

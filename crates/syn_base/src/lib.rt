@@ -4,6 +4,7 @@
 mod arithmetic;
 mod integer;
 mod items;
+mod lens;
 mod limits;
 mod memory;
 mod name;
@@ -14,6 +15,7 @@ mod shape;
 pub use arithmetic::{Op, apply};
 pub use integer::{NumFault, print_int, printed_reads_back, read_int};
 pub use items::Items;
+pub use lens::len_at;
 pub use limits::{LimitFault, LimitKind};
 pub use memory::OutOfMemory;
 pub use name::{Name, NameFault};

@@ -3,8 +3,20 @@ use Rattle.std.proofs.Common.{◌≡◌, [], ◌∷◌, refl}
 use Rattle.std.specs.Prelude.{codes}
 use Rattle.std.specs.Fmt.{decimal}
 use Rattle.schedule.proofs.Examples.{
-  plain_graph, plain_archi, plain_schedule, bus_graph, bus_archi, bus_schedule, relay_archi, relay_schedule,
-  multi_graph, multi_archi, multi_schedule, speed_graph, speed_archi, speed_schedule,
+  plain_graph,
+  plain_archi,
+  plain_schedule,
+  bus_graph,
+  bus_archi,
+  bus_schedule,
+  relay_archi,
+  relay_schedule,
+  multi_graph,
+  multi_archi,
+  multi_schedule,
+  speed_graph,
+  speed_archi,
+  speed_schedule,
 }
 use Rattle.timing_chart.specs.Chart.{chart_lines}
 
