@@ -2,13 +2,16 @@
 """Whether docs/CLAIMS.md has a line for each crate: a row of a table whose first cell names it, in the
 section of its room, in the order of crates.txt. A row may name several crates, with commas.
 
-    tools/claims.py   a line for each crate without a row, or with one at another place"""
+    tools/claims.py        a line for each crate without a row, or with one at another place
+    tools/claims.py sort   puts each row into the room of its first crate, in the order of crates.txt"""
 import re
 import sys
 
-from repository import Listing, text_of
+from repository import TOP, Listing, text_of
 
 PATH = "docs/CLAIMS.md"
+ROW = re.compile(r"\| *((?:`\w+`(?:, *)?)+) *\|")
+HEAD = "| crate | proved |\n|---|---|\n"
 
 
 def sections(text):
@@ -18,7 +21,7 @@ def sections(text):
     for number, line in enumerate(text.split("\n"), 1):
         if line.startswith("## "):
             rows = found.setdefault(line[3:].strip(), [])
-        cell = re.match(r"\| *((?:`\w+`(?:, *)?)+) *\|", line)
+        cell = ROW.match(line)
         if cell and rows is not None:
             rows += [(name, number) for name in re.findall(r"`(\w+)`", cell[1])]
     return found
@@ -53,7 +56,38 @@ def faults():
             yield f"{PATH}: `{name}` has no row in the room {homes.get(name, '(none)')}"
 
 
-if __name__ == "__main__":
+def in_order(listing, text):
+    """The text with its rows in the order of crates.txt, or None where a row names no crate."""
+    found = [it for it in text.split("\n") if ROW.match(it)]
+    rows = {re.search(r"`(\w+)`", it)[1]: it for it in found}
+    if not found or len(rows) < len(found) or not set(rows) <= set(listing.rows):
+        return None
+    # The rooms go from the first heading to the one behind the last row.
+    first, last = text.index("\n## ") + 1, text.index(found[-1])
+    rest = text.find("\n## ", last)
+    made = []
+    for room in listing.rooms:
+        lines = "".join(f"{rows[it]}\n" for it in room.crates if it in rows)
+        made.append(f"## {room.name}\n\n{HEAD}{lines}\n")
+    return text[:first] + "".join(made) + (text[rest + 1 :] if rest >= 0 else "")
+
+
+def main(words):
+    if words not in ([], ["sort"]):
+        print(__doc__, file=sys.stderr)
+        return 2
+    if words:
+        text = text_of(f"{TOP}/{PATH}")
+        made = in_order(Listing(), text)
+        if made is None:
+            print(f"{PATH}: not sorted, since a row names no crate or there are two", file=sys.stderr)
+        else:
+            with open(f"{TOP}/{PATH}", "w", encoding="utf-8") as it:
+                it.write(made)
     wrong = list(faults())
     print(*wrong, sep="\n", end="\n" if wrong else "")
-    sys.exit(1 if wrong else 0)
+    return 1 if wrong else 0
+
+
+if __name__ == "__main__":
+    sys.exit(main(sys.argv[1:]))

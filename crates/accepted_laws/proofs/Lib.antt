@@ -1,4 +1,3 @@
 pub mod Stands
 pub mod Definitions
-pub mod Architectures
 pub mod Tables

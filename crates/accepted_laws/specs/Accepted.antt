@@ -1,13 +1,11 @@
 -- What accepted texts make.
-use Rattle.std.specs.Prelude.{◌≡◌, ℕ, IsTrue, List, Ok}
-use Rattle.outside.specs.Bytes.{Bytes}
+use Rattle.std.specs.Prelude.{◌≡◌, ℕ, List, Ok}
+use Rattle.syn_base.specs.Bytes.{Bytes}
 use Rattle.syn_base.specs.Rows.{Reactions, AreCut}
 use Rattle.algo_defs.specs.declared.definition.Defs.{Defs}
 use Rattle.algo_text.specs.Text.{definitions_of}
 use Rattle.algo_tree.specs.Tree.{Vertex}
 use Rattle.algo_tree.specs.Ends.{sensor_lengths}
-use Rattle.archi_graph.specs.Archi.{is_archi, is_depth}
-use Rattle.archi_defs.specs.Text.{Described, description_of}
 use Rattle.sensor_table.specs.SensorTable.{rows_of}
 use Rattle.elaboration.specs.Elaborated.{elaboration_of}
 use Rattle.accepted_laws.specs.Flat.{HasFlat}
@@ -15,10 +13,6 @@ use Rattle.accepted_laws.specs.Flat.{HasFlat}
 -- definitions that are accepted have a flat graph
 abbrev pub AcceptedHaveFlat : Type 0
 AcceptedHaveFlat = (text : Bytes) (defs : Defs) (main : Vertex) → definitions_of text ≡ Ok defs → elaboration_of defs ≡ Ok main → HasFlat main
-
--- a described architecture is one
-abbrev pub DescribedAreArchitectures : Type 0
-DescribedAreArchitectures = (text : Bytes) (d : Described) → description_of text ≡ Ok d → IsTrue (is_archi d.archi.operators d.archi.media) × IsTrue (is_depth d.archi.depth)
 
 -- the rows of a table have the vectors of the algorithm's sensors
 abbrev pub TablesFit : Type 0

@@ -1,10 +1,10 @@
 //! What the texts that are accepted make, each law the contract of a function that does nothing: the
-//! definitions of an algorithm have a flat graph that is valid and means the same, a described
-//! architecture is one, and the rows of a sensor table have the vectors of the algorithm's sensors. Whoever
-//! says what an accepted command makes, over texts that are only told and not read, stands on them.
+//! definitions of an algorithm have a flat graph that is valid and means the same, and the rows of a sensor
+//! table have the vectors of the algorithm's sensors. Whoever says what an accepted command makes, over texts
+//! that are only told and not read, stands on them.
 #![tactic(auto)]
 
-ghost use Rattle.accepted_laws.specs.Accepted.{AcceptedHaveFlat, DescribedAreArchitectures, TablesFit};
+ghost use Rattle.accepted_laws.specs.Accepted.{AcceptedHaveFlat, TablesFit};
 ghost use Rattle.accepted_laws.specs.Flat.{FlatOfStands, FlatTakesTheSame, TreesHaveFlat};
 
 /// The flat graph that is defined for a tree stands for the tree's flat list.
@@ -26,11 +26,6 @@ pub fn flat_takes_the_same()
 /// The definitions of an accepted text make a tree whose flat graph is valid and means the same.
 pub fn accepted_have_flat()
     ensures { AcceptedHaveFlat }
-{}
-
-/// What an accepted text describes is an architecture, with 1 to 4 places.
-pub fn described_are_architectures()
-    ensures { DescribedAreArchitectures }
 {}
 
 /// The rows of an accepted table have the vectors of the algorithm's sensors.

@@ -7,7 +7,7 @@ use Rattle.flat_graph.specs.declared.vertex.Kind.TheVariants.{Sensor, Actuator, 
 use Rattle.flat_graph.specs.Graph.{Graph}
 use Rattle.archi_graph.specs.Archi.{Architecture}
 use Rattle.archi_defs.specs.declared.fault.ArchiCause.TheVariants.{UnknownName, BadLine}
-use Rattle.archi_defs.specs.Text.{Bytes}
+use Rattle.syn_base.specs.Bytes.{Bytes}
 use Rattle.durations.specs.Table.{Table}
 use Rattle.schedule.specs.declared.decision.Transfer.{Transfer}
 use Rattle.schedule.specs.declared.decision.Decision.{Decision}

@@ -1,5 +1,6 @@
 //! What a text of actual durations says.
 ghost use Rattle.std.specs.Prelude.{◌≤◌, IsTrue, length};
+ghost use Rattle.syn_base.specs.Limits.{most_in_text};
 ghost use Rattle.archi_defs.specs.Text.{described_by};
 ghost use Rattle.text_lines.specs.Text.{lines_of};
 ghost use Rattle.durations.specs.Lines.{AreDurations};
@@ -36,7 +37,7 @@ pub fn actual_of(
     schedule: &Schedule,
     text: &[u8],
 ) -> Result<Vec<u64>, ActualError>
-    requires short { length (lines_of text.now) ≤ 4000000000 }
+    requires short { length (lines_of text.now) ≤ most_in_text }
     requires valid { IsTrue (is_valid flat.now archi.now (entry_in stated.now) schedule.now) }
     ensures { Gives result (actual_of flat.now archi.now stated.now schedule.now text.now) }
 {

@@ -1,12 +1,11 @@
 //! How long operations and transfers last.
 ghost use Rattle.std.specs.Prelude.{◌≡◌, ◌++◌, All, OnOk, length, map, slice_index_or};
-ghost use Rattle.flat_graph.specs.Graph.{len_of};
 ghost use Rattle.actual_durations.specs.Actual.{operation_ticks, operations_ticks, transfer_ticks, transfers_of};
 ghost use Rattle.actual_durations.specs.Answers.{IsOneOf};
 
 use archi_graph::Medium;
 use durations::{Given, entry};
-use flat_graph::{Source, Vertex};
+use flat_graph::{Source, Vertex, len_of};
 use schedule::{Decision, Transfer};
 use syn_base::OutOfMemory;
 
@@ -79,20 +78,4 @@ fn transfer_ticks(vertices: &[Vertex], media: &[Medium], transfer: Transfer) -> 
         }
         None => 0,
     }
-}
-
-/// The length of a source, 0 where there is none.
-fn len_of(vertices: &[Vertex], source: Source) -> u32
-    ensures { result ≡ len_of vertices.now source }
-{
-    match vertices.get(source.vertex as usize) {
-        Some(vertex) => len_at(vertex.outs.as_slice(), source.port as usize),
-        None => 0,
-    }
-}
-
-fn len_at(lens: &[u32], port: usize) -> u32
-    ensures { result ≡ slice_index_or lens.now port 0 }
-{
-    if port < lens.len() { lens[port] } else { 0 }
 }

@@ -1,5 +1,6 @@
 //! The first number of a text of actual durations that is above the stated one, or missing: media before operations.
 ghost use Rattle.std.specs.Prelude.{◌≡◌, ◌≤◌, All, length};
+ghost use Rattle.syn_base.specs.Limits.{most_operations};
 ghost use Rattle.actual_defs.specs.declared.fault.ActualFault.TheVariants.{Longer, Missing};
 ghost use Rattle.actual_durations.specs.Actual.{duration_fault, is_slower, slower_medium, slower_operation};
 ghost use Rattle.actual_durations.specs.Answers.{IsFault, IsOneOf, Tells};
@@ -39,7 +40,7 @@ pub fn check_operations(
     vertices: &[Vertex],
     operators: &[Option<u32>],
 ) -> Result<(), ActualError>
-    requires few { length vertices.now ≤ 2048 }
+    requires few { length vertices.now ≤ most_operations }
     requires each { length operators.now ≡ length vertices.now }
     requires there { All (IsOneOf actual.now.operators) operators.now }
     ensures { Tells result (slower_operation stated.now actual.now.lines 0 vertices.now operators.now) }

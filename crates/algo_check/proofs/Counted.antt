@@ -13,7 +13,7 @@ use Rattle.algo_defs.specs.declared.definition.Body.TheVariants.{Sensor, Actuato
 use Rattle.algo_defs.specs.declared.definition.Frontier.{Frontier}
 use Rattle.algo_defs.specs.declared.definition.Frontier.TheVariants.{Fork, Diffuse, Iterate, Join}
 use Rattle.algo_defs.specs.declared.definition.FrontierLine.{FrontierLine}
-use Rattle.algo_defs.specs.Words.{Bytes}
+use Rattle.syn_base.specs.Bytes.{Bytes}
 use Rattle.algo_rules.specs.Links.{definition, unknown}
 use Rattle.algo_rules.specs.Resolved.{count_by, count_in, count_within, is_fork, operations}
 use Rattle.algo_rules.specs.WellRead.{IsWellRead}

@@ -5,7 +5,7 @@ use Rattle.std.proofs.Math.Nat.{le-max_left}
 use Rattle.algo_defs.specs.declared.definition.Def.{Def}
 use Rattle.algo_defs.specs.declared.definition.Body.{Body}
 use Rattle.algo_defs.specs.declared.definition.Body.TheVariants.{Sensor, Actuator, Constant, Delay, Function, Graph, Switch, Repeat}
-use Rattle.algo_defs.specs.Words.{Bytes}
+use Rattle.syn_base.specs.Bytes.{Bytes}
 use Rattle.algo_rules.specs.Links.{definition, unknown, links_of}
 use Rattle.algo_rules.specs.Ports.{outer_ports, ports_by, ports_in, ports_of, ports_within}
 use Rattle.algo_rules.specs.declared.ports.Ports.{Ports}

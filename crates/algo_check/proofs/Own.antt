@@ -8,7 +8,7 @@ use Rattle.std.proofs.lemmas.List.FromFn.{length-map-range_with_len}
 use Rattle.std.proofs.lemmas.Cmp.{nat_list_eq_equiv}
 use Rattle.algo_defs.specs.declared.definition.Def.{Def}
 use Rattle.algo_defs.specs.declared.fault.AlgoError.{AlgoError}
-use Rattle.algo_defs.specs.Words.{Bytes}
+use Rattle.syn_base.specs.Bytes.{Bytes}
 use Rattle.algo_tree.specs.Well.{AreDistinctNames, IsNewName}
 use Rattle.algo_rules.specs.Links.{definition, links_of, too_deep, too_deep_by}
 use Rattle.algo_rules.specs.Ports.{no_ports, ports_of}

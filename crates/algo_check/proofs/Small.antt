@@ -13,7 +13,7 @@ use Rattle.algo_defs.specs.declared.definition.Frontier.TheVariants.{Fork, Diffu
 use Rattle.algo_defs.specs.declared.definition.FrontierLine.{FrontierLine}
 use Rattle.algo_defs.specs.declared.fault.AlgoError.{AlgoError}
 use Rattle.algo_defs.specs.declared.fault.AlgoCause.TheVariants.{BadRepeat}
-use Rattle.algo_defs.specs.Words.{Bytes}
+use Rattle.syn_base.specs.Bytes.{Bytes}
 use Rattle.algo_rules.specs.Links.{fault, first_of}
 use Rattle.algo_rules.specs.Frontiers.{too_long, used_by, is_open, frontier_fault, frontier_faults, repeat_fault, unfed}
 use Rattle.algo_rules.specs.Ports.{has_port, len_of, one_port, outer_ins, outer_outs, outer_ports, ports_by, ports_of}

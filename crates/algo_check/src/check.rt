@@ -1,6 +1,7 @@
 //! All checks of definitions, in their order.
 ghost use Rattle.std.specs.Prelude.{◌≡◌, ◌≤◌, ◌∷◌, [], IfOk, length, map};
 ghost use Rattle.std.specs.List.{All};
+ghost use Rattle.syn_base.specs.Limits.{most_in_text};
 ghost use Rattle.algo_tree.specs.Well.{AreDistinctNames};
 ghost use Rattle.algo_rules.specs.Links.{first_of};
 ghost use Rattle.algo_rules.specs.Placed.{Checks};
@@ -24,7 +25,7 @@ use std::alloc::Global;
 /// answer.
 pub fn check_definitions(alloc: Global, defs: &Defs) -> Result<Vec<Ports>, AlgoError>
     requires read { AreWellRead defs.now.defs }
-    requires few { length defs.now.defs ≤ 4000000000 }
+    requires few { length defs.now.defs ≤ most_in_text }
     ensures checks { Checks result (refusal defs.now.defs) }
     ensures ports { IfOk result (λ table. table.items ≡ map (λ d. ports_of defs.now.defs d.name) defs.now.defs) }
 {

@@ -1,5 +1,6 @@
 //! Which definitions refer to which, and how deep: the checks that need no ports.
 ghost use Rattle.std.specs.Prelude.{◌≡◌, ◌<◌, ◌≤◌, ◌∷◌, [], IfOk, None, Some, length, map};
+ghost use Rattle.syn_base.specs.Limits.{most_in_text};
 ghost use Rattle.algo_tree.specs.Well.{AreDistinctNames};
 ghost use Rattle.algo_links.specs.Placing.{Tells};
 ghost use Rattle.algo_rules.specs.Links.{first_of, links_of, misplaced, recursive, recursive_by, too_deep, too_deep_by, unknown};
@@ -29,7 +30,7 @@ pub struct Levels {
 /// first depth above 8. OutOfMemory may come in place of any answer.
 pub fn levels_of(alloc: Global, defs: &Defs) -> Result<Levels, AlgoError>
     requires distinct { AreDistinctNames (map (λ d. d.name) defs.now.defs) }
-    requires few { length defs.now.defs ≤ 4000000000 }
+    requires few { length defs.now.defs ≤ most_in_text }
     ensures checks { Checks result (first_of (unknown defs.now.defs ∷ misplaced defs.now.defs ∷
         recursive defs.now.defs ∷ too_deep defs.now.defs ∷ [])) }
     ensures leveled { IfOk result (λ l. AreLeveled defs.now.defs l.links l.depths) }
@@ -45,7 +46,7 @@ pub fn levels_of(alloc: Global, defs: &Defs) -> Result<Levels, AlgoError>
 
 /// The depth of each definition, where none reaches itself.
 fn linked_depths(alloc: Global, defs: &[Def], links: &[Items<u32>]) -> Result<Items<u32>, AlgoError>
-    requires few { length defs.now ≤ 4000000000 }
+    requires few { length defs.now ≤ most_in_text }
     requires known { unknown defs.now ≡ None }
     requires links { links.now ≡ links_of defs.now }
     ensures checks { Checks result (recursive defs.now) }

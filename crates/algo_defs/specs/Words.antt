@@ -2,9 +2,7 @@
 use Rattle.std.specs.Prelude.{ℕ, Bool, List}
 use Rattle.std.specs.List.{list_any}
 use Rattle.std.specs.Str.{bytes_eq}
-
-abbrev pub Bytes : Type 0
-Bytes = List ℕ
+use Rattle.syn_base.specs.Bytes.{Bytes}
 
 abbrev pub is_among : Bytes → List Bytes → Bool
 is_among w names = list_any (bytes_eq w) names

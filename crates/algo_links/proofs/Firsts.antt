@@ -7,7 +7,7 @@ use Rattle.algo_defs.specs.declared.definition.Def.{Def}
 use Rattle.algo_defs.specs.declared.fault.AlgoError.{AlgoError}
 use Rattle.algo_defs.specs.declared.fault.AlgoError.TheVariants.{Refused, Limit, OutOfMemory}
 use Rattle.algo_defs.specs.declared.fault.AlgoCause.TheVariants.{Misplaced}
-use Rattle.algo_defs.specs.Words.{Bytes}
+use Rattle.syn_base.specs.Bytes.{Bytes}
 use Rattle.algo_rules.specs.Links.{fault, first_of, Mention, may_stand, misplaced_by, definition}
 use Rattle.algo_rules.specs.Placed.{Checks}
 use Rattle.algo_links.specs.Placing.{Tells, place_of, places_of, misplaced_in}

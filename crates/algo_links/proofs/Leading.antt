@@ -9,7 +9,7 @@ use Rattle.algo_defs.specs.declared.definition.Body.{Body}
 use Rattle.algo_defs.specs.declared.definition.Body.TheVariants.{Sensor, Actuator, Constant, Delay, Function, Graph, Switch, Repeat}
 use Rattle.algo_defs.specs.declared.definition.Case.{Case}
 use Rattle.algo_defs.specs.declared.fault.AlgoError.{AlgoError}
-use Rattle.algo_defs.specs.Words.{Bytes}
+use Rattle.syn_base.specs.Bytes.{Bytes}
 use Rattle.algo_rules.specs.Links.{first_of, Mention, mentions, mentions_in, definition, unknown_by, links_of}
 use Rattle.algo_links.specs.Placing.{place_of, places_of}
 use Rattle.algo_links.specs.Linked.{IsLinked, AreLinked, named, EachLeads, AllLead}

@@ -1,5 +1,6 @@
 //! The places of the definitions that definitions name.
 ghost use Rattle.std.specs.Prelude.{◌≡◌, ◌≤◌, IfOk, length, map, ◌∷◌, []};
+ghost use Rattle.syn_base.specs.Limits.{most_in_text};
 ghost use Rattle.algo_tree.specs.Well.{AreDistinctNames};
 ghost use Rattle.algo_rules.specs.Links.{first_of, unknown, misplaced, links_of, mentions};
 ghost use Rattle.algo_rules.specs.Placed.{Checks};
@@ -20,7 +21,7 @@ fn places_of_lines(
     names: &Names,
     mentions: &[Mention],
 ) -> Result<Items<u32>, AlgoError>
-    requires { length names.now ≤ 4000000000 }
+    requires { length names.now ≤ most_in_text }
     ensures checks { Checks result (unknown_in names.now mentions.now) }
     ensures places { IfOk result (λ places. places ≡ places_in names.now mentions.now) }
 {
@@ -39,7 +40,7 @@ fn places_of_lines(
 
 /// The places of the names that a definition names.
 fn places_of_def(alloc: Global, names: &Names, def: &Def) -> Result<Items<u32>, AlgoError>
-    requires { length names.now ≤ 4000000000 }
+    requires { length names.now ≤ most_in_text }
     ensures checks { Checks result (unknown_in names.now (mentions def.now)) }
     ensures places { IfOk result (λ places. places ≡ places_in names.now (mentions def.now)) }
 {
@@ -51,7 +52,7 @@ fn places_of_def(alloc: Global, names: &Names, def: &Def) -> Result<Items<u32>, 
 
 /// The places of the names that each definition names, or the first line whose name is not there.
 fn places_of_all(alloc: Global, names: &Names, defs: &[Def]) -> Result<Vec<Items<u32>>, AlgoError>
-    requires { length names.now ≤ 4000000000 }
+    requires { length names.now ≤ most_in_text }
     ensures checks { Checks result (unknown_all names.now defs.now) }
     ensures links { IfOk result (λ links. links.items ≡ places_all names.now defs.now) }
 {
@@ -68,7 +69,7 @@ fn places_of_all(alloc: Global, names: &Names, defs: &[Def]) -> Result<Vec<Items
 /// For each definition the places of those that it names, or the first line that names none.
 fn known_links(alloc: Global, defs: &[Def]) -> Result<Vec<Items<u32>>, AlgoError>
     requires distinct { AreDistinctNames (names_of defs.now) }
-    requires few { length defs.now ≤ 4000000000 }
+    requires few { length defs.now ≤ most_in_text }
     ensures checks { Checks result (unknown defs.now) }
     ensures links { IfOk result (λ links. links.items ≡ links_of defs.now) }
 {
@@ -81,7 +82,7 @@ fn known_links(alloc: Global, defs: &[Def]) -> Result<Vec<Items<u32>>, AlgoError
 /// The same, with the check of what may stand where.
 fn checked_links(alloc: Global, defs: &[Def]) -> Result<Vec<Items<u32>>, AlgoError>
     requires distinct { AreDistinctNames (names_of defs.now) }
-    requires few { length defs.now ≤ 4000000000 }
+    requires few { length defs.now ≤ most_in_text }
     ensures checks { Checks result (first_of (unknown defs.now ∷ misplaced defs.now ∷ [])) }
     ensures links { IfOk result (λ links. links.items ≡ links_of defs.now) }
 {
@@ -99,7 +100,7 @@ fn checked_links(alloc: Global, defs: &[Def]) -> Result<Vec<Items<u32>>, AlgoErr
 /// in place of any answer.
 pub fn links_of(alloc: Global, defs: &Defs) -> Result<Vec<Items<u32>>, AlgoError>
     requires distinct { AreDistinctNames (map (λ d. d.name) defs.now.defs) }
-    requires few { length defs.now.defs ≤ 4000000000 }
+    requires few { length defs.now.defs ≤ most_in_text }
     ensures checks { Checks result (first_of (unknown defs.now.defs ∷ misplaced defs.now.defs ∷ [])) }
     ensures links { IfOk result (λ links. links.items ≡ links_of defs.now.defs) }
 {

@@ -3,7 +3,7 @@ use Rattle.std.proofs.Common.{◌≡◌, Some, Result, Ok, Err, ℤ, subst, w64,
 use Rattle.syn_base.specs.declared.integer.NumFault.{NumFault}
 use Rattle.syn_base.specs.Integer.{integer_of}
 use Rattle.body_text.proofs.CanonicalSound.{Fitting, integer_fits}
-use Rattle.algo_defs.specs.Words.{Bytes}
+use Rattle.syn_base.specs.Bytes.{Bytes}
 use Rattle.algo_text.specs.Words.{number_by, number_of}
 
 read_fits : (r : Result ℤ NumFault) (v : ℤ) → Fitting r → number_by r ≡ Some v → FitsSigned w64 v

@@ -15,7 +15,7 @@ use Rattle.body_text.proofs.CanonicalReads.{reads_back}
 use Rattle.algo_defs.specs.declared.definition.Def.{Def}
 use Rattle.algo_defs.specs.declared.definition.Output.{Output}
 use Rattle.algo_defs.specs.declared.definition.Body.TheVariants.{Function}
-use Rattle.algo_defs.specs.Words.{Bytes}
+use Rattle.syn_base.specs.Bytes.{Bytes}
 use Rattle.algo_text.specs.Words.{word}
 use Rattle.algo_text.specs.Formulas.{formula_of}
 use Rattle.algo_text.specs.Blocks.{Block, in_line, and_then, is_taken, is_equals, result_words, result_at, result_line, with_result}

@@ -4,7 +4,7 @@ use Rattle.std.specs.List.{list_all, position_or_len}
 use Rattle.std.proofs.lemmas.Grind.{common_steps}
 use Rattle.std.proofs.lemmas.List.{take_all}
 use Rattle.text_lines.specs.Text.{is_feed, is_blank, is_hash, is_foreign, lines_of, words_of, with_byte, code_of, foreign_place}
-use Rattle.algo_defs.specs.Words.{Bytes}
+use Rattle.syn_base.specs.Bytes.{Bytes}
 use Rattle.algo_print.specs.Canonical.{spaced, joined, text_of}
 
 -- a byte of a word: neither a blank, a comment's beginning nor a line feed, and allowed

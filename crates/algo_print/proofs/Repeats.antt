@@ -10,7 +10,8 @@ use Rattle.algo_defs.specs.declared.definition.FrontierLine.{FrontierLine}
 use Rattle.algo_defs.specs.declared.fault.AlgoError.{AlgoError}
 use Rattle.algo_defs.specs.declared.fault.AlgoCause.TheVariants.{BadLine, DuplicateName}
 use Rattle.syn_base.specs.declared.limits.LimitKind.TheVariants.{Ports}
-use Rattle.algo_defs.specs.Words.{Bytes, is_among}
+use Rattle.syn_base.specs.Bytes.{Bytes}
+use Rattle.algo_defs.specs.Words.{is_among}
 use Rattle.algo_text.specs.Words.{word}
 use Rattle.algo_defs.specs.Outer.{all_outer}
 use Rattle.algo_text.specs.Blocks.{Block, refused, above, all_names, with_frontier}

@@ -19,7 +19,7 @@ use Rattle.body_text.proofs.CanonicalSound.{AreSound, IsSoundTree, tokens_sound,
 use Rattle.body_text.proofs.CanonicalText.{text_of}
 use Rattle.body_text.proofs.CanonicalPorts.{known, same_text}
 use Rattle.body_text.specs.Grammar.{written}
-use Rattle.algo_defs.specs.Words.{Bytes}
+use Rattle.syn_base.specs.Bytes.{Bytes}
 use Rattle.algo_text.specs.Words.{number_of, number_by, count_of, count_by, period_of, period_by}
 use Rattle.algo_text.specs.Blocks.{is_equals}
 use Rattle.algo_print.specs.Canonical.{count}

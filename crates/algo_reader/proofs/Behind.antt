@@ -1,6 +1,6 @@
 -- The words after the first.
 use Rattle.std.proofs.Common.{◌≡◌, List, [], ◌∷◌, length, drop, refl, arith}
-use Rattle.algo_defs.specs.Words.{Bytes}
+use Rattle.syn_base.specs.Bytes.{Bytes}
 use Rattle.algo_text.specs.Words.{word}
 
 pub behind_two : (ws : List Bytes) → length ws ≡ 3 → drop 1 ws ≡ word ws 1 ∷ word ws 2 ∷ []

@@ -9,7 +9,7 @@ use Rattle.body_lang.specs.Expr.{Expr}
 use Rattle.algo_defs.specs.declared.fault.AlgoError.{AlgoError}
 use Rattle.algo_defs.specs.declared.fault.AlgoError.TheVariants.{Refused, Limit, OutOfMemory}
 use Rattle.algo_defs.specs.declared.fault.AlgoCause.TheVariants.{BadLine, BadName, BadNumber, DuplicateName}
-use Rattle.algo_defs.specs.Words.{Bytes}
+use Rattle.syn_base.specs.Bytes.{Bytes}
 use Rattle.algo_text.specs.Words.{word, count_of}
 use Rattle.algo_text.specs.Formulas.{formula_of}
 use Rattle.algo_text.specs.declared.part.Part.TheVariants.{Inputs, Outputs}

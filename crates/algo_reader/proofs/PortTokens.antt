@@ -1,6 +1,7 @@
 -- The first port that is none has the name that stands at its place.
 use Rattle.std.proofs.Common.{◌≡◌, ℕ, Option, Err, List, ap, sym, ◌∙◌, subst}
-use Rattle.body_text.specs.Tokens.{Bytes, Token, tokens}
+use Rattle.syn_base.specs.Bytes.{Bytes}
+use Rattle.body_text.specs.Tokens.{Token, tokens}
 use Rattle.body_text.specs.Ports.{resolved}
 use Rattle.body_text.specs.Reads.{IsUnknown, Reads}
 use Rattle.body_text.specs.declared.fault.BodyFault.{BodyFault}

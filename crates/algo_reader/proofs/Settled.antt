@@ -8,7 +8,8 @@ use Rattle.algo_defs.specs.declared.definition.Body.TheVariants.{Sensor, Actuato
 use Rattle.algo_defs.specs.declared.definition.Defs.{Defs}
 use Rattle.algo_defs.specs.declared.fault.AlgoError.{AlgoError}
 use Rattle.algo_defs.specs.declared.fault.AlgoError.TheVariants.{Refused, Limit, OutOfMemory}
-use Rattle.algo_defs.specs.Words.{Bytes, is_among}
+use Rattle.syn_base.specs.Bytes.{Bytes}
+use Rattle.algo_defs.specs.Words.{is_among}
 use Rattle.algo_text.specs.Words.{word, count_of}
 use Rattle.syn_base.specs.declared.limits.LimitKind.TheVariants.{PortLength}
 use Rattle.algo_text.specs.declared.part.Part.TheVariants.{Inputs}

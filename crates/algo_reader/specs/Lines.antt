@@ -6,7 +6,7 @@ use Rattle.syn_base.specs.declared.limits.LimitKind.TheVariants.{PortLength, Por
 use Rattle.body_lang.specs.declared.expression.Port.{Port}
 use Rattle.algo_defs.specs.declared.fault.AlgoError.{AlgoError}
 use Rattle.algo_defs.specs.declared.fault.AlgoCause.TheVariants.{BadName, BadNumber}
-use Rattle.algo_defs.specs.Words.{Bytes}
+use Rattle.syn_base.specs.Bytes.{Bytes}
 use Rattle.algo_text.specs.Words.{word, count_of}
 use Rattle.algo_text.specs.Blocks.{refused, is_above, above, with_some}
 

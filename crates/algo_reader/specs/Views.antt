@@ -1,6 +1,6 @@
 -- What contracts see of the open block and of the reader.
 use Rattle.std.specs.Prelude.{ℕ, ℤ, Bool, nat_lt, length, true, false, List, [], ◌∷◌, ◌++◌, Option, Some, None, Result, Ok, Err}
-use Rattle.algo_defs.specs.Words.{Bytes}
+use Rattle.syn_base.specs.Bytes.{Bytes}
 use Rattle.algo_defs.specs.declared.definition.Def.{Def}
 use Rattle.algo_defs.specs.declared.definition.Frontier.{Frontier}
 use Rattle.algo_defs.specs.declared.definition.Body.{Body}

@@ -1,5 +1,6 @@
 //! The expression of an output.
 ghost use Rattle.std.specs.Prelude.{◌≡◌, ◌≤◌, length, map, position, drop};
+ghost use Rattle.syn_base.specs.Limits.{most_in_text};
 ghost use Rattle.algo_text.specs.Formulas.{formula_of};
 ghost use Rattle.algo_reader.specs.Given.{Makes};
 ghost use Rattle.algo_reader.specs.Lines.{name_length, name_from, is_other};
@@ -64,7 +65,7 @@ pub fn read_formula(
     ports: &[Port],
     text: &[u8],
 ) -> Result<Formula, AlgoError>
-    requires { length ports.now ≤ 4000000000 }
+    requires { length ports.now ≤ most_in_text }
     ensures { Makes result (formula_of number (map (λ p. p.name) ports.now) text.now) }
 {
     match read_body(alloc, text, ports) {

@@ -1,5 +1,6 @@
 //! The lines of a text, one after the other.
 ghost use Rattle.std.specs.Prelude.{◌≡◌, ◌<◌, ◌≤◌, length, Ok};
+ghost use Rattle.syn_base.specs.Limits.{most_in_text};
 ghost use Rattle.text_lines.specs.Text.{lines_of};
 ghost use Rattle.algo_text.specs.Blocks.{new_block};
 ghost use Rattle.algo_text.specs.Text.{definitions_of, start, first_part, version_line, end_line, values_line, deep_line, delay_line, opening_line, repeat_line, between_line, function_line, graph_line, switch_line, frontier_line, by_stage, next_line, at_end, defs_in, in_function, in_graph, in_switch, in_repeat};
@@ -587,7 +588,7 @@ impl<'a> Reader<'a> {
 /// The definitions of a text, or its first refusal in the order of its lines: Refused with the line and
 /// the cause, or Limit. OutOfMemory may come in place of any answer.
 pub fn read_algo(alloc: Global, bytes: &[u8]) -> Result<Defs, AlgoError>
-    requires { length (lines_of bytes.now) ≤ 4000000000 }
+    requires { length (lines_of bytes.now) ≤ most_in_text }
     ensures { Makes result (definitions_of bytes.now) }
 {
     let mut reader = Reader::new(alloc);

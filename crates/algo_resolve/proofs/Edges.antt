@@ -5,7 +5,7 @@ use Rattle.body_lang.specs.declared.expression.Port.{Port}
 use Rattle.level_meaning.specs.declared.source.Source.{Source}
 use Rattle.algo_defs.specs.declared.definition.Reference.{Reference}
 use Rattle.algo_defs.specs.declared.definition.Edge.{Edge}
-use Rattle.algo_defs.specs.Words.{Bytes}
+use Rattle.syn_base.specs.Bytes.{Bytes}
 use Rattle.algo_rules.specs.Graphs.{same_owner}
 use Rattle.algo_rules.specs.Resolved.{source_from, source_to, sources_to}
 use Rattle.algo_rules.specs.declared.ports.Ports.{Ports}

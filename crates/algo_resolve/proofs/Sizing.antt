@@ -8,7 +8,7 @@ use Rattle.algo_tree.proofs.Capped.{product_capped}
 use Rattle.algo_defs.specs.declared.definition.Def.{Def}
 use Rattle.algo_defs.specs.declared.definition.Body.{Body}
 use Rattle.algo_defs.specs.declared.definition.Body.TheVariants.{Sensor, Actuator, Constant, Delay, Function, Graph, Switch, Repeat}
-use Rattle.algo_defs.specs.Words.{Bytes}
+use Rattle.syn_base.specs.Bytes.{Bytes}
 use Rattle.algo_rules.specs.Links.{unknown}
 use Rattle.algo_rules.specs.Resolved.{is_fork}
 use Rattle.algo_links.specs.Linked.{AreLinked, IsLinked, named}

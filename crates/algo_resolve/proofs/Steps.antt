@@ -16,7 +16,7 @@ use Rattle.algo_tree.specs.declared.vertex.Kind.{Kind}
 use Rattle.algo_defs.specs.declared.definition.Def.{Def}
 use Rattle.algo_defs.specs.declared.definition.Reference.{Reference}
 use Rattle.algo_defs.specs.declared.definition.Edge.{Edge}
-use Rattle.algo_defs.specs.Words.{Bytes}
+use Rattle.syn_base.specs.Bytes.{Bytes}
 use Rattle.algo_links.proofs.Fresh.{from_here}
 use Rattle.algo_rules.specs.Links.{definition}
 use Rattle.algo_rules.specs.Placed.{ArePlaced, IsPlaced}

@@ -1,7 +1,7 @@
 -- A graph with the definitions that its references name.
 use Rattle.std.specs.Prelude.{◌≡◌, List, map, Some}
 use Rattle.algo_defs.specs.declared.definition.Def.{Def}
-use Rattle.algo_defs.specs.Words.{Bytes}
+use Rattle.syn_base.specs.Bytes.{Bytes}
 use Rattle.algo_rules.specs.declared.ports.Ports.{Ports}
 use Rattle.algo_rules.specs.Ports.{ports_of}
 use Rattle.algo_rules.specs.Placed.{ArePlaced}

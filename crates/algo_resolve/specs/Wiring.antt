@@ -6,7 +6,7 @@ use Rattle.level_meaning.specs.declared.source.Source.{Source}
 use Rattle.level_meaning.specs.declared.source.Source.TheVariants.{Own}
 use Rattle.algo_defs.specs.declared.definition.Reference.{Reference}
 use Rattle.algo_defs.specs.declared.definition.Edge.{Edge}
-use Rattle.algo_defs.specs.Words.{Bytes}
+use Rattle.syn_base.specs.Bytes.{Bytes}
 use Rattle.algo_rules.specs.Graphs.{same_owner}
 use Rattle.algo_rules.specs.Resolved.{source_from}
 use Rattle.algo_rules.specs.declared.ports.Ports.{Ports}

@@ -17,14 +17,13 @@ ghost use Rattle.algo_resolve.specs.Plans.{wires_by};
 
 use crate::builder::{Builder, WiredGraph};
 use crate::kind::{port_lens, port_names};
-use crate::lookup::{copy_name, small};
+use crate::lookup::copy_name;
 use algo_defs::{Body, Case, Def, Reference};
 use algo_rules::Ports;
-use algo_tree::{Kind, Vertex};
+use algo_tree::{Kind, Vertex, copy_kind, copy_sources};
 use level_meaning::{Part, Source};
 use std::alloc::Global;
-use syn_base::{Items, Name, OutOfMemory};
-use tree_copy::{copy_kind, copy_sources};
+use syn_base::{Items, Name, OutOfMemory, to_u32};
 
 /// Where a vertex stands.
 #[derive(Drop)]
@@ -241,7 +240,7 @@ fn inner_seat(number: u32, ins: Items<Source>) -> Seat
 fn case_seat(alloc: Global, number: usize, ins: usize) -> Result<Seat, OutOfMemory>
     ensures { IfOk result (λ s. s ≡ record { part = Numbered number; ins = owns 1 ins; sensor = 0; actuator = 0 }) }
 {
-    Ok(inner_seat(small(number)?, own_inputs(alloc, 1, ins)?))
+    Ok(inner_seat(to_u32(number)?, own_inputs(alloc, 1, ins)?))
 }
 
 /// The references of a graph, in order.
@@ -329,7 +328,7 @@ fn actuators_of(def: &Def) -> u32
 fn own_inputs(alloc: Global, first: u32, count: usize) -> Result<Items<Source>, OutOfMemory>
     ensures { IfOk result (λ sources. sources ≡ owns first count) }
 {
-    let end = small(count)?.checked_add(first).ok_or(OutOfMemory)?;
+    let end = to_u32(count)?.checked_add(first).ok_or(OutOfMemory)?;
     let mut sources = Vec::new(alloc);
     for number in first..end {
         sources.push(Source::Own(number))?;

@@ -4,13 +4,13 @@ ghost use Rattle.std.specs.List.{flat_map};
 ghost use Rattle.algo_defs.specs.declared.definition.Frontier.TheVariants.{Diffuse, Fork, Iterate};
 ghost use Rattle.algo_rules.specs.Resolved.{feed_by, feed_of, give_by};
 
-use crate::lookup::{copy_name, port_len, small};
+use crate::lookup::{copy_name, port_len};
 use algo_defs::{Frontier, FrontierLine};
 use algo_rules::Ports;
 use graph_check::find_port;
 use level_meaning::{Feed, Give};
 use std::alloc::Global;
-use syn_base::{Items, Name, OutOfMemory};
+use syn_base::{Items, Name, OutOfMemory, to_u32};
 
 /// How the inputs of the body are fed, in order.
 pub fn feeds(
@@ -88,7 +88,7 @@ fn fork(
     if name.as_bytes() != input.as_bytes() {
         return Ok(None);
     }
-    let number = small(find_port(outer.ins.as_slice(), from.as_bytes()))?;
+    let number = to_u32(find_port(outer.ins.as_slice(), from.as_bytes()))?;
     let len = port_len(inner.ins.as_slice(), input);
     Ok(Some(Feed::Fork(copy_name(alloc, from)?, number, len)))
 }
@@ -104,7 +104,7 @@ fn diffuse(
     if name.as_bytes() != input.as_bytes() {
         return Ok(None);
     }
-    let number = small(find_port(outer.ins.as_slice(), from.as_bytes()))?;
+    let number = to_u32(find_port(outer.ins.as_slice(), from.as_bytes()))?;
     Ok(Some(Feed::Diffuse(number)))
 }
 
@@ -122,8 +122,8 @@ fn iterate(
     if name.as_bytes() != input.as_bytes() {
         return Ok(None);
     }
-    let first = small(find_port(outer.ins.as_slice(), from.as_bytes()))?;
-    let next = small(find_port(inner.outs.as_slice(), given.as_bytes()))?;
+    let first = to_u32(find_port(outer.ins.as_slice(), from.as_bytes()))?;
+    let next = to_u32(find_port(inner.outs.as_slice(), given.as_bytes()))?;
     Ok(Some(Feed::Iterate(first, next)))
 }
 
@@ -150,10 +150,10 @@ fn give(alloc: Global, inner: &Ports, frontier: &Frontier) -> Result<Option<Give
 {
     match frontier {
         Frontier::Iterate { given, .. } => {
-            Ok(Some(Give::Last(small(find_port(inner.outs.as_slice(), given.as_bytes()))?)))
+            Ok(Some(Give::Last(to_u32(find_port(inner.outs.as_slice(), given.as_bytes()))?)))
         }
         Frontier::Join { given, outer } => {
-            let number = small(find_port(inner.outs.as_slice(), given.as_bytes()))?;
+            let number = to_u32(find_port(inner.outs.as_slice(), given.as_bytes()))?;
             Ok(Some(Give::Join(copy_name(alloc, outer)?, number)))
         }
         Frontier::Fork { .. } | Frontier::Diffuse { .. } => Ok(None),

@@ -16,11 +16,10 @@ use crate::lookup::copy_name;
 use crate::sources::Graph;
 use algo_defs::{Body, Case, FrontierLine, Output};
 use algo_rules::Ports;
-use algo_tree::Kind;
+use algo_tree::{Kind, copy_numbers};
 use body_lang::{Body as Function, Expr, Port};
 use std::alloc::Global;
 use syn_base::{Items, Name, OutOfMemory};
-use tree_copy::copy_numbers;
 
 impl<'a> Checked<'a> {
     /// The kind of the vertices of this definition, which has the ports `own`. The definitions that it

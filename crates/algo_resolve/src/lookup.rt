@@ -18,17 +18,6 @@ pub fn port_len(ports: &[Port], name: &Name) -> u32
     0
 }
 
-/// A number of a port, a reference or a case as a tree has it. No text has 2^32 of them: more
-/// would be want of memory.
-pub fn small(number: usize) -> Result<u32, OutOfMemory>
-    ensures { IfOk result (λ n. n ≡ number) }
-{
-    match u32::try_from(number) {
-        Ok(small) => Ok(small),
-        Err(_) => Err(OutOfMemory),
-    }
-}
-
 /// The bytes of a name.
 pub fn copy_name(alloc: Global, name: &Name) -> Result<Items<u8>, OutOfMemory>
     ensures { IfOk result (λ bytes. bytes ≡ name.now) }

@@ -1,5 +1,6 @@
 //! The tree of definitions, or their first refusal.
 ghost use Rattle.std.specs.Prelude.{◌≡◌, ◌<◌, ◌≤◌, IfOk, IfSome, MatchOption, None, Some, codes, length, nat_lt, slice_get};
+ghost use Rattle.syn_base.specs.Limits.{most_in_text};
 ghost use Rattle.algo_rules.specs.Links.{definition};
 ghost use Rattle.algo_rules.specs.Placed.{Gives};
 ghost use Rattle.algo_rules.specs.Resolved.{refusal, resolution_of, tree_of};
@@ -32,7 +33,7 @@ use tree_laws::{accepted_make_a_tree, vertices_are_counted};
 /// at most this many is always made, as far as there is memory.
 pub fn resolve(alloc: Global, defs: &Defs) -> Result<Tree, AlgoError>
     requires read { AreWellRead defs.now.defs }
-    requires few { length defs.now.defs ≤ 4000000000 }
+    requires few { length defs.now.defs ≤ most_in_text }
     ensures gives { Gives result (resolution_of defs.now.defs) }
     ensures named { IfOk result (λ t. HasNames t) }
     ensures bounded { IfOk result (λ t. HasBounds t) }

@@ -7,14 +7,13 @@ ghost use Rattle.algo_resolve.specs.Parts.{IsPlacedGraph, of};
 ghost use Rattle.algo_resolve.specs.Wiring.{into, source_among};
 
 use crate::checked::Checked;
-use crate::lookup::small;
 use algo_defs::{Edge, End, Reference};
 use algo_rules::Ports;
 use body_lang::Port;
 use graph_check::{find_port, find_reference, is_same_name};
 use level_meaning::Source;
 use std::alloc::Global;
-use syn_base::{Items, Name, OutOfMemory};
+use syn_base::{Items, Name, OutOfMemory, to_u32};
 
 /// A graph among the definitions of its text.
 #[derive(Clone, Copy)]
@@ -85,10 +84,10 @@ impl<'a> Graph<'a> {
             self.now.references.now end.now.owner end.now.port) }
     {
         let Some(owner) = &end.owner else {
-            return Ok(Source::Own(small(find_port(self.ins, end.port.as_bytes()))?));
+            return Ok(Source::Own(to_u32(find_port(self.ins, end.port.as_bytes()))?));
         };
-        let vertex = small(find_reference(self.references, owner.as_bytes()))?;
-        let port = small(self.output_number(owner, &end.port))?;
+        let vertex = to_u32(find_reference(self.references, owner.as_bytes()))?;
+        let port = to_u32(self.output_number(owner, &end.port))?;
         Ok(Source::Of(vertex, port))
     }
 

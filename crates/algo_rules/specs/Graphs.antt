@@ -11,7 +11,7 @@ use Rattle.algo_defs.specs.declared.definition.Edge.{Edge}
 use Rattle.algo_defs.specs.declared.definition.End.{End}
 use Rattle.algo_defs.specs.declared.fault.AlgoError.{AlgoError}
 use Rattle.algo_defs.specs.declared.fault.AlgoCause.TheVariants.{UnknownName, WrongLength, TwiceConnected, Unconnected, Cycle}
-use Rattle.algo_defs.specs.Words.{Bytes}
+use Rattle.syn_base.specs.Bytes.{Bytes}
 use Rattle.algo_rules.specs.Links.{fault, first_of, definition}
 use Rattle.reference_graph.specs.Links.{Links, reaches_itself}
 use Rattle.algo_rules.specs.Ports.{no_ports}

@@ -27,7 +27,7 @@ use Rattle.algo_defs.specs.declared.definition.FrontierLine.{FrontierLine}
 use Rattle.algo_defs.specs.declared.fault.AlgoError.{AlgoError}
 use Rattle.algo_defs.specs.declared.fault.AlgoError.TheVariants.{Limit}
 use Rattle.algo_defs.specs.declared.fault.AlgoCause.TheVariants.{NoMain}
-use Rattle.algo_defs.specs.Words.{Bytes}
+use Rattle.syn_base.specs.Bytes.{Bytes}
 use Rattle.algo_rules.specs.Links.{fault, first_of, definition, links_of, unknown, misplaced, recursive, too_deep}
 use Rattle.reference_graph.specs.Links.{depths}
 use Rattle.algo_rules.specs.Ports.{ports_of, number_of, len_of, lens_of}

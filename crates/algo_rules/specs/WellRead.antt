@@ -12,7 +12,7 @@ use Rattle.algo_defs.specs.declared.definition.Case.{Case}
 use Rattle.algo_defs.specs.declared.definition.FrontierLine.{FrontierLine}
 use Rattle.algo_defs.specs.declared.definition.Body.{Body}
 use Rattle.algo_defs.specs.declared.definition.Body.TheVariants.{Sensor, Actuator, Constant, Delay, Function, Graph, Switch, Repeat}
-use Rattle.algo_defs.specs.Words.{Bytes}
+use Rattle.syn_base.specs.Bytes.{Bytes}
 use Rattle.algo_defs.specs.Outer.{all_outer}
 
 abbrev pub IsName : Bytes → Type 0

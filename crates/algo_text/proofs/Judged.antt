@@ -13,7 +13,7 @@ use Rattle.algo_defs.specs.declared.fault.AlgoCause.{AlgoCause}
 use Rattle.algo_defs.specs.declared.fault.AlgoCause.TheVariants.{NotText, BadLine, BadName, BadNumber, BadExpression, DuplicateName, UnknownName, WrongLength, Unconnected, TwiceConnected, Recursive, Cycle, NoMain, BadCase, Misplaced, BadRepeat, BadDelay, BadEvery}
 use Rattle.algo_defs.specs.declared.fault.AlgoError.{AlgoError}
 use Rattle.algo_defs.specs.declared.fault.AlgoError.TheVariants.{Refused, Limit, OutOfMemory}
-use Rattle.algo_defs.specs.Words.{Bytes}
+use Rattle.syn_base.specs.Bytes.{Bytes}
 use Rattle.algo_text.specs.Blocks.{refused}
 use Rattle.algo_text.specs.Formulas.{name_in, known_by, read_by, formula_of}
 use Rattle.algo_text.specs.Grammatical.{NamesNoPort, IsCause, IsFormula}

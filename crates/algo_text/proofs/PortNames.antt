@@ -2,7 +2,8 @@
 use Rattle.std.proofs.Common.{◌≡◌, ℕ, suc, ◌+◌, Bool, true, false, cond, Some, List, [], ◌∷◌, ◌++◌, length, refl, arith, ap, sym, ◌∙◌, subst, append_assoc, append-nil, codes}
 use Rattle.std.proofs.lemmas.List.{length-append}
 use Rattle.std.specs.Prelude.{slice_get}
-use Rattle.body_text.specs.Tokens.{Bytes, Token, name, open_round, close_round, open_square, close_square, comma}
+use Rattle.syn_base.specs.Bytes.{Bytes}
+use Rattle.body_text.specs.Tokens.{Token, name, open_round, close_round, open_square, close_square, comma}
 use Rattle.body_text.specs.Grammar.{Written, literal, index, element, sum_over, negation, apply, select, written, word_of, AreWritten}
 use Rattle.body_text.specs.Ports.{Naming, namings, is_port, first_unknown, unknown}
 use Rattle.syn_base.specs.declared.arithmetic.Op.TheVariants.{Neg}

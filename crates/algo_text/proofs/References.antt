@@ -4,7 +4,8 @@ use Rattle.std.specs.Str.{bytes_eq}
 use Rattle.syn_base.specs.Name.{is_name}
 use Rattle.syn_base.specs.declared.limits.LimitKind.TheVariants as limits
 use Rattle.algo_defs.specs.declared.definition.Reference.{Reference}
-use Rattle.algo_defs.specs.Words.{Bytes, is_among}
+use Rattle.syn_base.specs.Bytes.{Bytes}
+use Rattle.algo_defs.specs.Words.{is_among}
 use Rattle.algo_text.specs.declared.part.Part.TheVariants.{References}
 use Rattle.algo_text.specs.Parts.{admits}
 use Rattle.algo_text.specs.Words.{word, period_of}

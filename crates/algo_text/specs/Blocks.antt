@@ -19,7 +19,8 @@ use Rattle.algo_defs.specs.declared.fault.AlgoError.{AlgoError}
 use Rattle.algo_defs.specs.declared.fault.AlgoError.TheVariants.{Refused, Limit}
 use Rattle.algo_defs.specs.declared.fault.AlgoCause.{AlgoCause}
 use Rattle.algo_defs.specs.declared.fault.AlgoCause.TheVariants.{BadLine, BadName, BadNumber, DuplicateName}
-use Rattle.algo_defs.specs.Words.{Bytes, is_among}
+use Rattle.syn_base.specs.Bytes.{Bytes}
+use Rattle.algo_defs.specs.Words.{is_among}
 use Rattle.algo_defs.specs.Outer.{outer_names, all_outer}
 use Rattle.algo_text.specs.declared.part.Part.{Part}
 use Rattle.algo_text.specs.declared.part.Part.TheVariants as parts

@@ -10,7 +10,7 @@ use Rattle.body_text.specs.Reads.{place_of}
 use Rattle.algo_defs.specs.declared.fault.AlgoError.{AlgoError}
 use Rattle.algo_defs.specs.declared.fault.AlgoError.TheVariants.{Refused, Limit}
 use Rattle.algo_defs.specs.declared.fault.AlgoCause.TheVariants.{BadExpression, UnknownName}
-use Rattle.algo_defs.specs.Words.{Bytes}
+use Rattle.syn_base.specs.Bytes.{Bytes}
 
 abbrev pub name_in : Option Token → Bytes
 name_in (Some (name p)) = p

@@ -5,7 +5,7 @@ use Rattle.syn_base.specs.Name.{is_name}
 use Rattle.syn_base.specs.Integer.{integer_of}
 use Rattle.syn_base.specs.declared.integer.NumFault.{NumFault}
 use Rattle.algo_defs.specs.declared.definition.End.{End}
-use Rattle.algo_defs.specs.Words.{Bytes}
+use Rattle.syn_base.specs.Bytes.{Bytes}
 
 abbrev pub word : List Bytes → ℕ → Bytes
 word ws k = slice_index_or ws k []

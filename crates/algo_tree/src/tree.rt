@@ -11,7 +11,7 @@ use crate::vertex::{Kind, Vertex};
 use level_meaning::Source;
 use std::alloc::Global;
 use std::marker::Model;
-use syn_base::OutOfMemory;
+use syn_base::{OutOfMemory, len_at};
 
 /// The resolved algorithm: the main graph and all that is inside it, seen in contracts as plain
 /// data. It is well formed, the lengths of its values fit, its sensors and actuators are numbered in
@@ -163,10 +163,4 @@ fn output_len(vertices: &[Vertex], vertex: usize, port: usize) -> u32
     } else {
         0
     }
-}
-
-fn len_at(lens: &[u32], at: usize) -> u32
-    ensures { result ≡ slice_index_or lens.now at 0 }
-{
-    if at < lens.len() { lens[at] } else { 0 }
 }

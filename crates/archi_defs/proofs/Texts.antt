@@ -4,7 +4,8 @@ use Rattle.syn_base.specs.declared.limits.LimitKind.TheVariants.{Operators}
 use Rattle.archi_defs.specs.declared.fault.ArchiError.{ArchiError}
 use Rattle.archi_defs.specs.declared.fault.ArchiError.TheVariants.{Limit}
 use Rattle.archi_defs.specs.declared.fault.ArchiCause.TheVariants.{NotText, BadLine, BadName, BadNumber, UnknownName, DuplicateName, BadMedium, NoOperator, Disconnected}
-use Rattle.archi_defs.specs.Text.{Bytes, Described, refused, description_of}
+use Rattle.syn_base.specs.Bytes.{Bytes}
+use Rattle.archi_defs.specs.Text.{Described, refused, description_of}
 
 abbrev text : List Bytes → Bytes
 text [] = []

@@ -2,6 +2,7 @@
 use Rattle.std.specs.Prelude.{ℕ, ◌+◌, Bool, false, not, ◌&&◌, ◌||◌, ◌==◌, nat_le, nat_lt, List, [], ◌∷◌, ◌++◌, length, map, position, slice_index_or, slice_set, Option, Some, None, is_some, Result, Ok, Err, if◌then◌else◌, codes, ℤ, pos, negsuc}
 use Rattle.std.specs.List.{list_any, range_with_len}
 use Rattle.std.specs.Str.{bytes_eq}
+use Rattle.syn_base.specs.Bytes.{Bytes}
 use Rattle.text_lines.specs.Text.{lines_of, words_of, code_of, foreign_place}
 use Rattle.syn_base.specs.Name.{is_name}
 use Rattle.syn_base.specs.Integer.{integer_of}
@@ -17,9 +18,6 @@ use Rattle.archi_defs.specs.declared.fault.ArchiError.{ArchiError}
 use Rattle.archi_defs.specs.declared.fault.ArchiError.TheVariants.{Refused, Limit}
 use Rattle.archi_defs.specs.declared.fault.ArchiCause.{ArchiCause}
 use Rattle.archi_defs.specs.declared.fault.ArchiCause.TheVariants.{NotText, BadLine, BadName, BadNumber, UnknownName, DuplicateName, BadMedium, NoOperator, Disconnected}
-
-abbrev pub Bytes : Type 0
-Bytes = List ℕ
 
 -- what a text gives
 pub record Described : Type 0 where

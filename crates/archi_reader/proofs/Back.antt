@@ -14,7 +14,8 @@ use Rattle.syn_base.specs.declared.limits.LimitKind.TheVariants.{Operators, Medi
 use Rattle.archi_graph.specs.declared.medium.Medium.{Medium}
 use Rattle.archi_graph.specs.Archi.{are_distinct, occurs_once}
 use Rattle.archi_defs.specs.declared.fault.ArchiError.{ArchiError}
-use Rattle.archi_defs.specs.Text.{Bytes, Reading, start, with_some, up_to, is_above, is_taken, next_line}
+use Rattle.syn_base.specs.Bytes.{Bytes}
+use Rattle.archi_defs.specs.Text.{Reading, start, with_some, up_to, is_above, is_taken, next_line}
 use Rattle.archi_reader.specs.Canonical.{joined, number, kind_word, operator_words, medium_words}
 use Rattle.archi_reader.proofs.Sound.{count_with}
 use Rattle.archi_reader.proofs.Tables.{bytes_eq_self}

@@ -9,7 +9,8 @@ use Rattle.archi_graph.specs.declared.medium.Medium.{Medium}
 use Rattle.archi_graph.specs.Archi.{ascends_from, are_distinct, stands_in_all}
 use Rattle.syn_base.specs.Limits.{bound_of}
 use Rattle.syn_base.specs.declared.limits.LimitKind.TheVariants.{Connections}
-use Rattle.archi_defs.specs.Text.{Bytes, Reading, word, is_above, place_of, medium_names, connect_line, connected, with_stand, no_medium}
+use Rattle.syn_base.specs.Bytes.{Bytes}
+use Rattle.archi_defs.specs.Text.{Reading, word, is_above, place_of, medium_names, connect_line, connected, with_stand, no_medium}
 use Rattle.archi_reader.specs.Views.{IsSound, is_begun}
 use Rattle.archi_reader.proofs.Sound.{Keeps, keeps_if, keeps_names, keeps_some, when_some}
 

@@ -14,7 +14,8 @@ use Rattle.syn_base.specs.declared.limits.LimitKind.TheVariants.{Connections}
 use Rattle.archi_graph.specs.declared.medium.Medium.{Medium}
 use Rattle.archi_graph.specs.Archi.{are_distinct, ascends_from, stands_in_all}
 use Rattle.archi_defs.specs.declared.fault.ArchiError.{ArchiError}
-use Rattle.archi_defs.specs.Text.{Bytes, Reading, start, with_some, place_of, medium_names, is_above, connected, no_medium, with_stand, next_line}
+use Rattle.syn_base.specs.Bytes.{Bytes}
+use Rattle.archi_defs.specs.Text.{Reading, start, with_some, place_of, medium_names, is_above, connected, no_medium, with_stand, next_line}
 use Rattle.archi_reader.specs.Canonical.{joined, name_at, connect_words, connections_of}
 use Rattle.archi_reader.proofs.Tables.{bytes_eq_self}
 use Rattle.archi_reader.proofs.Places.{first_or, position_cons}

@@ -14,7 +14,8 @@ use Rattle.syn_base.specs.declared.limits.LimitKind.TheVariants.{Operators, Medi
 use Rattle.archi_graph.specs.declared.medium.Medium.{Medium}
 use Rattle.archi_graph.specs.Archi.{names_of}
 use Rattle.archi_defs.specs.declared.text.DurationLine.{DurationLine}
-use Rattle.archi_defs.specs.Text.{Bytes, Reading, begins, word, up_to, with_some, depth_of, version_of, place_of, medium_names, is_above, is_taken, no_medium, with_stand, version_line, operator_line, medium_line, connect_line, duration_line, depth_line, described_line, line_by, next_line}
+use Rattle.syn_base.specs.Bytes.{Bytes}
+use Rattle.archi_defs.specs.Text.{Reading, begins, word, up_to, with_some, depth_of, version_of, place_of, medium_names, is_above, is_taken, no_medium, with_stand, version_line, operator_line, medium_line, connect_line, duration_line, depth_line, described_line, line_by, next_line}
 use Rattle.archi_reader.specs.Durations.{is_given}
 use Rattle.archi_reader.proofs.Sound.{Holds, Keeps, keeps_if, keeps_names, keeps_some, within, all_with}
 use Rattle.archi_reader.proofs.Connected.{names_kept, place_below}

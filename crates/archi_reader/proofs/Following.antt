@@ -7,7 +7,8 @@ use Rattle.syn_base.specs.Integer.{integer_of}
 use Rattle.text_lines.specs.Text.{words_of, code_of, foreign_place}
 use Rattle.archi_defs.specs.declared.fault.ArchiError.{ArchiError}
 use Rattle.archi_defs.specs.declared.fault.ArchiError.TheVariants.{Refused, Limit, OutOfMemory}
-use Rattle.archi_defs.specs.Text.{Bytes, Described, Reading, and_then, begins, with_some, word, up_to, place_of, duration_line, described_line, line_by, next_line, rest_of}
+use Rattle.syn_base.specs.Bytes.{Bytes}
+use Rattle.archi_defs.specs.Text.{Described, Reading, and_then, begins, with_some, word, up_to, place_of, duration_line, described_line, line_by, next_line, rest_of}
 use Rattle.archi_reader.specs.Given.{Fails}
 use Rattle.archi_reader.specs.Views.{IsSound}
 use Rattle.archi_reader.proofs.Sound.{Holds, Keeps, keeps_if, keeps_names, keeps_some, sound_depth, sound_version, sound_operator, sound_medium}

@@ -1,3 +1,4 @@
+pub mod Accepted
 pub mod After
 pub mod Apart
 pub mod Back

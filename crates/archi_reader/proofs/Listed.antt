@@ -8,7 +8,8 @@ use Rattle.syn_base.specs.Integer.{integer_of}
 use Rattle.archi_graph.specs.declared.medium.Medium.{Medium}
 use Rattle.archi_defs.specs.declared.text.DurationLine.{DurationLine}
 use Rattle.archi_defs.specs.declared.fault.ArchiError.{ArchiError}
-use Rattle.archi_defs.specs.Text.{Bytes, Reading, start, up_to, place_of, next_line}
+use Rattle.syn_base.specs.Bytes.{Bytes}
+use Rattle.archi_defs.specs.Text.{Reading, start, up_to, place_of, next_line}
 use Rattle.archi_reader.specs.Durations.{is_given}
 use Rattle.archi_reader.specs.Canonical.{joined, number, name_at, duration_words}
 use Rattle.archi_reader.proofs.Splits.{is_word}

@@ -14,7 +14,8 @@ use Rattle.archi_graph.specs.Archi.{ascends_from, is_depth, stands_in_all}
 use Rattle.archi_defs.specs.declared.text.DurationLine.{DurationLine}
 use Rattle.archi_defs.specs.declared.fault.ArchiError.{ArchiError}
 use Rattle.archi_defs.specs.declared.fault.ArchiCause.TheVariants.{BadLine, BadNumber}
-use Rattle.archi_defs.specs.Text.{Bytes, Described, Reading, start, and_then, next_line, rest_of, description_of, whole_of, whole, has_stands, all_joined, apart, medium_names, described, depth_or_one, refused, with_some}
+use Rattle.syn_base.specs.Bytes.{Bytes}
+use Rattle.archi_defs.specs.Text.{Described, Reading, start, and_then, next_line, rest_of, description_of, whole_of, whole, has_stands, all_joined, apart, medium_names, described, depth_or_one, refused, with_some}
 use Rattle.archi_reader.specs.Views.{IsSound, is_begun}
 use Rattle.archi_reader.specs.Canonical.{Words, joined, text_of, number, kind_word, version_words, depth_words, depth_lines, opening_lines, operator_words, medium_words, name_at, connect_words, connections_of, duration_words, canonical_lines, canonical_text}
 use Rattle.archi_reader.proofs.Endings.{told, media_told, whole_fine}

@@ -16,7 +16,8 @@ use Rattle.archi_graph.specs.declared.medium.Medium.{Medium}
 use Rattle.archi_graph.specs.Archi.{ascends_from, are_distinct, is_depth, occurs_once}
 use Rattle.archi_defs.specs.declared.fault.ArchiError.{ArchiError}
 use Rattle.archi_defs.specs.declared.fault.ArchiCause.TheVariants.{BadName}
-use Rattle.archi_defs.specs.Text.{Bytes, refused, Reading, word, up_to, with_some, all_names, medium_names, is_above, is_taken, depth_of, version_of, operator_line, medium_line, version_line, depth_line}
+use Rattle.syn_base.specs.Bytes.{Bytes}
+use Rattle.archi_defs.specs.Text.{refused, Reading, word, up_to, with_some, all_names, medium_names, is_above, is_taken, depth_of, version_of, operator_line, medium_line, version_line, depth_line}
 use Rattle.archi_reader.specs.Views.{IsSound, is_begun}
 use Rattle.archi_reader.proofs.Tables.{bytes_eq_sym, bytes_eq_self}
 

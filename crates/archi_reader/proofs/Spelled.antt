@@ -11,7 +11,8 @@ use Rattle.syn_base.specs.Integer.{integer_of, number_after}
 use Rattle.syn_base.proofs.Decimal as integers
 use Rattle.archi_graph.specs.Archi.{is_depth}
 use Rattle.archi_defs.specs.declared.fault.ArchiError.{ArchiError}
-use Rattle.archi_defs.specs.Text.{Bytes, Reading, described_line, version_line, line_by, next_line, up_to, depth_of, with_some}
+use Rattle.syn_base.specs.Bytes.{Bytes}
+use Rattle.archi_defs.specs.Text.{Reading, described_line, version_line, line_by, next_line, up_to, depth_of, with_some}
 use Rattle.archi_reader.specs.Canonical.{Words, joined, number}
 use Rattle.archi_reader.proofs.Splits.{is_plain, is_word, are_words, plain, joined_back, joined_bytes, code_back, foreign_back}
 

@@ -1,7 +1,7 @@
 -- Texts made of lines.
 use Rattle.std.proofs.Common.{◌≡◌, ℕ, suc, ◌+◌, ◌<◌, List, [], ◌∷◌, ◌++◌, length, drop, refl, sym, ap, ap₂, ◌∙◌, append_assoc, drop-cons, arith}
 use Rattle.std.specs.Prelude.{slice_index_or}
-use Rattle.archi_defs.specs.Text.{Bytes}
+use Rattle.syn_base.specs.Bytes.{Bytes}
 use Rattle.std.specs.List.{flat_map}
 use Rattle.std.proofs.lemmas.List.Concat.{flat_map-cons}
 use Rattle.archi_reader.specs.Canonical.{Words, joined, text_of}

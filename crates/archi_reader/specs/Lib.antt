@@ -1,3 +1,4 @@
+pub mod Accepted
 pub mod Canonical
 pub mod Durations
 pub mod Given

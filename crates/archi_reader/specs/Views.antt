@@ -4,7 +4,8 @@ use Rattle.std.specs.List.{list_all}
 use Rattle.syn_base.specs.Name.{is_name}
 use Rattle.archi_graph.specs.declared.medium.Medium.{Medium}
 use Rattle.archi_graph.specs.Archi.{ascends_from, are_distinct, is_depth, names_of, stands_in_all}
-use Rattle.archi_defs.specs.Text.{Bytes, Reading, depth_or_one}
+use Rattle.syn_base.specs.Bytes.{Bytes}
+use Rattle.archi_defs.specs.Text.{Reading, depth_or_one}
 use Rattle.archi_reader.specs.declared.reader.Reader.{Reader}
 
 -- the name that a word is

@@ -1,8 +1,15 @@
-//! What the canonical text says.
+//! What an accepted text describes, and what the canonical text says.
 ghost use Rattle.std.specs.Prelude.{◌≡◌, ◌+◌, ◌≤◌, length, Ok};
 ghost use Rattle.text_lines.specs.Text.{lines_of};
-ghost use Rattle.archi_defs.specs.Text.{Bytes, Described, description_of};
+ghost use Rattle.syn_base.specs.Bytes.{Bytes};
+ghost use Rattle.archi_defs.specs.Text.{Described, description_of};
+ghost use Rattle.archi_reader.specs.Accepted.{DescribedAreArchitectures};
 ghost use Rattle.archi_reader.specs.Canonical.{canonical_text, depth_lines};
+
+/// What an accepted text describes is an architecture, with 1 to 4 places.
+pub fn described_are_architectures()
+    ensures { DescribedAreArchitectures }
+{}
 
 /// The canonical text of what a text describes says the same, in no more lines; but it always has the line of
 /// the depth where the text is of version 2.

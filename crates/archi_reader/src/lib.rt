@@ -16,6 +16,6 @@ mod whole;
 mod word;
 
 pub use archi_defs::{ArchiCause, ArchiError, ArchiFault, ArchiText, DurationLine};
-pub use laws::one_canonical_text;
+pub use laws::{described_are_architectures, one_canonical_text};
 pub use print::print_archi;
 pub use reader::read_archi;

@@ -1,5 +1,6 @@
 //! The lines of a text, one after the other.
 ghost use Rattle.std.specs.Prelude.{◌<◌, ◌≤◌, length};
+ghost use Rattle.syn_base.specs.Limits.{most_in_text};
 ghost use Rattle.text_lines.specs.Text.{lines_of};
 ghost use Rattle.archi_defs.specs.Text.{description_of, start, version_line, operator_line, medium_line, connect_line, duration_line, depth_line, connected, described_line, next_line};
 ghost use Rattle.archi_reader.specs.Given.{Steps, Gives, MakesReader};
@@ -293,7 +294,7 @@ impl<'a> Reader<'a> {
 /// Refused with the line and the cause, or Limit; then Refused for the whole. OutOfMemory may come in
 /// place of any answer.
 pub fn read_archi(alloc: Global, bytes: &[u8]) -> Result<ArchiText, ArchiError>
-    requires { length (lines_of bytes.now) ≤ 4000000000 }
+    requires { length (lines_of bytes.now) ≤ most_in_text }
     ensures { Gives result (description_of bytes.now) }
 {
     let mut reader = Reader::new(alloc)?;

@@ -7,7 +7,8 @@ use Rattle.std.proofs.lemmas.Str.Parse.{IsNumeralModel, numerals_by_fold}
 use Rattle.syn_base.specs.Name.{is_name, is_name_byte, is_letter, is_digit}
 use Rattle.syn_base.specs.Integer.{integer_of, number_after}
 use Rattle.syn_base.proofs.Decimal as integers
-use Rattle.body_text.specs.Tokens.{Bytes, number, name, front, len_by, number_or_bad, word_token, mark_or_word}
+use Rattle.syn_base.specs.Bytes.{Bytes}
+use Rattle.body_text.specs.Tokens.{number, name, front, len_by, number_or_bad, word_token, mark_or_word}
 use Rattle.body_text.proofs.CanonicalTokens.{token_list, piece, Stops, and_left, and_right, not_true, front_all, digits_stop, name_byte-not_blank, name_byte-no_mark, name_byte-no_minus}
 
 name_long : (digit minus part : Bool) (x y n : ℕ) → digit ≡ false → minus ≡ false → part ≡ true → y ≡ n → suc n ≤ 32

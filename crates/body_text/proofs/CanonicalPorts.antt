@@ -4,7 +4,7 @@ use Rattle.std.specs.List.{list_any, position_or_len}
 use Rattle.std.proofs.lemmas.Slice.Eq.{bytes_eq-Decides}
 use Rattle.syn_base.specs.declared.arithmetic.Op.TheVariants.{Neg}
 use Rattle.body_lang.specs.Expr.{PortsBelow}
-use Rattle.body_text.specs.Tokens.{Bytes}
+use Rattle.syn_base.specs.Bytes.{Bytes}
 use Rattle.body_text.specs.Grammar.{Written, literal, index, element, sum_over, negation, apply, select, written, word_of}
 use Rattle.body_text.specs.Ports.{Naming, namings, is_port, first_unknown, unknown, port_number, resolved}
 use Rattle.body_text.specs.Canonical.{port_name, canonical}

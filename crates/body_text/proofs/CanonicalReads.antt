@@ -4,7 +4,8 @@ use Rattle.syn_base.specs.declared.limits.LimitKind.TheVariants.{Tokens}
 use Rattle.syn_base.specs.Limits.{bound_of}
 use Rattle.body_lang.specs.declared.expression.Expr as declared
 use Rattle.body_lang.specs.Expr.{Expr, PortsBelow, view}
-use Rattle.body_text.specs.Tokens.{Bytes, Token, tokens}
+use Rattle.syn_base.specs.Bytes.{Bytes}
+use Rattle.body_text.specs.Tokens.{Token, tokens}
 use Rattle.body_text.specs.Grammar.{Written, written}
 use Rattle.body_text.specs.Reads.{IsBody, Reads}
 use Rattle.body_text.specs.Canonical.{canonical, IsRead}

@@ -3,7 +3,7 @@ use Rattle.std.proofs.Common.{◌≡◌, List, [], ◌∷◌, pos, negsuc, refl,
 use Rattle.std.specs.Fmt.{digits}
 use Rattle.syn_base.specs.declared.arithmetic.Op.TheVariants.{Add, Le}
 use Rattle.body_lang.specs.Expr.{literal, index, element, sum_over, negation, apply, select}
-use Rattle.body_text.specs.Tokens.{Bytes}
+use Rattle.syn_base.specs.Bytes.{Bytes}
 use Rattle.body_text.specs.Canonical.{canonical}
 
 abbrev ports : List Bytes

@@ -5,7 +5,8 @@ use Rattle.syn_base.specs.declared.integer.NumFault.{NumFault}
 use Rattle.syn_base.specs.declared.integer.NumFault.TheVariants.{TooLarge}
 use Rattle.syn_base.specs.Integer.{integer_of, behind_minus, signed, unless_other, from_digits, with_sign, first_other, number_of}
 use Rattle.text_lines.specs.Text.{is_blank}
-use Rattle.body_text.specs.Tokens.{Bytes, Token, number, name, open_round, close_round, open_square, close_square, comma, len_by, number_or_bad, word_token, mark_or_word, token_of, tokens}
+use Rattle.syn_base.specs.Bytes.{Bytes}
+use Rattle.body_text.specs.Tokens.{Token, number, name, open_round, close_round, open_square, close_square, comma, len_by, number_or_bad, word_token, mark_or_word, token_of, tokens}
 use Rattle.body_text.specs.Grammar.{Written, literal, index, element, sum_over, negation, apply, select, written}
 use Rattle.body_text.proofs.CanonicalTokens.{token_list, without_places}
 

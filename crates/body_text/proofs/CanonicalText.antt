@@ -4,7 +4,8 @@ use Rattle.std.specs.Fmt.{signed_decimal}
 use Rattle.syn_base.specs.Name.{is_name, is_name_byte}
 use Rattle.syn_base.specs.declared.arithmetic.Op.{Op}
 use Rattle.syn_base.specs.declared.arithmetic.Op.TheVariants.{Add, Sub, Mul, Div, Rem, Eq, Ne, Lt, Le, Gt, Ge, Min, Max, Neg}
-use Rattle.body_text.specs.Tokens.{Bytes, Token, name, open_round, close_round, open_square, close_square, comma, tokens}
+use Rattle.syn_base.specs.Bytes.{Bytes}
+use Rattle.body_text.specs.Tokens.{Token, name, open_round, close_round, open_square, close_square, comma, tokens}
 use Rattle.body_text.specs.Grammar.{Written, literal, index, element, sum_over, negation, apply, select, written, word_of}
 use Rattle.body_text.proofs.CanonicalTokens.{token_list, without_places, Stops}
 use Rattle.body_text.proofs.CanonicalPieces.{name_token, number_token}

@@ -4,7 +4,8 @@ use Rattle.std.specs.List.{list_all}
 use Rattle.std.proofs.Math.Seq.{take-append_seam}
 use Rattle.syn_base.specs.Name.{is_name_byte, is_letter, is_digit}
 use Rattle.text_lines.specs.Text.{is_blank}
-use Rattle.body_text.specs.Tokens.{Bytes, Token, Placed, open_round, close_round, open_square, close_square, comma, front, len_by, mark_of, mark_or_word, token_of, tokens_from}
+use Rattle.syn_base.specs.Bytes.{Bytes}
+use Rattle.body_text.specs.Tokens.{Token, Placed, open_round, close_round, open_square, close_square, comma, front, len_by, mark_of, mark_or_word, token_of, tokens_from}
 
 -- the tokens without their places
 abbrev pub token_list : ℕ → Bytes → List Token

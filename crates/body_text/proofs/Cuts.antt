@@ -5,7 +5,8 @@ use Rattle.std.proofs.lemmas.List.{drop-drop, map_push, drop_all, take_all}
 use Rattle.std.proofs.lemmas.List.Sums.{prefix_len-le-length}
 use Rattle.text_lines.specs.Text.{is_blank}
 use Rattle.text_lines.specs.declared.Span.{Span}
-use Rattle.body_text.specs.Tokens.{Bytes, Token, Placed, front, len_by, token_of, mark_of, mark_or_word, tokens_from}
+use Rattle.syn_base.specs.Bytes.{Bytes}
+use Rattle.body_text.specs.Tokens.{Token, Placed, front, len_by, token_of, mark_of, mark_or_word, tokens_from}
 use Rattle.body_text.specs.Cut.{IsCut, token_in}
 
 skip_more : (place k : ℕ) (bs : Bytes) → tokens_from (suc place + k) 0 bs ≡ tokens_from (place + suc k) 0 bs

@@ -8,7 +8,8 @@ use Rattle.body_text.specs.declared.token.Mark.{Mark}
 use Rattle.body_text.specs.declared.token.Mark.TheVariants.{OpenRound, CloseRound, OpenSquare, CloseSquare, Comma}
 use Rattle.body_text.specs.declared.word.Word.{Word}
 use Rattle.body_text.specs.declared.word.Word.TheVariants.{Select, Sum, Negation, Operator}
-use Rattle.body_text.specs.Tokens.{Bytes, Token, number, name, open_round, close_round, open_square, close_square, comma}
+use Rattle.syn_base.specs.Bytes.{Bytes}
+use Rattle.body_text.specs.Tokens.{Token, number, name, open_round, close_round, open_square, close_square, comma}
 use Rattle.body_text.specs.Cut.{mark_view}
 use Rattle.body_text.specs.Grammar.{Written, literal, index, element, sum_over, negation, apply, select, written, word_of, IsProper, IsExpression}
 use Rattle.body_text.specs.Words.{form_of, text_of}

@@ -3,7 +3,8 @@ use Rattle.std.proofs.Common.{◌≡◌, ◌≢◌, ℕ, ◌<◌, Some, None, Er
 use Rattle.body_lang.specs.Expr.{Expr}
 use Rattle.body_text.specs.declared.fault.BodyFault.{BodyFault}
 use Rattle.body_text.specs.declared.fault.BodyFault.TheVariants.{Limit, BadExpression, UnknownPort, OutOfMemory}
-use Rattle.body_text.specs.Tokens.{Bytes, tokens}
+use Rattle.syn_base.specs.Bytes.{Bytes}
+use Rattle.body_text.specs.Tokens.{tokens}
 use Rattle.body_text.specs.Ports.{unknown, resolved}
 use Rattle.body_text.specs.Reads.{place_of, AreFew, IsBody, IsBad, IsUnknown, Reads}
 use Rattle.body_text.proofs.Complete.{one_expression}

@@ -13,7 +13,8 @@ use Rattle.body_text.specs.declared.token.Mark.TheVariants.{OpenRound, CloseRoun
 use Rattle.body_text.specs.declared.read.Read.{Read}
 use Rattle.body_text.specs.declared.read.Stop.{Stop}
 use Rattle.body_text.specs.declared.read.Stop.TheVariants.{At, OutOfMemory}
-use Rattle.body_text.specs.Tokens.{Bytes, Token, number, name}
+use Rattle.syn_base.specs.Bytes.{Bytes}
+use Rattle.body_text.specs.Tokens.{Token, number, name}
 use Rattle.body_text.specs.Grammar.{Written, literal, element, sum_over, negation, apply, select, written}
 use Rattle.body_text.specs.Ports.{Naming, is_port, port_number, first_unknown, namings}
 use Rattle.body_text.specs.declared.word.Word.{Word}

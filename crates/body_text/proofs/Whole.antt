@@ -11,7 +11,8 @@ use Rattle.body_text.specs.declared.token.Placed as declared
 use Rattle.body_text.specs.declared.read.Read.{Read}
 use Rattle.body_text.specs.declared.read.Stop.{Stop}
 use Rattle.body_text.specs.declared.read.Stop.TheVariants.{At}
-use Rattle.body_text.specs.Tokens.{Bytes, Token, Placed, placed, tokens}
+use Rattle.syn_base.specs.Bytes.{Bytes}
+use Rattle.body_text.specs.Tokens.{Token, Placed, placed, tokens}
 use Rattle.body_text.specs.Cut.{placed_view}
 use Rattle.body_text.specs.Grammar.{Written, AreWritten}
 use Rattle.body_text.specs.Ports.{unknown, resolved}

@@ -6,7 +6,7 @@ use Rattle.std.specs.Str.{bytes_eq}
 use Rattle.text_lines.proofs.FirstNamed as first
 use Rattle.text_lines.proofs.FirstNamed.{first_named}
 use Rattle.body_text.specs.declared.word.Word.{Word}
-use Rattle.body_text.specs.Tokens.{Bytes}
+use Rattle.syn_base.specs.Bytes.{Bytes}
 use Rattle.body_text.specs.Words.{text_of, words, found_in}
 
 -- the first that has the name

@@ -11,7 +11,8 @@ use Rattle.body_lang.specs.declared.expression.Expr as declared_expression
 use Rattle.body_text.specs.declared.fault.BodyFault.{BodyFault}
 use Rattle.body_text.specs.declared.fault.BodyFault.TheVariants.{UnknownPort}
 use Rattle.body_text.specs.Reads.{place_or}
-use Rattle.body_text.specs.Tokens.{Bytes, Token, Placed}
+use Rattle.syn_base.specs.Bytes.{Bytes}
+use Rattle.body_text.specs.Tokens.{Token, Placed}
 use Rattle.body_text.specs.Cut.{token_view}
 use Rattle.body_text.specs.Grammar.{Written, written}
 use Rattle.body_text.specs.Ports.{resolved, first_unknown, namings}

@@ -3,7 +3,7 @@ use Rattle.std.specs.Prelude.{ℕ, List, [], ◌++◌, slice_index_or, codes}
 use Rattle.std.specs.Fmt.{signed_decimal}
 use Rattle.syn_base.specs.declared.arithmetic.Op.TheVariants.{Neg}
 use Rattle.body_lang.specs.Expr.{Expr, literal, index, element, sum_over, negation, apply, select}
-use Rattle.body_text.specs.Tokens.{Bytes}
+use Rattle.syn_base.specs.Bytes.{Bytes}
 use Rattle.body_text.specs.Grammar.{word_of}
 use Rattle.body_text.specs.Reads.{IsBody}
 

@@ -6,7 +6,8 @@ use Rattle.body_text.specs.declared.token.Mark.TheVariants.{OpenRound, CloseRoun
 use Rattle.body_text.specs.declared.token.Token as declared
 use Rattle.body_text.specs.declared.token.Token.TheVariants as cut
 use Rattle.body_text.specs.declared.token.Placed as declared_placed
-use Rattle.body_text.specs.Tokens.{Bytes, Token, Placed, number, name, open_round, close_round, open_square, close_square, comma, bad, mark_or_word, mark_of, tokens_from}
+use Rattle.syn_base.specs.Bytes.{Bytes}
+use Rattle.body_text.specs.Tokens.{Token, Placed, number, name, open_round, close_round, open_square, close_square, comma, bad, mark_or_word, mark_of, tokens_from}
 
 abbrev pub mark_view : Mark → Token
 mark_view OpenRound = open_round

@@ -4,7 +4,7 @@ use Rattle.std.specs.List.{list_any, position_or_len}
 use Rattle.std.specs.Str.{bytes_eq}
 use Rattle.body_lang.specs.Expr.{Expr}
 use Rattle.body_lang.specs.Expr as numbered
-use Rattle.body_text.specs.Tokens.{Bytes}
+use Rattle.syn_base.specs.Bytes.{Bytes}
 use Rattle.body_text.specs.Grammar.{Written, literal, index, element, sum_over, negation, apply, select, written}
 
 -- the number of the token that names a port, and the name

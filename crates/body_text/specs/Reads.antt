@@ -6,7 +6,8 @@ use Rattle.body_lang.specs.declared.expression.Expr as declared
 use Rattle.body_lang.specs.Expr.{Expr, view}
 use Rattle.body_text.specs.declared.fault.BodyFault.{BodyFault}
 use Rattle.body_text.specs.declared.fault.BodyFault.TheVariants.{Limit, BadExpression, UnknownPort, OutOfMemory}
-use Rattle.body_text.specs.Tokens.{Bytes, Placed, placed, tokens}
+use Rattle.syn_base.specs.Bytes.{Bytes}
+use Rattle.body_text.specs.Tokens.{Placed, placed, tokens}
 use Rattle.body_text.specs.Grammar.{Written, AreWritten, FailsAt}
 use Rattle.body_text.specs.Ports.{unknown, resolved}
 

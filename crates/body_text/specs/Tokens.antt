@@ -1,13 +1,11 @@
 -- The tokens of an expression's text, by the longest token.
 use Rattle.std.specs.Prelude.{ℕ, zero, suc, ◌-◌, ◌==◌, min, Bool, not, if◌then◌else◌, List, [], ◌∷◌, take, map, ℤ, Option, Some, None, Result, Ok, Err}
 use Rattle.std.specs.List.{position_or_len}
+use Rattle.syn_base.specs.Bytes.{Bytes}
 use Rattle.syn_base.specs.Name.{is_name, is_name_byte, is_digit}
 use Rattle.syn_base.specs.Integer.{integer_of}
 use Rattle.syn_base.specs.declared.integer.NumFault.{NumFault}
 use Rattle.text_lines.specs.Text.{is_blank}
-
-abbrev pub Bytes : Type 0
-Bytes = List ℕ
 
 pub data Token : Type 0 where
   number : ℤ → Token

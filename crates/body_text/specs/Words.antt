@@ -4,7 +4,7 @@ use Rattle.std.specs.Str.{bytes_eq}
 use Rattle.syn_base.specs.declared.arithmetic.Op.TheVariants.{Add, Sub, Mul, Div, Rem, Eq, Ne, Lt, Le, Gt, Ge, Min, Max, Neg}
 use Rattle.body_text.specs.declared.word.Word.{Word}
 use Rattle.body_text.specs.declared.word.Word.TheVariants.{Select, Sum, Negation, Operator}
-use Rattle.body_text.specs.Tokens.{Bytes}
+use Rattle.syn_base.specs.Bytes.{Bytes}
 use Rattle.body_text.specs.Grammar.{word_of}
 
 abbrev pub text_of : Word → Bytes

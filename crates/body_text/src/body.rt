@@ -1,5 +1,6 @@
 //! Reading the text of an expression.
 ghost use Rattle.std.specs.Prelude.{◌≡◌, ◌≤◌, length, map, slice_get};
+ghost use Rattle.syn_base.specs.Limits.{most_in_text};
 ghost use Rattle.body_text.specs.Cut.{placed_view};
 ghost use Rattle.body_text.specs.Answers.{IsKnown};
 ghost use Rattle.body_text.specs.Reads.{Reads, place_or};
@@ -19,7 +20,7 @@ use syn_base::{LimitFault, LimitKind};
 /// end too early; UnknownPort at the place of the first name of a port that is none of the inputs.
 /// OutOfMemory may come in place of any answer but a Limit.
 pub fn read_body(alloc: Global, text: &[u8], ports: &[Port]) -> Result<Expr, BodyFault>
-    requires { length ports.now ≤ 4000000000 }
+    requires { length ports.now ≤ most_in_text }
     ensures { Reads (map (λ p. p.name) ports.now) text.now result }
 {
     let count = count(text);

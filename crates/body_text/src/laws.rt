@@ -4,7 +4,8 @@ ghost use Rattle.body_lang.specs.Expr.{view};
 ghost use Rattle.body_lang.specs.declared.expression.Expr.{Expr};
 ghost use Rattle.body_text.specs.declared.fault.BodyFault.{BodyFault};
 ghost use Rattle.body_text.specs.declared.fault.BodyFault.TheVariants.{OutOfMemory};
-ghost use Rattle.body_text.specs.Tokens.{Bytes, Token};
+ghost use Rattle.syn_base.specs.Bytes.{Bytes};
+ghost use Rattle.body_text.specs.Tokens.{Token};
 ghost use Rattle.body_text.specs.Grammar.{Written, AreWritten, IsExpression, FailsAt};
 ghost use Rattle.body_text.specs.Reads.{Reads};
 

@@ -8,6 +8,7 @@ ghost use Rattle.std.specs.Option.{option_or};
 ghost use Rattle.body_lang.specs.Expr.{view};
 ghost use Rattle.body_lang.specs.Expr as plain;
 ghost use Rattle.std.specs.Str.{bytes_eq};
+ghost use Rattle.syn_base.specs.Limits.{most_in_text};
 
 use crate::token::{Mark, Placed, Token};
 use crate::word::{Word, find_word};
@@ -45,7 +46,7 @@ impl<'a> Reader<'a> {
     /// The expression that the tokens are.
     #[tactic(auto, using(crate::proofs::Steps::alone_err, crate::proofs::Steps::alone_more, crate::proofs::Steps::alone_all))]
     pub fn whole(&self) -> Result<Read, Stop>
-        requires { length self.now.ports.now ≤ 4000000000 }
+        requires { length self.now.ports.now ≤ most_in_text }
         ensures { Answers (names_of self.now.ports.now) self.now.tokens.now 0 0
             (alone (parse (length self.now.tokens.now + 1) (behind_of 0 self.now.tokens.now)))
             result }
@@ -60,7 +61,7 @@ impl<'a> Reader<'a> {
     /// The expression that begins with token `start`. Expressions nest less than `depth` deep.
     #[cycle(read)]
     fn expression(&self, start: usize, depth: usize) -> Result<Read, Stop>
-        requires ports { length self.now.ports.now ≤ 4000000000 }
+        requires ports { length self.now.ports.now ≤ most_in_text }
         requires start { start ≤ length self.now.tokens.now }
         ensures { Answers (names_of self.now.ports.now) self.now.tokens.now start 0
             (parse depth (behind_of start self.now.tokens.now)) result }
@@ -84,7 +85,7 @@ impl<'a> Reader<'a> {
     /// The expression that begins with a name.
     #[cycle(read)]
     fn named(&self, name: &[u8], start: usize, depth: usize) -> Result<Read, Stop>
-        requires ports { length self.now.ports.now ≤ 4000000000 }
+        requires ports { length self.now.ports.now ≤ most_in_text }
         requires start { start < length self.now.tokens.now }
         ensures { Answers (names_of self.now.ports.now) self.now.tokens.now start 0
             (named (parse depth) name.now (behind_of (start + 1) self.now.tokens.now)) result }
@@ -105,7 +106,7 @@ impl<'a> Reader<'a> {
     /// An element of a port.
     #[cycle(read)]
     fn element(&self, name: &[u8], start: usize, depth: usize) -> Result<Read, Stop>
-        requires ports { length self.now.ports.now ≤ 4000000000 }
+        requires ports { length self.now.ports.now ≤ most_in_text }
         requires start { start + 2 ≤ length self.now.tokens.now }
         ensures { Answers (names_of self.now.ports.now) self.now.tokens.now start 0
             (element_of (parse depth) name.now (behind_of (start + 2) self.now.tokens.now)) result }
@@ -118,7 +119,7 @@ impl<'a> Reader<'a> {
     /// What a word begins, after its `(`.
     #[cycle(read)]
     fn form(&self, word: Word, start: usize, depth: usize) -> Result<Read, Stop>
-        requires ports { length self.now.ports.now ≤ 4000000000 }
+        requires ports { length self.now.ports.now ≤ most_in_text }
         requires start { start + 2 ≤ length self.now.tokens.now }
         ensures { Answers (names_of self.now.ports.now) self.now.tokens.now start 0
             (arguments_of (parse depth) word (behind_of (start + 2) self.now.tokens.now)) result }
@@ -133,7 +134,7 @@ impl<'a> Reader<'a> {
 
     #[cycle(read)]
     fn negation(&self, start: usize, depth: usize) -> Result<Read, Stop>
-        requires ports { length self.now.ports.now ≤ 4000000000 }
+        requires ports { length self.now.ports.now ≤ most_in_text }
         requires start { start + 2 ≤ length self.now.tokens.now }
         ensures { Answers (names_of self.now.ports.now) self.now.tokens.now start 0
             (negation_of (parse depth) (behind_of (start + 2) self.now.tokens.now)) result }
@@ -144,7 +145,7 @@ impl<'a> Reader<'a> {
 
     #[cycle(read)]
     fn apply(&self, op: Op, start: usize, depth: usize) -> Result<Read, Stop>
-        requires ports { length self.now.ports.now ≤ 4000000000 }
+        requires ports { length self.now.ports.now ≤ most_in_text }
         requires start { start + 2 ≤ length self.now.tokens.now }
         ensures { Answers (names_of self.now.ports.now) self.now.tokens.now start 0
             (apply_of (parse depth) op (behind_of (start + 2) self.now.tokens.now)) result }
@@ -156,7 +157,7 @@ impl<'a> Reader<'a> {
 
     #[cycle(read)]
     fn select(&self, start: usize, depth: usize) -> Result<Read, Stop>
-        requires ports { length self.now.ports.now ≤ 4000000000 }
+        requires ports { length self.now.ports.now ≤ most_in_text }
         requires start { start + 2 ≤ length self.now.tokens.now }
         ensures { Answers (names_of self.now.ports.now) self.now.tokens.now start 0
             (select_of (parse depth) (behind_of (start + 2) self.now.tokens.now)) result }
@@ -170,7 +171,7 @@ impl<'a> Reader<'a> {
     /// An expression with a mark after it; the next token is the one after the mark.
     #[cycle(read)]
     fn ended(&self, start: usize, mark: Mark, depth: usize) -> Result<Read, Stop>
-        requires ports { length self.now.ports.now ≤ 4000000000 }
+        requires ports { length self.now.ports.now ≤ most_in_text }
         requires start { start ≤ length self.now.tokens.now }
         ensures { Answers (names_of self.now.ports.now) self.now.tokens.now start 1
             (ended (parse depth) mark (behind_of start self.now.tokens.now)) result }
@@ -185,7 +186,7 @@ impl<'a> Reader<'a> {
 
     /// The sum of a port, after `sum(`.
     fn sum(&self, start: usize) -> Result<Read, Stop>
-        requires ports { length self.now.ports.now ≤ 4000000000 }
+        requires ports { length self.now.ports.now ≤ most_in_text }
         requires start { start + 2 ≤ length self.now.tokens.now }
         ensures { Answers (names_of self.now.ports.now) self.now.tokens.now start 0
             (sum_of (behind_of (start + 2) self.now.tokens.now)) result }
@@ -225,7 +226,7 @@ impl<'a> Reader<'a> {
 
     /// The number of a port, or of the ports where it is none.
     fn port(&self, name: &[u8]) -> u32
-        requires { length self.now.ports.now ≤ 4000000000 }
+        requires { length self.now.ports.now ≤ most_in_text }
         ensures { result ≡ port_number (names_of self.now.ports.now) name.now }
     {
         for (number, port) in self.ports.iter().enumerate() {

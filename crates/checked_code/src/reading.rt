@@ -1,5 +1,6 @@
 //! A text is read, and then its program is checked.
 ghost use Rattle.std.specs.Prelude.{◌≤◌, length};
+ghost use Rattle.syn_base.specs.Limits.{most_in_text};
 ghost use Rattle.text_lines.specs.Text.{lines_of};
 ghost use Rattle.checked_code.specs.Checked.{GivesChecked};
 
@@ -20,7 +21,7 @@ pub fn read_checked(
     flat: &Flat,
     archi: &Archi,
 ) -> Result<Program, CheckedError>
-    requires { length (lines_of bytes.now) ≤ 4000000000 }
+    requires { length (lines_of bytes.now) ≤ most_in_text }
     ensures { GivesChecked bytes.now flat.now archi.now result }
 {
     let program = read_code(alloc, bytes, flat, archi)?;

@@ -17,7 +17,8 @@ use Rattle.code_text.specs.declared.fault.CodeCause.TheVariants.{BadArgument}
 use Rattle.code_text.specs.declared.numbered.Numbered.{Numbered}
 use Rattle.code_text.specs.declared.numbered.Size.{Size}
 use Rattle.code_text.specs.declared.stage.Stage.TheVariants.{Outside, Named, Declared}
-use Rattle.code_text.specs.Forms.{Bytes, Declaration, declaration_in, declared_by, buffer_in, number_in, at_least, from_to}
+use Rattle.syn_base.specs.Bytes.{Bytes}
+use Rattle.code_text.specs.Forms.{Declaration, declaration_in, declared_by, buffer_in, number_in, at_least, from_to}
 use Rattle.code_text.specs.Text.{Reading, and_then, argument, known, refused, name_of, place_in, follows, last_of, numbered, with_pairs, with_buffer, at_processor, ascending, operation_names}
 use Rattle.code_laws.proofs.Arguments.{is_small, number_back, number_argument, buffer_back, buffer_argument, each_back, each_argument, name_argument}
 use Rattle.code_laws.proofs.Forms.{is_argument}

@@ -7,10 +7,11 @@ use Rattle.archi_graph.specs.declared.medium.Medium.{Medium}
 use Rattle.archi_graph.specs.Archi.{names_of}
 use Rattle.archi_defs.specs.declared.fault.ArchiError.{ArchiError}
 use Rattle.archi_defs.specs.declared.fault.ArchiCause.TheVariants.{BadLine}
-use Rattle.archi_defs.specs.Text.{Bytes, Described, Reading, start, refused, with_some, and_then, next_line, rest_of, whole_of, whole, has_stands, all_joined, apart, described, description_of}
+use Rattle.syn_base.specs.Bytes.{Bytes}
+use Rattle.archi_defs.specs.Text.{Described, Reading, start, refused, with_some, and_then, next_line, rest_of, whole_of, whole, has_stands, all_joined, apart, described, description_of}
 use Rattle.archi_reader.proofs.Endings.{told, media_told}
 use Rattle.archi_reader.proofs.Counted.{IsSpelled, follows_next}
-use Rattle.accepted_laws.proofs.Architectures.{described_are}
+use Rattle.archi_reader.proofs.Accepted.{described_are}
 use Rattle.code_laws.specs.ReadsBack.{DescribedReadBack}
 use Rattle.code_laws.proofs.ReadBack.{built_read_back}
 

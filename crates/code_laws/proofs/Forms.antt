@@ -6,7 +6,8 @@ use Rattle.std.specs.Str.{bytes_eq}
 use Rattle.std.proofs.lemmas.Bool.{and_parts, and_from, leb-true, le-leb, ne_eqb, or_right, not-true}
 use Rattle.std.proofs.lemmas.List.{take_at, drop_at, length_push}
 use Rattle.std.proofs.lemmas.List.Folds.{list_all-append, list_any-append}
-use Rattle.code_text.specs.Forms.{Bytes, listed, call, is_open, is_semicolon, is_comma, is_mark, is_unmarked, before, after, is_closed, inside, has_bytes, may_name, list_form, name_form, word_form, lists_form, operation_form, call_form, arguments_of}
+use Rattle.syn_base.specs.Bytes.{Bytes}
+use Rattle.code_text.specs.Forms.{listed, call, is_open, is_semicolon, is_comma, is_mark, is_unmarked, before, after, is_closed, inside, has_bytes, may_name, list_form, name_form, word_form, lists_form, operation_form, call_form, arguments_of}
 use Rattle.macro_code.specs.Text.{joined, each_after_comma}
 use Rattle.code_laws.proofs.Bytes.{is_plain}
 

@@ -10,7 +10,7 @@ use Rattle.archi_graph.specs.declared.medium.Seq.{Seq}
 use Rattle.archi_graph.specs.Archi.{ascends_from, stands_at}
 use Rattle.archi_graph.specs.Sequences.{computation, communicator, communicators, sequences_of}
 use Rattle.executive_program.specs.declared.program.SeqCode.{SeqCode}
-use Rattle.code_text.specs.Forms.{Bytes}
+use Rattle.syn_base.specs.Bytes.{Bytes}
 use Rattle.code_laws.proofs.Threads.{AreThreads, is_elsewhere, flat_none}
 
 -- the numbers of the media at which an operator stands, where the first has number k

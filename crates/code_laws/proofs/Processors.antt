@@ -21,7 +21,7 @@ use Rattle.code_text.specs.declared.numbered.Numbered.{Numbered}
 use Rattle.code_text.specs.declared.numbered.Size.{Size}
 use Rattle.code_text.specs.declared.stage.Stage.{Stage}
 use Rattle.code_text.specs.declared.stage.Stage.TheVariants.{Outside, Declared}
-use Rattle.code_text.specs.Forms.{Bytes}
+use Rattle.syn_base.specs.Bytes.{Bytes}
 use Rattle.code_text.specs.Text.{Reading, operation_names, follows, at_processor, with_pairs, numbered}
 use Rattle.code_laws.proofs.Named.{names, AreNamed}
 use Rattle.code_laws.proofs.Numbering.{numbers, all_on, on_small, on_ascends, on_owned}

@@ -9,7 +9,8 @@ use Rattle.macro_code.specs.declared.macros.Macro.TheVariants.{Processor, Semaph
 use Rattle.macro_code.specs.Macros.{word_of}
 use Rattle.macro_code.specs.Text.{joined, line, word_line}
 use Rattle.code_text.specs.declared.fault.CodeError.{CodeError}
-use Rattle.code_text.specs.Forms.{Bytes, Form, form_of, macro_of, arguments_of, has_bytes, may_name}
+use Rattle.syn_base.specs.Bytes.{Bytes}
+use Rattle.code_text.specs.Forms.{Form, form_of, macro_of, arguments_of, has_bytes, may_name}
 use Rattle.code_text.specs.Text.{Reading, and_then, formed, known_macro, placed_line, call_line, line_of, words_line, line_by, next_line, rest_of}
 use Rattle.code_laws.proofs.Bytes as bytes
 use Rattle.code_laws.proofs.Bytes.{IsLine, are_plain, last_back, word_back, plain_line}

@@ -10,7 +10,8 @@ use Rattle.macro_code.specs.Text.{macro_code}
 use Rattle.macro_code.proofs.Rows.{graph, archi, code, buffer, bus_program}
 use Rattle.code_text.specs.declared.fault.CodeError.{CodeError}
 use Rattle.code_text.specs.declared.fault.CodeCause.TheVariants.{BadLine, BadArgument, UnknownName}
-use Rattle.code_text.specs.Forms.{Bytes, macro_of}
+use Rattle.syn_base.specs.Bytes.{Bytes}
+use Rattle.code_text.specs.Forms.{macro_of}
 use Rattle.code_text.specs.Text.{program_in, refused}
 
 -- two operators on a bus; their buffers and pairs stand in the text operator by operator

@@ -16,7 +16,7 @@ use Rattle.code_text.specs.declared.fault.CodeError.{CodeError}
 use Rattle.code_text.specs.declared.fault.CodeCause.TheVariants.{BadArgument, UnknownName}
 use Rattle.code_text.specs.declared.stage.Stage.{Stage}
 use Rattle.code_text.specs.declared.stage.Stage.TheVariants.{Threaded, Prologue, Ended}
-use Rattle.code_text.specs.Forms.{Bytes}
+use Rattle.syn_base.specs.Bytes.{Bytes}
 use Rattle.code_text.specs.Text.{Reading, Joined, and_then, known, refused, place_in, medium_names, operation_names, is_among, follows, last_of, is_declared, is_threaded, starts_more, awaits_more, medium_of, thread_of, at_thread}
 use Rattle.code_laws.proofs.Arguments.{name_argument}
 use Rattle.code_laws.proofs.Named.{names, AreNamed}

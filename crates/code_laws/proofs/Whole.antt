@@ -14,7 +14,8 @@ use Rattle.archi_graph.specs.Sequences.{sequences}
 use Rattle.executive_program.specs.declared.program.Buffer.{Buffer}
 use Rattle.executive_program.specs.declared.program.SeqCode.{SeqCode}
 use Rattle.executive_program.specs.declared.program.Program.{Program}
-use Rattle.macro_code.specs.Text.{Bytes, macro_code}
+use Rattle.syn_base.specs.Bytes.{Bytes}
+use Rattle.macro_code.specs.Text.{macro_code}
 use Rattle.code_text.specs.declared.numbered.Numbered.{Numbered}
 use Rattle.code_text.specs.declared.numbered.Size.{Size}
 use Rattle.code_text.specs.declared.fault.CodeCause.TheVariants.{BadLine}

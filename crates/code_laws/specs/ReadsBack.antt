@@ -12,7 +12,8 @@ use Rattle.executive_program.specs.declared.program.Program.{Program}
 use Rattle.executive_program.specs.WellFormed.{IsWellFormed}
 use Rattle.sequence_build_laws.specs.Built.{program_of}
 use Rattle.sequence_build.specs.Limit.{program_limit}
-use Rattle.archi_defs.specs.Text.{Bytes, Described, description_of}
+use Rattle.syn_base.specs.Bytes.{Bytes}
+use Rattle.archi_defs.specs.Text.{Described, description_of}
 use Rattle.macro_code.specs.Text.{macro_code}
 use Rattle.code_text.specs.Text.{program_in}
 

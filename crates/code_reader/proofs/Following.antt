@@ -4,7 +4,7 @@ use Rattle.archi_graph.specs.Archi.{Architecture}
 use Rattle.executive_program.specs.declared.program.Program.{Program}
 use Rattle.code_text.specs.declared.fault.CodeError.{CodeError}
 use Rattle.code_text.specs.declared.fault.CodeError.TheVariants.{Refused, Limit, OutOfMemory}
-use Rattle.code_text.specs.Forms.{Bytes}
+use Rattle.syn_base.specs.Bytes.{Bytes}
 use Rattle.code_text.specs.Text.{Reading, and_then, next_line, rest_of}
 use Rattle.code_reader.specs.Given.{Fails}
 

@@ -6,7 +6,7 @@ use Rattle.text_lines.specs.Text.{code_of, is_foreign, is_hash, words_of}
 use Rattle.text_lines.proofs.Places.{found_at}
 use Rattle.code_text.specs.declared.fault.CodeError.{CodeError}
 use Rattle.code_text.specs.declared.fault.CodeCause.TheVariants.{BadLine}
-use Rattle.code_text.specs.Forms.{Bytes}
+use Rattle.syn_base.specs.Bytes.{Bytes}
 use Rattle.code_text.specs.Text.{Reading, line_by, next_line, refused, words_line}
 use Rattle.code_reader.specs.Views.{is_stop}
 use Rattle.code_reader.proofs.Clean.{mark_first, no_stop, wrong_first}

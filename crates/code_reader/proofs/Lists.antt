@@ -5,7 +5,8 @@ use Rattle.std.proofs.lemmas.Bool.{and_parts, ltb-true, ltb-false}
 use Rattle.std.proofs.lemmas.Bool.Decides.{nat_tests}
 use Rattle.std.proofs.lemmas.List.{drop-drop, take_all}
 use Rattle.std.proofs.lemmas.List.Splits.{slice_split_first}
-use Rattle.code_text.specs.Forms.{Bytes, after, arguments_of, at_least, before, buffer_in, declaration_in, declared_by, each_in, from_to, is_comma, number_in, with_first}
+use Rattle.syn_base.specs.Bytes.{Bytes}
+use Rattle.code_text.specs.Forms.{after, arguments_of, at_least, before, buffer_in, declaration_in, declared_by, each_in, from_to, is_comma, number_in, with_first}
 use Rattle.code_text.specs.Text.{first_unknown, is_among, is_known, one_of, two_of}
 use Rattle.code_reader.specs.declared.arguments.Declaration as declared_declaration
 use Rattle.code_reader.specs.Views.{IsCut, IsDeclaration}

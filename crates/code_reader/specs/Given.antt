@@ -5,7 +5,7 @@ use Rattle.std.specs.Global.{Vec}
 use Rattle.code_text.specs.declared.fault.CodeCause.{CodeCause}
 use Rattle.code_text.specs.declared.fault.CodeError.{CodeError}
 use Rattle.code_text.specs.declared.fault.CodeError.TheVariants.{Refused, Limit, OutOfMemory}
-use Rattle.code_text.specs.Forms.{Bytes}
+use Rattle.syn_base.specs.Bytes.{Bytes}
 use Rattle.code_text.specs.Text.{Joined, Moved, Ends}
 use Rattle.code_reader.specs.declared.known.Joined as declared_joined
 use Rattle.code_reader.specs.declared.instruction.Moved as declared_moved

@@ -20,7 +20,8 @@ use Rattle.text_lines.specs.Text as text
 use Rattle.text_lines.specs.Text.{is_foreign, is_hash, words_of}
 use Rattle.code_reader.specs.declared.word.LineWords.{LineWords}
 use Rattle.code_reader.specs.declared.word.LineWords.TheVariants as told
-use Rattle.code_text.specs.Forms.{Bytes, Form, arguments_of, bare, listed, call, before, after, inside, is_closed, Declaration}
+use Rattle.syn_base.specs.Bytes.{Bytes}
+use Rattle.code_text.specs.Forms.{Form, arguments_of, bare, listed, call, before, after, inside, is_closed, Declaration}
 use Rattle.code_text.specs.Text.{Two, call_line, call_of, Reading}
 
 -- a text is cut at the first byte that passes

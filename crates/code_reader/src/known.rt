@@ -26,13 +26,14 @@ pub struct Known<'a> {
 
 impl<'a> Model for Known<'a> {
     ghost use Rattle.std.specs.Prelude.{◌≤◌, length};
+    ghost use Rattle.syn_base.specs.Limits.{most_operations};
     ghost use Rattle.code_reader.specs.Setting.{Setting};
 
     ghost Value = { Setting };
 
     ghost view = { λ s. record { operations = s.operations; archi = s.archi.now } };
 
-    ghost invariant = { λ s. length s.operations ≤ 2048 };
+    ghost invariant = { λ s. length s.operations ≤ most_operations };
 }
 
 /// A medium, by its name in a line and by its number.

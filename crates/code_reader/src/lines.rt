@@ -1,5 +1,6 @@
 //! The lines of a text, one after the other.
 ghost use Rattle.std.specs.Prelude.{◌≤◌, ◌∷◌, [], length};
+ghost use Rattle.syn_base.specs.Limits.{most_in_text};
 ghost use Rattle.text_lines.specs.Text.{lines_of};
 ghost use Rattle.code_text.specs.Text.{line_of, macro_line, named_line, next_line, placed_line, program_in, rest_of, start, words_line};
 ghost use Rattle.code_reader.specs.Given.{Gives, Steps};
@@ -180,7 +181,7 @@ pub fn read_code(
     flat: &Flat,
     archi: &Archi,
 ) -> Result<Program, CodeError>
-    requires { length (lines_of bytes.now) ≤ 4000000000 }
+    requires { length (lines_of bytes.now) ≤ most_in_text }
     ensures { Gives result (program_in bytes.now flat.now archi.now) }
 {
     let known = Known::of(alloc, flat, archi)?;
@@ -188,7 +189,7 @@ pub fn read_code(
 }
 
 fn read_lines(alloc: Global, bytes: &[u8], known: &Known) -> Result<Program, CodeError>
-    requires { length (lines_of bytes.now) ≤ 4000000000 }
+    requires { length (lines_of bytes.now) ≤ most_in_text }
     ensures { Gives result
         (rest_of known.now.operations known.now.archi start 1 (lines_of bytes.now)) }
 {

@@ -5,7 +5,8 @@ use Rattle.executive_program.specs.declared.program.Instr.TheVariants.{Suc0, Suc
 use Rattle.executive_program.specs.declared.program.Program.{Program}
 use Rattle.macro_code.proofs.Rows.{graph, medium, archi, code, buffer, plain_program, bus_program, speed_program, speed_names}
 use Rattle.code_text.specs.declared.fault.CodeError.{CodeError}
-use Rattle.code_text.specs.Forms.{Bytes, macro_of}
+use Rattle.syn_base.specs.Bytes.{Bytes}
+use Rattle.code_text.specs.Forms.{macro_of}
 use Rattle.code_text.specs.declared.fault.CodeCause.TheVariants.{UnknownMacro}
 use Rattle.code_text.specs.Text.{program_in, refused}
 

@@ -28,7 +28,8 @@ use Rattle.code_text.specs.declared.numbered.Numbered.{Numbered}
 use Rattle.code_text.specs.declared.numbered.Size.{Size}
 use Rattle.code_text.specs.declared.stage.Stage.{Stage}
 use Rattle.code_text.specs.declared.stage.Stage.TheVariants.{Outside, Named, Declared, Threaded, Prologue, Turn, Ended}
-use Rattle.code_text.specs.Forms.{Bytes, Form, bare, listed, call, form_of, macro_of, arguments_of, number_in, buffer_in, each_in, Declaration, declaration_in}
+use Rattle.syn_base.specs.Bytes.{Bytes}
+use Rattle.code_text.specs.Forms.{Form, bare, listed, call, form_of, macro_of, arguments_of, number_in, buffer_in, each_in, Declaration, declaration_in}
 
 -- What was read so far. Of the whole text: how far it got, the operator of the processor that began last, the pairs and the buffers that were declared with their operators and sizes, and the sequences of the processors that ended.
 -- Of the processor that began last: the numbers of its pairs and buffers, the media of its threads, of those that its main part started and of those for whose end it waits, its threads that ended; and the sequence that began last, with its medium, prologue and loop.

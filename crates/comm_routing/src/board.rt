@@ -1,5 +1,6 @@
 //! What the decisions so far have done, by number.
 ghost use Rattle.std.specs.Prelude.{◌≡◌, ℕ, ◌<◌, ◌≤◌, ◌+◌, ◌*◌, ◌^◌, max, length, slice_index_or, None, All, IfOk};
+ghost use Rattle.syn_base.specs.Limits.{most_operations};
 ghost use Rattle.schedule.specs.Acts.{copy};
 ghost use Rattle.comm_routing.specs.Board.{Fits, FitsAll, HasOutput, HasPlace, HasRoute, HasWay, held_in, len_in, on_in, time_in};
 ghost use Rattle.comm_routing.specs.Candidates.{is_placed_in};
@@ -55,7 +56,7 @@ impl Board {
         vertices: &[Vertex],
         operators: u32,
     ) -> Result<Board, OutOfMemory>
-        requires few { (length vertices.now ≤ 2048) × (operators ≤ 16) }
+        requires few { (length vertices.now ≤ most_operations) × (operators ≤ 16) }
         requires outputs { All HasFewOutputs vertices.now }
         ensures { IfOk result (IsStart vertices.now operators) }
     {
@@ -182,7 +183,7 @@ impl Board {
 
 /// How many places the table of held values has.
 fn held_places(vertices: &[Vertex], lens: &[u32], operators: u32) -> usize
-    requires few { (length vertices.now ≤ 2048) × (operators ≤ 16) }
+    requires few { (length vertices.now ≤ most_operations) × (operators ≤ 16) }
     requires outputs { All HasFewOutputs vertices.now }
     requires lens { lens.now ≡ all_lens vertices.now }
     ensures { result ≡ length lens.now * operators }

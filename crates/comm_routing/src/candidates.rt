@@ -1,6 +1,7 @@
 //! The candidates, and their arrivals as far as they are known.
 ghost use Rattle.std.specs.Prelude.{◌≡◌, ℕ, ◌+◌, ◌<◌, ◌≤◌, [], All, true, false, ◌&&◌, IfOk, if◌then◌else◌, length, nat_eq, slice_index_or, slice_set, take, replicate};
 ghost use Rattle.std.specs.List.{list_all, list_any};
+ghost use Rattle.syn_base.specs.Limits.{most_operations};
 ghost use Rattle.flat_graph.specs.Order.{get_half};
 ghost use Rattle.comm_routing.specs.Dependents.{AreDependents};
 ghost use Rattle.comm_routing.specs.Candidates.{AreArrivals, CanArrive, HasSize, HasWalks, IsBehind, IsListed, IsUpdated, flag_in, is_candidate_in, is_free_in, is_placed_in, places_from, row_at, sought_in};
@@ -33,7 +34,7 @@ impl Ready {
 
     /// Marks each operation.
     fn mark_all(&mut self, vertices: &[Vertex], board: &Board)
-        requires few { length vertices.now ≤ 2048 }
+        requires few { length vertices.now ≤ most_operations }
         requires flags { length self.old.flags.items ≡ length vertices.now }
         requires list { length self.old.list.items ≡ length vertices.now }
         ensures listed { IsListed (length vertices.now) self.new }
@@ -91,7 +92,7 @@ pub(crate) struct Candidates {
 impl Candidates {
     /// No operation is a candidate so far.
     pub fn new(alloc: Global, vertices: &[Vertex]) -> Result<Candidates, OutOfMemory>
-        requires { length vertices.now ≤ 2048 }
+        requires { length vertices.now ≤ most_operations }
         ensures size { IfOk result (HasSize (length vertices.now)) }
         ensures dependents { IfOk result (λ c. AreDependents vertices.now c.dependents.items) }
     {
@@ -110,7 +111,7 @@ impl Candidates {
 
     /// Finds the candidates among all operations, and their arrivals. It takes no memory.
     pub fn fill(&mut self, vertices: &[Vertex], walks: &Walks)
-        requires few { length vertices.now ≤ 2048 }
+        requires few { length vertices.now ≤ most_operations }
         requires size { HasSize (length vertices.now) self.old }
         requires walks { HasWalks walks.now }
         requires reads { length vertices.now ≤ length walks.now.reads.now }
@@ -256,7 +257,7 @@ fn find(walks: &Walks, ops: &[u32], flags: &[bool], rows: &mut [[u64; 16]])
 
 /// Puts the numbers of those that are set into the first places, and answers how many they are.
 fn collect(flags: &[bool], ready: &mut [u32]) -> usize
-    requires few { length flags.now ≤ 2048 }
+    requires few { length flags.now ≤ most_operations }
     requires size { length ready.old ≡ length flags.now }
     ensures size { length ready.new ≡ length flags.now }
     ensures count { result ≤ length flags.now }

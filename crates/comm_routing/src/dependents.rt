@@ -1,5 +1,6 @@
 //! By operation the operations that depend on it.
 ghost use Rattle.std.specs.Prelude.{◌≡◌, ℕ, ◌<◌, ◌≤◌, ◌++◌, ◌∷◌, [], IfOk, OnOk, length, map, vec_len};
+ghost use Rattle.syn_base.specs.Limits.{most_operations};
 ghost use Rattle.flat_graph.specs.Order.{depends_on, get_half};
 ghost use Rattle.comm_routing.specs.Dependents.{AreDependents, list_at, repeated};
 
@@ -13,7 +14,7 @@ pub(crate) fn all_dependents(
     alloc: Global,
     vertices: &[Vertex],
 ) -> Result<Vec<Vec<u32>>, OutOfMemory>
-    requires few { length vertices.now ≤ 2048 }
+    requires few { length vertices.now ≤ most_operations }
     ensures size { IfOk result (λ lists. vec_len lists ≡ length vertices.now) }
     ensures dependents { IfOk result (λ lists. AreDependents vertices.now lists.items) }
 {

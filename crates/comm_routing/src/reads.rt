@@ -1,5 +1,6 @@
 //! The distinct sources of each operation.
 ghost use Rattle.std.specs.Prelude.{◌≡◌, ℕ, ◌<◌, ◌≤◌, ◌*◌, ◌++◌, List, All, IfOk, OnOk, length, map, slice_index_or};
+ghost use Rattle.syn_base.specs.Limits.{most_operations};
 ghost use Rattle.comm_routing.specs.Start.{AreThere, IsMarked, IsThere, reads_of, with_source};
 ghost use Rattle.comm_routing.specs.Walk.{distinct_after};
 ghost use Rattle.flat_graph.specs.declared.vertex.Source.{Source};
@@ -13,7 +14,7 @@ pub(crate) fn all_reads(
     alloc: Global,
     vertices: &[Vertex],
 ) -> Result<Vec<Items<Source>>, OutOfMemory>
-    requires few { length vertices.now ≤ 2048 }
+    requires few { length vertices.now ≤ most_operations }
     requires there { All (AreThere (length vertices.now)) vertices.now }
     ensures reads { IfOk result (λ reads. reads.items ≡ map reads_of vertices.now) }
     ensures short { IfOk result (λ reads. All (λ r. length r ≤ 131072) reads.items) }
@@ -48,7 +49,7 @@ fn reads_of(
     mark: u32,
     marks: &mut [u32],
 ) -> Result<Items<Source>, OutOfMemory>
-    requires few { operations ≤ 2048 }
+    requires few { operations ≤ most_operations }
     requires size { length marks.old ≡ operations * 64 }
     requires unmarked { (i : ℕ) → slice_index_or marks.old i 0 < mark }
     requires there { AreThere operations vertex.now }
@@ -76,7 +77,7 @@ fn note_guards(
     marks: &mut [u32],
     reads: &mut Vec<Source>,
 ) -> Result<(), OutOfMemory>
-    requires few { operations ≤ 2048 }
+    requires few { operations ≤ most_operations }
     requires marked { IsMarked operations mark marks.old reads.old.items }
     requires there { All (λ g. IsThere operations g.source) guards.now }
     ensures marked { OnOk result (IsMarked operations mark marks.new reads.new.items) }
@@ -97,7 +98,7 @@ fn note_all(
     marks: &mut [u32],
     reads: &mut Vec<Source>,
 ) -> Result<(), OutOfMemory>
-    requires few { operations ≤ 2048 }
+    requires few { operations ≤ most_operations }
     requires marked { IsMarked operations mark marks.old reads.old.items }
     requires there { All (IsThere operations) sources.now }
     ensures marked { OnOk result (IsMarked operations mark marks.new reads.new.items) }
@@ -117,7 +118,7 @@ fn note(
     marks: &mut [u32],
     reads: &mut Vec<Source>,
 ) -> Result<(), OutOfMemory>
-    requires few { operations ≤ 2048 }
+    requires few { operations ≤ most_operations }
     requires marked { IsMarked operations mark marks.old reads.old.items }
     requires there { IsThere operations source }
     ensures marked { OnOk result (IsMarked operations mark marks.new reads.new.items) }

@@ -1,5 +1,6 @@
 //! Tables before the first decision.
 ghost use Rattle.std.specs.Prelude.{◌≡◌, ℕ, ◌≤◌, None, All, IfOk, length, slice_index_or};
+ghost use Rattle.syn_base.specs.Limits.{most_operations};
 ghost use Rattle.comm_routing.specs.Start.{HasFewOutputs, all_lens, firsts_from};
 
 use flat_graph::Vertex;
@@ -8,7 +9,7 @@ use syn_base::OutOfMemory;
 
 /// The number of each operation's first output.
 pub(crate) fn firsts(alloc: Global, vertices: &[Vertex]) -> Result<Vec<u32>, OutOfMemory>
-    requires few { length vertices.now ≤ 2048 }
+    requires few { length vertices.now ≤ most_operations }
     requires outputs { All HasFewOutputs vertices.now }
     ensures { IfOk result (λ first. first.items ≡ firsts_from 0 vertices.now) }
 {

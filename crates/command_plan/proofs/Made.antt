@@ -2,7 +2,7 @@
 use Rattle.std.proofs.lemmas.Bool.Decides.{nat_tests}
 use Rattle.std.specs.Prelude.{if◌then◌else◌, nat_lt, option_and_then}
 use Rattle.std.proofs.Common.{◌≡◌, ℕ, ◌≤◌, ◌<◌, ◌∙◌, length, Result, Ok, Err, Option, Some, None, IfSome, inl, inr, refl, sym, true, false, subst, ap, arith}
-use Rattle.outside.specs.Bytes.{Bytes}
+use Rattle.syn_base.specs.Bytes.{Bytes}
 use Rattle.outside.specs.Faults.{Rose}
 use Rattle.outside.specs.Shelf.{Held, Stays, file_bound}
 use Rattle.outside.specs.declared.file.File.{File}

@@ -1,6 +1,6 @@
 -- Carrying out a plan, step by step.
 use Rattle.std.proofs.Common.{◌≡◌, Result, Ok, Err, inl, inr, refl, sym, subst}
-use Rattle.outside.specs.Bytes.{Bytes}
+use Rattle.syn_base.specs.Bytes.{Bytes}
 use Rattle.outside.specs.Shelf.{Held, OthersStay}
 use Rattle.outside.specs.declared.file.File.{File}
 use Rattle.command_plan.specs.Plan.{Plan, give, refuse, read, after}

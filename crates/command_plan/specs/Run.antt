@@ -1,6 +1,6 @@
 -- What carrying out a plan may do, whether or not the files are told.
 use Rattle.std.specs.Prelude.{◌≡◌, ◌<◌, ◌⊎◌, List, [], ◌∷◌, length, Result, Ok, Err, IfSome, false}
-use Rattle.outside.specs.Bytes.{Bytes}
+use Rattle.syn_base.specs.Bytes.{Bytes}
 use Rattle.outside.specs.Faults.{Rose}
 use Rattle.outside.specs.Shelf.{Held, IsRead, OthersStay, Stays, file_bound}
 use Rattle.outside.specs.Sink.{Sunk, Appends, Wrote}

@@ -1,7 +1,8 @@
 -- The line on the error sink for each status.
 use Rattle.std.specs.Prelude.{ℕ, List, [], ◌∷◌, ◌++◌, codes}
 use Rattle.std.specs.Fmt.{decimal}
-use Rattle.outside.specs.Bytes.{Bytes, joined}
+use Rattle.syn_base.specs.Bytes.{Bytes}
+use Rattle.outside.specs.Bytes.{joined}
 use Rattle.outside.specs.Faults.{Rose}
 use Rattle.outside.specs.Sink.{Sunk, Appends, AppendsPrefix}
 use Rattle.outside.specs.declared.file.File.{File}

@@ -1,6 +1,7 @@
 -- A word more is a word after those before.
 use Rattle.std.proofs.Common.{◌≡◌, refl, sym, ap, List, [], ◌∷◌, ◌++◌, Option, Some, None, append_assoc}
-use Rattle.command_words.specs.Command.{Bytes, Arguments, with_plain, with_workers}
+use Rattle.syn_base.specs.Bytes.{Bytes}
+use Rattle.command_words.specs.Command.{Arguments, with_plain, with_workers}
 
 -- the rest, with what was given before
 abbrev pub behind : Arguments → Option Arguments → Option Arguments

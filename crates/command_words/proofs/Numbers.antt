@@ -3,7 +3,8 @@ use Rattle.std.proofs.Common.{◌≡◌, ◌∙◌, ◌≤◌, ◌<◌, ◌+◌,
 use Rattle.std.specs.List.{list_all}
 use Rattle.syn_base.specs.Name.{is_digit}
 use Rattle.syn_base.specs.Integer.{number_after}
-use Rattle.command_words.specs.Command.{Bytes, number_up_to}
+use Rattle.syn_base.specs.Bytes.{Bytes}
+use Rattle.command_words.specs.Command.{number_up_to}
 
 -- the number after n that these bytes write, where it is from 1 to this one
 abbrev pub read_on : ℕ → ℕ → Bytes → Option ℕ

@@ -2,7 +2,8 @@
 use Rattle.std.proofs.Common.{◌≡◌, ◌∙◌, refl, ap, List, [], ◌∷◌, Bool, true, false, Option, Some, None, codes, if◌then◌else◌}
 use Rattle.std.specs.Prelude.{option_map, option_and_then}
 use Rattle.std.specs.Str.{bytes_eq}
-use Rattle.command_words.specs.Command.{Bytes, Command, Arguments, is_option, arguments_of, plain_by, with_plain}
+use Rattle.syn_base.specs.Bytes.{Bytes}
+use Rattle.command_words.specs.Command.{Command, Arguments, is_option, arguments_of, plain_by, with_plain}
 
 abbrev pub Text : Type 0
 Text = Bytes

@@ -1,6 +1,7 @@
 -- Which commands worked words are.
 use Rattle.std.proofs.Common.{◌≡◌, refl, List, [], ◌∷◌, Option, Some, None, codes}
-use Rattle.command_words.specs.Command.{Bytes, Command, check, sim, flat, chart, code, run, load, exec, dates, command_of}
+use Rattle.syn_base.specs.Bytes.{Bytes}
+use Rattle.command_words.specs.Command.{Command, check, sim, flat, chart, code, run, load, exec, dates, command_of}
 
 abbrev a : Bytes
 a = codes "a"

@@ -3,7 +3,8 @@ use Rattle.std.specs.Prelude.{◌≡◌, Bool, true, false, List, Option, Some, 
 use Rattle.clap.specs.Walk.{Row, first_of}
 use Rattle.clap.specs.declared.error.kind.ErrorKind.{ErrorKind}
 use Rattle.clap.specs.declared.error.kind.ErrorKind.TheVariants as kind
-use Rattle.command_words.specs.Command.{Bytes, Command, command_of}
+use Rattle.syn_base.specs.Bytes.{Bytes}
+use Rattle.command_words.specs.Command.{Command, command_of}
 use Rattle.command_words.specs.Plain.{plain_command, listed, run_made, exec_made, made}
 use Rattle.command_words.specs.declared.given.Given.{Given}
 

@@ -3,7 +3,7 @@ use Rattle.std.specs.Prelude.{Bool, List, [], ◌∷◌, true, false, codes, Som
 use Rattle.clap.specs.Walk.{Row, Rule, reading_by}
 use Rattle.clap.specs.Simple.{App, new_app, new_rule, with_rule, with_subcommand, on_top}
 use Rattle.clap.specs.declared.parser.matches.ValueSource.TheVariants.{CommandLine}
-use Rattle.command_words.specs.Command.{Bytes}
+use Rattle.syn_base.specs.Bytes.{Bytes}
 use Rattle.command_words.specs.declared.given.Form.{Form}
 use Rattle.command_words.specs.declared.given.Form.TheVariants.{One, Two, Four, Working}
 

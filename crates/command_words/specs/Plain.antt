@@ -1,7 +1,8 @@
 -- The commands by their names, their plain arguments and what is given as workers.
 use Rattle.std.specs.Prelude.{List, [], ◌∷◌, Option, Some, None, if◌then◌else◌, codes}
 use Rattle.std.specs.Str.{bytes_eq}
-use Rattle.command_words.specs.Command.{Bytes, Command, check, sim, flat, chart, code, run, exec, one, two, one_or_two, four, loaded, dated, number_up_to, with_count}
+use Rattle.syn_base.specs.Bytes.{Bytes}
+use Rattle.command_words.specs.Command.{Command, check, sim, flat, chart, code, run, exec, one, two, one_or_two, four, loaded, dated, number_up_to, with_count}
 
 -- those that take plain arguments alone
 abbrev pub plain_command : Bytes → List Bytes → Option Command

@@ -5,7 +5,7 @@ ghost use Rattle.clap.specs.Simple.{app_of, subcommand_rows_of, with_rule, with_
 ghost use Rattle.clap.specs.Values.{kind_of};
 ghost use Rattle.clap.specs.Walk.{Row};
 ghost use Rattle.clap.specs.declared.builder.command.Command.TheViews.{out-Command as fields_of};
-ghost use Rattle.command_words.specs.Command.{Bytes};
+ghost use Rattle.syn_base.specs.Bytes.{Bytes};
 ghost use Rattle.command_words.specs.App.{argument, workers_rule, one_app, two_app, four_app, working_app, form_app, bare_app, with_forms, the_app};
 ghost use Rattle.command_words.specs.Answer.{wants_memory, Tells, Gives, Is};
 

@@ -2,21 +2,10 @@
 ghost use Rattle.std.specs.Prelude.{◌≡◌, ◌++◌, [], ◌∷◌, IfOk, map};
 ghost use Rattle.conditioning_laws.specs.Guarded.{shift, shift_guard, guard_sources, guard_for, own_guards as guards_owned};
 
+use algo_tree::{copy_guards, copy_numbers};
 use level_meaning::{Guard, Source};
 use std::alloc::Global;
-use syn_base::OutOfMemory;
-use tree_copy::{copy_guards, copy_numbers};
-
-/// A count as the number of an input or of a vertex. Where it does not fit the answer is want of memory,
-/// which that many inputs or vertices would long have met.
-pub fn number(count: usize) -> Result<u32, OutOfMemory>
-    ensures { IfOk result (λ n. n ≡ count) }
-{
-    match u32::try_from(count) {
-        Ok(number) => Ok(number),
-        Err(_) => Err(OutOfMemory),
-    }
-}
+use syn_base::{OutOfMemory, to_u32};
 
 /// A source of a level, where `before` further inputs stand before the level's own.
 fn shifted(before: u32, source: Source) -> Result<Source, OutOfMemory>
@@ -89,7 +78,7 @@ pub fn own_guards(alloc: Global, guards: &[Guard]) -> Result<Vec<Guard>, OutOfMe
 {
     let mut all = Vec::new(alloc);
     for guard in guards {
-        let input = number(all.len())?;
+        let input = to_u32(all.len())?;
         all.push(guard_on(alloc, Source::Own(input), guard)?)?;
     }
     Ok(all)

@@ -5,12 +5,10 @@ ghost use Rattle.algo_tree.specs.View.{view};
 ghost use Rattle.conditioning_laws.specs.Guarded.{merge_of, merge_sources};
 ghost use Rattle.conditioning.specs.Listed.{merges_listed};
 
-use crate::conditions::number;
-use algo_tree::{Kind, Vertex};
+use algo_tree::{Kind, Vertex, copy_bytes, copy_guards, copy_numbers};
 use level_meaning::{Guard, Part, Source};
 use std::alloc::Global;
-use syn_base::{Items, OutOfMemory};
-use tree_copy::{copy_bytes, copy_guards, copy_numbers};
+use syn_base::{Items, OutOfMemory, len_at, to_u32};
 
 /// What the merges of a switch have in common: its definition, the guards around it as its inside sees
 /// them, the number of its conditioning input, the values of its cases, and the number of these.
@@ -79,12 +77,6 @@ fn merge(
     })
 }
 
-fn len_at(lens: &[u32], at: usize) -> u32
-    ensures { result ≡ slice_index_or lens.now at 0 }
-{
-    if at < lens.len() { lens[at] } else { 0 }
-}
-
 /// Adds a merge for each output, in order, of the length of the switch's output.
 pub fn add_merges(
     alloc: Global,
@@ -99,7 +91,7 @@ pub fn add_merges(
 {
     let mut place = 0;
     for name in names {
-        let output = number(place)?;
+        let output = to_u32(place)?;
         let len = len_at(outs, place);
         all.push(merge(alloc, switch, output, name.as_slice(), len)?)?;
         place += 1;

@@ -10,13 +10,13 @@ ghost use Rattle.conditioning_laws.specs.Guarded.{guard as guarded_tree, guarded
 ghost use Rattle.conditioning_laws.specs.NoCase.{HasNoCase};
 ghost use Rattle.conditioning.specs.Listed.{cases_listed};
 
-use crate::conditions::{guards_of_case, number, own_guards, shifted_sources};
+use crate::conditions::{guards_of_case, own_guards, shifted_sources};
 use crate::merges::{Switched, add_merges, merge_outputs};
 use crate::vertices::{as_graph, as_operation};
 use algo_tree::{Kind, Tree, Vertex};
 use level_meaning::{Guard, Source};
 use std::alloc::Global;
-use syn_base::{Items, OutOfMemory};
+use syn_base::{Items, OutOfMemory, to_u32};
 
 /// The tree without cases, of the same meaning: each switch is replaced by a graph of its cases and a
 /// merge for each output after them. Every operation and merge carries the guards of the cases
@@ -84,7 +84,7 @@ fn guard_graph(
     ensures { IfOk result (λ u. view u ≡ guarded guards.now before (view vertex.now)) }
 {
     let own = own_guards(alloc, guards)?;
-    let handed = number(guards.len())?;
+    let handed = to_u32(guards.len())?;
     let outputs = shifted_sources(alloc, handed, outputs)?;
     let inner = guard_each(alloc, own.as_slice(), handed, &vertex.inner)?;
     as_graph(alloc, guards, before, vertex, outputs, inner)
@@ -104,8 +104,8 @@ fn guard_switch(
     ensures { IfOk result (λ u. view u ≡ guarded guards.now before (view vertex.now)) }
 {
     let own = own_guards(alloc, guards)?;
-    let handed = number(guards.len())?;
-    let cases = number(vertex.inner.len())?;
+    let handed = to_u32(guards.len())?;
+    let cases = to_u32(vertex.inner.len())?;
     let outputs = merge_outputs(alloc, cases, names.len())?;
     let mut inner = guard_cases(alloc, own.as_slice(), handed, values, &vertex.inner)?;
     let switch = Switched {
@@ -133,7 +133,7 @@ fn guard_cases(
 {
     let mut all = Vec::new(alloc);
     for vertex in vertices {
-        let case = number(all.len())?;
+        let case = to_u32(all.len())?;
         let inside = guards_of_case(alloc, guards, handed, values, case)?;
         all.push(guard_vertex(alloc, inside.as_slice(), handed, vertex)?)?;
     }

@@ -5,11 +5,10 @@ ghost use Rattle.algo_tree.specs.View.{kind_view, label_view, view, vertices_vie
 ghost use Rattle.conditioning_laws.specs.Guarded.{graph_under, operation_under};
 
 use crate::conditions::{guards_under, handed, shifted_sources};
-use algo_tree::{Kind, Vertex};
+use algo_tree::{Kind, Vertex, copy_bytes, copy_kind, copy_lens, copy_names, copy_part};
 use level_meaning::{Guard, Part, Source};
 use std::alloc::Global;
 use syn_base::{Items, OutOfMemory};
-use tree_copy::{copy_bytes, copy_kind, copy_lens, copy_names, copy_part};
 
 /// What a vertex keeps under guards.
 #[derive(Drop)]

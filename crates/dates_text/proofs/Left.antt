@@ -6,7 +6,8 @@ use Rattle.archi_graph.specs.Archi.{Architecture}
 use Rattle.schedule.specs.declared.decision.Transfer.{Transfer}
 use Rattle.schedule.specs.declared.decision.Decision.{Decision}
 use Rattle.schedule.specs.Acts.{Act, carry, run, acts_of}
-use Rattle.timing_chart.specs.Chart.{Bytes, line_text, text_of}
+use Rattle.syn_base.specs.Bytes.{Bytes}
+use Rattle.timing_chart.specs.Chart.{line_text, text_of}
 use Rattle.timing_chart.proofs.Texts.{text-append}
 use Rattle.self_timed.specs.declared.dates.Span.{Span}
 use Rattle.self_timed.specs.Running.{span_in}

@@ -10,7 +10,8 @@ use Rattle.archi_graph.specs.Archi.{Architecture}
 use Rattle.schedule.specs.declared.decision.Transfer.{Transfer}
 use Rattle.schedule.specs.declared.decision.Schedule.{Schedule}
 use Rattle.schedule.proofs.Examples.{source, placed, schedule, plain_schedule}
-use Rattle.timing_chart.specs.Chart.{Bytes, Line}
+use Rattle.syn_base.specs.Bytes.{Bytes}
+use Rattle.timing_chart.specs.Chart.{Line}
 use Rattle.dates_text.specs.Listing.{dates_lines}
 
 abbrev op : ℕ → ℕ → ℕ → Bytes → Line

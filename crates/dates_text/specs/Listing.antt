@@ -6,7 +6,8 @@ use Rattle.archi_graph.specs.declared.medium.Medium.{Medium}
 use Rattle.archi_graph.specs.Archi.{Architecture}
 use Rattle.schedule.specs.declared.decision.Schedule.{Schedule}
 use Rattle.schedule.specs.Acts.{Act, carry, run, acts}
-use Rattle.timing_chart.specs.Chart.{Bytes, Line, text_of, operation_name, operator_name}
+use Rattle.syn_base.specs.Bytes.{Bytes}
+use Rattle.timing_chart.specs.Chart.{Line, text_of, operation_name, operator_name}
 use Rattle.self_timed_laws.specs.Dates.{greatest}
 use Rattle.self_timed.specs.declared.dates.Span.{Span}
 use Rattle.self_timed.specs.Running.{span}

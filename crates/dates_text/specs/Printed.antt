@@ -5,7 +5,8 @@ use Rattle.archi_graph.specs.Archi.{Architecture}
 use Rattle.schedule.specs.declared.decision.Decision.{Decision}
 use Rattle.schedule.specs.declared.decision.Schedule.{Schedule}
 use Rattle.schedule.specs.Acts.{Act, acts}
-use Rattle.timing_chart.specs.Chart.{Bytes, text_of}
+use Rattle.syn_base.specs.Bytes.{Bytes}
+use Rattle.timing_chart.specs.Chart.{text_of}
 use Rattle.self_timed_laws.specs.Entries.{entry_of}
 use Rattle.self_timed.specs.declared.dates.Span.{Span}
 use Rattle.self_timed.specs.Running.{span_in}

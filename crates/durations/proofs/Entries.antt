@@ -9,7 +9,7 @@ use Rattle.std.proofs.lemmas.List.FromFn.{length-map-range_with_len}
 use Rattle.flat_graph.specs.declared.vertex.Vertex.{Vertex}
 use Rattle.archi_graph.specs.Archi.{Architecture, is_archi, is_medium, are_joined, are_bounded, are_distinct, names_of, stands_in_all}
 use Rattle.archi_defs.specs.declared.text.DurationLine.{DurationLine}
-use Rattle.archi_defs.specs.Text.{Bytes}
+use Rattle.syn_base.specs.Bytes.{Bytes}
 use Rattle.durations.specs.Lines.{ticks_of, is_given, IsDuration, AreDurations}
 use Rattle.durations.specs.Table.{is_timed, entry, row, is_missing, missing, IsRow}
 use Rattle.durations.proofs.Found.{given_at}

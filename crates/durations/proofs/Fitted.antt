@@ -8,7 +8,7 @@ use Rattle.flat_graph.specs.declared.vertex.Vertex.{Vertex}
 use Rattle.flat_graph.specs.Graph.{Graph}
 use Rattle.archi_graph.specs.Archi.{Architecture}
 use Rattle.archi_defs.specs.declared.text.DurationLine.{DurationLine}
-use Rattle.archi_defs.specs.Text.{Bytes}
+use Rattle.syn_base.specs.Bytes.{Bytes}
 use Rattle.durations.specs.Lines.{ticks_of, AreDurations}
 use Rattle.durations.specs.Table.{IsTable, StandBeside, entry, entry_in, get_half_of, missing, row, table, unless_missing}
 use Rattle.durations.specs.Fitting.{DurationsFit, IsOf}

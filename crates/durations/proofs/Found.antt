@@ -8,7 +8,7 @@ use Rattle.std.proofs.lemmas.List.Elements.{All-head, All-tail}
 use Rattle.std.proofs.lemmas.Slice.Eq.{bytes_eq-Decides}
 use Rattle.indexmap.specs.IndexMap.{insert_entry}
 use Rattle.archi_defs.specs.declared.text.DurationLine.{DurationLine}
-use Rattle.archi_defs.specs.Text.{Bytes}
+use Rattle.syn_base.specs.Bytes.{Bytes}
 use Rattle.durations.specs.Lines.{ticks_of, is_given, IsDuration, AreDurations}
 use Rattle.durations.specs.Given.{first_of, ticks_at}
 

@@ -14,7 +14,8 @@ use Rattle.text_lines.specs.Text.{lines_of, words_of, code_of, foreign_place}
 use Rattle.archi_graph.specs.declared.medium.Medium.{Medium}
 use Rattle.archi_defs.specs.declared.fault.ArchiError.{ArchiError}
 use Rattle.archi_defs.specs.declared.fault.ArchiCause.TheVariants.{BadLine, BadName}
-use Rattle.archi_defs.specs.Text.{Bytes, Described, Reading, start, refused, word, with_some, version_of, depth_of, depth_line, and_then, all_names, up_to, place_of, is_above, is_taken, medium_names, no_medium, version_line, operator_line, medium_line, connected, connect_line, duration_line, begins, described_line, line_by, next_line, has_stands, media_are_right, all_joined, apart, whole_of, whole, rest_of, description_of}
+use Rattle.syn_base.specs.Bytes.{Bytes}
+use Rattle.archi_defs.specs.Text.{Described, Reading, start, refused, word, with_some, version_of, depth_of, depth_line, and_then, all_names, up_to, place_of, is_above, is_taken, medium_names, no_medium, version_line, operator_line, medium_line, connected, connect_line, duration_line, begins, described_line, line_by, next_line, has_stands, media_are_right, all_joined, apart, whole_of, whole, rest_of, description_of}
 use Rattle.durations.specs.Lines.{IsDuration, AreDurations}
 
 record IsKept (r : Reading) : Type 0 where

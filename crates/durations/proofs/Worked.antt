@@ -7,7 +7,8 @@ use Rattle.flat_graph.specs.declared.vertex.Source.{Source}
 use Rattle.flat_graph.specs.declared.vertex.Vertex.{Vertex}
 use Rattle.flat_graph.specs.Graph.{Graph}
 use Rattle.flat_graph.specs.Valid.{is_flat}
-use Rattle.archi_defs.specs.Text.{Bytes, Described}
+use Rattle.syn_base.specs.Bytes.{Bytes}
+use Rattle.archi_defs.specs.Text.{Described}
 use Rattle.durations.specs.Table.{Table, StandBeside, durations_of}
 
 abbrev source : ℕ → Source

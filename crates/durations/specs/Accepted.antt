@@ -1,6 +1,7 @@
 -- What the durations of every accepted text keep.
 use Rattle.std.specs.Prelude.{◌≡◌, length, Ok}
-use Rattle.archi_defs.specs.Text.{Bytes, Described, description_of}
+use Rattle.syn_base.specs.Bytes.{Bytes}
+use Rattle.archi_defs.specs.Text.{Described, description_of}
 use Rattle.durations.specs.Lines.{AreDurations}
 
 abbrev pub AcceptedAreDurations : Type 0

@@ -8,7 +8,8 @@ use Rattle.flat_graph.specs.Graph.{Graph}
 use Rattle.archi_defs.specs.declared.text.DurationLine.{DurationLine}
 use Rattle.archi_defs.specs.declared.fault.ArchiError.{ArchiError}
 use Rattle.archi_defs.specs.declared.fault.ArchiCause.TheVariants.{NoDuration}
-use Rattle.archi_defs.specs.Text.{Bytes, Described, refused}
+use Rattle.syn_base.specs.Bytes.{Bytes}
+use Rattle.archi_defs.specs.Text.{Described, refused}
 use Rattle.durations.specs.Lines.{ticks_of, is_given}
 
 -- For each operation a row, the ticks on each operator, where it may stand there; and its get half, where it is a set half.

@@ -1,7 +1,7 @@
 //! The durations of a text, found by the hash of their definition.
 ghost use Rattle.std.specs.Prelude.{◌≡◌, ℕ, ◌<◌, [], length, slice_index_or, Some, None, if◌then◌else◌, IfOk, OnOk};
 ghost use Rattle.std.specs.Str.{bytes_eq};
-ghost use Rattle.archi_defs.specs.Text.{Bytes};
+ghost use Rattle.syn_base.specs.Bytes.{Bytes};
 ghost use Rattle.durations.specs.Lines.{ticks_of, is_given, AreDurations};
 ghost use Rattle.durations.specs.Given.{first_of, ticks_at, AreFound};
 
@@ -19,7 +19,7 @@ struct OnOperator<'a> {
 
 impl<'a> Model for OnOperator<'a> {
     ghost use Rattle.std.specs.Prelude.{ℕ, List, map};
-    ghost use Rattle.archi_defs.specs.Text.{Bytes};
+    ghost use Rattle.syn_base.specs.Bytes.{Bytes};
 
     ghost Value = { List (Bytes × ℕ) };
 

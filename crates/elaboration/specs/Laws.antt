@@ -1,6 +1,6 @@
 -- What the tree of an accepted text is.
 use Rattle.std.specs.Prelude.{◌≡◌, List, Ok}
-use Rattle.outside.specs.Bytes.{Bytes}
+use Rattle.syn_base.specs.Bytes.{Bytes}
 use Rattle.algo_tree.specs.Tree.{Vertex}
 use Rattle.algo_tree.specs.Valid.{IsTree}
 use Rattle.algo_defs.specs.declared.definition.Def.{Def}

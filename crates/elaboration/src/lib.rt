@@ -4,6 +4,7 @@
 #![tactic(auto)]
 
 ghost use Rattle.std.specs.Prelude.{◌≡◌, ◌≤◌, IfOk, length};
+ghost use Rattle.syn_base.specs.Limits.{most_in_text};
 ghost use Rattle.algo_rules.specs.Placed.{Gives};
 ghost use Rattle.algo_rules.specs.WellRead.{AreWellRead};
 ghost use Rattle.operation_paths.specs.Bounded.{HasBounds};
@@ -25,7 +26,7 @@ use std::alloc::Global;
 pub fn elaborate(alloc: Global, defs: &Defs) -> Result<Tree, AlgoError>
     requires read { AreWellRead defs.now.defs }
     requires periods { HavePeriods defs.now.defs }
-    requires few { length defs.now.defs ≤ 4000000000 }
+    requires few { length defs.now.defs ≤ most_in_text }
     ensures gives { Gives result (elaboration_of defs.now) }
     ensures named { IfOk result (λ t. HasNames t) }
     ensures bounded { IfOk result (λ t. HasBounds t) }

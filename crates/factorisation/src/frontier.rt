@@ -6,11 +6,10 @@ ghost use Rattle.algo_tree.specs.Well.{fork_names, join_names};
 ghost use Rattle.factorisation_laws.specs.Unrolled.{made as vertex_made, explode_of, implode_of, explodes as exploded, implodes as imploded, copy_sources, give_sources as sources_given};
 
 use crate::lines::place_of;
-use algo_tree::{Kind, MOST_VERTICES, Vertex};
+use algo_tree::{Kind, MOST_VERTICES, Vertex, copy_bytes};
 use level_meaning::{Feed, Give, Part, Source};
 use std::alloc::Global;
-use syn_base::{Items, OutOfMemory};
-use tree_copy::copy_bytes;
+use syn_base::{Items, OutOfMemory, len_at};
 
 /// The copies of a repetition: the number of the first, and how many there are.
 #[derive(Clone, Copy)]
@@ -163,12 +162,6 @@ fn implode(
     let ins = outputs_of(alloc, copies, output)?;
     let outs = vec![in alloc; len]?;
     made(alloc, definition, name, ins, outs, Kind::Implode)
-}
-
-fn len_at(lens: &[u32], at: usize) -> u32
-    ensures { result ≡ slice_index_or lens.now at 0 }
-{
-    if at < lens.len() { lens[at] } else { 0 }
 }
 
 /// Adds an implode for each join line, in order, of the lengths of the repetition's outputs.

@@ -11,13 +11,13 @@ ghost use Rattle.pass_laws.specs.Relabelled.{with_kind};
 ghost use Rattle.factorisation_laws.specs.Unrolled.{copy, give_sources as sources_given};
 
 use crate::frontier::{Copies, copy_ins, give_sources};
-use algo_tree::{Kind, MOST_VERTICES, Vertex};
+use algo_tree::{
+    Kind, MOST_VERTICES, Vertex, copy_bytes, copy_guards, copy_kind, copy_lens, copy_names,
+    copy_part, copy_sources,
+};
 use level_meaning::{Feed, Give, Guard, Part, Source};
 use std::alloc::Global;
 use syn_base::{Items, OutOfMemory};
-use tree_copy::{
-    copy_bytes, copy_guards, copy_kind, copy_lens, copy_names, copy_part, copy_sources,
-};
 
 /// What is said of a vertex beside its kind.
 #[derive(Drop)]

@@ -5,6 +5,7 @@ ghost use Rattle.flat_graph.specs.Graph.{len_of, lens_of};
 ghost use Rattle.flat_graph.specs.Valid.{is_len, is_only};
 
 use crate::vertex::{Source, Vertex};
+use syn_base::len_at;
 
 /// The most elements of an output, and the most outputs.
 const MOST: usize = 64;
@@ -17,12 +18,6 @@ pub fn len_of(vertices: &[Vertex], source: Source) -> u32
         Some(vertex) => len_at(vertex.outs.as_slice(), source.port as usize),
         None => 0,
     }
-}
-
-fn len_at(lens: &[u32], port: usize) -> u32
-    ensures { result ≡ slice_index_or lens.now port 0 }
-{
-    if port < lens.len() { lens[port] } else { 0 }
 }
 
 /// Whether there are at most 64 outputs of 1 to 64 elements.

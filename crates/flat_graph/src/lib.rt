@@ -22,6 +22,7 @@ pub use laws::{
     cells_are_kept, lengths_are_kept, outputs_are_fired, rounds_find_cycles, runs_in_windows,
     values_are_a_fixed_point,
 };
+pub use lengths::len_of;
 pub use operation::fire;
 pub use valid::is_flat;
 pub use vertex::{Guard, Kind, Source, Vertex};

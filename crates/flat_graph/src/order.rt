@@ -1,6 +1,7 @@
 //! No operation depends on itself.
 ghost use Rattle.std.specs.Prelude.{◌≡◌, ℕ, ◌<◌, ◌≤◌, ◌||◌, false, length, slice_get, slice_index_or};
 ghost use Rattle.std.specs.List.{list_all};
+ghost use Rattle.syn_base.specs.Limits.{most_operations};
 ghost use Rattle.flat_graph.specs.Graph.{with_vertex};
 ghost use Rattle.flat_graph.specs.Order.{depends_on, get_half, is_acyclic};
 
@@ -11,7 +12,7 @@ type Flags = [bool; 2048];
 
 /// Whether no operation depends on itself, by rounds over flags that take no memory from the heap.
 pub fn is_acyclic(vertices: &[Vertex]) -> bool
-    requires { length vertices.now ≤ 2048 }
+    requires { length vertices.now ≤ most_operations }
     ensures { result ≡ is_acyclic vertices.now }
 {
     let mut done = no_flags();
@@ -34,7 +35,7 @@ fn are_all_set(flags: &[bool]) -> bool
 }
 
 fn one_round_more(before: &Flags, vertices: &[Vertex]) -> Flags
-    requires { length vertices.now ≤ 2048 }
+    requires { length vertices.now ≤ most_operations }
     ensures { (v : ℕ) → slice_index_or result v false ≡
         (slice_index_or before.now v false ||
         with_vertex (slice_get vertices.now v) false
@@ -48,7 +49,7 @@ fn one_round_more(before: &Flags, vertices: &[Vertex]) -> Flags
 }
 
 fn is_done_now(before: &Flags, v: usize, vertex: &Vertex) -> bool
-    requires { v < 2048 }
+    requires { v < most_operations }
     ensures { result ≡ (slice_index_or before.now v false ||
         list_all (λ u. slice_index_or before.now u false) (depends_on vertex.now)) }
 {

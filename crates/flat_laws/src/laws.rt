@@ -1,5 +1,6 @@
 //! Laws of the flat graph of a tree, each the contract of a function that does nothing.
 ghost use Rattle.std.specs.Prelude.{◌≡◌, ◌≤◌, List, length, IsTrue};
+ghost use Rattle.syn_base.specs.Limits.{most_operations};
 ghost use Rattle.algo_tree.specs.Counted.{operations as count};
 ghost use Rattle.algo_tree.specs.Tree.{Vertex};
 ghost use Rattle.algo_tree.specs.Valid.{IsTree};
@@ -45,7 +46,7 @@ pub fn stands_is_numbered()
     ensures actuators { (main : Vertex) (g : Graph) → IsTree main → IsPlain main
         → Stands g (operations main) → IsTrue (actuators_from 0 (kinds_of g.vertices)) }
     ensures few { (main : Vertex) (g : Graph) → IsTree main → IsPlain main
-        → Stands g (operations main) → length g.vertices ≤ 2048 }
+        → Stands g (operations main) → length g.vertices ≤ most_operations }
 {}
 
 /// Where names stand for names, functions have 1 to 64 outputs and numbers of cases and copies have

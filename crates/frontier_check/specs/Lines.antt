@@ -5,7 +5,7 @@ use Rattle.body_lang.specs.declared.expression.Port.{Port}
 use Rattle.algo_defs.specs.declared.definition.FrontierLine.{FrontierLine}
 use Rattle.algo_defs.specs.declared.fault.AlgoError.{AlgoError}
 use Rattle.algo_defs.specs.declared.fault.AlgoCause.TheVariants.{BadRepeat}
-use Rattle.algo_defs.specs.Words.{Bytes}
+use Rattle.syn_base.specs.Bytes.{Bytes}
 use Rattle.algo_rules.specs.Links.{fault}
 use Rattle.algo_rules.specs.Ports.{has_port, len_of}
 use Rattle.algo_rules.specs.Frontiers.{used_by, too_long}

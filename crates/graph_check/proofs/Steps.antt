@@ -4,7 +4,7 @@ use Rattle.std.specs.Prelude.{Option, Some, None, Err, if◌then◌else◌}
 use Rattle.std.proofs.lemmas.Bool.{lt-ltb}
 use Rattle.std.proofs.lemmas.List.{take_more}
 use Rattle.body_lang.specs.declared.expression.Port.{Port}
-use Rattle.algo_defs.specs.Words.{Bytes}
+use Rattle.syn_base.specs.Bytes.{Bytes}
 use Rattle.algo_defs.specs.declared.definition.Edge.{Edge}
 use Rattle.algo_defs.specs.declared.fault.AlgoError.{AlgoError}
 use Rattle.algo_defs.specs.declared.fault.AlgoError.TheVariants.{Refused, Limit, OutOfMemory}

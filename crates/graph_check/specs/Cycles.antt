@@ -1,6 +1,6 @@
 -- The names of references by flags beside them.
 use Rattle.std.specs.Prelude.{Bool, List, [], ◌∷◌, if◌then◌else◌}
-use Rattle.algo_defs.specs.Words.{Bytes}
+use Rattle.syn_base.specs.Bytes.{Bytes}
 use Rattle.algo_defs.specs.declared.definition.Reference.{Reference}
 
 -- the names of those that are flagged, in order

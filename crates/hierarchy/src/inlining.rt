@@ -20,14 +20,13 @@ ghost use Rattle.hierarchy.specs.Built.{Adds, graph_of};
 
 use crate::level::lead_level;
 use crate::names::joined;
-use crate::numbers::number;
 pub use crate::operation::Inlined;
 use crate::operation::{add_delay, add_operation};
 use crate::wires::{Level, follow_all};
 use algo_tree::{Kind, Tree, Vertex, count_operations};
 use level_meaning::Source;
 use std::alloc::Global;
-use syn_base::OutOfMemory;
+use syn_base::{OutOfMemory, to_u32};
 
 /// The operations of a tree without repetitions and cases, and the bodies of its functions.
 pub fn inline(alloc: Global, tree: &Tree) -> Result<Inlined, OutOfMemory>
@@ -78,7 +77,7 @@ fn add_level(
         Adds (graph_of all.old) (graph_of all.new)
         (λ b. inlined_level own.now b at (vertices_view vertices.now.items))) }
 {
-    let first = number(all.vertices.len())?;
+    let first = to_u32(all.vertices.len())?;
     let leds = lead_level(alloc, first, own, vertices)?;
     let level = Level { own, leds: &leds };
     add_vertices(alloc, &level, path, vertices, all)

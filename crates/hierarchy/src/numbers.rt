@@ -6,24 +6,13 @@ ghost use Rattle.hierarchy.specs.Numbers.{first_numbers as numbers_of};
 
 use algo_tree::{Vertex, count_operations};
 use std::alloc::Global;
-use syn_base::OutOfMemory;
-
-/// A count as a number. Where it does not fit the answer is want of memory, which that many operations
-/// would long have met.
-pub fn number(count: usize) -> Result<u32, OutOfMemory>
-    ensures { IfOk result (λ n. n ≡ count) }
-{
-    match u32::try_from(count) {
-        Ok(number) => Ok(number),
-        Err(_) => Err(OutOfMemory),
-    }
-}
+use syn_base::{OutOfMemory, to_u32};
 
 /// The number after the operations of a vertex, of which the first has this number.
 fn number_behind(first: u32, vertex: &Vertex) -> Result<u32, OutOfMemory>
     ensures { IfOk result (λ n. n ≡ first + operations (view vertex.now)) }
 {
-    let count = number(count_operations(vertex) as usize)?;
+    let count = to_u32(count_operations(vertex) as usize)?;
     match first.checked_add(count) {
         Some(number) => Ok(number),
         None => Err(OutOfMemory),

@@ -17,15 +17,13 @@ ghost use Rattle.flat_laws.specs.Numbering.{IsNumbered, bodies_in};
 ghost use Rattle.hierarchy.specs.Built.{Adds, IsOperation, IsRun, body_added, graph_of, stage_pair};
 
 use crate::names::{glued, stage_text};
-use crate::numbers::number;
 use crate::wires::{Level, follow};
-use algo_tree::{Kind, Vertex};
+use algo_tree::{Kind, Vertex, copy_lens, copy_numbers};
 use body_lang::Body;
 use flat_graph::{Guard as Condition, Kind as Task, Source as Output, Vertex as Operation};
 use level_meaning::{Guard, Source};
 use std::alloc::Global;
-use syn_base::{Items, Name, NameFault, OutOfMemory};
-use tree_copy::{copy_lens, copy_numbers};
+use syn_base::{Items, Name, NameFault, OutOfMemory, to_u32};
 
 /// Operations and the bodies of their functions, as they are so far.
 #[derive(Drop)]
@@ -257,8 +255,8 @@ fn add_stage(
         (λ b. stage_pair (led level.now.leds.now level.now.own.now) at stage.now.number
         (label_view (out-Vertex vertex.now)) stage.now.values.now (map level_source ins.items))) }
 {
-    let get = number(all.vertices.len())?;
-    let set = number(all.vertices.len() + 1)?;
+    let get = to_u32(all.vertices.len())?;
+    let set = to_u32(all.vertices.len() + 1)?;
     all.vertices
         .push(get_half(alloc, level, vertex, stage, set)?)?;
     all.vertices
@@ -287,11 +285,11 @@ pub fn add_delay(
 {
     for at in 0..groups.len() {
         let is_last = at + 1 == groups.len();
-        let get = number(all.vertices.len())?;
+        let get = to_u32(all.vertices.len())?;
         let ins = stage_ins(alloc, level, vertex.ins.as_slice(), is_last, get)?;
         let stage = Stage {
             path,
-            number: number(at)?,
+            number: to_u32(at)?,
             values: groups[at].as_slice(),
         };
         add_stage(alloc, level, vertex, &stage, ins, all)?;
@@ -304,7 +302,7 @@ fn add_body(body: &Body, bodies: &mut Vec<Body>) -> Result<u32, OutOfMemory>
     ensures number { IfOk result (λ b. b ≡ length bodies.old.items) }
     ensures added { OnOk result (bodies.new.items ≡ bodies.old.items ++ body.now ∷ []) }
 {
-    let number = number(bodies.len())?;
+    let number = to_u32(bodies.len())?;
     bodies.push(body.share()?)?;
     Ok(number)
 }

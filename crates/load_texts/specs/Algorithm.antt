@@ -2,7 +2,8 @@
 -- functions as the load's number says.
 use Rattle.std.specs.Prelude.{ℕ, zero, suc, ◌+◌, ◌%◌, List, [], ◌∷◌, ◌++◌, codes}
 use Rattle.std.specs.Fmt.{decimal}
-use Rattle.load_texts.specs.Lines.{Bytes, lines_text}
+use Rattle.syn_base.specs.Bytes.{Bytes}
+use Rattle.load_texts.specs.Lines.{lines_text}
 
 -- the ends, and functions on vectors of four
 abbrev pub vector_definitions : List Bytes

@@ -1,6 +1,7 @@
 -- The architecture of a load: four operators on two media, the same for every load.
 use Rattle.std.specs.Prelude.{List, [], ◌∷◌, ◌++◌, codes}
-use Rattle.load_texts.specs.Lines.{Bytes, lines_text}
+use Rattle.syn_base.specs.Bytes.{Bytes}
+use Rattle.load_texts.specs.Lines.{lines_text}
 
 -- operators o0 to o3; `b0` joins o0, o1 and o2, `b1` joins o2 and o3
 abbrev pub graph_lines : List Bytes

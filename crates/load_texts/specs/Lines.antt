@@ -1,8 +1,6 @@
 -- Texts as lists of lines.
 use Rattle.std.specs.Prelude.{ℕ, List, [], ◌∷◌, ◌++◌, codes}
-
-abbrev pub Bytes : Type 0
-Bytes = List ℕ
+use Rattle.syn_base.specs.Bytes.{Bytes}
 
 -- a line feed after each line
 abbrev pub lines_text : List Bytes → Bytes

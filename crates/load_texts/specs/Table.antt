@@ -1,7 +1,8 @@
 -- The sensor table of a load: four values in each reaction, of a linear congruential generator.
 use Rattle.std.specs.Prelude.{ℕ, zero, suc, ◌+◌, ◌*◌, ◌/◌, ◌%◌, ◌^◌, ℤ, pos, ◌-ℤ◌, [], ◌∷◌, ◌++◌, codes}
 use Rattle.std.specs.Fmt.{decimal, signed_decimal}
-use Rattle.load_texts.specs.Lines.{Bytes, lines_text}
+use Rattle.syn_base.specs.Bytes.{Bytes}
+use Rattle.load_texts.specs.Lines.{lines_text}
 
 -- the generator's next state
 abbrev pub next_state : ℕ → ℕ

@@ -6,7 +6,7 @@ use Rattle.std.proofs.lemmas.Bool.{false≢true, cases_eq, eqb-true, ltb-true, l
 use Rattle.std.proofs.lemmas.Option.{same_Some, slice_get_within}
 use Rattle.std.proofs.Math.ListN.{length-set}
 use Rattle.interleavings.specs.Owners.{sum_below}
-use Rattle.mark_table.specs.declared.table.Mark.{Mark}
+use Rattle.program_tables.specs.declared.mark_table.Mark.{Mark}
 use Rattle.executive_program.specs.declared.program.Instr.{Instr}
 use Rattle.executive_program.specs.declared.program.Instr.TheVariants.{Suc0, Suc1, Pre0, Pre1, Call, Send, Recv, Sync}
 use Rattle.executive_program.specs.declared.program.SeqCode.{SeqCode}

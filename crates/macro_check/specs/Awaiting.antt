@@ -1,7 +1,7 @@
 -- The run as the code makes it: what is awaited, and who is looked at again after a step.
 use Rattle.std.specs.Prelude.{◌≡◌, ℕ, ◌<◌, ◌⊎◌, zero, suc, Bool, true, false, cond, nat_lt, List, [], ◌∷◌, ◌++◌, ◌+◌, ◌-◌, ◌*◌, map, length, Option, Some, None, slice_get, slice_index, slice_set}
 use Rattle.interleavings.specs.Owners.{sum_below}
-use Rattle.mark_table.specs.declared.table.Mark.{Mark}
+use Rattle.program_tables.specs.declared.mark_table.Mark.{Mark}
 use Rattle.program_walks.specs.declared.acts.Stand.{Stand}
 use Rattle.executive_program.specs.declared.program.Instr.{Instr}
 use Rattle.executive_program.specs.declared.program.Instr.TheVariants.{Suc1, Pre1, Send, Recv}

@@ -1,7 +1,7 @@
 -- What the tables of a program hold.
 use Rattle.std.specs.Prelude.{◌≡◌, ℕ, zero, suc, ◌<◌, Bool, true, ◌&&◌, not, nat_eq, List, length, Option, Some, None, slice_get}
-use Rattle.mark_table.specs.declared.table.Mark.{Mark}
-use Rattle.mark_table.specs.Rows.{row}
+use Rattle.program_tables.specs.declared.mark_table.Mark.{Mark}
+use Rattle.program_tables.specs.MarkRows.{row}
 use Rattle.executive_program.specs.Instructions.{operator, turn}
 use Rattle.executive_program.specs.Places.{communication_at}
 use Rattle.program_walks.specs.Walks.{implies}
@@ -12,8 +12,8 @@ use Rattle.program_tables.specs.declared.roles.Role.TheVariants.{Called, Written
 use Rattle.program_tables.specs.Communications.{communicators_of, numbers_of, places_of}
 use Rattle.program_tables.specs.Crossings.{crossings}
 use Rattle.program_tables.specs.Marks.{marks_of}
-use Rattle.buffer_tables.specs.Readings.{ArePairs, readings}
-use Rattle.buffer_tables.specs.declared.readings.Reading.{Reading}
+use Rattle.program_tables.specs.Readings.{ArePairs, readings}
+use Rattle.program_tables.specs.declared.readings.Reading.{Reading}
 use Rattle.check_laws.specs.Tests.{guards}
 use Rattle.macro_check.specs.declared.tables.Tables.{Tables}
 

@@ -11,8 +11,7 @@ ghost use Rattle.macro_check.specs.Awaiting.{MayRun, first_in, is_past_in, on_it
 
 use crate::tables::Tables;
 use executive_program::{Instr, Program};
-use mark_table::Mark;
-use program_tables::{Crossing, number_at};
+use program_tables::{Crossing, Mark, number_at};
 use program_walks::{Stand, medium_of};
 use syn_base::{Items, OutOfMemory};
 

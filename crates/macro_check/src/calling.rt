@@ -2,7 +2,7 @@
 ghost use Rattle.std.specs.Prelude.{◌≡◌, ℕ, ◌<◌, ◌&&◌, nat_eq, nat_lt, length, is_none};
 ghost use Rattle.executive_program.specs.Instructions.{medium};
 ghost use Rattle.executive_program.specs.Places.{caller_of};
-ghost use Rattle.mark_table.specs.Rows.{row};
+ghost use Rattle.program_tables.specs.MarkRows.{row};
 ghost use Rattle.program_tables.specs.declared.roles.Role.TheVariants.{Called};
 ghost use Rattle.program_tables.specs.Marks.{lone, marks_of};
 ghost use Rattle.value_check.specs.Calls.{called_at, is_before_twin};
@@ -10,8 +10,7 @@ ghost use Rattle.check_laws.specs.Tests.{are_called, is_called};
 
 use executive_program::Program;
 use flat_graph::{Kind, Vertex};
-use mark_table::{Mark, MarkTable};
-use program_tables::{call_of, is_lone};
+use program_tables::{Mark, MarkTable, call_of, is_lone};
 use program_walks::{Stand, caller_of, first_call, medium_of, turn_of};
 
 /// The first call of an operation. Of one beyond the table it is looked for in the whole program.

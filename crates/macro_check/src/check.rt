@@ -19,10 +19,10 @@ use crate::running::{Run, run_through, stops};
 use crate::tables::{Tables, find_tables};
 use crate::writing::are_written;
 use archi_graph::Archi;
-use buffer_tables::are_opened;
 use check_cause::CheckCause;
 use executive_program::Program;
 use flat_graph::{Flat, Vertex};
+use program_tables::are_opened;
 use std::alloc::Global;
 use syn_base::{Items, OutOfMemory};
 

@@ -2,7 +2,7 @@
 ghost use Rattle.std.specs.Prelude.{◌≡◌, ℕ, ◌<◌, ◌&&◌, not, nat_eq};
 ghost use Rattle.std.specs.List.{list_all};
 ghost use Rattle.executive_program.specs.MicroSteps.{transfers};
-ghost use Rattle.mark_table.specs.Rows.{row};
+ghost use Rattle.program_tables.specs.MarkRows.{row};
 ghost use Rattle.program_tables.specs.Communications.{communicators_of, places_of};
 ghost use Rattle.program_tables.specs.Crossings.{crossing, crossing_by, crossings, crossings_on};
 ghost use Rattle.program_walks.specs.Walks.{all_below};
@@ -11,9 +11,8 @@ ghost use Rattle.check_laws.specs.Tests.{are_moved, are_transferred, is_moved};
 ghost use Rattle.macro_check.specs.Tabled.{other_waits, waits_in};
 
 use executive_program::Program;
-use mark_table::{Mark, MarkTable};
 use order_check::{are_communicators, are_counted, are_on_media};
-use program_tables::{Crossing, place_of_communication};
+use program_tables::{Crossing, Mark, MarkTable, place_of_communication};
 use program_walks::{is_on, medium_of, operator_of, turn_of};
 use syn_base::Items;
 use value_check::{is_receive_from, is_send_to, is_wait};

@@ -2,12 +2,10 @@
 ghost use Rattle.std.specs.Prelude.{◌≡◌, IfOk};
 ghost use Rattle.macro_check.specs.Tabled.{AreTables};
 
-use buffer_tables::{PairTables, Reading, find_pairs, find_readings};
 use executive_program::Program;
-use mark_table::MarkTable;
 use program_tables::{
-    Crossing, Role, communication_numbers, communication_places, find_communicators,
-    find_crossings, find_marks,
+    Crossing, MarkTable, PairTables, Reading, Role, communication_numbers, communication_places,
+    find_communicators, find_crossings, find_marks, find_pairs, find_readings,
 };
 use std::alloc::Global;
 use syn_base::{Items, OutOfMemory};

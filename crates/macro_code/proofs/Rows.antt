@@ -12,7 +12,8 @@ use Rattle.executive_program.specs.declared.program.Instr.TheVariants.{Suc0, Suc
 use Rattle.executive_program.specs.declared.program.Buffer.{Buffer}
 use Rattle.executive_program.specs.declared.program.SeqCode.{SeqCode}
 use Rattle.executive_program.specs.declared.program.Program.{Program}
-use Rattle.macro_code.specs.Text.{Bytes, instr_line, macro_code}
+use Rattle.syn_base.specs.Bytes.{Bytes}
+use Rattle.macro_code.specs.Text.{instr_line, macro_code}
 
 -- of an operation the text has its name alone
 abbrev pub operation : Bytes → Vertex

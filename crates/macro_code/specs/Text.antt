@@ -2,6 +2,7 @@
 use Rattle.std.specs.Prelude.{ℕ, suc, cond, nat_eq, nat_lt, List, [], ◌∷◌, ◌++◌, map, codes, Option, Some, None, slice_get, slice_index_or}
 use Rattle.std.specs.Fmt.{decimal}
 use Rattle.std.specs.List.{flat_map}
+use Rattle.syn_base.specs.Bytes.{Bytes}
 use Rattle.flat_graph.specs.declared.vertex.Vertex.{Vertex}
 use Rattle.flat_graph.specs.Graph.{Graph, with_vertex}
 use Rattle.archi_graph.specs.declared.medium.Medium.{Medium}
@@ -15,9 +16,6 @@ use Rattle.macro_code.specs.declared.macros.Macro.{Macro}
 use Rattle.macro_code.specs.declared.macros.Macro.TheVariants as macros
 use Rattle.macro_code.specs.declared.named.Named.{Named}
 use Rattle.macro_code.specs.Macros.{word_of}
-
-abbrev pub Bytes : Type 0
-Bytes = List ℕ
 
 -- the operations, the operators' names and the media, by number
 pub record Names : Type 0 where

@@ -5,13 +5,13 @@ ghost use Rattle.multi_period.specs.Periods.{run as runs};
 ghost use Rattle.multi_period.specs.Seen.{AreKept, ArePorts, label_seen, of_seen, relabelled as labelled, with_inner};
 
 use crate::ports::{Ports, inputs_from};
-use algo_tree::{Kind, Vertex};
+use algo_tree::{
+    Kind, Vertex, copy_bytes, copy_guards, copy_kind, copy_lens, copy_names, copy_part,
+    copy_sources,
+};
 use level_meaning::{Part, Source};
 use std::alloc::Global;
 use syn_base::{Items, OutOfMemory};
-use tree_copy::{
-    copy_bytes, copy_guards, copy_kind, copy_lens, copy_names, copy_part, copy_sources,
-};
 
 /// The same vertex, with copies of all that is inside it.
 #[cycle(copied)]

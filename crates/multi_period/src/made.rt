@@ -9,11 +9,10 @@ ghost use Rattle.multi_period.specs.Seen.{ArePorts, body_ins as ins_of_body, bot
 use crate::copies::{relabelled, run};
 use crate::mark::Mark;
 use crate::ports::{Ports, firsts, inputs_from, outputs_of, ports_of};
-use algo_tree::{Kind, Vertex};
+use algo_tree::{Kind, Vertex, copy_bytes, copy_lens, copy_names, copy_part, copy_sources};
 use level_meaning::{Part, Source};
 use std::alloc::Global;
-use syn_base::{Items, OutOfMemory};
-use tree_copy::{copy_bytes, copy_lens, copy_names, copy_part, copy_sources};
+use syn_base::{Items, OutOfMemory, len_at};
 
 /// A vertex of a definition of its own, which listings call `every`.
 fn made(
@@ -111,12 +110,6 @@ fn keep_name(alloc: Global, names: &[Items<u8>], output: usize) -> Result<Items<
         bytes.extend_from_slice(names[output].as_slice())?;
     }
     Ok(Items::new(bytes))
-}
-
-fn len_at(lens: &[u32], at: usize) -> u32
-    ensures { result ≡ slice_index_or lens.now at 0 }
-{
-    if at < lens.len() { lens[at] } else { 0 }
 }
 
 /// A delay that keeps an output of the switch for a reaction.

@@ -1,6 +1,7 @@
 //! The pass over the main graph.
 ghost use Rattle.std.specs.Prelude.{◌≡◌, ◌≤◌, ◌<◌, IfOk, length};
 ghost use Rattle.std.specs.List.{All};
+ghost use Rattle.syn_base.specs.Limits.{most_operations};
 ghost use Rattle.algo_tree.specs.Counted.{operations};
 ghost use Rattle.algo_tree.specs.Meaning.{vertices_in};
 ghost use Rattle.algo_tree.specs.View.{view, vertices_view};
@@ -63,7 +64,7 @@ fn count_made(tree: &Tree, marks: &[Mark]) -> u128
 /// The made tree, where it stands for few enough operations.
 fn made_tree(alloc: Global, tree: &Tree, marks: &[Mark]) -> Result<Tree, OutOfMemory>
     requires may { MayHaveMarks marks.now tree.now }
-    requires few { operations (tree_made marks.now tree.now) ≤ 2048 }
+    requires few { operations (tree_made marks.now tree.now) ≤ most_operations }
     ensures is { IfOk result (λ t. t ≡ tree_made marks.now tree.now) }
     ensures meaning { IfOk result (DoesAsMarked marks.now tree.now) }
 {

@@ -6,7 +6,7 @@ ghost use Rattle.multi_period.specs.Seen.{ArePorts, label_seen};
 use algo_tree::Vertex;
 use level_meaning::Source;
 use std::alloc::Global;
-use syn_base::OutOfMemory;
+use syn_base::{OutOfMemory, to_u32};
 
 /// How many inputs and outputs a vertex has, and where what is made of it stands.
 #[derive(Clone, Copy)]
@@ -20,24 +20,13 @@ pub struct Ports {
     pub kept: u32,
 }
 
-/// A count as the number of an input or of a vertex. Where it does not fit the answer is want of
-/// memory, which that many inputs or vertices would long have met.
-fn number(count: usize) -> Result<u32, OutOfMemory>
-    ensures { IfOk result (λ n. n ≡ count) }
-{
-    match u32::try_from(count) {
-        Ok(number) => Ok(number),
-        Err(_) => Err(OutOfMemory),
-    }
-}
-
 /// The ports of a vertex, where a vertex with one input more than both together has numbers for
 /// them.
 pub fn ports_of(vertex: &Vertex) -> Result<Ports, OutOfMemory>
     ensures { IfOk result (λ p. ArePorts p (label_seen vertex.now)) }
 {
-    let ins = number(vertex.ins.as_slice().len())?;
-    let outs = number(vertex.outs.as_slice().len())?;
+    let ins = to_u32(vertex.ins.as_slice().len())?;
+    let outs = to_u32(vertex.outs.as_slice().len())?;
     if u32::MAX - ins <= outs {
         return Err(OutOfMemory);
     }

@@ -4,4 +4,3 @@ pub mod Guarding
 pub mod Inlining
 pub mod Listing
 mod Worked
-mod WorkedText

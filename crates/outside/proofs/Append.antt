@@ -2,7 +2,8 @@ use Rattle.std.proofs.Common.{◌≡◌, ℕ, zero, suc, ◌+◌, ◌-◌, ◌<�
 use Rattle.std.proofs.lemmas.List.{take-append-le}
 use Rattle.std.specs.Prelude.{Bool, if◌then◌else◌, Option, Some, None, IfSome}
 use Rattle.std.proofs.lemmas.Grind.{common_steps}
-use Rattle.outside.specs.Bytes.{Bytes, IsPrefix}
+use Rattle.syn_base.specs.Bytes.{Bytes}
+use Rattle.outside.specs.Bytes.{IsPrefix}
 use Rattle.outside.specs.Faults.{Rose}
 use Rattle.outside.specs.Shelf.{Held, Stays, OthersStay, Took}
 use Rattle.outside.specs.Sink.{Sunk, Appends, Wrote, appended}

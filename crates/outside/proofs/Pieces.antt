@@ -1,5 +1,6 @@
 use Rattle.std.proofs.Common.{◌≡◌, ◌∙◌, ◌<◌, ◌+◌, ℕ, List, ◌∷◌, ◌++◌, Bor, map, drop, length, get_or, refl, subst, false, append_assoc, suc-add, arith, zero, suc, []}
-use Rattle.outside.specs.Bytes.{Bytes, joined}
+use Rattle.syn_base.specs.Bytes.{Bytes}
+use Rattle.outside.specs.Bytes.{joined}
 use Rattle.outside.specs.Sink.{Sunk, Appends, Wrote}
 use Rattle.outside.proofs.Append.{appends_more, wrote_then, wrote_part}
 

@@ -1,9 +1,7 @@
 -- Texts as lists of bytes.
 use Rattle.std.specs.Prelude.{◌≡◌, ℕ, List, [], ◌∷◌, ◌++◌, Option, option_map, find}
 use Rattle.std.specs.Str.{bytes_eq}
-
-abbrev pub Bytes : Type 0
-Bytes = List ℕ
+use Rattle.syn_base.specs.Bytes.{Bytes}
 
 -- the text begins so
 abbrev pub IsPrefix : Bytes → Bytes → Type 0

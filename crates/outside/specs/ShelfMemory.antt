@@ -1,7 +1,8 @@
 -- Shelves in memory, and what a call does to them.
 use Rattle.std.specs.Prelude.{◌==◌, ℕ, List, [], Option, Some, None, if◌then◌else◌, slice_index, slice_set, unwrap_or}
 use Rattle.std.specs.List.{list_any}
-use Rattle.outside.specs.Bytes.{Bytes, named}
+use Rattle.syn_base.specs.Bytes.{Bytes}
+use Rattle.outside.specs.Bytes.{named}
 use Rattle.outside.specs.Faults.{raised}
 use Rattle.outside.specs.Shelf.{Held}
 use Rattle.outside.specs.declared.file.File.{File}

@@ -1,6 +1,7 @@
 -- What a sink tells, and what writing does to it.
 use Rattle.std.specs.Prelude.{◌≡◌, ℕ, ◌≤◌, ◌++◌, Option, option_map, Bool, true, false}
-use Rattle.outside.specs.Bytes.{Bytes, IsPrefix}
+use Rattle.syn_base.specs.Bytes.{Bytes}
+use Rattle.outside.specs.Bytes.{IsPrefix}
 use Rattle.outside.specs.Faults.{Rose}
 
 -- the bytes written, where the sink tells them, and its faults

@@ -1,7 +1,7 @@
 -- A sink in memory, and what a call does to it.
 use Rattle.std.specs.Prelude.{◌==◌, ◌||◌, ℕ, ◌-◌, nat_le, min, List, ◌++◌, length, take, Some, Bool}
 use Rattle.std.specs.List.{list_any}
-use Rattle.outside.specs.Bytes.{Bytes}
+use Rattle.syn_base.specs.Bytes.{Bytes}
 use Rattle.outside.specs.Faults.{raised}
 use Rattle.outside.specs.Sink.{Sunk}
 

@@ -11,7 +11,7 @@ use Rattle.algo_defs.specs.declared.definition.Frontier.{Frontier}
 use Rattle.algo_defs.specs.declared.definition.Frontier.TheVariants.{Fork, Diffuse, Iterate, Join}
 use Rattle.algo_defs.specs.declared.definition.FrontierLine.{FrontierLine}
 use Rattle.algo_defs.specs.Outer.{outer_names, all_outer}
-use Rattle.algo_defs.specs.Words.{Bytes}
+use Rattle.syn_base.specs.Bytes.{Bytes}
 use Rattle.algo_rules.specs.Links.{may_be_inner}
 use Rattle.algo_rules.specs.Ports.{ports_by, outer_outs}
 use Rattle.algo_rules.specs.declared.ports.Ports.{Ports}

@@ -10,7 +10,7 @@ use Rattle.algo_defs.specs.declared.definition.Body.TheVariants.{Graph}
 use Rattle.body_lang.specs.declared.expression.Port.{Port}
 use Rattle.algo_defs.specs.declared.fault.AlgoError.{AlgoError}
 use Rattle.algo_defs.specs.declared.fault.AlgoCause.TheVariants.{BadEvery}
-use Rattle.algo_defs.specs.Words.{Bytes}
+use Rattle.syn_base.specs.Bytes.{Bytes}
 use Rattle.algo_rules.specs.Links.{fault, first_of, definition, mentions_in}
 use Rattle.algo_links.specs.Placing.{Tells, places_of}
 use Rattle.algo_links.proofs.Firsts.{one_told}

@@ -7,7 +7,7 @@ use Rattle.algo_defs.specs.declared.definition.Body.TheVariants.{Graph}
 use Rattle.algo_defs.specs.declared.definition.Reference.{Reference}
 use Rattle.algo_defs.specs.declared.fault.AlgoError.{AlgoError}
 use Rattle.algo_defs.specs.declared.fault.AlgoCause.TheVariants.{BadEvery}
-use Rattle.algo_defs.specs.Words.{Bytes}
+use Rattle.syn_base.specs.Bytes.{Bytes}
 use Rattle.algo_rules.specs.Links.{fault, first_of, definition, is_main, may_be_inner}
 use Rattle.multi_period.specs.declared.mark.Mark.{Mark}
 

@@ -1,5 +1,6 @@
 //! The marks on the references of `main`.
 ghost use Rattle.std.specs.Prelude.{◌≡◌, ◌≤◌, IfOk, None, codes, length, map};
+ghost use Rattle.syn_base.specs.Limits.{most_in_text};
 ghost use Rattle.algo_tree.specs.Well.{AreDistinctNames};
 ghost use Rattle.algo_rules.specs.Links.{definition};
 ghost use Rattle.algo_rules.specs.Resolved.{refusal};
@@ -11,7 +12,7 @@ use algo_defs::{AlgoError, Body, Def, Defs, Reference};
 use algo_links::links_of;
 use multi_period::Mark;
 use std::alloc::Global;
-use syn_base::OutOfMemory;
+use syn_base::{OutOfMemory, to_u32};
 
 /// The marks on the references of `main`, in order. The definitions resolve to a tree.
 ///
@@ -21,7 +22,7 @@ use syn_base::OutOfMemory;
 pub fn marks(alloc: Global, defs: &Defs) -> Result<Vec<Mark>, AlgoError>
     requires resolved { refusal defs.now.defs ≡ None }
     requires distinct { AreDistinctNames (map (λ d. d.name) defs.now.defs) }
-    requires few { length defs.now.defs ≤ 4000000000 }
+    requires few { length defs.now.defs ≤ most_in_text }
     ensures { Gives result (marking_of defs.now.defs) }
 {
     let Ok(links) = links_of(alloc, defs) else {
@@ -56,16 +57,6 @@ fn marks_of(alloc: Global, body: &Body) -> Result<Vec<Mark>, OutOfMemory>
     }
 }
 
-/// The place of a reference. No text has 2^32 of them: more would be want of memory.
-fn number(place: usize) -> Result<u32, OutOfMemory>
-    ensures { IfOk result (λ n. n ≡ place) }
-{
-    match u32::try_from(place) {
-        Ok(number) => Ok(number),
-        Err(_) => Err(OutOfMemory),
-    }
-}
-
 /// The marks on these references, each with its place.
 fn marks_on(alloc: Global, references: &[Reference]) -> Result<Vec<Mark>, OutOfMemory>
     ensures { IfOk result (λ ms. ms.items ≡ marks_from 0 references.now) }
@@ -74,7 +65,7 @@ fn marks_on(alloc: Global, references: &[Reference]) -> Result<Vec<Mark>, OutOfM
     for place in 0..references.len() {
         if let Some(every) = references[place].every {
             marks.push(Mark {
-                reference: number(place)?,
+                reference: to_u32(place)?,
                 every,
             })?;
         }

@@ -1,7 +1,6 @@
 -- The pressure run computed on worked examples: one operator; two operators on a bus; a relay over two media; two transfers over a medium of four operators; a star; a speed controller.
 use Rattle.std.proofs.Common.{◌≡◌, ℕ, true, false, List, [], ◌∷◌, Option, Some, None, refl, pos}
-use Rattle.std.specs.Prelude.{codes, slice_index_or}
-use Rattle.std.specs.Fmt.{decimal}
+use Rattle.std.specs.Prelude.{slice_index_or}
 use Rattle.flat_graph.specs.declared.vertex.Kind.TheVariants.{Get, Set}
 use Rattle.flat_graph.specs.Graph.{Graph}
 use Rattle.flat_graph.specs.Valid.{is_flat}
@@ -12,7 +11,6 @@ use Rattle.schedule.specs.Acts.{Act, acts_of}
 use Rattle.schedule.specs.Tight.{is_tight}
 use Rattle.schedule.specs.Valid.{is_valid}
 use Rattle.schedule.proofs.Examples.{source, medium, archi, entry, carried, placed, schedule, plain_graph, plain_archi, plain_schedule, bus_graph, bus_archi, bus_schedule, bus_ticks, relay_archi, relay_schedule, multi_graph, multi_archi, multi_schedule, multi_ticks, operation, speed_graph, speed_archi, speed_ticks, speed_schedule}
-use Rattle.timing_chart.specs.Chart.{chart_lines}
 use Rattle.comm_routing.specs.Task.{Task}
 use Rattle.comm_routing.specs.Placing.{arrival}
 use Rattle.pressure_heuristic.specs.Pressure.{candidates, tail, pressure_run}
@@ -102,19 +100,3 @@ torn_run = (refl, refl)
 
 torn_fault : is_valid torn_graph bus_archi torn_ticks (pressure_run (task torn_graph bus_archi two_routes torn_ticks)) ≡ false
 torn_fault = refl
-
--- The lines of their charts.
-plain_chart : chart_lines plain_graph plain_archi plain_schedule ≡ (codes "operator" ∷ codes "P" ∷ []) ∷ (decimal 0 ∷ decimal 1 ∷ codes "s" ∷ []) ∷ (decimal 1 ∷ decimal 3 ∷ codes "a" ∷ []) ∷ (codes "length" ∷ decimal 3 ∷ []) ∷ []
-plain_chart = refl
-
-bus_chart : chart_lines bus_graph bus_archi (bus_schedule 3 13) ≡ (codes "operator" ∷ codes "P" ∷ []) ∷ (decimal 0 ∷ decimal 1 ∷ codes "s" ∷ []) ∷ (decimal 1 ∷ decimal 11 ∷ codes "f" ∷ []) ∷ (decimal 11 ∷ decimal 12 ∷ codes "a" ∷ []) ∷ (codes "operator" ∷ codes "Q" ∷ []) ∷ (decimal 3 ∷ decimal 13 ∷ codes "g" ∷ []) ∷ (decimal 13 ∷ decimal 14 ∷ codes "b" ∷ []) ∷ (codes "medium" ∷ codes "m" ∷ []) ∷ (decimal 1 ∷ decimal 3 ∷ codes "s" ∷ decimal 0 ∷ codes "P" ∷ codes "Q" ∷ []) ∷ (codes "length" ∷ decimal 14 ∷ []) ∷ []
-bus_chart = refl
-
-relay_chart : chart_lines plain_graph relay_archi relay_schedule ≡ (codes "operator" ∷ codes "A" ∷ []) ∷ (decimal 0 ∷ decimal 1 ∷ codes "s" ∷ []) ∷ (codes "operator" ∷ codes "B" ∷ []) ∷ (codes "operator" ∷ codes "C" ∷ []) ∷ (decimal 5 ∷ decimal 6 ∷ codes "a" ∷ []) ∷ (codes "medium" ∷ codes "x" ∷ []) ∷ (decimal 1 ∷ decimal 3 ∷ codes "s" ∷ decimal 0 ∷ codes "A" ∷ codes "B" ∷ []) ∷ (codes "medium" ∷ codes "y" ∷ []) ∷ (decimal 3 ∷ decimal 5 ∷ codes "s" ∷ decimal 0 ∷ codes "B" ∷ codes "C" ∷ []) ∷ (codes "length" ∷ decimal 6 ∷ []) ∷ []
-relay_chart = refl
-
-multi_chart : chart_lines multi_graph multi_archi multi_schedule ≡ (codes "operator" ∷ codes "A" ∷ []) ∷ (decimal 0 ∷ decimal 1 ∷ codes "s" ∷ []) ∷ (codes "operator" ∷ codes "B" ∷ []) ∷ (decimal 3 ∷ decimal 4 ∷ codes "a" ∷ []) ∷ (codes "operator" ∷ codes "C" ∷ []) ∷ (decimal 0 ∷ decimal 1 ∷ codes "t" ∷ []) ∷ (codes "operator" ∷ codes "D" ∷ []) ∷ (decimal 5 ∷ decimal 6 ∷ codes "b" ∷ []) ∷ (codes "medium" ∷ codes "m" ∷ []) ∷ (decimal 1 ∷ decimal 3 ∷ codes "s" ∷ decimal 0 ∷ codes "A" ∷ codes "B" ∷ []) ∷ (decimal 3 ∷ decimal 5 ∷ codes "t" ∷ decimal 0 ∷ codes "C" ∷ codes "D" ∷ []) ∷ (codes "length" ∷ decimal 6 ∷ []) ∷ []
-multi_chart = refl
-
-speed_chart : chart_lines speed_graph speed_archi speed_schedule ≡ (codes "operator" ∷ codes "P" ∷ []) ∷ (decimal 0 ∷ decimal 2 ∷ codes "a" ∷ []) ∷ (decimal 2 ∷ decimal 4 ∷ codes "b" ∷ []) ∷ (decimal 18 ∷ decimal 21 ∷ codes "g" ∷ []) ∷ (decimal 21 ∷ decimal 22 ∷ codes "h" ∷ []) ∷ (decimal 22 ∷ decimal 23 ∷ codes "i" ∷ []) ∷ (decimal 23 ∷ decimal 24 ∷ codes "j" ∷ []) ∷ (decimal 24 ∷ decimal 25 ∷ codes "k" ∷ []) ∷ (decimal 25 ∷ decimal 25 ∷ codes "l" ∷ []) ∷ (decimal 25 ∷ decimal 27 ∷ codes "m" ∷ []) ∷ (codes "operator" ∷ codes "Q" ∷ []) ∷ (decimal 0 ∷ decimal 0 ∷ codes "c" ∷ []) ∷ (decimal 5 ∷ decimal 9 ∷ codes "e" ∷ []) ∷ (decimal 9 ∷ decimal 15 ∷ codes "f" ∷ []) ∷ (decimal 15 ∷ decimal 20 ∷ codes "n" ∷ []) ∷ (decimal 20 ∷ decimal 20 ∷ codes "d" ∷ []) ∷ (codes "medium" ∷ codes "c" ∷ []) ∷ (decimal 2 ∷ decimal 5 ∷ codes "a" ∷ decimal 0 ∷ codes "P" ∷ codes "Q" ∷ []) ∷ (decimal 15 ∷ decimal 18 ∷ codes "f" ∷ decimal 0 ∷ codes "Q" ∷ codes "P" ∷ []) ∷ (codes "length" ∷ decimal 27 ∷ []) ∷ []
-speed_chart = refl

@@ -1,5 +1,6 @@
 //! The longest times from the ends of operations on.
 ghost use Rattle.std.specs.Prelude.{◌≡◌, ℕ, ◌+◌, ◌*◌, ◌<◌, ◌≤◌, IfOk, length, map, slice_index_or, ◌∷◌, [], IsTrue};
+ghost use Rattle.syn_base.specs.Limits.{most_operations};
 ghost use Rattle.flat_graph.specs.Order.{depends_on, get_half, is_acyclic};
 ghost use Rattle.pressure_heuristic.specs.Tails.{raised, so_far, tails_in};
 
@@ -20,7 +21,7 @@ pub(crate) fn all_tails(
     vertices: &[Vertex],
     durations: &Durations,
 ) -> Result<Vec<u64>, OutOfMemory>
-    requires few { length vertices.now ≤ 2048 }
+    requires few { length vertices.now ≤ most_operations }
     requires rows { length durations.now.rows ≡ length vertices.now }
     requires acyclic { IsTrue (is_acyclic vertices.now) }
     ensures size { IfOk result (λ tails. length tails.items ≡ length vertices.now) }
@@ -44,7 +45,7 @@ pub(crate) fn all_tails(
 
 /// Raises dates in place, from the last operation to the first.
 fn raise_downwards(dates: &mut [u64], vertices: &[Vertex], durations: &Durations)
-    requires few { length vertices.now ≤ 2048 }
+    requires few { length vertices.now ≤ most_operations }
     requires rows { length durations.now.rows ≡ length vertices.now }
     requires size { length dates.old ≡ length vertices.now }
     requires low { (v : ℕ) → slice_index_or dates.old v 0 ≤ GREATEST }
@@ -58,7 +59,7 @@ fn raise_downwards(dates: &mut [u64], vertices: &[Vertex], durations: &Durations
 
 /// Raises dates in place, from the first operation to the last.
 fn raise_upwards(dates: &mut [u64], vertices: &[Vertex], durations: &Durations)
-    requires few { length vertices.now ≤ 2048 }
+    requires few { length vertices.now ≤ most_operations }
     requires rows { length durations.now.rows ≡ length vertices.now }
     requires size { length dates.old ≡ length vertices.now }
     requires low { (v : ℕ) → slice_index_or dates.old v 0 ≤ GREATEST }
@@ -72,7 +73,7 @@ fn raise_upwards(dates: &mut [u64], vertices: &[Vertex], durations: &Durations)
 
 /// Raises the dates of the operations on which this one depends to its least duration with its date.
 fn raise_from(dates: &mut [u64], vertices: &[Vertex], durations: &Durations, op: usize)
-    requires few { (length vertices.now ≤ 2048) × (op < length vertices.now) }
+    requires few { (length vertices.now ≤ most_operations) × (op < length vertices.now) }
     requires rows { length durations.now.rows ≡ length vertices.now }
     requires size { length dates.old ≡ length vertices.now }
     requires low { (v : ℕ) → slice_index_or dates.old v 0 ≤ GREATEST }
@@ -89,7 +90,7 @@ fn all_rounds(
     vertices: &[Vertex],
     durations: &Durations,
 ) -> Result<Vec<u64>, OutOfMemory>
-    requires few { length vertices.now ≤ 2048 }
+    requires few { length vertices.now ≤ most_operations }
     requires rows { length durations.now.rows ≡ length vertices.now }
     ensures size { IfOk result (λ tails. length tails.items ≡ length vertices.now) }
     ensures low { IfOk result (λ tails. (v : ℕ) → slice_index_or tails.items v 0 ≤ 2048000000000) }
@@ -131,7 +132,7 @@ fn one_round(
     before: &[u64],
     round: usize,
 ) -> Result<Vec<u64>, OutOfMemory>
-    requires few { (length vertices.now ≤ 2048) × (round < 2048) }
+    requires few { (length vertices.now ≤ most_operations) × (round < most_operations) }
     requires rows { length durations.now.rows ≡ length vertices.now }
     requires size { length before.now ≡ length vertices.now }
     requires low { (v : ℕ) → slice_index_or before.now v 0 ≤ 1000000000 * round }
@@ -154,7 +155,7 @@ fn raise_all(
     before: &[u64],
     round: usize,
 )
-    requires few { (length vertices.now ≤ 2048) × (round < 2048) }
+    requires few { (length vertices.now ≤ most_operations) × (round < most_operations) }
     requires rows { length durations.now.rows ≡ length vertices.now }
     requires sizes { (length before.now ≡ length vertices.now) × (length dates.old ≡ length vertices.now) }
     requires low { (v : ℕ) → slice_index_or before.now v 0 ≤ 1000000000 * round }

@@ -1,6 +1,12 @@
-pub mod Naming
-pub mod Lone
-pub mod Numbered
-pub mod Crossed
-pub mod Found
 pub mod Appending
+pub mod Below
+pub mod Buffered
+pub mod Crossed
+pub mod Distinct
+pub mod Found
+pub mod Lone
+pub mod Naming
+pub mod Numbered
+pub mod Opened
+pub mod Paired
+pub mod Rowing

@@ -1,7 +1,7 @@
 -- The transfers of each medium as a table.
 use Rattle.std.specs.Prelude.{ℕ, Bool, cond, List, [], ◌∷◌, map, slice_get}
 use Rattle.std.specs.List.{range_with_len}
-use Rattle.mark_table.specs.declared.table.Mark.{Mark}
+use Rattle.program_tables.specs.declared.mark_table.Mark.{Mark}
 use Rattle.executive_program.specs.declared.program.Program.{Program}
 use Rattle.executive_program.specs.Instructions.{turn}
 use Rattle.executive_program.specs.MicroSteps.{transfers}

@@ -1,3 +1,6 @@
-pub mod Marks
 pub mod Communications
 pub mod Crossings
+pub mod MarkRows
+pub mod Marks
+pub mod Openings
+pub mod Readings

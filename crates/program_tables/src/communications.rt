@@ -2,11 +2,11 @@
 ghost use Rattle.std.specs.Prelude.{◌≡◌, ℕ, ◌<◌, length, slice_get, slice_index, IfOk};
 ghost use Rattle.executive_program.specs.Instructions.{communications, number_or, turn};
 ghost use Rattle.executive_program.specs.Places.{communication_at};
-ghost use Rattle.mark_table.specs.Rows.{row};
+ghost use Rattle.program_tables.specs.MarkRows.{row};
 ghost use Rattle.program_tables.specs.Communications.{communicators_from, communicators_of, numbers_from, numbers_of, places_from, places_of};
 
+use crate::mark_table::{Mark, MarkTable};
 use executive_program::{Instr, Program};
-use mark_table::{Mark, MarkTable};
 use program_walks::{is_communication, turn_of};
 use std::alloc::Global;
 use syn_base::{Items, OutOfMemory};

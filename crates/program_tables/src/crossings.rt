@@ -1,13 +1,13 @@
 //! The transfers of each medium.
 ghost use Rattle.std.specs.Prelude.{◌≡◌, ℕ, ◌<◌, length, slice_get, IfOk};
 ghost use Rattle.executive_program.specs.Places.{buffer_in, is_receive, is_send};
-ghost use Rattle.mark_table.specs.Rows.{row};
+ghost use Rattle.program_tables.specs.MarkRows.{row};
 ghost use Rattle.program_tables.specs.Communications.{communicators_of, places_of};
 ghost use Rattle.program_tables.specs.Crossings.{crossing, crossing_by, crossings, crossings_on, first_where, receives_in, sends_in};
 
 use crate::communications::place_of_communication;
+use crate::mark_table::{Mark, MarkTable};
 use executive_program::{Instr, Program};
-use mark_table::{Mark, MarkTable};
 use program_walks::{transfers, turn_of};
 use std::alloc::Global;
 use syn_base::{Items, OutOfMemory};

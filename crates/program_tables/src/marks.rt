@@ -1,11 +1,11 @@
 //! The places at which numbers are named, found in one walk over a program and grouped by number.
 ghost use Rattle.std.specs.Prelude.{◌≡◌, ℕ, ◌<◌, ◌++◌, IfOk, OnOk};
-ghost use Rattle.mark_table.specs.Rows.{row};
+ghost use Rattle.program_tables.specs.MarkRows.{row};
 ghost use Rattle.program_tables.specs.Marks.{marks_at, marks_from, marks_in, marks_of};
 
+use crate::mark_table::{Mark, MarkTable};
 use crate::roles::{Role, numbers_named};
 use executive_program::{Instr, Program};
-use mark_table::{Mark, MarkTable};
 use std::alloc::Global;
 use syn_base::OutOfMemory;
 

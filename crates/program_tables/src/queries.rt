@@ -6,9 +6,9 @@ ghost use Rattle.executive_program.specs.Instructions.{turn};
 ghost use Rattle.executive_program.specs.Places.{caller_of, calls, writer_of, writing, written_at};
 ghost use Rattle.program_tables.specs.Marks.{first_at, lone, marks_of};
 
+use crate::mark_table::Mark;
 use crate::roles::Role;
 use executive_program::Program;
-use mark_table::Mark;
 use program_walks::Stand;
 
 /// Where a buffer is written: its sequence, its place there, and the number of the output.

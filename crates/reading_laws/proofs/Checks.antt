@@ -6,7 +6,7 @@ use Rattle.syn_base.specs.Name.{is_name}
 use Rattle.body_lang.specs.declared.expression.Port.{Port}
 use Rattle.algo_tree.specs.Typed.{IsLength}
 use Rattle.algo_defs.specs.declared.fault.AlgoError.{AlgoError}
-use Rattle.algo_defs.specs.Words.{Bytes}
+use Rattle.syn_base.specs.Bytes.{Bytes}
 use Rattle.algo_text.specs.Words.{word, number_of, count_by, count_of}
 use Rattle.algo_text.specs.Blocks.{Block, all_names, port_line}
 use Rattle.algo_text.proofs.Checks.{at_most, fewer, found, held, passed}

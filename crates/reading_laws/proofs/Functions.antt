@@ -8,7 +8,7 @@ use Rattle.body_lang.specs.Expr.{PortsBelow}
 use Rattle.algo_defs.specs.declared.definition.Def.{Def}
 use Rattle.algo_defs.specs.declared.definition.Output.{Output}
 use Rattle.algo_defs.specs.declared.definition.Body.TheVariants.{Function}
-use Rattle.algo_defs.specs.Words.{Bytes}
+use Rattle.syn_base.specs.Bytes.{Bytes}
 use Rattle.algo_text.specs.Blocks.{Block, in_line, result_line}
 use Rattle.algo_text.specs.Text.{in_function, Reading, begins, function_line}
 use Rattle.algo_text.proofs.Checks.{either, never}

@@ -6,7 +6,7 @@ use Rattle.body_lang.specs.declared.expression.Port.{Port}
 use Rattle.algo_defs.specs.declared.definition.Def.{Def}
 use Rattle.algo_defs.specs.declared.definition.Reference.{Reference}
 use Rattle.algo_defs.specs.declared.definition.Body.TheVariants.{Graph}
-use Rattle.algo_defs.specs.Words.{Bytes}
+use Rattle.syn_base.specs.Bytes.{Bytes}
 use Rattle.algo_text.specs.Words.{word, end_of}
 use Rattle.algo_text.specs.Blocks.{Block, in_line, out_line, reference_line, edge_line}
 use Rattle.algo_text.specs.Text.{in_graph, Reading, begins, graph_line}

@@ -8,7 +8,7 @@ use Rattle.algo_tree.specs.Well.{AreDistinctNames}
 use Rattle.algo_defs.specs.declared.definition.Body.{Body}
 use Rattle.algo_defs.specs.declared.definition.Def.{Def}
 use Rattle.algo_defs.specs.declared.fault.AlgoError.{AlgoError}
-use Rattle.algo_defs.specs.Words.{Bytes}
+use Rattle.syn_base.specs.Bytes.{Bytes}
 use Rattle.syn_base.specs.declared.limits.LimitKind.TheVariants as limits
 use Rattle.algo_text.specs.Blocks.{Block}
 use Rattle.algo_text.specs.Text.{Stage, before_version, between, in_function, in_graph, in_switch, in_repeat, Reading, in_block, block_end}

@@ -2,7 +2,8 @@
 use Rattle.std.proofs.Common.{◌≡◌, Bool, true, false, List, [], ◌∷◌, ◌++◌, refl, sym, subst, append-nil, bytes_eq}
 use Rattle.std.proofs.lemmas.Slice.Eq.{bytes_eq-Decides}
 use Rattle.algo_tree.specs.Well.{IsNewName, AreDistinctNames}
-use Rattle.algo_defs.specs.Words.{Bytes, is_among}
+use Rattle.syn_base.specs.Bytes.{Bytes}
+use Rattle.algo_defs.specs.Words.{is_among}
 use Rattle.algo_text.proofs.Checks.{neither}
 
 flipped : (x y : Bytes) → bytes_eq x y ≡ false → bytes_eq y x ≡ false

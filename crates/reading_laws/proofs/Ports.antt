@@ -9,7 +9,7 @@ use Rattle.body_text.proofs.CanonicalPorts.{known, numbers_below}
 use Rattle.algo_tree.specs.Typed.{IsLength}
 use Rattle.algo_tree.specs.Well.{IsNewName, AreDistinctNames}
 use Rattle.algo_defs.specs.declared.definition.Output.{Output}
-use Rattle.algo_defs.specs.Words.{Bytes}
+use Rattle.syn_base.specs.Bytes.{Bytes}
 use Rattle.algo_text.specs.Formulas.{formula_of}
 use Rattle.algo_defs.specs.Outer.{all_outer}
 use Rattle.algo_text.specs.Blocks.{Block, and_then, is_taken, in_line, with_in, out_line, with_out, is_equals, result_words, result_at, result_line, with_result}

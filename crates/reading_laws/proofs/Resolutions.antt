@@ -9,7 +9,7 @@ use Rattle.algo_defs.specs.declared.fault.AlgoError.{AlgoError}
 use Rattle.algo_defs.specs.declared.fault.AlgoError.TheVariants.{Limit}
 use Rattle.algo_defs.specs.declared.fault.AlgoCause.TheVariants.{UnknownName, WrongLength, Unconnected, TwiceConnected, Recursive, Cycle, NoMain, BadCase, Misplaced, BadRepeat}
 use Rattle.syn_base.specs.declared.limits.LimitKind.TheVariants.{PortLength, Depth, Operations}
-use Rattle.algo_defs.specs.Words.{Bytes}
+use Rattle.syn_base.specs.Bytes.{Bytes}
 use Rattle.algo_text.specs.Blocks.{refused, and_then}
 use Rattle.algo_text.specs.Text.{definitions_of}
 use Rattle.body_lang.specs.declared.expression.Port.{Port}

@@ -1,7 +1,7 @@
 -- What reading guarantees whoever works on definitions.
 use Rattle.std.specs.Prelude.{◌≡◌, Ok}
 use Rattle.algo_defs.specs.declared.definition.Defs.{Defs}
-use Rattle.algo_defs.specs.Words.{Bytes}
+use Rattle.syn_base.specs.Bytes.{Bytes}
 use Rattle.algo_text.specs.Text.{definitions_of}
 use Rattle.algo_rules.specs.WellRead.{AreWellRead}
 

@@ -1,5 +1,6 @@
 //! The depth of each vertex, or the first that reaches itself.
 ghost use Rattle.std.specs.Prelude.{◌<◌, ◌≤◌, length, IfOk};
+ghost use Rattle.syn_base.specs.Limits.{most_in_text};
 ghost use Rattle.reference_graph.specs.Answer.{AreDepths, AreInside};
 
 use crate::ranks::without_return;
@@ -23,7 +24,7 @@ pub enum Depths {
 /// vertices that it refers to. It takes time and memory in proportion to vertices and links.
 pub fn depths_of(alloc: Global, links: &[Items<u32>]) -> Result<Depths, OutOfMemory>
     requires links { AreInside links.now }
-    requires few { length links.now ≤ 4000000000 }
+    requires few { length links.now ≤ most_in_text }
     ensures { IfOk result (λ d. AreDepths links.now d) }
 {
     let walk = Walk::over(alloc, links)?;

@@ -1,6 +1,7 @@
 //! Which vertices reach themselves, by a search from each.
 ghost use Rattle.std.specs.Prelude.{◌≡◌, ◌+◌, ◌<◌, ◌≤◌, ℕ, length, map, replicate, false, [], ◌∷◌, IfOk, OnOk, Contains};
 ghost use Rattle.std.specs.List.{All};
+ghost use Rattle.syn_base.specs.Limits.{most_in_text};
 ghost use Rattle.reference_graph.specs.Links.{first_recursive, numbers, reaches_itself};
 ghost use Rattle.reference_graph.specs.Answer.{AreInside};
 ghost use Rattle.reference_graph.specs.Reached.{IsReached};
@@ -124,7 +125,7 @@ fn is_reaching(
 /// each vertex that leads to one that does.
 pub fn reaching(alloc: Global, links: &[Items<u32>]) -> Result<Vec<bool>, OutOfMemory>
     requires links { AreInside links.now }
-    requires few { length links.now ≤ 4000000000 }
+    requires few { length links.now ≤ most_in_text }
     ensures { IfOk result (λ v. v.items ≡ map (reaches_itself links.now) (numbers links.now)) }
 {
     let walk = Walk::over(alloc, links)?;

@@ -1,6 +1,7 @@
 //! Depths settled one by one, each after those that it refers to.
 ghost use Rattle.std.specs.Prelude.{◌≡◌, ◌+◌, ◌<◌, ◌≤◌, ℕ, length, map, replicate, slice_index, IsTrue, IfOk, Contains};
 ghost use Rattle.std.specs.List.{All};
+ghost use Rattle.syn_base.specs.Limits.{most_in_text};
 ghost use Rattle.reference_graph.specs.Links.{greatest};
 ghost use Rattle.reference_graph.specs.Answer.{AreInside};
 ghost use Rattle.reference_graph.specs.Settled.{IsSettled, depth_by};
@@ -38,7 +39,7 @@ pub fn depth_by(links: &[Items<u32>], depths: &[u32], a: usize) -> u32
     requires place { a < length links.now }
     requires links { AreInside links.now }
     requires same { length depths.now ≡ length links.now }
-    requires few { (b : ℕ) → slice_index depths.now b < 4000000000 }
+    requires few { (b : ℕ) → slice_index depths.now b < most_in_text }
     ensures { result ≡ depth_by links.now depths.now a }
 {
     greatest_depth(references(links, a), depths) + 1
@@ -58,7 +59,7 @@ pub fn settle_in_order(
     order: &[u32],
 ) -> Result<Vec<u32>, OutOfMemory>
     requires links { AreInside links.now }
-    requires few { length links.now ≤ 4000000000 }
+    requires few { length links.now ≤ most_in_text }
     ensures same { IfOk result (λ v. length v.items ≡ length links.now) }
     ensures settled { IfOk result (λ v. IsSettled links.now v.items (length links.now)) }
 {
@@ -73,7 +74,7 @@ pub fn settle_in_order(
 fn settle_next(links: &[Items<u32>], depths: &mut [u32], order: &[u32], k: usize)
     requires links { AreInside links.now }
     requires same { length depths.old ≡ length links.now }
-    requires few { k < 4000000000 }
+    requires few { k < most_in_text }
     requires before { IsSettled links.now depths.old k }
     ensures { IsSettled links.now depths.new (k + 1) }
 {

@@ -1,5 +1,6 @@
 //! A walk over all vertices, each left after those that it refers to.
 ghost use Rattle.std.specs.Prelude.{◌≤◌, length};
+ghost use Rattle.syn_base.specs.Limits.{most_in_text};
 
 use std::alloc::Global;
 use syn_base::{Items, OutOfMemory};
@@ -36,7 +37,7 @@ pub struct Walk {
 impl Walk {
     /// The walk over all vertices, in time and memory in proportion to vertices and links.
     pub fn over(alloc: Global, links: &[Items<u32>]) -> Result<Walk, OutOfMemory>
-        requires { length links.now ≤ 4000000000 }
+        requires { length links.now ≤ most_in_text }
     {
         let mut walk = Walk::start(alloc, links.len())?;
         let steps = steps_of(links);

@@ -10,7 +10,8 @@ use Rattle.algo_tree.specs.Well.{IsNewName, AreDistinctNames}
 use Rattle.algo_defs.specs.declared.definition.Frontier.{Frontier}
 use Rattle.algo_defs.specs.declared.definition.Frontier.TheVariants.{Fork, Diffuse, Iterate, Join}
 use Rattle.algo_defs.specs.declared.definition.FrontierLine.{FrontierLine}
-use Rattle.algo_defs.specs.Words.{Bytes, is_among}
+use Rattle.syn_base.specs.Bytes.{Bytes}
+use Rattle.algo_defs.specs.Words.{is_among}
 use Rattle.algo_rules.specs.Ports.{has_port, len_of, number_of}
 use Rattle.algo_rules.specs.Frontiers.{used_by}
 use Rattle.algo_rules.specs.Resolved.{feed_by, first_feed, feed_of}

@@ -1,3 +1,4 @@
+pub mod Computed
 pub mod Known
 pub mod Least
 pub mod Search

@@ -1,6 +1,7 @@
 //! Whether a schedule is valid.
 ghost use Rattle.std.specs.Prelude.{◌≡◌, ◌<◌, ◌≤◌, ◌+◌, ◌/◌, length};
 ghost use Rattle.std.specs.List.{list_all, range_with_len};
+ghost use Rattle.syn_base.specs.Limits.{most_operations};
 ghost use Rattle.durations.specs.Table.{entry_in};
 ghost use Rattle.schedule.specs.Acts.{acts_of};
 ghost use Rattle.schedule.specs.Valid.{is_valid};
@@ -42,7 +43,7 @@ pub fn is_valid(flat: &Flat, archi: &Archi, durations: &Durations, schedule: &Sc
 
 /// Whether each act reads what is held, and brings what is not there.
 fn are_fed(vertices: &[Vertex], decisions: &[Decision]) -> bool
-    requires { length vertices.now ≤ 2048 }
+    requires { length vertices.now ≤ most_operations }
     ensures { result ≡ list_all (are_fed_from vertices.now (acts_of decisions.now))
         (range_with_len 0 ((length vertices.now + 15) / 16)) }
 {

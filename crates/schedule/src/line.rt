@@ -1,7 +1,7 @@
 //! The acts of each operator and of each medium, one after another.
 ghost use Rattle.std.specs.Prelude.{◌≡◌, ℕ, ◌<◌, ◌≤◌, ◌==◌, ◌&&◌, ◌+◌, ◌++◌, ◌∷◌, List, None, Some, IsTrue, length, map, slice_index_or, slice_set, is_some};
 ghost use Rattle.std.specs.List.{list_all, range_with_len};
-ghost use Rattle.flat_graph.specs.Graph.{len_of};
+ghost use Rattle.syn_base.specs.Limits.{most_operations};
 ghost use Rattle.flat_graph.specs.Valid.{names};
 ghost use Rattle.archi_graph.specs.Archi.{stands_at};
 ghost use Rattle.schedule.specs.Acts.{Act, acts_of, carry, run};
@@ -11,7 +11,7 @@ ghost use Rattle.schedule.specs.Lines.{IsSetting, IsStart, HasPlaces, are_in_lin
 use crate::decision::{Decision, Transfer};
 use crate::setting::Setting;
 use archi_graph::Medium;
-use flat_graph::{Kind, Source, Vertex};
+use flat_graph::{Kind, Source, Vertex, len_of};
 
 /// What the acts so far have left: the operator of each operation that is placed, and the last ends of
 /// operators and media.
@@ -128,7 +128,7 @@ impl Lines {
         requires setting { IsSetting setting.now }
         requires sizes { HasPlaces self.now }
         ensures may { result ≡ may_run setting.now self.now decision.now }
-        ensures places { IsTrue result → (decision.now.op < 2048) × (decision.now.operator < 16) }
+        ensures places { IsTrue result → (decision.now.op < most_operations) × (decision.now.operator < 16) }
     {
         let op = decision.op as usize;
         if op >= setting.vertices.len() {
@@ -185,7 +185,7 @@ impl Lines {
     }
 
     fn are_all_placed(&self, operations: usize) -> bool
-        requires few { operations ≤ 2048 }
+        requires few { operations ≤ most_operations }
         requires sizes { HasPlaces self.now }
         ensures { result ≡ list_all (λ v. is_some (slice_index_or self.now.places v None)) (range_with_len 0 operations) }
     {
@@ -213,22 +213,6 @@ fn no_dates() -> [u64; 16]
     ensures none { (o : ℕ) → slice_index_or result o 0 ≡ 0 }
 {
     [0; 16]
-}
-
-/// The length of a source, 0 where there is none.
-fn len_of(vertices: &[Vertex], source: Source) -> u32
-    ensures { result ≡ len_of vertices.now source }
-{
-    match vertices.get(source.vertex as usize) {
-        Some(vertex) => len_at(vertex.outs.as_slice(), source.port as usize),
-        None => 0,
-    }
-}
-
-fn len_at(lens: &[u32], port: usize) -> u32
-    ensures { result ≡ slice_index_or lens.now port 0 }
-{
-    if port < lens.len() { lens[port] } else { 0 }
 }
 
 /// Whether the medium joins both operators, and carries this many elements in this time.

@@ -10,7 +10,7 @@ use crate::desk::Desk;
 use crate::opening::push_lens;
 use flat_graph::{Flat, Kind, Vertex};
 use std::alloc::Global;
-use syn_base::OutOfMemory;
+use syn_base::{OutOfMemory, to_u32};
 
 fn is_get_at(vertices: &[Vertex], k: u32) -> bool
     ensures { result ≡ is_get_at vertices.now k }
@@ -63,24 +63,13 @@ fn push_all(list: &[u32], lens: &mut Vec<u32>) -> Result<(), OutOfMemory>
     Ok(())
 }
 
-/// A number that fits 32 bits; another is taken as want of memory.
-pub fn small(number: usize) -> Result<u32, OutOfMemory>
-    ensures { IfOk result (λ m. m ≡ number) }
-{
-    if number <= u32::MAX as usize {
-        Ok(number as u32)
-    } else {
-        Err(OutOfMemory)
-    }
-}
-
 /// The desk of operation `v`.
 pub fn desk_of(alloc: Global, flat: &Flat, v: u32, x: &Vertex) -> Result<Desk, OutOfMemory>
     requires { slice_get flat.now.vertices v ≡ Some x.now }
     ensures { IfOk result (λ d. IsDesk flat.now v x.now (lens_of_desk d)) }
 {
-    let guards = small(x.guards.as_slice().len())?;
-    let inputs = small(x.ins.as_slice().len())?;
+    let guards = to_u32(x.guards.as_slice().len())?;
+    let inputs = to_u32(x.ins.as_slice().len())?;
     let mut lens = Vec::new(alloc);
     push_lens(flat, x.ins.as_slice(), &mut lens)?;
     let ones = vec![in alloc; 1; x.guards.as_slice().len()]?;
@@ -102,7 +91,7 @@ pub fn desks_of(alloc: Global, flat: &Flat) -> Result<Vec<Desk>, OutOfMemory>
     ensures valid { IsTrue (is_flat flat.now) }
 {
     let vertices = flat.vertices();
-    let count = small(vertices.len())?;
+    let count = to_u32(vertices.len())?;
     let mut desks = Vec::new(alloc);
     for v in 0..count {
         desks.push(desk_of(alloc, flat, v, &vertices[v as usize])?)?;

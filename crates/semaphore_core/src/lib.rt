@@ -26,7 +26,6 @@ mod words;
 
 pub use answer::StepAnswer;
 pub use job::Job;
-pub use laying::small;
 pub use opening::{actuator_lens, opening_of, sensor_lens, words_of, zero_elements};
 pub use operations::{cells_and_rows, put_row};
 pub use own_parts::OwnParts;

@@ -1,7 +1,7 @@
 //! What a state holds when it is opened: zeros, the opening cells, and room for registers.
 ghost use Rattle.std.specs.Prelude.{◌≡◌, ◌+◌, ◌*◌, ◌<◌, ◌++◌, map, replicate, IfOk, OnOk, slice_index_or, cond, false};
 ghost use Rattle.level_meaning.specs.Level.{zeros};
-ghost use Rattle.flat_graph.specs.Graph.{len_of as source_len, lens_of};
+ghost use Rattle.flat_graph.specs.Graph.{lens_of};
 ghost use Rattle.flat_graph.specs.Meaning.{initial_cell, initial_cells};
 ghost use Rattle.semaphore_core.specs.AtOpening.{lens_for};
 ghost use Rattle.semaphore_core.specs.Job.{actuator_len, actuator_lens};
@@ -11,9 +11,9 @@ ghost use Rattle.semaphore_core.specs.Core.{buffer_zeros, wire_zeros};
 
 use crate::rooms::{addressable, sum_of};
 use executive_program::{Program, wire_len};
-use flat_graph::{Flat, Kind, Source, Vertex};
+use flat_graph::{Flat, Kind, Source, Vertex, len_of};
 use std::alloc::Global;
-use syn_base::{ActRows, Items, OutOfMemory};
+use syn_base::{ActRows, Items, OutOfMemory, len_at};
 
 /// This many zeros.
 pub fn zeros(alloc: Global, len: usize) -> Result<Items<i64>, OutOfMemory>
@@ -89,28 +89,12 @@ pub fn opening_of(alloc: Global, flat: &Flat) -> Result<Items<Items<i64>>, OutOf
     Ok(Items::new(all))
 }
 
-/// The length of a source, 0 where there is none.
-pub fn source_len(vertices: &[Vertex], source: Source) -> u32
-    ensures { result ≡ source_len vertices.now source }
-{
-    match vertices.get(source.vertex as usize) {
-        Some(vertex) => len_at(vertex.outs.as_slice(), source.port as usize),
-        None => 0,
-    }
-}
-
-fn len_at(lens: &[u32], port: usize) -> u32
-    ensures { result ≡ slice_index_or lens.now port 0 }
-{
-    if port < lens.len() { lens[port] } else { 0 }
-}
-
 /// The lengths of some sources.
 pub fn push_lens(flat: &Flat, sources: &[Source], lens: &mut Vec<u32>) -> Result<(), OutOfMemory>
     ensures { OnOk result (lens.new.items ≡ lens.old.items ++ lens_of flat.now.vertices sources.now) }
 {
     for source in sources {
-        lens.push(source_len(flat.vertices(), *source))?;
+        lens.push(len_of(flat.vertices(), *source))?;
     }
     Ok(())
 }

@@ -6,7 +6,6 @@ ghost use Rattle.executive_program.specs.Instructions.{HasPlaces, depth_of};
 
 use crate::answer::StepAnswer;
 use crate::job::Job;
-use crate::laying::small;
 use crate::opening::{words_of, zero_elements};
 use crate::own_parts::OwnParts;
 use crate::words;
@@ -15,7 +14,7 @@ use executive_program::{
 };
 use std::alloc::Global;
 use std::marker::Model;
-use syn_base::{ActRows, Items, OutOfMemory};
+use syn_base::{ActRows, Items, OutOfMemory, to_u32};
 
 /// The state of a run of a job.
 #[derive(Drop)]
@@ -100,7 +99,7 @@ impl State {
         let counts = words_of(alloc, 0, sequences)?;
         let semaphores = words_of(alloc, 0, 2 * program.pairs.as_slice().len())?;
         let turns = words_of(alloc, 0, job.media())?;
-        let elements = zero_elements(alloc, program, small(job.media())?)?;
+        let elements = zero_elements(alloc, program, to_u32(job.media())?)?;
         let own = OwnParts::new(alloc, job, steps.as_slice())?;
         Ok(State {
             steps,

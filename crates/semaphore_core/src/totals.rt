@@ -10,10 +10,9 @@ ghost use Rattle.syn_base.specs.declared.limits.LimitKind.TheVariants.{Output, T
 ghost use Rattle.semaphore_core.specs.IsJob.{above, limit_in, FewerMeetNone};
 ghost use Rattle.semaphore_core.specs.Totals.{taken_by, CountsLooks};
 
-use crate::opening::source_len;
 use archi_graph::Archi;
 use executive_program::{Program, deep_pairs, plain_prologues, plain_turns};
-use flat_graph::{Flat, Kind, Source, Vertex};
+use flat_graph::{Flat, Kind, Source, Vertex, len_of};
 use syn_base::{LimitFault, LimitKind, SensorRows};
 
 /// The number of elements of some sources.
@@ -23,7 +22,7 @@ fn source_elements(flat: &Flat, sources: &[Source]) -> u128
 {
     let mut total = 0u128;
     for source in sources {
-        total += source_len(flat.vertices(), *source) as u128;
+        total += len_of(flat.vertices(), *source) as u128;
     }
     total
 }

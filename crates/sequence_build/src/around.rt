@@ -3,12 +3,11 @@ ghost use Rattle.std.specs.Prelude.{◌≡◌, ℕ, ◌<◌, ◌++◌, ◌∷◌
 ghost use Rattle.executive_program.specs.declared.program.Instr.TheVariants.{Pre0};
 ghost use Rattle.sequence_build.specs.Around.{Gathers, Surrounds, all_between, between, code_with, codes_with, is_at, line_of, lines_after, lines_before, list_at, loop_with, moment_of, opening_with};
 
-use crate::made::number;
 use crate::pairs::Pair;
 use crate::uses::Place;
 use executive_program::{Instr, SeqCode};
 use std::alloc::Global;
-use syn_base::{Items, OutOfMemory};
+use syn_base::{Items, OutOfMemory, to_u32};
 
 /// A kind of semaphore line.
 #[derive(Clone, Copy, Drop)]
@@ -120,7 +119,7 @@ fn gathered(
             &mut lists,
             sequence,
             moment_of(moment, *pair),
-            number(pair_number)?,
+            to_u32(pair_number)?,
         )?;
     }
     Ok(lists)
@@ -231,7 +230,7 @@ fn opening_of(
     let mut out = Vec::new(alloc);
     for (pair_number, pair) in pairs.iter().enumerate() {
         if pair.reader == sequence {
-            push_signals(&mut out, number(pair_number)?, depth)?;
+            push_signals(&mut out, to_u32(pair_number)?, depth)?;
         }
     }
     Ok(Items::new(out))
@@ -261,7 +260,7 @@ fn guarded_code(
 ) -> Result<SeqCode, OutOfMemory>
     ensures { IfOk result (λ q. q ≡ code_with depth pairs.now sequence code) }
 {
-    let sequence = number(sequence)?;
+    let sequence = to_u32(sequence)?;
     let prologue = opening_of(alloc, sequence, pairs, depth)?;
     let SeqCode { seq, turn, .. } = code;
     Ok(SeqCode {

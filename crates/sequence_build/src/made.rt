@@ -1,31 +1,19 @@
 //! The copies of values that the acts of a schedule make: a buffer for each, and its place in a table.
 ghost use Rattle.std.specs.Prelude.{◌≡◌, ◌∷◌, [], map, length, OnOk, IfOk, slice_get, slice_index_or};
 ghost use Rattle.std.specs.List.{flat_map};
-ghost use Rattle.flat_graph.specs.Graph.{len_of};
 ghost use Rattle.schedule.specs.Acts.{acts_of, carry, copy, made_by, outputs_from, run};
 ghost use Rattle.sequence_build.specs.Numbers.{place};
 ghost use Rattle.sequence_build.specs.Made.{Makes, buffer_of};
 ghost use Rattle.sequence_build.specs.Plain.{outs_in};
 
 use executive_program::Buffer;
-use flat_graph::{Source, Vertex};
+use flat_graph::{Source, Vertex, len_of};
 use schedule::{Decision, Transfer};
 use std::alloc::Global;
-use syn_base::OutOfMemory;
+use syn_base::{OutOfMemory, to_u32};
 
 /// The place of all copies that have none of their own, beyond every other.
 const NOWHERE: u32 = 2_097_152;
-
-/// A count as the number of an output, a buffer or a pair. Where it does not fit the answer is want of
-/// memory, which that many of them would long have met.
-pub fn number(count: usize) -> Result<u32, OutOfMemory>
-    ensures { IfOk result (λ n. n ≡ count) }
-{
-    match u32::try_from(count) {
-        Ok(number) => Ok(number),
-        Err(_) => Err(OutOfMemory),
-    }
-}
 
 /// The place of a copy in a table of the outputs of this many operations and of operators. The first
 /// outputs come first, so that a table in which no operation has a second one is short.
@@ -37,23 +25,6 @@ pub fn place_of(operations: usize, operator: u32, source: Source) -> u32
         ((source.port as usize * operations + vertex) * 16 + operator as usize) as u32
     } else {
         NOWHERE
-    }
-}
-
-fn len_at(outs: &[u32], port: u32) -> u32
-    ensures { result ≡ slice_index_or outs.now port 0 }
-{
-    let port = port as usize;
-    if port < outs.len() { outs[port] } else { 0 }
-}
-
-/// The number of elements of a source, 0 where there is none.
-fn source_len(vertices: &[Vertex], source: Source) -> u32
-    ensures { result ≡ len_of vertices.now source }
-{
-    match vertices.get(source.vertex as usize) {
-        Some(vertex) => len_at(vertex.outs.as_slice(), source.port),
-        None => 0,
     }
 }
 
@@ -97,7 +68,7 @@ impl Made {
     {
         self.buffers.push(Buffer {
             operator,
-            len: source_len(vertices, source),
+            len: len_of(vertices, source),
             depth: 1,
         })?;
         self.places
@@ -129,7 +100,7 @@ impl Made {
         for (port, _out) in outs.iter().enumerate() {
             let source = Source {
                 vertex: decision.op,
-                port: number(port)?,
+                port: to_u32(port)?,
             };
             self.make(vertices, decision.operator, source)?;
         }

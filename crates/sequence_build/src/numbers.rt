@@ -2,9 +2,8 @@
 ghost use Rattle.std.specs.Prelude.{◌≡◌, ℕ, ◌<◌, ◌≤◌, nat_eq, length, IfOk, slice_index_or, replicate};
 ghost use Rattle.std.specs.List.{position_or_len};
 
-use crate::made::number;
 use std::alloc::Global;
-use syn_base::OutOfMemory;
+use syn_base::{OutOfMemory, to_u32};
 
 fn table_of(alloc: Global, size: usize, number: u32) -> Result<Vec<u32>, OutOfMemory>
     ensures { IfOk result (λ t. t.items ≡ replicate size number) }
@@ -41,7 +40,7 @@ fn first_numbers(alloc: Global, size: usize, places: &[u32]) -> Result<Vec<u32>,
     ensures each { IfOk result (λ t. (k : ℕ) → k < size →
         slice_index_or t.items k 0 ≡ position_or_len (nat_eq k) places.now) }
 {
-    let count = number(places.len())?;
+    let count = to_u32(places.len())?;
     let mut table = table_of(alloc, size, count)?;
     for number in (0..count).rev() {
         let place = places[number as usize] as usize;

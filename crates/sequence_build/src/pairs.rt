@@ -3,11 +3,10 @@ ghost use Rattle.std.specs.Prelude.{◌≡◌, ◌++◌, map, length, OnOk, IfOk
 ghost use Rattle.sequence_build_laws.specs.Guarded.{operator_in};
 ghost use Rattle.sequence_build.specs.Pairs.{deep_buffer, deepened, is_in, pairs_below, pairs_with};
 
-use crate::made::number;
 use crate::uses::{Place, Use};
 use executive_program::Buffer;
 use std::alloc::Global;
-use syn_base::OutOfMemory;
+use syn_base::{OutOfMemory, to_u32};
 
 /// A pair of semaphores: its buffer, the sequence that reads it, with the places in that sequence's
 /// loop of the first and the last read, and the place of the write.
@@ -66,7 +65,7 @@ pub fn pairs_of(
     for buffer in 0..uses.len() {
         push_pairs(
             &mut pairs,
-            number(buffer)?,
+            to_u32(buffer)?,
             writes[buffer],
             uses[buffer].as_slice(),
         )?;

@@ -6,7 +6,7 @@ ghost use Rattle.sequence_build_laws.specs.Serial.{copies, plain_program};
 ghost use Rattle.sequence_build.specs.Numbers.{AreCovered, place};
 ghost use Rattle.sequence_build.specs.Plain.{codes_from};
 
-use crate::made::{made_of, number};
+use crate::made::made_of;
 use crate::numbers::numbers_of;
 use crate::site::Site;
 use archi_graph::{Archi, Seq};
@@ -14,7 +14,7 @@ use executive_program::{Instr, Program, SeqCode};
 use flat_graph::Flat;
 use schedule::Schedule;
 use std::alloc::Global;
-use syn_base::{Items, OutOfMemory};
+use syn_base::{Items, OutOfMemory, to_u32};
 
 /// The loops with the sequences that make them, without prologues.
 fn codes_of(
@@ -52,7 +52,7 @@ fn plain_codes(
         (flat_map (made_by flat.now.vertices) (acts schedule.now)) }
     ensures { IfOk result (λ codes. codes ≡ (plain_program flat.now archi.now schedule.now).seqs) }
 {
-    let copies = number(places.len())?;
+    let copies = to_u32(places.len())?;
     let numbers = numbers_of(alloc, places)?;
     let sequences = archi.sequences(alloc)?;
     let site = Site {

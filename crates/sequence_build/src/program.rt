@@ -8,7 +8,6 @@ ghost use Rattle.sequence_build.specs.Program.{IsAssembled, IsExcess, IsLong, li
 
 use crate::around::guarded_codes;
 use crate::error::BuildError;
-use crate::made::number;
 use crate::pairs::{Pair, deepen_all, operators_of, pairs_of};
 use crate::plain::plain_program;
 use crate::uses::{uses_of, writes_of};
@@ -17,7 +16,7 @@ use executive_program::{Program, pair_depths, turn_micros, words};
 use flat_graph::Flat;
 use schedule::Schedule;
 use std::alloc::Global;
-use syn_base::{Items, LimitFault, LimitKind, OutOfMemory};
+use syn_base::{Items, LimitFault, LimitKind, OutOfMemory, to_u32};
 
 /// The pairs of a program without semaphores.
 fn pairs_in(alloc: Global, plain: &Program) -> Result<Vec<Pair>, OutOfMemory>
@@ -137,7 +136,7 @@ pub fn build(
     ensures err { IfErr result (IsRefusal flat.now archi.now schedule.now) }
 {
     let _ = flat.vertices();
-    let media = number(archi.media().len())?;
+    let media = to_u32(archi.media().len())?;
     let plain = plain_program(alloc, flat, archi, schedule)?;
     with_semaphores(alloc, plain, media, archi.depth())
 }

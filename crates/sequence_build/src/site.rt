@@ -6,13 +6,13 @@ ghost use Rattle.sequence_build_laws.specs.Serial.{is_other, same_medium, same_s
 ghost use Rattle.sequence_build.specs.Plain.{Adds, HasLoops, guards_in, ins_in, loop_at, numbering, sequence_of, steps_at, waits_from};
 ghost use Rattle.executive_program.specs.declared.program.Instr.TheVariants.{Call, Recv, Send, Sync};
 
-use crate::made::{number, outs_of, place_of};
+use crate::made::{outs_of, place_of};
 use archi_graph::Seq;
 use executive_program::Instr;
 use flat_graph::{Guard, Source, Vertex};
 use schedule::{Decision, Transfer};
 use std::alloc::Global;
-use syn_base::{Items, OutOfMemory};
+use syn_base::{Items, OutOfMemory, to_u32};
 
 /// The operations, the sequences, the numbers of copies by their places, and how many copies there are.
 #[derive(Clone, Copy)]
@@ -90,10 +90,10 @@ fn find(sequences: &[Seq], seq: Seq) -> Result<u32, OutOfMemory>
 {
     for (place, other) in sequences.iter().enumerate() {
         if is_same(seq, *other) {
-            return number(place);
+            return to_u32(place);
         }
     }
-    number(sequences.len())
+    to_u32(sequences.len())
 }
 
 /// The guards of an operation, none where it is not there.
@@ -143,7 +143,7 @@ impl<'a> Site<'a> {
     {
         for (place, seq) in self.sequences.iter().enumerate() {
             if is_other(transfer, *seq) {
-                let sequence = number(place)?;
+                let sequence = to_u32(place)?;
                 let wait = Instr::Sync {
                     from: transfer.from,
                     to: transfer.to,
@@ -247,7 +247,7 @@ impl<'a> Site<'a> {
         for (port, _len) in lens.iter().enumerate() {
             let source = Source {
                 vertex: decision.op,
-                port: number(port)?,
+                port: to_u32(port)?,
             };
             outs.push(self.buffer(decision.operator, source))?;
         }

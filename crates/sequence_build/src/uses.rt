@@ -4,10 +4,9 @@ ghost use Rattle.std.specs.List.{list_any};
 ghost use Rattle.executive_program.specs.Instructions.{reads, writes};
 ghost use Rattle.sequence_build.specs.Uses.{noted, uses_at, uses_by, uses_in, write_at, write_by, write_in};
 
-use crate::made::number;
 use executive_program::{Instr, Program};
 use std::alloc::Global;
-use syn_base::OutOfMemory;
+use syn_base::{OutOfMemory, to_u32};
 
 /// A sequence that reads a buffer, with the places in its loop, from 0, of its first and its last read.
 #[derive(Clone, Copy, Drop)]
@@ -115,7 +114,7 @@ pub fn uses_of(alloc: Global, program: &Program) -> Result<Vec<Vec<Use>>, OutOfM
 {
     let mut uses = no_uses(alloc, program.buffers.as_slice().len())?;
     for (sequence, code) in program.seqs.as_slice().iter().enumerate() {
-        note_loop(&mut uses, number(sequence)?, code.turn.as_slice())?;
+        note_loop(&mut uses, to_u32(sequence)?, code.turn.as_slice())?;
     }
     Ok(uses)
 }
@@ -184,7 +183,7 @@ pub fn writes_of(alloc: Global, program: &Program) -> Result<Vec<Option<Place>>,
 {
     let mut places = no_writes(alloc, program.buffers.as_slice().len())?;
     for (sequence, code) in program.seqs.as_slice().iter().enumerate() {
-        note_loop_writes(&mut places, number(sequence)?, code.turn.as_slice());
+        note_loop_writes(&mut places, to_u32(sequence)?, code.turn.as_slice());
     }
     Ok(places)
 }

@@ -1,4 +1,5 @@
 pub mod Arithmetic
+pub mod Bytes
 pub mod Integer
 pub mod Limits
 pub mod Name

@@ -42,3 +42,11 @@ bound_of MicroSteps = 262144
 bound_of Reactions = 10000
 bound_of Output = 2000000
 bound_of Total = 20000000
+
+-- the most operations of a flat graph
+abbrev pub most_operations : ℕ
+most_operations = 2048
+
+-- No file has as many lines, names or definitions, and whatever is counted up to it has a number of 32 bits.
+abbrev pub most_in_text : ℕ
+most_in_text = 4000000000

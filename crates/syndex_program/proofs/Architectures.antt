@@ -1,6 +1,6 @@
 -- Reading an architecture, part by part.
 use Rattle.std.proofs.Common.{◌≡◌, Result, Ok, Err, subst}
-use Rattle.outside.specs.Bytes.{Bytes}
+use Rattle.syn_base.specs.Bytes.{Bytes}
 use Rattle.outside.specs.Shelf.{Held}
 use Rattle.algo_tree.specs.Tree.{Vertex}
 use Rattle.archi_defs.specs.Text.{Described, description_of}

@@ -1,7 +1,7 @@
 -- Carrying out the plan of macro-code of any hand, part by part.
 use Rattle.std.proofs.Common.{◌≡◌, ◌∙◌, List, [], ◌∷◌, map, length, Option, Some, Result, Ok, Err, refl, sym, ap, subst, inl, inr}
 use Rattle.std.specs.Prelude.{IsTrue}
-use Rattle.outside.specs.Bytes.{Bytes}
+use Rattle.syn_base.specs.Bytes.{Bytes}
 use Rattle.outside.specs.Shelf.{Held}
 use Rattle.outside.specs.Sink.{Sunk}
 use Rattle.outside.specs.declared.file.File.TheVariants.{Architecture, Code}

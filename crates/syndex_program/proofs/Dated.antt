@@ -1,7 +1,7 @@
 -- The plan of dates, part by part.
 use Rattle.std.proofs.Common.{◌≡◌, ℕ, List, Result, Err, subst}
 use Rattle.std.specs.Prelude.{Vec}
-use Rattle.outside.specs.Bytes.{Bytes}
+use Rattle.syn_base.specs.Bytes.{Bytes}
 use Rattle.outside.specs.Shelf.{Held}
 use Rattle.flat_graph.specs.Graph.{Graph}
 use Rattle.archi_graph.specs.Archi.{Architecture as Archi}

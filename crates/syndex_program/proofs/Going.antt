@@ -1,6 +1,6 @@
 -- One window more.
 use Rattle.std.proofs.Common.{◌≡◌, ℕ, suc, ◌+◌, ◌<◌, ◌≤◌, List, ◌∷◌, length, drop, take, sym, ap, subst, ◌∙◌, arith, length-take, Bool}
-use Rattle.outside.specs.Bytes.{Bytes}
+use Rattle.syn_base.specs.Bytes.{Bytes}
 use Rattle.outside.specs.Sink.{Sunk, Wrote}
 use Rattle.level_meaning.specs.Level.{Values}
 use Rattle.algo_tree.specs.Tree.{Vertex}

@@ -1,6 +1,6 @@
 -- Carrying out the plan of texts that are executed.
 use Rattle.std.proofs.Common.{Result, Ok, Err}
-use Rattle.outside.specs.Bytes.{Bytes}
+use Rattle.syn_base.specs.Bytes.{Bytes}
 use Rattle.outside.specs.Shelf.{Held}
 use Rattle.csv.specs.Reading.{default_config, records, strip_bom}
 use Rattle.syn_base.specs.Rows.{Reactions}

@@ -3,7 +3,7 @@ use Rattle.std.proofs.Common.{◌≤◌, ◌+◌, ℕ, Bool, true, false, cond, 
 use Rattle.text_lines.specs.Text.{is_feed, lines_of, with_byte}
 use Rattle.outside.specs.Shelf.{file_bound}
 use Rattle.algo_reader.proofs.LineCounts.{lines_at_most}
-use Rattle.algo_defs.specs.Words.{Bytes}
+use Rattle.syn_base.specs.Bytes.{Bytes}
 use Rattle.algo_defs.specs.declared.definition.Def.{Def}
 use Rattle.algo_defs.specs.declared.definition.Defs.{Defs}
 use Rattle.algo_defs.specs.declared.definition.Body.{Body}

@@ -1,6 +1,6 @@
 -- What is made of a text of actual durations.
 use Rattle.std.specs.Prelude.{ℕ}
-use Rattle.outside.specs.Bytes.{Bytes}
+use Rattle.syn_base.specs.Bytes.{Bytes}
 use Rattle.flat_graph.specs.Graph.{Graph}
 use Rattle.archi_graph.specs.Archi.{Architecture as Archi}
 use Rattle.durations.specs.Table.{Table}

@@ -1,6 +1,6 @@
 -- Programs that are executed: what is asked of their parts, and what reading them answers.
 use Rattle.std.specs.Prelude.{◌≡◌, ◌⊎◌, length, None, Result, Ok, Err}
-use Rattle.outside.specs.Bytes.{Bytes}
+use Rattle.syn_base.specs.Bytes.{Bytes}
 use Rattle.outside.specs.Sink.{Sunk}
 use Rattle.outside.specs.declared.file.File.TheVariants.{Architecture, Code}
 use Rattle.syn_base.specs.Rows.{Reactions}

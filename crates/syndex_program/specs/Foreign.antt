@@ -1,6 +1,6 @@
 -- What a text of macro-code answers, where its program is checked.
 use Rattle.std.specs.Prelude.{◌≡◌, length, None, Result, Ok, Err}
-use Rattle.outside.specs.Bytes.{Bytes}
+use Rattle.syn_base.specs.Bytes.{Bytes}
 use Rattle.outside.specs.Shelf.{Held}
 use Rattle.outside.specs.declared.file.File.TheVariants.{Code}
 use Rattle.archi_graph.specs.Archi.{Architecture as Archi}

@@ -1,7 +1,7 @@
 -- What the parts of a command answer.
 use Rattle.std.specs.Prelude.{◌≡◌, ℕ, Result, Ok, Err, Vec}
 use Rattle.csv.specs.Reading.{default_config, records, strip_bom}
-use Rattle.outside.specs.Bytes.{Bytes}
+use Rattle.syn_base.specs.Bytes.{Bytes}
 use Rattle.outside.specs.Shelf.{Held}
 use Rattle.outside.specs.declared.file.File.TheVariants as file
 use Rattle.syn_base.specs.Rows.{Reactions}

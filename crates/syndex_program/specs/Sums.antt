@@ -1,7 +1,8 @@
 -- The sum of all that the actuators take.
 use Rattle.std.specs.Prelude.{ℕ, ◌≤◌, ◌<◌, ℤ, List, [], ◌∷◌, length, drop, slice_index_or, codes}
 use Rattle.std.specs.Fmt.{decimal, signed_decimal}
-use Rattle.outside.specs.Bytes.{Bytes, joined}
+use Rattle.syn_base.specs.Bytes.{Bytes}
+use Rattle.outside.specs.Bytes.{joined}
 use Rattle.std.specs.List.{flat_map}
 use Rattle.level_meaning.specs.Level.{Values, all_joined}
 use Rattle.body_lang.specs.Expr.{total}

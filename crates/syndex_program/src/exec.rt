@@ -1,5 +1,6 @@
 //! The command `exec A H C S`: macro-code of any hand, checked and executed.
 ghost use Rattle.std.specs.Prelude.{◌≤◌, IfOk, Ok, length};
+ghost use Rattle.syn_base.specs.Limits.{most_in_text};
 ghost use Rattle.command_plan.specs.Run.{Makes};
 ghost use Rattle.command_status.specs.Status.{ending_of};
 ghost use Rattle.outside.specs.Shelf.{Stays};
@@ -72,7 +73,7 @@ fn read_program<S: Shelf>(
 
 /// The program of a text of macro-code that is well formed, or the first refusal.
 fn program_of(alloc: Global, text: &[u8], flat: &Flat, archi: &Archi) -> Result<Program, Status>
-    requires { length (lines_of text.now) ≤ 4000000000 }
+    requires { length (lines_of text.now) ≤ most_in_text }
     ensures { MakesProgram flat.now archi.now text.now result }
 {
     // By this call the proof knows that the architecture is valid.

@@ -11,7 +11,7 @@ use command_status::Status;
 use durations::durations_fit;
 use executive_program::Program;
 use pressure_heuristic::adequation;
-use route_laws::routes_are_least;
+use route_table::routes_are_least;
 use schedule::Schedule;
 use sequence_build::{BuildError, build};
 use std::alloc::Global;

@@ -8,7 +8,8 @@ use Rattle.flat_graph.specs.declared.vertex.Vertex.{Vertex}
 use Rattle.schedule.specs.declared.decision.Transfer.{Transfer}
 use Rattle.schedule.specs.declared.decision.Decision.{Decision}
 use Rattle.schedule.specs.Acts.{Act, carry, run, acts_of, is_on, is_over}
-use Rattle.timing_chart.specs.Chart.{Bytes, Line, line_text, text_of, act_line}
+use Rattle.syn_base.specs.Bytes.{Bytes}
+use Rattle.timing_chart.specs.Chart.{Line, line_text, text_of, act_line}
 
 pub text-append : (xs ys : List Line) → text_of (xs ++ ys) ≡ text_of xs ++ text_of ys
 text-append [] ys = refl

@@ -1,6 +1,7 @@
 -- The schedule of an accepted algorithm on an accepted architecture is valid.
 use Rattle.std.proofs.Common.{◌≡◌, true, length, Option, Some, None, Result, Ok, refl, subst}
-use Rattle.archi_defs.specs.Text.{Bytes, Described, description_of, refused}
+use Rattle.syn_base.specs.Bytes.{Bytes}
+use Rattle.archi_defs.specs.Text.{Described, description_of, refused}
 use Rattle.archi_defs.specs.declared.fault.ArchiCause.{ArchiCause}
 use Rattle.archi_defs.specs.declared.fault.ArchiError.{ArchiError}
 use Rattle.archi_defs.specs.declared.fault.ArchiCause.TheVariants.{NoDuration}
@@ -11,8 +12,8 @@ use Rattle.flat_graph.specs.Valid.{is_flat}
 use Rattle.pressure_heuristic.specs.Tasks.{task}
 use Rattle.pressure_heuristic.proofs.Tasks.{tasks_are_given}
 use Rattle.pressure_heuristic.proofs.Whole.{runs_are_valid}
-use Rattle.route_laws.specs.Routes.{table_of}
-use Rattle.route_laws.proofs.LeastRoutes.{routes_are_least}
+use Rattle.route_table.specs.Computed.{table_of}
+use Rattle.route_table.proofs.LeastRoutes.{routes_are_least}
 use Rattle.schedule.specs.Valid.{is_valid}
 use Rattle.accepted_laws.proofs.Architectures.{described_are}
 use Rattle.top_plans.specs.Plans.{schedule_of}

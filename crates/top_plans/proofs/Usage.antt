@@ -1,7 +1,7 @@
 -- What was carried out of the plan of the words replies; no command ends with Usage.
 use Rattle.std.proofs.Common.{◌≡◌, append-nil, [], Option, Some, None, Result, Ok, Err, inl, inr, refl, sym, ap, subst, ◌∙◌}
 use Rattle.std.specs.Prelude.{IsOkAnd}
-use Rattle.outside.specs.Bytes.{Bytes}
+use Rattle.syn_base.specs.Bytes.{Bytes}
 use Rattle.outside.specs.Shelf.{Held}
 use Rattle.outside.specs.Sink.{Sunk, Appends, AppendsPrefix}
 use Rattle.command_plan.specs.Plan.{Plan, give, refuse, read, outcome}

@@ -1,7 +1,7 @@
 -- Along the plan of a command: whatever refusals have, and reads where what follows has it, and what is given.
 use Rattle.std.proofs.Common.{◌≡◌, ℕ, List, length, Option, Some, None, Result, Ok, Err, refl}
 use Rattle.csv.specs.Reading.{default_config, records, strip_bom}
-use Rattle.outside.specs.Bytes.{Bytes}
+use Rattle.syn_base.specs.Bytes.{Bytes}
 use Rattle.outside.specs.declared.file.File.{File}
 use Rattle.outside.specs.declared.file.File.TheVariants.{Algorithm, Architecture, Sensors, Code, Durations}
 use Rattle.syn_base.specs.Rows.{Reactions}

@@ -4,7 +4,8 @@ use Rattle.csv.specs.Reading.{records_from, strip_bom}
 use Rattle.csv.specs.Machine.{next_record}
 use Rattle.std.specs.Fmt.{digits}
 use Rattle.code_text.specs.Forms.{macro_of}
-use Rattle.outside.specs.Bytes.{Bytes, named}
+use Rattle.syn_base.specs.Bytes.{Bytes}
+use Rattle.outside.specs.Bytes.{named}
 use Rattle.semaphore_core.specs.Job.{JobData, reactions}
 use Rattle.command_plan.specs.Plan.{outcome}
 use Rattle.command_plan.specs.Stage.{Stage}

@@ -1,6 +1,6 @@
 -- What an accepted command makes, and the stages in which it is made.
 use Rattle.std.specs.Prelude.{ℕ, List, [], ◌∷◌, map, length}
-use Rattle.outside.specs.Bytes.{Bytes}
+use Rattle.syn_base.specs.Bytes.{Bytes}
 use Rattle.syn_base.specs.Rows.{Reactions}
 use Rattle.level_meaning.specs.Level.{Values, numbers_below}
 use Rattle.algo_tree.specs.Tree.{Vertex}

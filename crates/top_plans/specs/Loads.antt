@@ -1,6 +1,6 @@
 -- The three texts of a load, by names that no definition computes with.
 use Rattle.std.specs.Prelude.{ℕ}
-use Rattle.outside.specs.Bytes.{Bytes}
+use Rattle.syn_base.specs.Bytes.{Bytes}
 use Rattle.load_texts.specs.Algorithm.{algorithm_text}
 use Rattle.load_texts.specs.Architecture.{architecture_text}
 use Rattle.load_texts.specs.Table.{table_text}

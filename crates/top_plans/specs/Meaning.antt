@@ -1,6 +1,6 @@
 -- What executions write, run and are.
 use Rattle.std.specs.Prelude.{◌≡◌, ℕ, ◌+◌, ◌≤◌, ◌<◌, cond, nat_lt, List, ◌++◌, length, Option, Some, None, Ok, slice_get, slice_index_or}
-use Rattle.outside.specs.Bytes.{Bytes}
+use Rattle.syn_base.specs.Bytes.{Bytes}
 use Rattle.level_meaning.specs.Level.{vector_at, zeros}
 use Rattle.algo_tree.specs.Meaning.{act_row}
 use Rattle.flat_graph.specs.declared.vertex.Vertex as flat

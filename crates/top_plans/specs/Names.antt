@@ -1,6 +1,6 @@
 -- The names that each command gives its files, and which commands run jobs.
 use Rattle.std.specs.Prelude.{Option, Some, None}
-use Rattle.outside.specs.Bytes.{Bytes}
+use Rattle.syn_base.specs.Bytes.{Bytes}
 use Rattle.outside.specs.declared.file.File.{File}
 use Rattle.outside.specs.declared.file.File.TheVariants.{Algorithm, Architecture, Sensors, Code, Durations}
 use Rattle.command_words.specs.Command.{Command, check, sim, flat, chart, code, run, load, exec, dates}

@@ -3,7 +3,8 @@ use Rattle.std.specs.Prelude.{◌*◌, ◌++◌, ℕ, ℤ, nat_lt, List, [], ◌
 use Rattle.std.specs.Fmt.{decimal, signed_decimal}
 use Rattle.std.specs.List.{flat_map}
 use Rattle.csv.specs.Reading.{default_config, records, strip_bom}
-use Rattle.outside.specs.Bytes.{Bytes, joined}
+use Rattle.syn_base.specs.Bytes.{Bytes}
+use Rattle.outside.specs.Bytes.{joined}
 use Rattle.outside.specs.Shelf.{file_limit}
 use Rattle.outside.specs.declared.file.File.{File}
 use Rattle.outside.specs.declared.file.File.TheVariants.{Algorithm, Architecture, Sensors, Code, Durations}
@@ -30,7 +31,7 @@ use Rattle.flat_laws.specs.FlatOf.{flat_of}
 use Rattle.flat_text.specs.Listing.{listing}
 use Rattle.pressure_heuristic.specs.Pressure.{pressure_run}
 use Rattle.pressure_heuristic.specs.Tasks.{task}
-use Rattle.route_laws.specs.Routes.{table_of}
+use Rattle.route_table.specs.Computed.{table_of}
 use Rattle.schedule.specs.declared.decision.Schedule.{Schedule}
 use Rattle.timing_chart.specs.Chart as timing
 use Rattle.executive_program.specs.declared.program.Program.{Program}

@@ -1,6 +1,6 @@
 -- What the public calls answer.
 use Rattle.std.specs.Prelude.{◌≡◌, ◌⊎◌, ◌++◌, ℕ, Option, Some, None, Result, Ok, IsOkAnd}
-use Rattle.outside.specs.Bytes.{Bytes}
+use Rattle.syn_base.specs.Bytes.{Bytes}
 use Rattle.outside.specs.Faults.{Rose}
 use Rattle.outside.specs.Shelf.{Held}
 use Rattle.outside.specs.Sink.{Sunk, Appends, AppendsPrefix}

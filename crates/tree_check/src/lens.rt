@@ -9,7 +9,7 @@ ghost use Rattle.tree_check.specs.Typed.{is_length};
 use algo_tree::Vertex;
 use level_meaning::{Feed, Source};
 use std::alloc::Global;
-use syn_base::OutOfMemory;
+use syn_base::{OutOfMemory, len_at};
 
 /// The most elements of a value.
 const MOST: u32 = 64;
@@ -24,13 +24,6 @@ fn is_length(len: u32) -> bool
     ensures { result ≡ is_length len }
 {
     1 <= len && len <= MOST
-}
-
-/// The length at this place, 0 where there is none.
-pub fn len_at(lens: &[u32], at: usize) -> u32
-    ensures { result ≡ slice_index_or lens.now at 0 }
-{
-    if at < lens.len() { lens[at] } else { 0 }
 }
 
 /// Whether this is the one length.

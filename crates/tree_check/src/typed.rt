@@ -7,12 +7,12 @@ ghost use Rattle.algo_tree.specs.View.{kind_view, view, vertices_view};
 ghost use Rattle.algo_tree.specs.Typed.{outs_of, source_length, given_length};
 ghost use Rattle.tree_check.specs.Typed.{is_guard_typed, ports_below, is_fed, all_give, is_merge, are_groups, fits, inner_lengths, are_guards_typed, is_typed};
 
-use crate::lens::{are_lengths, fed_lens, is_only, is_sum, len_at, source_len, source_lens};
+use crate::lens::{are_lengths, fed_lens, is_only, is_sum, source_len, source_lens};
 use algo_tree::{Kind, Vertex};
 use body_lang::{Expr, has_ports_below};
 use level_meaning::{Feed, Give, Guard, Source};
 use std::alloc::Global;
-use syn_base::{Items, OutOfMemory};
+use syn_base::{Items, OutOfMemory, len_at};
 
 /// Whether the lengths of a vertex with inputs of these lengths, and of all inside it, fit and each
 /// source is there. It takes memory for the lengths of the inputs.

@@ -23,7 +23,7 @@ use Rattle.algo_defs.specs.declared.definition.Body.TheVariants.{Sensor, Actuato
 use Rattle.algo_defs.specs.declared.definition.Reference.{Reference}
 use Rattle.algo_defs.specs.declared.definition.Edge.{Edge}
 use Rattle.algo_defs.specs.declared.definition.End.{End}
-use Rattle.algo_defs.specs.Words.{Bytes}
+use Rattle.syn_base.specs.Bytes.{Bytes}
 use Rattle.reference_graph.specs.Links.{Links, from, leads_within, reaches_itself}
 use Rattle.reference_graph.proofs.Enough.{enough}
 use Rattle.algo_rules.specs.Links.{definition}

@@ -8,7 +8,7 @@ use Rattle.algo_tree.specs.Typed.{source_length}
 use Rattle.algo_tree.specs.Well.{AreOwn}
 use Rattle.algo_defs.specs.declared.definition.Case.{Case}
 use Rattle.algo_defs.specs.declared.fault.AlgoCause.TheVariants.{BadCase}
-use Rattle.algo_defs.specs.Words.{Bytes}
+use Rattle.syn_base.specs.Bytes.{Bytes}
 use Rattle.algo_rules.specs.Links.{fault, first_of}
 use Rattle.algo_rules.specs.Ports.{lens_of, same_ports}
 use Rattle.algo_rules.specs.Frontiers.{fits, has_value, case_fault, case_faults, switch_fault}

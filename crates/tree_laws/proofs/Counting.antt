@@ -23,7 +23,8 @@ use Rattle.algo_defs.specs.declared.definition.Edge.{Edge}
 use Rattle.algo_defs.specs.declared.definition.Frontier.{Frontier}
 use Rattle.algo_defs.specs.declared.definition.Frontier.TheVariants.{Fork, Diffuse, Iterate, Join}
 use Rattle.algo_defs.specs.declared.definition.FrontierLine.{FrontierLine}
-use Rattle.algo_defs.specs.Words.{Bytes, is_among}
+use Rattle.syn_base.specs.Bytes.{Bytes}
+use Rattle.algo_defs.specs.Words.{is_among}
 use Rattle.algo_rules.specs.Links.{Mention, mentions, mentions_in, definition}
 use Rattle.algo_rules.specs.Ports.{ports_of, has_port, len_of, number_of}
 use Rattle.algo_rules.specs.declared.ports.Ports.{Ports}

@@ -19,7 +19,8 @@ use Rattle.algo_defs.specs.declared.definition.FrontierLine.{FrontierLine}
 use Rattle.algo_defs.specs.declared.fault.AlgoError.{AlgoError}
 use Rattle.algo_defs.specs.declared.fault.AlgoError.TheVariants.{Limit}
 use Rattle.algo_defs.specs.declared.fault.AlgoCause.TheVariants.{BadRepeat}
-use Rattle.algo_defs.specs.Words.{Bytes, is_among}
+use Rattle.syn_base.specs.Bytes.{Bytes}
+use Rattle.algo_defs.specs.Words.{is_among}
 use Rattle.algo_defs.specs.Outer.{outer_names, all_outer}
 use Rattle.algo_rules.specs.Links.{fault, first_of}
 use Rattle.algo_rules.specs.Ports.{has_port, len_of, number_of, lens_of, outer_ins, outer_outs, outer_ports}

@@ -12,7 +12,7 @@ use Rattle.algo_defs.specs.declared.definition.Reference.{Reference}
 use Rattle.algo_defs.specs.declared.definition.Edge.{Edge}
 use Rattle.algo_defs.specs.declared.definition.End.{End}
 use Rattle.algo_defs.specs.declared.fault.AlgoCause.TheVariants.{WrongLength, TwiceConnected, Unconnected}
-use Rattle.algo_defs.specs.Words.{Bytes}
+use Rattle.syn_base.specs.Bytes.{Bytes}
 use Rattle.algo_rules.specs.Links.{fault, first_of}
 use Rattle.algo_rules.specs.Ports.{number_of, lens_of}
 use Rattle.algo_rules.specs.Graphs.{written, written_by, same_owner, same_end, is_connected, port_len, ports_at, givers, takers, joins, edge_fault, edge_faults, open_fault, open_faults, place}

@@ -11,7 +11,7 @@ use Rattle.algo_tree.specs.Well.{IsNewName, AreDistinctNames, fork_names, join_n
 use Rattle.algo_defs.specs.declared.definition.Frontier.{Frontier}
 use Rattle.algo_defs.specs.declared.definition.Frontier.TheVariants.{Fork, Diffuse, Iterate, Join}
 use Rattle.algo_defs.specs.declared.definition.FrontierLine.{FrontierLine}
-use Rattle.algo_defs.specs.Words.{Bytes}
+use Rattle.syn_base.specs.Bytes.{Bytes}
 use Rattle.algo_defs.specs.Outer.{outer_names, all_outer}
 use Rattle.algo_rules.specs.Ports.{len_of, number_of}
 use Rattle.algo_rules.specs.Resolved.{feed_by, first_feed, feed_of, give_by}

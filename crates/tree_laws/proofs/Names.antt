@@ -24,7 +24,7 @@ use Rattle.algo_defs.specs.declared.definition.Frontier.{Frontier}
 use Rattle.algo_defs.specs.declared.definition.Frontier.TheVariants.{Fork, Diffuse, Iterate, Join}
 use Rattle.algo_defs.specs.declared.definition.FrontierLine.{FrontierLine}
 use Rattle.algo_defs.specs.Outer.{outer_names, all_outer}
-use Rattle.algo_defs.specs.Words.{Bytes}
+use Rattle.syn_base.specs.Bytes.{Bytes}
 use Rattle.algo_rules.specs.Links.{mentions_in, definition}
 use Rattle.algo_rules.specs.Ports.{ports_of, len_of, number_of}
 use Rattle.algo_rules.specs.declared.ports.Ports.{Ports}

@@ -12,7 +12,7 @@ use Rattle.syn_base.specs.declared.limits.LimitKind.TheVariants.{Depth}
 use Rattle.syn_base.specs.Limits.{bound_of}
 use Rattle.algo_defs.specs.declared.definition.Def.{Def}
 use Rattle.algo_defs.specs.declared.fault.AlgoError.TheVariants.{Limit}
-use Rattle.algo_defs.specs.Words.{Bytes}
+use Rattle.syn_base.specs.Bytes.{Bytes}
 use Rattle.reference_graph.specs.Links.{from, greatest, depth, depths, numbers, first_recursive, reaches_itself}
 use Rattle.reference_graph.specs.Answer.{AreInside}
 use Rattle.reference_graph.proofs.Enough.{one_deeper}

@@ -5,7 +5,7 @@ use Rattle.algo_tree.specs.Typed.{AreLengths}
 use Rattle.algo_defs.specs.declared.definition.Def.{Def}
 use Rattle.algo_defs.specs.declared.definition.Body.{Body}
 use Rattle.algo_defs.specs.declared.definition.Body.TheVariants.{Sensor, Actuator, Constant, Delay, Function, Graph, Switch, Repeat}
-use Rattle.algo_defs.specs.Words.{Bytes}
+use Rattle.syn_base.specs.Bytes.{Bytes}
 use Rattle.algo_rules.specs.Links.{Mention, mentions, mentions_in, definition}
 use Rattle.algo_rules.specs.Ports.{lens_of, ports_by, ports_of}
 use Rattle.algo_rules.specs.declared.ports.Ports.{Ports}

@@ -6,7 +6,7 @@ use Rattle.algo_defs.specs.declared.definition.Def.{Def}
 use Rattle.algo_defs.specs.declared.definition.Body.{Body}
 use Rattle.algo_defs.specs.declared.definition.Body.TheVariants.{Sensor, Actuator, Constant, Delay, Function, Graph, Switch, Repeat}
 use Rattle.algo_defs.specs.declared.fault.AlgoCause.TheVariants.{Misplaced}
-use Rattle.algo_defs.specs.Words.{Bytes}
+use Rattle.syn_base.specs.Bytes.{Bytes}
 use Rattle.algo_rules.specs.Links.{fault, first_of, Mention, mentions, definition, is_main, is_end, may_be_inner, may_stand, misplaced_by, misplaced}
 use Rattle.tree_laws.proofs.Firsts.{Each, none_each, none_flat, each_gives}
 

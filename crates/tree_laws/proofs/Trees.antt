@@ -24,7 +24,7 @@ use Rattle.tree_laws.proofs.Typing.{typed}
 use Rattle.tree_laws.proofs.Wellness.{well}
 use Rattle.tree_laws.proofs.Counting.{counted_within}
 use Rattle.tree_laws.proofs.Sizing.{made_to}
-use Rattle.algo_defs.specs.Words.{Bytes}
+use Rattle.syn_base.specs.Bytes.{Bytes}
 use Rattle.algo_tree.specs.Tree.{graph}
 
 abbrev pub main : Bytes

@@ -17,7 +17,7 @@ use Rattle.algo_defs.specs.declared.definition.Output.{Output}
 use Rattle.algo_defs.specs.declared.definition.Reference.{Reference}
 use Rattle.algo_defs.specs.declared.definition.Case.{Case}
 use Rattle.algo_defs.specs.declared.definition.Edge.{Edge}
-use Rattle.algo_defs.specs.Words.{Bytes}
+use Rattle.syn_base.specs.Bytes.{Bytes}
 use Rattle.algo_rules.specs.Links.{Mention, mentions, mentions_in, definition}
 use Rattle.algo_rules.specs.Ports.{ports_of, ports_by, lens_of, outer_ports}
 use Rattle.algo_rules.specs.declared.ports.Ports.{Ports}

@@ -20,7 +20,7 @@ use Rattle.algo_defs.specs.declared.definition.Body.TheVariants.{Sensor, Actuato
 use Rattle.algo_defs.specs.declared.definition.Reference.{Reference}
 use Rattle.algo_defs.specs.declared.definition.Case.{Case}
 use Rattle.algo_defs.specs.declared.definition.Edge.{Edge}
-use Rattle.algo_defs.specs.Words.{Bytes}
+use Rattle.syn_base.specs.Bytes.{Bytes}
 use Rattle.algo_rules.specs.Links.{mentions_in, definition}
 use Rattle.algo_rules.specs.Ports.{ports_of}
 use Rattle.algo_rules.specs.declared.ports.Ports.{Ports}

@@ -6,9 +6,8 @@ ghost use Rattle.word_table.specs.Owners.{owners};
 
 use executive_program::{Instr, Program};
 use flat_graph::{Kind, Vertex};
-use semaphore_core::small;
 use std::alloc::Global;
-use syn_base::OutOfMemory;
+use syn_base::{OutOfMemory, to_u32};
 
 /// Puts a number in a place, where there is one.
 fn put(list: &mut Vec<u32>, at: u32, number: u32)
@@ -44,7 +43,7 @@ pub fn callers_of(
     ensures each { IfOk result (λ c. (v : ℕ) → v < operations → slice_index_or c.items v 0 ≡ caller_of program.now v) }
 {
     let seqs = program.seqs.as_slice();
-    let count = small(seqs.len())?;
+    let count = to_u32(seqs.len())?;
     let mut callers = vec![in alloc; count; operations]?;
     for k in 0..count {
         let seq = count - 1 - k;

@@ -14,9 +14,9 @@ use crate::remains::Remains;
 use crate::share::Share;
 use crate::woven::Woven;
 use executive_program::micro_steps_of;
-use semaphore_core::{Job, OwnParts, cells_and_rows, small, words_of, zero_elements};
+use semaphore_core::{Job, OwnParts, cells_and_rows, words_of, zero_elements};
 use std::alloc::Global;
-use syn_base::{ActRows, Items, OutOfMemory};
+use syn_base::{ActRows, Items, OutOfMemory, to_u32};
 use word_rule::{WordSeat, WordTable, job_runs_on_words};
 
 /// The opening cells of a job's delays, and rows of zeros of all its actuators, as the end of a fabric keeps them.
@@ -104,7 +104,7 @@ fn layout_of(alloc: Global, job: &Job) -> Result<Layout, OutOfMemory>
     let Some(first) = turns.checked_add(job.media()) else {
         return Err(OutOfMemory);
     };
-    let elements = zero_elements(alloc, program, small(job.media())?)?;
+    let elements = zero_elements(alloc, program, to_u32(job.media())?)?;
     let (starts, len) = starts_of(alloc, elements.as_slice(), first)?;
     Ok(Layout { turns, starts, len })
 }

@@ -1,5 +1,5 @@
 use Rattle.std.proofs.Common.{rules, ◌≡◌, ◌≤◌, ◌+◌, ◌++◌, ◌∙◌, length, take, drop, arith, vec_len, is_ok, true, refl, ap}
-use Rattle.outside.specs.Bytes.{Bytes}
+use Rattle.syn_base.specs.Bytes.{Bytes}
 use Rattle.outside.proofs.Append.{stays_on, others_on, front_if, taken_front, grown, grown_by}
 use Rattle.std.proofs.lemmas.Grind.{common_steps}
 use Rattle.outside.proofs.read_whole.Goals as goal

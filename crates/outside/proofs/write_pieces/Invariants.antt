@@ -1,5 +1,6 @@
 use Rattle.std.proofs.Common.{drop, map, ◌≡◌, ◌++◌}
-use Rattle.outside.specs.Bytes.{Bytes, joined}
+use Rattle.syn_base.specs.Bytes.{Bytes}
+use Rattle.outside.specs.Bytes.{joined}
 use Rattle.outside.specs.Sink.{Appends}
 use Rattle.outside.proofs.write_pieces.Given as goal
 

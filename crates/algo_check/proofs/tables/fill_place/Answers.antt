@@ -1,5 +1,5 @@
 use Rattle.std.proofs.Common.{◌≡◌, ◌<◌, ◌∙◌, sym, subst, ap, List, ℕ, get_or, length, arith}
-use Rattle.algo_defs.specs.Words.{Bytes}
+use Rattle.syn_base.specs.Bytes.{Bytes}
 use Rattle.algo_rules.specs.Placed.{ArePlaced}
 use Rattle.algo_rules.specs.Ports.{ports_of}
 use Rattle.algo_links.specs.Linked.{IsLinked, named}

@@ -1,7 +1,7 @@
 use Rattle.std.proofs.Common.{Ok, ap, sym, ◌∙◌}
 use Rattle.body_lang.specs.Expr.{Expr}
 use Rattle.algo_defs.specs.declared.fault.AlgoCause.TheVariants.{UnknownName}
-use Rattle.algo_defs.specs.Words.{Bytes}
+use Rattle.syn_base.specs.Bytes.{Bytes}
 use Rattle.algo_text.specs.Blocks.{refused}
 use Rattle.algo_text.proofs.Grammars.{body_formula, bad_read}
 use Rattle.algo_reader.proofs.PortTokens.{unknown_read}

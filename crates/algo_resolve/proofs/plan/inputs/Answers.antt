@@ -1,7 +1,7 @@
 use Rattle.std.proofs.Common.{List, Some, get_or, ap, sym, ◌∙◌}
 use Rattle.std.proofs.lemmas.Option.{get_or_from_slice_get}
 use Rattle.body_lang.specs.declared.expression.Port.{Port}
-use Rattle.algo_defs.specs.Words.{Bytes}
+use Rattle.syn_base.specs.Bytes.{Bytes}
 use Rattle.algo_rules.specs.Resolved.{sources_to}
 use Rattle.algo_rules.specs.declared.ports.Ports.{Ports}
 use Rattle.algo_resolve.specs.Parts.{of}

@@ -1,5 +1,5 @@
 use Rattle.std.proofs.Common.{List, Some, ap, sym}
-use Rattle.code_text.specs.Forms.{Bytes}
+use Rattle.syn_base.specs.Bytes.{Bytes}
 use Rattle.code_text.specs.Text.{one_of}
 use Rattle.code_reader.proofs.Lists.{more_than_one, one_word}
 use Rattle.code_reader.proofs.arguments.one_word.Goals as goal

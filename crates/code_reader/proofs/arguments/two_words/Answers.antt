@@ -1,5 +1,5 @@
 use Rattle.std.proofs.Common.{List, Some, ap}
-use Rattle.code_text.specs.Forms.{Bytes}
+use Rattle.syn_base.specs.Bytes.{Bytes}
 use Rattle.code_text.specs.Text.{two_of}
 use Rattle.code_reader.proofs.Lists.{at_most_one, more_than_two, two_words}
 use Rattle.code_reader.proofs.arguments.two_words.Goals as goal

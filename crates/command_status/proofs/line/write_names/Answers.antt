@@ -2,7 +2,8 @@ use Rattle.std.proofs.Common.{◌≡◌, ◌∙◌, ◌+◌, [], ◌∷◌, ◌+
 use Rattle.std.specs.Prelude.{is_ok}
 use Rattle.std.proofs.lemmas.Result.{err_from_is_err_and}
 use Rattle.std.proofs.lemmas.List.{drop_all}
-use Rattle.outside.specs.Bytes.{Bytes, joined}
+use Rattle.syn_base.specs.Bytes.{Bytes}
+use Rattle.outside.specs.Bytes.{joined}
 use Rattle.outside.specs.Sink.{Wrote}
 use Rattle.outside.proofs.Append.{wrote_then}
 use Rattle.outside.proofs.Pieces.{piece_more, piece_failed}

@@ -1,6 +1,6 @@
 use Rattle.std.proofs.Common.{◌≡◌, ◌++◌, ℕ, List, length, refl, sym, ap, ◌∙◌, arith}
 use Rattle.schedule.specs.Acts.{Act, acts}
-use Rattle.timing_chart.specs.Chart.{Bytes}
+use Rattle.syn_base.specs.Bytes.{Bytes}
 use Rattle.self_timed.specs.Running.{span}
 use Rattle.self_timed.specs.Told.{end_at, start_at}
 use Rattle.dates_text.specs.Listing.{Dated, dated_in, dated_text}

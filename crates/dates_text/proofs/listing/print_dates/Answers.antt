@@ -1,7 +1,7 @@
 use Rattle.std.proofs.Common.{◌++◌, List, length, refl, sym, ap, subst, ◌∙◌}
 use Rattle.schedule.specs.declared.decision.Decision.{Decision}
 use Rattle.schedule.specs.Acts.{acts_of}
-use Rattle.timing_chart.specs.Chart.{Bytes}
+use Rattle.syn_base.specs.Bytes.{Bytes}
 use Rattle.dates_text.specs.Listing.{Dated, dated_text}
 use Rattle.dates_text.specs.Printed.{EachFits, entry_span, told}
 use Rattle.dates_text.proofs.Entered.{told_is}

@@ -2,7 +2,7 @@ use Rattle.std.proofs.Common.{◌≡◌, true, length, refl, sym, arith, ◌∙�
 use Rattle.std.proofs.lemmas.Option.{slice_get_read}
 use Rattle.executive_program.specs.MicroSteps.{transfers}
 use Rattle.program_walks.specs.Walks.{all_below}
-use Rattle.buffer_tables.proofs.Below.{one_fails, all_pass}
+use Rattle.program_tables.proofs.Below.{one_fails, all_pass}
 use Rattle.check_laws.specs.Tests.{is_moved}
 use Rattle.macro_check.proofs.MovedBy.{many_rows, row_here}
 use Rattle.macro_check.proofs.moving.are_moved.Goals as goal

@@ -1,7 +1,7 @@
 use Rattle.std.proofs.Common.{◌≡◌, true, sym, arith, ◌∙◌, below_more}
 use Rattle.std.proofs.lemmas.Option.{slice_get-get_or}
 use Rattle.executive_program.specs.MicroSteps.{transfers}
-use Rattle.buffer_tables.proofs.Below.{one_fails, all_pass}
+use Rattle.program_tables.proofs.Below.{one_fails, all_pass}
 use Rattle.check_laws.specs.Tests.{is_moved}
 use Rattle.macro_check.proofs.MovedBy.{crossing_here, many_here}
 use Rattle.macro_check.proofs.moving.are_moved_on.Goals as goal

@@ -1,7 +1,8 @@
 use Rattle.std.proofs.Common.{◌≡◌, List, [], ◌∷◌, ◌++◌, OnOk, ap, subst, ◌∙◌}
 use Rattle.executive_program.specs.declared.program.SeqCode.{SeqCode}
 use Rattle.macro_code.specs.declared.macros.Macro.TheVariants.{Processor}
-use Rattle.macro_code.specs.Text.{Bytes, declarations, line, names_of, operator_name, sequences_text}
+use Rattle.syn_base.specs.Bytes.{Bytes}
+use Rattle.macro_code.specs.Text.{declarations, line, names_of, operator_name, sequences_text}
 use Rattle.macro_code.proofs.Parts.{with_part}
 use Rattle.macro_code.proofs.processor.append_processor.Goals as goal
 

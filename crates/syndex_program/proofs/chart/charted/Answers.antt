@@ -1,5 +1,5 @@
 use Rattle.std.proofs.Common.{◌∙◌, ◌++◌, ap}
-use Rattle.outside.specs.Bytes.{Bytes}
+use Rattle.syn_base.specs.Bytes.{Bytes}
 use Rattle.schedule.specs.declared.decision.Schedule.{Schedule}
 use Rattle.timing_chart.specs.Chart as timing
 use Rattle.syndex_program.proofs.chart.charted.Goals as goal

@@ -1,6 +1,6 @@
 use Rattle.std.proofs.Common.{◌∙◌, ◌++◌, [], ◌∷◌, ap}
 use Rattle.std.proofs.lemmas.List.{append_assoc}
-use Rattle.outside.specs.Bytes.{Bytes}
+use Rattle.syn_base.specs.Bytes.{Bytes}
 use Rattle.algo_print.specs.Canonical.{canonical_text}
 use Rattle.archi_reader.specs.Canonical as architecture
 use Rattle.syndex_program.specs.Reads.{described}

@@ -1,7 +1,7 @@
 use Rattle.std.proofs.Common.{◌∙◌, ap, length}
 use Rattle.std.specs.Prelude.{Ok}
 use Rattle.std.proofs.lemmas.Result.{err_from_is_err_and}
-use Rattle.outside.specs.Bytes.{Bytes}
+use Rattle.syn_base.specs.Bytes.{Bytes}
 use Rattle.executive_program.specs.declared.program.Program.{Program}
 use Rattle.macro_code.specs.Text.{macro_code}
 use Rattle.sequence_build.specs.Limit.{program_limit}

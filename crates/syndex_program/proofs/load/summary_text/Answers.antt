@@ -5,7 +5,7 @@ use Rattle.std.proofs.Math.Facts.{to_z-of_z}
 use Rattle.std.proofs.lemmas.Int.{int_wrap_fits}
 use Rattle.std.proofs.lemmas.List.{take_all}
 use Rattle.std.proofs.lemmas.Result.{err_from_is_err_and}
-use Rattle.outside.specs.Bytes.{Bytes}
+use Rattle.syn_base.specs.Bytes.{Bytes}
 use Rattle.accepted_laws.specs.Flat.{HasFlat}
 use Rattle.algo_tree.specs.Ends.{actuator_lengths}
 use Rattle.level_meaning.specs.Level.{Values}

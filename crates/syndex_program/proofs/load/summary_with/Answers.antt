@@ -3,7 +3,7 @@ use Rattle.std.specs.Prelude.{codes}
 use Rattle.std.specs.Fmt.{decimal, signed_decimal}
 use Rattle.std.proofs.Math.Facts.{to_z-of_z}
 use Rattle.std.proofs.lemmas.List.{length-map}
-use Rattle.outside.specs.Bytes.{Bytes}
+use Rattle.syn_base.specs.Bytes.{Bytes}
 use Rattle.archi_graph.specs.Sequences.{sequences}
 use Rattle.archi_graph.specs.Archi.{Architecture}
 use Rattle.executive_program.specs.declared.program.SeqCode.{SeqCode}

@@ -1,7 +1,7 @@
 use Rattle.std.proofs.Common.{◌≡◌, ◌∙◌, ◌*◌, ℕ, length, sum, sym, ap}
 use Rattle.std.specs.Prelude.{Ok, Some, None}
 use Rattle.std.proofs.lemmas.Result.{err_from_is_err_and}
-use Rattle.outside.specs.Bytes.{Bytes}
+use Rattle.syn_base.specs.Bytes.{Bytes}
 use Rattle.algo_tree.specs.Ends.{actuator_lengths}
 use Rattle.command_plan.specs.Plan.{give}
 use Rattle.command_plan.proofs.Makes.{gave, memory}

@@ -11,7 +11,7 @@ module _ (c : goal.After-drop-elements-2) where
   same = c.program-program.ensures.same
 
   elements : c.as_slice-2.result.now ≡ (opening c.args.job.now).elements
-  elements = c.as_slice-2.ensures.value ∙ c.in_ok-elements.ensures ∙ (λ i. buffer_zeros (same i) ++ wire_zeros (same i) ((c.in_ok-small.ensures ∙ c.media-2.ensures) i))
+  elements = c.as_slice-2.ensures.value ∙ c.in_ok-elements.ensures ∙ (λ i. buffer_zeros (same i) ++ wire_zeros (same i) ((c.in_ok-to_u32.ensures.same ∙ c.media-2.ensures) i))
 
   turns : 1 + 2 * length c.as_slice.result.now ≡ 1 + 2 * length c.args.job.now.program.pairs
   turns = ap (λ (xs : List ℕ). 1 + 2 * length xs) (c.as_slice.ensures ∙ ap (λ (p : Program). p.pairs) same)

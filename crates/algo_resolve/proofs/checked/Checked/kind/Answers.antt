@@ -13,7 +13,7 @@ use Rattle.algo_defs.specs.declared.definition.Body.TheVariants.{Graph, Repeat}
 use Rattle.algo_defs.specs.declared.definition.Reference.{Reference}
 use Rattle.algo_defs.specs.declared.definition.Edge.{Edge}
 use Rattle.algo_defs.specs.declared.definition.FrontierLine.{FrontierLine}
-use Rattle.algo_defs.specs.Words.{Bytes}
+use Rattle.syn_base.specs.Bytes.{Bytes}
 use Rattle.algo_rules.specs.Ports.{ports_of}
 use Rattle.algo_rules.specs.Resolved.{Making, feed_of, give_by, kind_by, sources_to}
 use Rattle.algo_rules.specs.declared.ports.Ports.{Ports}

@@ -3,7 +3,7 @@ use Rattle.std.specs.Prelude.{not, slice_set, if◌then◌else◌}
 use Rattle.std.specs.List.{list_any}
 use Rattle.std.specs.Str.{bytes_eq}
 use Rattle.archi_defs.specs.declared.text.DurationLine.{DurationLine}
-use Rattle.archi_defs.specs.Text.{Bytes}
+use Rattle.syn_base.specs.Bytes.{Bytes}
 use Rattle.archi_reader.specs.Durations.{AreGiven}
 use Rattle.archi_reader.proofs.Tables.{given_more, table_at}
 use Rattle.archi_reader.proofs.durations.Durations.add.Goals as goal

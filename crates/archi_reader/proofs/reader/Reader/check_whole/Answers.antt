@@ -5,7 +5,8 @@ use Rattle.std.proofs.lemmas.Bool.{eqb-false}
 use Rattle.archi_graph.specs.declared.medium.Medium.{Medium}
 use Rattle.archi_graph.specs.Archi.{reached_within}
 use Rattle.archi_defs.specs.declared.fault.ArchiCause.TheVariants.{BadMedium, Disconnected}
-use Rattle.archi_defs.specs.Text.{Bytes, apart, has_stands, no_medium, refused}
+use Rattle.syn_base.specs.Bytes.{Bytes}
+use Rattle.archi_defs.specs.Text.{apart, has_stands, no_medium, refused}
 use Rattle.archi_reader.specs.Views.{reading}
 use Rattle.archi_reader.proofs.Endings.{whole_wrong, whole_apart, whole_fine, valid, stopped, read_at}
 use Rattle.archi_reader.proofs.reader.Reader.check_whole.Goals as goal

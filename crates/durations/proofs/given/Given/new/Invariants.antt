@@ -1,6 +1,6 @@
 use Rattle.std.proofs.Common.{◌≡◌, ℕ, ◌<◌, [], length, drop}
 use Rattle.std.specs.Prelude.{slice_index_or}
-use Rattle.archi_defs.specs.Text.{Bytes}
+use Rattle.syn_base.specs.Bytes.{Bytes}
 use Rattle.durations.specs.Lines.{ticks_of}
 use Rattle.durations.specs.Given.{first_of, ticks_at}
 use Rattle.durations.proofs.given.Given.new.Given as goal

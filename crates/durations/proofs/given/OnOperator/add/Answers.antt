@@ -1,7 +1,7 @@
 use Rattle.std.proofs.Common.{◌≡◌, ℕ, Bool, true, List, Option, Some, None, Bor, refl, sym, ap, ◌∙◌}
 use Rattle.std.specs.Prelude.{is_some, not, option_copied, if◌then◌else◌}
 use Rattle.std.specs.Str.{bytes_eq}
-use Rattle.archi_defs.specs.Text.{Bytes}
+use Rattle.syn_base.specs.Bytes.{Bytes}
 use Rattle.durations.specs.Given.{first_of, ticks_at}
 use Rattle.durations.proofs.Found.{view, lookup_view, added, kept}
 use Rattle.durations.proofs.given.OnOperator.add.Goals as goal

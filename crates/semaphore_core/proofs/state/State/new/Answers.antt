@@ -28,7 +28,7 @@ core_is c = λ i. record { counts = counts i; semaphores = semaphores i; turns =
     turns = c.in_ok-turns.ensures ∙ ap (λ (n : ℕ). replicate n 0) c.media.ensures
 
     elements : c.in_ok-elements.elements.items ≡ buffer_zeros c.args.job.now.program ++ wire_zeros c.args.job.now.program c.args.job.now.media
-    elements = c.in_ok-elements.ensures ∙ (λ i. buffer_zeros (same i) ++ wire_zeros (same i) ((c.in_ok-small.ensures ∙ c.media-2.ensures) i))
+    elements = c.in_ok-elements.ensures ∙ (λ i. buffer_zeros (same i) ++ wire_zeros (same i) ((c.in_ok-to_u32.ensures.same ∙ c.media-2.ensures) i))
 
     registers : c.in_ok-own.own.registers ≡ replicate (length c.args.job.now.program.seqs) []
     registers = registers_empty c.args.job.now c.program-program.result.now same c.in_ok-steps.steps.items c.in_ok-steps.ensures c.in_ok-own.own (is_opening c)

@@ -14,4 +14,4 @@ loop-port-preserved c =
     makes_next {xs = copy d.operator (record { vertex = d.op; port = i }) ∷ []} {ys = map (copy d.operator) (outputs_from d.op (i + 1) (drop (i + 1) outs))}
     (subst (λ (l : List Source). ComesTo c.args.vertices.now c.args.self.now c.loop-port.self (map (copy d.operator) l) (map (copy d.operator) (outputs_from d.op 0 outs)))
     (outputs_next d.op i outs c.loop-port-test.true) c.loop-port.invariant)
-    (subst (λ (n : ℕ). Makes c.args.vertices.now c.loop-port.self c.make.new.self (copy d.operator (record { vertex = d.op; port = n }) ∷ [])) c.in_ok-number.ensures c.in_ok-make.ensures)
+    (subst (λ (n : ℕ). Makes c.args.vertices.now c.loop-port.self c.make.new.self (copy d.operator (record { vertex = d.op; port = n }) ∷ [])) c.in_ok-to_u32.ensures.same c.in_ok-make.ensures)

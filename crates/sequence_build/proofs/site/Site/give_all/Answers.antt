@@ -10,7 +10,7 @@ loop-port-preserved c =
     let d = c.args.decision.now in
     let i = c.loop-port.port in
     let lens = c.args.lens.now in
-    let here = ap (λ (n : ℕ). numbering c.args.self.now (copy d.operator (record { vertex = d.op; port = n }))) c.in_ok-number.ensures in
+    let here = ap (λ (n : ℕ). numbering c.args.self.now (copy d.operator (record { vertex = d.op; port = n }))) c.in_ok-to_u32.ensures.same in
     one_more c.loop-port.outs.items c.push.new.self.items (map (numbering c.args.self.now) (map (copy d.operator) (outputs_from d.op (i + 1) (drop (i + 1) lens)))) _
     (numbering c.args.self.now (copy d.operator (record { vertex = d.op; port = i })))
     (c.in_ok-push.ensures.items ∙ ap (λ (n : ℕ). c.loop-port.outs.items ++ n ∷ []) (c.buffer.ensures ∙ here))

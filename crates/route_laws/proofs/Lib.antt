@@ -1,2 +1,0 @@
-pub mod LeastRoutes
-mod RouteRows
