@@ -34,7 +34,8 @@ After a change of one of these, name the crates in question to `try`, which then
 `record` trusts besides that at the revision all edits stood in the gate, in must-fail/ or in
 must-fail-beside/ of an open gate, and that the whole gate passed there, so that each of them was
 refused. It proves nothing and asks nobody: whoever runs it vouches for that run. It leaves alone the
-line of a crate that is current."""
+line of a crate that is current. Only `try` and `record` write tools/edits.sums; the gate believes a
+line that someone wrote into it by hand."""
 import argparse
 import concurrent.futures
 import hashlib
