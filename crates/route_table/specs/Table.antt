@@ -22,4 +22,6 @@ pub record IsTableOf (a : Architecture) (t : RouteTable) : Type 0 where
   pub operators : t.operators ≡ length a.operators
   pub there : length t.routes ≡ t.operators * t.operators
   pub least : (from to : ℕ) → from < t.operators → to < t.operators → IsLeastRoute a.media from (route_in t from to) to
-  pub levels : (from near far : ℕ) (h : Hop) → from < t.operators → near < t.operators → h.to ≡ far → far < t.operators → IsHop a.media near h → level_in t from far ≤ level_in t from near + 1
+  pub levels : (from near far : ℕ) (h : Hop)
+      → from < t.operators → near < t.operators → h.to ≡ far → far < t.operators → IsHop a.media near h
+      → level_in t from far ≤ level_in t from near + 1

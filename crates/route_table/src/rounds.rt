@@ -25,6 +25,8 @@ pub fn routes_of(alloc: Global, archi: &Archi) -> Result<Routes, OutOfMemory>
     Ok(routes)
 }
 
+/// Puts the routes that are one hop longer than this many into the table, from each operator to
+/// each.
 fn add_routes(
     alloc: Global,
     hops: u32,
@@ -43,6 +45,7 @@ fn add_routes(
     Ok(())
 }
 
+/// The same from one operator to each.
 fn add_routes_from(
     alloc: Global,
     hops: u32,
@@ -65,6 +68,7 @@ fn add_routes_from(
     Ok(())
 }
 
+/// The same from one operator to another one. A route that is there stays, since it has fewer hops.
 fn add_route(
     alloc: Global,
     hops: u32,
@@ -91,6 +95,7 @@ fn add_route(
     Ok(())
 }
 
+/// The route over this hop and then along the rest.
 fn after(alloc: Global, hop: Hop, rest: &[Hop]) -> Result<Items<Hop>, OutOfMemory>
     requires { length rest.now ≤ 32 }
     ensures { IfOk result (λ r. r ≡ hop ∷ rest.now) }

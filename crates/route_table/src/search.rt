@@ -28,12 +28,14 @@ pub fn first_hop(routes: &Routes, hops: u32, from: u32, to: u32, media: &[Medium
     best
 }
 
+/// Whether the operator stands at the medium.
 fn is_stand(operator: u32, medium: &Medium) -> bool
     ensures { result ≡ stands_at medium.now operator }
 {
     medium.stands.as_slice().contains(&operator)
 }
 
+/// The best hop so far, or a better one over this medium to one of these operators.
 fn first_over(
     routes: &Routes,
     hops: u32,
@@ -54,6 +56,8 @@ fn first_over(
     best
 }
 
+/// The best hop so far, or this one where it leads to a route of this many hops and makes a lesser
+/// route.
 fn better(routes: &Routes, hops: u32, to: u32, best: Option<Hop>, hop: Hop) -> Option<Hop>
     requires to { to < routes.now.operators }
     requires hop { hop.to < routes.now.operators }
@@ -68,6 +72,8 @@ fn better(routes: &Routes, hops: u32, to: u32, best: Option<Hop>, hop: Hop) -> O
     }
 }
 
+/// Whether a hop, with the route from where it leads, makes a lesser route than the best hop so
+/// far.
 fn is_better(routes: &Routes, to: u32, best: Option<Hop>, hop: Hop) -> bool
     requires to { to < routes.now.operators }
     requires hop { hop.to < routes.now.operators }

@@ -24,7 +24,8 @@ impl Model for Routes {
 
     ghost view = { λ s. record { operators = s.operators; routes = s.routes.items } };
 
-    ghost invariant = { λ s. (s.operators ≤ 16) × (length s.routes.items ≡ s.operators * s.operators) × All (λ r. length r ≤ 32) s.routes.items };
+    ghost invariant = { λ s. (s.operators ≤ 16) × (length s.routes.items ≡ s.operators * s.operators) ×
+        All (λ r. length r ≤ 32) s.routes.items };
 }
 
 impl Routes {
@@ -97,6 +98,7 @@ impl Routes {
     }
 }
 
+/// The place of a route in a table of this many operators.
 fn place(operators: u32, from: u32, to: u32) -> usize
     requires few { operators ≤ 16 }
     requires places { (from < operators) × (to < operators) }
@@ -106,6 +108,7 @@ fn place(operators: u32, from: u32, to: u32) -> usize
     (from * operators + to) as usize
 }
 
+/// This many routes without hops.
 fn empty_routes(alloc: Global, count: u32) -> Result<Vec<Items<Hop>>, OutOfMemory>
     requires { count ≤ 256 }
     ensures length { IfOk result (λ v. length v.items ≡ count) }
