@@ -5,6 +5,11 @@ use Rattle.archi_graph.specs.Archi.{Architecture}
 use Rattle.archi_graph.specs.Routes.{IsHop}
 use Rattle.route_table.specs.Least.{IsLeastRoute}
 
+-- No route of a table has more hops: each operator is joined with operator 0 by at most as many hops as there are
+-- operators, and so each two are joined by at most twice as many.
+abbrev pub most_hops : ℕ
+most_hops = 32
+
 -- a route for each pair of operators, by the first one and then by the second
 pub record RouteTable : Type 0 where
   pub operators : ℕ

@@ -1,7 +1,9 @@
 //! The routes of an architecture, by rounds: each round finds those that are one hop longer.
 ghost use Rattle.std.specs.Prelude.{◌≡◌, ℕ, ◌<◌, ◌≤◌, ◌+◌, ◌∷◌, length, IfOk, OnOk};
+ghost use Rattle.syn_base.specs.Limits.{bound_of};
+ghost use Rattle.syn_base.specs.declared.limits.LimitKind.TheVariants.{Media};
 ghost use Rattle.archi_graph.specs.Routes.{AreOperators};
-ghost use Rattle.route_table.specs.Table.{IsTableOf};
+ghost use Rattle.route_table.specs.Table.{IsTableOf, most_hops};
 ghost use Rattle.route_table.specs.Known.{Covers, Grows, IsKnownWithin};
 
 use crate::search::first_hop;
@@ -33,7 +35,7 @@ fn add_routes(
     media: &[Medium],
     routes: &mut Routes,
 ) -> Result<(), OutOfMemory>
-    requires few { (hops < 32) × (length media.now ≤ 16) }
+    requires few { (hops < most_hops) × (length media.now ≤ bound_of Media) }
     requires known { AreOperators routes.old.operators media.now }
     requires so_far { IsKnownWithin media.now routes.old hops }
     ensures grows { OnOk result (Grows routes.old routes.new) }
@@ -53,7 +55,7 @@ fn add_routes_from(
     from: u32,
     routes: &mut Routes,
 ) -> Result<(), OutOfMemory>
-    requires few { (hops < 32) × (length media.now ≤ 16) }
+    requires few { (hops < most_hops) × (length media.now ≤ bound_of Media) }
     requires from { from < routes.old.operators }
     requires known { AreOperators routes.old.operators media.now }
     requires so_far { IsKnownWithin media.now routes.old hops }
@@ -77,7 +79,7 @@ fn add_route(
     to: u32,
     routes: &mut Routes,
 ) -> Result<(), OutOfMemory>
-    requires few { (hops < 32) × (length media.now ≤ 16) }
+    requires few { (hops < most_hops) × (length media.now ≤ bound_of Media) }
     requires places { (from < routes.old.operators) × (to < routes.old.operators) }
     requires known { AreOperators routes.old.operators media.now }
     requires so_far { IsKnownWithin media.now routes.old hops }
@@ -97,7 +99,7 @@ fn add_route(
 
 /// The route over this hop and then along the rest.
 fn after(alloc: Global, hop: Hop, rest: &[Hop]) -> Result<Items<Hop>, OutOfMemory>
-    requires { length rest.now ≤ 32 }
+    requires { length rest.now ≤ most_hops }
     ensures { IfOk result (λ r. r ≡ hop ∷ rest.now) }
 {
     let mut route = Vec::with_capacity(alloc, rest.len() + 1)?;

@@ -1,5 +1,7 @@
 //! The choice of a route's first hop.
 ghost use Rattle.std.specs.Prelude.{◌≡◌, ◌<◌, ◌≤◌, All, length, None, IfSome};
+ghost use Rattle.syn_base.specs.Limits.{bound_of};
+ghost use Rattle.syn_base.specs.declared.limits.LimitKind.TheVariants.{Media};
 ghost use Rattle.archi_graph.specs.Archi.{stands_at};
 ghost use Rattle.archi_graph.specs.Routes.{AreOperators};
 ghost use Rattle.route_table.specs.Search.{is_better, pick, pick_over, pick_among};
@@ -14,7 +16,7 @@ use archi_graph::{Hop, Medium};
 pub fn first_hop(routes: &Routes, hops: u32, from: u32, to: u32, media: &[Medium]) -> Option<Hop>
     requires to { to < routes.now.operators }
     requires known { AreOperators routes.now.operators media.now }
-    requires few { length media.now ≤ 16 }
+    requires few { length media.now ≤ bound_of Media }
     ensures chosen { result ≡ pick_among routes.now hops to from 0 None media.now }
     ensures below { IfSome result (λ h. h.to < routes.now.operators) }
 {
