@@ -91,14 +91,14 @@ fn add_route(
         return Ok(());
     }
     if let Some(hop) = first_hop(routes, hops, from, to, media) {
-        let route = after(alloc, hop, routes.route(hop.to, to))?;
+        let route = prepend(alloc, hop, routes.route(hop.to, to))?;
         routes.put(from, to, route);
     }
     Ok(())
 }
 
 /// The route over this hop and then along the rest.
-fn after(alloc: Global, hop: Hop, rest: &[Hop]) -> Result<Items<Hop>, OutOfMemory>
+fn prepend(alloc: Global, hop: Hop, rest: &[Hop]) -> Result<Items<Hop>, OutOfMemory>
     requires { length rest.now ≤ most_hops }
     ensures { IfOk result (λ r. r ≡ hop ∷ rest.now) }
 {
