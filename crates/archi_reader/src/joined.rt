@@ -17,6 +17,7 @@ pub fn apart(operators: usize, media: &[Medium]) -> Option<usize>
     first_unset(&reached[..operators])
 }
 
+/// The place of the first flag that is not set.
 fn first_unset(flags: &[bool]) -> Option<usize>
     ensures place { result ≡ position (λ is_set. not is_set) flags.now }
     ensures within { IfSome result (λ k. k < length flags.now) }

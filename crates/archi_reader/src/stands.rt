@@ -20,6 +20,7 @@ pub fn has_stand(medium: &Medium, operator: u32) -> bool
         .any(|stand| *stand == operator)
 }
 
+/// The place of the first of these operators that is above this one.
 fn first_above(operator: u32, stands: &[u32]) -> Option<usize>
     ensures { result ≡ position (nat_lt operator) stands.now }
 {

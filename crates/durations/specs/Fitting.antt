@@ -11,6 +11,7 @@ pub record IsOf (g : Graph) (a : Architecture) (t : Table) : Type 0 where
   pub operators : t.operators ≡ length a.operators
   pub halves : t.halves ≡ map get_half_of g.vertices
 
--- the durations of a text are those of the flat graph and the text's architecture, and a set half may stand wherever its get half may
+-- the durations of a text are those of the flat graph and the text's architecture, and a set half may stand
+-- wherever its get half may
 abbrev pub DurationsFit : Type 0
 DurationsFit = (g : Graph) (d : Described) (t : Table) → durations_of g d ≡ Ok t → IsOf g d.archi t × StandBeside t

@@ -16,6 +16,7 @@ pub fn is_timed(kind: &Kind) -> bool
     }
 }
 
+/// Whether the operation needs a duration, and its definition has none on any operator.
 fn is_missing(given: &Given, vertex: &Vertex) -> bool
     ensures { result ≡ is_missing given.now.lines vertex.now }
 {
