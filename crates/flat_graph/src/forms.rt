@@ -1,4 +1,4 @@
-//! The inputs and outputs of each kind.
+//! The forms of operations: the number and lengths of the inputs and outputs of each kind. `valid` calls it.
 ghost use Rattle.std.specs.Prelude.{◌≡◌, map, slice_get, sum, Some};
 ghost use Rattle.std.specs.List.{list_all};
 ghost use Rattle.body_lang.specs.Expr.{view};

@@ -1,4 +1,4 @@
-//! The lengths of outputs and sources.
+//! The lengths of outputs and sources. `valid`, `forms` and `twins` call it.
 ghost use Rattle.std.specs.Prelude.{◌≡◌, ◌==◌, ◌&&◌, length, nat_le, slice_index_or, sum};
 ghost use Rattle.std.specs.List.{list_all, sum_by};
 ghost use Rattle.flat_graph.specs.Graph.{len_of, lens_of};

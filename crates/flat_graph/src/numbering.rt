@@ -1,4 +1,4 @@
-//! Sensors and actuators are numbered from 0, in order.
+//! The numbering of sensors and of actuators, each from 0 in order. `valid` calls it.
 ghost use Rattle.std.specs.Prelude.{◌≡◌};
 ghost use Rattle.flat_graph.specs.Valid.{actuators_from, kinds_of, sensors_from};
 

@@ -1,4 +1,4 @@
-//! One operation.
+//! The step of one operation in one reaction. `semaphore_core` calls it by `fire`.
 ghost use Rattle.std.specs.Prelude.{◌≡◌, ◌+◌, ◌<◌, ◌≤◌, ◌==◌, All, IsTrue, true, length, map, take, drop};
 ghost use Rattle.level_meaning.specs.Level.{element_at, selected, vector_at};
 ghost use Rattle.flat_graph.specs.Valid.{fits};

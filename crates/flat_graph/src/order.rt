@@ -1,4 +1,4 @@
-//! No operation depends on itself.
+//! The order of operations: that no operation depends on itself. `valid` calls it.
 ghost use Rattle.std.specs.Prelude.{◌≡◌, ℕ, ◌<◌, ◌≤◌, ◌||◌, false, length, slice_get, slice_index_or};
 ghost use Rattle.std.specs.List.{list_all};
 ghost use Rattle.syn_base.specs.Limits.{most_operations};

@@ -1,4 +1,4 @@
-//! Writing the outputs of an operation.
+//! The outputs of an operation, written in their places. `operation` calls it.
 ghost use Rattle.std.specs.Prelude.{◌≡◌, ◌+◌, ◌<◌, ◌≤◌, [], ◌∷◌, All, length, map, take, slice_set, sum};
 ghost use Rattle.body_lang.specs.Expr.{view, function_outputs, vector_of, value_of, PortsBelow};
 ghost use Rattle.flat_graph.specs.Put.{over};

@@ -1,4 +1,4 @@
-//! The halves of delays.
+//! The twins of operations: the two halves of each delay. `valid` calls it.
 ghost use Rattle.std.specs.Prelude.{◌≡◌, false, slice_get};
 ghost use Rattle.flat_graph.specs.Graph.{lens_of, with_vertex};
 ghost use Rattle.flat_graph.specs.Valid.{has_get_half, has_set_half, has_twin, is_get_half_of, is_only, is_set_half_of, names};

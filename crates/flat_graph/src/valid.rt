@@ -1,4 +1,4 @@
-//! Which operations and bodies make a flat graph.
+//! The validity of a flat graph: which operations and bodies make one.
 ghost use Rattle.std.specs.Prelude.{◌≡◌};
 ghost use Rattle.std.specs.List.{list_all, list_any};
 ghost use Rattle.std.specs.Str.{bytes_eq};
