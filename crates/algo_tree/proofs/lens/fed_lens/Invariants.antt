@@ -1,6 +1,6 @@
 use Rattle.std.proofs.Common.{◌≡◌, drop, ◌++◌, map}
 use Rattle.algo_tree.specs.Typed.{fed_length}
-use Rattle.tree_check.proofs.lens.fed_lens.Given as goal
+use Rattle.algo_tree.proofs.lens.fed_lens.Given as goal
 
 -- those that are left decide
 abbrev pub invariant-loop-feed : goal.invariant-loop-feed

@@ -1,7 +1,7 @@
 use Rattle.std.proofs.Common.{get_or, ap, ◌∙◌, sym}
 use Rattle.algo_tree.specs.declared.vertex.Vertex.{Vertex, out-Vertex}
 use Rattle.algo_tree.proofs.Views.{outs_at, outs_past}
-use Rattle.algo_tree.proofs.tree.output_len.Goals as goal
+use Rattle.algo_tree.proofs.lens.output_len.Goals as goal
 
 pub returns-then-vertex-vertices : goal.returns-then-vertex-vertices
 returns-then-vertex-vertices c =

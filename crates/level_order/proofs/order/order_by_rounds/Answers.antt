@@ -3,7 +3,7 @@ use Rattle.level_meaning.specs.Order.{settled}
 use Rattle.level_order.specs.Order.{nodes_of}
 use Rattle.level_order.proofs.Nodes.{length-nodes_of}
 use Rattle.level_order.proofs.Rounds.{settled_more, order_if_done}
-use Rattle.level_order.proofs.order.by_rounds.Goals as goal
+use Rattle.level_order.proofs.order.order_by_rounds.Goals as goal
 
 pub loop-round-preserved : goal.loop-round-preserved
 loop-round-preserved c =

@@ -1,7 +1,7 @@
 use Rattle.std.proofs.Common.{◌≡◌, drop, ◌++◌, map}
 use Rattle.algo_tree.specs.View.{vertices_view}
 use Rattle.algo_tree.specs.Typed.{outs_of, source_length}
-use Rattle.tree_check.proofs.lens.source_lens.Given as goal
+use Rattle.algo_tree.proofs.lens.source_lens.Given as goal
 
 -- those that are left decide
 abbrev pub invariant-loop-source : goal.invariant-loop-source
