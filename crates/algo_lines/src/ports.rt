@@ -1,9 +1,10 @@
-//! Ports of a block, and the lines that give them.
+//! The ports of a block, and the line that gives one, for functions, graphs and switches.
 ghost use Rattle.std.specs.Prelude.{◌≡◌, ◌<◌, ◌≤◌, length, map, [], IfOk};
 ghost use Rattle.syn_base.specs.Limits.{bound_of};
 ghost use Rattle.algo_defs.specs.Words.{is_among};
-ghost use Rattle.algo_reader.specs.Given.{Makes, Adds};
-ghost use Rattle.algo_reader.specs.Lines.{port_of};
+ghost use Rattle.algo_defs.specs.Returned.{Gives};
+ghost use Rattle.algo_lines.specs.Given.{Adds};
+ghost use Rattle.algo_lines.specs.Lines.{port_of};
 
 use crate::fault::{above, bad_number, is_above, push};
 use crate::word::{line_name, read_count};
@@ -58,7 +59,7 @@ impl Ports {
         self.ports.len()
     }
 
-    /// A port has this name.
+    /// Whether a port has this name.
     pub fn has(&self, name: &[u8]) -> bool
         ensures { result ≡ is_among name.now (map (λ p. p.name) self.now) }
     {
@@ -81,6 +82,7 @@ impl Ports {
     }
 }
 
+/// Whether one of these ports has this name.
 fn has_port(ports: &[Port], name: &[u8]) -> bool
     ensures { result ≡ is_among name.now (map (λ p. p.name) ports.now) }
 {
@@ -92,7 +94,7 @@ fn has_port(ports: &[Port], name: &[u8]) -> bool
     false
 }
 
-/// P LEN after `in` or `out`, where this many such lines stand before.
+/// The port that P LEN after `in` or `out` gives, where this many such lines stand before, or the line's refusal.
 #[tactic(auto, unfolding(crate::specs::Lines::port_of))]
 pub fn read_port(
     alloc: Global,
@@ -101,7 +103,7 @@ pub fn read_port(
     words: &Words,
 ) -> Result<Port, AlgoError>
     requires { length words.now ≡ 3 }
-    ensures port { Makes result (port_of number before words.now) }
+    ensures port { Gives result (port_of number before words.now) }
     ensures few { IfOk result (λ _. before < bound_of LimitKind.Ports) }
 {
     let name = line_name(alloc, number, words.get(1))?;

@@ -1,10 +1,11 @@
-//! What the words of a line are.
+//! What a word of a line is: a name, a number, a version or an end of an edge. The readers of all kinds of
+//! lines call it.
 ghost use Rattle.std.specs.Prelude.{◌≡◌, ◌<◌, Some, None, IfOk, MatchOption, true, false, position, length, slice_index_or, []};
 ghost use Rattle.std.specs.List.{before_first, after_first};
 ghost use Rattle.std.specs.Str.{bytes_eq};
 ghost use Rattle.syn_base.specs.Name.{is_name};
-ghost use Rattle.algo_reader.specs.Given.{GivesSome, Has, IsNamed};
-ghost use Rattle.algo_reader.specs.Lines.{some_name};
+ghost use Rattle.algo_lines.specs.Given.{Has, IsNamed};
+ghost use Rattle.algo_lines.specs.Lines.{some_name};
 ghost use Rattle.algo_text.specs.Words.{number_of, count_of, period_of, end_of, is_dot};
 ghost use Rattle.algo_text.specs.Text.{version_of};
 ghost use Rattle.text_lines.specs.Text.{words_of};
@@ -27,7 +28,7 @@ pub fn line_words<'a>(alloc: Global, code: &'a [u8]) -> Result<Words<'a>, AlgoEr
 
 /// The name that a word is, or none where it is no name.
 pub fn read_name(alloc: Global, w: &[u8]) -> Result<Option<Name>, AlgoError>
-    ensures name { GivesSome result (some_name w.now) }
+    ensures name { Has result (some_name w.now) }
     ensures is { IfOk result (λ o. MatchOption o (is_name w.now ≡ false) (λ _. is_name w.now ≡ true)) }
 {
     match Name::new(alloc, w) {
@@ -47,7 +48,7 @@ pub fn line_name(alloc: Global, number: u32, w: &[u8]) -> Result<Name, AlgoError
     }
 }
 
-/// The number that a word is.
+/// The number that a word is, if it is one.
 pub fn read_number(w: &[u8]) -> Option<i64>
     ensures { result ≡ number_of w.now }
 {
@@ -57,7 +58,7 @@ pub fn read_number(w: &[u8]) -> Option<i64>
     }
 }
 
-/// A length or a number of copies: a number that is not below 1.
+/// The length or the number of copies that a word is: a number that is not below 1.
 pub fn read_count(w: &[u8]) -> Option<u64>
     ensures { result ≡ count_of w.now }
 {
@@ -67,7 +68,7 @@ pub fn read_count(w: &[u8]) -> Option<u64>
     }
 }
 
-/// The number of a mark, from 1 to 16.
+/// The number of a mark that a word is, from 1 to 16.
 pub fn read_period(w: &[u8]) -> Option<u32>
     ensures { result ≡ period_of w.now }
 {
@@ -77,7 +78,7 @@ pub fn read_period(w: &[u8]) -> Option<u32>
     }
 }
 
-/// The version that a word is.
+/// The version that a word is, if there is such a version.
 pub fn read_version(w: &[u8]) -> Option<u32>
     ensures { result ≡ version_of w.now }
 {
@@ -89,6 +90,7 @@ pub fn read_version(w: &[u8]) -> Option<u32>
     }
 }
 
+/// The place of the first dot.
 fn dot_in(w: &[u8]) -> Option<usize>
     ensures { result ≡ position is_dot w.now }
 {
@@ -108,7 +110,7 @@ fn around_dot(w: &[u8]) -> (&[u8], &[u8])
 
 /// The end of an edge, or none where the word is no end.
 pub fn read_end(alloc: Global, w: &[u8]) -> Result<Option<End>, AlgoError>
-    ensures { GivesSome result (end_of w.now) }
+    ensures { Has result (end_of w.now) }
 {
     if let Some(port) = read_name(alloc, w)? {
         return Ok(Some(End { owner: None, port }));
@@ -126,7 +128,7 @@ pub fn read_end(alloc: Global, w: &[u8]) -> Result<Option<End>, AlgoError>
     }))
 }
 
-/// The line begins with this word.
+/// Whether the line begins with this word.
 pub fn begins(words: &Words, key: &[u8]) -> bool
     requires { 0 < length words.now }
     ensures { result ≡ bytes_eq (slice_index_or words.now 0 []) key.now }

@@ -1,9 +1,9 @@
-//! The expression of an output.
+//! The expression of an output, for the line of an output of a function.
 ghost use Rattle.std.specs.Prelude.{◌≡◌, ◌≤◌, length, map, position, drop};
 ghost use Rattle.syn_base.specs.Limits.{most_in_text};
 ghost use Rattle.algo_text.specs.Formulas.{formula_of};
-ghost use Rattle.algo_reader.specs.Given.{Makes};
-ghost use Rattle.algo_reader.specs.Lines.{name_length, name_from, is_other};
+ghost use Rattle.algo_defs.specs.Returned.{Gives};
+ghost use Rattle.algo_lines.specs.Lines.{name_length, name_from, is_other};
 
 use crate::fault::{bad_expression, unknown};
 use algo_defs::{AlgoError, Formula};
@@ -11,12 +11,14 @@ use body_lang::Port;
 use body_text::{BodyFault, read_body};
 use std::alloc::Global;
 
+/// Whether a byte may stand in no name.
 fn is_other_byte(b: u8) -> bool
     ensures { result ≡ is_other b }
 {
     !(b.is_ascii_alphanumeric() || b == b'_')
 }
 
+/// The place of the first byte that may stand in no name.
 fn other_in(text: &[u8]) -> Option<usize>
     ensures { result ≡ position is_other text.now }
 {
@@ -35,13 +37,15 @@ fn name_length(text: &[u8]) -> usize
     }
 }
 
-fn behind(text: &[u8], place: usize) -> &[u8]
+/// The bytes from a place on.
+fn text_from(text: &[u8], place: usize) -> &[u8]
     requires { place ≤ length text.now }
     ensures { result.now ≡ drop place text.now }
 {
     &text[place..]
 }
 
+/// The bytes at the front that may be a name's, up to 32.
 fn name_in_front(text: &[u8]) -> &[u8]
     ensures { result.now ≡ name_from text.now 0 }
 {
@@ -55,7 +59,7 @@ fn name_at(text: &[u8], place: usize) -> &[u8]
     if place >= text.len() {
         return &[];
     }
-    name_in_front(behind(text, place))
+    name_in_front(text_from(text, place))
 }
 
 /// The expression that a text is over these ports, or the line's refusal.
@@ -66,7 +70,7 @@ pub fn read_formula(
     text: &[u8],
 ) -> Result<Formula, AlgoError>
     requires { length ports.now ≤ most_in_text }
-    ensures { Makes result (formula_of number (map (λ p. p.name) ports.now) text.now) }
+    ensures { Gives result (formula_of number (map (λ p. p.name) ports.now) text.now) }
 {
     match read_body(alloc, text, ports) {
         Ok(expr) => Ok(Formula::new(expr)),

@@ -11,8 +11,8 @@ use Rattle.algo_text.specs.Blocks.{refused}
 use Rattle.algo_text.specs.Formulas.{name_in, known_by, formula_of}
 use Rattle.algo_text.proofs.Grammars.{written_formula}
 use Rattle.algo_text.proofs.PortNames.{Found, unknown_named}
-use Rattle.algo_reader.specs.Lines.{name_from}
-use Rattle.algo_reader.proofs.NameTokens.{name_stands}
+use Rattle.algo_lines.specs.Lines.{name_from}
+use Rattle.algo_lines.proofs.NameTokens.{name_stands}
 
 pub unknown_formula : (n : ℕ) (names : List Bytes) (text : Bytes) (place : ℕ) → IsUnknown names text place → formula_of n names text ≡ refused n (UnknownName (name_from text place))
 unknown_formula n names text place h =

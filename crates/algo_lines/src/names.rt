@@ -1,12 +1,12 @@
-//! The names of the definitions so far.
-ghost use Rattle.algo_reader.specs.Given.{AddsName, AddsNew};
+//! The names of the definitions so far, to which the line of each definition adds its own.
+ghost use Rattle.algo_lines.specs.Given.{AddsName, AddsNew};
 
 use crate::fault::duplicate;
 use algo_defs::AlgoError;
 use name_table::Names;
 use std::alloc::Global;
 
-/// Adds a name, unless it is there: the answer says whether it is new.
+/// Adds a name unless it is there, and returns whether it is new.
 fn add_name<'a>(names: &mut Names<'a>, name: &'a [u8]) -> Result<bool, AlgoError>
     ensures { AddsName result names.old name.now names.new }
 {
@@ -17,7 +17,7 @@ fn add_name<'a>(names: &mut Names<'a>, name: &'a [u8]) -> Result<bool, AlgoError
     }
 }
 
-/// Adds the name of a line's definition, or refuses the line where the name is there.
+/// Adds the name of a line's definition, or refuses the line where a definition has the name.
 pub fn add_new<'a>(
     alloc: Global,
     names: &mut Names<'a>,

@@ -1,8 +1,9 @@
-//! The numbers of a line.
+//! The values of a constant or a delay, and the depth of a delay, for the lines of these definitions.
 ghost use Rattle.std.specs.Prelude.{◌≡◌, ◌≤◌, length, drop, IfOk};
 ghost use Rattle.algo_text.specs.Text.{deep_delay, numbers_of};
 ghost use Rattle.algo_defs.specs.declared.definition.Body.TheVariants.{Delay};
-ghost use Rattle.algo_reader.specs.Given.{MakesList, Steps};
+ghost use Rattle.algo_defs.specs.Returned.{GivesList};
+ghost use Rattle.algo_lines.specs.Given.{Steps};
 
 use crate::fault::{above, bad_delay, bad_number, is_above, push};
 use crate::word::read_number;
@@ -19,7 +20,7 @@ pub fn read_values(
     from: usize,
 ) -> Result<Vec<i64>, AlgoError>
     requires { from ≤ length words.now }
-    ensures { MakesList result (numbers_of number (drop from words.now)) }
+    ensures { GivesList result (numbers_of number (drop from words.now)) }
 {
     let mut values = Vec::new(alloc);
     let mut at = from;

@@ -1,4 +1,4 @@
--- Parts of lines, apart from the block that they stand in.
+-- What parts of a line say, whatever block it stands in.
 use Rattle.std.specs.Prelude.{ℕ, ◌+◌, Bool, not, min, take, drop, List, Option, Some, None, Result, Ok, if◌then◌else◌}
 use Rattle.std.specs.List.{position_or_len}
 use Rattle.syn_base.specs.Name.{is_name, is_name_byte}
@@ -10,26 +10,28 @@ use Rattle.syn_base.specs.Bytes.{Bytes}
 use Rattle.algo_text.specs.Words.{word, count_of}
 use Rattle.algo_text.specs.Blocks.{refused, is_above, above, with_some}
 
+-- The name that a word is, if it is one.
 abbrev pub some_name : Bytes → Option Bytes
 some_name w = if is_name w then Some w else None
 
--- P LEN after `in` or `out`: this many such lines stand before
+-- P LEN after `in` or `out`, where this many such lines stand before.
 unfoldable pub port_of : ℕ → ℕ → List Bytes → Result Port AlgoError
-port_of n before ws =
-    if is_name (word ws 1) then
-    with_some (count_of (word ws 2)) (refused n (BadNumber (word ws 2))) (λ len.
+port_of line before words =
+    if is_name (word words 1) then
+    with_some (count_of (word words 2)) (refused line (BadNumber (word words 2))) (λ len.
     if is_above Ports (before + 1) then above Ports (before + 1) else
     if is_above PortLength len then above PortLength len else
-    Ok (record { name = word ws 1; len = len }))
-    else refused n (BadName (word ws 1))
+    Ok (record { name = word words 1; len = len }))
+    else refused line (BadName (word words 1))
 
--- no byte of a name
+-- A byte that stands in no name.
 abbrev pub is_other : ℕ → Bool
 is_other b = not (is_name_byte b)
 
--- how many bytes at the front a name has, up to 32
+-- How many bytes at the front may be a name's, up to 32.
 abbrev pub name_length : Bytes → ℕ
-name_length bs = min 32 (position_or_len is_other bs)
+name_length text = min 32 (position_or_len is_other text)
 
+-- The bytes of a name from a place on.
 abbrev pub name_from : Bytes → ℕ → Bytes
 name_from text place = take (name_length (drop place text)) (drop place text)

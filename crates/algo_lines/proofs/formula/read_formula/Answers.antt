@@ -4,9 +4,9 @@ use Rattle.algo_defs.specs.declared.fault.AlgoCause.TheVariants.{UnknownName}
 use Rattle.syn_base.specs.Bytes.{Bytes}
 use Rattle.algo_text.specs.Blocks.{refused}
 use Rattle.algo_text.proofs.Grammars.{body_formula, bad_read}
-use Rattle.algo_reader.proofs.PortTokens.{unknown_read}
-use Rattle.algo_reader.proofs.PortLines.{stops_at}
-use Rattle.algo_reader.proofs.formula.read_formula.Goals as goal
+use Rattle.algo_lines.proofs.PortTokens.{unknown_read}
+use Rattle.algo_lines.proofs.Stops.{stops_at}
+use Rattle.algo_lines.proofs.formula.read_formula.Goals as goal
 
 pub returns-in-Ok : goal.returns-in-Ok
 returns-in-Ok c = body_formula c.args.number _ c.args.text.now _ c.in-Ok.ensures ∙ ap (λ (x : Expr). Ok x) (sym c.new.ensures)

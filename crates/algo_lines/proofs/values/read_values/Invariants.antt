@@ -1,7 +1,7 @@
 use Rattle.std.proofs.Common.{◌≡◌, ◌≤◌, ◌-◌, length, drop}
 use Rattle.algo_text.specs.Text.{numbers_of}
-use Rattle.algo_reader.proofs.Numbers.{with_front}
-use Rattle.algo_reader.proofs.values.read_values.Given as goal
+use Rattle.algo_lines.proofs.Numbers.{with_front}
+use Rattle.algo_lines.proofs.values.read_values.Given as goal
 
 abbrev pub invariant-loop-at : goal.invariant-loop-at
 invariant-loop-at l = record {

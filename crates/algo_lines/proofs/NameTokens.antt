@@ -11,7 +11,7 @@ use Rattle.text_lines.specs.Text.{is_blank}
 use Rattle.body_text.specs.Tokens.{Placed, name, open_round, close_round, open_square, close_square, comma, front, len_by, number_or_bad, word_token, mark_or_word, token_of, tokens_from, placed, tokens}
 use Rattle.body_text.specs.Reads.{place_or, place_of}
 use Rattle.syn_base.specs.Bytes.{Bytes}
-use Rattle.algo_reader.specs.Lines.{name_length, name_from}
+use Rattle.algo_lines.specs.Lines.{name_length, name_from}
 
 no_mark : (a b c d e : Bool) (word p : Bytes) → mark_or_word (cond a (Some open_round) (cond b (Some close_round) (cond c (Some open_square) (cond d (Some close_square) (cond e (Some comma) None))))) word ≡ name p → word_token word ≡ name p
 no_mark true b c d e word p h = cc
