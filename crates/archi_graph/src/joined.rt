@@ -1,4 +1,5 @@
-//! Which operators hops over the media join.
+//! Reachability: which operators hops over the media join to operator 0. `is_archi` asks for it,
+//! and `archi_reader` for the operator to name in a refusal.
 ghost use Rattle.std.specs.Prelude.{◌≡◌, ℕ, ◌<◌, ◌≤◌, ◌||◌, ◌&&◌, All, false, nat_eq, slice_index_or};
 ghost use Rattle.std.specs.List.{list_all, list_any};
 ghost use Rattle.syn_base.specs.Limits.{bound_of};

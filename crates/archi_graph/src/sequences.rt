@@ -1,4 +1,5 @@
-//! The sequences of an architecture, in their order.
+//! The sequences of an architecture, in their order. `Archi::sequences` hands them out to whoever
+//! builds or checks programs.
 ghost use Rattle.std.specs.Prelude.{◌≡◌, ◌≤◌, ◌++◌, length, OnOk, IfOk};
 ghost use Rattle.std.specs.List.{flat_map, range_with_len};
 ghost use Rattle.syn_base.specs.Limits.{bound_of};

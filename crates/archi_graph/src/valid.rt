@@ -1,4 +1,5 @@
-//! Which operators and media make an architecture.
+//! Validity: which operators and media make an architecture. Whoever makes an `Archi` of parts of
+//! any origin asks `is_archi`.
 ghost use Rattle.std.specs.Prelude.{◌≡◌, nat_le, nat_lt};
 ghost use Rattle.std.specs.List.{count_by, list_all};
 ghost use Rattle.std.specs.Str.{bytes_eq};

@@ -1,4 +1,4 @@
-//! Which one of two routes is less.
+//! The order of routes, by which `search` compares two of them.
 ghost use Rattle.std.specs.Prelude.{◌≡◌, ◌∷◌, length};
 ghost use Rattle.route_table.specs.Least.{are_equal, comes_before, is_less, media_of, operators_of};
 

@@ -1,4 +1,5 @@
 //! The routes of an architecture, by rounds: each round finds those that are one hop longer.
+//! `pressure_heuristic` calls `routes_of`.
 ghost use Rattle.std.specs.Prelude.{◌≡◌, ℕ, ◌<◌, ◌≤◌, ◌+◌, ◌∷◌, length, IfOk, OnOk};
 ghost use Rattle.syn_base.specs.Limits.{bound_of};
 ghost use Rattle.syn_base.specs.declared.limits.LimitKind.TheVariants.{Media};

@@ -1,4 +1,4 @@
-//! The choice of a route's first hop.
+//! The choice of a route's first hop, which `rounds` makes for each two operators.
 ghost use Rattle.std.specs.Prelude.{◌≡◌, ◌<◌, ◌≤◌, All, length, None, IfSome};
 ghost use Rattle.syn_base.specs.Limits.{bound_of};
 ghost use Rattle.syn_base.specs.declared.limits.LimitKind.TheVariants.{Media};

@@ -1,4 +1,4 @@
-//! The table of routes.
+//! The table of routes, which `comm_routing` carries values along.
 ghost use Rattle.std.specs.Prelude.{◌≡◌, ℕ, ◌+◌, ◌*◌, ◌<◌, ◌≤◌, ◌≢◌, ◌⊎◌, [], All, length, slice_index_or, IfOk};
 ghost use Rattle.syn_base.specs.Limits.{bound_of};
 ghost use Rattle.syn_base.specs.declared.limits.LimitKind.TheVariants.{Operators};
