@@ -8,7 +8,7 @@ use Rattle.multi_period.specs.Laws.{DoesAsMarked}
 use Rattle.multi_period.proofs.Main.{periods-keep}
 use Rattle.multi_period.proofs.Passed.{within, marked, made_is}
 use Rattle.multi_period.proofs.Trees.{tree-made}
-use Rattle.multi_period.proofs.pass.made_tree.Goals as goal
+use Rattle.multi_period.proofs.pass.make_tree.Goals as goal
 
 pub each_period-requires-clause-marked : goal.each_period-requires-clause-marked
 each_period-requires-clause-marked c =

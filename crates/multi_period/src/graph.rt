@@ -1,4 +1,4 @@
-//! The vertices of the graph that a marked reference becomes.
+//! The graph that a marked reference becomes, vertex by vertex: for the pass.
 ghost use Rattle.std.specs.Prelude.{◌≡◌, ◌≤◌, ◌<◌, ◌+◌, ◌^◌, IfOk, map, pos, replicate, slice_index_or, [], ◌∷◌};
 ghost use Rattle.level_meaning.specs.Level.{zeros as zeroed};
 ghost use Rattle.algo_tree.specs.Tree.{switch};
@@ -15,7 +15,7 @@ use std::alloc::Global;
 use syn_base::{Items, OutOfMemory, len_at};
 
 /// A vertex of a definition of its own, which listings call `every`.
-fn made(
+fn make_vertex(
     alloc: Global,
     part: Part,
     ins: Vec<Source>,
@@ -53,15 +53,17 @@ fn with_outputs(
         IfOk result (λ u. view u ≡ vertex_made part ins.items outs (kind_view kind) inside) }
 {
     let outs = copy_lens(alloc, vertex.outs.as_slice())?;
-    made(alloc, part, ins, outs, kind, inner)
+    make_vertex(alloc, part, ins, outs, kind, inner)
 }
 
+/// A list of one number.
 fn number(alloc: Global, value: i64) -> Result<Items<i64>, OutOfMemory>
     ensures { IfOk result (λ vs. vs ≡ value ∷ []) }
 {
     Ok(Items::new(vec![in alloc; value]?))
 }
 
+/// As many lists of the number 1 as this says.
 fn ones(alloc: Global, many: u32) -> Result<Vec<Items<i64>>, OutOfMemory>
     ensures { IfOk result (λ vs. vs.items ≡ replicate many (pos 1 ∷ [])) }
 {
@@ -72,6 +74,7 @@ fn ones(alloc: Global, many: u32) -> Result<Vec<Items<i64>>, OutOfMemory>
     Ok(all)
 }
 
+/// The initial values of a count, one for each reaction that it looks back: 0, and then 1 in all others.
 fn turns(alloc: Global, every: u32) -> Result<Vec<Items<i64>>, OutOfMemory>
     requires { 1 ≤ every }
     ensures { IfOk result (λ vs. vs.items ≡ turned every) }
@@ -90,10 +93,10 @@ fn count(alloc: Global, every: u32) -> Result<Vertex, OutOfMemory>
     let outs = Items::new(vec![in alloc; 1]?);
     let name = copy_bytes(alloc, b"count")?;
     let kind = Kind::Delay(Items::new(turns(alloc, every)?));
-    made(alloc, Part::Named(name), ins, outs, kind, Vec::new(alloc))
+    make_vertex(alloc, Part::Named(name), ins, outs, kind, Vec::new(alloc))
 }
 
-/// One group of this many zeros.
+/// One group of as many zeros as an output has elements.
 fn zeros(alloc: Global, len: u32) -> Result<Items<Items<i64>>, OutOfMemory>
     ensures { IfOk result (λ vs. vs ≡ zeroed len ∷ []) }
 {
@@ -122,7 +125,7 @@ fn keep(alloc: Global, vertex: &Vertex, ports: Ports, output: u32) -> Result<Ver
     let ins = vec![in alloc; Source::Of(ports.switch, output)]?;
     let outs = Items::new(vec![in alloc; len]?);
     let kind = Kind::Delay(zeros(alloc, len)?);
-    made(alloc, Part::Named(name), ins, outs, kind, Vec::new(alloc))
+    make_vertex(alloc, Part::Named(name), ins, outs, kind, Vec::new(alloc))
 }
 
 /// The case in which the reference runs.

@@ -1,4 +1,4 @@
-//! How many flat operations the made tree stands for, without making it.
+//! The number of flat operations that marks add to a tree, which the pass asks for before it makes one.
 ghost use Rattle.std.specs.Prelude.{◌≡◌, ◌≤◌, ◌<◌, ◌+◌, ◌-◌, ◌*◌, ◌^◌, length};
 ghost use Rattle.std.specs.List.{All, sum_by};
 ghost use Rattle.algo_tree.specs.View.{vertices_view};

@@ -6,7 +6,7 @@ use Rattle.algo_tree.specs.View.{view}
 use Rattle.algo_tree.specs.declared.vertex.Vertex.{Vertex}
 use Rattle.multi_period.specs.Periods.{body, count, keep}
 use Rattle.multi_period.specs.Seen.{inside_seen, label_seen}
-use Rattle.multi_period.proofs.made.parts.Goals as goal
+use Rattle.multi_period.proofs.graph.parts.Goals as goal
 
 -- one vertex more
 one_more : (us : List Vertex) (u : Vertex) (first : Plain) (made : ℕ → Plain) (n : ℕ) → map view us ≡ first ∷ map made (numbers_below n) → view u ≡ made n

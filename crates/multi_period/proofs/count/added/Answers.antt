@@ -1,6 +1,6 @@
 use Rattle.std.proofs.Common.{arith}
 use Rattle.multi_period.proofs.Sums.{sum_on}
-use Rattle.multi_period.proofs.added.added.Goals as goal
+use Rattle.multi_period.proofs.count.added.Goals as goal
 
 pub loop-mark-preserved : goal.loop-mark-preserved
 loop-mark-preserved c = record {

@@ -2,7 +2,7 @@ use Rattle.std.proofs.Common.{◌≡◌, ◌≤◌, ◌-◌, ◌*◌, ◌^◌, t
 use Rattle.std.specs.List.{sum_by}
 use Rattle.algo_tree.specs.View.{vertices_view}
 use Rattle.multi_period.specs.Within.{adds}
-use Rattle.multi_period.proofs.added.added.Given as goal
+use Rattle.multi_period.proofs.count.added.Given as goal
 
 abbrev pub invariant-loop-mark : goal.invariant-loop-mark
 invariant-loop-mark l = record {
