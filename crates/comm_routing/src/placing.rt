@@ -77,8 +77,8 @@ pub(crate) fn apply(board: &mut Board, decision: &Decision, outs: &[u32])
     board.run(decision, outs);
 }
 
-/// Places an operation on an operator, where it lasts this many ticks: adds the decision, and what it does to the tables.
-/// Answers whether no value was carried. After a refusal all is as before.
+/// Places an operation on an operator, where it lasts this many ticks: adds the decision, and what it
+/// does to the tables. Returns whether no value was carried. After a refusal all is as before.
 pub(crate) fn place(
     alloc: Global,
     flat: &Flat,
