@@ -1,4 +1,4 @@
-//! Which operators hops over the media join to operator 0.
+//! The least operator that no route joins to operator 0, which `whole` names in a refusal.
 ghost use Rattle.std.specs.Prelude.{◌≡◌, ◌<◌, ◌≤◌, not, length, position, IfSome};
 ghost use Rattle.std.specs.List.{range_with_len};
 ghost use Rattle.archi_graph.specs.Archi.{reached_within};

@@ -1,4 +1,4 @@
-//! Names of operators and media.
+//! Names of operators and media, as `reader` looks them up.
 ghost use Rattle.std.specs.Prelude.{◌≡◌, ◌<◌, ◌++◌, length, map, position, IfSome};
 ghost use Rattle.std.specs.List.{list_any};
 ghost use Rattle.std.specs.Str.{bytes_eq};

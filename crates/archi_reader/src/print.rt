@@ -1,4 +1,4 @@
-//! Printing the canonical text.
+//! The canonical text, printed for the command `check`.
 ghost use Rattle.std.specs.Prelude.{◌≡◌, ◌++◌, [], ◌∷◌, OnOk, OnErr, IfOk, map};
 ghost use Rattle.std.specs.List.{flat_map};
 ghost use Rattle.archi_defs.specs.Text.{described_by};

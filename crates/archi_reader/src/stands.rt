@@ -1,4 +1,4 @@
-//! The operators that stand at a medium.
+//! The operators that stand at a medium, as `reader` connects them.
 ghost use Rattle.std.specs.Prelude.{◌≡◌, ◌≤◌, ◌==◌, length, nat_lt, position};
 ghost use Rattle.std.specs.List.{list_any, position_or_len};
 ghost use Rattle.archi_defs.specs.Text.{with_stand};

@@ -1,4 +1,4 @@
-//! What holds of a text as a whole.
+//! The check of a text as a whole, after its last line. `read_archi` ends with it.
 ghost use Rattle.std.specs.Prelude.{◌≡◌, ◌<◌, not, true, length, position, IfSome, OnOk};
 ghost use Rattle.archi_graph.specs.Archi.{is_archi};
 ghost use Rattle.archi_defs.specs.declared.fault.ArchiCause.TheVariants.{BadMedium, Disconnected};

@@ -121,10 +121,10 @@ abbrev pub StandBeside : Table → Type 0
 StandBeside t = (v u o : ℕ) → half_in t v ≡ Some u → o < t.operators → MayStand t u o → MayStand t v o
 
 -- Each operation may stand on some operator, for a bounded time, and a set half wherever its get half may.
-pub record IsTable (t : Table) : Type 0 where
-  pub rows : All (IsRow t.operators) t.rows
-  pub halves : length t.halves ≡ length t.rows
-  pub beside : StandBeside t
+pub record IsTable (table : Table) : Type 0 where
+  pub rows : All (IsRow table.operators) table.rows
+  pub halves : length table.halves ≡ length table.rows
+  pub beside : StandBeside table
 
 -- the lesser of two entries, where they are there
 abbrev pub lesser : Option ℕ → Option ℕ → Option ℕ

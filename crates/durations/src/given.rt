@@ -1,4 +1,5 @@
-//! The durations of a text, found by the hash of their definition.
+//! The durations of a text, found by the hash of their definition. The table is made from them, and
+//! `actual_durations` asks them without a table.
 ghost use Rattle.std.specs.Prelude.{◌≡◌, ℕ, ◌<◌, [], length, slice_index_or, Some, None, if◌then◌else◌, IfOk, OnOk};
 ghost use Rattle.std.specs.Str.{bytes_eq};
 ghost use Rattle.syn_base.specs.Bytes.{Bytes};

@@ -1,4 +1,4 @@
-//! The halves of delays.
+//! The get halves of set halves, a column of the table that `rows` makes.
 ghost use Rattle.std.specs.Prelude.{◌≡◌, IfOk, map};
 ghost use Rattle.durations.specs.Table.{get_half_of};
 

@@ -1,4 +1,4 @@
-//! Operations whose duration is missing.
+//! The first operation whose duration is missing, which `durations_of` refuses.
 ghost use Rattle.std.specs.Prelude.{◌≡◌, option_copied};
 ghost use Rattle.durations.specs.Table.{is_missing, is_timed, missing};
 

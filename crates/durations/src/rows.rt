@@ -1,4 +1,4 @@
-//! The rows of the table.
+//! The rows of the table. The commands call `durations_of`.
 ghost use Rattle.std.specs.Prelude.{◌≡◌, ℕ, ◌<◌, ◌≤◌, IfOk, List, None, length, map, true};
 ghost use Rattle.archi_defs.specs.Text.{described_by};
 ghost use Rattle.archi_defs.specs.declared.text.DurationLine.{DurationLine};

@@ -1,4 +1,4 @@
-//! The table of durations.
+//! The table of durations, which whoever places operations reads.
 ghost use Rattle.std.specs.Prelude.{◌≡◌, ◌<◌, ◌≤◌, Some, All, IfSome, length};
 ghost use Rattle.durations.specs.Lines.{most_ticks};
 ghost use Rattle.durations.specs.Table.{entry_in, half_in, least_of, lesser, of_columns, row_in, IsLeast, IsRow, IsTable, StandBeside};
