@@ -1,15 +1,9 @@
 -- The names of the actuators of the main graph, in declared order.
 use Rattle.std.specs.Prelude.{ℕ, List, [], ◌∷◌, ◌++◌}
-use Rattle.level_meaning.specs.declared.part.Part.{Part}
-use Rattle.level_meaning.specs.declared.part.Part.TheVariants.{Named, Numbered, Port}
+use Rattle.level_meaning.specs.Parts.{name_of}
 use Rattle.algo_tree.specs.Tree.{Kind, actuator, Vertex, vertex, Vertices, no_vertices, and_vertex}
 
-abbrev pub name_of : Part → List ℕ
-name_of (Named name) = name
-name_of (Numbered n) = []
-name_of (Port name) = name
-
--- an actuator has its name, any other kind has none
+-- An actuator has its name, any other kind has none.
 abbrev pub actuator_name : Kind → List ℕ → List (List ℕ)
 actuator_name (actuator n) name = name ∷ []
 actuator_name _ name = []

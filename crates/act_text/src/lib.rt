@@ -1,7 +1,7 @@
-//! The text of what the actuators take.
+//! The text of what the actuators take: a line for each reaction and actuator.
 //!
-//! `acts_text` has a line for each reaction and actuator; `syndex_program` writes it for `sim`, and the lines of
-//! one window after another, by `acts_text_from`, for `run`.
+//! `syndex_program` writes it for `sim` by `acts_text`, and for `run` the lines of one window after another by
+//! `acts_text_from`.
 #![tactic(auto)]
 
 mod names;

@@ -1,10 +1,9 @@
-//! The names of the actuators of the main graph, in declared order.
+//! The names of the actuators of the main graph in declared order, with which lines begin.
 ghost use Rattle.std.specs.Prelude.{◌≡◌, map, IfOk};
 ghost use Rattle.algo_tree.specs.View.{vertices_view};
-ghost use Rattle.act_text.specs.Names.{actuator_names, actuator_names_in, name_of};
+ghost use Rattle.act_text.specs.Names.{actuator_names, actuator_names_in};
 
 use algo_tree::{Kind, Tree, Vertex};
-use level_meaning::Part;
 use std::alloc::Global;
 use syn_base::OutOfMemory;
 
@@ -22,17 +21,8 @@ fn actuators_in(alloc: Global, vertices: &[Vertex]) -> Result<Vec<&[u8]>, OutOfM
     let mut names = Vec::new(alloc);
     for vertex in vertices {
         if let Kind::Actuator(_) = vertex.kind {
-            names.push(name_in(&vertex.part))?;
+            names.push(vertex.part.name())?;
         }
     }
     Ok(names)
-}
-
-fn name_in(part: &Part) -> &[u8]
-    ensures { result.now ≡ name_of part.now }
-{
-    match part {
-        Part::Named(name) | Part::Port(name) => name.as_slice(),
-        Part::Numbered(_) => &[],
-    }
 }

@@ -1,4 +1,4 @@
-//! The lines of what the actuators take.
+//! The lines of what the actuators take, for the commands that run an algorithm.
 ghost use Rattle.std.specs.Prelude.{◌≡◌, ◌+◌, ◌<◌, ◌≤◌, ◌++◌, [], length, map, slice_index_or, IfOk, OnOk};
 ghost use Rattle.algo_tree.specs.Ends.{actuator_lengths};
 ghost use Rattle.act_text.specs.Names.{actuator_names};
@@ -16,6 +16,7 @@ pub fn acts_text(alloc: Global, tree: &Tree, acts: &ActRows) -> Result<Vec<u8>, 
     requires { acts.now.lens ≡ actuator_lengths tree.now }
     ensures { IfOk result (λ text. text.items ≡ output_text (actuator_names tree.now) acts.now.reactions) }
 {
+    // The rows have a count of 64 bits: so no number of a reaction from 0 on is too large.
     let _count = acts.count();
     acts_text_from(alloc, tree, acts, 0)
 }
@@ -84,6 +85,7 @@ fn append_line(text: &mut Vec<u8>, k: usize, name: &[u8], values: &[i64]) -> Res
     append(text, b"\n")
 }
 
+/// Appends the values, a space before each.
 fn append_values(text: &mut Vec<u8>, values: &[i64]) -> Result<(), OutOfMemory>
     ensures { OnOk result (text.new.items ≡ text.old.items ++ values_text values.now) }
 {

@@ -1,4 +1,5 @@
-//! Why a text of actual durations is refused.
+//! The refusal of a text of actual durations: its causes, and the error that `actual_durations`
+//! returns.
 ghost use Rattle.std.specs.Prelude.{◌≡◌};
 ghost use Rattle.actual_defs.specs.Refusal.{text_error};
 ghost use Rattle.actual_defs.specs.declared.fault.ActualError.TheVariants.{OutOfMemory as Wants};

@@ -1,5 +1,7 @@
-//! Why a text of actual durations is refused beside the architecture whose schedule is dated. The rules stand in
-//! `actual_durations`, and the lines that `syndex` prints are made in `command_status`.
+//! Why a text of actual durations is refused beside the architecture whose schedule is dated.
+//!
+//! The rules stand in `actual_durations`, and the lines that `syndex` prints are made in
+//! `command_status`.
 #![tactic(auto)]
 
 mod fault;

@@ -1,5 +1,33 @@
--- What a text of actual durations says beside an architecture whose schedule is dated: how long each operation and each transfer of the schedule really lasts, or the first refusal.
-use Rattle.std.specs.Prelude.{ℕ, suc, ◌+◌, ◌*◌, Bool, ◌&&◌, ◌||◌, ◌==◌, nat_eq, nat_lt, List, [], ◌∷◌, ◌++◌, length, map, Option, Some, None, slice_get, option_map, unwrap_or, Result, Ok, Err, if◌then◌else◌}
+-- What a text of actual durations says beside an architecture whose schedule is dated: how long each operation and
+-- each transfer of the schedule really lasts, or the first refusal.
+use Rattle.std.specs.Prelude.{
+  ℕ,
+  suc,
+  ◌+◌,
+  ◌*◌,
+  Bool,
+  ◌&&◌,
+  ◌||◌,
+  ◌==◌,
+  nat_eq,
+  nat_lt,
+  List,
+  [],
+  ◌∷◌,
+  ◌++◌,
+  length,
+  map,
+  Option,
+  Some,
+  None,
+  slice_get,
+  option_map,
+  unwrap_or,
+  Result,
+  Ok,
+  Err,
+  if◌then◌else◌,
+}
 use Rattle.std.specs.Bool.{beq}
 use Rattle.std.specs.Cmp.Lexicographic.{pointwise}
 use Rattle.std.specs.List.{find, flat_map, range_with_len}
@@ -28,7 +56,8 @@ same_medium m n = bytes_eq m.name n.name && beq m.multi n.multi && pointwise nat
 
 -- the same operators, media and depth, whatever the media's times are
 abbrev pub same_architecture : Architecture → Architecture → Bool
-same_architecture a b = pointwise bytes_eq a.operators b.operators && pointwise same_medium a.media b.media && (a.depth == b.depth)
+same_architecture a b =
+    pointwise bytes_eq a.operators b.operators && pointwise same_medium a.media b.media && (a.depth == b.depth)
 
 -- the first of two faults
 abbrev pub or_else : Option ActualFault → Option ActualFault → Option ActualFault
@@ -72,7 +101,9 @@ module _ (t : Table) (lines : List DurationLine) where
 
 -- the first fault: medium by medium, and then operation by operation
 abbrev pub first_fault : Graph → Architecture → Table → Schedule → Described → Option ActualFault
-first_fault g a t s d = or_else (slower_medium a.media d.archi.media) (slower_operation t d.durations 0 g.vertices (operators_of s.decisions (length g.vertices)))
+first_fault g a t s d =
+    or_else (slower_medium a.media d.archi.media)
+    (slower_operation t d.durations 0 g.vertices (operators_of s.decisions (length g.vertices)))
 
 -- how long an operation lasts on its operator
 abbrev pub operation_ticks : List DurationLine → Vertex → Option ℕ → ℕ
@@ -97,7 +128,9 @@ transfers_of ds = flat_map (λ d. d.transfers) ds
 
 -- the ticks of each operation by number, and then of each transfer in the order of the decisions
 abbrev pub entries_ticks : Graph → Schedule → Described → List ℕ
-entries_ticks g s d = operations_ticks d.durations g.vertices (operators_of s.decisions (length g.vertices)) ++ map (transfer_ticks g.vertices d.archi.media) (transfers_of s.decisions)
+entries_ticks g s d =
+    operations_ticks d.durations g.vertices (operators_of s.decisions (length g.vertices)) ++
+    map (transfer_ticks g.vertices d.archi.media) (transfers_of s.decisions)
 
 abbrev pub unless_fault : Option ActualFault → List ℕ → Result (List ℕ) ActualError
 unless_fault (Some f) ticks = Err (Refused f)
@@ -106,9 +139,11 @@ unless_fault None ticks = Ok ticks
 -- what is described for a schedule on an architecture, where operations are to last as long as the table says
 abbrev pub actual_by : Graph → Architecture → Table → Schedule → Described → Result (List ℕ) ActualError
 actual_by g a t s d =
-    if same_architecture a d.archi then unless_fault (first_fault g a t s d) (entries_ticks g s d) else Err (Refused Differs)
+    if same_architecture a d.archi then unless_fault (first_fault g a t s d) (entries_ticks g s d) else
+    Err (Refused Differs)
 
-abbrev pub if_described : Result Described ArchiError → (Described → Result (List ℕ) ActualError) → Result (List ℕ) ActualError
+abbrev pub if_described : Result Described ArchiError → (Described → Result (List ℕ) ActualError)
+    → Result (List ℕ) ActualError
 if_described (Ok d) next = next d
 if_described (Err e) next = Err (text_error e)
 

@@ -1,4 +1,4 @@
-//! What a text of actual durations says.
+//! The reading of a text of actual durations: `actual_of`, which the command `dates` calls.
 ghost use Rattle.std.specs.Prelude.{◌≤◌, IsTrue, length};
 ghost use Rattle.syn_base.specs.Limits.{most_in_text};
 ghost use Rattle.archi_defs.specs.Text.{described_by};
@@ -42,6 +42,7 @@ pub fn actual_of(
     ensures { Gives result (actual_of flat.now archi.now stated.now schedule.now text.now) }
 {
     let text = read_archi(alloc, text)?;
+    // The law says of every accepted text what `actual_by` asks of its durations.
     accepted_are_durations();
     if !same_architecture(archi, &text.archi) {
         return Err(ActualError::Refused(ActualFault::Differs));

@@ -1,4 +1,4 @@
-//! On which operator each operation is placed.
+//! The operator of each operation, as the decisions place them.
 ghost use Rattle.std.specs.Prelude.{◌≡◌, ◌<◌, All, IfOk};
 ghost use Rattle.actual_durations.specs.Actual.{operators_of};
 

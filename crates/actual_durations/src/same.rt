@@ -1,4 +1,5 @@
-//! Whether two architectures are the same but for the times of their media.
+//! The comparison of two architectures but for the times of their media, which `actual_of` asks for
+//! first.
 ghost use Rattle.std.specs.Prelude.{◌≡◌};
 ghost use Rattle.std.specs.Cmp.Lexicographic.{pointwise};
 ghost use Rattle.std.specs.Str.{bytes_eq};
@@ -16,6 +17,7 @@ pub fn same_architecture(stated: &Archi, actual: &Archi) -> bool
         && stated.depth() == actual.depth()
 }
 
+/// Whether both lists have the same names in the same order.
 fn same_names(stated: &[Name], actual: &[Name]) -> bool
     ensures { result ≡ pointwise bytes_eq stated.now actual.now }
 {
@@ -30,6 +32,7 @@ fn same_names(stated: &[Name], actual: &[Name]) -> bool
     true
 }
 
+/// Whether both lists have the same media in the same order, but for their times.
 fn same_media(stated: &[Medium], actual: &[Medium]) -> bool
     ensures { result ≡ pointwise same_medium stated.now actual.now }
 {
@@ -44,6 +47,7 @@ fn same_media(stated: &[Medium], actual: &[Medium]) -> bool
     true
 }
 
+/// Whether both media are the same but for their times.
 fn same_medium(stated: &Medium, actual: &Medium) -> bool
     ensures { result ≡ same_medium stated.now actual.now }
 {

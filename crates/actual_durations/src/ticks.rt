@@ -1,4 +1,4 @@
-//! How long operations and transfers last.
+//! The ticks of operations and transfers, which `actual_of` lists.
 ghost use Rattle.std.specs.Prelude.{◌≡◌, ◌++◌, All, OnOk, length, map, slice_index_or};
 ghost use Rattle.actual_durations.specs.Actual.{operation_ticks, operations_ticks, transfer_ticks, transfers_of};
 ghost use Rattle.actual_durations.specs.Answers.{IsOneOf};
@@ -27,6 +27,7 @@ pub fn append_operations(
     Ok(())
 }
 
+/// How long the operation lasts on its operator, 0 where it has none.
 fn operation_ticks(actual: &Given, vertex: &Vertex, operator: Option<u32>) -> u64
     requires { IsOneOf actual.now.operators operator }
     ensures { result ≡ operation_ticks actual.now.lines vertex.now operator }
@@ -53,6 +54,7 @@ pub fn append_transfers(
     Ok(())
 }
 
+/// Appends how long each of these transfers lasts.
 fn append_carried(
     ticks: &mut Vec<u64>,
     vertices: &[Vertex],
@@ -68,6 +70,7 @@ fn append_carried(
     Ok(())
 }
 
+/// How long the transfer lasts over its medium, 0 where there is no such medium.
 fn transfer_ticks(vertices: &[Vertex], media: &[Medium], transfer: Transfer) -> u64
     ensures { result ≡ transfer_ticks vertices.now media.now transfer }
 {

@@ -1,4 +1,5 @@
-//! The first number of a text of actual durations that is above the stated one, or missing: media before operations.
+//! The check of a text's numbers: the first that is above the stated one, or missing, media before
+//! operations.
 ghost use Rattle.std.specs.Prelude.{◌≡◌, ◌≤◌, All, length};
 ghost use Rattle.syn_base.specs.Limits.{most_operations};
 ghost use Rattle.actual_defs.specs.declared.fault.ActualFault.TheVariants.{Longer, Missing};
@@ -25,6 +26,7 @@ pub fn check_media(alloc: Global, stated: &[Medium], actual: &[Medium]) -> Resul
     Ok(())
 }
 
+/// Whether a number of the medium is above the stated one.
 fn is_slower(stated: &Medium, actual: &Medium) -> bool
     ensures { result ≡ is_slower stated.now actual.now }
 {
@@ -70,6 +72,7 @@ fn check_duration(
     }
 }
 
+/// The refusal of a medium or a definition with a number above the stated one.
 fn longer(alloc: Global, name: &Name) -> ActualError
     ensures { IsFault result (Longer name.now) }
 {
@@ -79,6 +82,7 @@ fn longer(alloc: Global, name: &Name) -> ActualError
     }
 }
 
+/// The refusal of a definition that has no duration where one is stated.
 fn missing(alloc: Global, name: &Name) -> ActualError
     ensures { IsFault result (Missing name.now) }
 {

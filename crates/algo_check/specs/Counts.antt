@@ -9,11 +9,11 @@ use Rattle.algo_links.specs.Linked.{IsLinked}
 use Rattle.algo_rules.specs.Links.{links_of}
 use Rattle.algo_rules.specs.Resolved.{count_within, is_fork}
 
--- the places of those that the definition at a place names
+-- The places of those that the definition at a place names.
 abbrev pub row : List Def → ℕ → List ℕ
 row ds k = slice_index_or (links_of ds) k []
 
--- the count of a body, from the count of all together that it names
+-- The count of a body, from the count of all together that it names.
 abbrev pub count_here : ℕ → Body → ℕ
 count_here inner (Delay depth values) = 2 * depth
 count_here inner (Graph ins outs references edges) = inner
@@ -21,12 +21,13 @@ count_here inner (Switch on ins outs cases otherwise last) = inner + length outs
 count_here inner (Repeat copies def lines) = copies * inner + sum_by is_fork lines
 count_here inner _ = 1
 
--- the counts of definitions from a place on, by these counts
+-- The counts of definitions from a place on, by these counts.
 abbrev pub next_from : List Def → List ℕ → ℕ → List Def → List ℕ
 next_from ds counts k [] = []
-next_from ds counts k (d ∷ rest) = count_here (sum_by (slice_index counts) (row ds k)) d.body ∷ next_from ds counts (suc k) rest
+next_from ds counts k (d ∷ rest) =
+    count_here (sum_by (slice_index counts) (row ds k)) d.body ∷ next_from ds counts (suc k) rest
 
--- no definition has more after this many rounds
+-- No definition has more after this many rounds.
 abbrev pub most : ℕ → ℕ
 most zero = 1
 most (suc n) = 200 * most n

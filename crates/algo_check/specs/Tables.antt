@@ -10,23 +10,23 @@ use Rattle.algo_rules.specs.declared.ports.Ports.{Ports}
 use Rattle.frontier_check.specs.Bounds.{HasShortPorts}
 use Rattle.reference_graph.specs.Links.{depth}
 
--- at most 65 inputs and as many outputs, each of at most 64 elements
+-- At most 65 inputs and as many outputs, each of at most 64 elements.
 pub record IsSmall (p : Ports) : Type 0 where
   pub short : HasShortPorts p
   pub ins : length p.ins ≤ 65
   pub outs : length p.outs ≤ 65
 
--- the ports of the definition that stands here, whatever its name
+-- The ports of the definition that stands here, whatever its name.
 abbrev pub HasPorts : List Def → List Ports → ℕ → Type 0
 HasPorts ds table k = (w : Bytes) → IsLinked ds w k → slice_index_or table k no_ports ≡ ports_of ds w
 
--- a row for each definition, with the ports of those whose depth is below this one
+-- A row for each definition, with the ports of those whose depth is below this one.
 pub record IsTable (ds : List Def) (depth_now : ℕ) (table : List Ports) : Type 0 where
   pub rows : length table ≡ length ds
   pub small : All IsSmall table
   pub ports : (k : ℕ) → k < length ds → depth (links_of ds) k < depth_now → HasPorts ds table k
 
--- and of those of this depth that stand before a place
+-- The same, with the ports of those of this depth that stand before a place.
 pub record IsFilling (ds : List Def) (depth_now place : ℕ) (table : List Ports) : Type 0 where
   pub below : IsTable ds depth_now table
   pub here : (k : ℕ) → k < place → k < length ds → depth (links_of ds) k ≡ depth_now → HasPorts ds table k

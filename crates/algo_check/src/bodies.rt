@@ -1,4 +1,4 @@
-//! The checks of a definition by itself, and its ports.
+//! The check of a definition by itself, and its ports once it has passed, for the table of all definitions.
 ghost use Rattle.std.specs.Prelude.{◌≡◌, ◌∷◌, [], IfOk, None};
 ghost use Rattle.std.specs.List.{All};
 ghost use Rattle.algo_links.specs.Linked.{named};
@@ -15,9 +15,8 @@ use graph_check::check_graph;
 use std::alloc::Global;
 use syn_base::{Items, Name, OutOfMemory};
 
-/// A body alone, without regard to the definitions that it names: its repetition, its cases, or its
-/// edges, open ends and cycles. The definitions that it names stand at `places` of `defs`, their
-/// ports there in `table`.
+/// Checks a body by itself: its frontier lines, its cases, or its edges, open ends and cycles. The definitions that it
+/// names stand at `places` of `defs`, their ports there in `table`.
 pub fn check_body(
     alloc: Global,
     defs: &[Def],

@@ -1,4 +1,4 @@
-//! All checks of definitions, in their order.
+//! All checks of definitions in their order, which `algo_resolve` calls.
 ghost use Rattle.std.specs.Prelude.{◌≡◌, ◌≤◌, ◌∷◌, [], IfOk, length, map};
 ghost use Rattle.std.specs.List.{All};
 ghost use Rattle.syn_base.specs.Limits.{most_in_text};
@@ -22,7 +22,7 @@ use std::alloc::Global;
 ///
 /// The checks are: unknown names, misplaced ones, recursion and depth, by line; each body, by depth
 /// and then by line; `main`; the number of flat operations. OutOfMemory may come in place of any
-/// answer.
+/// result.
 pub fn check_definitions(alloc: Global, defs: &Defs) -> Result<Vec<Ports>, AlgoError>
     requires read { AreWellRead defs.now.defs }
     requires few { length defs.now.defs ≤ most_in_text }
@@ -33,7 +33,7 @@ pub fn check_definitions(alloc: Global, defs: &Defs) -> Result<Vec<Ports>, AlgoE
     check_leveled(alloc, defs.defs.as_slice(), &levels)
 }
 
-/// The checks that come after the depths are known: bodies, `main`, flat operations.
+/// Makes the checks that come after the depths are known: bodies, `main`, flat operations.
 fn check_leveled(alloc: Global, defs: &[Def], levels: &Levels) -> Result<Vec<Ports>, AlgoError>
     requires read { All (λ d. IsWellRead d.body) defs.now }
     requires distinct { AreDistinctNames (map (λ d. d.name) defs.now) }
@@ -46,7 +46,7 @@ fn check_leveled(alloc: Global, defs: &[Def], levels: &Levels) -> Result<Vec<Por
     Ok(table)
 }
 
-/// The checks of `main`: that it is there without ports, and not too large.
+/// Checks that `main` is there without ports, and not too large.
 fn check_main_and_operations(alloc: Global, defs: &[Def], levels: &Levels) -> Result<(), AlgoError>
     requires read { All (λ d. IsWellRead d.body) defs.now }
     requires leveled { AreLeveled defs.now levels.now.links levels.now.depths }

@@ -1,4 +1,4 @@
-//! How many flat operations the main graph stands for.
+//! The check of how many flat operations the main graph stands for, the last of all.
 ghost use Rattle.std.specs.Prelude.{◌≡◌, ◌+◌, ◌<◌, ◌≤◌, IfOk, Some, codes, length, replicate, slice_get, slice_index};
 ghost use Rattle.std.specs.List.{All, position_or_len, sum_by};
 ghost use Rattle.std.specs.Str.{bytes_eq};
@@ -13,7 +13,7 @@ use algo_defs::{AlgoError, Body, Def, Frontier, FrontierLine};
 use std::alloc::Global;
 use syn_base::{LimitFault, LimitKind, OutOfMemory};
 
-/// The main graph stands for at most 2,048 flat operations; else the limit, with their number.
+/// Checks that the main graph stands for at most 2,048 flat operations; the limit tells their number.
 pub fn check_operations(alloc: Global, defs: &[Def], levels: &Levels) -> Result<(), AlgoError>
     requires read { All (λ d. IsWellRead d.body) defs.now }
     requires leveled { AreLeveled defs.now levels.now.links levels.now.depths }
@@ -25,6 +25,7 @@ pub fn check_operations(alloc: Global, defs: &[Def], levels: &Levels) -> Result<
     }
 }
 
+/// Checks that this number of flat operations is within the limit.
 fn check_count(defs: &[Def], count: u128) -> Result<(), AlgoError>
     requires { count ≡ operations defs.now }
     ensures { Checks result (too_many defs.now) }
@@ -49,6 +50,7 @@ fn operations(alloc: Global, defs: &[Def], levels: &Levels) -> Result<u128, OutO
     Ok(main_count(defs, &counts))
 }
 
+/// The count of the main graph, 0 where there is none.
 fn main_count(defs: &[Def], counts: &[u128]) -> u128
     requires { AreCounts defs.now 8 counts.now }
     ensures { result ≡ operations defs.now }
@@ -86,6 +88,7 @@ fn all_counts(alloc: Global, defs: &[Def], levels: &Levels) -> Result<Vec<u128>,
     Ok(counts)
 }
 
+/// The counts before the first round: each is 0.
 fn no_counts(alloc: Global, count: usize) -> Result<Vec<u128>, OutOfMemory>
     ensures { IfOk result (λ counts. counts.items ≡ replicate count 0) }
 {
@@ -140,8 +143,8 @@ fn count_in_all(counts: &[u128], places: &[u32]) -> u128
     total
 }
 
-/// The count of a definition whose inner ones have this count together: a delay stands for two
-/// operations for each reaction that it looks back, a switch for a merge of each output besides, and a repetition for its copies, with an
+/// The count of a definition whose inner ones have this count together: a delay stands for two operations for each
+/// reaction that it looks back, a switch for a merge of each output besides, and a repetition for its copies, with an
 /// explode or an implode of each fork or join line.
 fn count_of(body: &Body, inner: u128) -> u128
     requires read { IsWellRead body.now }
@@ -172,6 +175,7 @@ pub fn count_forks(lines: &[FrontierLine]) -> u128
     total
 }
 
+/// How many fork or join lines a line is: 1 or 0.
 fn forks_of(line: &FrontierLine) -> u128
     ensures is { result ≡ is_fork line.now }
     ensures one { result ≤ 1 }

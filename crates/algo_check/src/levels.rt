@@ -1,4 +1,4 @@
-//! Which definitions refer to which, and how deep: the checks that need no ports.
+//! The links and depths of definitions, with the checks that need no ports, which come first.
 ghost use Rattle.std.specs.Prelude.{◌≡◌, ◌<◌, ◌≤◌, ◌∷◌, [], IfOk, None, Some, length, map};
 ghost use Rattle.syn_base.specs.Limits.{most_in_text};
 ghost use Rattle.algo_tree.specs.Well.{AreDistinctNames};
@@ -25,9 +25,9 @@ pub struct Levels {
 
 /// The links and depths of definitions.
 ///
-/// Refused with UnknownName or Misplaced comes as `algo_links::links_of` tells it; where there is
+/// Refused with UnknownName or Misplaced comes as `algo_links::links_of` returns it; where there is
 /// none, Refused with Recursive at the first definition that reaches itself; then Limit with the
-/// first depth above 8. OutOfMemory may come in place of any answer.
+/// first depth above 8. OutOfMemory may come in place of any result.
 pub fn levels_of(alloc: Global, defs: &Defs) -> Result<Levels, AlgoError>
     requires distinct { AreDistinctNames (map (λ d. d.name) defs.now.defs) }
     requires few { length defs.now.defs ≤ most_in_text }
@@ -68,6 +68,7 @@ fn recursive(alloc: Global, defs: &[Def], place: usize) -> AlgoError
     recursive_def(alloc, &defs[place])
 }
 
+/// The same of a definition.
 fn recursive_def(alloc: Global, def: &Def) -> AlgoError
     ensures { Tells result (recursive_by (def.now ∷ []) (Some 0)) }
 {
@@ -80,7 +81,7 @@ fn recursive_def(alloc: Global, def: &Def) -> AlgoError
     }
 }
 
-/// No depth is above 8; else the first that is.
+/// Checks that no depth is above 8; the limit tells the first that is.
 fn check_depths(depths: &[u32]) -> Result<(), AlgoError>
     ensures { Checks result (too_deep_by depths.now) }
 {

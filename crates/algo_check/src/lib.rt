@@ -1,5 +1,7 @@
-//! The first refusal of the definitions of a text, in the order of the checks: `check_definitions`, of
-//! which `algo_resolve` makes use, with `count_forks`.
+//! Makes all checks of the definitions of a text in their order: `check_definitions` returns the first refusal, or
+//! the ports of each definition.
+//!
+//! `algo_resolve` calls it before it makes the tree, and counts fork lines with `count_forks`.
 #![tactic(auto)]
 
 mod bodies;

@@ -5,8 +5,7 @@ ghost use Rattle.algo_rules.specs.Resolved.{is_main_graph, no_main, no_main_by};
 
 use algo_defs::{AlgoCause, AlgoError, AlgoFault, Body, Def};
 
-/// There is a graph `main`, and it has no ports; else Refused with NoMain, at line 0. It takes no
-/// memory.
+/// Checks that there is a graph `main` without ports; the refusal is NoMain, at line 0. It takes no memory.
 pub fn check_main(defs: &[Def]) -> Result<(), AlgoError>
     ensures { Checks result (no_main defs.now) }
 {
@@ -18,7 +17,7 @@ pub fn check_main(defs: &[Def]) -> Result<(), AlgoError>
     Err(no_main())
 }
 
-/// The definition of `main` is a graph without ports.
+/// Checks that the definition of `main` is a graph without ports.
 fn check_main_def(def: &Def) -> Result<(), AlgoError>
     ensures { Checks result (no_main_by (Some def.now)) }
 {
@@ -29,6 +28,7 @@ fn check_main_def(def: &Def) -> Result<(), AlgoError>
     }
 }
 
+/// The refusal of definitions without a main graph.
 fn no_main() -> AlgoError
     ensures { Some result ≡ no_main_by None }
 {
@@ -38,7 +38,7 @@ fn no_main() -> AlgoError
     })
 }
 
-/// A graph without ports.
+/// Whether a body is a graph without ports.
 fn is_main_graph(body: &Body) -> bool
     ensures { result ≡ is_main_graph body.now }
 {

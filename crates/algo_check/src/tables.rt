@@ -17,8 +17,8 @@ use algo_rules::Ports;
 use std::alloc::Global;
 use syn_base::OutOfMemory;
 
-/// The ports of definitions by place, where every body passes its check; else the first refusal, by
-/// depth and then by line.
+/// The ports of definitions by place, where every body passes its check; or the first refusal, by depth and then
+/// by line.
 pub fn ports_of_bodies(
     alloc: Global,
     defs: &[Def],
@@ -39,6 +39,7 @@ pub fn ports_of_bodies(
     Ok(table)
 }
 
+/// A table of this many definitions without ports.
 fn empty_table(alloc: Global, count: usize) -> Result<Vec<Ports>, OutOfMemory>
     ensures { IfOk result (λ table. table.items ≡ replicate count no_ports) }
 {
@@ -71,7 +72,7 @@ fn pass(
     }
 }
 
-/// The first refusal of a body of this depth.
+/// Checks the bodies of this depth, by line.
 fn check_depth(
     alloc: Global,
     defs: &[Def],
@@ -92,6 +93,7 @@ fn check_depth(
     Ok(())
 }
 
+/// The depth of the definition at a place.
 fn depth_at(defs: &[Def], levels: &Levels, place: usize) -> u32
     requires leveled { AreLeveled defs.now levels.now.links levels.now.depths }
     requires place { place < length defs.now }
@@ -100,7 +102,7 @@ fn depth_at(defs: &[Def], levels: &Levels, place: usize) -> u32
     levels.depths.as_slice()[place]
 }
 
-/// The refusal of the body at a place, which has this depth.
+/// Checks the body at a place, which has this depth.
 fn check_place(
     alloc: Global,
     defs: &[Def],

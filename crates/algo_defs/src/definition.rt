@@ -1,4 +1,4 @@
-//! The definitions of a text, with the numbers of their lines.
+//! The definition, with the numbers of its lines: what the reader makes, and whoever stands above reads.
 use crate::formula::Formula;
 use body_lang::Port;
 use syn_base::{Items, Name};

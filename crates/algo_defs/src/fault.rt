@@ -1,4 +1,4 @@
-//! Why a text of an algorithm is refused.
+//! The refusal of a text of an algorithm, which the reader, the checks and the resolver return.
 use std::fmt;
 use syn_base::{Items, LimitFault, Name};
 use thiserror::Error;

@@ -1,4 +1,4 @@
-//! An expression that contracts see as plain data.
+//! The formula of an output: an expression that contracts see as plain data.
 use body_lang::Expr;
 use std::marker::Model;
 

@@ -1,4 +1,4 @@
-//! The refusals of a line that names a definition.
+//! The refusal of a line that names a definition, which `links_of` returns.
 ghost use Rattle.algo_defs.specs.declared.fault.AlgoCause.TheVariants.{UnknownName, Misplaced};
 ghost use Rattle.algo_rules.specs.Links.{fault};
 ghost use Rattle.algo_links.specs.Placing.{Tells};
@@ -7,7 +7,7 @@ use algo_defs::{AlgoCause, AlgoError, AlgoFault};
 use std::alloc::Global;
 use syn_base::{Items, Name};
 
-/// No definition has the name that the line names.
+/// The refusal of a line whose name no definition has, or want of memory for the name.
 pub fn unknown(alloc: Global, line: u32, name: &[u8]) -> AlgoError
     ensures { Tells result (fault line (UnknownName name.now)) }
 {
@@ -20,7 +20,7 @@ pub fn unknown(alloc: Global, line: u32, name: &[u8]) -> AlgoError
     }
 }
 
-/// The definition that the line names may not stand there.
+/// The refusal of a line whose definition may not stand there, or want of memory for the name.
 pub fn misplaced(alloc: Global, line: u32, name: &Name) -> AlgoError
     ensures { Tells result (fault line (Misplaced name.now)) }
 {

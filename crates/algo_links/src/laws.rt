@@ -1,4 +1,4 @@
-//! What links lead to.
+//! The law of what links lead to, for the crates that follow links.
 ghost use Rattle.algo_links.specs.Linked.{EachLeads, AllLead};
 
 /// Where every name is known, each link is the place of the definition that its line names: of line k of the

@@ -1,4 +1,4 @@
-//! The places of the definitions that definitions name.
+//! The places of the definitions that definitions name: `links_of`, which the checks and the resolver call.
 ghost use Rattle.std.specs.Prelude.{◌≡◌, ◌≤◌, IfOk, length, map, ◌∷◌, []};
 ghost use Rattle.syn_base.specs.Limits.{most_in_text};
 ghost use Rattle.algo_tree.specs.Well.{AreDistinctNames};
@@ -79,7 +79,7 @@ fn known_links(alloc: Global, defs: &[Def]) -> Result<Vec<Items<u32>>, AlgoError
     }
 }
 
-/// The same, with the check of what may stand where.
+/// The same once the check of what may stand where has passed.
 fn checked_links(alloc: Global, defs: &[Def]) -> Result<Vec<Items<u32>>, AlgoError>
     requires distinct { AreDistinctNames (names_of defs.now) }
     requires few { length defs.now ≤ most_in_text }
@@ -96,8 +96,8 @@ fn checked_links(alloc: Global, defs: &[Def]) -> Result<Vec<Items<u32>>, AlgoErr
 /// Refused with UnknownName comes at the first line, by line, that names no definition; where there is none,
 /// Refused with Misplaced at the first line that names a definition that may not stand there: `main` anywhere,
 /// a sensor or an actuator in another graph than `main`, and as a case, an `otherwise` or the body of a
-/// repetition anything but a function, a graph, a conditioned definition or a repetition. OutOfMemory may come
-/// in place of any answer.
+/// repetition anything but a function, a graph, a switch or a repetition. OutOfMemory may come
+/// in place of any result.
 pub fn links_of(alloc: Global, defs: &Defs) -> Result<Vec<Items<u32>>, AlgoError>
     requires distinct { AreDistinctNames (map (λ d. d.name) defs.now.defs) }
     requires few { length defs.now.defs ≤ most_in_text }

@@ -1,4 +1,4 @@
-//! The lines that name a definition.
+//! A line that names a definition, for whoever goes over such lines.
 ghost use Rattle.std.specs.Prelude.{◌≡◌, IfOk, map, true, false};
 ghost use Rattle.algo_rules.specs.Links.{mentions};
 
@@ -38,7 +38,7 @@ impl<'a> Mention<'a> {
         self.def
     }
 
-    /// The line is a `ref` line.
+    /// Whether the line is a `ref` line.
     pub fn is_reference(&self) -> bool
         ensures { result ≡ self.now.is_reference }
     {
@@ -46,7 +46,7 @@ impl<'a> Mention<'a> {
     }
 }
 
-/// The `ref` lines of a graph.
+/// The lines `ref` of a graph.
 fn references_of<'a>(
     alloc: Global,
     references: &'a [Reference],
@@ -65,7 +65,7 @@ fn references_of<'a>(
     Ok(mentions)
 }
 
-/// The `case` lines of a conditioned definition.
+/// The lines `case` of a switch.
 fn cases_of<'a>(alloc: Global, cases: &'a [Case]) -> Result<Vec<Mention<'a>>, OutOfMemory>
     ensures { IfOk result (λ ms. ms.items ≡ map
         (λ c. record { line = c.line; def = c.def; is_reference = false }) cases.now) }

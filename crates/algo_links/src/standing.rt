@@ -1,4 +1,4 @@
-//! Which definitions may stand where.
+//! The check of which definitions may stand where, which `links_of` makes once all names are known.
 ghost use Rattle.std.specs.Prelude.{◌≡◌, Some, slice_get};
 ghost use Rattle.algo_rules.specs.Links.{is_main, is_end, may_be_inner, may_stand, links_of};
 ghost use Rattle.algo_rules.specs.Placed.{Checks};
@@ -10,20 +10,21 @@ use algo_defs::{AlgoError, Body, Def};
 use std::alloc::Global;
 use syn_base::{Items, Name};
 
+/// Whether this is the name of the main graph.
 fn is_main(name: &Name) -> bool
     ensures { result ≡ is_main name.now }
 {
     name.as_bytes() == b"main".as_slice()
 }
 
-/// A sensor or an actuator.
+/// Whether a definition is a sensor or an actuator.
 fn is_end(body: &Body) -> bool
     ensures { result ≡ is_end body.now }
 {
     matches!(body, Body::Sensor(_) | Body::Actuator(_))
 }
 
-/// What may be a case or the body of a repetition.
+/// Whether a definition may be a case or the body of a repetition.
 fn may_be_inner(body: &Body) -> bool
     ensures { result ≡ may_be_inner body.now }
 {
@@ -33,7 +34,7 @@ fn may_be_inner(body: &Body) -> bool
     )
 }
 
-/// The definition may stand where a line of the owner names it.
+/// Whether the definition may stand where a line of the owner names it.
 fn may_stand(owner: &Name, mention: &Mention, def: &Def) -> bool
     ensures { result ≡ may_stand owner.now mention.now (Some def.now) }
 {
@@ -58,7 +59,7 @@ fn may_stand_at(owner: &Name, mention: &Mention, defs: &[Def], place: usize) -> 
     }
 }
 
-/// The first line of the owner that names what may not stand there. The places are those of the definitions
+/// Checks that each line of the owner names what may stand there. The places are those of the definitions
 /// that the lines name.
 fn check_lines(
     alloc: Global,
@@ -79,7 +80,7 @@ fn check_lines(
     Ok(())
 }
 
-/// The first line of any definition that names what may not stand there.
+/// Checks that each line of any definition names what may stand there.
 pub fn check_standing(alloc: Global, defs: &[Def], links: &[Items<u32>]) -> Result<(), AlgoError>
     requires { links.now ≡ links_of defs.now }
     ensures { Checks result (misplaced_all defs.now defs.now) }

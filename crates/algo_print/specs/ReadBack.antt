@@ -3,7 +3,16 @@ use Rattle.std.specs.Prelude.{◌≡◌, map, Ok}
 use Rattle.algo_defs.specs.declared.definition.Def.{Def}
 use Rattle.algo_defs.specs.declared.definition.Defs.{Defs}
 use Rattle.algo_defs.specs.declared.definition.Body.{Body}
-use Rattle.algo_defs.specs.declared.definition.Body.TheVariants.{Sensor, Actuator, Constant, Delay, Function, Graph, Switch, Repeat}
+use Rattle.algo_defs.specs.declared.definition.Body.TheVariants.{
+  Sensor,
+  Actuator,
+  Constant,
+  Delay,
+  Function,
+  Graph,
+  Switch,
+  Repeat,
+}
 use Rattle.algo_defs.specs.declared.definition.Reference.{Reference}
 use Rattle.algo_defs.specs.declared.definition.Edge.{Edge}
 use Rattle.algo_defs.specs.declared.definition.Case.{Case}
@@ -11,7 +20,7 @@ use Rattle.algo_defs.specs.declared.definition.FrontierLine.{FrontierLine}
 use Rattle.syn_base.specs.Bytes.{Bytes}
 use Rattle.algo_text.specs.Text.{definitions_of}
 
--- the same with its line's number forgotten
+-- The same with its line's number forgotten.
 abbrev pub bare_reference : Reference → Reference
 bare_reference r = record { name = r.name; def = r.def; every = r.every; line = 0 }
 
@@ -37,7 +46,7 @@ bare_body (Repeat copies def lines) = Repeat copies def (map bare_frontier lines
 abbrev pub bare : Def → Def
 bare d = record { name = d.name; line = 0; body = bare_body d.body }
 
--- the text says these definitions in their version, at whatever lines
+-- The text says these definitions in their version, at whatever lines.
 pub record Says (text : Bytes) (defs : Defs) : Type 0 where
   pub read : Defs
   pub says : definitions_of text ≡ Ok read

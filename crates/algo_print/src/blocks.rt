@@ -1,4 +1,4 @@
-//! Lists of lines, and the blocks that are made of them.
+//! The printer of a block, and of the lists of lines that it is made of.
 ghost use Rattle.std.specs.Prelude.{◌≡◌, ◌++◌, ◌∷◌, [], All, OnOk, codes, map};
 ghost use Rattle.std.specs.Fmt.{signed_decimal};
 ghost use Rattle.body_text.specs.Canonical.{IsRead};

@@ -1,4 +1,4 @@
-//! What the canonical text keeps.
+//! The laws of what the canonical text keeps.
 ghost use Rattle.std.specs.Prelude.{◌≡◌, ◌≤◌, Ok, length, map};
 ghost use Rattle.text_lines.specs.Text.{lines_of};
 ghost use Rattle.syn_base.specs.Bytes.{Bytes};

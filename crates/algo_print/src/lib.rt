@@ -1,5 +1,7 @@
-//! The canonical text of an algorithm's definitions: `print_algo` appends it, and the laws say that it reads
-//! back as the same definitions, the numbers of lines aside. The command `check` prints it.
+//! Prints the canonical text of an algorithm's definitions: `print_algo` appends it, and the laws say that it reads
+//! back as the same definitions, the numbers of lines aside.
+//!
+//! The command `check` prints it.
 #![tactic(auto)]
 
 mod blocks;

@@ -1,4 +1,4 @@
-//! The lines of a block, each kind by itself.
+//! The printer of a line of a block, each kind by itself.
 ghost use Rattle.std.specs.Prelude.{◌≡◌, ◌++◌, ◌∷◌, OnOk, map};
 ghost use Rattle.body_text.specs.Canonical.{IsRead};
 ghost use Rattle.algo_print.specs.Canonical.{end_word, line_of, spaced, mark_words, output_words, reference_words, edge_words, case_words, words_of_frontier};

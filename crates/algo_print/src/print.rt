@@ -1,4 +1,4 @@
-//! The whole text.
+//! The printer of a whole text: `print_algo`, which the command `check` calls.
 ghost use Rattle.std.specs.Prelude.{◌≡◌, ◌++◌, OnOk, OnErr};
 ghost use Rattle.algo_print.specs.Canonical.{canonical_text, line_of, text_of, version_words, body_lines, definition_lines, ArePrintable, IsPrintable};
 

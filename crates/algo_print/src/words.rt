@@ -1,4 +1,4 @@
-//! Appending words and lines to a text.
+//! The printer of a word, and of a short line, which the others call.
 ghost use Rattle.std.specs.Prelude.{◌≡◌, ◌++◌, ◌∷◌, [], OnOk};
 ghost use Rattle.std.specs.Fmt.{signed_decimal};
 ghost use Rattle.algo_print.specs.Canonical.{count, line_of};

@@ -1,11 +1,7 @@
 pub mod Taken
 pub mod PortLines
-pub mod Behind
+pub mod AfterFirst
 pub mod Outputs
 pub mod Ends
-pub mod FrontNames
-pub mod Numbers
 pub mod Settled
-pub mod NameTokens
-pub mod PortTokens
 pub mod LineCounts

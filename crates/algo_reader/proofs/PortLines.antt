@@ -7,7 +7,7 @@ use Rattle.syn_base.specs.declared.limits.LimitKind.TheVariants.{PortLength, Por
 use Rattle.body_lang.specs.declared.expression.Port.{Port}
 use Rattle.body_lang.specs.Expr.{Expr}
 use Rattle.algo_defs.specs.declared.fault.AlgoError.{AlgoError}
-use Rattle.algo_defs.specs.declared.fault.AlgoError.TheVariants.{Refused, Limit, OutOfMemory}
+use Rattle.algo_defs.specs.declared.fault.AlgoError.TheVariants.{Limit}
 use Rattle.algo_defs.specs.declared.fault.AlgoCause.TheVariants.{BadLine, BadName, BadNumber, DuplicateName}
 use Rattle.syn_base.specs.Bytes.{Bytes}
 use Rattle.algo_text.specs.Words.{word, count_of}
@@ -15,8 +15,10 @@ use Rattle.algo_text.specs.Formulas.{formula_of}
 use Rattle.algo_text.specs.declared.part.Part.TheVariants.{Inputs, Outputs}
 use Rattle.algo_text.specs.Parts.{admits}
 use Rattle.algo_text.specs.Blocks.{Block, is_above, refused, with_some, and_then, port_line, is_taken, in_line, with_in, out_line, with_out, result_words, with_result}
-use Rattle.algo_reader.specs.Given.{Fails, IsStop, stop}
-use Rattle.algo_reader.specs.Lines.{port_of}
+use Rattle.algo_defs.specs.Returned.{Fails}
+use Rattle.algo_lines.specs.Given.{IsStop, stop}
+use Rattle.algo_lines.specs.Lines.{port_of}
+use Rattle.algo_lines.proofs.Stops.{fails_on, stops_at}
 
 length_shape : (long : Bool) (e : AlgoError) (p : Port) (go : Port → Result Block AlgoError)
     → cond long (Err e) (go p) ≡ and_then (cond long (Err e) (Ok p)) go
@@ -36,17 +38,6 @@ unfolding port_of
 port_is n before ws go = shape (is_name (word ws 1)) (count_of (word ws 2)) (is_above Ports (before + 1)) (λ len. is_above PortLength len)
     (stop n (BadName (word ws 1))) (stop n (BadNumber (word ws 2))) (Limit (record { which = Ports; count = before + 1; bound = bound_of Ports }))
     (λ len. Limit (record { which = PortLength; count = len; bound = bound_of PortLength })) (λ len. record { name = word ws 1; len = len }) go
-
-pub fails_on : {A B : Type 0} (e : AlgoError) (x : Result A AlgoError) (go : A → Result B AlgoError) → Fails e x → Fails e (and_then x go)
-fails_on (Refused f) x go is = ap (λ y. and_then y go) is
-fails_on (Limit f) x go is = ap (λ y. and_then y go) is
-fails_on OutOfMemory x go is = tt
-
--- a refusal that was asked for
-pub stops_at : {A : Type 0} (e asked : AlgoError) (whole : Result A AlgoError) → IsStop e asked → whole ≡ Err asked → Fails e whole
-stops_at (Refused f) asked whole is h = h ∙ ap (λ x. Err x) is
-stops_at (Limit f) asked whole is h = h ∙ ap (λ x. Err x) is
-stops_at OutOfMemory asked whole is h = tt
 
 pub equal_test : (m n : ℕ) → m ≡ n → (m == n) ≡ true
 equal_test m n h = grind arith

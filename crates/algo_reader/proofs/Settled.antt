@@ -18,8 +18,9 @@ use Rattle.algo_text.specs.Text.{Stage, before_version, between, in_function, in
 use Rattle.algo_reader.specs.declared.reader.Reader.{Reader}
 use Rattle.algo_reader.specs.declared.reader.Place.{Place}
 use Rattle.algo_reader.specs.declared.reader.Place.TheVariants.{BeforeVersion, Between, InFunction, InGraph, InSwitch, InRepeat}
-use Rattle.algo_reader.specs.Given.{Fails, Steps}
-use Rattle.algo_reader.specs.Views.{reading, settled, settle, kept, stage_of, block_of}
+use Rattle.algo_defs.specs.Returned.{Fails}
+use Rattle.algo_lines.specs.Given.{Steps}
+use Rattle.algo_reader.specs.Views.{reading, settled, settle, open_at, stage_of, block_of}
 
 -- two answers are the same but for a block that has ended
 record Same (x y : Result Reading AlgoError) : Type 0 where
@@ -43,18 +44,18 @@ same_then (Err e) go on each = alike (Err e)
 abbrev with_block : Reading → Block → Reading
 with_block r b = record r { block = b }
 
-kept_same : (s : Stage) (a b : Block) → s ≡ between → kept s a ≡ kept s b
-kept_same before_version a b h = cc
-kept_same between a b h = refl
-kept_same in_function a b h = cc
-kept_same in_graph a b h = cc
-kept_same in_switch a b h = cc
-kept_same in_repeat a b h = cc
+open_same : (s : Stage) (a b : Block) → s ≡ between → open_at s a ≡ open_at s b
+open_same before_version a b h = cc
+open_same between a b h = refl
+open_same in_function a b h = cc
+open_same in_graph a b h = cc
+open_same in_switch a b h = cc
+open_same in_repeat a b h = cc
 
 module _ (r : Reading) (b : Block) (h : r.stage ≡ between) (n : ℕ) where
   same_defined : (w : Bytes) (body : Body) → Same (defined r n w body) (defined (with_block r b) n w body)
   same_defined w body = same_if (is_among w r.names) _ _ _ _ (alike _)
-      (record { is = ap (λ (k : Block). Ok (record r { names = r.names ++ w ∷ []; defs = r.defs ++ record { name = w; line = n; body = body } ∷ []; block = k })) (kept_same r.stage r.block b h) })
+      (record { is = ap (λ (k : Block). Ok (record r { names = r.names ++ w ∷ []; defs = r.defs ++ record { name = w; line = n; body = body } ∷ []; block = k })) (open_same r.stage r.block b h) })
 
   same_end : (body : ℕ → Body) (ws : List Bytes) → Same (end_line body r n ws) (end_line body (with_block r b) n ws)
   same_end body ws = same_if (not (length ws == 3)) _ _ _ _ (alike _) (same_if (is_name (word ws 1)) _ _ _ _
@@ -94,7 +95,7 @@ module _ (r : Reading) (b : Block) (h : r.stage ≡ between) (n : ℕ) where
   same_line : (o : Option ℕ) (line : Bytes) → Same (line_by r n line o) (line_by (with_block r b) n line o)
   same_line (Some place) line = alike _
   same_line None line = same_if (length (words_of (code_of line)) == 0) _ _ _ _
-      (record { is = ap (λ (k : Block). Ok (record r { block = k })) (kept_same r.stage r.block b h) })
+      (record { is = ap (λ (k : Block). Ok (record r { block = k })) (open_same r.stage r.block b h) })
       (same_stage r.stage (words_of (code_of line)) (code_of line) h)
 
   same_next : (line : Bytes) → Same (next_line r n line) (next_line (with_block r b) n line)
@@ -104,7 +105,7 @@ module _ (r : Reading) (b : Block) (h : r.stage ≡ between) (n : ℕ) where
 abbrev Forgets : List Bytes → Type 0
 Forgets lines = (r : Reading) (b : Block) (n : ℕ) → r.stage ≡ between → rest_of r n lines ≡ rest_of (with_block r b) n lines
 
-settled_at : (lines : List Bytes) → Forgets lines → (r : Reading) (n : ℕ) (s : Stage) → r.stage ≡ s → rest_of r n lines ≡ rest_of (record r { block = kept s r.block }) n lines
+settled_at : (lines : List Bytes) → Forgets lines → (r : Reading) (n : ℕ) (s : Stage) → r.stage ≡ s → rest_of r n lines ≡ rest_of (record r { block = open_at s r.block }) n lines
 settled_at lines forgets r n before_version h = refl
 settled_at lines forgets r n between h = forgets r (new_block Inputs [] 0) n h
 settled_at lines forgets r n in_function h = refl
@@ -115,53 +116,53 @@ settled_at lines forgets r n in_repeat h = refl
 settled_rest : (lines : List Bytes) → Forgets lines → (r : Reading) (n : ℕ) → rest_of r n lines ≡ rest_of (settled r) n lines
 settled_rest lines forgets r n = settled_at lines forgets r n r.stage refl
 
-abbrev behind : ℕ → List Bytes → Result Reading AlgoError → Result Defs AlgoError
-behind n lines x = and_then x (λ after. rest_of after n lines)
+abbrev after_line : ℕ → List Bytes → Result Reading AlgoError → Result Defs AlgoError
+after_line n lines x = and_then x (λ after. rest_of after n lines)
 
-same_behind : (lines : List Bytes) → Forgets lines → (n : ℕ) (x y : Result Reading AlgoError) → settle x ≡ settle y → behind n lines x ≡ behind n lines y
-same_behind lines forgets n (Ok r) (Ok s) h =
+same_after : (lines : List Bytes) → Forgets lines → (n : ℕ) (x y : Result Reading AlgoError) → settle x ≡ settle y → after_line n lines x ≡ after_line n lines y
+same_after lines forgets n (Ok r) (Ok s) h =
     let same : settled r ≡ settled s = cc in
     settled_rest lines forgets r n ∙ ap (λ (q : Reading). rest_of q n lines) same ∙ sym (settled_rest lines forgets s n)
-same_behind lines forgets n (Ok r) (Err e) h = cc
-same_behind lines forgets n (Err e) (Ok s) h = cc
-same_behind lines forgets n (Err e) (Err f) h = let same : e ≡ f = cc in ap (λ (g : AlgoError). Err g) same
+same_after lines forgets n (Ok r) (Err e) h = cc
+same_after lines forgets n (Err e) (Ok s) h = cc
+same_after lines forgets n (Err e) (Err f) h = let same : e ≡ f = cc in ap (λ (g : AlgoError). Err g) same
 
 forgets_all : (lines : List Bytes) → Forgets lines
 forgets_all [] r b n h = refl
-forgets_all (line ∷ lines) r b n h = same_behind lines (λ s c k e. forgets_all lines s c k e) (n + 1) (next_line r n line) (next_line (with_block r b) n line) (same_next r b h n line).is
+forgets_all (line ∷ lines) r b n h = same_after lines (λ s c k e. forgets_all lines s c k e) (n + 1) (next_line r n line) (next_line (with_block r b) n line) (same_next r b h n line).is
 
-read_behind : (lines : List Bytes) (n : ℕ) (x : Result Reading AlgoError) (new : Reading) → settle x ≡ Ok new → behind n lines x ≡ rest_of new n lines
-read_behind lines n (Ok r) new h = let same : settled r ≡ new = cc in settled_rest lines (forgets_all lines) r n ∙ ap (λ (q : Reading). rest_of q n lines) same
-read_behind lines n (Err e) new h = cc
+read_after : (lines : List Bytes) (n : ℕ) (x : Result Reading AlgoError) (new : Reading) → settle x ≡ Ok new → after_line n lines x ≡ rest_of new n lines
+read_after lines n (Ok r) new h = let same : settled r ≡ new = cc in settled_rest lines (forgets_all lines) r n ∙ ap (λ (q : Reading). rest_of q n lines) same
+read_after lines n (Err e) new h = cc
 
 -- One line more.
 pub line_read : (r new : Reading) (n : ℕ) (line : Bytes) (all lines : List Bytes) → all ≡ line ∷ lines → settle (next_line r n line) ≡ Ok new → rest_of r n all ≡ rest_of new (n + 1) lines
-line_read r new n line all lines e is = ap (λ (l : List Bytes). rest_of r n l) e ∙ read_behind lines (n + 1) (next_line r n line) new is
+line_read r new n line all lines e is = ap (λ (l : List Bytes). rest_of r n l) e ∙ read_after lines (n + 1) (next_line r n line) new is
 
-fails_behind : (e : AlgoError) (lines : List Bytes) (n : ℕ) (x : Result Reading AlgoError) → Fails e (settle x) → Fails e (behind n lines x)
-fails_behind (Refused f) lines n (Ok r) h = cc
-fails_behind (Refused f) lines n (Err e) h = let same : e ≡ Refused f = cc in ap (λ (g : AlgoError). Err g) same
-fails_behind (Limit f) lines n (Ok r) h = cc
-fails_behind (Limit f) lines n (Err e) h = let same : e ≡ Limit f = cc in ap (λ (g : AlgoError). Err g) same
-fails_behind OutOfMemory lines n x h = tt
+fails_after : (e : AlgoError) (lines : List Bytes) (n : ℕ) (x : Result Reading AlgoError) → Fails e (settle x) → Fails e (after_line n lines x)
+fails_after (Refused f) lines n (Ok r) h = cc
+fails_after (Refused f) lines n (Err e) h = let same : e ≡ Refused f = cc in ap (λ (g : AlgoError). Err g) same
+fails_after (Limit f) lines n (Ok r) h = cc
+fails_after (Limit f) lines n (Err e) h = let same : e ≡ Limit f = cc in ap (λ (g : AlgoError). Err g) same
+fails_after OutOfMemory lines n x h = tt
 
 -- A line that is refused.
 pub line_refused : (e : AlgoError) (r : Reading) (n : ℕ) (line : Bytes) (all lines : List Bytes) (whole : Result Defs AlgoError)
     → all ≡ line ∷ lines → Fails e (settle (next_line r n line)) → rest_of r n all ≡ whole → Fails e whole
 line_refused e r n line all lines whole is h same =
-    subst (λ (x : Result Defs AlgoError). Fails e x) (sym (ap (λ (l : List Bytes). rest_of r n l) is) ∙ same) (fails_behind e lines (n + 1) (next_line r n line) h)
+    subst (λ (x : Result Defs AlgoError). Fails e x) (sym (ap (λ (l : List Bytes). rest_of r n l) is) ∙ same) (fails_after e lines (n + 1) (next_line r n line) h)
 
-kept_open : (p : Place) → kept (stage_of p) (block_of p) ≡ block_of p
-kept_open BeforeVersion = refl
-kept_open Between = refl
-kept_open (InFunction f) = refl
-kept_open (InGraph g) = refl
-kept_open (InSwitch s) = refl
-kept_open (InRepeat r) = refl
+open_stays : (p : Place) → open_at (stage_of p) (block_of p) ≡ block_of p
+open_stays BeforeVersion = refl
+open_stays Between = refl
+open_stays (InFunction f) = refl
+open_stays (InGraph g) = refl
+open_stays (InSwitch s) = refl
+open_stays (InRepeat r) = refl
 
 -- What the reader has is settled.
 pub reading_settled : (r : Reader) → settled (reading r) ≡ reading r
-reading_settled r = ap (λ (k : Block). record (reading r) { block = k }) (kept_open r.place)
+reading_settled r = ap (λ (k : Block). record (reading r) { block = k }) (open_stays r.place)
 
 fails_settled : (e : AlgoError) (x : Result Reading AlgoError) → Fails e x → Fails e (settle x)
 fails_settled (Refused f) x h = ap settle h

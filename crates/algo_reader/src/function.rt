@@ -1,15 +1,12 @@
-//! The lines of a function.
+//! The block of a function: its lines so far, which the reader gives it one by one.
 ghost use Rattle.std.specs.Prelude.{◌≡◌, ◌≤◌, map, length, drop, position};
 ghost use Rattle.algo_defs.specs.Words.{is_among};
 ghost use Rattle.algo_text.specs.Blocks.{in_line, result_line, result_words, is_equals, is_taken, new_block};
-ghost use Rattle.algo_reader.specs.Given.{Steps};
+ghost use Rattle.algo_lines.specs.Given.{Steps};
 ghost use Rattle.algo_reader.specs.Views.{function_view, function_def};
 
-use crate::fault::{bad_line, duplicate, push};
-use crate::formula::read_formula;
-use crate::ports::{Ports, read_port};
-use crate::word::line_words;
 use algo_defs::{AlgoError, Body, Def, Output};
+use algo_lines::{Ports, bad_line, duplicate, line_words, push, read_formula, read_port};
 use algo_text::Part;
 use std::alloc::Global;
 use syn_base::{Items, Name};
@@ -26,6 +23,7 @@ pub struct FunctionBlock {
     pub results: Vec<Output>,
 }
 
+/// Whether one of these outputs has this name.
 fn has_output(outputs: &[Output], name: &[u8]) -> bool
     ensures { result ≡ is_among name.now (map (λ o. o.port.name) outputs.now) }
 {
@@ -37,19 +35,22 @@ fn has_output(outputs: &[Output], name: &[u8]) -> bool
     false
 }
 
+/// How many outputs there are.
 fn count(outputs: &Vec<Output>) -> usize
     ensures { result ≡ length outputs.now.items }
 {
     outputs.len()
 }
 
-fn after(code: &[u8], at: usize) -> &[u8]
+/// The bytes from a place on.
+fn text_from(code: &[u8], at: usize) -> &[u8]
     requires { at ≤ length code.now }
     ensures { result.now ≡ drop at code.now }
 {
     &code[at..]
 }
 
+/// The place of the first `=`.
 fn equals_in(code: &[u8]) -> Option<usize>
     ensures { result ≡ position is_equals code.now }
 {
@@ -70,7 +71,7 @@ impl FunctionBlock {
         }
     }
 
-    /// A port of the function has this name.
+    /// Whether a port of the function has this name.
     #[tactic(auto, using(crate::proofs::Taken::two_named))]
     fn is_taken(&self, name: &Name) -> bool
         ensures { result ≡ is_taken (function_view self.now) name.now }
@@ -79,7 +80,7 @@ impl FunctionBlock {
         self.ins.has(name) || has_output(self.results.as_slice(), name)
     }
 
-    /// The definition that the lines are.
+    /// The definition that the lines make.
     pub fn into_def(self) -> Def
         ensures { result ≡ function_def (function_view self) }
     {
@@ -93,7 +94,7 @@ impl FunctionBlock {
         }
     }
 
-    /// in P LEN
+    /// Reads a line `in P LEN`: one input more, or the line's refusal.
     pub fn in_line(&mut self, alloc: Global, number: u32, words: &Words) -> Result<(), AlgoError>
         ensures { Steps result (function_view self.new) (in_line (function_view self.old) number words.now) }
     {
@@ -108,7 +109,7 @@ impl FunctionBlock {
         Ok(())
     }
 
-    /// out P LEN, with the text of the expression
+    /// Reads the words `out P LEN` with the text of the expression: one output more, or the line's refusal.
     fn result_words(
         &mut self,
         alloc: Global,
@@ -116,7 +117,8 @@ impl FunctionBlock {
         words: &Words,
         text: &[u8],
     ) -> Result<(), AlgoError>
-        ensures { Steps result (function_view self.new) (result_words (function_view self.old) number words.now text.now) }
+        ensures { Steps result (function_view self.new)
+            (result_words (function_view self.old) number words.now text.now) }
     {
         if words.len() != 3 || !self.part.admits(Part::Outputs) {
             return Err(bad_line(number));
@@ -131,7 +133,7 @@ impl FunctionBlock {
         Ok(())
     }
 
-    /// The words before the first `=`, and the expression after it.
+    /// Reads a line `out P LEN = EXPRESSION`: the words stand before the first `=`, the expression after it.
     pub fn result_line(&mut self, alloc: Global, number: u32, code: &[u8]) -> Result<(), AlgoError>
         ensures { Steps result (function_view self.new) (result_line (function_view self.old) number code.now) }
     {
@@ -139,6 +141,6 @@ impl FunctionBlock {
             return Err(bad_line(number));
         };
         let words = line_words(alloc, &code[..at])?;
-        self.result_words(alloc, number, &words, after(code, at + 1))
+        self.result_words(alloc, number, &words, text_from(code, at + 1))
     }
 }

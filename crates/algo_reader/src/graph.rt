@@ -1,14 +1,16 @@
-//! The lines of a graph.
+//! The block of a graph: its lines so far, which the reader gives it one by one.
 ghost use Rattle.std.specs.Prelude.{◌≡◌, ◌≤◌, map, true, length};
 ghost use Rattle.algo_defs.specs.Words.{is_among};
 ghost use Rattle.algo_text.specs.Blocks.{in_line, out_line, reference_of, with_reference, plain_line, marked_line, reference_line, edge_line, is_taken, new_block};
-ghost use Rattle.algo_reader.specs.Given.{Makes, Steps};
+ghost use Rattle.algo_defs.specs.Returned.{Gives};
+ghost use Rattle.algo_lines.specs.Given.{Steps};
 ghost use Rattle.algo_reader.specs.Views.{graph_view, graph_def};
 
-use crate::fault::{above, bad_line, bad_name, bad_number, duplicate, is_above, push};
-use crate::ports::{Ports, read_port};
-use crate::word::{line_name, read_end, read_period};
 use algo_defs::{AlgoError, Body, Def, Edge, Reference};
+use algo_lines::{
+    Ports, above, bad_line, bad_name, bad_number, duplicate, is_above, line_name, push, read_end,
+    read_period, read_port,
+};
 use algo_text::Part;
 use std::alloc::Global;
 use syn_base::{Items, LimitKind, Name};
@@ -27,6 +29,7 @@ pub struct GraphBlock {
     pub edges: Vec<Edge>,
 }
 
+/// Whether one of these references has this name.
 fn has_reference(references: &[Reference], name: &[u8]) -> bool
     ensures { result ≡ is_among name.now (map (λ r. r.name) references.now) }
 {
@@ -38,10 +41,10 @@ fn has_reference(references: &[Reference], name: &[u8]) -> bool
     false
 }
 
-/// R DEF after `ref`, without a mark.
+/// The reference that R DEF after `ref` gives, without a mark, or the line's refusal.
 fn read_reference(alloc: Global, number: u32, words: &Words) -> Result<Reference, AlgoError>
     requires { 3 ≤ length words.now }
-    ensures { Makes result (reference_of number words.now) }
+    ensures { Gives result (reference_of number words.now) }
 {
     let name = line_name(alloc, number, words.get(1))?;
     let def = line_name(alloc, number, words.get(2))?;
@@ -69,7 +72,7 @@ impl GraphBlock {
         }
     }
 
-    /// A port of the graph has this name.
+    /// Whether a port of the graph has this name.
     #[tactic(auto, using(crate::proofs::Taken::two_named))]
     fn is_taken(&self, name: &Name) -> bool
         ensures { result ≡ is_taken (graph_view self.now) name.now }
@@ -78,7 +81,7 @@ impl GraphBlock {
         self.ins.has(name) || self.outs.has(name)
     }
 
-    /// The definition that the lines are.
+    /// The definition that the lines make.
     pub fn into_def(self) -> Def
         ensures { result ≡ graph_def (graph_view self) }
     {
@@ -94,7 +97,7 @@ impl GraphBlock {
         }
     }
 
-    /// in P LEN
+    /// Reads a line `in P LEN`: one input more, or the line's refusal.
     pub fn in_line(&mut self, alloc: Global, number: u32, words: &Words) -> Result<(), AlgoError>
         ensures { Steps result (graph_view self.new) (in_line (graph_view self.old) number words.now) }
     {
@@ -109,7 +112,7 @@ impl GraphBlock {
         Ok(())
     }
 
-    /// out P LEN
+    /// Reads a line `out P LEN`: one output more, or the line's refusal.
     pub fn out_line(&mut self, alloc: Global, number: u32, words: &Words) -> Result<(), AlgoError>
         ensures { Steps result (graph_view self.new) (out_line (graph_view self.old) number words.now) }
     {
@@ -125,7 +128,7 @@ impl GraphBlock {
         Ok(())
     }
 
-    /// One reference more, of a name that none has.
+    /// Adds a reference, or refuses it where one has its name or there are too many.
     fn add_reference(&mut self, alloc: Global, reference: Reference) -> Result<(), AlgoError>
         ensures { Steps result (graph_view self.new) (with_reference (graph_view self.old) reference) }
     {
@@ -140,7 +143,7 @@ impl GraphBlock {
         push(&mut self.references, reference)
     }
 
-    /// ref R DEF
+    /// Reads a line `ref R DEF`: one reference more, or the line's refusal.
     fn plain_line(&mut self, alloc: Global, number: u32, words: &Words) -> Result<(), AlgoError>
         ensures { Steps result (graph_view self.new) (plain_line (graph_view self.old) number words.now) }
     {
@@ -151,7 +154,7 @@ impl GraphBlock {
         self.add_reference(alloc, reference)
     }
 
-    /// ref R DEF every N
+    /// Reads a line `ref R DEF every N`: one reference with a mark more, or the line's refusal.
     fn marked_line(&mut self, alloc: Global, number: u32, words: &Words) -> Result<(), AlgoError>
         requires { length words.now ≡ 5 }
         ensures { Steps result (graph_view self.new) (marked_line (graph_view self.old) number words.now) }
@@ -172,7 +175,7 @@ impl GraphBlock {
         )
     }
 
-    /// A reference, which may have a mark in version 3.
+    /// Reads a line `ref`, whose reference may have a mark in version 3.
     pub fn reference_line(
         &mut self,
         alloc: Global,
@@ -188,7 +191,7 @@ impl GraphBlock {
         self.plain_line(alloc, number, words)
     }
 
-    /// edge FROM TO
+    /// Reads a line `edge FROM TO`: one edge more, or the line's refusal.
     pub fn edge_line(&mut self, alloc: Global, number: u32, words: &Words) -> Result<(), AlgoError>
         ensures { Steps result (graph_view self.new) (edge_line (graph_view self.old) number words.now) }
     {

@@ -1,21 +1,22 @@
-//! The lines of a text, one after the other.
+//! The reader of a whole text, which gives each line to what is open where it stands.
 ghost use Rattle.std.specs.Prelude.{◌≡◌, ◌<◌, ◌≤◌, length, Ok};
 ghost use Rattle.syn_base.specs.Limits.{most_in_text};
 ghost use Rattle.text_lines.specs.Text.{lines_of};
 ghost use Rattle.algo_text.specs.Blocks.{new_block};
 ghost use Rattle.algo_text.specs.Text.{definitions_of, start, first_part, version_line, end_line, values_line, deep_line, delay_line, opening_line, repeat_line, between_line, function_line, graph_line, switch_line, frontier_line, by_stage, next_line, at_end, defs_in, in_function, in_graph, in_switch, in_repeat};
-ghost use Rattle.algo_reader.specs.Given.{Makes, Steps};
+ghost use Rattle.algo_defs.specs.Returned.{Gives};
+ghost use Rattle.algo_lines.specs.Given.{Steps};
 ghost use Rattle.algo_reader.specs.Views.{reading, settle, ended, is_between, function_end, graph_end, switch_end, repeat_end, any_end, stage_of, block_of, stage_for, end_body, values_body, function_view, graph_view, switch_view, repeat_view};
 
-use crate::fault::{above, bad_line, bad_number, is_above, not_text, push};
 use crate::function::FunctionBlock;
 use crate::graph::GraphBlock;
-use crate::names::add_new;
 use crate::repetition::RepeatBlock;
 use crate::switch::SwitchBlock;
-use crate::values::{delay_depth, read_values};
-use crate::word::{begins, line_name, line_words, read_count, read_version};
 use algo_defs::{AlgoError, Body, Def, Defs};
+use algo_lines::{
+    above, add_new, bad_line, bad_number, begins, delay_depth, is_above, line_name, line_words,
+    not_text, push, read_count, read_values, read_version,
+};
 use name_table::Names;
 use std::alloc::Global;
 use std::mem;
@@ -56,7 +57,7 @@ pub enum Place {
 }
 
 impl Place {
-    /// No block is open, and the version was read.
+    /// Whether no block is open and the version was read.
     fn is_between(&self) -> bool
         ensures { result ≡ is_between (stage_of self.now) }
     {
@@ -67,7 +68,8 @@ impl Place {
     }
 }
 
-/// What was read so far: the version, the definitions, and their names with the open block's.
+/// What was read so far: the version, the definitions, their names with the open block's, and where the next line
+/// stands.
 #[derive(Drop)]
 pub struct Reader<'a> {
     /// 0 before the line of the version.
@@ -77,6 +79,7 @@ pub struct Reader<'a> {
     pub place: Place,
 }
 
+/// The place of the next line where a block of this kind begins.
 fn open_block(alloc: Global, kind: Kind, name: Name, line: u32) -> Place
     ensures stage { stage_of result ≡ stage_for kind }
     ensures block { block_of result ≡ new_block (first_part (stage_for kind)) name line }
@@ -88,6 +91,7 @@ fn open_block(alloc: Global, kind: Kind, name: Name, line: u32) -> Place
     }
 }
 
+/// The body of a sensor or an actuator of this length.
 fn end_body(kind: EndKind, len: u32) -> Body
     ensures { result ≡ end_body kind len }
 {
@@ -97,6 +101,7 @@ fn end_body(kind: EndKind, len: u32) -> Body
     }
 }
 
+/// The body of a constant, or of a delay of depth 1, with these values.
 fn values_body(kind: ValuesKind, values: Vec<i64>) -> Body
     ensures { result ≡ values_body kind values.items }
 {
@@ -107,7 +112,7 @@ fn values_body(kind: ValuesKind, values: Vec<i64>) -> Body
 }
 
 impl<'a> Reader<'a> {
-    /// Nothing was read yet.
+    /// A reader that has read nothing. It takes no memory.
     pub fn new(alloc: Global) -> Reader<'a>
         ensures { reading result ≡ start }
     {
@@ -119,14 +124,14 @@ impl<'a> Reader<'a> {
         }
     }
 
-    /// The next line stands here.
+    /// Lets the next line stand at this place.
     fn go_to(&mut self, place: Place)
         ensures { self.new ≡ record self.old { place = place } }
     {
         self.place = place;
     }
 
-    /// The open block has ended as this definition.
+    /// Ends the open block, which has become this definition.
     fn end_as(&mut self, def: Def) -> Result<(), AlgoError>
         ensures { Steps result (reading self.new) (Ok (ended (reading self.old) def)) }
     {
@@ -134,7 +139,7 @@ impl<'a> Reader<'a> {
         push(&mut self.defs, def)
     }
 
-    /// algorithm VERSION
+    /// Reads the first line, `algorithm VERSION`, or refuses it.
     fn version_line(&mut self, number: u32, words: &Words) -> Result<(), AlgoError>
         requires { 0 < length words.now }
         ensures { Steps result (reading self.new) (settle (version_line (reading self.old) number words.now)) }
@@ -153,7 +158,7 @@ impl<'a> Reader<'a> {
         Ok(())
     }
 
-    /// sensor NAME LEN and actuator NAME LEN
+    /// Reads a line `sensor NAME LEN` or `actuator NAME LEN`: one definition more, or the line's refusal.
     fn end_line(
         &mut self,
         alloc: Global,
@@ -182,7 +187,8 @@ impl<'a> Reader<'a> {
         push(&mut self.defs, def)
     }
 
-    /// constant NAME = V0 V1 and so on, and likewise delay in version 1
+    /// Reads a line `constant NAME = V0 V1 ..`, or `delay` likewise in version 1: one definition more, or the line's
+    /// refusal.
     fn values_line(
         &mut self,
         alloc: Global,
@@ -212,7 +218,7 @@ impl<'a> Reader<'a> {
         push(&mut self.defs, def)
     }
 
-    /// delay NAME DEPTH = V0 V1 and so on, from version 2 on
+    /// Reads a line `delay NAME DEPTH = V0 V1 ..`, from version 2 on: one definition more, or the line's refusal.
     fn deep_line(&mut self, alloc: Global, number: u32, words: &Words<'a>) -> Result<(), AlgoError>
         ensures { Steps result (reading self.new) (deep_line (reading self.old) number words.now) }
     {
@@ -237,7 +243,7 @@ impl<'a> Reader<'a> {
         push(&mut self.defs, def)
     }
 
-    /// A delay, of depth 1 in version 1.
+    /// Reads a line `delay`, of depth 1 in version 1.
     fn delay_line(&mut self, alloc: Global, number: u32, words: &Words<'a>) -> Result<(), AlgoError>
         ensures { Steps result (reading self.new) (delay_line (reading self.old) number words.now) }
     {
@@ -248,7 +254,7 @@ impl<'a> Reader<'a> {
         }
     }
 
-    /// function NAME, graph NAME and switch NAME
+    /// Reads a line `function NAME`, `graph NAME` or `switch NAME`, which opens a block, or refuses it.
     fn opening_line(
         &mut self,
         alloc: Global,
@@ -267,7 +273,7 @@ impl<'a> Reader<'a> {
         Ok(())
     }
 
-    /// repeat NAME COUNT DEF
+    /// Reads a line `repeat NAME COUNT DEF`, which opens a block, or refuses it.
     fn repeat_line(
         &mut self,
         alloc: Global,
@@ -293,7 +299,7 @@ impl<'a> Reader<'a> {
         Ok(())
     }
 
-    /// A line between definitions.
+    /// Reads a line between definitions.
     fn between_line(
         &mut self,
         alloc: Global,
@@ -330,7 +336,7 @@ impl<'a> Reader<'a> {
         Err(bad_line(number))
     }
 
-    /// `end`
+    /// Reads the line `end` of a function, which has an output: one definition more, or the line's refusal.
     fn function_end(
         &mut self,
         number: u32,
@@ -347,7 +353,7 @@ impl<'a> Reader<'a> {
         self.end_as(block.into_def())
     }
 
-    /// `end`
+    /// Reads the line `end` of a graph: one definition more, or the line's refusal.
     fn graph_end(&mut self, number: u32, words: &Words, block: GraphBlock) -> Result<(), AlgoError>
         ensures { Steps result (reading self.new)
             (settle (graph_end (record (reading self.old)
@@ -359,7 +365,7 @@ impl<'a> Reader<'a> {
         self.end_as(block.into_def())
     }
 
-    /// `end`
+    /// Reads the line `end` of a switch, which has its `otherwise`: one definition more, or the line's refusal.
     fn switch_end(
         &mut self,
         number: u32,
@@ -379,7 +385,7 @@ impl<'a> Reader<'a> {
         self.end_as(def)
     }
 
-    /// `end`
+    /// Reads the line `end` of a repetition: one definition more, or the line's refusal.
     fn repeat_end(
         &mut self,
         number: u32,
@@ -396,7 +402,7 @@ impl<'a> Reader<'a> {
         self.end_as(block.into_def())
     }
 
-    /// `end`: the open block becomes a definition.
+    /// Reads the line `end`: the open block becomes a definition, or the line is refused.
     fn end_block(&mut self, number: u32, words: &Words) -> Result<(), AlgoError>
         ensures { Steps result (reading self.new)
             (settle (any_end (stage_of self.old.place) (reading self.old) number words.now)) }
@@ -410,7 +416,7 @@ impl<'a> Reader<'a> {
         }
     }
 
-    /// A line of a function.
+    /// Reads a line of a function.
     fn function_line(
         &mut self,
         alloc: Global,
@@ -420,7 +426,8 @@ impl<'a> Reader<'a> {
     ) -> Result<(), AlgoError>
         requires some { 0 < length words.now }
         requires open { stage_of self.old.place ≡ in_function }
-        ensures { Steps result (reading self.new) (settle (function_line (reading self.old) number words.now code.now)) }
+        ensures { Steps result (reading self.new)
+            (settle (function_line (reading self.old) number words.now code.now)) }
     {
         let Place::InFunction(block) = &mut self.place else {
             return Err(bad_line(number));
@@ -437,7 +444,7 @@ impl<'a> Reader<'a> {
         Err(bad_line(number))
     }
 
-    /// A line of a graph.
+    /// Reads a line of a graph.
     fn graph_line(&mut self, alloc: Global, number: u32, words: &Words) -> Result<(), AlgoError>
         requires some { 0 < length words.now }
         requires open { stage_of self.old.place ≡ in_graph }
@@ -464,7 +471,7 @@ impl<'a> Reader<'a> {
         Err(bad_line(number))
     }
 
-    /// A line of a conditioned definition.
+    /// Reads a line of a switch.
     fn switch_line(&mut self, alloc: Global, number: u32, words: &Words) -> Result<(), AlgoError>
         requires some { 0 < length words.now }
         requires open { stage_of self.old.place ≡ in_switch }
@@ -494,7 +501,7 @@ impl<'a> Reader<'a> {
         Err(bad_line(number))
     }
 
-    /// A line of a repetition.
+    /// Reads a line of a repetition.
     fn frontier_line(&mut self, alloc: Global, number: u32, words: &Words) -> Result<(), AlgoError>
         requires some { 0 < length words.now }
         requires open { stage_of self.old.place ≡ in_repeat }
@@ -521,7 +528,7 @@ impl<'a> Reader<'a> {
         Err(bad_line(number))
     }
 
-    /// A line with words, by where it stands.
+    /// Reads a line with words, by where it stands.
     #[tactic(auto, using(crate::proofs::Settled::steps_settled))]
     fn by_stage(
         &mut self,
@@ -570,10 +577,10 @@ impl<'a> Reader<'a> {
         }
     }
 
-    /// The definitions, at the end of the text.
+    /// The definitions at the end of the text, or the refusal of a text that ends before its version or in a block.
     #[tactic(auto, using(crate::proofs::Ends::end_by))]
     pub fn at_end(self, number: u32) -> Result<Defs, AlgoError>
-        ensures { Makes result (at_end (stage_of self.entry.place) (defs_in (reading self.entry)) number) }
+        ensures { Gives result (at_end (stage_of self.entry.place) (defs_in (reading self.entry)) number) }
     {
         let is_whole = self.place.is_between();
         let defs = self.into_defs();
@@ -586,10 +593,10 @@ impl<'a> Reader<'a> {
 }
 
 /// The definitions of a text, or its first refusal in the order of its lines: Refused with the line and
-/// the cause, or Limit. OutOfMemory may come in place of any answer.
+/// the cause, or Limit. OutOfMemory may come in place of any result.
 pub fn read_algo(alloc: Global, bytes: &[u8]) -> Result<Defs, AlgoError>
     requires { length (lines_of bytes.now) ≤ most_in_text }
-    ensures { Makes result (definitions_of bytes.now) }
+    ensures { Gives result (definitions_of bytes.now) }
 {
     let mut reader = Reader::new(alloc);
     let mut from = 0;

@@ -1,16 +1,15 @@
-//! The lines of a repetition.
+//! The block of a repetition: its lines so far, which the reader gives it one by one.
 ghost use Rattle.std.specs.Prelude.{◌≡◌, ◌∷◌, []};
 ghost use Rattle.algo_defs.specs.Words.{is_among};
 ghost use Rattle.algo_defs.specs.Outer.{all_outer, outer_names};
 ghost use Rattle.algo_text.specs.Blocks.{fork_line, diffuse_line, iterate_line, join_line, new_block, with_frontier};
 ghost use Rattle.algo_defs.specs.declared.definition.Frontier.{Frontier};
 ghost use Rattle.algo_text.specs.declared.part.Part.TheVariants.{Inputs};
-ghost use Rattle.algo_reader.specs.Given.{Steps};
+ghost use Rattle.algo_lines.specs.Given.{Steps};
 ghost use Rattle.algo_reader.specs.Views.{repeat_view, repeat_def, with_line};
 
-use crate::fault::{above, bad_line, duplicate, is_above, push};
-use crate::word::line_name;
 use algo_defs::{AlgoError, Body, Def, Frontier, FrontierLine};
+use algo_lines::{above, bad_line, duplicate, is_above, line_name, push};
 use std::alloc::Global;
 use syn_base::{Items, LimitKind, Name};
 use text_lines::Words;
@@ -25,6 +24,7 @@ pub struct RepeatBlock {
     pub frontier: Vec<FrontierLine>,
 }
 
+/// Whether an outer port of this frontier has this name.
 fn is_outer(frontier: &Frontier, name: &[u8]) -> bool
     ensures { result ≡ is_among name.now (outer_names frontier.now) }
 {
@@ -37,6 +37,7 @@ fn is_outer(frontier: &Frontier, name: &[u8]) -> bool
     }
 }
 
+/// Whether an outer port of one of these lines has this name.
 #[tactic(auto, using(crate::proofs::Taken::either))]
 fn has_outer(lines: &[FrontierLine], name: &[u8]) -> bool
     ensures { result ≡ is_among name.now (all_outer lines.now) }
@@ -63,7 +64,7 @@ impl RepeatBlock {
         }
     }
 
-    /// The definition that the lines are.
+    /// The definition that the lines make.
     pub fn into_def(self) -> Def
         ensures { result ≡ repeat_def (repeat_view self) }
     {
@@ -158,8 +159,8 @@ impl RepeatBlock {
         push(&mut self.frontier, line)
     }
 
-    /// fork P X
-    #[tactic(auto, using(crate::proofs::Behind::behind_two))]
+    /// Reads a line `fork P X`: one frontier line more, or the line's refusal.
+    #[tactic(auto, using(crate::proofs::AfterFirst::after_two))]
     pub fn fork_line(&mut self, alloc: Global, number: u32, words: &Words) -> Result<(), AlgoError>
         ensures { Steps result (repeat_view self.new) (fork_line (repeat_view self.old) number words.now) }
     {
@@ -172,8 +173,8 @@ impl RepeatBlock {
         self.add(alloc, number, frontier, words.get(1))
     }
 
-    /// diffuse P X
-    #[tactic(auto, using(crate::proofs::Behind::behind_two))]
+    /// Reads a line `diffuse P X`: one frontier line more, or the line's refusal.
+    #[tactic(auto, using(crate::proofs::AfterFirst::after_two))]
     pub fn diffuse_line(
         &mut self,
         alloc: Global,
@@ -191,8 +192,8 @@ impl RepeatBlock {
         self.add(alloc, number, frontier, words.get(1))
     }
 
-    /// join Y Q
-    #[tactic(auto, using(crate::proofs::Behind::behind_two))]
+    /// Reads a line `join Y Q`: one frontier line more, or the line's refusal.
+    #[tactic(auto, using(crate::proofs::AfterFirst::after_two))]
     pub fn join_line(&mut self, alloc: Global, number: u32, words: &Words) -> Result<(), AlgoError>
         ensures { Steps result (repeat_view self.new) (join_line (repeat_view self.old) number words.now) }
     {
@@ -205,8 +206,8 @@ impl RepeatBlock {
         self.add(alloc, number, frontier, words.get(2))
     }
 
-    /// iterate P X Y Q
-    #[tactic(auto, using(crate::proofs::Behind::behind_four))]
+    /// Reads a line `iterate P X Y Q`: one frontier line more, or the line's refusal.
+    #[tactic(auto, using(crate::proofs::AfterFirst::after_four))]
     pub fn iterate_line(
         &mut self,
         alloc: Global,

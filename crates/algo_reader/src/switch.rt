@@ -1,21 +1,22 @@
-//! The lines of a conditioned definition.
+//! The block of a switch: its lines so far, which the reader gives it one by one.
 ghost use Rattle.std.specs.Prelude.{◌≡◌, true, false, MatchOption};
 ghost use Rattle.std.specs.Str.{bytes_eq};
 ghost use Rattle.algo_text.specs.Parts.{is_whole};
 ghost use Rattle.algo_text.specs.Blocks.{in_line, out_line, on_line, case_line, otherwise_line, is_taken, new_block};
-ghost use Rattle.algo_reader.specs.Given.{Steps};
+ghost use Rattle.algo_lines.specs.Given.{Steps};
 ghost use Rattle.algo_reader.specs.Views.{switch_view, switch_def, part_of, on_of};
 
-use crate::fault::{above, bad_line, bad_number, duplicate, is_above, push};
-use crate::ports::{Ports, read_port};
-use crate::word::{line_name, read_number};
 use algo_defs::{AlgoError, Body, Case, Def};
+use algo_lines::{
+    Ports, above, bad_line, bad_number, duplicate, is_above, line_name, push, read_number,
+    read_port,
+};
 use algo_text::Part;
 use std::alloc::Global;
 use syn_base::{Items, LimitKind, Name};
 use text_lines::Words;
 
-/// The part of a conditioned definition after its line `on` in which the last line stands.
+/// The part of a switch after its line `on` in which the last line stands.
 #[derive(Drop)]
 pub enum SwitchPart {
     Inputs,
@@ -25,7 +26,7 @@ pub enum SwitchPart {
     Whole(Name, u32),
 }
 
-/// The lines of a conditioned definition so far.
+/// The lines of a switch so far.
 #[derive(Drop)]
 pub struct SwitchBlock {
     pub name: Name,
@@ -39,7 +40,7 @@ pub struct SwitchBlock {
 }
 
 impl SwitchBlock {
-    /// A conditioned definition without lines. It takes no memory.
+    /// A switch without lines. It takes no memory.
     pub fn new(alloc: Global, name: Name, line: u32) -> SwitchBlock
         ensures { switch_view result ≡ new_block Part.Conditioning name line }
     {
@@ -69,6 +70,7 @@ impl SwitchBlock {
         }
     }
 
+    /// Whether the conditioning input has this name; before its line is read it has none.
     fn is_on(&self, name: &[u8]) -> bool
         ensures { result ≡ bytes_eq name.now (on_of self.now.on) }
     {
@@ -78,7 +80,7 @@ impl SwitchBlock {
         }
     }
 
-    /// A port has this name.
+    /// Whether a port of the switch has this name.
     #[tactic(auto, using(crate::proofs::Taken::two_lists))]
     fn is_taken(&self, name: &Name) -> bool
         ensures { result ≡ is_taken (switch_view self.now) name.now }
@@ -87,7 +89,7 @@ impl SwitchBlock {
         self.is_on(name) || self.ins.has(name) || self.outs.has(name)
     }
 
-    /// The definition that the lines are, once the line `otherwise` was read.
+    /// The definition that the lines make, once the line `otherwise` was read.
     pub fn into_def(self) -> Option<Def>
         ensures { MatchOption result (is_whole (switch_view self).part ≡ false)
             (λ def. (is_whole (switch_view self).part ≡ true) ×
@@ -110,7 +112,7 @@ impl SwitchBlock {
         })
     }
 
-    /// on P, the first line
+    /// Reads the first line, `on P`: the conditioning input, or the line's refusal.
     pub fn on_line(&mut self, alloc: Global, number: u32, words: &Words) -> Result<(), AlgoError>
         ensures { Steps result (switch_view self.new) (on_line (switch_view self.old) number words.now) }
     {
@@ -123,7 +125,7 @@ impl SwitchBlock {
         Ok(())
     }
 
-    /// in P LEN
+    /// Reads a line `in P LEN`: one input more, or the line's refusal.
     pub fn in_line(&mut self, alloc: Global, number: u32, words: &Words) -> Result<(), AlgoError>
         ensures { Steps result (switch_view self.new) (in_line (switch_view self.old) number words.now) }
     {
@@ -138,7 +140,7 @@ impl SwitchBlock {
         Ok(())
     }
 
-    /// out P LEN
+    /// Reads a line `out P LEN`: one output more, or the line's refusal.
     pub fn out_line(&mut self, alloc: Global, number: u32, words: &Words) -> Result<(), AlgoError>
         ensures { Steps result (switch_view self.new) (out_line (switch_view self.old) number words.now) }
     {
@@ -154,7 +156,7 @@ impl SwitchBlock {
         Ok(())
     }
 
-    /// case VALUE DEF
+    /// Reads a line `case VALUE DEF`: one case more, or the line's refusal.
     pub fn case_line(&mut self, alloc: Global, number: u32, words: &Words) -> Result<(), AlgoError>
         ensures { Steps result (switch_view self.new) (case_line (switch_view self.old) number words.now) }
     {
@@ -180,7 +182,7 @@ impl SwitchBlock {
         )
     }
 
-    /// otherwise DEF, the last line
+    /// Reads the last line, `otherwise DEF`, or refuses it.
     pub fn otherwise_line(
         &mut self,
         alloc: Global,

@@ -16,15 +16,17 @@ use Rattle.algo_resolve.specs.declared.sources.Graph.{Graph}
 abbrev pub AreReady : Checked → Type 0
 AreReady b = IsReady b.defs.now b.links.now b.table.now
 
--- the same, with a plan for each definition
+-- The definitions are ready, and each has its plan.
 pub record ArePlanned (b : Builder) : Type 0 where
   pub ready : IsReady b.defs.now b.links.now b.table.now
   pub plans : map plan_view b.plans.now ≡ map (plan_of b.defs.now) b.defs.now
 
--- the definitions of the references stand at their places, and their inputs are wired
+-- The definitions of the references stand at their places, and their inputs are wired.
 pub record IsWired (b : Builder) (g : WiredGraph) : Type 0 where
   pub placed : ArePlaced b.defs.now b.table.now (map (λ r. r.def) g.references.now) g.places.now
-  pub wires : g.wires.now ≡ map (λ r. sources_to (ports_of b.defs.now) g.ins.now g.references.now g.edges.now (Some r.name) (ports_of b.defs.now r.def).ins) g.references.now
+  pub wires : g.wires.now ≡
+      map (λ r. sources_to (ports_of b.defs.now) g.ins.now g.references.now g.edges.now (Some r.name)
+      (ports_of b.defs.now r.def).ins) g.references.now
 
 abbrev pub all : Graph → List Def
 all g = g.checked.defs.now
@@ -32,6 +34,6 @@ all g = g.checked.defs.now
 abbrev pub of : Graph → Bytes → Ports
 of g = ports_of (all g)
 
--- the definitions of the references stand at their places
+-- The definitions of the references stand at their places.
 abbrev pub IsPlacedGraph : Graph → Type 0
 IsPlacedGraph g = ArePlaced (all g) g.checked.table.now (map (λ r. r.def) g.references.now) g.places.now

@@ -10,18 +10,19 @@ use Rattle.algo_check.specs.Counts.{row}
 use Rattle.algo_rules.specs.Resolved.{is_fork}
 use Rattle.tree_laws.specs.Sizes.{made_within}
 
--- a body, by the size of all together that it names
+-- A body, by the size of all together that it names.
 abbrev pub size_by : ℕ → Body → ℕ
 size_by inner (Graph ins outs references edges) = suc inner
 size_by inner (Switch on ins outs cases otherwise last) = suc inner
 size_by inner (Repeat copies def lines) = suc (copies * inner + sum_by is_fork lines)
 size_by inner _ = 1
 
--- the sizes of definitions from a place on, by these sizes
+-- The sizes of definitions from a place on, by these sizes.
 abbrev pub next_from : List Def → List ℕ → ℕ → List Def → List ℕ
 next_from ds sizes k [] = []
 next_from ds sizes k (d ∷ rest) =
-    min (size_by (min (sum_by (slice_index sizes) (row ds k)) (2 ^ 64 - 1)) d.body) (2 ^ 64 - 1) ∷ next_from ds sizes (suc k) rest
+    min (size_by (min (sum_by (slice_index sizes) (row ds k)) (2 ^ 64 - 1)) d.body) (2 ^ 64 - 1) ∷
+    next_from ds sizes (suc k) rest
 
 -- After this many rounds: the size of each definition, followed so often.
 pub record AreSizes (ds : List Def) (round : ℕ) (sizes : List ℕ) : Type 0 where

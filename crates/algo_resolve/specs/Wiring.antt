@@ -11,13 +11,14 @@ use Rattle.algo_rules.specs.Graphs.{same_owner}
 use Rattle.algo_rules.specs.Resolved.{source_from}
 use Rattle.algo_rules.specs.declared.ports.Ports.{Ports}
 
--- the edges that lead to this owner, in order
+-- The edges that lead to this owner, in order.
 abbrev pub into : Option Bytes → List Edge → List Edge
 into owner [] = []
 into owner (e ∷ es) = if same_owner e.to.owner owner then e ∷ into owner es else into owner es
 
--- where the first edge into a port of this name comes from, whatever its owner
+-- Where the first edge into a port of this name comes from, whatever its owner.
 abbrev pub source_among : (Bytes → Ports) → List Port → List Reference → List Edge → Bytes → Source
 source_among of ins references [] w = Own 0
 source_among of ins references (e ∷ es) w =
-    if bytes_eq e.to.port w then source_from of ins references e.from.owner e.from.port else source_among of ins references es w
+    if bytes_eq e.to.port w then source_from of ins references e.from.owner e.from.port else
+    source_among of ins references es w

@@ -1,4 +1,4 @@
-//! From definitions to vertices, each with what is inside it.
+//! The vertices that definitions become, each with what is inside it, built from their plans.
 ghost use Rattle.std.specs.Prelude.{◌≡◌, ◌+◌, ◌<◌, ◌≤◌, ◌∷◌, ◌++◌, [], IfOk, Some, length, map, slice_get};
 ghost use Rattle.algo_links.specs.Linked.{named};
 ghost use Rattle.algo_rules.specs.Placed.{ArePlaced, IsPlaced};
@@ -189,7 +189,8 @@ impl<'a> Cases<'a> {
     /// The definition of the case of a number, where `otherwise` is the last case.
     fn name(&self, number: usize) -> &'a Name
         requires { number ≤ length self.now.cases.now }
-        ensures { slice_get (map (λ c. c.def) self.now.cases.now ++ self.now.otherwise.now ∷ []) number ≡ Some result.now }
+        ensures { slice_get (map (λ c. c.def) self.now.cases.now ++ self.now.otherwise.now ∷ []) number ≡
+            Some result.now }
     {
         if number < self.cases.len() {
             &self.cases[number].def

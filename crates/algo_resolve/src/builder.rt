@@ -1,4 +1,4 @@
-//! Definitions with a plan for each, from which vertices are made.
+//! The checked definitions with a plan for each, from which vertices are built.
 use crate::plan::Plan;
 use algo_defs::{Def, Edge, Reference};
 use algo_rules::Ports;

@@ -1,4 +1,4 @@
-//! Definitions with what is known of them once they are checked.
+//! The checked definitions, with their links and ports, from which plans are made.
 use algo_defs::Def;
 use algo_rules::Ports;
 use syn_base::Items;

@@ -1,4 +1,4 @@
-//! How a repetition feeds its body, and what it gives.
+//! The frontier of a repetition as a tree has it: how it feeds its body, and what it gives.
 ghost use Rattle.std.specs.Prelude.{◌≡◌, ℕ, IfOk, List, map, option_to_list};
 ghost use Rattle.std.specs.List.{flat_map};
 ghost use Rattle.algo_defs.specs.declared.definition.Frontier.TheVariants.{Diffuse, Fork, Iterate};
@@ -75,6 +75,7 @@ fn feed_by(
     }
 }
 
+/// How a fork line feeds an input of the body, if it uses it.
 fn fork(
     alloc: Global,
     inner: &Ports,
@@ -93,6 +94,7 @@ fn fork(
     Ok(Some(Feed::Fork(copy_name(alloc, from)?, number, len)))
 }
 
+/// How a diffuse line feeds an input of the body, if it uses it.
 fn diffuse(
     outer: &Ports,
     name: &Name,
@@ -108,6 +110,7 @@ fn diffuse(
     Ok(Some(Feed::Diffuse(number)))
 }
 
+/// How an iterate line feeds an input of the body, if it uses it.
 fn iterate(
     inner: &Ports,
     outer: &Ports,

@@ -1,4 +1,4 @@
-//! The kind of the vertices of a definition.
+//! The kind of the vertices of a definition, which its plan keeps.
 ghost use Rattle.std.specs.Prelude.{◌≡◌, ◌≤◌, ◌/◌, ◌∷◌, [], IfOk, List, drop, length, map, take};
 ghost use Rattle.std.specs.List.{flat_map};
 ghost use Rattle.algo_links.specs.Linked.{named};
@@ -34,7 +34,8 @@ impl<'a> Checked<'a> {
     ) -> Result<Kind, OutOfMemory>
         requires placed { ArePlaced self.now.defs.now self.now.table.now (named body.now) places.now }
         requires read { IsWellRead body.now }
-        ensures { IfOk result (λ k. (make : Making) → kind_view k ≡ kind_by self.now.defs.now make own.now 0 0 body.now) }
+        ensures { IfOk result (λ k. (make : Making) →
+            kind_view k ≡ kind_by self.now.defs.now make own.now 0 0 body.now) }
     {
         match body {
             Body::Sensor(_) => Ok(Kind::Sensor(0)),
@@ -141,6 +142,7 @@ fn formulas(alloc: Global, outs: &[Output]) -> Result<Function, OutOfMemory>
     Ok(Function::new(alloc, copies_of(alloc, outs)?)?)
 }
 
+/// A copy of the expression of each output.
 fn copies_of(alloc: Global, outs: &[Output]) -> Result<Vec<Expr>, OutOfMemory>
     ensures { IfOk result (λ es. map view es.items ≡ map (λ o. o.formula) outs.now) }
 {

@@ -1,8 +1,9 @@
-//! The tree of the definitions of a text: the main graph with all that it refers to inside.
+//! Resolves the definitions of a text to a tree, the main graph with all that it refers to inside, or returns their
+//! first refusal.
 //!
-//! `resolve` is its one call, which the commands of `syndex_program` make of the definitions that were
-//! read. What the vertices of a definition have in common is found once for each definition (`Plan`),
-//! so that making a vertex takes time and memory in proportion to the vertex.
+//! `resolve` is its one call, which `elaboration` makes of the definitions that were read. What the vertices of a
+//! definition have in common is found once for each definition (`Plan`), so that making a vertex takes time and memory
+//! in proportion to the vertex.
 #![tactic(auto)]
 
 mod build;

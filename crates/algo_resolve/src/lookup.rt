@@ -1,4 +1,4 @@
-//! Lengths of ports by name, numbers and names as a tree has them.
+//! A port's length by name, and a name as a tree has it, for the kinds and the frontiers of vertices.
 ghost use Rattle.std.specs.Prelude.{◌≡◌, IfOk};
 ghost use Rattle.algo_rules.specs.Ports.{len_of};
 

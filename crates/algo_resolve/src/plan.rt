@@ -1,4 +1,4 @@
-//! What all vertices of a definition have in common, made once for the definition.
+//! The plan of a definition: what all its vertices have in common, made once.
 ghost use Rattle.std.specs.Prelude.{◌≡◌, ◌<◌, IfOk, Some, map, slice_get};
 ghost use Rattle.algo_links.specs.Linked.{named};
 ghost use Rattle.algo_rules.specs.Placed.{ArePlaced};

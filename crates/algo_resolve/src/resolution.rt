@@ -1,4 +1,4 @@
-//! The tree of definitions, or their first refusal.
+//! The tree of the definitions of a text, or their first refusal: `resolve`, which `elaboration` calls.
 ghost use Rattle.std.specs.Prelude.{◌≡◌, ◌<◌, ◌≤◌, IfOk, IfSome, MatchOption, None, Some, codes, length, nat_lt, slice_get};
 ghost use Rattle.syn_base.specs.Limits.{most_in_text};
 ghost use Rattle.algo_rules.specs.Links.{definition};
@@ -28,7 +28,7 @@ use tree_laws::{accepted_make_a_tree, vertices_are_counted};
 
 /// The tree of the definitions of a text, or their first refusal in the order of the checks.
 ///
-/// OutOfMemory may come in place of any answer. It comes also where the tree would be made of more than
+/// OutOfMemory may come in place of any result. It comes also where the tree would be made of more than
 /// `MOST_VERTICES`, each copy of the body of a repetition counted, before anything is made; a tree of
 /// at most this many is always made, as far as there is memory.
 pub fn resolve(alloc: Global, defs: &Defs) -> Result<Tree, AlgoError>
@@ -69,6 +69,7 @@ fn tree(alloc: Global, checked: &Checked) -> Result<Tree, OutOfMemory>
         return Err(OutOfMemory);
     }
     let main = main_vertex(alloc, checked, place)?;
+    // That the vertex is a valid tree, which `Tree::new` asks for.
     accepted_make_a_tree();
     Ok(Tree::new(main))
 }
@@ -83,6 +84,7 @@ fn is_too_large(alloc: Global, checked: &Checked, place: usize) -> Result<bool, 
     ensures { IfOk result (λ large. large ≡ nat_lt 262144 (vertices_made (tree_of checked.now.defs.now))) }
 {
     let sizes = sizes(alloc, checked)?;
+    // That the counted size is that of the tree.
     vertices_are_counted();
     Ok(entry(&sizes, place) > MOST_VERTICES)
 }
@@ -104,6 +106,7 @@ fn main_vertex(alloc: Global, checked: &Checked, place: usize) -> Result<Vertex,
     build_main(alloc, &builder, place)
 }
 
+/// The vertex of the main graph, built from the plans.
 fn build_main(alloc: Global, builder: &Builder, place: usize) -> Result<Vertex, OutOfMemory>
     requires planned { ArePlanned builder.now }
     requires below { place < length builder.now.defs.now }

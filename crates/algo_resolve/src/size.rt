@@ -1,4 +1,4 @@
-//! How large a tree is going to be, counted without making it.
+//! The size of a tree, counted without making it, so that `resolve` refuses one too large before it is made.
 ghost use Rattle.std.specs.Prelude.{◌≡◌, ◌-◌, ◌^◌, ◌<◌, IfOk, Some, min, replicate, slice_get, slice_index};
 ghost use Rattle.std.specs.List.{sum_by};
 ghost use Rattle.algo_rules.specs.WellRead.{IsWellRead};
@@ -26,6 +26,7 @@ pub fn sizes(alloc: Global, checked: &Checked) -> Result<Vec<u64>, OutOfMemory>
     Ok(sizes)
 }
 
+/// The sizes before the first round: each is 1.
 fn ones(alloc: Global, count: usize) -> Result<Vec<u64>, OutOfMemory>
     ensures { IfOk result (λ sizes. sizes.items ≡ replicate count 1) }
 {

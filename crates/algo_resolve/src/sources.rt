@@ -1,4 +1,4 @@
-//! Where the values in a graph come from.
+//! The sources of the values in a graph, which its plan keeps.
 ghost use Rattle.std.specs.Prelude.{◌≡◌, IfOk, MatchOption, map};
 ghost use Rattle.algo_rules.specs.Graphs.{ports_at, same_owner};
 ghost use Rattle.algo_rules.specs.Ports.{no_ports, number_of};
@@ -134,6 +134,7 @@ fn edges_into<'a>(
     Ok(all)
 }
 
+/// Whether two ends of edges have the same owner.
 fn is_same_owner(first: &Option<Name>, second: &Option<Name>) -> bool
     ensures { result ≡ same_owner first.now second.now }
 {

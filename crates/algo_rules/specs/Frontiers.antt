@@ -1,5 +1,24 @@
--- The checks of repetitions and of conditioned definitions.
-use Rattle.std.specs.Prelude.{ℕ, ◌*◌, Bool, false, not, ◌&&◌, ◌||◌, ◌==◌, nat_lt, List, [], ◌∷◌, ◌++◌, Option, Some, None, if◌then◌else◌, ℤ}
+-- The checks of repetitions and of switches.
+use Rattle.std.specs.Prelude.{
+  ℕ,
+  ◌*◌,
+  Bool,
+  false,
+  not,
+  ◌&&◌,
+  ◌||◌,
+  ◌==◌,
+  nat_lt,
+  List,
+  [],
+  ◌∷◌,
+  ◌++◌,
+  Option,
+  Some,
+  None,
+  if◌then◌else◌,
+  ℤ,
+}
 use Rattle.std.specs.List.{list_all, flat_map}
 use Rattle.std.specs.Ordering.{int_eq}
 use Rattle.syn_base.specs.declared.limits.LimitKind.TheVariants.{PortLength}
@@ -19,9 +38,11 @@ use Rattle.algo_rules.specs.Ports.{has_port, len_of, same_ports}
 use Rattle.algo_rules.specs.declared.ports.Ports.{Ports}
 
 abbrev pub too_long : ℕ → Option AlgoError
-too_long len = if nat_lt 64 len then Some (Limit (record { which = PortLength; count = len; bound = bound_of PortLength })) else None
+too_long len =
+    if nat_lt 64 len
+    then Some (Limit (record { which = PortLength; count = len; bound = bound_of PortLength })) else None
 
--- the inner input that a frontier line uses
+-- The inner input that a frontier line uses.
 abbrev pub used_by : Frontier → List Bytes
 used_by (Fork p x) = x ∷ []
 used_by (Diffuse p x) = x ∷ []
@@ -29,30 +50,39 @@ used_by (Iterate p x y q) = x ∷ []
 used_by (Join y q) = []
 
 module _ (copies : ℕ) (inner : Ports) where
-  -- an inner input that no line before uses
+  -- An inner input that no line before uses.
   abbrev pub is_open : List Bytes → Bytes → Bool
   is_open used x = has_port inner.ins x && not (is_among x used)
 
-  -- An inner port that is not there, an inner input that is used twice, an iterate between unequal lengths; then an outer port that is too long.
+  -- An inner port that is not there, an inner input that is used twice, an iterate between unequal lengths; then an
+  -- outer port that is too long.
   abbrev pub frontier_fault : List Bytes → ℕ → Frontier → Option AlgoError
-  frontier_fault used n (Fork p x) = if is_open used x then too_long (copies * len_of inner.ins x) else fault n BadRepeat
-  frontier_fault used n (Diffuse p x) = if is_open used x then too_long (len_of inner.ins x) else fault n BadRepeat
-  frontier_fault used n (Iterate p x y q) = if is_open used x && (has_port inner.outs y && (len_of inner.ins x == len_of inner.outs y)) then too_long (len_of inner.ins x) else fault n BadRepeat
-  frontier_fault used n (Join y q) = if has_port inner.outs y then too_long (copies * len_of inner.outs y) else fault n BadRepeat
+  frontier_fault used n (Fork p x) =
+      if is_open used x then too_long (copies * len_of inner.ins x) else fault n BadRepeat
+  frontier_fault used n (Diffuse p x) =
+      if is_open used x then too_long (len_of inner.ins x) else fault n BadRepeat
+  frontier_fault used n (Iterate p x y q) =
+      if is_open used x && (has_port inner.outs y && (len_of inner.ins x == len_of inner.outs y))
+      then too_long (len_of inner.ins x) else fault n BadRepeat
+  frontier_fault used n (Join y q) =
+      if has_port inner.outs y then too_long (copies * len_of inner.outs y) else fault n BadRepeat
 
   abbrev pub frontier_faults : List Bytes → List FrontierLine → List (Option AlgoError)
   frontier_faults used [] = []
-  frontier_faults used (l ∷ ls) = frontier_fault used l.line l.frontier ∷ frontier_faults (used ++ used_by l.frontier) ls
+  frontier_faults used (l ∷ ls) =
+      frontier_fault used l.line l.frontier ∷ frontier_faults (used ++ used_by l.frontier) ls
 
-  -- an inner input that stands in no line
+  -- An inner input that stands in no line.
   abbrev pub unfed : ℕ → List FrontierLine → Option AlgoError
-  unfed line ls = if list_all (λ p. is_among p.name (flat_map (λ l. used_by l.frontier) ls)) inner.ins then None else fault line BadRepeat
+  unfed line ls =
+      if list_all (λ p. is_among p.name (flat_map (λ l. used_by l.frontier) ls)) inner.ins then None else
+      fault line BadRepeat
 
   -- A repetition at this line: its lines in order, and then its inner inputs.
   abbrev pub repeat_fault : ℕ → List FrontierLine → Option AlgoError
   repeat_fault line ls = first_of (frontier_faults [] ls ++ unfed line ls ∷ [])
 
--- the ports of a definition are those of the switch without its conditioning input
+-- The ports of a definition are those of the switch without its conditioning input.
 abbrev pub fits : List Port → List Port → Ports → Bool
 fits ins outs p = same_ports p.ins ins && same_ports p.outs outs
 
@@ -62,7 +92,8 @@ has_value (x ∷ xs) v = int_eq x v || has_value xs v
 
 module _ (of : Bytes → Ports) (ins outs : List Port) where
   abbrev pub case_fault : List ℤ → Case → Option AlgoError
-  case_fault before c = if not (has_value before c.value) && fits ins outs (of c.def) then None else fault c.line BadCase
+  case_fault before c =
+      if not (has_value before c.value) && fits ins outs (of c.def) then None else fault c.line BadCase
 
   abbrev pub case_faults : List ℤ → List Case → List (Option AlgoError)
   case_faults before [] = []
@@ -70,4 +101,5 @@ module _ (of : Bytes → Ports) (ins outs : List Port) where
 
   -- A switch: each case has a new value and the switch's ports, and `otherwise` has them too.
   abbrev pub switch_fault : List Case → Bytes → ℕ → Option AlgoError
-  switch_fault cases otherwise last = first_of (case_faults [] cases ++ (if fits ins outs (of otherwise) then None else fault last BadCase) ∷ [])
+  switch_fault cases otherwise last = first_of
+      (case_faults [] cases ++ (if fits ins outs (of otherwise) then None else fault last BadCase) ∷ [])

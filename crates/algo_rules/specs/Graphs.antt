@@ -1,5 +1,23 @@
 -- The checks of a graph: its edges in order, what is left open, cycles.
-use Rattle.std.specs.Prelude.{ℕ, suc, Bool, true, false, not, ◌&&◌, ◌==◌, List, [], ◌∷◌, ◌++◌, map, Option, Some, None, if◌then◌else◌}
+use Rattle.std.specs.Prelude.{
+  ℕ,
+  suc,
+  Bool,
+  true,
+  false,
+  not,
+  ◌&&◌,
+  ◌==◌,
+  List,
+  [],
+  ◌∷◌,
+  ◌++◌,
+  map,
+  Option,
+  Some,
+  None,
+  if◌then◌else◌,
+}
 use Rattle.std.specs.List.{list_any, flat_map, position_or_len}
 use Rattle.std.specs.Str.{bytes_eq}
 use Rattle.body_lang.specs.declared.expression.Port.{Port}
@@ -10,14 +28,20 @@ use Rattle.algo_defs.specs.declared.definition.Reference.{Reference}
 use Rattle.algo_defs.specs.declared.definition.Edge.{Edge}
 use Rattle.algo_defs.specs.declared.definition.End.{End}
 use Rattle.algo_defs.specs.declared.fault.AlgoError.{AlgoError}
-use Rattle.algo_defs.specs.declared.fault.AlgoCause.TheVariants.{UnknownName, WrongLength, TwiceConnected, Unconnected, Cycle}
+use Rattle.algo_defs.specs.declared.fault.AlgoCause.TheVariants.{
+  UnknownName,
+  WrongLength,
+  TwiceConnected,
+  Unconnected,
+  Cycle,
+}
 use Rattle.syn_base.specs.Bytes.{Bytes}
 use Rattle.algo_rules.specs.Links.{fault, first_of, definition}
 use Rattle.reference_graph.specs.Links.{Links, reaches_itself}
 use Rattle.algo_rules.specs.Ports.{no_ports}
 use Rattle.algo_rules.specs.declared.ports.Ports.{Ports}
 
--- an end as it is written: a port, or a reference, a dot and its port
+-- An end as it is written: a port, or a reference, a dot and its port.
 abbrev pub written_by : Option Bytes → Bytes → Bytes
 written_by None port = port
 written_by (Some r) port = r ++ 46 ∷ port
@@ -34,23 +58,23 @@ same_owner (Some r) (Some s) = bytes_eq r s
 abbrev pub same_end : End → End → Bool
 same_end e f = same_owner e.owner f.owner && bytes_eq e.port f.port
 
--- an edge into this end is among these
+-- An edge into this end is among these.
 abbrev pub is_connected : List Edge → End → Bool
 is_connected es e = list_any (λ f. same_end f.to e) es
 
--- the length of the port of a name, if there is one
+-- The length of the port of a name, if there is one.
 abbrev pub port_len : List Port → Bytes → Option ℕ
 port_len [] w = None
 port_len (p ∷ ps) w = if bytes_eq w p.name then Some p.len else port_len ps w
 
--- the ports of the definition of a reference
+-- The ports of the definition of a reference.
 abbrev pub ports_at : (Bytes → Ports) → List Reference → Bytes → Ports
 ports_at of [] w = no_ports
 ports_at of (r ∷ rs) w = if bytes_eq w r.name then of r.def else ports_at of rs w
 
 -- A graph with these ports and references, where definitions have such ports.
 module _ (of : Bytes → Ports) (own : Ports) (references : List Reference) where
-  -- values come from the graph's inputs and the references' outputs, and go to its outputs and their inputs
+  -- Values come from the graph's inputs and the references' outputs, and go to its outputs and their inputs.
   abbrev pub givers : Option Bytes → List Port
   givers None = own.ins
   givers (Some r) = (ports_at of references r).outs
@@ -59,7 +83,7 @@ module _ (of : Bytes → Ports) (own : Ports) (references : List Reference) wher
   takers None = own.outs
   takers (Some r) = (ports_at of references r).ins
 
-  -- the ends are there in this order, the lengths are equal, and no edge before has this target
+  -- The ends are there in this order, the lengths are equal, and no edge before has this target.
   abbrev pub joins : List Edge → Edge → Option ℕ → Option ℕ → Option AlgoError
   joins before e None to = fault e.line (UnknownName (written e.from))
   joins before e (Some n) None = fault e.line (UnknownName (written e.to))
@@ -69,22 +93,25 @@ module _ (of : Bytes → Ports) (own : Ports) (references : List Reference) wher
       None
 
   abbrev pub edge_fault : List Edge → Edge → Option AlgoError
-  edge_fault before e = joins before e (port_len (givers e.from.owner) e.from.port) (port_len (takers e.to.owner) e.to.port)
+  edge_fault before e = joins before e
+      (port_len (givers e.from.owner) e.from.port) (port_len (takers e.to.owner) e.to.port)
 
   abbrev pub edge_faults : List Edge → List Edge → List (Option AlgoError)
   edge_faults before [] = []
   edge_faults before (e ∷ es) = edge_fault before e ∷ edge_faults (before ++ e ∷ []) es
 
-  -- the first of these ports into which no edge leads
+  -- The first of these ports into which no edge leads.
   abbrev pub open_fault : List Edge → ℕ → Option Bytes → List Port → Option AlgoError
   open_fault edges line owner [] = None
   open_fault edges line owner (p ∷ ps) =
       if is_connected edges (record { owner = owner; port = p.name }) then open_fault edges line owner ps else
       fault line (Unconnected (written_by owner p.name))
 
-  -- of the references in order, each at its line, and then of the graph's outputs at its own
+  -- The faults of the references in order, each at its line, and then of the graph's outputs at its own.
   abbrev pub open_faults : ℕ → List Edge → List (Option AlgoError)
-  open_faults line edges = map (λ r. open_fault edges r.line (Some r.name) (of r.def).ins) references ++ open_fault edges line None own.outs ∷ []
+  open_faults line edges =
+      map (λ r. open_fault edges r.line (Some r.name) (of r.def).ins) references ++
+      open_fault edges line None own.outs ∷ []
 
 abbrev pub is_delay : Option Def → Bool
 is_delay (Some d) = delays d.body
@@ -98,10 +125,12 @@ abbrev pub place : List Reference → Bytes → ℕ
 place references w = position_or_len (λ r. bytes_eq w r.name) references
 
 module _ (ds : List Def) (references : List Reference) where
-  -- the reference on which the target of an edge depends, but for a delay
+  -- The reference on which the target of an edge depends, but for a delay.
   abbrev pub source_of : Option Bytes → List ℕ
   source_of None = []
-  source_of (Some s) = if list_any (λ r. bytes_eq s r.name && is_delay (definition ds r.def)) references then [] else place references s ∷ []
+  source_of (Some s) =
+      if list_any (λ r. bytes_eq s r.name && is_delay (definition ds r.def)) references then [] else
+      place references s ∷ []
 
   abbrev pub leads_to : Bytes → Option Bytes → Bool
   leads_to w None = false
@@ -110,14 +139,15 @@ module _ (ds : List Def) (references : List Reference) where
   abbrev pub sources : List Edge → Bytes → List ℕ
   sources edges w = flat_map (λ e. if leads_to w e.to.owner then source_of e.from.owner else []) edges
 
-  -- on which references each depends
+  -- On which references each depends.
   abbrev pub dependences : List Edge → Links
   dependences edges = map (λ r. sources edges r.name) references
 
-  -- the names of the references that depend on themselves, in order
+  -- The names of the references that depend on themselves, in order.
   abbrev pub names_of : Links → ℕ → List Reference → List Bytes
   names_of links i [] = []
-  names_of links i (r ∷ rs) = if reaches_itself links i then r.name ∷ names_of links (suc i) rs else names_of links (suc i) rs
+  names_of links i (r ∷ rs) =
+      if reaches_itself links i then r.name ∷ names_of links (suc i) rs else names_of links (suc i) rs
 
   abbrev pub cycle_by : ℕ → List Bytes → Option AlgoError
   cycle_by line [] = None
@@ -128,4 +158,7 @@ module _ (ds : List Def) (references : List Reference) where
 
 -- A graph at this line: its edges in order, what is open, and cycles.
 abbrev pub graph_fault : List Def → (Bytes → Ports) → ℕ → Ports → List Reference → List Edge → Option AlgoError
-graph_fault ds of line own references edges = first_of (edge_faults of own references [] edges ++ open_faults of own references line edges ++ cycle_fault ds references line edges ∷ [])
+graph_fault ds of line own references edges = first_of
+    (edge_faults of own references [] edges ++
+    open_faults of own references line edges ++
+    cycle_fault ds references line edges ∷ [])

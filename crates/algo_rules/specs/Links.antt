@@ -1,5 +1,25 @@
 -- Which definitions a definition refers to, and the checks on that alone: unknown and misplaced ones, recursion, depth.
-use Rattle.std.specs.Prelude.{ℕ, Bool, true, false, not, ◌&&◌, ◌||◌, nat_lt, List, [], ◌∷◌, ◌++◌, map, Option, Some, None, slice_get, if◌then◌else◌, codes}
+use Rattle.std.specs.Prelude.{
+  ℕ,
+  Bool,
+  true,
+  false,
+  not,
+  ◌&&◌,
+  ◌||◌,
+  nat_lt,
+  List,
+  [],
+  ◌∷◌,
+  ◌++◌,
+  map,
+  Option,
+  Some,
+  None,
+  slice_get,
+  if◌then◌else◌,
+  codes,
+}
 use Rattle.std.specs.List.{flat_map, position_or_len}
 use Rattle.std.specs.Str.{bytes_eq}
 use Rattle.syn_base.specs.declared.limits.LimitKind.TheVariants.{Depth}
@@ -14,11 +34,11 @@ use Rattle.algo_defs.specs.declared.fault.AlgoCause.TheVariants.{UnknownName, Mi
 use Rattle.syn_base.specs.Bytes.{Bytes}
 use Rattle.reference_graph.specs.Links.{Links, first_recursive, depths}
 
--- the refusal of a line
+-- The refusal of a line.
 abbrev pub fault : ℕ → AlgoCause → Option AlgoError
 fault line cause = Some (Refused (record { line = line; cause = cause }))
 
--- the first that is there
+-- The first fault that there is.
 abbrev pub first_of : List (Option AlgoError) → Option AlgoError
 first_of [] = None
 first_of (None ∷ os) = first_of os
@@ -30,17 +50,20 @@ pub record Mention : Type 0 where
   pub def : Bytes
   pub is_reference : Bool
 
--- in line order
+-- The lines of a body that name definitions, in order.
 abbrev pub mentions_in : ℕ → Body → List Mention
-mentions_in n (Graph ins outs references edges) = map (λ r. record { line = r.line; def = r.def; is_reference = true }) references
-mentions_in n (Switch on ins outs cases otherwise last) = map (λ c. record { line = c.line; def = c.def; is_reference = false }) cases ++ record { line = last; def = otherwise; is_reference = false } ∷ []
+mentions_in n (Graph ins outs references edges) =
+    map (λ r. record { line = r.line; def = r.def; is_reference = true }) references
+mentions_in n (Switch on ins outs cases otherwise last) =
+    map (λ c. record { line = c.line; def = c.def; is_reference = false }) cases ++
+    record { line = last; def = otherwise; is_reference = false } ∷ []
 mentions_in n (Repeat copies def lines) = record { line = n; def = def; is_reference = false } ∷ []
 mentions_in n _ = []
 
 abbrev pub mentions : Def → List Mention
 mentions d = mentions_in d.line d.body
 
--- the definition of a name
+-- The definition of a name.
 abbrev pub definition : List Def → Bytes → Option Def
 definition [] w = None
 definition (d ∷ ds) w = if bytes_eq w d.name then Some d else definition ds w
@@ -61,7 +84,7 @@ is_end (Sensor n) = true
 is_end (Actuator n) = true
 is_end _ = false
 
--- what may be a case or the body of a repetition
+-- Whether a definition may be a case or the body of a repetition.
 abbrev pub may_be_inner : Body → Bool
 may_be_inner (Function ins outs) = true
 may_be_inner (Graph ins outs references edges) = true
@@ -69,19 +92,21 @@ may_be_inner (Switch on ins outs cases otherwise last) = true
 may_be_inner (Repeat copies def lines) = true
 may_be_inner _ = false
 
--- `main` is referred to nowhere, and sensors and actuators in `main` alone
+-- `main` is referred to nowhere, and sensors and actuators in `main` alone.
 abbrev pub may_stand : Bytes → Mention → Option Def → Bool
 may_stand owner m None = true
-may_stand owner m (Some d) = not (is_main m.def) && (if m.is_reference then not (is_end d.body) || is_main owner else may_be_inner d.body)
+may_stand owner m (Some d) =
+    not (is_main m.def) && (if m.is_reference then not (is_end d.body) || is_main owner else may_be_inner d.body)
 
 -- A definition that may not stand where it is named.
 abbrev pub misplaced_by : List Def → Bytes → Mention → Option AlgoError
-misplaced_by ds owner m = if may_stand owner m (definition ds m.def) then None else fault m.line (Misplaced m.def)
+misplaced_by ds owner m =
+    if may_stand owner m (definition ds m.def) then None else fault m.line (Misplaced m.def)
 
 abbrev pub misplaced : List Def → Option AlgoError
 misplaced ds = first_of (flat_map (λ d. map (misplaced_by ds d.name) (mentions d)) ds)
 
--- the references between definitions, which go by their place
+-- The references between definitions, which go by their place.
 abbrev pub links_of : List Def → Links
 links_of ds = map (λ d. map (λ m. position_or_len (λ e. bytes_eq m.def e.name) ds) (mentions d)) ds
 
@@ -99,7 +124,9 @@ recursive ds = recursive_by ds (first_recursive (links_of ds))
 
 abbrev pub too_deep_by : List ℕ → Option AlgoError
 too_deep_by [] = None
-too_deep_by (d ∷ ds) = if nat_lt 8 d then Some (Limit (record { which = Depth; count = d; bound = bound_of Depth })) else too_deep_by ds
+too_deep_by (d ∷ ds) =
+    if nat_lt 8 d then Some (Limit (record { which = Depth; count = d; bound = bound_of Depth })) else
+    too_deep_by ds
 
 -- The first definition with a depth above 8.
 abbrev pub too_deep : List Def → Option AlgoError

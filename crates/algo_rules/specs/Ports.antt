@@ -1,11 +1,41 @@
 -- The ports of definitions, where no depth is above 8.
-use Rattle.std.specs.Prelude.{ℕ, zero, suc, ◌*◌, ◌/◌, Bool, true, false, ◌&&◌, ◌==◌, List, [], ◌∷◌, length, map, Option, Some, None, if◌then◌else◌, codes}
+use Rattle.std.specs.Prelude.{
+  ℕ,
+  zero,
+  suc,
+  ◌*◌,
+  ◌/◌,
+  Bool,
+  true,
+  false,
+  ◌&&◌,
+  ◌==◌,
+  List,
+  [],
+  ◌∷◌,
+  length,
+  map,
+  Option,
+  Some,
+  None,
+  if◌then◌else◌,
+  codes,
+}
 use Rattle.std.specs.List.{flat_map, list_any, position_or_len}
 use Rattle.std.specs.Str.{bytes_eq}
 use Rattle.body_lang.specs.declared.expression.Port.{Port}
 use Rattle.algo_defs.specs.declared.definition.Def.{Def}
 use Rattle.algo_defs.specs.declared.definition.Body.{Body}
-use Rattle.algo_defs.specs.declared.definition.Body.TheVariants.{Sensor, Actuator, Constant, Delay, Function, Graph, Switch, Repeat}
+use Rattle.algo_defs.specs.declared.definition.Body.TheVariants.{
+  Sensor,
+  Actuator,
+  Constant,
+  Delay,
+  Function,
+  Graph,
+  Switch,
+  Repeat,
+}
 use Rattle.algo_defs.specs.declared.definition.Frontier.{Frontier}
 use Rattle.algo_defs.specs.declared.definition.Frontier.TheVariants.{Fork, Diffuse, Iterate, Join}
 use Rattle.algo_defs.specs.declared.definition.FrontierLine.{FrontierLine}
@@ -25,12 +55,12 @@ one_port name len = port name len ∷ []
 abbrev pub has_port : List Port → Bytes → Bool
 has_port ps w = list_any (λ p. bytes_eq w p.name) ps
 
--- the length of the port of a name, 0 where there is none
+-- The length of the port of a name, 0 where there is none.
 abbrev pub len_of : List Port → Bytes → ℕ
 len_of [] w = 0
 len_of (p ∷ ps) w = if bytes_eq w p.name then p.len else len_of ps w
 
--- the number of the port of a name
+-- The number of the port of a name.
 abbrev pub number_of : List Port → Bytes → ℕ
 number_of ps w = position_or_len (λ p. bytes_eq w p.name) ps
 
@@ -51,14 +81,20 @@ outer_outs copies inner (Iterate p x y q) = one_port q (len_of inner.outs y)
 outer_outs copies inner (Join y q) = one_port q (copies * len_of inner.outs y)
 
 abbrev pub outer_ports : ℕ → Ports → List FrontierLine → Ports
-outer_ports copies inner lines = record { ins = flat_map (λ l. outer_ins copies inner l.frontier) lines; outs = flat_map (λ l. outer_outs copies inner l.frontier) lines }
+outer_ports copies inner lines = record {
+  ins = flat_map (λ l. outer_ins copies inner l.frontier) lines;
+  outs = flat_map (λ l. outer_outs copies inner l.frontier) lines;
+}
 
--- the ports of a body, from those of the definitions that it names
+-- The ports of a body, from those of the definitions that it names.
 abbrev pub ports_by : (Bytes → Ports) → Body → Ports
 ports_by of (Sensor n) = record { ins = []; outs = one_port (codes "o") n }
 ports_by of (Actuator n) = record { ins = one_port (codes "i") n; outs = [] }
 ports_by of (Constant values) = record { ins = []; outs = one_port (codes "o") (length values) }
-ports_by of (Delay depth values) = record { ins = one_port (codes "i") (length values / depth); outs = one_port (codes "o") (length values / depth) }
+ports_by of (Delay depth values) = record {
+  ins = one_port (codes "i") (length values / depth);
+  outs = one_port (codes "o") (length values / depth);
+}
 ports_by of (Function ins outs) = record { ins = ins; outs = map (λ o. o.port) outs }
 ports_by of (Graph ins outs references edges) = record { ins = ins; outs = outs }
 ports_by of (Switch on ins outs cases otherwise last) = record { ins = port on 1 ∷ ins; outs = outs }
@@ -75,7 +111,7 @@ ports_within ds (suc n) w = ports_in (ports_within ds n) (definition ds w)
 abbrev pub ports_of : List Def → Bytes → Ports
 ports_of ds w = ports_within ds 8 w
 
--- the same names and lengths in the same order
+-- The same names and lengths in the same order.
 abbrev pub same_ports : List Port → List Port → Bool
 same_ports [] [] = true
 same_ports [] (q ∷ qs) = false

@@ -1,5 +1,34 @@
 -- The tree of the definitions of a text, or their first refusal.
-use Rattle.std.specs.Prelude.{ℕ, zero, suc, ◌+◌, ◌*◌, ◌/◌, ℤ, Bool, true, false, ◌==◌, nat_lt, List, [], ◌∷◌, ◌++◌, length, map, take, drop, Option, Some, None, Result, Ok, Err, if◌then◌else◌, codes}
+use Rattle.std.specs.Prelude.{
+  ℕ,
+  zero,
+  suc,
+  ◌+◌,
+  ◌*◌,
+  ◌/◌,
+  ℤ,
+  Bool,
+  true,
+  false,
+  ◌==◌,
+  nat_lt,
+  List,
+  [],
+  ◌∷◌,
+  ◌++◌,
+  length,
+  map,
+  take,
+  drop,
+  Option,
+  Some,
+  None,
+  Result,
+  Ok,
+  Err,
+  if◌then◌else◌,
+  codes,
+}
 use Rattle.std.specs.List.{flat_map, sum_by, range_with_len}
 use Rattle.std.specs.Str.{bytes_eq}
 use Rattle.syn_base.specs.declared.limits.LimitKind.TheVariants.{Operations}
@@ -17,7 +46,16 @@ use Rattle.algo_tree.specs.Tree as tree
 use Rattle.algo_tree.specs.View.{vertices_of}
 use Rattle.algo_defs.specs.declared.definition.Def.{Def}
 use Rattle.algo_defs.specs.declared.definition.Body.{Body}
-use Rattle.algo_defs.specs.declared.definition.Body.TheVariants.{Sensor, Actuator, Constant, Delay, Function, Graph, Switch, Repeat}
+use Rattle.algo_defs.specs.declared.definition.Body.TheVariants.{
+  Sensor,
+  Actuator,
+  Constant,
+  Delay,
+  Function,
+  Graph,
+  Switch,
+  Repeat,
+}
 use Rattle.algo_defs.specs.declared.definition.Reference.{Reference}
 use Rattle.algo_defs.specs.declared.definition.Edge.{Edge}
 use Rattle.algo_defs.specs.declared.definition.End.{End}
@@ -35,24 +73,27 @@ use Rattle.algo_rules.specs.Frontiers.{repeat_fault, switch_fault}
 use Rattle.algo_rules.specs.Graphs.{graph_fault, same_end, place, ports_at}
 use Rattle.algo_rules.specs.declared.ports.Ports.{Ports}
 
--- the checks of a definition by itself, where those below it have passed theirs
+-- The checks of a definition by itself, where those below it have passed theirs.
 abbrev pub body_fault : List Def → ℕ → Body → Option AlgoError
 body_fault ds line (Repeat copies def lines) = repeat_fault copies (ports_of ds def) line lines
-body_fault ds line (Switch on ins outs cases otherwise last) = switch_fault (ports_of ds) ins outs cases otherwise last
-body_fault ds line (Graph ins outs references edges) = graph_fault ds (ports_of ds) line (record { ins = ins; outs = outs }) references edges
+body_fault ds line (Switch on ins outs cases otherwise last) =
+    switch_fault (ports_of ds) ins outs cases otherwise last
+body_fault ds line (Graph ins outs references edges) =
+    graph_fault ds (ports_of ds) line (record { ins = ins; outs = outs }) references edges
 body_fault ds line _ = None
 
--- of the definitions that have this depth, in order
+-- The faults of the definitions that have this depth, in order.
 abbrev pub faults_at : List Def → ℕ → List Def → List ℕ → List (Option AlgoError)
 faults_at ds depth [] ns = []
 faults_at ds depth (d ∷ rest) [] = []
-faults_at ds depth (d ∷ rest) (n ∷ ns) = if n == depth then body_fault ds d.line d.body ∷ faults_at ds depth rest ns else faults_at ds depth rest ns
+faults_at ds depth (d ∷ rest) (n ∷ ns) =
+    if n == depth then body_fault ds d.line d.body ∷ faults_at ds depth rest ns else faults_at ds depth rest ns
 
 -- Each definition, by depth and then by line.
 abbrev pub bodies_fault : List Def → Option AlgoError
 bodies_fault ds = first_of (flat_map (λ depth. faults_at ds depth ds (depths (links_of ds))) (range_with_len 1 8))
 
--- `main` is a graph without ports
+-- `main` is a graph without ports.
 abbrev pub is_portless : List Port → List Port → Bool
 is_portless [] [] = true
 is_portless [] (p ∷ ps) = false
@@ -78,11 +119,14 @@ is_fork l = forks l.frontier
     forks (Iterate p x y q) = 0
     forks (Join y q) = 1
 
--- How many flat operations a definition stands for, from those that it names: a delay for two for each reaction that it looks back, a switch for a merge of each output besides, a repetition for an explode of each fork line and an implode of each join line besides.
+-- How many flat operations a definition stands for, from those that it names: a delay for two for each reaction that it
+-- looks back, a switch for a merge of each output besides, a repetition for an explode of each fork line and an implode
+-- of each join line besides.
 abbrev pub count_by : (Bytes → ℕ) → Body → ℕ
 count_by of (Delay depth values) = 2 * depth
 count_by of (Graph ins outs references edges) = sum_by (λ r. of r.def) references
-count_by of (Switch on ins outs cases otherwise last) = (sum_by (λ c. of c.def) cases + of otherwise) + length outs
+count_by of (Switch on ins outs cases otherwise last) =
+    (sum_by (λ c. of c.def) cases + of otherwise) + length outs
 count_by of (Repeat copies def lines) = copies * of def + sum_by is_fork lines
 count_by of _ = 1
 
@@ -98,11 +142,14 @@ abbrev pub operations : List Def → ℕ
 operations ds = count_within ds 8 (codes "main")
 
 abbrev pub too_many : List Def → Option AlgoError
-too_many ds = if nat_lt 2048 (operations ds) then Some (Limit (record { which = Operations; count = operations ds; bound = bound_of Operations })) else None
+too_many ds =
+    if nat_lt 2048 (operations ds)
+    then Some (Limit (record { which = Operations; count = operations ds; bound = bound_of Operations })) else None
 
 -- The first refusal of the definitions of a text, in the order of the checks.
 abbrev pub refusal : List Def → Option AlgoError
-refusal ds = first_of (unknown ds ∷ misplaced ds ∷ recursive ds ∷ too_deep ds ∷ bodies_fault ds ∷ no_main ds ∷ too_many ds ∷ [])
+refusal ds = first_of
+    (unknown ds ∷ misplaced ds ∷ recursive ds ∷ too_deep ds ∷ bodies_fault ds ∷ no_main ds ∷ too_many ds ∷ [])
 
 -- The source of a value in a graph: an own input, or an output of a reference.
 module _ (of : Bytes → Ports) (ins : List Port) (references : List Reference) where
@@ -110,7 +157,7 @@ module _ (of : Bytes → Ports) (ins : List Port) (references : List Reference) 
   source_from None p = Own (number_of ins p)
   source_from (Some r) p = Of (place references r) (number_of (ports_at of references r).outs p)
 
-  -- where the edge into an end comes from
+  -- Where the edge into an end comes from.
   abbrev pub source_to : List Edge → End → Source
   source_to [] e = Own 0
   source_to (f ∷ fs) e = if same_end f.to e then source_from f.from.owner f.from.port else source_to fs e
@@ -124,9 +171,11 @@ owns first n = map Own (range_with_len first n)
 -- How the inner input x is fed: by the line that uses it.
 module _ (inner outer : Ports) where
   abbrev pub feed_by : Bytes → Frontier → Option Feed
-  feed_by w (Fork p x) = if bytes_eq w x then Some (feed.Fork p (number_of outer.ins p) (len_of inner.ins x)) else None
+  feed_by w (Fork p x) =
+      if bytes_eq w x then Some (feed.Fork p (number_of outer.ins p) (len_of inner.ins x)) else None
   feed_by w (Diffuse p x) = if bytes_eq w x then Some (feed.Diffuse (number_of outer.ins p)) else None
-  feed_by w (Iterate p x y q) = if bytes_eq w x then Some (feed.Iterate (number_of outer.ins p) (number_of inner.outs y)) else None
+  feed_by w (Iterate p x y q) =
+      if bytes_eq w x then Some (feed.Iterate (number_of outer.ins p) (number_of inner.outs y)) else None
   feed_by w (Join y q) = None
 
   abbrev pub first_feed : Option Feed → Feed → Feed
@@ -147,12 +196,20 @@ module _ (inner outer : Ports) where
 abbrev pub Making : Type 0
 Making = Part → Bytes → List Source → ℕ → ℕ → tree.Vertex
 
--- a vertex with these outputs
+-- A vertex with these outputs.
 abbrev pub vertex : Part → Bytes → List Source → List Port → tree.Kind → List tree.Vertex → tree.Vertex
 vertex part def ins outs kind inner =
-    tree.vertex (record { part = part; definition = def; ins = ins; guards = []; outs = lens_of outs; names = map (λ p. p.name) outs; kind = kind }) (vertices_of inner)
+    tree.vertex (record {
+      part = part;
+      definition = def;
+      ins = ins;
+      guards = [];
+      outs = lens_of outs;
+      names = map (λ p. p.name) outs;
+      kind = kind;
+    }) (vertices_of inner)
 
--- values cut into this many groups of this length
+-- Values cut into this many groups of this length.
 abbrev pub groups : ℕ → ℕ → List ℤ → List (List ℤ)
 groups zero len values = []
 groups (suc n) len values = take len values ∷ groups n len (drop len values)
@@ -177,14 +234,15 @@ module _ (ds : List Def) (make : Making) where
   abbrev pub of : Bytes → Ports
   of w = ports_of ds w
 
-  -- the references of a graph in order, after this many sensors and actuators
+  -- The references of a graph in order, after this many sensors and actuators.
   abbrev pub references_from : List Port → List Reference → List Edge → ℕ → ℕ → List Reference → List tree.Vertex
   references_from ins all edges sensors actuators [] = []
   references_from ins all edges sensors actuators (r ∷ rs) =
       make (Named r.name) r.def (sources_to of ins all edges (Some r.name) (of r.def).ins) sensors actuators
-      ∷ references_from ins all edges (sensors + is_sensor (definition ds r.def)) (actuators + is_actuator (definition ds r.def)) rs
+      ∷ references_from ins all edges
+      (sensors + is_sensor (definition ds r.def)) (actuators + is_actuator (definition ds r.def)) rs
 
-  -- cases take the inputs of their switch after the conditioning one
+  -- Cases take the inputs of their switch after the conditioning one.
   abbrev pub cases_from : ℕ → ℕ → List Bytes → List tree.Vertex
   cases_from ins c [] = []
   cases_from ins c (w ∷ ws) = make (Numbered c) w (owns 1 ins) 0 0 ∷ cases_from ins (suc c) ws
@@ -195,14 +253,18 @@ module _ (ds : List Def) (make : Making) where
   kind_by own sensors actuators (Constant values) = tree.constant values
   kind_by own sensors actuators (Delay depth values) = tree.delay (groups depth (length values / depth) values)
   kind_by own sensors actuators (Function ins outs) = tree.function (map (λ o. o.formula) outs)
-  kind_by own sensors actuators (Graph ins outs references edges) = tree.graph (sources_to of ins references edges None outs)
-  kind_by own sensors actuators (Switch on ins outs cases otherwise last) = tree.switch (map (λ c. c.value) cases) (map (λ p. p.name) outs)
+  kind_by own sensors actuators (Graph ins outs references edges) =
+      tree.graph (sources_to of ins references edges None outs)
+  kind_by own sensors actuators (Switch on ins outs cases otherwise last) =
+      tree.switch (map (λ c. c.value) cases) (map (λ p. p.name) outs)
   kind_by own sensors actuators (Repeat copies def lines) =
-      tree.repeat copies (map (λ p. feed_of (of def) own lines p.name) (of def).ins) (flat_map (λ l. give_by (of def) own l.frontier) lines)
+      tree.repeat copies (map (λ p. feed_of (of def) own lines p.name) (of def).ins)
+      (flat_map (λ l. give_by (of def) own l.frontier) lines)
 
   abbrev pub inner_by : Body → List tree.Vertex
   inner_by (Graph ins outs references edges) = references_from ins references edges 0 0 references
-  inner_by (Switch on ins outs cases otherwise last) = cases_from (length ins) 0 (map (λ c. c.def) cases ++ otherwise ∷ [])
+  inner_by (Switch on ins outs cases otherwise last) =
+      cases_from (length ins) 0 (map (λ c. c.def) cases ++ otherwise ∷ [])
   inner_by (Repeat copies def lines) = make (Numbered 0) def (owns 0 (length (of def).ins)) 0 0 ∷ []
   inner_by _ = []
 
@@ -213,7 +275,8 @@ module _ (ds : List Def) (make : Making) where
 
 abbrev pub vertex_within : List Def → ℕ → Making
 vertex_within ds zero part w ins sensors actuators = vertex part w ins [] (tree.graph []) []
-vertex_within ds (suc n) part w ins sensors actuators = vertex_by ds (vertex_within ds n) part w ins sensors actuators (definition ds w)
+vertex_within ds (suc n) part w ins sensors actuators =
+    vertex_by ds (vertex_within ds n) part w ins sensors actuators (definition ds w)
 
 -- The tree of the main graph, with all that it refers to inside.
 abbrev pub tree_of : List Def → tree.Vertex
@@ -223,6 +286,6 @@ abbrev pub resolved_by : List Def → Option AlgoError → Result tree.Vertex Al
 resolved_by ds None = Ok (tree_of ds)
 resolved_by ds (Some e) = Err e
 
--- what the definitions of a text resolve to
+-- What the definitions of a text resolve to.
 abbrev pub resolution_of : List Def → Result tree.Vertex AlgoError
 resolution_of ds = resolved_by ds (refusal ds)

@@ -1,4 +1,5 @@
--- What the definitions of every accepted text keep: names are names and given once, and lengths and numbers of lines are within their bounds.
+-- What the definitions of every accepted text keep: names are names and given once, and lengths and numbers of lines
+-- are within their bounds.
 use Rattle.std.specs.Prelude.{◌≡◌, ℕ, ◌≤◌, ◌*◌, ◌/◌, ℤ, List, ◌∷◌, ◌++◌, All, length, map, true}
 use Rattle.syn_base.specs.Name.{is_name}
 use Rattle.body_lang.specs.Expr.{PortsBelow}
@@ -11,7 +12,16 @@ use Rattle.algo_defs.specs.declared.definition.Reference.{Reference}
 use Rattle.algo_defs.specs.declared.definition.Case.{Case}
 use Rattle.algo_defs.specs.declared.definition.FrontierLine.{FrontierLine}
 use Rattle.algo_defs.specs.declared.definition.Body.{Body}
-use Rattle.algo_defs.specs.declared.definition.Body.TheVariants.{Sensor, Actuator, Constant, Delay, Function, Graph, Switch, Repeat}
+use Rattle.algo_defs.specs.declared.definition.Body.TheVariants.{
+  Sensor,
+  Actuator,
+  Constant,
+  Delay,
+  Function,
+  Graph,
+  Switch,
+  Repeat,
+}
 use Rattle.syn_base.specs.Bytes.{Bytes}
 use Rattle.algo_defs.specs.Outer.{all_outer}
 
@@ -21,7 +31,7 @@ IsName w = is_name w ≡ true
 abbrev pub port_names : List Port → List Bytes
 port_names ps = map (λ p. p.name) ps
 
--- at most 64 ports of 1 to 64 elements
+-- At most 64 ports of 1 to 64 elements.
 pub record ArePorts (ps : List Port) : Type 0 where
   pub few : length ps ≤ 64
   pub named : All (λ p. IsName p.name) ps
@@ -59,7 +69,7 @@ pub record IsRepetition (copies : ℕ) (lines : List FrontierLine) : Type 0 wher
   pub named : All IsName (all_outer lines)
   pub distinct : AreDistinctNames (all_outer lines)
 
--- as many groups as the depth, each of one length
+-- As many groups as the depth, each of one length.
 pub record IsDelay (depth : ℕ) (values : List ℤ) : Type 0 where
   pub some : 1 ≤ depth
   pub most : depth ≤ 16

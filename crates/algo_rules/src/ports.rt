@@ -1,4 +1,4 @@
-//! The ports of a definition.
+//! The ports of a definition, which the checks find and the resolver reads.
 use body_lang::Port;
 use syn_base::Items;
 

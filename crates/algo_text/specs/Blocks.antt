@@ -1,5 +1,32 @@
--- What the lines of a block say, each kind of line by itself: the block with it, or the line's first refusal. The checks of a line stand in their order: its form, names, numbers, limits, the expression, names given before.
-use Rattle.std.specs.Prelude.{ℕ, ◌+◌, Bool, not, ◌==◌, ◌&&◌, ◌||◌, nat_lt, List, [], ◌∷◌, ◌++◌, length, map, position, take, drop, Option, Some, None, Result, Ok, Err, if◌then◌else◌, codes}
+-- What the lines of a block say, each kind of line by itself: the block with it, or the line's first refusal. The
+-- checks of a line stand in their order: its form, names, numbers, limits, the expression, names given before.
+use Rattle.std.specs.Prelude.{
+  ℕ,
+  ◌+◌,
+  Bool,
+  not,
+  ◌==◌,
+  ◌&&◌,
+  ◌||◌,
+  nat_lt,
+  List,
+  [],
+  ◌∷◌,
+  ◌++◌,
+  length,
+  map,
+  position,
+  take,
+  drop,
+  Option,
+  Some,
+  None,
+  Result,
+  Ok,
+  Err,
+  if◌then◌else◌,
+  codes,
+}
 use Rattle.std.specs.Str.{bytes_eq}
 use Rattle.text_lines.specs.Text.{words_of}
 use Rattle.syn_base.specs.Name.{is_name}
@@ -33,10 +60,10 @@ pub record Block : Type 0 where
   pub name : Bytes
   pub line : ℕ
   pub part : Part
-  -- of a switch
+  -- Of a switch.
   pub on : Bytes
   pub ins : List Port
-  -- of a function, and of a graph or switch
+  -- Of a function, and of a graph or switch.
   pub results : List Output
   pub outs : List Port
   pub references : List Reference
@@ -44,172 +71,225 @@ pub record Block : Type 0 where
   pub cases : List Case
   pub otherwise : Bytes
   pub otherwise_line : ℕ
-  -- of a repetition
+  -- Of a repetition.
   pub copies : ℕ
   pub def : Bytes
   pub frontier : List FrontierLine
 
--- a block without lines, which begins with this part
+-- A block without lines, which begins with this part.
 abbrev pub new_block : Part → Bytes → ℕ → Block
-new_block first name line = record { name = name; line = line; part = first; on = []; ins = []; results = []; outs = []; references = []; edges = []; cases = []; otherwise = []; otherwise_line = 0; copies = 0; def = []; frontier = [] }
+new_block first name line = record {
+  name = name;
+  line = line;
+  part = first;
+  on = [];
+  ins = [];
+  results = [];
+  outs = [];
+  references = [];
+  edges = [];
+  cases = [];
+  otherwise = [];
+  otherwise_line = 0;
+  copies = 0;
+  def = [];
+  frontier = [];
+}
 
 abbrev pub refused : {A : Type 0} → ℕ → AlgoCause → Result A AlgoError
 refused line cause = Err (Refused (record { line = line; cause = cause }))
 
--- more than the bound
+-- Whether a quantity is above its bound.
 abbrev pub is_above : LimitKind → ℕ → Bool
 is_above which count = nat_lt (bound_of which) count
 
 abbrev pub above : {A : Type 0} → LimitKind → ℕ → Result A AlgoError
 above which count = Err (Limit (record { which = which; count = count; bound = bound_of which }))
 
--- what there is, or the refusal where there is nothing
+-- What there is, or the refusal where there is nothing.
 abbrev pub with_some : {A B : Type 0} → Option A → Result B AlgoError → (A → Result B AlgoError) → Result B AlgoError
 with_some (Some x) missing go = go x
 with_some None missing go = missing
 
--- goes on with what was read
+-- What follows, with what was read; a refusal stays.
 abbrev pub and_then : {A B : Type 0} → Result A AlgoError → (A → Result B AlgoError) → Result B AlgoError
 and_then (Ok x) go = go x
 and_then (Err e) go = Err e
 
--- the names that ports of the block have: `on`, inputs, outputs and outer names together
+-- The names that ports of the block have: `on`, inputs, outputs and outer names together.
 abbrev pub port_names : Block → List Bytes
-port_names b = b.on ∷ (map (λ p. p.name) b.ins ++ (map (λ o. o.port.name) b.results ++ (map (λ p. p.name) b.outs ++ all_outer b.frontier)))
+port_names block = block.on ∷
+    (map (λ p. p.name) block.ins ++
+    (map (λ o. o.port.name) block.results ++
+    (map (λ p. p.name) block.outs ++ all_outer block.frontier)))
 
 abbrev pub is_taken : Block → Bytes → Bool
-is_taken b w = is_among w (port_names b)
+is_taken block w = is_among w (port_names block)
 
--- the first of these words that is no name is told
+-- What follows, or the refusal of the first of these words that is no name.
 abbrev pub all_names : {A : Type 0} → ℕ → List Bytes → Result A AlgoError → Result A AlgoError
-all_names n [] go = go
-all_names n (w ∷ ws) go = if is_name w then all_names n ws go else refused n (BadName w)
+all_names line [] go = go
+all_names line (w ∷ words) go = if is_name w then all_names line words go else refused line (BadName w)
 
--- P LEN after `in` or `out`: this many such lines stand before
+-- P LEN after `in` or `out`, where this many such lines stand before.
 abbrev pub port_line : ℕ → ℕ → List Bytes → (Port → Result Block AlgoError) → Result Block AlgoError
-port_line n before ws go = all_names n (word ws 1 ∷ [])
-    (with_some (count_of (word ws 2)) (refused n (BadNumber (word ws 2))) (λ len.
+port_line line before words go = all_names line (word words 1 ∷ [])
+    (with_some (count_of (word words 2)) (refused line (BadNumber (word words 2))) (λ len.
     if is_above Ports (before + 1) then above Ports (before + 1) else
     if is_above PortLength len then above PortLength len else
-    go (record { name = word ws 1; len = len })))
+    go (record { name = word words 1; len = len })))
 
 abbrev pub with_in : Block → ℕ → Port → Result Block AlgoError
-with_in b n p = if is_taken b p.name then refused n (DuplicateName p.name) else Ok (record b { ins = b.ins ++ p ∷ [] })
+with_in block line port =
+    if is_taken block port.name then refused line (DuplicateName port.name) else
+    Ok (record block { ins = block.ins ++ port ∷ [] })
 
--- in P LEN
+-- A line `in P LEN`.
 abbrev pub in_line : Block → ℕ → List Bytes → Result Block AlgoError
-in_line b n ws =
-    if not (length ws == 3) || not (admits b.part parts.Inputs) then refused n BadLine else
-    port_line n (length b.ins) ws (with_in b n)
+in_line block line words =
+    if not (length words == 3) || not (admits block.part parts.Inputs) then refused line BadLine else
+    port_line line (length block.ins) words (with_in block line)
 
 abbrev pub with_out : Block → ℕ → Port → Result Block AlgoError
-with_out b n p = if is_taken b p.name then refused n (DuplicateName p.name) else Ok (record b { part = parts.Outputs; outs = b.outs ++ p ∷ [] })
+with_out block line port =
+    if is_taken block port.name then refused line (DuplicateName port.name) else
+    Ok (record block { part = parts.Outputs; outs = block.outs ++ port ∷ [] })
 
--- out P LEN of a graph or a switch
+-- A line `out P LEN` of a graph or a switch.
 abbrev pub out_line : Block → ℕ → List Bytes → Result Block AlgoError
-out_line b n ws =
-    if not (length ws == 3) || not (admits b.part parts.Outputs) then refused n BadLine else
-    port_line n (length b.outs) ws (with_out b n)
+out_line block line words =
+    if not (length words == 3) || not (admits block.part parts.Outputs) then refused line BadLine else
+    port_line line (length block.outs) words (with_out block line)
 
 abbrev pub with_result : Block → ℕ → Port → Expr → Result Block AlgoError
-with_result b n p e = if is_taken b p.name then refused n (DuplicateName p.name) else Ok (record b { part = parts.Outputs; results = b.results ++ record { port = p; formula = e } ∷ [] })
+with_result block line port formula =
+    if is_taken block port.name then refused line (DuplicateName port.name) else
+    Ok (record block {
+      part = parts.Outputs;
+      results = block.results ++ record { port = port; formula = formula } ∷ [];
+    })
 
--- out P LEN = EXPRESSION of a function: the words before the first `=`, and the bytes after it
+-- A line `out P LEN = EXPRESSION` of a function: the words before the first `=`, and the bytes after it.
 abbrev pub result_words : Block → ℕ → List Bytes → Bytes → Result Block AlgoError
-result_words b n ws text =
-    if not (length ws == 3) || not (admits b.part parts.Outputs) then refused n BadLine else
-    port_line n (length b.results) ws (λ p. and_then (formula_of n (map (λ i. i.name) b.ins) text) (with_result b n p))
+result_words block line words text =
+    if not (length words == 3) || not (admits block.part parts.Outputs) then refused line BadLine else
+    port_line line (length block.results) words (λ port.
+    and_then (formula_of line (map (λ i. i.name) block.ins) text) (with_result block line port))
 
 abbrev pub is_equals : ℕ → Bool
 is_equals b = b == 61
 
 abbrev pub result_at : Block → ℕ → Bytes → Option ℕ → Result Block AlgoError
-result_at b n code None = refused n BadLine
-result_at b n code (Some at) = result_words b n (words_of (take at code)) (drop (at + 1) code)
+result_at block line code None = refused line BadLine
+result_at block line code (Some at) = result_words block line (words_of (take at code)) (drop (at + 1) code)
 
 abbrev pub result_line : Block → ℕ → Bytes → Result Block AlgoError
-result_line b n code = result_at b n code (position is_equals code)
+result_line block line code = result_at block line code (position is_equals code)
 
--- R DEF after `ref`
+-- The reference that R DEF after `ref` gives.
 abbrev pub reference_of : ℕ → List Bytes → Result Reference AlgoError
-reference_of n ws = all_names n (word ws 1 ∷ word ws 2 ∷ []) (Ok (record { name = word ws 1; def = word ws 2; every = None; line = n }))
+reference_of line words = all_names line (word words 1 ∷ word words 2 ∷ [])
+    (Ok (record { name = word words 1; def = word words 2; every = None; line = line }))
 
--- one reference more, of a name that none has
+-- The block with one reference more, of a name that none has.
 abbrev pub with_reference : Block → Reference → Result Block AlgoError
-with_reference b r =
-    if is_above References (length b.references + 1) then above References (length b.references + 1) else
-    if is_among r.name (map (λ q. q.name) b.references) then refused r.line (DuplicateName r.name) else
-    Ok (record b { part = parts.References; references = b.references ++ r ∷ [] })
+with_reference block reference =
+    if is_above References (length block.references + 1) then above References (length block.references + 1) else
+    if is_among reference.name (map (λ r. r.name) block.references)
+    then refused reference.line (DuplicateName reference.name) else
+    Ok (record block { part = parts.References; references = block.references ++ reference ∷ [] })
 
--- ref R DEF
+-- A line `ref R DEF`.
 abbrev pub plain_line : Block → ℕ → List Bytes → Result Block AlgoError
-plain_line b n ws =
-    if not (length ws == 3) || not (admits b.part parts.References) then refused n BadLine else
-    and_then (reference_of n ws) (with_reference b)
+plain_line block line words =
+    if not (length words == 3) || not (admits block.part parts.References) then refused line BadLine else
+    and_then (reference_of line words) (with_reference block)
 
--- ref R DEF every N, of five words
+-- A line `ref R DEF every N`, of five words.
 abbrev pub marked_line : Block → ℕ → List Bytes → Result Block AlgoError
-marked_line b n ws =
-    if not (bytes_eq (word ws 3) (codes "every")) || not (admits b.part parts.References) then refused n BadLine else
-    and_then (reference_of n ws) (λ r.
-    with_some (period_of (word ws 4)) (refused n (BadNumber (word ws 4))) (λ every. with_reference b (record r { every = Some every })))
+marked_line block line words =
+    if not (bytes_eq (word words 3) (codes "every")) || not (admits block.part parts.References)
+    then refused line BadLine else
+    and_then (reference_of line words) (λ reference.
+    with_some (period_of (word words 4)) (refused line (BadNumber (word words 4))) (λ every.
+    with_reference block (record reference { every = Some every })))
 
--- a reference, which may have a mark in version 3
+-- A line `ref`, whose reference may have a mark in version 3.
 abbrev pub reference_line : ℕ → Block → ℕ → List Bytes → Result Block AlgoError
-reference_line version b n ws = if version == 3 && length ws == 5 then marked_line b n ws else plain_line b n ws
+reference_line version block line words =
+    if version == 3 && length words == 5 then marked_line block line words else plain_line block line words
 
--- edge FROM TO
+-- A line `edge FROM TO`.
 abbrev pub edge_line : Block → ℕ → List Bytes → Result Block AlgoError
-edge_line b n ws =
-    if not (length ws == 3) then refused n BadLine else
-    with_some (end_of (word ws 1)) (refused n (BadName (word ws 1))) (λ from.
-    with_some (end_of (word ws 2)) (refused n (BadName (word ws 2))) (λ to.
-    Ok (record b { part = parts.Edges; edges = b.edges ++ record { from = from; to = to; line = n } ∷ [] })))
+edge_line block line words =
+    if not (length words == 3) then refused line BadLine else
+    with_some (end_of (word words 1)) (refused line (BadName (word words 1))) (λ from.
+    with_some (end_of (word words 2)) (refused line (BadName (word words 2))) (λ to.
+    Ok (record block {
+      part = parts.Edges;
+      edges = block.edges ++ record { from = from; to = to; line = line } ∷ [];
+    })))
 
--- on P, the first line of a switch
+-- A line `on P`, the first of a switch.
 abbrev pub on_line : Block → ℕ → List Bytes → Result Block AlgoError
-on_line b n ws =
-    if not (length ws == 2) || not (is_conditioning b.part) then refused n BadLine else
-    all_names n (word ws 1 ∷ []) (Ok (record b { part = parts.Inputs; on = word ws 1 }))
+on_line block line words =
+    if not (length words == 2) || not (is_conditioning block.part) then refused line BadLine else
+    all_names line (word words 1 ∷ []) (Ok (record block { part = parts.Inputs; on = word words 1 }))
 
--- case VALUE DEF
+-- A line `case VALUE DEF`.
 abbrev pub case_line : Block → ℕ → List Bytes → Result Block AlgoError
-case_line b n ws =
-    if not (length ws == 3) || not (admits b.part parts.Cases) then refused n BadLine else
-    all_names n (word ws 2 ∷ [])
-    (with_some (number_of (word ws 1)) (refused n (BadNumber (word ws 1))) (λ v.
-    if is_above Cases (length b.cases + 1) then above Cases (length b.cases + 1) else
-    Ok (record b { part = parts.Cases; cases = b.cases ++ record { value = v; def = word ws 2; line = n } ∷ [] })))
+case_line block line words =
+    if not (length words == 3) || not (admits block.part parts.Cases) then refused line BadLine else
+    all_names line (word words 2 ∷ [])
+    (with_some (number_of (word words 1)) (refused line (BadNumber (word words 1))) (λ value.
+    if is_above Cases (length block.cases + 1) then above Cases (length block.cases + 1) else
+    Ok (record block {
+      part = parts.Cases;
+      cases = block.cases ++ record { value = value; def = word words 2; line = line } ∷ [];
+    })))
 
--- otherwise DEF, the last line of a switch, which stands where a case may stand
+-- A line `otherwise DEF`, the last of a switch, which stands where a case may stand.
 abbrev pub otherwise_line : Block → ℕ → List Bytes → Result Block AlgoError
-otherwise_line b n ws =
-    if not (length ws == 2) || not (admits b.part parts.Cases) then refused n BadLine else
-    all_names n (word ws 1 ∷ []) (Ok (record b { part = parts.Whole; otherwise = word ws 1; otherwise_line = n }))
+otherwise_line block line words =
+    if not (length words == 2) || not (admits block.part parts.Cases) then refused line BadLine else
+    all_names line (word words 1 ∷ [])
+    (Ok (record block { part = parts.Whole; otherwise = word words 1; otherwise_line = line }))
 
--- a frontier line's names, of which these are its ports
+-- The block with one frontier line more, whose outer ports no line has.
 abbrev pub with_frontier : Block → ℕ → Frontier → Result Block AlgoError
-with_frontier b n f =
-    if is_above Ports (length b.frontier + 1) then above Ports (length b.frontier + 1) else
-    first_taken (outer_names f) b.frontier
+with_frontier block line frontier =
+    if is_above Ports (length block.frontier + 1) then above Ports (length block.frontier + 1) else
+    first_taken (outer_names frontier) block.frontier
   where
-    -- the names are given in order, each beside those before it
+    -- The names are given in order, each beside those before it.
     first_taken : List Bytes → List FrontierLine → Result Block AlgoError
-    first_taken [] ls = Ok (record b { frontier = b.frontier ++ record { frontier = f; line = n } ∷ [] })
-    first_taken (w ∷ ws) ls = if is_among w (all_outer ls) then refused n (DuplicateName w) else first_taken ws (record { frontier = Join [] w; line = n } ∷ ls)
+    first_taken [] lines =
+        Ok (record block { frontier = block.frontier ++ record { frontier = frontier; line = line } ∷ [] })
+    first_taken (w ∷ words) lines =
+        if is_among w (all_outer lines) then refused line (DuplicateName w) else
+        first_taken words (record { frontier = Join [] w; line = line } ∷ lines)
 
--- fork P X
+-- A line `fork P X`.
 abbrev pub fork_line : Block → ℕ → List Bytes → Result Block AlgoError
-fork_line b n ws = if not (length ws == 3) then refused n BadLine else all_names n (drop 1 ws) (with_frontier b n (Fork (word ws 1) (word ws 2)))
+fork_line block line words =
+    if not (length words == 3) then refused line BadLine else
+    all_names line (drop 1 words) (with_frontier block line (Fork (word words 1) (word words 2)))
 
--- diffuse P X
+-- A line `diffuse P X`.
 abbrev pub diffuse_line : Block → ℕ → List Bytes → Result Block AlgoError
-diffuse_line b n ws = if not (length ws == 3) then refused n BadLine else all_names n (drop 1 ws) (with_frontier b n (Diffuse (word ws 1) (word ws 2)))
+diffuse_line block line words =
+    if not (length words == 3) then refused line BadLine else
+    all_names line (drop 1 words) (with_frontier block line (Diffuse (word words 1) (word words 2)))
 
--- iterate P X Y Q
+-- A line `iterate P X Y Q`.
 abbrev pub iterate_line : Block → ℕ → List Bytes → Result Block AlgoError
-iterate_line b n ws = if not (length ws == 5) then refused n BadLine else all_names n (drop 1 ws) (with_frontier b n (Iterate (word ws 1) (word ws 2) (word ws 3) (word ws 4)))
+iterate_line block line words =
+    if not (length words == 5) then refused line BadLine else
+    all_names line (drop 1 words)
+    (with_frontier block line (Iterate (word words 1) (word words 2) (word words 3) (word words 4)))
 
--- join Y Q
+-- A line `join Y Q`.
 abbrev pub join_line : Block → ℕ → List Bytes → Result Block AlgoError
-join_line b n ws = if not (length ws == 3) then refused n BadLine else all_names n (drop 1 ws) (with_frontier b n (Join (word ws 1) (word ws 2)))
+join_line block line words =
+    if not (length words == 3) then refused line BadLine else
+    all_names line (drop 1 words) (with_frontier block line (Join (word words 1) (word words 2)))

@@ -1,5 +1,21 @@
 -- What the text of an expression gives a line: the expression over these ports, or the line's refusal.
-use Rattle.std.specs.Prelude.{ℕ, suc, nat_le, List, [], length, Option, Some, None, Result, Ok, Err, slice_get, if◌then◌else◌, ◌-◌}
+use Rattle.std.specs.Prelude.{
+  ℕ,
+  suc,
+  nat_le,
+  List,
+  [],
+  length,
+  Option,
+  Some,
+  None,
+  Result,
+  Ok,
+  Err,
+  slice_get,
+  if◌then◌else◌,
+  ◌-◌,
+}
 use Rattle.syn_base.specs.declared.limits.LimitKind.TheVariants.{Tokens}
 use Rattle.syn_base.specs.Limits.{bound_of}
 use Rattle.body_lang.specs.Expr.{Expr}
@@ -19,13 +35,20 @@ name_in _ = []
 module _ (line : ℕ) (ports : List Bytes) (text : Bytes) where
   abbrev pub known_by : Option ℕ → Expr → Result Expr AlgoError
   known_by None e = Ok e
-  known_by (Some i) e = Err (Refused (record { line = line; cause = UnknownName (name_in (slice_get (tokens text) i)) }))
+  known_by (Some place) e =
+      Err (Refused (record { line = line; cause = UnknownName (name_in (slice_get (tokens text) place)) }))
 
-  -- where parsing stops the grammar fails
+  -- Where parsing stops the grammar fails.
   abbrev pub read_by : Parse → Result Expr AlgoError
-  read_by (good w rest) = known_by (unknown ports w) (resolved ports w)
-  read_by (stops rest) = Err (Refused (record { line = line; cause = BadExpression (place_of text (length (tokens text) - length rest)) }))
+  read_by (good tree rest) = known_by (unknown ports tree) (resolved ports tree)
+  read_by (stops rest) =
+      Err (Refused (record {
+        line = line;
+        cause = BadExpression (place_of text (length (tokens text) - length rest));
+      }))
 
   abbrev pub formula_of : Result Expr AlgoError
-  formula_of = if nat_le (length (tokens text)) (bound_of Tokens) then read_by (alone (parse (suc (length (tokens text))) (tokens text)))
+  formula_of =
+      if nat_le (length (tokens text)) (bound_of Tokens)
+      then read_by (alone (parse (suc (length (tokens text))) (tokens text)))
       else Err (Limit (record { which = Tokens; count = length (tokens text); bound = bound_of Tokens }))

@@ -1,9 +1,17 @@
 -- The order of the parts of a block.
 use Rattle.std.specs.Prelude.{ℕ, Bool, true, false, ◌&&◌, nat_lt, nat_le}
 use Rattle.algo_text.specs.declared.part.Part.{Part}
-use Rattle.algo_text.specs.declared.part.Part.TheVariants.{Conditioning, Inputs, Outputs, References, Edges, Cases, Whole}
+use Rattle.algo_text.specs.declared.part.Part.TheVariants.{
+  Conditioning,
+  Inputs,
+  Outputs,
+  References,
+  Edges,
+  Cases,
+  Whole,
+}
 
--- references stand in graphs alone, and cases in switches alone
+-- References stand in graphs alone, and cases in switches alone.
 abbrev pub rank : Part → ℕ
 rank Conditioning = 0
 rank Inputs = 1
@@ -13,7 +21,7 @@ rank Cases = 3
 rank Edges = 4
 rank Whole = 4
 
--- a line of the part `next` may follow one of the part `last`, and none but `on` where that has to come first
+-- A line of the part `next` may follow one of the part `last`, and none but `on` where that has to come first.
 abbrev pub admits : Part → Part → Bool
 admits last next = nat_lt 0 (rank last) && nat_le (rank last) (rank next)
 

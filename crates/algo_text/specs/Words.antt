@@ -1,5 +1,24 @@
 -- What the words of a line are: names, numbers, lengths, ends of edges.
-use Rattle.std.specs.Prelude.{ℕ, Bool, ◌&&◌, ◌==◌, nat_le, List, [], Option, Some, None, if◌then◌else◌, slice_index_or, ℤ, pos, negsuc, Result, Ok, Err}
+use Rattle.std.specs.Prelude.{
+  ℕ,
+  Bool,
+  ◌&&◌,
+  ◌==◌,
+  nat_le,
+  List,
+  [],
+  Option,
+  Some,
+  None,
+  if◌then◌else◌,
+  slice_index_or,
+  ℤ,
+  pos,
+  negsuc,
+  Result,
+  Ok,
+  Err,
+}
 use Rattle.std.specs.List.{before_first, after_first}
 use Rattle.syn_base.specs.Name.{is_name}
 use Rattle.syn_base.specs.Integer.{integer_of}
@@ -7,9 +26,11 @@ use Rattle.syn_base.specs.declared.integer.NumFault.{NumFault}
 use Rattle.algo_defs.specs.declared.definition.End.{End}
 use Rattle.syn_base.specs.Bytes.{Bytes}
 
+-- The word at a place of a line.
 abbrev pub word : List Bytes → ℕ → Bytes
-word ws k = slice_index_or ws k []
+word words place = slice_index_or words place []
 
+-- The number that a word is.
 abbrev pub number_by : Result ℤ NumFault → Option ℤ
 number_by (Ok v) = Some v
 number_by (Err e) = None
@@ -17,13 +38,13 @@ number_by (Err e) = None
 abbrev pub number_of : Bytes → Option ℤ
 number_of w = number_by (integer_of w)
 
--- a number that is not below 1
+-- A number that is not below 1.
 abbrev pub count_by : Option ℤ → Option ℕ
 count_by (Some (pos n)) = if n == 0 then None else Some n
 count_by (Some (negsuc n)) = None
 count_by None = None
 
--- a length, or a number of copies
+-- A length, or a number of copies.
 abbrev pub count_of : Bytes → Option ℕ
 count_of w = count_by (number_of w)
 
@@ -31,15 +52,16 @@ abbrev pub period_by : Option ℕ → Option ℕ
 period_by (Some n) = if nat_le n 16 then Some n else None
 period_by None = None
 
--- the number of a mark, from 1 to 16
+-- The number of a mark, from 1 to 16.
 abbrev pub period_of : Bytes → Option ℕ
 period_of w = period_by (count_of w)
 
 abbrev pub is_dot : ℕ → Bool
 is_dot b = b == 46
 
--- an end of an edge: a port of the graph itself, or a reference and its port
+-- An end of an edge: a port of the graph itself, or a reference and its port.
 abbrev pub end_of : Bytes → Option End
 end_of w =
     if is_name w then Some (record { owner = None; port = w })
-    else (if is_name (before_first is_dot w) && is_name (after_first is_dot w) then Some (record { owner = Some (before_first is_dot w); port = after_first is_dot w }) else None)
+    else (if is_name (before_first is_dot w) && is_name (after_first is_dot w)
+    then Some (record { owner = Some (before_first is_dot w); port = after_first is_dot w }) else None)

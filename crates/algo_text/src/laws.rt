@@ -1,4 +1,4 @@
-//! What the grammar of expressions says of the texts of formulas.
+//! The law of what the grammar of expressions says of the texts of formulas.
 ghost use Rattle.std.specs.Prelude.{◌≡◌, ◌↔◌, ℕ, List, Result};
 ghost use Rattle.body_lang.specs.Expr.{Expr};
 ghost use Rattle.algo_defs.specs.declared.fault.AlgoError.{AlgoError};

@@ -1,4 +1,4 @@
-//! The parts of a block.
+//! The part of a block in which its last line stands, which decides the lines that may follow.
 ghost use Rattle.std.specs.Prelude.{◌≡◌};
 ghost use Rattle.algo_text.specs.Parts.{rank, admits, is_conditioning};
 
@@ -19,6 +19,7 @@ pub enum Part {
 }
 
 impl Part {
+    /// The rank of a part in the order of the parts; references and cases have one, since no block has both.
     fn rank(self) -> u8
         ensures { result ≡ rank self }
     {
@@ -31,7 +32,7 @@ impl Part {
         }
     }
 
-    /// The line `on` of a switch has to follow.
+    /// Whether the line `on` of a switch has to follow.
     pub fn is_conditioning(self) -> bool
         ensures { result ≡ is_conditioning self }
     {
@@ -41,7 +42,7 @@ impl Part {
         }
     }
 
-    /// A line of the part `next` may follow. Before the line `on` of a switch no other may.
+    /// Whether a line of the part `next` may follow. Before the line `on` of a switch no other may.
     pub fn admits(self, next: Part) -> bool
         ensures { result ≡ admits self next }
     {

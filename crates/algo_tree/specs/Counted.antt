@@ -3,8 +3,9 @@ use Rattle.std.specs.Prelude.{ℕ, ◌+◌, ◌*◌, length}
 use Rattle.algo_tree.specs.Tree.{Kind, delay, graph, switch, repeat, Vertex, vertex, Vertices, no_vertices, and_vertex}
 use Rattle.algo_tree.specs.Well.{fork_names, join_names}
 
--- A delay stands for two for each reaction that it looks back, a switch for its cases' and a merge for each output, a repetition for those of its copies,
--- an explode for each fork line and an implode for each join line, and any other vertex without others inside for one.
+-- A delay stands for two operations for each reaction that it looks back, a switch for those of its cases and a merge
+-- for each output, and a repetition for those of its copies, an explode for each fork line and an implode for each join
+-- line. Any other vertex with nothing inside stands for one.
 abbrev pub operations_by : Kind → ℕ → ℕ
 operations_by (delay vs) inner = 2 * length vs
 operations_by (graph outs) inner = inner

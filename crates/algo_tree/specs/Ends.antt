@@ -5,6 +5,7 @@ use Rattle.level_meaning.specs.Level.{numbers_below}
 use Rattle.algo_tree.specs.Tree.{Kind, sensor, actuator, Vertex, vertex, Vertices, no_vertices, and_vertex}
 use Rattle.algo_tree.specs.Typed.{outs_of, source_length}
 
+-- A kind is neither that of a sensor nor that of an actuator.
 abbrev pub IsNoEnd : Kind → Type 0
 IsNoEnd (sensor n) = ⊥
 IsNoEnd (actuator n) = ⊥
@@ -18,7 +19,7 @@ abbrev mutual
   AllNoEnds no_vertices = Unit {0}
   AllNoEnds (and_vertex u us) = HasNoEnds u × AllNoEnds us
 
--- no sensor and no actuator stands inside one of these vertices
+-- No sensor and no actuator stands inside one of these vertices.
 abbrev pub NoneInside : Vertices → Type 0
 NoneInside no_vertices = Unit {0}
 NoneInside (and_vertex (vertex l vs) us) = AllNoEnds vs × NoneInside us
@@ -31,7 +32,7 @@ abbrev pub actuator_number : Kind → List ℕ
 actuator_number (actuator n) = n ∷ []
 actuator_number _ = []
 
--- the numbers of the sensors, and of the actuators, in declared order
+-- The numbers of the sensors, and of the actuators, in declared order.
 abbrev pub sensor_numbers : Vertices → List ℕ
 sensor_numbers no_vertices = []
 sensor_numbers (and_vertex (vertex l vs) us) = sensor_number l.kind ++ sensor_numbers us
@@ -40,10 +41,12 @@ abbrev pub actuator_numbers : Vertices → List ℕ
 actuator_numbers no_vertices = []
 actuator_numbers (and_vertex (vertex l vs) us) = actuator_number l.kind ++ actuator_numbers us
 
+-- Sensors and actuators are each numbered from 0 in order.
 pub record AreEndsNumbered (us : Vertices) : Type 0 where
   pub sensors : sensor_numbers us ≡ numbers_below (length (sensor_numbers us))
   pub actuators : actuator_numbers us ≡ numbers_below (length (actuator_numbers us))
 
+-- The first of these lengths, 0 where there is none.
 abbrev pub first_length : List ℕ → ℕ
 first_length ns = slice_index_or ns 0 0
 
@@ -55,15 +58,18 @@ abbrev pub actuator_length : Kind → List ℕ → List ℕ
 actuator_length (actuator n) lens = first_length lens ∷ []
 actuator_length _ lens = []
 
+-- The lengths of the sensors among these vertices, in order.
 abbrev pub sensor_lengths_in : Vertices → List ℕ
 sensor_lengths_in no_vertices = []
 sensor_lengths_in (and_vertex (vertex l vs) us) = sensor_length l.kind l.outs ++ sensor_lengths_in us
 
+-- The lengths of the actuators among these vertices, in order.
 abbrev pub actuator_lengths_in : (Source → ℕ) → Vertices → List ℕ
 actuator_lengths_in len no_vertices = []
-actuator_lengths_in len (and_vertex (vertex l vs) us) = actuator_length l.kind (map len l.ins) ++ actuator_lengths_in len us
+actuator_lengths_in len (and_vertex (vertex l vs) us) =
+    actuator_length l.kind (map len l.ins) ++ actuator_lengths_in len us
 
--- the lengths of the sensors, and of the actuators, of the main graph in declared order
+-- The lengths of the sensors, and of the actuators, of the main graph in declared order.
 abbrev pub sensor_lengths : Vertex → List ℕ
 sensor_lengths (vertex l us) = sensor_lengths_in us
 

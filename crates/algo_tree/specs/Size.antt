@@ -4,7 +4,7 @@ use Rattle.algo_tree.specs.Tree.{Kind, repeat, Vertex, vertex, Vertices, no_vert
 use Rattle.algo_tree.specs.Well.{fork_names, join_names}
 
 abbrev mutual
-  -- a vertex and all inside it
+  -- A vertex and all inside it.
   pub size : Vertex → ℕ
   size (vertex l us) = suc (size_all us)
 

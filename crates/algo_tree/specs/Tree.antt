@@ -22,7 +22,8 @@ pub data Kind : Type 0 where
   switch : List ℤ → List (List ℕ) → Kind
   repeat : ℕ → List Feed → List Give → Kind
 
--- What is said of a vertex beside what is inside it. Its outputs have names, or none where a pass of flattening makes the vertex.
+-- What is said of a vertex beside what is inside it. Its outputs have names, or none where a pass of flattening makes
+-- the vertex.
 pub record Label : Type 0 where
   pub part : Part
   pub definition : List ℕ

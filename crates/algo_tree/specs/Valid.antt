@@ -7,11 +7,12 @@ use Rattle.algo_tree.specs.Typed.{IsTyped, label_of}
 use Rattle.algo_tree.specs.Ends.{NoneInside, AreEndsNumbered}
 use Rattle.algo_tree.specs.Counted.{operations}
 
--- the main graph has no ports
+-- The main graph has no ports.
 pub record HasNoPorts (l : Label) : Type 0 where
   pub kind : l.kind ≡ graph []
   pub ins : l.ins ≡ []
 
+-- A vertex is the main graph of a tree.
 pub record IsTree (main : Vertex) : Type 0 where
   pub portless : HasNoPorts (label_of main)
   pub well : IsWell main

@@ -13,19 +13,38 @@ use Rattle.level_meaning.specs.declared.frontier.Give.TheVariants.{Last, Join}
 use Rattle.level_meaning.specs.Level.{Node}
 use Rattle.level_meaning.specs.Order.{IsAcyclic}
 use Rattle.level_meaning.specs.Parts.{HasDistinctParts}
-use Rattle.algo_tree.specs.Tree.{Kind, sensor, actuator, constant, delay, function, explode, implode, merge, graph, switch, repeat, Vertex, vertex, Vertices, no_vertices, and_vertex}
+use Rattle.algo_tree.specs.Tree.{
+  Kind,
+  sensor,
+  actuator,
+  constant,
+  delay,
+  function,
+  explode,
+  implode,
+  merge,
+  graph,
+  switch,
+  repeat,
+  Vertex,
+  vertex,
+  Vertices,
+  no_vertices,
+  and_vertex,
+}
 use Rattle.algo_tree.specs.Meaning.{nodes}
 
--- no later name is the same
+-- No later name is the same.
 abbrev pub IsNewName : List ℕ → List (List ℕ) → Type 0
 IsNewName x [] = Unit {0}
 IsNewName x (y ∷ ys) = (bytes_eq x y ≡ false) × IsNewName x ys
 
+-- No two of these names are the same.
 abbrev pub AreDistinctNames : List (List ℕ) → Type 0
 AreDistinctNames [] = Unit {0}
 AreDistinctNames (x ∷ xs) = IsNewName x xs × AreDistinctNames xs
 
--- the outer ports of fork lines, and of join lines
+-- The outer ports of fork lines, and of join lines.
 abbrev pub fork_names : List Feed → List (List ℕ)
 fork_names [] = []
 fork_names (Fork name k len ∷ fs) = name ∷ fork_names fs
@@ -37,37 +56,44 @@ join_names [] = []
 join_names (Join name y ∷ gs) = name ∷ join_names gs
 join_names (Last y ∷ gs) = join_names gs
 
+-- A part is a number.
 abbrev pub IsNumberedPart : Part → Type 0
 IsNumberedPart (Numbered n) = Unit {0}
 IsNumberedPart (Named x) = ⊥
 IsNumberedPart (Port x) = ⊥
 
+-- Each node has a number for its part.
 abbrev pub AreNumbered : List Node → Type 0
 AreNumbered [] = Unit {0}
 AreNumbered (c ∷ cs) = IsNumberedPart c.part × AreNumbered cs
 
+-- A source is an input of the vertex around.
 abbrev pub IsOwn : Source → Type 0
 IsOwn (Own k) = Unit {0}
 IsOwn (Of r p) = ⊥
 
+-- Each of these sources is an input of the vertex around.
 abbrev pub AreOwn : List Source → Type 0
 AreOwn [] = Unit {0}
 AreOwn (s ∷ ss) = IsOwn s × AreOwn ss
 
+-- The source of each guard is an input of the vertex around.
 abbrev pub OwnGuards : List Guard → Type 0
 OwnGuards [] = Unit {0}
 OwnGuards (g ∷ gs) = IsOwn g.source × OwnGuards gs
 
--- cases are fed by the inputs of their switch alone
+-- Cases are fed by the inputs of their switch alone.
 abbrev pub AreCases : Vertices → Type 0
 AreCases no_vertices = Unit {0}
 AreCases (and_vertex (vertex l vs) us) = (AreOwn l.ins × OwnGuards l.guards) × AreCases us
 
+-- There is one vertex.
 abbrev pub IsOne : Vertices → Type 0
 IsOne no_vertices = ⊥
 IsOne (and_vertex u no_vertices) = Unit {0}
 IsOne (and_vertex u (and_vertex v us)) = ⊥
 
+-- There is no vertex.
 abbrev pub IsEmpty : Vertices → Type 0
 IsEmpty no_vertices = Unit {0}
 IsEmpty (and_vertex u us) = ⊥
@@ -77,8 +103,10 @@ IsEmpty (and_vertex u us) = ⊥
 abbrev pub IsKindWell : Kind → List Guard → Vertices → Type 0
 IsKindWell (graph outs) gs us = (gs ≡ []) × (IsAcyclic (nodes us) × HasDistinctParts (nodes us))
 IsKindWell (switch values names) gs us =
-    ((gs ≡ []) × ((length (nodes us) ≡ suc (length values)) × (HasDistinctParts (nodes us) × AreCases us))) × (AreNumbered (nodes us) × AreDistinctNames names)
-IsKindWell (repeat n feeds gives) gs us = (gs ≡ []) × (((zero < n) × IsOne us) × AreDistinctNames (fork_names feeds ++ join_names gives))
+    ((gs ≡ []) × ((length (nodes us) ≡ suc (length values)) × (HasDistinctParts (nodes us) × AreCases us))) ×
+    (AreNumbered (nodes us) × AreDistinctNames names)
+IsKindWell (repeat n feeds gives) gs us =
+    (gs ≡ []) × (((zero < n) × IsOne us) × AreDistinctNames (fork_names feeds ++ join_names gives))
 IsKindWell (sensor n) gs us = IsEmpty us
 IsKindWell (actuator n) gs us = IsEmpty us
 IsKindWell (constant v) gs us = IsEmpty us

@@ -1,4 +1,4 @@
-//! How many flat operations a vertex stands for, without expanding it.
+//! The number of flat operations that a vertex stands for, which limits ask for before anything is expanded.
 ghost use Rattle.std.specs.Prelude.{◌≡◌, ◌^◌, ◌-◌, ◌+◌, length, min};
 ghost use Rattle.algo_tree.specs.View.{kind_view, view};
 ghost use Rattle.algo_tree.specs.Well.{fork_names, join_names};
@@ -19,6 +19,7 @@ pub fn count_operations(vertex: &Vertex) -> u64
     count_by(&vertex.kind, inside)
 }
 
+/// The same of a vertex of this kind, where what is inside it stands for `inside`.
 fn count_by(kind: &Kind, inside: u64) -> u64
     ensures { result ≡ min (operations_by (kind_view kind.now) inside) (2 ^ 64 - 1) }
 {

@@ -1,4 +1,4 @@
-//! Copies of kinds.
+//! Copies of kinds, with which passes make vertices.
 ghost use Rattle.std.specs.Prelude.{◌≡◌, IfOk};
 ghost use Rattle.algo_tree.specs.View.{kind_view};
 
@@ -29,6 +29,7 @@ pub fn copy_kind(alloc: Global, kind: &Kind) -> Result<Kind, OutOfMemory>
     })
 }
 
+/// The kind of a switch with the same values and names.
 fn copy_switch(alloc: Global, values: &[i64], names: &[Items<u8>]) -> Result<Kind, OutOfMemory>
     ensures { IfOk result (λ copy. copy ≡ Kind.Switch values.now names.now) }
 {
@@ -36,6 +37,7 @@ fn copy_switch(alloc: Global, values: &[i64], names: &[Items<u8>]) -> Result<Kin
     Ok(Kind::Switch(copy_numbers(alloc, values)?, names))
 }
 
+/// The kind of a repetition with the same lines.
 fn copy_repeat(
     alloc: Global,
     count: u32,
@@ -48,6 +50,7 @@ fn copy_repeat(
     Ok(Kind::Repeat(count, feeds, copy_gives(alloc, gives)?))
 }
 
+/// The same groups of values, in order.
 fn copy_groups(alloc: Global, groups: &[Items<i64>]) -> Result<Items<Items<i64>>, OutOfMemory>
     ensures { IfOk result (λ copies. copies ≡ groups.now) }
 {
@@ -58,6 +61,7 @@ fn copy_groups(alloc: Global, groups: &[Items<i64>]) -> Result<Items<Items<i64>>
     Ok(Items::new(copies))
 }
 
+/// The same lines of inputs, in order.
 fn copy_feeds(alloc: Global, feeds: &[Feed]) -> Result<Items<Feed>, OutOfMemory>
     ensures { IfOk result (λ copies. copies ≡ feeds.now) }
 {
@@ -68,6 +72,7 @@ fn copy_feeds(alloc: Global, feeds: &[Feed]) -> Result<Items<Feed>, OutOfMemory>
     Ok(Items::new(copies))
 }
 
+/// The same line of an input.
 fn copy_feed(alloc: Global, feed: &Feed) -> Result<Feed, OutOfMemory>
     ensures { IfOk result (λ copy. copy ≡ feed.now) }
 {
@@ -80,6 +85,7 @@ fn copy_feed(alloc: Global, feed: &Feed) -> Result<Feed, OutOfMemory>
     })
 }
 
+/// The same lines of outputs, in order.
 fn copy_gives(alloc: Global, gives: &[Give]) -> Result<Items<Give>, OutOfMemory>
     ensures { IfOk result (λ copies. copies ≡ gives.now) }
 {
@@ -90,6 +96,7 @@ fn copy_gives(alloc: Global, gives: &[Give]) -> Result<Items<Give>, OutOfMemory>
     Ok(Items::new(copies))
 }
 
+/// The same line of an output.
 fn copy_give(alloc: Global, give: &Give) -> Result<Give, OutOfMemory>
     ensures { IfOk result (λ copy. copy ≡ give.now) }
 {

@@ -1,4 +1,4 @@
-//! Copies of what is said of a vertex beside its kind and what is inside it.
+//! Copies of what is said of a vertex beside its kind and what is inside it, with which passes make vertices.
 ghost use Rattle.std.specs.Prelude.{◌≡◌, IfOk};
 
 use level_meaning::{Guard, Part, Source};

@@ -1,4 +1,4 @@
-//! How many vertices a vertex is made of, with the copies of repetitions, without making them.
+//! The number of vertices that a vertex is made of, which whoever makes or simulates them asks for before.
 ghost use Rattle.std.specs.Prelude.{◌≡◌, ◌^◌, ◌-◌, min};
 ghost use Rattle.algo_tree.specs.Size.{made_by, vertices_made};
 ghost use Rattle.algo_tree.specs.View.{kind_view, view};
@@ -7,7 +7,7 @@ use crate::count::{count_forks, count_joins};
 use crate::vertex::{Kind, Vertex};
 
 /// The most vertices that any tree is made of, each copy of the body of a repetition counted: what
-/// resolves, simulates or flattens an algorithm answers want of memory beyond it, before anything is
+/// resolves, simulates or flattens an algorithm returns want of memory beyond it, before anything is
 /// made. A flat operation stands in at most eight vertices, `main` among them, so the at most 2,048
 /// operations of a tree stand in at most 16,384: a tree beyond this bound is made of graphs, switches
 /// and repetitions that stand for no operation.
@@ -26,6 +26,7 @@ pub fn count_vertices(vertex: &Vertex) -> u64
     made_by(&vertex.kind, inside)
 }
 
+/// The same of a vertex of this kind, where what is inside it is made of `inside`.
 fn made_by(kind: &Kind, inside: u64) -> u64
     ensures { result ≡ min (made_by (kind_view kind.now) inside) (2 ^ 64 - 1) }
 {

@@ -1,5 +1,5 @@
-//! The tree that is kept whole.
-ghost use Rattle.std.specs.Prelude.{◌≡◌, [], map, slice_index_or, option_to_list, ◌++◌, IfOk, OnOk};
+//! The tree that is kept whole: `Tree`, which resolving and each pass hand on.
+ghost use Rattle.std.specs.Prelude.{◌≡◌, [], map, option_to_list, ◌++◌, IfOk, OnOk};
 ghost use Rattle.algo_tree.specs.View.{kind_view, view, vertices_view};
 ghost use Rattle.algo_tree.specs.Typed.{outs_of, source_length};
 ghost use Rattle.algo_tree.specs.Ends.{first_length, sensor_length, sensor_lengths, sensor_lengths_in, actuator_length, actuator_lengths, actuator_lengths_in};
@@ -7,6 +7,7 @@ ghost use Rattle.algo_tree.specs.Counted.{operations};
 ghost use Rattle.algo_tree.specs.Valid.{IsTree};
 
 use crate::count::count_operations;
+use crate::lens::source_len;
 use crate::vertex::{Kind, Vertex};
 use level_meaning::Source;
 use std::alloc::Global;
@@ -84,6 +85,7 @@ impl Tree {
     }
 }
 
+/// The lengths of the sensors among these vertices, in order.
 fn sensor_lens_in(alloc: Global, vertices: &[Vertex]) -> Result<Vec<u32>, OutOfMemory>
     ensures { IfOk result (λ lens. lens.items ≡ sensor_lengths_in (vertices_view vertices.now)) }
 {
@@ -110,11 +112,12 @@ fn sensor_len(kind: &Kind, outs: &[u32]) -> Option<u32>
     ensures { option_to_list result ≡ sensor_length (kind_view kind.now) outs.now }
 {
     match kind {
-        Kind::Sensor(_) => Some(first_or_zero(outs)),
+        Kind::Sensor(_) => Some(len_at(outs, 0)),
         _ => None,
     }
 }
 
+/// The lengths of the actuators among these vertices, in order.
 fn actuator_lens_in(alloc: Global, vertices: &[Vertex]) -> Result<Vec<u32>, OutOfMemory>
     ensures { IfOk result (λ lens. lens.items ≡
         actuator_lengths_in (source_length [] (outs_of (vertices_view vertices.now)))
@@ -139,28 +142,12 @@ fn actuator_len(vertices: &[Vertex], kind: &Kind, ins: &[Source]) -> Option<u32>
     }
 }
 
-fn first_or_zero(lens: &[u32]) -> u32
-    ensures { result ≡ first_length lens.now }
-{
-    lens.first().copied().unwrap_or(0)
-}
-
 /// The length of the value that the first of these sources gives, where the level has no own inputs.
 fn taken_len(vertices: &[Vertex], sources: &[Source]) -> u32
     ensures { result ≡ first_length (map (source_length [] (outs_of (vertices_view vertices.now))) sources.now) }
 {
     match sources.first() {
-        Some(Source::Of(vertex, port)) => output_len(vertices, *vertex as usize, *port as usize),
-        _ => 0,
-    }
-}
-
-fn output_len(vertices: &[Vertex], vertex: usize, port: usize) -> u32
-    ensures { result ≡ slice_index_or (slice_index_or (outs_of (vertices_view vertices.now)) vertex []) port 0 }
-{
-    if vertex < vertices.len() {
-        len_at(vertices[vertex].outs.as_slice(), port)
-    } else {
-        0
+        Some(source) => source_len(&[], vertices, *source),
+        None => 0,
     }
 }

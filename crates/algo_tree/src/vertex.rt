@@ -1,4 +1,4 @@
-//! A vertex of the resolved algorithm and what is inside it.
+//! Vertices of the resolved algorithm, with what is inside them.
 use body_lang::Body;
 use level_meaning::{Feed, Give, Guard, Part, Source};
 use syn_base::Items;

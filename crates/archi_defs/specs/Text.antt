@@ -1,5 +1,38 @@
--- What the text of an architecture says: its version, operators, media, depth and durations, or its first refusal. Lines are numbered from 1.
-use Rattle.std.specs.Prelude.{ℕ, ◌+◌, Bool, false, not, ◌&&◌, ◌||◌, ◌==◌, nat_le, nat_lt, List, [], ◌∷◌, ◌++◌, length, map, position, slice_index_or, slice_set, Option, Some, None, is_some, Result, Ok, Err, if◌then◌else◌, codes, ℤ, pos, negsuc}
+-- What the text of an architecture says: its version, operators, media, depth and durations, or its first refusal.
+-- Lines are numbered from 1.
+use Rattle.std.specs.Prelude.{
+  ℕ,
+  ◌+◌,
+  Bool,
+  false,
+  not,
+  ◌&&◌,
+  ◌||◌,
+  ◌==◌,
+  nat_le,
+  nat_lt,
+  List,
+  [],
+  ◌∷◌,
+  ◌++◌,
+  length,
+  map,
+  position,
+  slice_index_or,
+  slice_set,
+  Option,
+  Some,
+  None,
+  is_some,
+  Result,
+  Ok,
+  Err,
+  if◌then◌else◌,
+  codes,
+  ℤ,
+  pos,
+  negsuc,
+}
 use Rattle.std.specs.List.{list_any, range_with_len}
 use Rattle.std.specs.Str.{bytes_eq}
 use Rattle.syn_base.specs.Bytes.{Bytes}
@@ -17,7 +50,17 @@ use Rattle.archi_defs.specs.declared.text.ArchiText.{ArchiText}
 use Rattle.archi_defs.specs.declared.fault.ArchiError.{ArchiError}
 use Rattle.archi_defs.specs.declared.fault.ArchiError.TheVariants.{Refused, Limit}
 use Rattle.archi_defs.specs.declared.fault.ArchiCause.{ArchiCause}
-use Rattle.archi_defs.specs.declared.fault.ArchiCause.TheVariants.{NotText, BadLine, BadName, BadNumber, UnknownName, DuplicateName, BadMedium, NoOperator, Disconnected}
+use Rattle.archi_defs.specs.declared.fault.ArchiCause.TheVariants.{
+  NotText,
+  BadLine,
+  BadName,
+  BadNumber,
+  UnknownName,
+  DuplicateName,
+  BadMedium,
+  NoOperator,
+  Disconnected,
+}
 
 -- what a text gives
 pub record Described : Type 0 where
@@ -29,7 +72,8 @@ pub record Described : Type 0 where
 abbrev pub described_by : ArchiText → Described
 described_by t = record { version = t.version; archi = t.archi; durations = t.lines }
 
--- What was read so far: the version, the depth, the operators' names, the media with their lines, how many connections, and the durations.
+-- What was read so far: the version, the depth, the operators' names, the media with their lines, how many
+-- connections, and the durations.
 pub record Reading : Type 0 where
   pub version : Option ℕ
   pub depth : Option ℕ
@@ -110,7 +154,8 @@ depth_of (Err e) = None
 abbrev pub depth_line : Reading → ℕ → ℕ → List Bytes → Result Reading ArchiError
 depth_line r n version ws =
     if not (length ws == 2) || (version == 1) || is_some r.depth then refused n BadLine else
-    with_some (depth_of (integer_of (word ws 1))) (refused n (BadNumber (word ws 1))) (λ depth. Ok (record r { depth = Some depth }))
+    with_some (depth_of (integer_of (word ws 1))) (refused n (BadNumber (word ws 1)))
+    (λ depth. Ok (record r { depth = Some depth }))
 
 -- operator NAME
 abbrev pub operator_line : Reading → ℕ → List Bytes → Result Reading ArchiError
@@ -124,13 +169,20 @@ operator_line r n ws =
 -- medium NAME p2p FIXED PER and medium NAME multi FIXED PER
 abbrev pub medium_line : Reading → ℕ → List Bytes → Result Reading ArchiError
 medium_line r n ws =
-    if not (length ws == 5) || not (bytes_eq (word ws 2) (codes "p2p") || bytes_eq (word ws 2) (codes "multi")) then refused n BadLine else
+    if not (length ws == 5) || not (bytes_eq (word ws 2) (codes "p2p") || bytes_eq (word ws 2) (codes "multi"))
+    then refused n BadLine else
     all_names n (word ws 1 ∷ [])
     (with_number n 1000000 (word ws 3) (λ fixed. with_number n 1000000 (word ws 4) (λ per.
     if is_taken r (word ws 1) then refused n (DuplicateName (word ws 1)) else
     if is_above Media (length r.media + 1) then above Media (length r.media + 1) else
     Ok (record r {
-      media = r.media ++ record { name = word ws 1; multi = bytes_eq (word ws 2) (codes "multi"); fixed = fixed; per = per; stands = [] } ∷ [];
+      media = r.media ++ record {
+        name = word ws 1;
+        multi = bytes_eq (word ws 2) (codes "multi");
+        fixed = fixed;
+        per = per;
+        stands = [];
+      } ∷ [];
       lines = r.lines ++ n ∷ [];
     }))))
 
@@ -146,7 +198,12 @@ abbrev pub connected : Reading → ℕ → Bytes → ℕ → ℕ → Result Read
 connected r n w m o =
     if list_any (λ p. p == o) (slice_index_or r.media m no_medium).stands then refused n (DuplicateName w) else
     if is_above Connections (r.connections + 1) then above Connections (r.connections + 1) else
-    Ok (record r { media = slice_set r.media m (record (slice_index_or r.media m no_medium) { stands = with_stand o (slice_index_or r.media m no_medium).stands }); connections = r.connections + 1 })
+    Ok (record r {
+      media = slice_set r.media m (record (slice_index_or r.media m no_medium) {
+        stands = with_stand o (slice_index_or r.media m no_medium).stands;
+      });
+      connections = r.connections + 1;
+    })
 
 -- connect MEDIUM OPERATOR
 abbrev pub connect_line : Reading → ℕ → List Bytes → Result Reading ArchiError
@@ -164,7 +221,8 @@ duration_line r n ws =
     all_names n (word ws 1 ∷ word ws 2 ∷ [])
     (with_number n 1000000000 (word ws 3) (λ ticks.
     with_some (place_of (word ws 2) r.operators) (refused n (UnknownName (word ws 2))) (λ o.
-    if list_any (λ d. bytes_eq d.def (word ws 1) && (d.operator == o)) r.durations then refused n (DuplicateName (word ws 1)) else
+    if list_any (λ d. bytes_eq d.def (word ws 1) && (d.operator == o)) r.durations
+    then refused n (DuplicateName (word ws 1)) else
     Ok (record r { durations = r.durations ++ record { def = word ws 1; operator = o; ticks = ticks } ∷ [] }))))
 
 abbrev pub begins : List Bytes → Bytes → Bool
@@ -184,7 +242,8 @@ abbrev pub line_by : Reading → ℕ → Bytes → Option ℕ → Result Reading
 line_by r n line (Some place) = refused n (NotText place)
 line_by r n line None =
     if length (words_of (code_of line)) == 0 then Ok r else
-    with_some r.version (version_line r n (words_of (code_of line))) (λ version. described_line r n version (words_of (code_of line)))
+    with_some r.version (version_line r n (words_of (code_of line)))
+    (λ version. described_line r n version (words_of (code_of line)))
 
 -- the next line; one without words says nothing
 abbrev pub next_line : Reading → ℕ → Bytes → Result Reading ArchiError
@@ -197,15 +256,16 @@ has_stands m = if m.multi then nat_le 2 (length m.stands) else length m.stands =
 -- the first medium with a wrong number of operators, at its line
 abbrev pub media_are_right : {A : Type 0} → List Medium → List ℕ → Result A ArchiError → Result A ArchiError
 media_are_right [] lines go = go
-media_are_right (m ∷ ms) lines go = if has_stands m then media_are_right ms (behind lines) go else refused (first lines) (BadMedium m.name)
+media_are_right (m ∷ ms) lines go =
+    if has_stands m then media_are_right ms (after lines) go else refused (first lines) (BadMedium m.name)
   where
     first : List ℕ → ℕ
     first [] = 0
     first (n ∷ ns) = n
 
-    behind : List ℕ → List ℕ
-    behind [] = []
-    behind (n ∷ ns) = ns
+    after : List ℕ → List ℕ
+    after [] = []
+    after (n ∷ ns) = ns
 
 -- the least operator to which no route leads from operator 0
 abbrev pub apart : Reading → Option ℕ

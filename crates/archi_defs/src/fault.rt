@@ -1,4 +1,4 @@
-//! Why a text of an architecture is refused.
+//! The refusal of an architecture's text: its causes, and the error that `archi_reader` returns.
 use std::fmt;
 use syn_base::{Items, LimitFault, Name};
 use thiserror::Error;

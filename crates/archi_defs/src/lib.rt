@@ -1,6 +1,8 @@
-//! The architecture of a text with its version and its durations, and why a text is refused. What the bytes of
-//! a text say stands in `specs/`. `archi_reader` reads and prints such texts, `durations` and the commands take
-//! what was read.
+//! What the text of an architecture says: its version, its operators, media, connections and depth,
+//! and its durations; or why it is refused.
+//!
+//! The meaning of the bytes stands in `specs/`. `archi_reader` reads and prints such texts,
+//! `durations` and the commands take what was read.
 #![tactic(auto)]
 
 mod fault;

@@ -1,4 +1,4 @@
-//! What an architecture text has.
+//! The content of an architecture's text. `archi_reader` makes it, and the commands take it apart.
 use archi_graph::Archi;
 use syn_base::{Items, Name};
 

@@ -1,5 +1,25 @@
 -- Architectures, and which of them are valid.
-use Rattle.std.specs.Prelude.{ℕ, zero, suc, ◌+◌, Bool, true, false, ◌&&◌, ◌||◌, ◌==◌, nat_eq, nat_le, nat_lt, List, [], ◌∷◌, ◌++◌, length, map}
+use Rattle.std.specs.Prelude.{
+  ℕ,
+  zero,
+  suc,
+  ◌+◌,
+  Bool,
+  true,
+  false,
+  ◌&&◌,
+  ◌||◌,
+  ◌==◌,
+  nat_eq,
+  nat_le,
+  nat_lt,
+  List,
+  [],
+  ◌∷◌,
+  ◌++◌,
+  length,
+  map,
+}
 use Rattle.std.specs.List.{list_all, list_any, count_by, sum_by, range_with_len}
 use Rattle.std.specs.Str.{bytes_eq}
 use Rattle.archi_graph.specs.declared.medium.Medium.{Medium}
@@ -27,7 +47,8 @@ may_stand false n = n == 2
 -- a valid medium, where there are this many operators
 abbrev pub is_medium : ℕ → Medium → Bool
 is_medium operators m =
-    may_stand m.multi (length m.stands) && ascends_from 0 m.stands && list_all (λ o. nat_lt o operators) m.stands && nat_le m.fixed 1000000 && nat_le m.per 1000000
+    may_stand m.multi (length m.stands) && ascends_from 0 m.stands && list_all (λ o. nat_lt o operators) m.stands &&
+    nat_le m.fixed 1000000 && nat_le m.per 1000000
 
 abbrev pub occurs_once : List (List ℕ) → List ℕ → Bool
 occurs_once names name = count_by (bytes_eq name) names == 1
@@ -59,9 +80,11 @@ are_joined operators media = list_all (reached_within media operators) (range_wi
 -- 1 to 16 operators, and at most 16 media, with at most 64 stands in all
 abbrev pub are_bounded : List (List ℕ) → List Medium → Bool
 are_bounded operators media =
-    nat_le 1 (length operators) && nat_le (length operators) 16 && nat_le (length media) 16 && nat_le (stands_in_all media) 64
+    nat_le 1 (length operators) && nat_le (length operators) 16 && nat_le (length media) 16 &&
+    nat_le (stands_in_all media) 64
 
 -- valid operators and media
 abbrev pub is_archi : List (List ℕ) → List Medium → Bool
 is_archi operators media =
-    are_bounded operators media && list_all (is_medium (length operators)) media && are_distinct (names_of operators media) && are_joined (length operators) media
+    are_bounded operators media && list_all (is_medium (length operators)) media &&
+    are_distinct (names_of operators media) && are_joined (length operators) media

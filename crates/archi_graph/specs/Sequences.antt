@@ -15,7 +15,8 @@ communicator o m = record { operator = o; medium = Some m }
 abbrev pub communicators : ℕ → ℕ → List Medium → List Seq
 communicators o number [] = []
 communicators o number (m ∷ media) =
-    if stands_at m o then communicator o number ∷ communicators o (number + 1) media else communicators o (number + 1) media
+    if stands_at m o then communicator o number ∷ communicators o (number + 1) media else
+    communicators o (number + 1) media
 
 -- an operator's computation sequence, and then its communicators by the number of the medium
 abbrev pub sequences_of : List Medium → ℕ → List Seq

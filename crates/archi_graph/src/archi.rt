@@ -1,4 +1,5 @@
-//! The architecture, kept whole.
+//! The architecture, kept whole: its operators, its media and the depth of its buffers, valid.
+//! Every crate that places, builds or runs takes one.
 use crate::medium::{Medium, Seq};
 use crate::sequences::all_sequences;
 use std::alloc::Global;

@@ -1,7 +1,10 @@
-//! Architectures: operators, the media that join them, the depth of the buffers between sequences, and the
-//! sequences that the operators run. `is_archi` tells which operators and media are valid, `Archi` keeps valid
-//! ones, and `routes_are_found` is the law that its operators are joined exactly where routes lead. The reader
-//! of architecture texts makes architectures; routes, durations, schedules and programs stand on them.
+//! Architectures: operators, the media that join them, and the sequences that the operators run.
+//! The type keeps what is valid, and a law says that operators are joined exactly where routes
+//! lead.
+//!
+//! `is_archi` tells which operators and media are valid, `Archi` keeps valid ones with the depth of
+//! the buffers between sequences, and `routes_are_found` is the law. The reader of architecture
+//! texts makes architectures; routes, durations, schedules and programs stand on them.
 #![tactic(auto)]
 
 mod archi;

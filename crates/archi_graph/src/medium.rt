@@ -1,4 +1,5 @@
-//! Media, hops over them, and sequences.
+//! Media, hops over them, and sequences: the parts of an architecture, routes and programs, as
+//! plain data.
 use syn_base::{Items, Name};
 
 /// A medium of sequential access, first in, first out. A transfer of n elements takes

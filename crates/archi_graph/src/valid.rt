@@ -1,4 +1,5 @@
-//! Which operators and media make an architecture.
+//! Validity: which operators and media make an architecture. Whoever makes an `Archi` of parts of
+//! any origin asks `is_archi`.
 ghost use Rattle.std.specs.Prelude.{◌≡◌, nat_le, nat_lt};
 ghost use Rattle.std.specs.List.{count_by, list_all};
 ghost use Rattle.std.specs.Str.{bytes_eq};
@@ -32,12 +33,15 @@ pub fn is_archi(operators: &[Name], media: &[Medium]) -> bool
     is_named_once(operators, media) && are_joined(operators.len(), media)
 }
 
+/// Whether there are 1 to 16 operators, and at most 16 media with at most 64 stands.
 fn is_bounded(operators: &[Name], media: &[Medium]) -> bool
     ensures { result ≡ are_bounded operators.now media.now }
 {
     !operators.is_empty() && operators.len() <= MOST && media.len() <= MOST && has_few_stands(media)
 }
 
+/// Whether at most 64 operators stand at the media, counted medium by medium. What room is left is
+/// counted down, so that no sum can overflow.
 fn has_few_stands(media: &[Medium]) -> bool
     ensures { result ≡ nat_le (stands_in_all media.now) 64 }
 {
@@ -52,12 +56,15 @@ fn has_few_stands(media: &[Medium]) -> bool
     true
 }
 
+/// Whether each medium is valid for this many operators.
 fn are_sound(operators: usize, media: &[Medium]) -> bool
     ensures { result ≡ list_all (is_medium operators) media.now }
 {
     media.iter().all(|medium| is_sound(operators, medium))
 }
 
+/// Whether the medium is valid for this many operators: enough of them stand at it, ascending, and
+/// its ticks are in their bounds.
 fn is_sound(operators: usize, medium: &Medium) -> bool
     ensures { result ≡ is_medium operators medium.now }
 {
@@ -69,12 +76,14 @@ fn is_sound(operators: usize, medium: &Medium) -> bool
         && medium.per <= MOST_TICKS
 }
 
+/// Whether this many operators may stand at a medium of this kind.
 fn has_enough(multi: bool, stands: usize) -> bool
     ensures { result ≡ may_stand multi stands }
 {
     if multi { stands >= 2 } else { stands == 2 }
 }
 
+/// Whether each number is above the one before it.
 fn ascends(numbers: &[u32]) -> bool
     ensures { result ≡ ascends_from 0 numbers.now }
 {
@@ -89,12 +98,15 @@ fn ascends(numbers: &[u32]) -> bool
     true
 }
 
+/// Whether each number is below the bound.
 fn are_below(numbers: &[u32], bound: usize) -> bool
     ensures { result ≡ list_all (λ o. nat_lt o bound) numbers.now }
 {
     numbers.iter().all(|number| (*number as usize) < bound)
 }
 
+/// Whether no two operators or media have the same name. The names are counted where they stand, so
+/// it takes no memory.
 #[tactic(auto, using(crate::proofs::Names::all_both))]
 fn is_named_once(operators: &[Name], media: &[Medium]) -> bool
     ensures { result ≡ are_distinct (names_of operators.now media.now) }
@@ -102,6 +114,7 @@ fn is_named_once(operators: &[Name], media: &[Medium]) -> bool
     are_operators_alone(operators, media) && are_media_alone(operators, media)
 }
 
+/// Whether no other operator and no medium has the name of an operator.
 fn are_operators_alone(operators: &[Name], media: &[Medium]) -> bool
     ensures { result ≡ list_all (occurs_once (names_of operators.now media.now)) operators.now }
 {
@@ -113,6 +126,7 @@ fn are_operators_alone(operators: &[Name], media: &[Medium]) -> bool
     true
 }
 
+/// Whether no other medium and no operator has the name of a medium.
 fn are_media_alone(operators: &[Name], media: &[Medium]) -> bool
     ensures { result ≡ list_all (λ m. occurs_once (names_of operators.now media.now) m.name) media.now }
 {
@@ -124,6 +138,7 @@ fn are_media_alone(operators: &[Name], media: &[Medium]) -> bool
     true
 }
 
+/// Whether exactly one of all operators and media has the name.
 #[tactic(auto, using(crate::proofs::Names::count_both))]
 fn is_alone(name: &[u8], operators: &[Name], media: &[Medium]) -> bool
     ensures { result ≡ occurs_once (names_of operators.now media.now) name.now }
@@ -131,12 +146,14 @@ fn is_alone(name: &[u8], operators: &[Name], media: &[Medium]) -> bool
     count_operators(name, operators) + count_media(name, media) == 1
 }
 
+/// How many operators have the name.
 fn count_operators(name: &[u8], operators: &[Name]) -> usize
     ensures { result ≡ count_by (bytes_eq name.now) operators.now }
 {
     operators.iter().filter(|x| x.as_bytes() == name).count()
 }
 
+/// How many media have the name.
 fn count_media(name: &[u8], media: &[Medium]) -> usize
     ensures { result ≡ count_by (λ m. bytes_eq name.now m.name) media.now }
 {

@@ -1,5 +1,20 @@
 -- The canonical text of an architecture and its durations, of a version.
-use Rattle.std.specs.Prelude.{ℕ, Bool, true, false, ◌==◌, if◌then◌else◌, List, [], ◌∷◌, ◌++◌, map, slice_index_or, codes, pos}
+use Rattle.std.specs.Prelude.{
+  ℕ,
+  Bool,
+  true,
+  false,
+  ◌==◌,
+  if◌then◌else◌,
+  List,
+  [],
+  ◌∷◌,
+  ◌++◌,
+  map,
+  slice_index_or,
+  codes,
+  pos,
+}
 use Rattle.std.specs.List.{flat_map}
 use Rattle.std.specs.Fmt.{signed_decimal}
 use Rattle.archi_graph.specs.declared.medium.Medium.{Medium}
@@ -70,7 +85,8 @@ duration_words operators d = codes "duration" ∷ d.def ∷ name_at operators d.
 -- the version, the depth, operators, media, connections by medium and then operator, and durations as given
 abbrev pub canonical_lines : ℕ → Architecture → List DurationLine → List Words
 canonical_lines version a durations =
-    opening_lines version a.depth ++ map operator_words a.operators ++ map medium_words a.media ++ flat_map (connections_of a.operators) a.media ++ map (duration_words a.operators) durations
+    opening_lines version a.depth ++ map operator_words a.operators ++ map medium_words a.media ++
+    flat_map (connections_of a.operators) a.media ++ map (duration_words a.operators) durations
 
 abbrev pub canonical_text : Described → Bytes
 canonical_text d = text_of (canonical_lines d.version d.archi d.durations)

@@ -49,12 +49,12 @@ Adds (Err OutOfMemory) old x new = new ≡ old
 Adds (Err (Refused f)) old x new = ⊥
 Adds (Err (Limit f)) old x new = ⊥
 
--- what reading a text answers: what it describes or its first refusal, unless memory ran out
+-- what reading a text returns: what it describes or its first refusal, unless memory ran out
 abbrev pub Gives : Result ArchiText ArchiError → Result Described ArchiError → Type 0
 Gives (Ok t) read = read ≡ Ok (described_by t)
 Gives (Err e) read = Fails e read
 
--- what a check of the whole answers: the version of a text that is not refused
+-- what a check of the whole returns: the version of a text that is not refused
 abbrev pub Checks : Result ℕ ArchiError → Reading → Result Described ArchiError → Type 0
 Checks (Ok version) r read = read ≡ Ok (described r version)
 Checks (Err e) r read = Fails e read

@@ -14,11 +14,21 @@ some_name w = if is_name w then Some w else None
 
 -- what the reader has read
 abbrev pub reading : Reader → Reading
-reading r = record { version = r.version; depth = r.depth; operators = r.operators.items; media = r.media.items; lines = r.lines.items; connections = r.connections; durations = r.durations }
+reading r = record {
+  version = r.version;
+  depth = r.depth;
+  operators = r.operators.items;
+  media = r.media.items;
+  lines = r.lines.items;
+  connections = r.connections;
+  durations = r.durations;
+}
 
 -- a medium whose operators may still be too few, where there are this many operators
 abbrev pub is_begun : ℕ → Medium → Bool
-is_begun operators m = ascends_from 0 m.stands && list_all (λ o. nat_lt o operators) m.stands && nat_le m.fixed 1000000 && nat_le m.per 1000000
+is_begun operators m =
+    ascends_from 0 m.stands && list_all (λ o. nat_lt o operators) m.stands && nat_le m.fixed 1000000 &&
+    nat_le m.per 1000000
 
 -- what holds after each line: all that a valid architecture asks for, but enough operators and routes between them
 pub record IsSound (r : Reading) : Type 0 where

@@ -1,4 +1,5 @@
-//! The durations of a text, each definition and operator once.
+//! The durations of a text while it is read, each definition and operator once. `reader` adds them
+//! line by line.
 ghost use Rattle.std.specs.Prelude.{◌≡◌, ◌<◌, []};
 ghost use Rattle.archi_reader.specs.Given.{Adds, Has};
 ghost use Rattle.archi_reader.specs.Durations.{is_given, AreGiven};

@@ -1,4 +1,4 @@
-//! The refusals of a line.
+//! The refusals of a line, which `reader` and `whole` return.
 ghost use Rattle.std.specs.Prelude.{◌≡◌};
 ghost use Rattle.archi_reader.specs.Given.{IsStop, stop, Adds};
 ghost use Rattle.syn_base.specs.Limits.{bound_of};

@@ -1,4 +1,4 @@
-//! Which operators hops over the media join to operator 0.
+//! The least operator that no route joins to operator 0, which `whole` names in a refusal.
 ghost use Rattle.std.specs.Prelude.{◌≡◌, ◌<◌, ◌≤◌, not, length, position, IfSome};
 ghost use Rattle.std.specs.List.{range_with_len};
 ghost use Rattle.archi_graph.specs.Archi.{reached_within};
@@ -17,6 +17,7 @@ pub fn apart(operators: usize, media: &[Medium]) -> Option<usize>
     first_unset(&reached[..operators])
 }
 
+/// The place of the first flag that is not set.
 fn first_unset(flags: &[bool]) -> Option<usize>
     ensures place { result ≡ position (λ is_set. not is_set) flags.now }
     ensures within { IfSome result (λ k. k < length flags.now) }

@@ -1,4 +1,5 @@
-//! What an accepted text describes, and what the canonical text says.
+//! The laws of accepted texts: what they describe is an architecture, and the canonical text says
+//! the same.
 ghost use Rattle.std.specs.Prelude.{◌≡◌, ◌+◌, ◌≤◌, length, Ok};
 ghost use Rattle.text_lines.specs.Text.{lines_of};
 ghost use Rattle.syn_base.specs.Bytes.{Bytes};

@@ -1,7 +1,9 @@
-//! Reads the text of an architecture, line by line, in time proportional to its size, and prints the canonical
-//! text of what was read. `read_archi` and `print_archi` are its calls, `one_canonical_text` says that what is
-//! printed is read as the same; the commands that take an architecture's file use them. What a text says is
-//! defined in `archi_defs`, whose types can be named from here too.
+//! Reads the text of an architecture, line by line, in time proportional to its size, and prints
+//! the canonical text of what was read.
+//!
+//! `read_archi` and `print_archi` are its calls, and the commands that take an architecture's file
+//! use them. `one_canonical_text` says that what is printed is read as the same. What a text says
+//! is defined in `archi_defs`, whose types can be named from here too.
 #![tactic(auto)]
 
 mod durations;

@@ -1,4 +1,4 @@
-//! Names of operators and media.
+//! Names of operators and media, as `reader` looks them up.
 ghost use Rattle.std.specs.Prelude.{◌≡◌, ◌<◌, ◌++◌, length, map, position, IfSome};
 ghost use Rattle.std.specs.List.{list_any};
 ghost use Rattle.std.specs.Str.{bytes_eq};
@@ -17,6 +17,8 @@ pub fn operator_at(operators: &[Name], name: &[u8]) -> Option<usize>
         .position(|operator| name == operator.as_bytes())
 }
 
+/// The number of the medium of this name, found among the media themselves, so that no list of
+/// names is made.
 fn medium_named(media: &[Medium], name: &[u8]) -> Option<usize>
     ensures place { result ≡ position (λ m. bytes_eq name.now m.name) media.now }
     ensures within { IfSome result (λ k. k < length media.now) }
@@ -35,12 +37,14 @@ pub fn medium_at(media: &[Medium], name: &[u8]) -> Option<usize>
     medium_named(media, name)
 }
 
+/// Whether an operator has this name.
 fn is_operator(operators: &[Name], name: &[u8]) -> bool
     ensures { result ≡ list_any (bytes_eq name.now) operators.now }
 {
     operators.iter().any(|operator| name == operator.as_bytes())
 }
 
+/// Whether a medium has this name.
 fn is_medium(media: &[Medium], name: &[u8]) -> bool
     ensures { result ≡ list_any (λ m. bytes_eq name.now m.name) media.now }
 {

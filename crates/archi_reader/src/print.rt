@@ -1,4 +1,4 @@
-//! Printing the canonical text.
+//! The canonical text, printed for the command `check`.
 ghost use Rattle.std.specs.Prelude.{◌≡◌, ◌++◌, [], ◌∷◌, OnOk, OnErr, IfOk, map};
 ghost use Rattle.std.specs.List.{flat_map};
 ghost use Rattle.archi_defs.specs.Text.{described_by};
@@ -9,9 +9,10 @@ use archi_graph::Medium;
 use std::alloc::Global;
 use syn_base::{Name, OutOfMemory, print_int};
 
-/// Appends the canonical text: the version line, in version 2 the depth, operators, media, connections by
-/// medium and then by operator, durations as given; words separated by one space, numbers in their shortest form. It has
-/// no comments and no lines without words. After want of memory `out` is as before.
+/// Appends the canonical text: the version line, in version 2 the depth, operators, media,
+/// connections by medium and then by operator, durations as given; words separated by one space,
+/// numbers in their shortest form. It has no comments and no lines without words. After want of
+/// memory `out` is as before.
 pub fn print_archi(alloc: Global, text: &ArchiText, out: &mut Vec<u8>) -> Result<(), OutOfMemory>
     ensures ok { OnOk result (out.new.items ≡ out.old.items ++ canonical_text (described_by text.now)) }
     ensures err { OnErr result (out.new.items ≡ out.old.items) }
@@ -21,6 +22,7 @@ pub fn print_archi(alloc: Global, text: &ArchiText, out: &mut Vec<u8>) -> Result
     Ok(())
 }
 
+/// The canonical text by itself, so that `out` is changed only once all of the text is there.
 #[tactic(auto, using(crate::proofs::Texts::text_of_parts))]
 fn written(alloc: Global, text: &ArchiText) -> Result<Vec<u8>, OutOfMemory>
     ensures { IfOk result (λ v. v.items ≡ canonical_text (described_by text.now)) }
@@ -43,6 +45,7 @@ fn version_word(version: u32) -> &'static [u8]
     if version == 1 { b"1" } else { b"2" }
 }
 
+/// Appends the lines of the version and of the depth.
 fn print_opening(version: u32, depth: u32, text: &mut Vec<u8>) -> Result<(), OutOfMemory>
     ensures { OnOk result (text.new.items ≡ text.old.items ++ text_of (opening_lines version depth)) }
 {
@@ -52,6 +55,7 @@ fn print_opening(version: u32, depth: u32, text: &mut Vec<u8>) -> Result<(), Out
     print_depth(version, depth, text)
 }
 
+/// Appends the line of the depth, which a text of version 1 does not have.
 fn print_depth(version: u32, depth: u32, text: &mut Vec<u8>) -> Result<(), OutOfMemory>
     ensures { OnOk result (text.new.items ≡ text.old.items ++ text_of (depth_lines version depth)) }
 {
@@ -63,6 +67,7 @@ fn print_depth(version: u32, depth: u32, text: &mut Vec<u8>) -> Result<(), OutOf
     put(b"\n", text)
 }
 
+/// Appends the lines of the operators.
 fn print_operators(operators: &[Name], text: &mut Vec<u8>) -> Result<(), OutOfMemory>
     ensures { OnOk result (text.new.items ≡ text.old.items ++ text_of (map operator_words operators.now)) }
 {
@@ -72,6 +77,7 @@ fn print_operators(operators: &[Name], text: &mut Vec<u8>) -> Result<(), OutOfMe
     Ok(())
 }
 
+/// Appends the line of an operator.
 fn print_operator(operator: &Name, text: &mut Vec<u8>) -> Result<(), OutOfMemory>
     ensures { OnOk result (text.new.items ≡ text.old.items ++ text_of (operator_words operator.now ∷ [])) }
 {
@@ -80,6 +86,7 @@ fn print_operator(operator: &Name, text: &mut Vec<u8>) -> Result<(), OutOfMemory
     put(b"\n", text)
 }
 
+/// Appends the lines of the media.
 fn print_media(media: &[Medium], text: &mut Vec<u8>) -> Result<(), OutOfMemory>
     ensures { OnOk result (text.new.items ≡ text.old.items ++ text_of (map medium_words media.now)) }
 {
@@ -89,12 +96,14 @@ fn print_media(media: &[Medium], text: &mut Vec<u8>) -> Result<(), OutOfMemory>
     Ok(())
 }
 
+/// The word for the kind of a medium.
 fn kind_word(multi: bool) -> &'static [u8]
     ensures { result.now ≡ kind_word multi }
 {
     if multi { b"multi" } else { b"p2p" }
 }
 
+/// Appends the line of a medium.
 fn print_medium(medium: &Medium, text: &mut Vec<u8>) -> Result<(), OutOfMemory>
     ensures { OnOk result (text.new.items ≡ text.old.items ++ text_of (medium_words medium.now ∷ [])) }
 {
@@ -107,6 +116,7 @@ fn print_medium(medium: &Medium, text: &mut Vec<u8>) -> Result<(), OutOfMemory>
     put(b"\n", text)
 }
 
+/// Appends both numbers of a medium's ticks.
 fn put_ticks(fixed: u32, per: u32, text: &mut Vec<u8>) -> Result<(), OutOfMemory>
     ensures { OnOk result (text.new.items ≡ text.old.items ++ joined (number fixed ∷ number per ∷ [])) }
 {
@@ -115,6 +125,7 @@ fn put_ticks(fixed: u32, per: u32, text: &mut Vec<u8>) -> Result<(), OutOfMemory
     put_number(per, text)
 }
 
+/// Appends the lines of all connections, medium by medium.
 fn print_connections(
     operators: &[Name],
     media: &[Medium],
@@ -129,6 +140,7 @@ fn print_connections(
     Ok(())
 }
 
+/// Appends the lines of the connections of a medium.
 fn print_connections_of(
     operators: &[Name],
     medium: &Medium,
@@ -139,6 +151,7 @@ fn print_connections_of(
     print_stands(operators, &medium.name, medium.stands.as_slice(), text)
 }
 
+/// Appends a line for each of these operators, which stand at the medium.
 fn print_stands(
     operators: &[Name],
     medium: &Name,
@@ -166,6 +179,7 @@ fn name_at(operators: &[Name], operator: u32) -> &[u8]
     }
 }
 
+/// Appends the line of a connection.
 fn print_connection(
     operators: &[Name],
     medium: &Name,
@@ -182,6 +196,7 @@ fn print_connection(
     put(b"\n", text)
 }
 
+/// Appends the lines of the durations, in the order in which they were given.
 fn print_durations(
     operators: &[Name],
     durations: &[DurationLine],
@@ -196,6 +211,7 @@ fn print_durations(
     Ok(())
 }
 
+/// Appends the line of a duration.
 fn print_duration(
     operators: &[Name],
     duration: &DurationLine,
@@ -213,6 +229,7 @@ fn print_duration(
     put(b"\n", text)
 }
 
+/// Appends a number in its shortest form.
 fn put_number(value: u32, text: &mut Vec<u8>) -> Result<(), OutOfMemory>
     ensures { OnOk result (text.new.items ≡ text.old.items ++ number value) }
 {

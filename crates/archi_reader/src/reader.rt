@@ -1,4 +1,4 @@
-//! The lines of a text, one after the other.
+//! The reader of a text, line by line; `read_archi` is the call of the commands.
 ghost use Rattle.std.specs.Prelude.{◌<◌, ◌≤◌, length};
 ghost use Rattle.syn_base.specs.Limits.{most_in_text};
 ghost use Rattle.text_lines.specs.Text.{lines_of};

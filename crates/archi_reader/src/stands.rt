@@ -1,4 +1,4 @@
-//! The operators that stand at a medium.
+//! The operators that stand at a medium, as `reader` connects them.
 ghost use Rattle.std.specs.Prelude.{◌≡◌, ◌≤◌, ◌==◌, length, nat_lt, position};
 ghost use Rattle.std.specs.List.{list_any, position_or_len};
 ghost use Rattle.archi_defs.specs.Text.{with_stand};
@@ -20,6 +20,7 @@ pub fn has_stand(medium: &Medium, operator: u32) -> bool
         .any(|stand| *stand == operator)
 }
 
+/// The place of the first of these operators that is above this one.
 fn first_above(operator: u32, stands: &[u32]) -> Option<usize>
     ensures { result ≡ position (nat_lt operator) stands.now }
 {

@@ -1,4 +1,4 @@
-//! What holds of a text as a whole.
+//! The check of a text as a whole, after its last line. `read_archi` ends with it.
 ghost use Rattle.std.specs.Prelude.{◌≡◌, ◌<◌, not, true, length, position, IfSome, OnOk};
 ghost use Rattle.archi_graph.specs.Archi.{is_archi};
 ghost use Rattle.archi_defs.specs.declared.fault.ArchiCause.TheVariants.{BadMedium, Disconnected};
@@ -26,6 +26,7 @@ fn has_stands(medium: &Medium) -> bool
     }
 }
 
+/// The refusal of a medium at which too few operators stand, or too many, at its line.
 fn bad_medium(alloc: Global, line: u32, name: &Name) -> ArchiError
     ensures { IsStop result (stop line (BadMedium name.now)) }
 {
@@ -35,6 +36,7 @@ fn bad_medium(alloc: Global, line: u32, name: &Name) -> ArchiError
     }
 }
 
+/// The refusal of two operators that no route joins.
 fn disconnected(alloc: Global, first: &Name, other: &Name) -> ArchiError
     ensures { IsStop result (stop 0 (Disconnected first.now other.now)) }
 {
@@ -44,6 +46,7 @@ fn disconnected(alloc: Global, first: &Name, other: &Name) -> ArchiError
     }
 }
 
+/// The place of the first medium with a wrong number of operators.
 fn wrong_medium(media: &[Medium]) -> Option<usize>
     ensures place { result ≡ position (λ m. not (has_stands m)) media.now }
     ensures within { IfSome result (λ k. k < length media.now) }

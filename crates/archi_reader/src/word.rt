@@ -1,4 +1,4 @@
-//! What the words of a line are.
+//! The words of a line, read as names and numbers for `reader`.
 ghost use Rattle.std.specs.Prelude.{◌≡◌, ◌<◌, IfOk, MatchOption, true, false, length, slice_index_or, []};
 ghost use Rattle.std.specs.Str.{bytes_eq};
 ghost use Rattle.syn_base.specs.Name.{is_name};

@@ -1,13 +1,38 @@
 -- Expressions as plain data, and their value.
-use Rattle.std.specs.Prelude.{ℕ, ◌<◌, ℤ, pos, negsuc, ◌+ℤ◌, List, [], ◌∷◌, ◌++◌, zero, suc, if◌then◌else◌, slice_index_or, map, replicate}
+use Rattle.std.specs.Prelude.{
+  ℕ,
+  ◌<◌,
+  ℤ,
+  pos,
+  negsuc,
+  ◌+ℤ◌,
+  List,
+  [],
+  ◌∷◌,
+  ◌++◌,
+  zero,
+  suc,
+  if◌then◌else◌,
+  slice_index_or,
+  map,
+  replicate,
+}
 use Rattle.std.specs.Ordering.{int_eq}
 use Rattle.syn_base.specs.declared.arithmetic.Op.{Op}
 use Rattle.syn_base.specs.declared.arithmetic.Op.TheVariants.{Neg}
 use Rattle.syn_base.specs.Arithmetic.{applied, wrapped}
 use Rattle.body_lang.specs.declared.expression.Expr as declared
-use Rattle.body_lang.specs.declared.expression.Expr.TheVariants.{Lit, Index, Elem', SumOf, Neg' as NegOf', Apply', Select'}
+use Rattle.body_lang.specs.declared.expression.Expr.TheVariants.{
+  Lit,
+  Index,
+  Elem',
+  SumOf,
+  Neg' as NegOf',
+  Apply',
+  Select',
+}
 
--- an expression, whatever memory holds it
+-- An expression, whatever memory holds it.
 pub data Expr : Type 0 where
   literal : ℤ → Expr
   index : Expr
@@ -17,6 +42,7 @@ pub data Expr : Type 0 where
   apply : Op → Expr → Expr → Expr
   select : Expr → Expr → Expr → Expr
 
+-- The expression as plain data.
 abbrev pub view : declared.Expr → Expr
 view (Lit v) = literal v
 view Index = index
@@ -29,24 +55,25 @@ view (Select' p c q a r b) = select (view c) (view a) (view b)
 abbrev pub Vector : Type 0
 Vector = List ℤ
 
--- a vector for each port
+-- The vectors of several ports, in order.
 abbrev pub Values : Type 0
 Values = List (List ℤ)
 
+-- The vector of port k, empty where there is none.
 abbrev pub vector_at : Values → ℕ → Vector
 vector_at vs k = slice_index_or vs k []
 
--- an element by its number, 0 outside the vector
+-- An element by its number, 0 outside the vector.
 abbrev pub element_at : Vector → ℤ → ℤ
 element_at v (pos n) = slice_index_or v n (pos 0)
 element_at v (negsuc n) = pos 0
 
--- the sum as a whole number
+-- The sum as a whole number.
 abbrev pub total : Vector → ℤ
 total [] = pos 0
 total (x ∷ xs) = x +ℤ total xs
 
--- the value of an expression for element number j of an output
+-- The value of an expression for element number j of an output.
 abbrev pub value_of : Expr → Values → ℕ → ℤ
 value_of (literal v) ins j = v
 value_of index ins j = pos j
@@ -56,7 +83,7 @@ value_of (negation e) ins j = applied Neg (value_of e ins j) (pos 0)
 value_of (apply op a b) ins j = applied op (value_of a ins j) (value_of b ins j)
 value_of (select c a b) ins j = if int_eq (value_of c ins j) (pos 0) then value_of b ins j else value_of a ins j
 
--- each port that the expression names has a number below n
+-- Each port that the expression names has a number below n.
 abbrev pub PortsBelow : ℕ → Expr → Type 0
 PortsBelow n (literal v) = Unit {0}
 PortsBelow n index = Unit {0}
@@ -66,20 +93,20 @@ PortsBelow n (negation e) = PortsBelow n e
 PortsBelow n (apply op a b) = PortsBelow n a × PortsBelow n b
 PortsBelow n (select c a b) = PortsBelow n c × (PortsBelow n a × PortsBelow n b)
 
--- the zeros of a vector of this length
+-- The zeros of a vector of this length.
 abbrev pub zeros : ℕ → Vector
 zeros n = replicate n (pos 0)
 
--- the numbers below n
+-- The numbers below n.
 abbrev pub numbers_below : ℕ → List ℕ
 numbers_below zero = []
 numbers_below (suc n) = numbers_below n ++ n ∷ []
 
--- a vector of this length, by its elements
+-- A vector of this length, by its elements.
 abbrev pub vector_of : ℕ → (ℕ → ℤ) → Vector
 vector_of len f = map f (numbers_below len)
 
--- the outputs of a function: for each output its expression at each element
+-- The outputs of a function: for each output its expression at each element.
 abbrev pub function_outputs : List ℕ → List Expr → Values → Values
 function_outputs [] es ins = []
 function_outputs (len ∷ lens) [] ins = zeros len ∷ function_outputs lens [] ins

@@ -1,4 +1,4 @@
-//! The value of an expression, and the outputs of a function.
+//! The value of an expression, element by element: for the simulator and the operations of a flat graph.
 ghost use Rattle.std.specs.Prelude.{◌≡◌, ◌<◌, ◌↔◌, IsTrue, IfSome, length};
 ghost use Rattle.syn_base.specs.Arithmetic.{wrapped};
 ghost use Rattle.body_lang.specs.Expr.{view, value_of, element_at, total, PortsBelow};
@@ -8,7 +8,7 @@ use crate::inputs::Ins;
 use syn_base::{Op, apply};
 
 /// The value of an expression for element number `j` of an output. Its port numbers are below the
-/// number of vectors. It takes no memory and always answers.
+/// number of vectors. It takes no memory and always returns.
 pub fn value(e: &Expr, ins: &Ins, j: u32) -> i64
     requires { PortsBelow (length ins.now) (view e.now) }
     ensures { result ≡ value_of (view e.now) ins.now j }
@@ -44,12 +44,13 @@ pub fn value(e: &Expr, ins: &Ins, j: u32) -> i64
 }
 
 /// The value of a number and of `j`: half of what stands in most expressions, and no call is made
-/// for it. The vectors are those that the clause speaks of.
+/// for it. The vectors are there for the clause, which speaks of them.
 #[inline(always)]
 fn plain(e: &Expr, ins: &Ins, j: u32) -> Option<i64>
     ensures { IfSome result (λ x. x ≡ value_of (view e.now) ins.now j) }
 {
-    let _clause = ins;
+    // Only the clause speaks of the vectors.
+    let _vectors = ins;
     match e {
         Expr::Lit(v) => Some(*v),
         Expr::Index => Some(i64::from(j)),
@@ -100,6 +101,7 @@ fn element(vector: &[i64], at: i64) -> i64
     }
 }
 
+/// The sum of a vector's elements, modulo 2^64 in two's complement.
 fn sum(vector: &[i64]) -> i64
     ensures { result ≡ wrapped (total vector.now) }
 {

@@ -1,4 +1,4 @@
-//! Ports and expressions.
+//! Ports and expressions, as `body_text` reads them.
 ghost use Rattle.std.specs.Prelude.{◌≡◌, IfOk};
 ghost use Rattle.body_lang.specs.Expr.{view};
 
@@ -24,7 +24,9 @@ pub enum Expr {
     Elem(u32, Box<Expr>),
     /// The sum of an input port's elements.
     SumOf(u32),
+    /// The negation of the value inside.
     Neg(Box<Expr>),
+    /// The value of an operator on two values.
     Apply(Op, Box<Expr>, Box<Expr>),
     /// The second where the first is not 0, else the third.
     Select(Box<Expr>, Box<Expr>, Box<Expr>),

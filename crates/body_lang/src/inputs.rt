@@ -1,4 +1,4 @@
-//! The values at the ports of an operation.
+//! The values at the ports of an operation: `Ins`, over which expressions are evaluated.
 ghost use Rattle.std.specs.Prelude.{◌≡◌, ◌+◌, ◌<◌, ◌≤◌, ◌++◌, length, take, drop, slice_index_or, slice_set, map, replicate, pos, IfOk};
 ghost use Rattle.syn_base.specs.Rows.{with_value};
 ghost use Rattle.body_lang.specs.Expr.{vector_at, zeros};
@@ -84,6 +84,7 @@ impl Ins {
     }
 }
 
+/// A row of zeros of this length.
 fn all_zeros(alloc: Global, len: usize) -> Result<Vec<i64>, AllocError>
     ensures { IfOk result (λ v. v.items ≡ replicate len (pos 0)) }
 {

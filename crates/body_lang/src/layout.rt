@@ -1,4 +1,4 @@
-//! How the vectors of several ports lie in one flat row.
+//! How the vectors of several ports lie in one flat row: `Layout`, with which `Ins` finds its vectors.
 ghost use Rattle.std.specs.Prelude.{◌≡◌, ◌+◌, ◌^◌, ◌<◌, ◌≤◌, length, slice_index, take, sum, IfOk};
 
 use std::alloc::Global;
@@ -69,6 +69,7 @@ impl Layout {
         ensures inside { result + slice_index self.now vector ≤ sum self.now }
         ensures fits { sum self.now < 2 ^ 64 }
     {
+        // The width is the sum of the lengths: reading it tells that the sum fits in 64 bits.
         let _width = self.width();
         self.bounds[vector]
     }

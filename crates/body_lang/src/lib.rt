@@ -1,4 +1,4 @@
-//! The bodies of functions: expressions over the elements of input ports, and their value.
+//! The bodies of functions: expressions over the elements of input ports, and their values.
 //!
 //! `Expr` is one expression, which `body_text` reads; `Body` is those of one function, which a tree and
 //! its flat graph share. `value` evaluates an expression over the vectors of `Ins`, for the simulator and

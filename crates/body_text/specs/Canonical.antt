@@ -11,6 +11,7 @@ module _ (ports : List Bytes) where
   abbrev pub port_name : ℕ → Bytes
   port_name k = slice_index_or ports k []
 
+  -- The text of an expression over these ports.
   abbrev pub canonical : Expr → Bytes
   canonical (literal v) = signed_decimal v
   canonical index = codes "j"
@@ -18,8 +19,9 @@ module _ (ports : List Bytes) where
   canonical (sum_over k) = codes "sum(" ++ (port_name k ++ codes ")")
   canonical (negation a) = word_of Neg ++ (codes "(" ++ (canonical a ++ codes ")"))
   canonical (apply op a b) = word_of op ++ (codes "(" ++ (canonical a ++ (codes "," ++ (canonical b ++ codes ")"))))
-  canonical (select c a b) = codes "select(" ++ (canonical c ++ (codes "," ++ (canonical a ++ (codes "," ++ (canonical b ++ codes ")")))))
+  canonical (select c a b) = codes "select(" ++
+      (canonical c ++ (codes "," ++ (canonical a ++ (codes "," ++ (canonical b ++ codes ")")))))
 
--- some text over these ports is the expression
+-- Some text over these ports is the expression.
 abbrev pub IsRead : List Bytes → Expr → Type 0
 IsRead ports e = (text : Bytes) × IsBody ports text e

@@ -7,12 +7,12 @@ use Rattle.body_lang.specs.Expr as numbered
 use Rattle.syn_base.specs.Bytes.{Bytes}
 use Rattle.body_text.specs.Grammar.{Written, literal, index, element, sum_over, negation, apply, select, written}
 
--- the number of the token that names a port, and the name
+-- The number of the token that names a port, and the name.
 pub record Naming : Type 0 where
   pub token : ℕ
   pub port : Bytes
 
--- the ports that it names, in order, where its first token is of this number
+-- The ports that a written expression names, in order, where its first token has this number.
 abbrev pub namings : ℕ → Written → List Naming
 namings at (literal v) = []
 namings at index = []
@@ -20,25 +20,27 @@ namings at (element p e) = record { token = at; port = p } ∷ namings (at + 2) 
 namings at (sum_over p) = record { token = at + 2; port = p } ∷ []
 namings at (negation a) = namings (at + 2) a
 namings at (apply op a b) = namings (at + 2) a ++ namings (at + 3 + length (written a)) b
-namings at (select c a b) = namings (at + 2) c ++ (namings (at + 3 + length (written c)) a ++ namings (at + 4 + length (written c) + length (written a)) b)
+namings at (select c a b) = namings (at + 2) c ++
+    (namings (at + 3 + length (written c)) a ++ namings (at + 4 + length (written c) + length (written a)) b)
 
 module _ (ports : List Bytes) where
   abbrev pub is_port : Bytes → Bool
   is_port p = list_any (bytes_eq p) ports
 
-  -- the token of the first one that names no port
+  -- The token of the first naming of a port that is none.
   abbrev pub first_unknown : List Naming → Option ℕ
   first_unknown [] = None
   first_unknown (n ∷ ns) = cond (is_port n.port) (first_unknown ns) (Some n.token)
 
+  -- The same of an expression that begins with token 0.
   abbrev pub unknown : Written → Option ℕ
   unknown w = first_unknown (namings 0 w)
 
-  -- the number of the port of this name
+  -- The number of the port of this name, and the number of the ports where there is none.
   abbrev pub port_number : Bytes → ℕ
   port_number p = position_or_len (bytes_eq p) ports
 
-  -- the same expression with the ports by number
+  -- The same expression with the ports by number.
   abbrev pub resolved : Written → Expr
   resolved (literal v) = numbered.literal v
   resolved index = numbered.index

@@ -1,4 +1,4 @@
--- What reading an expression answers.
+-- What reading an expression returns.
 use Rattle.std.specs.Prelude.{◌≡◌, ℕ, ◌<◌, ◌≤◌, List, length, Option, Some, None, slice_get, Result, Ok, Err}
 use Rattle.syn_base.specs.declared.limits.LimitKind.TheVariants.{Tokens}
 use Rattle.syn_base.specs.Limits.{bound_of}
@@ -15,30 +15,30 @@ abbrev pub place_or : ℕ → Option Placed → ℕ
 place_or end None = end
 place_or end (Some p) = p.place
 
--- the place of token i, or the text's length after the last token
+-- The place of token i, or the text's length after the last token.
 abbrev pub place_of : Bytes → ℕ → ℕ
 place_of text i = place_or (length text) (slice_get (placed text) i)
 
--- there are not too many tokens
+-- There are not too many tokens.
 abbrev pub AreFew : Bytes → Type 0
 AreFew text = length (tokens text) ≤ bound_of Tokens
 
--- the text is this expression over these ports
-pub record IsBody (ports : List Bytes) (text : Bytes) (e : Expr) : Type 0 where
+-- The text is this expression over these ports.
+pub record IsBody (ports : List Bytes) (text : Bytes) (expression : Expr) : Type 0 where
   pub few : AreFew text
   pub tree : Written
   pub grammar : AreWritten (tokens text) tree
   pub known : unknown ports tree ≡ None
-  pub is : resolved ports tree ≡ e
+  pub is : resolved ports tree ≡ expression
 
--- grammar fails at the place
+-- The grammar fails at the place.
 pub record IsBad (text : Bytes) (place : ℕ) : Type 0 where
   pub few : AreFew text
   pub token : ℕ
   pub fails : FailsAt (tokens text) token
   pub there : place_of text token ≡ place
 
--- the first port that the text names and that is none stands at the place
+-- The first port that the text names and that is none stands at the place.
 pub record IsUnknown (ports : List Bytes) (text : Bytes) (place : ℕ) : Type 0 where
   pub few : AreFew text
   pub tree : Written
@@ -47,10 +47,11 @@ pub record IsUnknown (ports : List Bytes) (text : Bytes) (place : ℕ) : Type 0 
   pub first : unknown ports tree ≡ Some token
   pub there : place_of text token ≡ place
 
--- Too many tokens, then the grammar, then the ports.
+-- What is returned is right: too many tokens come before faults of the grammar, and these before unknown ports.
 abbrev pub Reads : List Bytes → Bytes → Result declared.Expr BodyFault → Type 0
 Reads ports text (Ok e) = IsBody ports text (view e)
-Reads ports text (Err (Limit f)) = (bound_of Tokens < length (tokens text)) × (f ≡ record { which = Tokens; count = length (tokens text); bound = bound_of Tokens })
+Reads ports text (Err (Limit f)) = (bound_of Tokens < length (tokens text)) ×
+    (f ≡ record { which = Tokens; count = length (tokens text); bound = bound_of Tokens })
 Reads ports text (Err (BadExpression place)) = IsBad text place
 Reads ports text (Err (UnknownPort place)) = IsUnknown ports text place
 Reads ports text (Err OutOfMemory) = Unit {0}

@@ -1,5 +1,27 @@
 -- The tokens of an expression's text, by the longest token.
-use Rattle.std.specs.Prelude.{ℕ, zero, suc, ◌-◌, ◌==◌, min, Bool, not, if◌then◌else◌, List, [], ◌∷◌, take, map, ℤ, Option, Some, None, Result, Ok, Err}
+use Rattle.std.specs.Prelude.{
+  ℕ,
+  zero,
+  suc,
+  ◌-◌,
+  ◌==◌,
+  min,
+  Bool,
+  not,
+  if◌then◌else◌,
+  List,
+  [],
+  ◌∷◌,
+  take,
+  map,
+  ℤ,
+  Option,
+  Some,
+  None,
+  Result,
+  Ok,
+  Err,
+}
 use Rattle.std.specs.List.{position_or_len}
 use Rattle.syn_base.specs.Bytes.{Bytes}
 use Rattle.syn_base.specs.Name.{is_name, is_name_byte, is_digit}
@@ -15,49 +37,59 @@ pub data Token : Type 0 where
   open_square : Token
   close_square : Token
   comma : Token
-  -- another byte, a `-` without digits, or a number that 64 bits do not hold
+  -- Another byte, a `-` without digits, or a number that 64 bits do not hold.
   bad : Token
 
 pub record Placed : Type 0 where
   pub token : Token
-  -- the place of its first byte in the text
+  -- The place of its first byte in the text.
   pub place : ℕ
 
--- how many bytes at the front pass
+-- How many bytes at the front pass.
 abbrev pub front : (ℕ → Bool) → Bytes → ℕ
 front passes bs = position_or_len (λ b. not (passes b)) bs
 
--- the length of the token at the front: a number, with a `-` in front or without; a name of up to 32 bytes; or one byte
+-- The length of the token that begins with byte b, where these bytes follow it: of a number, with a `-` in front or
+-- without; of a name of up to 32 bytes; or one byte.
 abbrev pub len_by : ℕ → Bytes → ℕ
-len_by b bs = if is_digit b then suc (front is_digit bs) else (if b == 45 then suc (front is_digit bs) else (if is_name_byte b then min 32 (suc (front is_name_byte bs)) else 1))
+len_by b bs = if is_digit b then suc (front is_digit bs) else
+    (if b == 45 then suc (front is_digit bs) else
+    (if is_name_byte b then min 32 (suc (front is_name_byte bs)) else 1))
 
+-- A number, where 64 bits hold it.
 abbrev pub number_or_bad : Result ℤ NumFault → Token
 number_or_bad (Ok v) = number v
 number_or_bad (Err e) = bad
 
--- what the bytes of one token are
+-- The token of bytes that are no mark: a name, a number, or neither.
 abbrev pub word_token : Bytes → Token
 word_token word = if is_name word then name word else number_or_bad (integer_of word)
 
--- the marks of the grammar
+-- The mark of the grammar that a byte is.
 abbrev pub mark_of : ℕ → Option Token
-mark_of b = if b == 40 then Some open_round else (if b == 41 then Some close_round else (if b == 91 then Some open_square else (if b == 93 then Some close_square else (if b == 44 then Some comma else None))))
+mark_of b = if b == 40 then Some open_round else
+    (if b == 41 then Some close_round else
+    (if b == 91 then Some open_square else
+    (if b == 93 then Some close_square else
+    (if b == 44 then Some comma else None))))
 
 abbrev pub mark_or_word : Option Token → Bytes → Token
 mark_or_word (Some t) word = t
 mark_or_word None word = word_token word
 
--- the token at the front
+-- The token that begins with byte b, where these bytes follow it.
 abbrev pub token_of : ℕ → Bytes → Token
 token_of b bs = mark_or_word (mark_of b) (take (len_by b bs) (b ∷ bs))
 
--- The tokens of bytes that begin at this place of a text, where this many of the bytes belong to a token before. Blanks may stand between tokens.
+-- The tokens of bytes that begin at this place of a text, where this many of the bytes belong to a token before.
+-- Blanks may stand between tokens.
 abbrev pub tokens_from : ℕ → ℕ → Bytes → List Placed
 tokens_from place inside [] = []
 tokens_from place (suc inside) (b ∷ bs) = tokens_from (suc place) inside bs
 tokens_from place zero (b ∷ bs) = if is_blank b then tokens_from (suc place) zero bs
     else (record { token = token_of b bs; place = place } ∷ tokens_from (suc place) (len_by b bs - 1) bs)
 
+-- The tokens of a text, each with its place.
 abbrev pub placed : Bytes → List Placed
 placed text = tokens_from 0 0 text
 

@@ -1,4 +1,4 @@
-//! Reading the text of an expression.
+//! Reading the text of an expression: `read_body`, for the reader of algorithm texts.
 ghost use Rattle.std.specs.Prelude.{◌≡◌, ◌≤◌, length, map, slice_get};
 ghost use Rattle.syn_base.specs.Limits.{most_in_text};
 ghost use Rattle.body_text.specs.Cut.{placed_view};
@@ -18,7 +18,7 @@ use syn_base::{LimitFault, LimitKind};
 /// 512 tokens, counted over the whole text, a bad token as one; BadExpression at the place of the
 /// first token with which no expression's tokens can begin, or at the text's length where the tokens
 /// end too early; UnknownPort at the place of the first name of a port that is none of the inputs.
-/// OutOfMemory may come in place of any answer but a Limit.
+/// OutOfMemory may come in place of anything but a Limit.
 pub fn read_body(alloc: Global, text: &[u8], ports: &[Port]) -> Result<Expr, BodyFault>
     requires { length ports.now ≤ most_in_text }
     ensures { Reads (map (λ p. p.name) ports.now) text.now result }
@@ -42,14 +42,14 @@ pub fn read_body(alloc: Global, text: &[u8], ports: &[Port]) -> Result<Expr, Bod
         ports,
     };
     match reader.whole() {
-        Ok(read) => known(read, placed, text.len()),
+        Ok(read) => with_known_ports(read, placed, text.len()),
         Err(Stop::At(at)) => Err(BodyFault::BadExpression(place(placed, at, text.len()))),
         Err(Stop::OutOfMemory) => Err(BodyFault::OutOfMemory),
     }
 }
 
-/// An expression that was read, where it names no port that is none.
-fn known(read: Read, tokens: &[Placed<'_>], end: usize) -> Result<Expr, BodyFault>
+/// The expression that was read, or the place of the first name in it of a port that is none.
+fn with_known_ports(read: Read, tokens: &[Placed<'_>], end: usize) -> Result<Expr, BodyFault>
     ensures { IsKnown (map placed_view tokens.now) end read result }
 {
     match read.unknown {

@@ -1,4 +1,4 @@
-//! Why a text is no expression.
+//! Why a text is no expression, for whoever reads one.
 use syn_base::LimitFault;
 
 /// Why a text was read as no expression, in the order in which it is checked.

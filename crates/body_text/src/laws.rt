@@ -1,4 +1,4 @@
-//! What the grammar settles.
+//! What the grammar settles: laws that nothing runs.
 ghost use Rattle.std.specs.Prelude.{◌≡◌, ◌≢◌, ℕ, List, Ok, Err};
 ghost use Rattle.body_lang.specs.Expr.{view};
 ghost use Rattle.body_lang.specs.declared.expression.Expr.{Expr};
@@ -22,8 +22,8 @@ pub fn one_place_fails()
     ensures none { (ts : List Token) (i : ℕ) → FailsAt ts i → IsExpression ts → ⊥ }
 {}
 
-/// A text has one answer over the same ports, want of memory aside: one expression, or one fault at
-/// one place.
+/// A text comes to one thing over the same ports, want of memory aside: one expression, or one fault
+/// at one place.
 pub fn one_answer_for_text()
     ensures expression { (ports : List Bytes) (text : Bytes) (d e : Expr) →
         Reads ports text (Ok d) → Reads ports text (Ok e) → view d ≡ view e }

@@ -1,6 +1,7 @@
-//! Expressions as texts: `read_body` reads one with the place of the first fault, `print_body` prints the
-//! canonical text. The readers and the printer of algorithm texts use them. What a text is stands in `specs/`
-//! (`Reads`); the laws below say that the grammar settles it.
+//! Expressions as texts: `read_body` reads one or tells the place of the first fault, and `print_body` prints the
+//! canonical text. The reader and the printer of algorithm texts use them.
+//!
+//! What a text is stands in `specs/` (`Reads`); the laws below say that the grammar settles it.
 #![tactic(auto)]
 
 mod body;

@@ -1,4 +1,4 @@
-//! Printing the canonical text of an expression.
+//! Printing the canonical text of an expression: `print_body`, for the printer of algorithm texts.
 ghost use Rattle.std.specs.Prelude.{◌≡◌, ◌++◌, OnOk, OnErr, codes, length, map, take};
 ghost use Rattle.body_lang.specs.Expr.{view, PortsBelow};
 ghost use Rattle.body_text.specs.Words.{text_of};

@@ -1,4 +1,4 @@
-//! Reading an expression by recursive descent over its tokens.
+//! Reading an expression by recursive descent over its tokens: `Reader`, for `read_body`.
 ghost use Rattle.std.specs.Prelude.{◌≡◌, ◌+◌, ◌<◌, ◌≤◌, ◌^◌, length, codes, IfOk, OnErr, option_map, if◌then◌else◌, nat_lt};
 ghost use Rattle.body_text.specs.Cut.{token_view};
 ghost use Rattle.body_text.specs.Parse.{parse, alone, named, element_of, arguments_of, negation_of, apply_of, select_of, sum_of, ended, begins, first_token};
@@ -103,7 +103,7 @@ impl<'a> Reader<'a> {
         }
     }
 
-    /// An element of a port.
+    /// An element of a port, after the name of the port and `[`.
     #[cycle(read)]
     fn element(&self, name: &[u8], start: usize, depth: usize) -> Result<Read, Stop>
         requires ports { length self.now.ports.now ≤ most_in_text }
@@ -132,6 +132,7 @@ impl<'a> Reader<'a> {
         }
     }
 
+    /// A negation, after its `neg(`.
     #[cycle(read)]
     fn negation(&self, start: usize, depth: usize) -> Result<Read, Stop>
         requires ports { length self.now.ports.now ≤ most_in_text }
@@ -140,9 +141,10 @@ impl<'a> Reader<'a> {
             (negation_of (parse depth) (behind_of (start + 2) self.now.tokens.now)) result }
     {
         let a = self.ended(start + 2, Mark::CloseRound, depth)?;
-        negated(self.alloc, a)
+        make_negation(self.alloc, a)
     }
 
+    /// An operator over two expressions, after its word and `(`.
     #[cycle(read)]
     fn apply(&self, op: Op, start: usize, depth: usize) -> Result<Read, Stop>
         requires ports { length self.now.ports.now ≤ most_in_text }
@@ -152,9 +154,10 @@ impl<'a> Reader<'a> {
     {
         let a = self.ended(start + 2, Mark::Comma, depth)?;
         let b = self.ended(a.next, Mark::CloseRound, depth)?;
-        applied(self.alloc, op, a, b)
+        make_application(self.alloc, op, a, b)
     }
 
+    /// A selection, after its `select(`.
     #[cycle(read)]
     fn select(&self, start: usize, depth: usize) -> Result<Read, Stop>
         requires ports { length self.now.ports.now ≤ most_in_text }
@@ -165,7 +168,7 @@ impl<'a> Reader<'a> {
         let condition = self.ended(start + 2, Mark::Comma, depth)?;
         let a = self.ended(condition.next, Mark::Comma, depth)?;
         let b = self.ended(a.next, Mark::CloseRound, depth)?;
-        selected(self.alloc, condition, a, b)
+        make_selection(self.alloc, condition, a, b)
     }
 
     /// An expression with a mark after it; the next token is the one after the mark.
@@ -205,6 +208,7 @@ impl<'a> Reader<'a> {
         })
     }
 
+    /// Whether this token is there and is this mark.
     fn has(&self, at: usize, mark: Mark) -> bool
         ensures { result ≡ begins mark (behind_of at self.now.tokens.now) }
     {
@@ -214,6 +218,7 @@ impl<'a> Reader<'a> {
         }
     }
 
+    /// The token with this number, where there is one.
     fn token(&self, at: usize) -> Option<Token<'a>>
         ensures { option_map token_view result ≡ first_token (behind_of at self.now.tokens.now) }
     {
@@ -270,45 +275,49 @@ fn element_at(alloc: Global, port: u32, unknown: Option<usize>, index: Read) -> 
     ensures { Makes (plain.element port (view index.value)) index.next (option_or unknown index.unknown) result }
 {
     Ok(Read {
-        value: Expr::Elem(port, boxed(alloc, index.value)?),
+        value: Expr::Elem(port, box_expression(alloc, index.value)?),
         next: index.next,
         unknown: unknown.or(index.unknown),
     })
 }
 
 /// The negation of what was read.
-fn negated(alloc: Global, a: Read) -> Result<Read, Stop>
+fn make_negation(alloc: Global, a: Read) -> Result<Read, Stop>
     ensures { Makes (plain.negation (view a.value)) a.next a.unknown result }
 {
     Ok(Read {
-        value: Expr::Neg(boxed(alloc, a.value)?),
+        value: Expr::Neg(box_expression(alloc, a.value)?),
         next: a.next,
         unknown: a.unknown,
     })
 }
 
 /// An operator over two parts that were read in this order.
-fn applied(alloc: Global, op: Op, a: Read, b: Read) -> Result<Read, Stop>
+fn make_application(alloc: Global, op: Op, a: Read, b: Read) -> Result<Read, Stop>
     ensures { Makes (plain.apply op (view a.value) (view b.value)) b.next (option_or a.unknown b.unknown) result }
 {
     Ok(Read {
-        value: Expr::Apply(op, boxed(alloc, a.value)?, boxed(alloc, b.value)?),
+        value: Expr::Apply(
+            op,
+            box_expression(alloc, a.value)?,
+            box_expression(alloc, b.value)?,
+        ),
         next: b.next,
         unknown: a.unknown.or(b.unknown),
     })
 }
 
 /// A selection by a condition, whose parts were read in this order.
-fn selected(alloc: Global, condition: Read, a: Read, b: Read) -> Result<Read, Stop>
+fn make_selection(alloc: Global, condition: Read, a: Read, b: Read) -> Result<Read, Stop>
     ensures { Makes (plain.select (view condition.value) (view a.value) (view b.value)) b.next
         (option_or (option_or condition.unknown a.unknown) b.unknown) result }
 {
     let unknown = condition.unknown.or(a.unknown).or(b.unknown);
     let next = b.next;
     let value = Expr::Select(
-        boxed(alloc, condition.value)?,
-        boxed(alloc, a.value)?,
-        boxed(alloc, b.value)?,
+        box_expression(alloc, condition.value)?,
+        box_expression(alloc, a.value)?,
+        box_expression(alloc, b.value)?,
     );
     Ok(Read {
         value,
@@ -317,7 +326,8 @@ fn selected(alloc: Global, condition: Read, a: Read, b: Read) -> Result<Read, St
     })
 }
 
-fn boxed(alloc: Global, value: Expr) -> Result<Box<Expr>, Stop>
+/// An expression in memory of its own.
+fn box_expression(alloc: Global, value: Expr) -> Result<Box<Expr>, Stop>
     ensures ok { IfOk result (λ b. b.value ≡ value) }
     ensures err { OnErr result (result ≡ Err Stop.OutOfMemory) }
 {

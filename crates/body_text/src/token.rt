@@ -1,14 +1,13 @@
-//! The tokens of an expression's text.
+//! The tokens of an expression's text, which the reader goes over.
 ghost use Rattle.std.specs.Prelude.{◌≡◌, ◌+◌, ◌<◌, ◌≤◌, length, map, IfOk, option_map};
 ghost use Rattle.syn_base.specs.Name.{is_digit, is_name_byte, is_name, begins_name};
 ghost use Rattle.std.specs.List.{list_all};
-ghost use Rattle.text_lines.specs.Text.{is_blank};
 ghost use Rattle.body_text.specs.Tokens.{front, len_by, mark_of, word_token, placed};
 ghost use Rattle.body_text.specs.Cut.{mark_view, token_view, placed_view, token_in, IsNext};
 
 use std::alloc::Global;
 use syn_base::{OutOfMemory, read_int};
-use text_lines::Span;
+use text_lines::{Span, is_blank_byte};
 
 /// The most bytes of a name.
 const LONGEST_NAME: usize = 32;
@@ -76,7 +75,7 @@ fn next(text: &[u8], from: usize) -> Option<Span>
     ensures { IsNext text.now from result }
 {
     for at in from..text.len() {
-        if !is_space(text[at]) {
+        if !is_blank_byte(text[at]) {
             return Some(Span {
                 from: at,
                 to: at + token_len(text[at], &text[at + 1..]),
@@ -103,6 +102,7 @@ fn token_len(first: u8, rest: &[u8]) -> usize
     }
 }
 
+/// How many bytes at the front are digits.
 fn digits(bytes: &[u8]) -> usize
     ensures front { result ≡ front is_digit bytes.now }
     ensures within { result ≤ length bytes.now }
@@ -115,6 +115,7 @@ fn digits(bytes: &[u8]) -> usize
     bytes.len()
 }
 
+/// How many bytes at the front may stand in a name.
 fn parts(bytes: &[u8]) -> usize
     ensures front { result ≡ front is_name_byte bytes.now }
     ensures within { result ≤ length bytes.now }
@@ -140,6 +141,7 @@ fn token_of(word: &[u8]) -> Token<'_>
     }
 }
 
+/// The mark that a byte is.
 fn mark_of(byte: u8) -> Option<Mark>
     ensures { option_map mark_view result ≡ mark_of byte }
 {
@@ -153,6 +155,7 @@ fn mark_of(byte: u8) -> Option<Mark>
     }
 }
 
+/// The token of bytes that are no mark: a name, a number, or neither.
 fn name_or_number(word: &[u8]) -> Token<'_>
     ensures { token_view result ≡ word_token word.now }
 {
@@ -165,12 +168,14 @@ fn name_or_number(word: &[u8]) -> Token<'_>
     }
 }
 
+/// Whether bytes are a name.
 fn is_name(text: &[u8]) -> bool
     ensures { result ≡ is_name text.now }
 {
     begins_name(text) && text.len() <= LONGEST_NAME && has_parts(text)
 }
 
+/// Whether bytes are not empty and begin with no digit.
 fn begins_name(text: &[u8]) -> bool
     ensures { result ≡ begins_name text.now }
 {
@@ -180,20 +185,16 @@ fn begins_name(text: &[u8]) -> bool
     }
 }
 
+/// Whether each of these bytes may stand in a name.
 fn has_parts(text: &[u8]) -> bool
     ensures { result ≡ list_all is_name_byte text.now }
 {
     text.iter().all(|byte| is_part(*byte))
 }
 
+/// Whether a byte may stand in a name: a letter, a digit or `_`.
 fn is_part(byte: u8) -> bool
     ensures { result ≡ is_name_byte byte }
 {
     byte.is_ascii_alphabetic() || byte.is_ascii_digit() || byte == b'_'
-}
-
-fn is_space(byte: u8) -> bool
-    ensures { result ≡ is_blank byte }
-{
-    byte == b'\t' || byte == b'\r' || byte == b' '
 }

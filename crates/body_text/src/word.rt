@@ -1,4 +1,4 @@
-//! The words of the forms.
+//! The words of the forms, by which the reader finds a form and the printer names it.
 ghost use Rattle.std.specs.Prelude.{◌≡◌, map, slice_get};
 ghost use Rattle.body_text.specs.Grammar.{word_of};
 ghost use Rattle.body_text.specs.Words.{text_of, words, form_of};

@@ -1,5 +1,30 @@
 -- Candidates by the tables, and the arrivals that are kept of them.
-use Rattle.std.specs.Prelude.{◌≡◌, ◌≢◌, ◌⊎◌, nat_eq, ℕ, ◌+◌, ◌<◌, ◌≤◌, Bool, true, false, ◌&&◌, not, if◌then◌else◌, List, [], ◌∷◌, length, All, None, is_some, take, slice_get, slice_index_or}
+use Rattle.std.specs.Prelude.{
+  ◌≡◌,
+  ◌≢◌,
+  ◌⊎◌,
+  nat_eq,
+  ℕ,
+  ◌+◌,
+  ◌<◌,
+  ◌≤◌,
+  Bool,
+  true,
+  false,
+  ◌&&◌,
+  not,
+  if◌then◌else◌,
+  List,
+  [],
+  ◌∷◌,
+  length,
+  All,
+  None,
+  is_some,
+  take,
+  slice_get,
+  slice_index_or,
+}
 use Rattle.std.specs.List.{list_all, list_any}
 use Rattle.flat_graph.specs.declared.vertex.Source.{Source}
 use Rattle.flat_graph.specs.declared.vertex.Vertex.{Vertex}
@@ -38,12 +63,15 @@ reads_in w v = slice_index_or w.reads.now v []
 -- the arrival of an operation on an operator, by the tables
 abbrev pub arrival_at : Walks → ℕ → ℕ → ℕ
 arrival_at w v p =
-    (fetch_all (time_in w.media.now w.board.now) (held_in w.board.now) (on_in w.board.now) (route_in w.routes.now) p (reads_in w v) (walk w.board.now.ends 0)).date
+    (fetch_all (time_in w.media.now w.board.now) (held_in w.board.now) (on_in w.board.now) (route_in w.routes.now) p
+    (reads_in w v) (walk w.board.now.ends 0)).date
 
 -- the walks of an operation on an operator are there, and their dates fit
 pub record CanWalk (w : Walks) (v p : ℕ) : Type 0 where
-  pub ways : All (HasWay w.media.now w.board.now (route_in w.routes.now) w.routes.now.operators p) (reads_in w v)
-  pub fits : FitsAll w.media.now w.board.now (route_in w.routes.now) p (reads_in w v) (walk w.board.now.ends 0)
+  pub ways : All (HasWay w.media.now w.board.now (route_in w.routes.now) w.routes.now.operators p)
+      (reads_in w v)
+  pub fits : FitsAll w.media.now w.board.now (route_in w.routes.now) p (reads_in w v)
+      (walk w.board.now.ends 0)
 
 abbrev pub CanArrive : Walks → ℕ → Type 0
 CanArrive w v = (p : ℕ) → p < w.operators → CanWalk w v p
@@ -94,7 +122,8 @@ pub record IsBehind (vertices : List Vertex) (b : Board) (placed : ℕ) (c : Can
   pub ready : ready_in c ≡ places_from 0 c.ready.flags.items
   pub dependents : AreDependents vertices c.dependents.items
   pub no_candidate : is_candidate_in vertices b placed ≡ false
-  pub others : (v : ℕ) → v < length vertices → v ≢ placed → list_any (nat_eq placed) (needs_of vertices v) ≡ false → flag_at c v ≡ is_candidate_in vertices b v
+  pub others : (v : ℕ) → v < length vertices → v ≢ placed → list_any (nat_eq placed) (needs_of vertices v) ≡ false
+      → flag_at c v ≡ is_candidate_in vertices b v
 
 -- The candidates by the tables. Their arrivals are found, or stay where they are kept.
 pub record IsUpdated (vertices : List Vertex) (w : Walks) (keeps : Bool) (before after : Candidates) : Type 0 where

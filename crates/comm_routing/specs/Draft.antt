@@ -1,5 +1,26 @@
 -- A draft: what is placed on what, and the decisions so far.
-use Rattle.std.specs.Prelude.{◌≡◌, ℕ, ◌+◌, ◌*◌, ◌<◌, ◌≤◌, true, List, [], ◌∷◌, ◌++◌, All, length, map, is_none, if◌then◌else◌, Option, None, slice_index_or, refl}
+use Rattle.std.specs.Prelude.{
+  ◌≡◌,
+  ℕ,
+  ◌+◌,
+  ◌*◌,
+  ◌<◌,
+  ◌≤◌,
+  true,
+  List,
+  [],
+  ◌∷◌,
+  ◌++◌,
+  All,
+  length,
+  map,
+  is_none,
+  if◌then◌else◌,
+  Option,
+  None,
+  slice_index_or,
+  refl,
+}
 use Rattle.std.specs.Coded.{Coded, code_by, coded×}
 use Rattle.flat_graph.specs.declared.vertex.Source.{Source}
 use Rattle.flat_graph.specs.Graph.{Graph}
@@ -28,9 +49,20 @@ pub record Drafted : Type 0 where
   pub decisions : List Decision
 
 -- a draft is stored as the tuple of its parts
-abbrev pub draft_code : Coded Graph → Coded Architecture → Coded RouteTable → Coded Table → Coded (List Decision) → Coded Drafted
-draft_code graph archi routes durations decisions = code_by (Graph × (Architecture × (RouteTable × (Table × List Decision)))) (coded× graph (coded× archi (coded× routes (coded× durations decisions))))
-    (λ d. (d.graph, (d.archi, (d.routes, (d.durations, d.decisions))))) (λ p. record { graph = p.0; archi = p.1.0; routes = p.1.1.0; durations = p.1.1.1.0; decisions = p.1.1.1.1 }) (λ _. refl)
+abbrev pub draft_code : Coded Graph → Coded Architecture → Coded RouteTable → Coded Table → Coded (List Decision)
+    → Coded Drafted
+draft_code graph archi routes durations decisions =
+    code_by (Graph × (Architecture × (RouteTable × (Table × List Decision))))
+    (coded× graph (coded× archi (coded× routes (coded× durations decisions))))
+    (λ d. (d.graph, (d.archi, (d.routes, (d.durations, d.decisions)))))
+    (λ p. record {
+      graph = p.0;
+      archi = p.1.0;
+      routes = p.1.1.0;
+      durations = p.1.1.1.0;
+      decisions = p.1.1.1.1;
+    })
+    (λ _. refl)
 
 -- what is scheduled in it
 abbrev pub task_of : Drafted → Task
@@ -54,7 +86,7 @@ pub record IsLow (bound : ℕ) (b : Board) : Type 0 where
   pub busy : (o : ℕ) → slice_index_or b.busy o 0 ≤ bound
   pub ended : (v : ℕ) → slice_index_or b.ended v 0 ≤ bound
 
--- by so much one decision raises the dates at most
+-- how much one decision raises the dates at most
 abbrev pub rise : ℕ
 rise = 300000000000000
 
@@ -78,15 +110,23 @@ pub record IsTold (d : Drafted) (b : Board) (reads : List (List Source)) : Type 
 pub record Keeps (d : Drafted) (b : Board) (reads : List (List Source)) (c : Candidates) : Type 0 where
   pub told : IsTold d b reads
   pub size : HasSize (length d.graph.vertices) c
-  pub flags : (v : ℕ) → v < length d.graph.vertices → flag_at c v ≡ is_candidate (task_of d) (acts_of d.decisions) v
+  pub flags : (v : ℕ) → v < length d.graph.vertices
+      → flag_at c v ≡ is_candidate (task_of d) (acts_of d.decisions) v
   pub ready : ready_in c ≡ places_from 0 c.ready.flags.items
   pub dependents : AreDependents d.graph.vertices c.dependents.items
-  pub arrivals : (v p : ℕ) → v < length d.graph.vertices → flag_at c v ≡ true → p < length d.archi.operators
+  pub arrivals : (v p : ℕ) → v < length d.graph.vertices → flag_at c v ≡ true
+      → p < length d.archi.operators
       → slice_index_or (row_at c.arrivals.items v) p 0 ≡ arrival (task_of d) (acts_of d.decisions) v p
 
 -- what is given, with these decisions
 abbrev pub drafted : Site → List Decision → Drafted
-drafted s ds = record { graph = s.flat.now; archi = s.archi.now; routes = s.routes.now; durations = s.durations.now; decisions = ds }
+drafted s ds = record {
+  graph = s.flat.now;
+  archi = s.archi.now;
+  routes = s.routes.now;
+  durations = s.durations.now;
+  decisions = ds;
+}
 
 -- the draft with one more decision
 abbrev pub after_placing : Drafted → ℕ → ℕ → Drafted

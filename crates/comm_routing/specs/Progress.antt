@@ -13,8 +13,9 @@ module _ (d : Drafted) (b : Board) (c : Candidates) where
   -- it has a duration on the operator, and a set half stands where its get half does
   abbrev pub may_stand_in : ℕ → ℕ → Bool
   may_stand_in v p =
-      nat_lt p (length d.archi.operators) && is_some (entry_in d.durations v p)
-      && list_all (λ u. nat_eq (on_in b u) p) (with_vertex (slice_get d.graph.vertices v) [] (λ x. get_half x.kind x.twin))
+      nat_lt p (length d.archi.operators) && is_some (entry_in d.durations v p) &&
+      list_all (λ u. nat_eq (on_in b u) p)
+      (with_vertex (slice_get d.graph.vertices v) [] (λ x. get_half x.kind x.twin))
 
   abbrev pub may_place_in : ℕ → ℕ → Bool
   may_place_in v p = nat_lt v (length d.graph.vertices) && (flag_at c v && may_stand_in v p)

@@ -1,5 +1,24 @@
--- The tables before the first decision: what the outputs of operations are numbered by, and which sources each operation reads.
-use Rattle.std.specs.Prelude.{◌≡◌, ℕ, ◌+◌, ◌*◌, ◌<◌, ◌≤◌, ◌==◌, List, [], ◌∷◌, ◌++◌, length, All, Some, None, slice_index_or, if◌then◌else◌}
+-- The tables before the first decision: what the outputs of operations are numbered by, and which sources each
+-- operation reads.
+use Rattle.std.specs.Prelude.{
+  ◌≡◌,
+  ℕ,
+  ◌+◌,
+  ◌*◌,
+  ◌<◌,
+  ◌≤◌,
+  ◌==◌,
+  List,
+  [],
+  ◌∷◌,
+  ◌++◌,
+  length,
+  All,
+  Some,
+  None,
+  slice_index_or,
+  if◌then◌else◌,
+}
 use Rattle.std.specs.List.{list_any}
 use Rattle.flat_graph.specs.declared.vertex.Source.{Source}
 use Rattle.flat_graph.specs.declared.vertex.Vertex.{Vertex}
@@ -17,6 +36,7 @@ abbrev pub all_lens : List Vertex → List ℕ
 all_lens [] = []
 all_lens (x ∷ xs) = x.outs ++ all_lens xs
 
+-- an operation has at most 64 outputs
 abbrev pub HasFewOutputs : Vertex → Type 0
 HasFewOutputs x = length x.outs ≤ 64
 
@@ -41,6 +61,7 @@ pub record IsThere (operations : ℕ) (x : Source) : Type 0 where
   pub vertex : x.vertex < operations
   pub port : x.port < 64
 
+-- the place of an output in the table of marks
 abbrev pub place_of : Source → ℕ
 place_of x = x.vertex * 64 + x.port
 
@@ -53,13 +74,15 @@ tally mark (m ∷ marks) = if m == mark then 1 + tally mark marks else tally mar
 pub record IsMarked (operations mark : ℕ) (marks : List ℕ) (out : List Source) : Type 0 where
   pub size : length marks ≡ operations * 64
   pub low : (i : ℕ) → slice_index_or marks i 0 ≤ mark
-  pub told : (x : Source) → IsThere operations x → (slice_index_or marks (place_of x) 0 == mark) ≡ list_any (same_source x) out
+  pub told : (x : Source) → IsThere operations x
+      → (slice_index_or marks (place_of x) 0 == mark) ≡ list_any (same_source x) out
   pub count : tally mark marks ≡ length out
 
 -- one more source, unless it is there
 abbrev pub with_source : List Source → Source → List Source
 with_source out x = if list_any (same_source x) out then out else (out ++ x ∷ [])
 
+-- the distinct sources of an operation
 abbrev pub reads_of : Vertex → List Source
 reads_of x = distinct (sources_of (Some x))
 

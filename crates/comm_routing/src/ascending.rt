@@ -1,8 +1,8 @@
-//! Ascending numbers in the first places of a table.
+//! Ascending numbers in the first places of a table, as `candidates` keeps them.
 ghost use Rattle.std.specs.Prelude.{◌≡◌, ◌+◌, ◌<◌, ◌≤◌, length, take};
 ghost use Rattle.comm_routing.specs.Ascending.{with_place, without_place};
 
-/// Puts a number among the first ones, which ascend, and answers how many they are then.
+/// Puts a number among the first ones, which ascend, and returns how many they are then.
 pub(crate) fn put_in(ready: &mut [u32], count: usize, op: u32) -> usize
     requires { count < length ready.old }
     ensures size { length ready.new ≡ length ready.old }
@@ -19,7 +19,7 @@ pub(crate) fn put_in(ready: &mut [u32], count: usize, op: u32) -> usize
     count + 1
 }
 
-/// Takes a number out of the first ones, and answers how many are left.
+/// Takes a number out of the first ones, and returns how many are left.
 pub(crate) fn take_out(ready: &mut [u32], count: usize, op: u32) -> usize
     requires { count ≤ length ready.old }
     ensures size { length ready.new ≡ length ready.old }

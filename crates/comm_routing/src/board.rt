@@ -1,4 +1,5 @@
-//! What the decisions so far have done, by number.
+//! The board: what the decisions so far have done, by number. A placement and its arrivals are read
+//! off it.
 ghost use Rattle.std.specs.Prelude.{◌≡◌, ℕ, ◌<◌, ◌≤◌, ◌+◌, ◌*◌, ◌^◌, max, length, slice_index_or, None, All, IfOk};
 ghost use Rattle.syn_base.specs.Limits.{most_operations};
 ghost use Rattle.schedule.specs.Acts.{copy};
@@ -46,7 +47,16 @@ impl Model for Board {
 
     ghost Value = { specs.Board };
 
-    ghost view = { λ s. record { operators = s.operators; first = s.first.items; lens = s.lens.items; held = s.held.items; places = s.places.items; ended = s.ended.items; ends = s.ends; busy = s.busy } };
+    ghost view = { λ s. record {
+      operators = s.operators;
+      first = s.first.items;
+      lens = s.lens.items;
+      held = s.held.items;
+      places = s.places.items;
+      ended = s.ended.items;
+      ends = s.ends;
+      busy = s.busy;
+    } };
 }
 
 impl Board {
@@ -82,6 +92,7 @@ impl Board {
         self.held[self.output(source) * self.operators as usize + operator as usize]
     }
 
+    /// The length of an output.
     fn len(&self, source: Source) -> u32
         requires { HasOutput self.now source }
         ensures { result ≡ len_in self.now source }
@@ -89,6 +100,7 @@ impl Board {
         self.lens[self.output(source)]
     }
 
+    /// The number of an output among those of all operations.
     fn output(&self, source: Source) -> usize
         requires { source.vertex < length self.now.first }
         ensures { result ≡ slice_index_or self.now.first source.vertex 0 + source.port }
@@ -329,6 +341,7 @@ fn fetched(
     )
 }
 
+/// The date, or 0 where there is none.
 pub(crate) fn date_or_zero(date: Option<u64>) -> u64
     ensures { result ≡ ticks_in date }
 {

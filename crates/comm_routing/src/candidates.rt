@@ -1,4 +1,4 @@
-//! The candidates, and their arrivals as far as they are known.
+//! The candidates, and their arrivals as far as they are known. `progress` keeps them up to date.
 ghost use Rattle.std.specs.Prelude.{◌≡◌, ℕ, ◌+◌, ◌<◌, ◌≤◌, [], All, true, false, ◌&&◌, IfOk, if◌then◌else◌, length, nat_eq, slice_index_or, slice_set, take, replicate};
 ghost use Rattle.std.specs.List.{list_all, list_any};
 ghost use Rattle.syn_base.specs.Limits.{most_operations};
@@ -38,7 +38,8 @@ impl Ready {
         requires flags { length self.old.flags.items ≡ length vertices.now }
         requires list { length self.old.list.items ≡ length vertices.now }
         ensures listed { IsListed (length vertices.now) self.new }
-        ensures marked { (v : ℕ) → v < length vertices.now → flag_in self.new v ≡ is_candidate_in vertices.now board.now v }
+        ensures marked { (v : ℕ) → v < length vertices.now →
+            flag_in self.new v ≡ is_candidate_in vertices.now board.now v }
     {
         mark(vertices, board, self.flags.as_mut_slice());
         self.count = collect(self.flags.as_slice(), self.list.as_mut_slice());
@@ -146,6 +147,7 @@ impl Candidates {
     }
 }
 
+/// This many flags, none of which is set.
 fn no_flags(alloc: Global, len: usize) -> Result<Vec<bool>, OutOfMemory>
     ensures { IfOk result (λ flags. flags.items ≡ replicate len false) }
 {
@@ -164,6 +166,7 @@ fn mark(vertices: &[Vertex], board: &Board, flags: &mut [bool])
     }
 }
 
+/// Whether the operation is a candidate: it is not placed, and all that it depends on is.
 fn is_candidate(vertices: &[Vertex], board: &Board, op: usize) -> bool
     requires { op < length vertices.now }
     ensures { result ≡ is_candidate_in vertices.now board.now op }
@@ -172,6 +175,7 @@ fn is_candidate(vertices: &[Vertex], board: &Board, op: usize) -> bool
     is_free(board, op, vertex)
 }
 
+/// The same of an operation that is at hand, so that its parts are looked up once.
 #[tactic(auto, using(crate::proofs::Readiness::ready_by_parts))]
 fn is_free(board: &Board, op: usize, vertex: &Vertex) -> bool
     ensures { result ≡ is_free_in board.now op vertex.now }
@@ -182,6 +186,7 @@ fn is_free(board: &Board, op: usize, vertex: &Vertex) -> bool
         && is_get_half_placed(board, &vertex.kind, vertex.twin)
 }
 
+/// Whether the operations that these guards read are placed.
 fn are_guards_placed(board: &Board, guards: &[Guard]) -> bool
     ensures { result ≡ list_all (λ g. is_placed_in board.now g.source.vertex) guards.now }
 {
@@ -190,6 +195,7 @@ fn are_guards_placed(board: &Board, guards: &[Guard]) -> bool
         .all(|guard| board.is_placed(guard.source.vertex as usize))
 }
 
+/// Whether the operations of these sources are placed.
 fn are_sources_placed(board: &Board, sources: &[Source]) -> bool
     ensures { result ≡ list_all (λ s. is_placed_in board.now s.vertex) sources.now }
 {
@@ -198,6 +204,7 @@ fn are_sources_placed(board: &Board, sources: &[Source]) -> bool
         .all(|source| board.is_placed(source.vertex as usize))
 }
 
+/// Whether the get half is placed, where the operation is a set half.
 fn is_get_half_placed(board: &Board, kind: &Kind, twin: Option<u32>) -> bool
     ensures { result ≡ list_all (is_placed_in board.now) (get_half kind.now twin) }
 {
@@ -255,7 +262,7 @@ fn find(walks: &Walks, ops: &[u32], flags: &[bool], rows: &mut [[u64; 16]])
     }
 }
 
-/// Puts the numbers of those that are set into the first places, and answers how many they are.
+/// Puts the numbers of those that are set into the first places, and returns how many they are.
 fn collect(flags: &[bool], ready: &mut [u32]) -> usize
     requires few { length flags.now ≤ most_operations }
     requires size { length ready.old ≡ length flags.now }

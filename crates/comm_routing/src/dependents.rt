@@ -1,4 +1,5 @@
-//! By operation the operations that depend on it.
+//! The dependents of each operation, by which `candidates` finds the few that a placement may have
+//! changed.
 ghost use Rattle.std.specs.Prelude.{◌≡◌, ℕ, ◌<◌, ◌≤◌, ◌++◌, ◌∷◌, [], IfOk, OnOk, length, map, vec_len};
 ghost use Rattle.syn_base.specs.Limits.{most_operations};
 ghost use Rattle.flat_graph.specs.Order.{depends_on, get_half};
@@ -50,6 +51,7 @@ fn note(lists: &mut Vec<Vec<u32>>, vertex: &Vertex, op: u32) -> Result<(), OutOf
     Ok(())
 }
 
+/// Puts an operation last into the list of each one that its guards read.
 fn note_guards(lists: &mut Vec<Vec<u32>>, guards: &[Guard], op: u32) -> Result<(), OutOfMemory>
     ensures size { vec_len lists.new ≡ vec_len lists.old }
     ensures noted { OnOk result ((u : ℕ) → u < vec_len lists.old →
@@ -62,6 +64,7 @@ fn note_guards(lists: &mut Vec<Vec<u32>>, guards: &[Guard], op: u32) -> Result<(
     Ok(())
 }
 
+/// Puts an operation last into the list of each one whose output it reads.
 fn note_sources(lists: &mut Vec<Vec<u32>>, sources: &[Source], op: u32) -> Result<(), OutOfMemory>
     ensures size { vec_len lists.new ≡ vec_len lists.old }
     ensures noted { OnOk result ((u : ℕ) → u < vec_len lists.old →
@@ -74,6 +77,7 @@ fn note_sources(lists: &mut Vec<Vec<u32>>, sources: &[Source], op: u32) -> Resul
     Ok(())
 }
 
+/// Puts a set half last into the list of its get half.
 fn note_half(
     lists: &mut Vec<Vec<u32>>,
     kind: &Kind,
@@ -106,6 +110,8 @@ fn note_one(lists: &mut Vec<Vec<u32>>, on: u32, op: u32) -> Result<(), OutOfMemo
     Ok(())
 }
 
+/// Adds a number at the end of a list. It is a function over one list, so that no proof writes into
+/// a list of lists.
 fn push_number(list: &mut Vec<u32>, number: u32) -> Result<(), OutOfMemory>
     ensures { OnOk result (list.new.items ≡ list.old.items ++ number ∷ []) }
 {

@@ -1,4 +1,5 @@
-//! The decisions so far, with the tables that tell of them.
+//! The draft: the decisions so far, with the tables that tell of them. `pressure_heuristic` places
+//! one operation after another by it.
 use crate::placing::start;
 use crate::progress::{Progress, begin, may_place_next, place_next};
 use crate::reads::all_reads;
@@ -31,11 +32,13 @@ impl<'a> Model for Draft<'a> {
 
     ghost Value = { Drafted };
 
-    ghost coded = { draft_code (graph_code (Prim.hlevel codes) (expr_code (Prim.hlevel codes))) (Prim.hlevel codes) (Prim.hlevel codes) (Prim.hlevel codes) (Prim.hlevel codes) };
+    ghost coded = { draft_code (graph_code (Prim.hlevel codes) (expr_code (Prim.hlevel codes))) (Prim.hlevel codes)
+        (Prim.hlevel codes) (Prim.hlevel codes) (Prim.hlevel codes) };
 
     ghost view = { λ s. drafted s.site s.progress.decisions.items };
 
-    ghost invariant = { λ s. Keeps (drafted s.site s.progress.decisions.items) s.progress.board s.reads.items s.progress.candidates };
+    ghost invariant = { λ s. Keeps (drafted s.site s.progress.decisions.items) s.progress.board s.reads.items
+        s.progress.candidates };
 }
 
 impl<'a> Draft<'a> {
@@ -72,6 +75,8 @@ impl<'a> Draft<'a> {
             routes,
             durations,
         };
+        // The proof takes from the first call that the architecture is valid, and from the second that
+        // each operation may stand on some operator, and a set half wherever its get half may.
         let _operators = archi.operators();
         let _operations = durations.operations();
         let reads = all_reads(alloc, flat.vertices())?;

@@ -1,7 +1,9 @@
-//! The placement of an operation on an operator: its transfers along the least routes, and its dates.
+//! The placement of an operation on an operator: its transfers along the least routes, and its
+//! dates.
+//!
 //! `Draft` keeps the decisions so far with the candidates and their arrivals; `pressure_heuristic`
-//! chooses by it. The laws say that a placement keeps the decisions right, and that arrivals are found
-//! by tables.
+//! chooses by it. The laws say that a placement keeps the decisions right, and that arrivals are
+//! found by tables.
 #![tactic(auto)]
 
 mod ascending;

@@ -1,4 +1,4 @@
-//! A placement, by the tables.
+//! A placement, computed by the tables. `progress` makes it.
 ghost use Rattle.std.specs.Prelude.{◌≡◌, ℕ, ◌<◌, ◌≤◌, ◌+◌, ◌*◌, ◌^◌, ◌++◌, [], ◌∷◌, max, map, length, slice_get, slice_index_or, All, IfOk, IsTrue, OnErr, OnOk};
 ghost use Rattle.flat_graph.specs.Graph.{with_vertex};
 ghost use Rattle.flat_graph.specs.Order.{get_half};
@@ -19,7 +19,7 @@ use schedule::{Decision, Transfer};
 use std::alloc::Global;
 use syn_base::{Items, OutOfMemory};
 
-/// The decision that places an operation on an operator, where it lasts so long.
+/// The decision that places an operation on an operator, where it lasts this many ticks.
 pub(crate) fn decide(
     alloc: Global,
     flat: &Flat,
@@ -66,7 +66,8 @@ pub(crate) fn apply(board: &mut Board, decision: &Decision, outs: &[u32])
     requires operator { decision.now.operator < 16 }
     requires operation { (decision.now.op < length board.old.first) ×
         (decision.now.op < length board.old.places) × (decision.now.op < length board.old.ended) }
-    requires lands { All (λ c. HasPlace board.old (copy c.to c.source) × (c.medium < 16)) decision.now.transfers }
+    requires lands { All (λ c. HasPlace board.old (copy c.to c.source) × (c.medium < 16))
+        decision.now.transfers }
     requires outputs { (j : ℕ) → j < length outs.now →
         (slice_index_or board.old.first decision.now.op 0 + j) * board.old.operators +
         decision.now.operator < length board.old.held }
@@ -76,8 +77,8 @@ pub(crate) fn apply(board: &mut Board, decision: &Decision, outs: &[u32])
     board.run(decision, outs);
 }
 
-/// Places an operation on an operator, where it lasts so long: adds the decision, and what it does to the tables.
-/// Answers whether no value was carried. After a refusal all is as before.
+/// Places an operation on an operator, where it lasts this many ticks: adds the decision, and what it
+/// does to the tables. Returns whether no value was carried. After a refusal all is as before.
 pub(crate) fn place(
     alloc: Global,
     flat: &Flat,

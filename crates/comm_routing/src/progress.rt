@@ -1,4 +1,4 @@
-//! How far a draft has come, and its next decision.
+//! The progress of a draft: its tables, its decisions and its candidates, and one placement more.
 ghost use Rattle.std.specs.Prelude.{◌≡◌, ◌<◌, ◌≤◌, List, [], All, IfOk, IsTrue, OnErr, OnOk, length, map, nat_eq};
 ghost use Rattle.std.specs.List.{list_all};
 ghost use Rattle.flat_graph.specs.Order.{get_half};
@@ -123,6 +123,8 @@ pub(crate) fn may_place_next(site: &Site, progress: &Progress, op: u32, operator
     progress.candidates.ready.flags[place] && may_stand(site, &progress.board, op, operator)
 }
 
+/// Whether the operation has a duration on the operator, and a set half stands where its get half
+/// does.
 fn may_stand(site: &Site, board: &Board, op: u32, operator: u32) -> bool
     requires rows { length site.now.durations.now.rows ≡ length site.now.flat.now.vertices }
     requires columns { site.now.durations.now.operators ≡ length site.now.archi.now.operators }

@@ -1,4 +1,4 @@
-//! What arrivals are found by.
+//! The walks that arrivals are found by, for `candidates`.
 ghost use Rattle.std.specs.Prelude.{◌≡◌, ◌<◌, length};
 ghost use Rattle.comm_routing.specs.Candidates.{AreArrivals, CanArrive, HasWalks, arrival_at};
 
@@ -33,6 +33,7 @@ pub(crate) fn arrivals(walks: &Walks, op: usize) -> [u64; 16]
     row
 }
 
+/// The arrival of an operation on one operator.
 fn arrival_on(walks: &Walks, op: usize, operator: usize) -> u64
     requires walks { HasWalks walks.now }
     requires operation { op < length walks.now.reads.now }

@@ -1,4 +1,4 @@
-//! The distinct sources of each operation.
+//! The distinct sources of each operation, found once when a draft begins.
 ghost use Rattle.std.specs.Prelude.{◌≡◌, ℕ, ◌<◌, ◌≤◌, ◌*◌, ◌++◌, List, All, IfOk, OnOk, length, map, slice_index_or};
 ghost use Rattle.syn_base.specs.Limits.{most_operations};
 ghost use Rattle.comm_routing.specs.Start.{AreThere, IsMarked, IsThere, reads_of, with_source};
@@ -34,6 +34,7 @@ pub(crate) fn all_reads(
     Ok(reads)
 }
 
+/// This many places without a mark.
 fn no_marks(alloc: Global, len: usize) -> Result<Vec<u32>, OutOfMemory>
     ensures size { IfOk result (λ marks. length marks.items ≡ len) }
     ensures zero { IfOk result (λ marks. (i : ℕ) → slice_index_or marks.items i 0 ≡ 0) }
@@ -70,6 +71,7 @@ fn reads_of(
     Ok(Items::new(reads))
 }
 
+/// Puts the sources of these guards after those that are there, each once, and marks them.
 fn note_guards(
     operations: usize,
     guards: &[Guard],
@@ -91,6 +93,7 @@ fn note_guards(
     Ok(())
 }
 
+/// Puts these sources after those that are there, each once, and marks them.
 fn note_all(
     operations: usize,
     sources: &[Source],

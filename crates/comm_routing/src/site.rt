@@ -1,4 +1,4 @@
-//! What is scheduled, and on what.
+//! The site of a draft: what is scheduled, and on what.
 use archi_graph::Archi;
 use durations::Durations;
 use flat_graph::Flat;

@@ -1,4 +1,4 @@
-//! Tables before the first decision.
+//! The tables before the first decision, which `Board::new` begins with.
 ghost use Rattle.std.specs.Prelude.{◌≡◌, ℕ, ◌≤◌, None, All, IfOk, length, slice_index_or};
 ghost use Rattle.syn_base.specs.Limits.{most_operations};
 ghost use Rattle.comm_routing.specs.Start.{HasFewOutputs, all_lens, firsts_from};
@@ -22,6 +22,7 @@ pub(crate) fn firsts(alloc: Global, vertices: &[Vertex]) -> Result<Vec<u32>, Out
     Ok(firsts)
 }
 
+/// How many outputs the operation has.
 fn outputs(vertex: &Vertex) -> u32
     requires { HasFewOutputs vertex.now }
     ensures count { result ≡ length vertex.now.outs }
@@ -41,6 +42,7 @@ pub(crate) fn lens(alloc: Global, vertices: &[Vertex]) -> Result<Vec<u32>, OutOf
     Ok(lens)
 }
 
+/// A table of this many dates, none of which is there.
 pub(crate) fn no_dates(alloc: Global, len: usize) -> Result<Vec<Option<u64>>, OutOfMemory>
     ensures size { IfOk result (λ dates. length dates.items ≡ len) }
     ensures none { IfOk result (λ dates. (i : ℕ) → slice_index_or dates.items i None ≡ None) }
@@ -48,6 +50,7 @@ pub(crate) fn no_dates(alloc: Global, len: usize) -> Result<Vec<Option<u64>>, Ou
     Ok(vec![in alloc; None; len]?)
 }
 
+/// A table of this many operations, none of which is placed.
 pub(crate) fn no_places(alloc: Global, len: usize) -> Result<Vec<Option<u32>>, OutOfMemory>
     ensures size { IfOk result (λ places. length places.items ≡ len) }
     ensures none { IfOk result (λ places. (v : ℕ) → slice_index_or places.items v None ≡ None) }
@@ -55,6 +58,7 @@ pub(crate) fn no_places(alloc: Global, len: usize) -> Result<Vec<Option<u32>>, O
     Ok(vec![in alloc; None; len]?)
 }
 
+/// This many dates, all of them 0.
 pub(crate) fn zeros(alloc: Global, len: usize) -> Result<Vec<u64>, OutOfMemory>
     ensures size { IfOk result (λ dates. length dates.items ≡ len) }
     ensures zero { IfOk result (λ dates. (i : ℕ) → slice_index_or dates.items i 0 ≡ 0) }
@@ -62,6 +66,7 @@ pub(crate) fn zeros(alloc: Global, len: usize) -> Result<Vec<u64>, OutOfMemory>
     Ok(vec![in alloc; 0; len]?)
 }
 
+/// The last ends of operators or media before anything has ended.
 pub(crate) fn no_ends() -> [u64; 16]
     ensures size { length result ≡ 16 }
     ensures zero { (i : ℕ) → slice_index_or result i 0 ≡ 0 }

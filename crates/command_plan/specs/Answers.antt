@@ -12,11 +12,13 @@ use Rattle.command_plan.specs.Run.{Ran}
 
 -- no count of a file that the words name rose under the name that they give it
 abbrev pub NoFault : (File → Option Bytes) → Held → Held → Type 0
-NoFault names held held' = (file : File) (name : Bytes) → names file ≡ Some name → ¬ Rose (held.faults file name) (held'.faults file name)
+NoFault names held held' =
+    (file : File) (name : Bytes) → names file ≡ Some name → ¬ Rose (held.faults file name) (held'.faults file name)
 
 -- no count changed of a file that the words do not name
 abbrev pub UnnamedStay : (File → Option Bytes) → Held → Held → Type 0
-UnnamedStay names held held' = (file : File) (name : Bytes) → names file ≡ None → held'.faults file name ≡ held.faults file name
+UnnamedStay names held held' =
+    (file : File) (name : Bytes) → names file ≡ None → held'.faults file name ≡ held.faults file name
 
 module _ {A J : Type 0} (stages : A → List (Stage J)) where
   -- it is written by one call, and no job is run for it
@@ -27,25 +29,33 @@ module _ {A J : Type 0} (stages : A → List (Stage J)) where
   RunsNone a = jobs_of (stages a) ≡ []
 
 module _ {R A J D : Type 0} (leaves : J → D → D) (stages : A → List (Stage J)) where
-  -- what an ending means, where the shelf went from held to held', the output from sunk to sunk', and what is driven from driven to driven'
-  pub record Answers (plan : Plan R A) (names : File → Option Bytes) (held held' : Held) (sunk sunk' : Sunk) (driven driven' : D) (ending : Ending R) : Type 0 where
+  -- what an ending means, where the shelf went from held to held', the output from sunk to sunk', and what is driven
+  -- from driven to driven'
+  pub record Answers (plan : Plan R A) (names : File → Option Bytes) (held held' : Held) (sunk sunk' : Sunk)
+      (driven driven' : D) (ending : Ending R) : Type 0 where
     -- the plan was carried out, over the bytes that were read, told or not
     pub ran : Ran leaves stages plan held held' sunk sunk' driven driven' ending
     -- the counts of files that the words do not name are as before
     pub unnamed_stay : UnnamedStay names held held'
     -- done: the text that is defined was appended, and all jobs were run
     pub done_means : ending ≡ done → (o : Result A R) → outcome held.told plan ≡ Some o
-        → IsOkAnd o (λ a. Appends sunk sunk' (text_of (stages a)) × (driven' ≡ after_jobs leaves (jobs_of (stages a)) driven))
+        → IsOkAnd o (λ a. Appends sunk sunk' (text_of (stages a)) ×
+        (driven' ≡ after_jobs leaves (jobs_of (stages a)) driven))
     -- a refusal is the first one
-    pub refused_means : (refusal : R) → ending ≡ refused refusal → (o : Result A R) → outcome held.told plan ≡ Some o → o ≡ Err refusal
+    pub refused_means : (refusal : R) → ending ≡ refused refusal → (o : Result A R) →
+        outcome held.told plan ≡ Some o → o ≡ Err refusal
     -- a file was not read: its count rose under the name that the words give it
-    pub unread_means : (file : File) → ending ≡ unread file → IsSomeAnd (names file) (λ name. Rose (held.faults file name) (held'.faults file name))
+    pub unread_means : (file : File) → ending ≡ unread file →
+        IsSomeAnd (names file) (λ name. Rose (held.faults file name) (held'.faults file name))
     -- not all was written: the output's count rose, and a prefix of the defined text was appended
     pub unwritten_means : ending ≡ unwritten → Rose sunk.faults sunk'.faults
-        × ((o : Result A R) → outcome held.told plan ≡ Some o → IsOkAnd o (λ a. AppendsPrefix sunk sunk' (text_of (stages a)) × RunsSome leaves (jobs_of (stages a)) driven driven'))
+        × ((o : Result A R) → outcome held.told plan ≡ Some o →
+        IsOkAnd o (λ a. AppendsPrefix sunk sunk' (text_of (stages a)) ×
+        RunsSome leaves (jobs_of (stages a)) driven driven'))
     -- memory ran out: before anything was written and any job was run, or between two stages
     pub wanting_means : ending ≡ no_memory → ((sunk' ≡ sunk) × (driven' ≡ driven))
-        ⊎ ((o : Result A R) → outcome held.told plan ≡ Some o → IsOkAnd o (λ a. AppendsSome (stages a) sunk sunk' × RunsSome leaves (jobs_of (stages a)) driven driven'))
+        ⊎ ((o : Result A R) → outcome held.told plan ≡ Some o →
+        IsOkAnd o (λ a. AppendsSome (stages a) sunk sunk' × RunsSome leaves (jobs_of (stages a)) driven driven'))
     -- nothing is appended and no job is run with any other ending
     pub nothing : (ending ≡ done) ⊎ (ending ≡ unwritten) ⊎ (ending ≡ no_memory) ⊎ ((sunk' ≡ sunk) × (driven' ≡ driven))
     -- nor with want of memory, where all is written by one call
@@ -56,15 +66,18 @@ module _ {R A J D : Type 0} (leaves : J → D → D) (stages : A → List (Stage
     pub refuses : (refusal : R) → outcome held.told plan ≡ Some (Err refusal) → NoFault names held held'
         → (ending ≡ refused refusal) ⊎ (ending ≡ no_memory)
     -- where all is accepted and no count rose, the command is done, or memory ran out
-    pub complete : (a : A) → outcome held.told plan ≡ Some (Ok a) → NoFault names held held' → ¬ Rose sunk.faults sunk'.faults
+    pub complete : (a : A) → outcome held.told plan ≡ Some (Ok a) → NoFault names held held' →
+        ¬ Rose sunk.faults sunk'.faults
         → (ending ≡ done) ⊎ (ending ≡ no_memory)
 
 -- the texts of some first stages are a prefix of the whole text
 abbrev pub SomeAreAPrefix : Type 0 → Type 0
-SomeAreAPrefix J = (stages : List (Stage J)) (old new : Sunk) → AppendsSome stages old new → AppendsPrefix old new (text_of stages)
+SomeAreAPrefix J =
+    (stages : List (Stage J)) (old new : Sunk) → AppendsSome stages old new → AppendsPrefix old new (text_of stages)
 
 -- A plan that reads each file under the name that the words give it, and was carried out, answers.
 abbrev pub PlansAnswer : (R A J D : Type 0) → Type 0
 PlansAnswer R A J D = (leaves : J → D → D) (stages : A → List (Stage J)) (plan : Plan R A) (names : File → Option Bytes)
     (held held' : Held) (sunk sunk' : Sunk) (driven driven' : D) (ending : Ending R) → ReadsOnly names plan
-    → Ran leaves stages plan held held' sunk sunk' driven driven' ending → Answers leaves stages plan names held held' sunk sunk' driven driven' ending
+    → Ran leaves stages plan held held' sunk sunk' driven driven' ending →
+    Answers leaves stages plan names held held' sunk sunk' driven driven' ending

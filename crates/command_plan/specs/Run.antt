@@ -23,34 +23,42 @@ WasRead file name old new bytes = IsRead name old bytes × Stays old new × Othe
 
 -- a file was not read: its count of faults rose, it is too long, or memory ran out; no count of another file changed
 abbrev pub FailsToRead : {R : Type 0} → File → Bytes → R → Held → Held → Ending R → Type 0
-FailsToRead file name too_long old new (unread named) = (named ≡ file) × Rose (old.faults file name) (new.faults file name) × OthersStay file old new
+FailsToRead file name too_long old new (unread named) =
+    (named ≡ file) × Rose (old.faults file name) (new.faults file name) × OthersStay file old new
 FailsToRead file name too_long old new (refused refusal) =
     (refusal ≡ too_long) × IfSome (old.told name) (λ bytes. file_bound < length bytes) × OthersStay file old new
 FailsToRead file name too_long old new no_memory = OthersStay file old new
 FailsToRead file name too_long old new _ = ⊥
 
--- What the plan may give of a shelf that goes from old to new: what is to be made, or why there is nothing. Files are read
--- one by one, and the counts of a file whose turn does not come stay as they are.
+-- What the plan may give of a shelf that goes from old to new: what is to be made, or why there is nothing. Files are
+-- read one by one, and the counts of a file whose turn does not come stay as they are.
 pub data Makes {R A : Type 0} : Held → Held → Plan R A → Result A (Ending R) → Type 0 where
-  gives : {old new : Held} {a : A} {made : Result A (Ending R)} → Gives old new (Ok a) made → Makes old new (give a) made
-  refuses : {old new : Held} {refusal : R} {made : Result A (Ending R)} → Gives old new (Err (refused refusal)) made → Makes old new (refuse refusal) made
+  gives : {old new : Held} {a : A} {made : Result A (Ending R)} → Gives old new (Ok a) made →
+      Makes old new (give a) made
+  refuses : {old new : Held} {refusal : R} {made : Result A (Ending R)} → Gives old new (Err (refused refusal)) made →
+      Makes old new (refuse refusal) made
   not_read : {old new : Held} {file : File} {name : Bytes} {too_long : R} {next : Bytes → Plan R A} {ending : Ending R}
       → FailsToRead file name too_long old new ending → Makes old new (read file name too_long next) (Err ending)
-  was_read : {old new : Held} {file : File} {name : Bytes} {too_long : R} {next : Bytes → Plan R A} {made : Result A (Ending R)} (between : Held) (bytes : Bytes)
-      → WasRead file name old between bytes → Makes between new (next bytes) made → Makes old new (read file name too_long next) made
+  was_read : {old new : Held} {file : File} {name : Bytes} {too_long : R} {next : Bytes → Plan R A}
+      {made : Result A (Ending R)} (between : Held) (bytes : Bytes)
+      → WasRead file name old between bytes → Makes between new (next bytes) made →
+      Makes old new (read file name too_long next) made
 
 module _ {R J D : Type 0} (leaves : J → D → D) where
-  -- It stopped at this stage: memory ran out before its text was written, or not all of the text was written and the sink's count rose.
+  -- It stopped at this stage: memory ran out before its text was written, or not all of the text was written and the
+  -- sink's count rose.
   abbrev pub Stops : Stage J → Sunk → Sunk → D → D → Ending R → Type 0
   Stops stage sunk sunk' d d' no_memory = (sunk' ≡ sunk) × RunsSome leaves stage.jobs d d'
   Stops stage sunk sunk' d d' unwritten = Wrote sunk sunk' stage.text false × (d' ≡ after_jobs leaves stage.jobs d)
   Stops stage sunk sunk' d d' _ = ⊥
 
-  -- the stages were performed, one after another: the jobs of each were run to their ends, and then its text was appended
+  -- the stages were performed, one after another: the jobs of each were run to their ends, and then its text was
+  -- appended
   abbrev pub Performs : List (Stage J) → Sunk → Sunk → D → D → Ending R → Type 0
   Performs [] sunk sunk' d d' ending = (ending ≡ done) × (sunk' ≡ sunk) × (d' ≡ d)
   Performs (stage ∷ stages) sunk sunk' d d' ending =
-      Stops stage sunk sunk' d d' ending ⊎ ((mid : Sunk) × Appends sunk mid stage.text × Performs stages mid sunk' (after_jobs leaves stage.jobs d) d' ending)
+      Stops stage sunk sunk' d d' ending ⊎ ((mid : Sunk) × Appends sunk mid stage.text ×
+      Performs stages mid sunk' (after_jobs leaves stage.jobs d) d' ending)
 
   module _ {A : Type 0} (stages : A → List (Stage J)) where
     -- what was given is performed; where nothing was, that is the ending, nothing is written and no job is run
@@ -60,4 +68,5 @@ module _ {R J D : Type 0} (leaves : J → D → D) where
 
     -- the plan was carried out: something was given, and then performed
     abbrev pub Ran : Plan R A → Held → Held → Sunk → Sunk → D → D → Ending R → Type 0
-    Ran plan held held' sunk sunk' d d' ending = (made : Result A (Ending R)) × Makes held held' plan made × Ends made sunk sunk' d d' ending
+    Ran plan held held' sunk sunk' d d' ending =
+        (made : Result A (Ending R)) × Makes held held' plan made × Ends made sunk sunk' d d' ending

@@ -7,7 +7,7 @@ use Rattle.clap.specs.Walk.{Row, nothing_held}
 use Rattle.clap.specs.Simple.{Shape, subcommand_of}
 use Rattle.clap.specs.Faults.{fault_of}
 use Rattle.command_words.specs.Command.{plain_by, arguments_of, command_of}
-use Rattle.command_words.specs.Plain.{plain_command, made}
+use Rattle.command_words.specs.Plain.{command_without_options, command_by_words}
 use Rattle.command_words.specs.Answer.{Tells}
 use Rattle.command_words.specs.App.{the_app, one_app, two_app, four_app, rows, four_rows}
 use Rattle.command_words.proofs.Behind.{behind, given, behind_first}
@@ -23,12 +23,12 @@ use Rattle.command_words.proofs.Whole.{Behaves, at_check, at_sim, at_flat, at_ch
 pub data Exact (words : List Text) : Type 0 where
   refused : IsRefused (fault_of the_app words) → command_of words ≡ None → Exact words
   accepted : (name a : Text) (b c d w : Option Text) (rs : List Row) → fault_of the_app words ≡ [] → subcommand_of the_app words ≡ Some (name, rs) → Tells rs a b c d w
-      → command_of words ≡ made name a b c d w → Exact words
+      → command_of words ≡ command_by_words name a b c d w → Exact words
 
 -- what is wanted of the plain words is what the command takes
 abbrev Told : Option (List Row) → Text → List Text → Type 0
-Told None name us = plain_command name us ≡ None
-Told (Some r) name us = (a : Text) × (b c d : Option Text) × Tells r a b c d None × (plain_command name us ≡ made name a b c d None)
+Told None name us = command_without_options name us ≡ None
+Told (Some r) name us = (a : Text) × (b c d : Option Text) × Tells r a b c d None × (command_without_options name us ≡ command_by_words name a b c d None)
 
 tells_rows : (a : Text) (b : Option Text) → Tells (rows a b) a b None None None
 tells_rows a None = record { first = refl; second = refl; third = refl; fourth = refl; workers = refl }
@@ -39,20 +39,20 @@ tells_four a b c d = record { first = refl; second = refl; third = refl; fourth 
 
 -- a name whose command takes plain arguments alone
 abbrev IsPlain : Text → Type 0
-IsPlain name = (program : Text) (ws : List Text) → command_of (program ∷ name ∷ ws) ≡ plain_by (plain_command name) (arguments_of false false ws)
+IsPlain name = (program : Text) (ws : List Text) → command_of (program ∷ name ∷ ws) ≡ plain_by (command_without_options name) (arguments_of false false ws)
 
 module _ (program name : Text) (s : Shape) (wants : List Text → Option (List Row)) (behaves : Behaves name s) (plain : IsPlain name) (told : (us : List Text) → Told (wants us) name us) (ws : List Text) where
-  is_said : command_of (program ∷ name ∷ ws) ≡ option_and_then (plain_command name) (plain_from false ws)
-  is_said = plain program ws ∙ answered (plain_command name) ws
+  is_said : command_of (program ∷ name ∷ ws) ≡ option_and_then (command_without_options name) (plain_from false ws)
+  is_said = plain program ws ∙ answered (command_without_options name) ws
 
   by_rows : (us : List Text) → plain_from false ws ≡ Some us → (r : Option (List Row)) → Told r name us → Fits s (at nothing_held 1 false) ws r → Exact (program ∷ name ∷ ws)
-  by_rows us p None t f = refused (subst IsRefused (sym (behaves.faults program ws)) f) (is_said ∙ ap (option_and_then (plain_command name)) p ∙ t)
+  by_rows us p None t f = refused (subst IsRefused (sym (behaves.faults program ws)) f) (is_said ∙ ap (option_and_then (command_without_options name)) p ∙ t)
   by_rows us p (Some r) t f =
       accepted name t.0 t.1 t.2 t.3 None r (behaves.faults program ws ∙ f.0) (behaves.rows program ws ∙ ap (λ (rs : List Row). Some (name, rs)) f.1) t.4
-      (is_said ∙ ap (option_and_then (plain_command name)) p ∙ t.5)
+      (is_said ∙ ap (option_and_then (command_without_options name)) p ∙ t.5)
 
   by_words : (o : Option (List Text)) → plain_from false ws ≡ o → Fits s (at nothing_held 1 false) ws (option_and_then wants o) → Exact (program ∷ name ∷ ws)
-  by_words None p f = refused (subst IsRefused (sym (behaves.faults program ws)) f) (is_said ∙ ap (option_and_then (plain_command name)) p)
+  by_words None p f = refused (subst IsRefused (sym (behaves.faults program ws)) f) (is_said ∙ ap (option_and_then (command_without_options name)) p)
   by_words (Some us) p f = by_rows us p (wants us) (told us) f
 
   named : Fits s (at nothing_held 1 false) ws (option_and_then wants (plain_from false ws)) → Exact (program ∷ name ∷ ws)

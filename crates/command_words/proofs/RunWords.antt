@@ -7,7 +7,7 @@ use Rattle.std.proofs.lemmas.Slice.Eq.{bytes_eq-Decides}
 use Rattle.clap.specs.Walk.{Held, Row, Walk, Waiting, idle, option, value, walked, arg_by_index, to_positional, nothing_held}
 use Rattle.clap.specs.Faults.{turn_fault, step_fault, settle_fault, walk_fault}
 use Rattle.command_words.specs.Command.{Command, Arguments, with_plain, with_workers, is_option, is_joined, arguments_of, number_up_to, counted, with_count, three, four, run, exec, run_by, exec_by}
-use Rattle.command_words.specs.Plain.{run_with, run_made, exec_with, exec_made}
+use Rattle.command_words.specs.Plain.{run_with, run_given, exec_with, exec_given}
 use Rattle.command_words.specs.Answer.{Tells}
 use Rattle.command_words.proofs.Behind.{behind, given, behind_plain, behind_workers}
 use Rattle.command_words.proofs.Table.{Text, is_escape, is_dashed}
@@ -24,8 +24,8 @@ working_by false o = run_by o
 working_by true o = exec_by o
 
 abbrev pub working_with : Bool → Text → Text → Text → Option Text → Option Text → Option Command
-working_with false a b c d n = run_made a (Some b) (Some c) d n
-working_with true a b c d n = exec_made a (Some b) (Some c) d n
+working_with false a b c d n = run_given a (Some b) (Some c) d n
+working_with true a b c d n = exec_given a (Some b) (Some c) d n
 
 module _ (needed : Bool) (name : Text) where
   -- what becomes of the words from a walk on, where they say o

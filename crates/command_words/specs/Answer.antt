@@ -5,7 +5,7 @@ use Rattle.clap.specs.declared.error.kind.ErrorKind.{ErrorKind}
 use Rattle.clap.specs.declared.error.kind.ErrorKind.TheVariants as kind
 use Rattle.syn_base.specs.Bytes.{Bytes}
 use Rattle.command_words.specs.Command.{Command, command_of}
-use Rattle.command_words.specs.Plain.{plain_command, listed, run_made, exec_made, made}
+use Rattle.command_words.specs.Plain.{command_without_options, plain_words, run_given, exec_given, command_by_words}
 use Rattle.command_words.specs.declared.given.Given.{Given}
 
 abbrev pub wants_memory : ErrorKind → Bool
@@ -22,24 +22,33 @@ pub record Tells (rs : List Row) (a : Bytes) (b c d w : Option Bytes) : Type 0 w
 
 -- the commands of what was found: a run, a code that is executed, one that takes plain arguments alone, and any
 abbrev pub run_of : Given → Option Command
-run_of g = run_made g.first.now (option_map (λ w. w.now) g.second) (option_map (λ w. w.now) g.third) (option_map (λ w. w.now) g.fourth) (option_map (λ w. w.now) g.workers)
+run_of g =
+    run_given g.first.now (option_map (λ w. w.now) g.second) (option_map (λ w. w.now) g.third)
+    (option_map (λ w. w.now) g.fourth) (option_map (λ w. w.now) g.workers)
 
 abbrev pub exec_of : Given → Option Command
-exec_of g = exec_made g.first.now (option_map (λ w. w.now) g.second) (option_map (λ w. w.now) g.third) (option_map (λ w. w.now) g.fourth) (option_map (λ w. w.now) g.workers)
+exec_of g =
+    exec_given g.first.now (option_map (λ w. w.now) g.second) (option_map (λ w. w.now) g.third)
+    (option_map (λ w. w.now) g.fourth) (option_map (λ w. w.now) g.workers)
 
 abbrev pub plain_of : Given → Option Command
-plain_of g = plain_command g.name.now (listed g.first.now (option_map (λ w. w.now) g.second) (option_map (λ w. w.now) g.third) (option_map (λ w. w.now) g.fourth))
+plain_of g =
+    command_without_options g.name.now (plain_words g.first.now (option_map (λ w. w.now) g.second)
+    (option_map (λ w. w.now) g.third) (option_map (λ w. w.now) g.fourth))
 
-abbrev pub made_of : Given → Option Command
-made_of g = made g.name.now g.first.now (option_map (λ w. w.now) g.second) (option_map (λ w. w.now) g.third) (option_map (λ w. w.now) g.fourth) (option_map (λ w. w.now) g.workers)
+abbrev pub command_given : Given → Option Command
+command_given g =
+    command_by_words g.name.now g.first.now (option_map (λ w. w.now) g.second) (option_map (λ w. w.now) g.third)
+    (option_map (λ w. w.now) g.fourth) (option_map (λ w. w.now) g.workers)
 
 -- the words' command is that of what was found, and where nothing was there is no command
 abbrev pub Gives : List Bytes → Option Given → Type 0
 Gives words None = command_of words ≡ None
-Gives words (Some g) = command_of words ≡ made_of g
+Gives words (Some g) = command_of words ≡ command_given g
 
 -- what was found is this name with these arguments
 abbrev pub Is : Bytes → Bytes → Option Bytes → Option Bytes → Option Bytes → Option Bytes → Given → Type 0
 Is name a b c d w g =
-    (g.name.now ≡ name) × (g.first.now ≡ a) × (option_map (λ t. t.now) g.second ≡ b) × (option_map (λ t. t.now) g.third ≡ c)
+    (g.name.now ≡ name) × (g.first.now ≡ a) × (option_map (λ t. t.now) g.second ≡ b) ×
+    (option_map (λ t. t.now) g.third ≡ c)
     × (option_map (λ t. t.now) g.fourth ≡ d) × (option_map (λ t. t.now) g.workers ≡ w)

@@ -18,7 +18,8 @@ abbrev pub two_app : Bool → Bytes → App
 two_app needed name = with_rule (one_app name) (argument (codes "second") needed)
 
 abbrev pub four_app : Bool → Bytes → App
-four_app needed name = with_rule (with_rule (two_app true name) (argument (codes "third") true)) (argument (codes "fourth") needed)
+four_app needed name =
+    with_rule (with_rule (two_app true name) (argument (codes "third") true)) (argument (codes "fourth") needed)
 
 -- the option that may be given beside the plain arguments of `run` and `exec`
 abbrev pub workers_rule : Rule
@@ -36,7 +37,9 @@ form_app (Four needed) name = four_app needed name
 form_app (Working needed) name = working_app needed name
 
 abbrev pub bare_app : App
-bare_app = on_top (λ s. record s { disable_help_flag = true; disable_help_subcommand = true; subcommand_required = true }) (new_app (codes "syndex"))
+bare_app =
+    on_top (λ s. record s { disable_help_flag = true; disable_help_subcommand = true; subcommand_required = true })
+    (new_app (codes "syndex"))
 
 -- with commands of these names and forms added one after another
 abbrev pub with_forms : App → List (Bytes × Form) → App
@@ -52,11 +55,19 @@ texts_app =
 abbrev pub the_app : App
 the_app =
     with_subcommand (with_subcommand (with_subcommand (with_subcommand texts_app
-    (one_app (codes "load")).top) (four_app true (codes "dates")).top) (working_app false (codes "run")).top) (working_app true (codes "exec")).top
+    (one_app (codes "load")).top) (four_app true (codes "dates")).top) (working_app false (codes "run")).top)
+    (working_app true (codes "exec")).top
 
 -- what a parse finds
 abbrev pub row : Bytes → Bytes → Row
-row id v = record { id = id; values = v ∷ []; count = None; source = Some CommandLine; reading = reading_by (argument id true) }
+row id v =
+    record {
+      id = id;
+      values = v ∷ [];
+      count = None;
+      source = Some CommandLine;
+      reading = reading_by (argument id true);
+    }
 
 abbrev pub rows : Bytes → Option Bytes → List Row
 rows a None = row (codes "first") a ∷ []

@@ -1,5 +1,24 @@
 -- Which command the words of the command line are. The first word is the program's name.
-use Rattle.std.specs.Prelude.{ℕ, Bool, true, false, ◌&&◌, ◌==◌, nat_le, List, [], ◌∷◌, length, take, drop, Option, Some, None, if◌then◌else◌, codes}
+use Rattle.std.specs.Prelude.{
+  ℕ,
+  Bool,
+  true,
+  false,
+  ◌&&◌,
+  ◌==◌,
+  nat_le,
+  List,
+  [],
+  ◌∷◌,
+  length,
+  take,
+  drop,
+  Option,
+  Some,
+  None,
+  if◌then◌else◌,
+  codes,
+}
 use Rattle.std.specs.List.{list_all}
 use Rattle.std.specs.Str.{bytes_eq}
 use Rattle.syn_base.specs.Bytes.{Bytes}
@@ -26,7 +45,8 @@ pub data Command : Type 0 where
 -- one or more digits, which give a number from 1 up to this one
 abbrev pub number_up_to : ℕ → Bytes → Option ℕ
 number_up_to most w =
-    if nat_le 1 (length w) && list_all is_digit w && nat_le 1 (number_of w) && nat_le (number_of w) most then Some (number_of w) else None
+    if nat_le 1 (length w) && list_all is_digit w && nat_le 1 (number_of w) && nat_le (number_of w) most
+    then Some (number_of w) else None
 
 -- the plain arguments after the command, and what is given as workers
 pub record Arguments : Type 0 where
@@ -50,7 +70,8 @@ is_option (b ∷ c ∷ w) = b == 45
 abbrev pub is_joined : Bytes → Bool
 is_joined w = bytes_eq (take 10 w) (codes "--workers=")
 
--- Words after the command, one of which may be awaited as a number of workers. `--` ends the options. Workers may be given where the command takes them; no other word may begin with `-`.
+-- Words after the command, one of which may be awaited as a number of workers. `--` ends the options. Workers may be
+-- given where the command takes them; no other word may begin with `-`.
 abbrev pub arguments_of : (takes awaited : Bool) → List Bytes → Option Arguments
 arguments_of takes true [] = None
 arguments_of takes false [] = Some (record { plain = []; workers = [] })
@@ -108,11 +129,13 @@ plain_by go (Some a) = go a.plain
 
 abbrev pub run_by : Option Arguments → Option Command
 run_by None = None
-run_by (Some a) = counted (λ workers. three (λ alg archi sensors. Some (run alg archi sensors workers)) a.plain) a.workers
+run_by (Some a) =
+    counted (λ workers. three (λ alg archi sensors. Some (run alg archi sensors workers)) a.plain) a.workers
 
 abbrev pub exec_by : Option Arguments → Option Command
 exec_by None = None
-exec_by (Some a) = counted (λ workers. four (λ alg archi code sensors. Some (exec alg archi code sensors workers)) a.plain) a.workers
+exec_by (Some a) =
+    counted (λ workers. four (λ alg archi code sensors. Some (exec alg archi code sensors workers)) a.plain) a.workers
 
 abbrev pub plain : (List Bytes → Option Command) → List Bytes → Option Command
 plain go ws = plain_by go (arguments_of false false ws)

@@ -1,4 +1,5 @@
-//! The words of the command line, read with `clap`.
+//! What the words of the command line give, read with `clap`: a name, its arguments and workers. `command_of` asks
+//! for it first.
 ghost use Rattle.std.specs.Prelude.{◌≡◌, IfOk, IsSomeAnd, Some, List, map, Option, false, true};
 ghost use Rattle.std.specs.String.{string_bytes};
 ghost use Rattle.clap.specs.Simple.{app_of, subcommand_rows_of, with_rule, with_subcommand};
@@ -14,7 +15,7 @@ use clap::{Arg, ArgMatches, Command, Error};
 use std::alloc::{AllocError, Global};
 use syn_base::OutOfMemory;
 
-/// The name of a command with its one to four plain arguments, and what is given as workers.
+/// The name of a command with its one to four plain arguments, and the text that is given as workers.
 #[derive(Clone, Copy, Drop)]
 pub struct Given<'a> {
     pub name: &'a str,
@@ -35,6 +36,7 @@ enum Form {
     Working { needed: bool },
 }
 
+/// A command that takes one plain argument more, which may be left out where it is not `needed`.
 fn with_argument<'a>(
     alloc: Global,
     command: Command<'a>,
@@ -48,6 +50,7 @@ fn with_argument<'a>(
     command.arg(Arg::new(alloc, id).required(needed))
 }
 
+/// A command that takes the option `--workers` too.
 fn with_workers<'a>(alloc: Global, command: Command<'a>) -> Result<Command<'a>, AllocError>
     requires { (fields_of command).has_globals ≡ false }
     ensures app { IfOk result (λ c. app_of c ≡ with_rule (app_of command.entry) workers_rule) }
@@ -56,6 +59,7 @@ fn with_workers<'a>(alloc: Global, command: Command<'a>) -> Result<Command<'a>, 
     command.arg(Arg::new(alloc, "workers").long("workers"))
 }
 
+/// A command with one plain argument.
 fn one<'a>(alloc: Global, name: &'a str) -> Result<Command<'a>, AllocError>
     ensures app { IfOk result (λ c. app_of c ≡ one_app name.entry.now) }
     ensures local { IfOk result (λ c. (fields_of c).has_globals ≡ false) }
@@ -63,6 +67,7 @@ fn one<'a>(alloc: Global, name: &'a str) -> Result<Command<'a>, AllocError>
     with_argument(alloc, Command::new(alloc, name), "first", true)
 }
 
+/// A command with two plain arguments, of which the last may be left out where it is not `needed`.
 fn two<'a>(alloc: Global, name: &'a str, needed: bool) -> Result<Command<'a>, AllocError>
     ensures app { IfOk result (λ c. app_of c ≡ two_app needed name.entry.now) }
     ensures local { IfOk result (λ c. (fields_of c).has_globals ≡ false) }
@@ -71,6 +76,7 @@ fn two<'a>(alloc: Global, name: &'a str, needed: bool) -> Result<Command<'a>, Al
     with_argument(alloc, command, "second", needed)
 }
 
+/// A command with four plain arguments, of which the last may be left out where it is not `needed`.
 fn four<'a>(alloc: Global, name: &'a str, needed: bool) -> Result<Command<'a>, AllocError>
     ensures app { IfOk result (λ c. app_of c ≡ four_app needed name.entry.now) }
     ensures local { IfOk result (λ c. (fields_of c).has_globals ≡ false) }
@@ -80,6 +86,7 @@ fn four<'a>(alloc: Global, name: &'a str, needed: bool) -> Result<Command<'a>, A
     with_argument(alloc, command, "fourth", needed)
 }
 
+/// A command with four plain arguments and the option `--workers`.
 fn working<'a>(alloc: Global, name: &'a str, needed: bool) -> Result<Command<'a>, AllocError>
     ensures app { IfOk result (λ c. app_of c ≡ working_app needed name.entry.now) }
     ensures local { IfOk result (λ c. (fields_of c).has_globals ≡ false) }
@@ -88,6 +95,7 @@ fn working<'a>(alloc: Global, name: &'a str, needed: bool) -> Result<Command<'a>
     with_workers(alloc, command)
 }
 
+/// The command of this name that takes what its form says.
 fn of_form<'a>(alloc: Global, name: &'a str, form: Form) -> Result<Command<'a>, AllocError>
     ensures app { IfOk result (λ c. app_of c ≡ form_app form name.entry.now) }
     ensures local { IfOk result (λ c. (fields_of c).has_globals ≡ false) }
@@ -100,6 +108,7 @@ fn of_form<'a>(alloc: Global, name: &'a str, form: Form) -> Result<Command<'a>, 
     }
 }
 
+/// The program without its commands. It has no help of its own, and words without a command are refused.
 fn bare<'a>(alloc: Global) -> Command<'a>
     ensures { app_of result ≡ bare_app }
 {
@@ -109,6 +118,7 @@ fn bare<'a>(alloc: Global) -> Command<'a>
         .subcommand_required(true)
 }
 
+/// The program with the command of this name and form besides.
 fn add<'a>(
     alloc: Global,
     app: Command<'a>,
@@ -152,6 +162,7 @@ fn command<'a>(alloc: Global) -> Result<Command<'a>, AllocError>
     )
 }
 
+/// What is given in the words that were matched, or `None` where they have no command with an argument.
 fn given_in<'a>(matches: &ArgMatches<'a>) -> Option<Given<'a>>
     ensures { (name a : Bytes) (b c d w : Option Bytes) (rs : List Row) →
         subcommand_rows_of matches.now ≡ Some (name, rs) → Tells rs a b c d w →
@@ -173,6 +184,7 @@ fn given_in<'a>(matches: &ArgMatches<'a>) -> Option<Given<'a>>
     })
 }
 
+/// Whether an error of `clap` says that an allocation failed.
 fn is_memory(error: &Error) -> bool
     ensures { result ≡ wants_memory (kind_of error.now) }
 {

@@ -1,12 +1,12 @@
-//! The commands of the program, and which one the words of the command line are: `command_of`, which the
-//! program calls first. The table of commands stands in `specs/Command`.
+//! The commands of the program, and which one the words of a command line are. The program calls `command_of`
+//! first; the table of commands stands in `specs/Command`.
 #![tactic(auto)]
 
 ghost use Rattle.std.specs.Prelude.{◌≡◌, IfOk, Some, map, option_map};
 ghost use Rattle.std.specs.String.{string_bytes};
 ghost use Rattle.command_words.specs.Command.{check, sim, flat, chart, code, one, two, one_or_two, four, loaded, dated, number_up_to, command_of};
-ghost use Rattle.command_words.specs.Plain.{plain_command, run_with, exec_with};
-ghost use Rattle.command_words.specs.Answer.{exec_of, made_of, plain_of, run_of};
+ghost use Rattle.command_words.specs.Plain.{command_without_options, run_with, exec_with};
+ghost use Rattle.command_words.specs.Answer.{exec_of, command_given, plain_of, run_of};
 ghost use Rattle.command_words.specs.View.{view_of};
 
 mod given;
@@ -96,37 +96,38 @@ pub fn command_of<'a>(
     }
 }
 
+/// The command of what was given, if the table has it: `run` and `exec` alone take an option.
 fn command_with<'a>(given: &Given<'a>) -> Option<Command<'a>>
-    ensures { option_map view_of result ≡ made_of given.now }
+    ensures { option_map view_of result ≡ command_given given.now }
 {
     if given.name == "run" {
         run(given)
     } else if given.name == "exec" {
         exec(given)
     } else {
-        plain_given(given)
+        given_without_options(given)
     }
 }
 
-/// The command of the given name with the plain arguments that are given, alone.
-fn plain_given<'a>(given: &Given<'a>) -> Option<Command<'a>>
+/// The command of what was given where it takes no option: its name with its words.
+fn given_without_options<'a>(given: &Given<'a>) -> Option<Command<'a>>
     ensures { option_map view_of result ≡ plain_of given.now }
 {
     let name = given.name;
     let first = given.first;
     match (given.second, given.third, given.fourth) {
-        (None, _, _) => plain_command(name, &[first]),
-        (Some(second), None, _) => plain_command(name, &[first, second]),
-        (Some(second), Some(third), None) => plain_command(name, &[first, second, third]),
+        (None, _, _) => command_without_options(name, &[first]),
+        (Some(second), None, _) => command_without_options(name, &[first, second]),
+        (Some(second), Some(third), None) => command_without_options(name, &[first, second, third]),
         (Some(second), Some(third), Some(fourth)) => {
-            plain_command(name, &[first, second, third, fourth])
+            command_without_options(name, &[first, second, third, fourth])
         }
     }
 }
 
-/// The command of this name with these plain arguments alone.
-fn plain_command<'a>(name: &str, plain: &[&'a str]) -> Option<Command<'a>>
-    ensures { option_map view_of result ≡ plain_command name.now (map (λ w. w.now) plain.now) }
+/// The command of this name with these words, if it takes no option and as many words.
+fn command_without_options<'a>(name: &str, plain: &[&'a str]) -> Option<Command<'a>>
+    ensures { option_map view_of result ≡ command_without_options name.now (map (λ w. w.now) plain.now) }
 {
     if name == "check" {
         check(plain)
@@ -147,6 +148,7 @@ fn plain_command<'a>(name: &str, plain: &[&'a str]) -> Option<Command<'a>>
     }
 }
 
+/// The command `check` of one or two words.
 fn check<'a>(plain: &[&'a str]) -> Option<Command<'a>>
     ensures { option_map view_of result ≡ one_or_two (λ a h. Some (check a h)) (map (λ w. w.now) plain.now) }
 {
@@ -163,6 +165,7 @@ fn check<'a>(plain: &[&'a str]) -> Option<Command<'a>>
     }
 }
 
+/// The command `sim` of two words.
 fn sim<'a>(plain: &[&'a str]) -> Option<Command<'a>>
     ensures { option_map view_of result ≡ two (λ a s. Some (sim a s)) (map (λ w. w.now) plain.now) }
 {
@@ -172,6 +175,7 @@ fn sim<'a>(plain: &[&'a str]) -> Option<Command<'a>>
     }
 }
 
+/// The command `flat` of one word.
 fn flat<'a>(plain: &[&'a str]) -> Option<Command<'a>>
     ensures { option_map view_of result ≡ one (λ a. Some (flat a)) (map (λ w. w.now) plain.now) }
 {
@@ -181,6 +185,7 @@ fn flat<'a>(plain: &[&'a str]) -> Option<Command<'a>>
     }
 }
 
+/// The command `chart` of two words.
 fn chart<'a>(plain: &[&'a str]) -> Option<Command<'a>>
     ensures { option_map view_of result ≡ two (λ a h. Some (chart a h)) (map (λ w. w.now) plain.now) }
 {
@@ -193,6 +198,7 @@ fn chart<'a>(plain: &[&'a str]) -> Option<Command<'a>>
     }
 }
 
+/// The command `code` of two words.
 fn code<'a>(plain: &[&'a str]) -> Option<Command<'a>>
     ensures { option_map view_of result ≡ two (λ a h. Some (code a h)) (map (λ w. w.now) plain.now) }
 {
@@ -205,6 +211,7 @@ fn code<'a>(plain: &[&'a str]) -> Option<Command<'a>>
     }
 }
 
+/// The command `load` of one word, which is a number from 1 to 1,000.
 fn load<'a>(plain: &[&'a str]) -> Option<Command<'a>>
     ensures { option_map view_of result ≡ one (λ n. loaded (number_up_to 1000 n)) (map (λ w. w.now) plain.now) }
 {
@@ -214,6 +221,7 @@ fn load<'a>(plain: &[&'a str]) -> Option<Command<'a>>
     }
 }
 
+/// The command `dates` of four words, of which the last is a number from 1 to 1,000.
 fn dates<'a>(plain: &[&'a str]) -> Option<Command<'a>>
     ensures { option_map view_of result ≡ four (λ a h g n. dated a h g (number_up_to 1000 n))
         (map (λ w. w.now) plain.now) }
@@ -232,6 +240,7 @@ fn dates<'a>(plain: &[&'a str]) -> Option<Command<'a>>
     }
 }
 
+/// The command `run` of what was given: three words, and workers where they are given.
 fn run<'a>(given: &Given<'a>) -> Option<Command<'a>>
     ensures { option_map view_of result ≡ run_of given.now }
 {
@@ -243,6 +252,7 @@ fn run<'a>(given: &Given<'a>) -> Option<Command<'a>>
     }
 }
 
+/// The command `run` with these names of files and this text of workers, if that is a number from 1 to 80.
 fn run_with<'a>(
     algorithm: &'a str,
     architecture: &'a str,
@@ -264,6 +274,7 @@ fn run_with<'a>(
     })
 }
 
+/// The command `exec` of what was given: four words, and workers where they are given.
 fn exec<'a>(given: &Given<'a>) -> Option<Command<'a>>
     ensures { option_map view_of result ≡ exec_of given.now }
 {
@@ -275,6 +286,7 @@ fn exec<'a>(given: &Given<'a>) -> Option<Command<'a>>
     }
 }
 
+/// The command `exec` with these names of files and this text of workers, if that is a number from 1 to 80.
 fn exec_with<'a>(
     algorithm: &'a str,
     architecture: &'a str,

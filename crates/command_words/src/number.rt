@@ -1,4 +1,4 @@
-//! Numbers of workers and loads.
+//! Numbers in the words of a command: of workers, layers and reactions.
 ghost use Rattle.std.specs.Prelude.{◌≡◌, ◌≤◌};
 ghost use Rattle.command_words.specs.Command.{number_up_to};
 

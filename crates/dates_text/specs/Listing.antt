@@ -1,5 +1,21 @@
 -- The text of the dates of reactions.
-use Rattle.std.specs.Prelude.{ℕ, zero, suc, List, [], ◌∷◌, ◌++◌, length, map, replicate, Option, Some, None, slice_get, codes}
+use Rattle.std.specs.Prelude.{
+  ℕ,
+  zero,
+  suc,
+  List,
+  [],
+  ◌∷◌,
+  ◌++◌,
+  length,
+  map,
+  replicate,
+  Option,
+  Some,
+  None,
+  slice_get,
+  codes,
+}
 use Rattle.std.specs.Fmt.{decimal}
 use Rattle.flat_graph.specs.Graph.{Graph}
 use Rattle.archi_graph.specs.declared.medium.Medium.{Medium}
@@ -53,8 +69,10 @@ module _ (g : Graph) (a : Architecture) where
   abbrev pub act_line : ℕ → Span → Act → Line
   act_line k w (carry t) =
       decimal k ∷ codes "on" ∷ medium_name a.media t.medium ∷ decimal w.start ∷ decimal w.end
-      ∷ operation_name g.vertices a.operators t.source.vertex ∷ decimal t.source.port ∷ operator_name g.vertices a.operators t.from ∷ operator_name g.vertices a.operators t.to ∷ []
-  act_line k w (run d) = decimal k ∷ codes "op" ∷ decimal w.start ∷ decimal w.end ∷ operation_name g.vertices a.operators d.op ∷ []
+      ∷ operation_name g.vertices a.operators t.source.vertex ∷ decimal t.source.port
+      ∷ operator_name g.vertices a.operators t.from ∷ operator_name g.vertices a.operators t.to ∷ []
+  act_line k w (run d) =
+      decimal k ∷ codes "op" ∷ decimal w.start ∷ decimal w.end ∷ operation_name g.vertices a.operators d.op ∷ []
 
   abbrev pub dated_line : Dated → Line
   dated_line d = act_line d.reaction d.when d.act
@@ -68,7 +86,8 @@ module _ (g : Graph) (a : Architecture) where
 
   -- the dates of reactions of a schedule, in each of which its operations, and then its transfers, last these ticks
   abbrev pub all_dates : Schedule → List (List ℕ) → List Dated
-  all_dates s ticks = dated_in (λ k i x. span (start_at a.depth g s ticks k i x) (end_at a.depth g s ticks k i)) (length ticks) (acts s)
+  all_dates s ticks =
+      dated_in (λ k i x. span (start_at a.depth g s ticks k i x) (end_at a.depth g s ticks k i)) (length ticks) (acts s)
 
   -- the same where they last as long in this many reactions
   abbrev pub dates_lines : Schedule → List ℕ → ℕ → List Line

@@ -27,7 +27,8 @@ module _ (k : ℕ) (row : List Span) where
 -- this many reactions of acts, where this many operations stand before the transfers
 abbrev pub told : List (List Span) → ℕ → List Act → ℕ → List Dated
 told reactions operations xs zero = []
-told reactions operations xs (suc k) = told reactions operations xs k ++ dated_by k (reaction_at reactions k) operations xs
+told reactions operations xs (suc k) =
+    told reactions operations xs k ++ dated_by k (reaction_at reactions k) operations xs
 
 abbrev pub lines_text : Graph → Architecture → List Dated → Bytes
 lines_text g a ds = text_of (map (dated_line g a) ds)
@@ -40,7 +41,8 @@ pub record Appends (g : Graph) (a : Architecture) (old new : Bytes) (end : ℕ) 
 -- the entries of these decisions are among this many, where the next transfer has this one
 abbrev pub Fit : ℕ → ℕ → List Decision → Type 0
 Fit entries next [] = Unit {0}
-Fit entries next (d ∷ ds) = (d.op < entries) × (next + length d.transfers ≤ entries) × Fit entries (next + length d.transfers) ds
+Fit entries next (d ∷ ds) =
+    (d.op < entries) × (next + length d.transfers ≤ entries) × Fit entries (next + length d.transfers) ds
 
 -- the decisions' entries are among those of each reaction
 abbrev pub EachFits : Graph → List Decision → List (List Span) → Type 0
@@ -51,6 +53,7 @@ abbrev pub HaveSpans : Graph → Schedule → List (List Span) → Type 0
 HaveSpans g s reactions = All (λ (row : List Span). length row ≡ entries_of g s) reactions
 
 -- what is left of all that is to be told, where this text and this latest end are there
-pub record IsLeft (g : Graph) (a : Architecture) (old now : Bytes) (latest : ℕ) (left all : List Dated) : Type 0 where
+pub record IsLeft (g : Graph) (a : Architecture) (old now : Bytes) (latest : ℕ) (left all : List Dated)
+    : Type 0 where
   pub text : now ++ lines_text g a left ≡ old ++ lines_text g a all
   pub end : max latest (latest_end left) ≡ latest_end all

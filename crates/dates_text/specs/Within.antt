@@ -11,7 +11,9 @@ use Rattle.self_timed_laws.specs.Entries.{AreWithin}
 use Rattle.self_timed.specs.Told.{HaveEntries, entries_of}
 use Rattle.actual_durations.specs.Actual.{actual_of}
 
--- Where a schedule is valid for the stated durations, the ticks of every text that is accepted are one for each entry, and none is longer than stated.
+-- Where a schedule is valid for the stated durations, the ticks of every text that is accepted are one for each entry,
+-- and none is longer than stated.
 abbrev pub ActualAreWithin : Type 0
-ActualAreWithin = (g : Graph) (a : Architecture) (t : Table) (s : Schedule) (text : Bytes) (ticks : List ℕ) (n : ℕ) → IsTrue (is_valid g a (entry_in t) s) → actual_of g a t s text ≡ Ok ticks
+ActualAreWithin = (g : Graph) (a : Architecture) (t : Table) (s : Schedule) (text : Bytes) (ticks : List ℕ) (n : ℕ)
+    → IsTrue (is_valid g a (entry_in t) s) → actual_of g a t s text ≡ Ok ticks
     → HaveEntries (entries_of g s) (replicate n ticks) × AreWithin g.vertices (acts s) (replicate n ticks)

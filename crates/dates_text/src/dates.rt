@@ -1,4 +1,4 @@
-//! The text of the dates under given ticks.
+//! The text of the dates under given ticks: `dates_text`, which the command `dates` calls.
 ghost use Rattle.std.specs.Prelude.{◌≡◌, ◌≤◌, IfOk, length, replicate};
 ghost use Rattle.schedule.specs.Acts.{acts};
 ghost use Rattle.sequence_build_laws.specs.Built.{program_of};

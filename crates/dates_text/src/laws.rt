@@ -1,4 +1,4 @@
-//! What holds of texts of actual durations.
+//! The law of texts of actual durations, which the command `dates` cites.
 ghost use Rattle.dates_text.specs.Within.{ActualAreWithin};
 
 /// Where a schedule is valid for the stated durations, the ticks of every text that is accepted beside them

@@ -1,6 +1,8 @@
-//! The text of the dates of a schedule's reactions: when each operation and each transfer starts and ends in each
-//! reaction, where they last as long as they really do. `dates_text` computes the dates and makes their text, which
-//! the command `dates` writes; `print_dates` appends the text of dates that are there.
+//! The text of the dates of a schedule's reactions: when each operation and each transfer starts
+//! and ends in each reaction, where they last as long as they really do.
+//!
+//! `dates_text` computes the dates and makes their text, which the command `dates` writes;
+//! `print_dates` appends the text of dates that are there.
 #![tactic(auto)]
 
 mod dates;

@@ -1,4 +1,4 @@
-//! Lines of dates.
+//! The lines of dates, which `reaction` puts one after the other.
 ghost use Rattle.std.specs.Prelude.{◌≡◌, ◌++◌, ◌∷◌, [], OnOk, codes};
 ghost use Rattle.std.specs.Fmt.{decimal};
 ghost use Rattle.schedule.specs.Acts.{carry, run};

@@ -1,4 +1,4 @@
-//! The text of all reactions.
+//! The listing of all reactions, as `print_dates` appends it.
 ghost use Rattle.std.specs.Prelude.{◌≡◌, ◌++◌, IfOk, OnErr, OnOk, length};
 ghost use Rattle.schedule.specs.Acts.{acts, acts_of};
 ghost use Rattle.self_timed.specs.Told.{IsValidForSome};
@@ -40,6 +40,8 @@ pub fn print_dates(
     Ok(())
 }
 
+/// Appends the lines of all reactions and the latest end. After want of memory part of them may
+/// stand there.
 fn append_dates(
     out: &mut Vec<u8>,
     flat: &Flat,
@@ -57,7 +59,7 @@ fn append_dates(
     append(out, b"\n")
 }
 
-/// Appends the lines of all reactions, and answers their latest end.
+/// Appends the lines of all reactions, and returns their latest end.
 fn append_reactions(
     out: &mut Vec<u8>,
     flat: &Flat,

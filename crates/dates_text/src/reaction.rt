@@ -1,4 +1,4 @@
-//! The lines of one reaction.
+//! The part of a listing that tells of one reaction.
 ghost use Rattle.std.specs.Prelude.{◌+◌, ◌++◌, ◌∷◌, [], ◌≡◌, ◌≤◌, ◌<◌, IfOk, length, map};
 ghost use Rattle.schedule.specs.Acts.{acts_of, carry, run};
 ghost use Rattle.self_timed.specs.Told.{reaction_at, span_at};
@@ -9,7 +9,7 @@ use schedule::{Decision, Transfer};
 use self_timed::Span;
 use syn_base::OutOfMemory;
 
-/// Appends the lines of a reaction, decision by decision, and answers its latest end.
+/// Appends the lines of a reaction, decision by decision, and returns its latest end.
 pub fn append_reaction(
     out: &mut Vec<u8>,
     reaction: &Reaction,
@@ -22,7 +22,7 @@ pub fn append_reaction(
         (dated_by reaction.now.number (reaction_at reaction.now.dates.now reaction.now.number)
         (length reaction.now.flat.now.vertices) (acts_of decisions.now))) }
 {
-    // The number of entries is asked for: it bounds the sums.
+    // The proof takes from this call that the number of entries has 64 bits, which bounds the sums.
     let _entries = reaction.dates.entries(reaction.number);
     let mut latest = 0;
     let mut next = reaction.flat.vertices().len();
@@ -34,7 +34,7 @@ pub fn append_reaction(
 }
 
 /// Appends the lines of a decision's transfers, of which the first has the entry `next`, and then of its
-/// operation, and answers their latest end.
+/// operation, and returns their latest end.
 fn append_decision(
     out: &mut Vec<u8>,
     reaction: &Reaction,
@@ -53,7 +53,7 @@ fn append_decision(
     Ok(span.end.max(last))
 }
 
-/// Appends the lines of transfers, of which the first has the entry `first`, and answers their latest end.
+/// Appends the lines of transfers, of which the first has the entry `first`, and returns their latest end.
 fn append_transfers(
     out: &mut Vec<u8>,
     reaction: &Reaction,
@@ -66,7 +66,7 @@ fn append_transfers(
         (dated_by reaction.now.number (reaction_at reaction.now.dates.now reaction.now.number)
         first (map carry transfers.now))) }
 {
-    // The number of entries is asked for: it bounds the sum.
+    // The proof takes from this call that the number of entries has 64 bits, which bounds the sum.
     let _entries = reaction.dates.entries(reaction.number);
     let mut latest = 0;
     for (place, transfer) in transfers.iter().enumerate() {

@@ -6,11 +6,12 @@ use Rattle.archi_defs.specs.Text.{Described}
 use Rattle.durations.specs.Table.{Table, StandBeside, durations_of, get_half_of}
 
 -- The table has the graph's operations, with their get halves, and the architecture's operators.
-pub record IsOf (g : Graph) (a : Architecture) (t : Table) : Type 0 where
-  pub operations : length t.rows ≡ length g.vertices
-  pub operators : t.operators ≡ length a.operators
-  pub halves : t.halves ≡ map get_half_of g.vertices
+pub record IsOf (graph : Graph) (archi : Architecture) (table : Table) : Type 0 where
+  pub operations : length table.rows ≡ length graph.vertices
+  pub operators : table.operators ≡ length archi.operators
+  pub halves : table.halves ≡ map get_half_of graph.vertices
 
--- the durations of a text are those of the flat graph and the text's architecture, and a set half may stand wherever its get half may
+-- the durations of a text are those of the flat graph and the text's architecture, and a set half may stand
+-- wherever its get half may
 abbrev pub DurationsFit : Type 0
 DurationsFit = (g : Graph) (d : Described) (t : Table) → durations_of g d ≡ Ok t → IsOf g d.archi t × StandBeside t

@@ -14,9 +14,14 @@ ticks_of (d ∷ lines) def o = if bytes_eq d.def def && (d.operator == o) then S
 abbrev pub is_given : List DurationLine → Bytes → Bool
 is_given lines def = list_any (λ d. bytes_eq d.def def) lines
 
+-- the most ticks of a duration
+abbrev pub most_ticks : ℕ
+most_ticks = 1000000000
+
 -- a line is for one of this many operators, and lasts at most 1,000,000,000 ticks
 abbrev pub IsDuration : ℕ → DurationLine → Type 0
-IsDuration operators d = (d.operator < operators) × (d.ticks ≤ 1000000000)
+IsDuration operators d = (d.operator < operators) × (d.ticks ≤ most_ticks)
 
+-- each of these lines is a duration
 abbrev pub AreDurations : ℕ → List DurationLine → Type 0
 AreDurations operators lines = All (IsDuration operators) lines

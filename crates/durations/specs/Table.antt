@@ -1,5 +1,33 @@
 -- How long each operation lasts on each operator.
-use Rattle.std.specs.Prelude.{◌≡◌, ℕ, ◌<◌, ◌≤◌, IsTrue, Bool, true, false, ◌&&◌, not, if◌then◌else◌, List, [], ◌∷◌, length, map, min, slice_index_or, Option, Some, None, is_some, IfSome, Result, Ok, All, Contains}
+use Rattle.std.specs.Prelude.{
+  ◌≡◌,
+  ℕ,
+  ◌<◌,
+  ◌≤◌,
+  IsTrue,
+  Bool,
+  true,
+  false,
+  ◌&&◌,
+  not,
+  if◌then◌else◌,
+  List,
+  [],
+  ◌∷◌,
+  length,
+  map,
+  min,
+  slice_index_or,
+  Option,
+  Some,
+  None,
+  is_some,
+  IfSome,
+  Result,
+  Ok,
+  All,
+  Contains,
+}
 use Rattle.std.specs.List.{list_any, range_with_len}
 use Rattle.flat_graph.specs.declared.vertex.Kind.{Kind}
 use Rattle.flat_graph.specs.declared.vertex.Kind.TheVariants.{Sensor, Actuator, Function, Set}
@@ -10,9 +38,10 @@ use Rattle.archi_defs.specs.declared.fault.ArchiError.{ArchiError}
 use Rattle.archi_defs.specs.declared.fault.ArchiCause.TheVariants.{NoDuration}
 use Rattle.syn_base.specs.Bytes.{Bytes}
 use Rattle.archi_defs.specs.Text.{Described, refused}
-use Rattle.durations.specs.Lines.{ticks_of, is_given}
+use Rattle.durations.specs.Lines.{ticks_of, is_given, most_ticks}
 
--- For each operation a row, the ticks on each operator, where it may stand there; and its get half, where it is a set half.
+-- For each operation a row, the ticks on each operator, where it may stand there; and its get half, where it is a
+-- set half.
 pub record Table : Type 0 where
   pub operators : ℕ
   pub rows : List (List (Option ℕ))
@@ -63,13 +92,14 @@ unless_missing (Some def) t = refused 0 (NoDuration def)
 
 -- the durations of a flat graph by what a text describes, or the refusal
 abbrev pub durations_of : Graph → Described → Result Table ArchiError
-durations_of g d = unless_missing (missing d.durations g.vertices) (table g.vertices (length d.archi.operators) d.durations)
+durations_of g d =
+    unless_missing (missing d.durations g.vertices) (table g.vertices (length d.archi.operators) d.durations)
 
 -- an entry for each operator, of which some is there, and none is above 1,000,000,000
 pub record IsRow (operators : ℕ) (entries : List (Option ℕ)) : Type 0 where
   pub each : length entries ≡ operators
   pub some : list_any is_some entries ≡ true
-  pub bounded : All (λ e. IfSome e (λ t. t ≤ 1000000000)) entries
+  pub bounded : All (λ e. IfSome e (λ t. t ≤ most_ticks)) entries
 
 -- the row of an operation, by its number
 abbrev pub row_in : Table → ℕ → List (Option ℕ)
@@ -91,10 +121,10 @@ abbrev pub StandBeside : Table → Type 0
 StandBeside t = (v u o : ℕ) → half_in t v ≡ Some u → o < t.operators → MayStand t u o → MayStand t v o
 
 -- Each operation may stand on some operator, for a bounded time, and a set half wherever its get half may.
-pub record IsTable (t : Table) : Type 0 where
-  pub rows : All (IsRow t.operators) t.rows
-  pub halves : length t.halves ≡ length t.rows
-  pub beside : StandBeside t
+pub record IsTable (table : Table) : Type 0 where
+  pub rows : All (IsRow table.operators) table.rows
+  pub halves : length table.halves ≡ length table.rows
+  pub beside : StandBeside table
 
 -- the lesser of two entries, where they are there
 abbrev pub lesser : Option ℕ → Option ℕ → Option ℕ

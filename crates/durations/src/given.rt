@@ -1,4 +1,5 @@
-//! The durations of a text, found by the hash of their definition.
+//! The durations of a text, found by the hash of their definition. The table is made from them, and
+//! `actual_durations` asks them without a table.
 ghost use Rattle.std.specs.Prelude.{◌≡◌, ℕ, ◌<◌, [], length, slice_index_or, Some, None, if◌then◌else◌, IfOk, OnOk};
 ghost use Rattle.std.specs.Str.{bytes_eq};
 ghost use Rattle.syn_base.specs.Bytes.{Bytes};
@@ -85,7 +86,7 @@ impl<'a> Given<'a> {
         requires { AreDurations operators lines.now }
         ensures { IfOk result (λ g. g ≡ record { operators = operators; lines = lines.now }) }
     {
-        let mut found = without_any(alloc, operators)?;
+        let mut found = no_durations(alloc, operators)?;
         for line in lines {
             let ticks = u64::from(line.ticks);
             found[line.operator as usize].add(line.def.as_bytes(), ticks)?;
@@ -126,7 +127,8 @@ impl<'a> Given<'a> {
     }
 }
 
-fn without_any<'a>(alloc: Global, operators: u32) -> Result<Vec<OnOperator<'a>>, OutOfMemory>
+/// For each of this many operators, no definitions so far.
+fn no_durations<'a>(alloc: Global, operators: u32) -> Result<Vec<OnOperator<'a>>, OutOfMemory>
     ensures length { IfOk result (λ v. length v.items ≡ operators) }
     ensures empty { IfOk result (λ v. (o : ℕ) → slice_index_or v.items o [] ≡ []) }
 {

@@ -1,4 +1,4 @@
-//! The halves of delays.
+//! The get halves of set halves, a column of the table that `rows` makes.
 ghost use Rattle.std.specs.Prelude.{◌≡◌, IfOk, map};
 ghost use Rattle.durations.specs.Table.{get_half_of};
 
@@ -17,6 +17,7 @@ pub fn halves(alloc: Global, vertices: &[Vertex]) -> Result<Vec<Option<u32>>, Ou
     Ok(halves)
 }
 
+/// The get half of an operation that is a set half.
 fn get_half(vertex: &Vertex) -> Option<u32>
     ensures { result ≡ get_half_of vertex.now }
 {

@@ -1,4 +1,4 @@
-//! What holds of the durations of texts.
+//! The laws of the durations of texts, which callers of `durations_of` cite.
 ghost use Rattle.durations.specs.Accepted.{AcceptedAreDurations};
 ghost use Rattle.durations.specs.Fitting.{DurationsFit};
 

@@ -1,7 +1,9 @@
-//! How long each operation of a flat graph lasts on each operator, by the durations of an architecture's text.
-//! `durations_of` makes the table or tells the first operation without a duration; `ticks` and `least` read it.
-//! The commands make it of what was read, and whoever places operations asks it where they may stand. `entry` reads
-//! the durations of a text, as `Given`, without a table.
+//! How long each operation of a flat graph lasts on each operator, by the durations of an
+//! architecture's text.
+//!
+//! `durations_of` makes the table or tells the first operation without a duration; `ticks` and
+//! `least` read it. The commands make it of what was read, and whoever places operations asks it
+//! where they may stand. `entry` reads the durations of a text, as `Given`, without a table.
 #![tactic(auto)]
 
 mod given;

@@ -1,4 +1,4 @@
-//! Operations whose duration is missing.
+//! The first operation whose duration is missing, which `durations_of` refuses.
 ghost use Rattle.std.specs.Prelude.{◌≡◌, option_copied};
 ghost use Rattle.durations.specs.Table.{is_missing, is_timed, missing};
 
@@ -16,6 +16,7 @@ pub fn is_timed(kind: &Kind) -> bool
     }
 }
 
+/// Whether the operation needs a duration, and its definition has none on any operator.
 fn is_missing(given: &Given, vertex: &Vertex) -> bool
     ensures { result ≡ is_missing given.now.lines vertex.now }
 {

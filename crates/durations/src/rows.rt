@@ -1,4 +1,4 @@
-//! The rows of the table.
+//! The rows of the table. The commands call `durations_of`.
 ghost use Rattle.std.specs.Prelude.{◌≡◌, ℕ, ◌<◌, ◌≤◌, IfOk, List, None, length, map, true};
 ghost use Rattle.archi_defs.specs.Text.{described_by};
 ghost use Rattle.archi_defs.specs.declared.text.DurationLine.{DurationLine};
@@ -39,6 +39,7 @@ pub fn durations_of(alloc: Global, flat: &Flat, text: &ArchiText) -> Result<Dura
     }
 }
 
+/// The refusal of a definition that has no duration, at line 0, which stands for the whole text.
 fn no_duration(alloc: Global, def: &Name) -> ArchiError
     ensures { IsRefused result def.now }
 {
@@ -62,6 +63,7 @@ fn table(alloc: Global, given: &Given, vertices: &[Vertex]) -> Result<Durations,
     Ok(Durations::new(given.operators(), rows, halves))
 }
 
+/// The row of each of these operations.
 fn rows(
     alloc: Global,
     given: &Given,
@@ -91,7 +93,7 @@ fn row_after(
 {
     let count = before.len();
     if count > 0 && lasts_as(&before[count - 1], vertex) {
-        return copied(alloc, rows[count - 1].as_slice());
+        return copy_row(alloc, rows[count - 1].as_slice());
     }
     row(alloc, given, vertex)
 }
@@ -103,12 +105,14 @@ fn lasts_as(one: &Vertex, other: &Vertex) -> bool
     is_timed(&one.kind) && is_timed(&other.kind) && one.def.as_bytes() == other.def.as_bytes()
 }
 
-fn copied(alloc: Global, entries: &[Option<u64>]) -> Result<Items<Option<u64>>, OutOfMemory>
+/// A copy of a row.
+fn copy_row(alloc: Global, entries: &[Option<u64>]) -> Result<Items<Option<u64>>, OutOfMemory>
     ensures { IfOk result (λ copy. copy ≡ entries.now) }
 {
     Ok(Items::new(Vec::from_slice(alloc, entries)?))
 }
 
+/// The row of an operation, entry by entry.
 fn row(alloc: Global, given: &Given, vertex: &Vertex) -> Result<Items<Option<u64>>, OutOfMemory>
     ensures { IfOk result (λ entries. entries ≡ row given.now.operators given.now.lines vertex.now) }
 {

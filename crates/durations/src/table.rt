@@ -1,5 +1,6 @@
-//! The table of durations.
+//! The table of durations, which whoever places operations reads.
 ghost use Rattle.std.specs.Prelude.{◌≡◌, ◌<◌, ◌≤◌, Some, All, IfSome, length};
+ghost use Rattle.durations.specs.Lines.{most_ticks};
 ghost use Rattle.durations.specs.Table.{entry_in, half_in, least_of, lesser, of_columns, row_in, IsLeast, IsRow, IsTable, StandBeside};
 
 use std::marker::Model;
@@ -88,7 +89,7 @@ impl Durations {
     /// operator. It takes no memory.
     pub fn ticks(&self, op: u32, operator: u32) -> Option<u64>
         ensures entry { result ≡ entry_in self.now op operator }
-        ensures bounded { IfSome result (λ t. t ≤ 1000000000) }
+        ensures bounded { IfSome result (λ t. t ≤ most_ticks) }
     {
         match self.row(op).get(operator as usize) {
             Some(entry) => *entry,
@@ -101,7 +102,7 @@ impl Durations {
         requires { op < length self.now.rows }
         ensures entry { least_of (row_in self.now op) ≡ Some result }
         ensures least { IsLeast (row_in self.now op) result }
-        ensures bounded { result ≤ 1000000000 }
+        ensures bounded { result ≤ most_ticks }
     {
         match least_of(self.row(op)) {
             Some(ticks) => ticks,
@@ -113,7 +114,7 @@ impl Durations {
     fn row(&self, op: u32) -> &[Option<u64>]
         ensures same { result.now ≡ row_in self.now op }
         ensures valid { op < length self.now.rows → IsRow self.now.operators (row_in self.now op) }
-        ensures bounded { All (λ e. IfSome e (λ t. t ≤ 1000000000)) (row_in self.now op) }
+        ensures bounded { All (λ e. IfSome e (λ t. t ≤ most_ticks)) (row_in self.now op) }
     {
         match self.rows.get(op as usize) {
             Some(row) => row.as_slice(),
@@ -122,6 +123,7 @@ impl Durations {
     }
 }
 
+/// The least of these entries that is there.
 fn least_of(entries: &[Option<u64>]) -> Option<u64>
     ensures { result ≡ least_of entries.now }
 {
@@ -132,6 +134,7 @@ fn least_of(entries: &[Option<u64>]) -> Option<u64>
     least
 }
 
+/// The lesser of two entries, where they are there.
 fn lesser(one: Option<u64>, other: Option<u64>) -> Option<u64>
     ensures { result ≡ lesser one other }
 {

@@ -12,7 +12,7 @@ use Rattle.multi_period.specs.declared.mark.Mark.{Mark}
 use Rattle.multi_period.specs.Within.{made_within}
 use Rattle.period_marks.specs.Marking.{marking_of}
 
--- a refusal of the made tree, as one of the text
+-- A refusal of the made tree, as one of the text.
 abbrev pub of_periods : PeriodError → AlgoError
 of_periods (period.Limit fault) = Limit fault
 of_periods period.OutOfMemory = OutOfMemory
@@ -29,6 +29,7 @@ abbrev pub resolved_by : List Def → Result Vertex AlgoError → Result Vertex 
 resolved_by ds (Ok main) = marked_by main (marking_of ds)
 resolved_by ds (Err e) = Err e
 
--- Definitions resolve to a tree; then each mark has to stand where one may; and then the marked references become graphs, within the bound on operations.
+-- Definitions resolve to a tree; then each mark has to stand where one may; and then the marked references become
+-- graphs, within the bound on operations.
 abbrev pub elaboration_of : Defs → Result Vertex AlgoError
 elaboration_of defs = resolved_by defs.defs (resolution_of defs.defs)

@@ -14,7 +14,8 @@ use Rattle.multi_period.specs.Laws.{DoesAsMarked}
 use Rattle.period_marks.specs.Marking.{marking_of}
 use Rattle.elaboration.specs.Elaborated.{elaboration_of}
 
--- The tree that the definitions resolve to, and their marks: the made tree is a tree with names and bounds, and its actuators take what the meaning says that looks back over the reactions.
+-- The tree that the definitions resolve to, and their marks: the made tree is a tree with names and bounds, and its
+-- actuators take what the meaning says that looks back over the reactions.
 pub record IsElaborated (ds : List Def) (made : Vertex) : Type 0 where
   pub resolved : Vertex
   pub marks : List Mark
@@ -26,4 +27,6 @@ pub record IsElaborated (ds : List Def) (made : Vertex) : Type 0 where
   pub bounded : HasBounds made
 
 abbrev pub AcceptedAreElaborated : Type 0
-AcceptedAreElaborated = (text : Bytes) (defs : Defs) (made : Vertex) → definitions_of text ≡ Ok defs → elaboration_of defs ≡ Ok made → IsElaborated defs.defs made
+AcceptedAreElaborated =
+    (text : Bytes) (defs : Defs) (made : Vertex) → definitions_of text ≡ Ok defs → elaboration_of defs ≡ Ok made →
+    IsElaborated defs.defs made

@@ -1,6 +1,8 @@
-//! The tree that an algorithm text means: what its definitions resolve to, in which each reference that runs
-//! in every nth reaction has become a graph. `elaborate` makes it of the definitions that were read, and the
-//! law says what the tree of an accepted text is. `syndex_program` calls it, and `accepted_laws` stands on the law.
+//! Makes the tree that an algorithm text means: what its definitions resolve to, in which each reference that runs in
+//! every nth reaction has become a graph.
+//!
+//! `elaborate` makes it of the definitions that were read, and the law says what the tree of an accepted text is.
+//! `syndex_program` calls it, and `accepted_laws` stands on the law.
 #![tactic(auto)]
 
 ghost use Rattle.std.specs.Prelude.{◌≡◌, ◌≤◌, IfOk, length};
@@ -22,7 +24,7 @@ use std::alloc::Global;
 
 /// The tree of the definitions of a text, or their first refusal: those of resolving, then a mark where none
 /// may stand, and then the limit on the operations of the tree in which the marked references have become
-/// graphs. OutOfMemory may come in place of any answer.
+/// graphs. OutOfMemory may come in place of any result.
 pub fn elaborate(alloc: Global, defs: &Defs) -> Result<Tree, AlgoError>
     requires read { AreWellRead defs.now.defs }
     requires periods { HavePeriods defs.now.defs }
@@ -36,6 +38,7 @@ pub fn elaborate(alloc: Global, defs: &Defs) -> Result<Tree, AlgoError>
     if marks.as_slice().is_empty() {
         return Ok(tree);
     }
+    // That the marks may stand in the tree, which `periods` asks for.
     accepted_marks_stand();
     match periods(alloc, &tree, &marks) {
         Ok(made) => Ok(made),
@@ -43,7 +46,7 @@ pub fn elaborate(alloc: Global, defs: &Defs) -> Result<Tree, AlgoError>
     }
 }
 
-/// A refusal of the made tree, as one of the text.
+/// The refusal of the text that a refusal of the made tree becomes.
 fn refusal_of(error: PeriodError) -> AlgoError
     ensures { result ≡ of_periods error }
 {

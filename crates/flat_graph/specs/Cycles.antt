@@ -23,4 +23,5 @@ AllAreThere vertices = (v u : ℕ) → DependsOn vertices v u → u < length ver
 
 -- as many rounds as there are operations do all of them exactly where none depends on itself
 abbrev pub RoundsFindCycles : Type 0
-RoundsFindCycles = (vertices : List Vertex) → AllAreThere vertices → (IsTrue (is_acyclic vertices) ↔ NoneLeadsToItself vertices)
+RoundsFindCycles = (vertices : List Vertex) → AllAreThere vertices →
+    (IsTrue (is_acyclic vertices) ↔ NoneLeadsToItself vertices)

@@ -1,10 +1,39 @@
 -- One operation: what it gives, and what a set half keeps.
-use Rattle.std.specs.Prelude.{ℕ, Bool, true, false, ◌&&◌, ◌==◌, if◌then◌else◌, List, [], ◌∷◌, ◌++◌, map, length, take, drop, replicate, slice_index_or, slice_get}
+use Rattle.std.specs.Prelude.{
+  ℕ,
+  Bool,
+  true,
+  false,
+  ◌&&◌,
+  ◌==◌,
+  if◌then◌else◌,
+  List,
+  [],
+  ◌∷◌,
+  ◌++◌,
+  map,
+  length,
+  take,
+  drop,
+  replicate,
+  slice_index_or,
+  slice_get,
+}
 use Rattle.body_lang.specs.Expr.{Expr, function_outputs}
 use Rattle.level_meaning.specs.Level.{Vector, Values, vector_at, zeros, selected, parts_of, all_joined, merged}
 use Rattle.flat_graph.specs.declared.vertex.Guard.{Guard}
 use Rattle.flat_graph.specs.declared.vertex.Kind.{Kind}
-use Rattle.flat_graph.specs.declared.vertex.Kind.TheVariants.{Sensor, Actuator, Function, Constant, Get, Set, Explode, Implode, Merge}
+use Rattle.flat_graph.specs.declared.vertex.Kind.TheVariants.{
+  Sensor,
+  Actuator,
+  Function,
+  Constant,
+  Get,
+  Set,
+  Explode,
+  Implode,
+  Merge,
+}
 use Rattle.flat_graph.specs.declared.vertex.Vertex.{Vertex}
 use Rattle.flat_graph.specs.Graph.{Graph, with_vertex, lens_of}
 
@@ -70,7 +99,8 @@ module _ (g : Graph) (v : ℕ) where
 
   -- its outputs, from its cell, what it senses, and the values of its inputs and then of its guards' sources
   abbrev pub fired_at : Vector → Vector → Values → Values
-  fired_at cell seen read = of_vertex [] (λ x. fired g.bodies x cell seen (drop (length x.ins) read) (take (length x.ins) read))
+  fired_at cell seen read =
+      of_vertex [] (λ x. fired g.bodies x cell seen (drop (length x.ins) read) (take (length x.ins) read))
 
   abbrev pub kept_at : Vector → Values → Vector
   kept_at cell read = of_vertex cell (λ x. kept x cell (drop (length x.ins) read) (take (length x.ins) read))

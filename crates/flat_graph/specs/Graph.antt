@@ -24,4 +24,7 @@ lens_of vertices sources = map (len_of vertices) sources
 -- a graph is stored as the pair of its parts
 abbrev pub graph_code : Coded Vertex → Coded Expr → Coded Graph
 graph_code vertex expr =
-    code_by (List Vertex × List (List Expr)) (coded× (coded_list vertex) (coded_list (coded_list expr))) (λ g. (g.vertices, g.bodies)) (λ p. record { vertices = p.0; bodies = p.1 }) (λ _. refl)
+    code_by (List Vertex × List (List Expr)) (coded× (coded_list vertex) (coded_list (coded_list expr)))
+    (λ g. (g.vertices, g.bodies))
+    (λ p. record { vertices = p.0; bodies = p.1 })
+    (λ _. refl)

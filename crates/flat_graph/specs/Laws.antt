@@ -7,16 +7,32 @@ use Rattle.flat_graph.specs.declared.vertex.Vertex.{Vertex}
 use Rattle.flat_graph.specs.Graph.{Graph}
 use Rattle.flat_graph.specs.Valid.{is_flat}
 use Rattle.flat_graph.specs.Fire.{fired, fired_at, kept_at}
-use Rattle.flat_graph.specs.Meaning.{sensed, cell_of, outputs_in, value_in, conditions, inputs, reads, next_cells, cells_after, flat_outputs, flat_act_row}
+use Rattle.flat_graph.specs.Meaning.{
+  sensed,
+  cell_of,
+  outputs_in,
+  value_in,
+  conditions,
+  inputs,
+  reads,
+  next_cells,
+  cells_after,
+  flat_outputs,
+  flat_act_row,
+}
 
 -- each operation gives what it makes of what its sources give
 abbrev pub IsFixedPoint : Type 0
-IsFixedPoint = (g : Graph) (cells row : Values) → IsTrue (is_flat g) → (v : ℕ) (x : Vertex) → slice_get g.vertices v ≡ Some x
-    → outputs_in g cells row v ≡ fired g.bodies x (cell_of g cells v) (sensed x.kind row) (conditions (value_in g cells row) x) (inputs (value_in g cells row) x)
+IsFixedPoint = (g : Graph) (cells row : Values) → IsTrue (is_flat g)
+    → (v : ℕ) (x : Vertex) → slice_get g.vertices v ≡ Some x
+    → outputs_in g cells row v ≡
+    fired g.bodies x (cell_of g cells v) (sensed x.kind row)
+    (conditions (value_in g cells row) x) (inputs (value_in g cells row) x)
 
 -- an operation that is fired on its cell, what it senses and what its sources give has its outputs
 abbrev pub IsFired : Type 0
-IsFired = (g : Graph) (cells row : Values) → IsTrue (is_flat g) → (v : ℕ) (x : Vertex) → slice_get g.vertices v ≡ Some x
+IsFired = (g : Graph) (cells row : Values) → IsTrue (is_flat g)
+    → (v : ℕ) (x : Vertex) → slice_get g.vertices v ≡ Some x
     → outputs_in g cells row v ≡ fired_at g v (cell_of g cells v) (sensed x.kind row) (reads (value_in g cells row) x)
 
 -- the next cell of a delay is what its set half, fired on the cell and what its sources give, keeps
@@ -53,6 +69,7 @@ delay_lens (x ∷ xs) = delay_len x.kind ++ delay_lens xs
 
 -- with a row and cells of the right lengths each output has its length, and the cells keep theirs
 abbrev pub KeepsLengths : Type 0
-KeepsLengths = (g : Graph) (cells row : Values) → IsTrue (is_flat g) → map length row ≡ sensor_lens g.vertices → map length cells ≡ delay_lens g.vertices
+KeepsLengths = (g : Graph) (cells row : Values) → IsTrue (is_flat g)
+    → map length row ≡ sensor_lens g.vertices → map length cells ≡ delay_lens g.vertices
     → ((v : ℕ) (x : Vertex) → slice_get g.vertices v ≡ Some x → map length (outputs_in g cells row v) ≡ x.outs)
     × (map length (next_cells g cells row) ≡ delay_lens g.vertices)

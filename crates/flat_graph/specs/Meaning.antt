@@ -1,5 +1,26 @@
 -- What the operations give in each reaction: the meaning of one level, whose nodes are the operations.
-use Rattle.std.specs.Prelude.{ℕ, zero, suc, ◌+◌, Bool, true, false, if◌then◌else◌, List, [], ◌∷◌, ◌++◌, map, length, drop, Option, None, Some, slice_get, slice_index_or}
+use Rattle.std.specs.Prelude.{
+  ℕ,
+  zero,
+  suc,
+  ◌+◌,
+  Bool,
+  true,
+  false,
+  if◌then◌else◌,
+  List,
+  [],
+  ◌∷◌,
+  ◌++◌,
+  map,
+  length,
+  drop,
+  Option,
+  None,
+  Some,
+  slice_get,
+  slice_index_or,
+}
 use Rattle.body_lang.specs.Expr.{Expr}
 use Rattle.level_meaning.specs.declared.part.Part.TheVariants.{Numbered}
 use Rattle.level_meaning.specs.declared.source.Source.TheVariants.{Of}
@@ -47,7 +68,11 @@ node_of bodies cell x = record {
   asked = map level_source x.ins;
   guards = map level_guard x.guards;
   outs = x.outs;
-  does = record { outputs = λ row st ins. kind_outputs bodies x.kind x.outs cell (sensed x.kind row) ins; next = λ row st ins. st; initial = no_state };
+  does = record {
+    outputs = λ row st ins. kind_outputs bodies x.kind x.outs cell (sensed x.kind row) ins;
+    next = λ row st ins. st;
+    initial = no_state;
+  };
 }
 
 -- cells are those of the delays, by number
@@ -85,13 +110,16 @@ reads look x = inputs look x ++ conditions look x
 -- the cell of a delay after a reaction, by the set half that is its get half's twin
 abbrev pub next_cell : List Vertex → (Source → Vector) → Option ℕ → Vector → Vector
 next_cell vertices look None cell = cell
-next_cell vertices look (Some t) cell = with_vertex (slice_get vertices t) cell (λ y. kept y cell (conditions look y) (inputs look y))
+next_cell vertices look (Some t) cell =
+    with_vertex (slice_get vertices t) cell (λ y. kept y cell (conditions look y) (inputs look y))
 
 -- get half by get half
 abbrev pub next_from : List Vertex → (Source → Vector) → List Vertex → Values → Values
 next_from vertices look [] cells = []
 next_from vertices look (x ∷ xs) cells =
-    if is_get x.kind then next_cell vertices look x.twin (vector_at cells 0) ∷ next_from vertices look xs (drop 1 cells) else next_from vertices look xs cells
+    if is_get x.kind
+    then next_cell vertices look x.twin (vector_at cells 0) ∷ next_from vertices look xs (drop 1 cells)
+    else next_from vertices look xs cells
 
 abbrev pub next_cells : Graph → Values → Values → Values
 next_cells g cells row = next_from g.vertices (value_in g cells row) g.vertices cells

@@ -15,10 +15,12 @@ get_half _ _ = []
 abbrev pub depends_on : Vertex → List ℕ
 depends_on x = map (λ g. g.source.vertex) x.guards ++ map (λ s. s.vertex) x.ins ++ get_half x.kind x.twin
 
--- operation v is done after this many rounds, in each of which an operation is done if all that it depends on was done before
+-- operation v is done after this many rounds, in each of which an operation is done if all that it depends on was
+-- done before
 abbrev pub is_done : List Vertex → ℕ → ℕ → Bool
 is_done vertices zero v = false
-is_done vertices (suc rounds) v = with_vertex (slice_get vertices v) false (λ x. list_all (is_done vertices rounds) (depends_on x))
+is_done vertices (suc rounds) v =
+    with_vertex (slice_get vertices v) false (λ x. list_all (is_done vertices rounds) (depends_on x))
 
 -- no operation depends on itself: as many rounds as there are operations do all of them
 abbrev pub is_acyclic : List Vertex → Bool

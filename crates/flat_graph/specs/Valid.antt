@@ -1,12 +1,45 @@
 -- Which flat graphs are valid.
-use Rattle.std.specs.Prelude.{ℕ, ◌+◌, Bool, true, false, ◌&&◌, ◌||◌, not, ◌==◌, nat_le, nat_lt, List, [], ◌∷◌, map, length, sum, Option, None, Some, is_none, slice_get}
+use Rattle.std.specs.Prelude.{
+  ℕ,
+  ◌+◌,
+  Bool,
+  true,
+  false,
+  ◌&&◌,
+  ◌||◌,
+  not,
+  ◌==◌,
+  nat_le,
+  nat_lt,
+  List,
+  [],
+  ◌∷◌,
+  map,
+  length,
+  sum,
+  Option,
+  None,
+  Some,
+  is_none,
+  slice_get,
+}
 use Rattle.std.specs.List.{list_all, list_any}
 use Rattle.std.specs.Str.{bytes_eq}
 use Rattle.syn_base.specs.Name.{is_name_byte}
 use Rattle.body_lang.specs.Expr.{Expr, literal, index, element, sum_over, negation, apply, select}
 use Rattle.flat_graph.specs.declared.vertex.Guard.{Guard}
 use Rattle.flat_graph.specs.declared.vertex.Kind.{Kind}
-use Rattle.flat_graph.specs.declared.vertex.Kind.TheVariants.{Sensor, Actuator, Function, Constant, Get, Set, Explode, Implode, Merge}
+use Rattle.flat_graph.specs.declared.vertex.Kind.TheVariants.{
+  Sensor,
+  Actuator,
+  Function,
+  Constant,
+  Get,
+  Set,
+  Explode,
+  Implode,
+  Merge,
+}
 use Rattle.flat_graph.specs.declared.vertex.Vertex.{Vertex}
 use Rattle.flat_graph.specs.Graph.{Graph, with_vertex, len_of, lens_of}
 use Rattle.flat_graph.specs.Order.{is_acyclic}
@@ -90,7 +123,8 @@ is_get_half_of v y = is_get_half_by v y y.kind
 
 abbrev pub has_set_half : List Vertex → ℕ → ℕ → Option ℕ → Bool
 has_set_half vertices v len None = false
-has_set_half vertices v len (Some t) = nat_lt v t && with_vertex (slice_get vertices t) false (is_set_half_of vertices v len)
+has_set_half vertices v len (Some t) =
+    nat_lt v t && with_vertex (slice_get vertices t) false (is_set_half_of vertices v len)
 
 abbrev pub has_get_half : List Vertex → ℕ → Option ℕ → Bool
 has_get_half vertices v None = false
@@ -105,7 +139,12 @@ has_twin vertices v _ twin = is_none twin
 -- operation v is valid
 abbrev pub is_vertex : Graph → ℕ → Vertex → Bool
 is_vertex g v x =
-    is_path x.name && (nat_le (length x.outs) 64 && list_all is_len x.outs) && list_all (is_guard g.vertices) x.guards && list_all (nat_le 1) (lens_of g.vertices x.ins) && fits g.bodies x.kind (lens_of g.vertices x.ins) x.outs && has_twin g.vertices v x.kind x.twin
+    is_path x.name &&
+    (nat_le (length x.outs) 64 && list_all is_len x.outs) &&
+    list_all (is_guard g.vertices) x.guards &&
+    list_all (nat_le 1) (lens_of g.vertices x.ins) &&
+    fits g.bodies x.kind (lens_of g.vertices x.ins) x.outs &&
+    has_twin g.vertices v x.kind x.twin
 
 abbrev pub all_from : (ℕ → Vertex → Bool) → ℕ → List Vertex → Bool
 all_from test v [] = true
@@ -128,4 +167,9 @@ kinds_of vertices = map (λ x. x.kind) vertices
 -- valid operations and bodies
 abbrev pub is_flat : Graph → Bool
 is_flat g =
-    nat_le (length g.vertices) 2048 && are_named_apart g.vertices && all_from (is_vertex g) 0 g.vertices && sensors_from 0 (kinds_of g.vertices) && actuators_from 0 (kinds_of g.vertices) && is_acyclic g.vertices
+    nat_le (length g.vertices) 2048 &&
+    are_named_apart g.vertices &&
+    all_from (is_vertex g) 0 g.vertices &&
+    sensors_from 0 (kinds_of g.vertices) &&
+    actuators_from 0 (kinds_of g.vertices) &&
+    is_acyclic g.vertices

@@ -1,4 +1,4 @@
-//! The flat graph, kept whole.
+//! The flat graph as one value, which is valid as long as it lives.
 use crate::vertex::Vertex;
 use body_lang::Body;
 use std::marker::Model;

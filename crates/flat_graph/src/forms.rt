@@ -1,4 +1,4 @@
-//! The inputs and outputs of each kind.
+//! The forms of operations: the number and lengths of the inputs and outputs of each kind. `valid` calls it.
 ghost use Rattle.std.specs.Prelude.{◌≡◌, map, slice_get, sum, Some};
 ghost use Rattle.std.specs.List.{list_all};
 ghost use Rattle.body_lang.specs.Expr.{view};
@@ -28,6 +28,7 @@ pub fn fits(vertices: &[Vertex], bodies: &[Body], vertex: &Vertex) -> bool
     }
 }
 
+/// Whether the body of this number is there, and is one of this many inputs and outputs.
 fn is_function(bodies: &[Body], body: u32, ins: usize, outs: usize) -> bool
     ensures { result ≡ is_body ins outs (slice_get bodies.now body) }
 {
@@ -37,24 +38,29 @@ fn is_function(bodies: &[Body], body: u32, ins: usize, outs: usize) -> bool
     }
 }
 
+/// Whether a body has an expression for each output, of which there is one at least, over inputs that are
+/// there.
 fn is_body(body: &[Expr], ins: usize, outs: usize) -> bool
     ensures { result ≡ is_body ins outs (Some (map view body.now)) }
 {
     outs > 0 && (body.len() == outs && are_expressions(body, ins))
 }
 
+/// Whether each expression names ports below `ins` alone.
 fn are_expressions(body: &[Expr], ins: usize) -> bool
     ensures { result ≡ list_all (λ e. ports_below ins (view e)) body.now }
 {
     body.iter().all(|e| is_expression(e, ins))
 }
 
+/// Whether an expression names ports below `ins` alone.
 fn is_expression(e: &Expr, ins: usize) -> bool
     ensures { result ≡ ports_below ins (view e.now) }
 {
     has_ports_below(e, ins)
 }
 
+/// Whether there is one input, which is as long as the outputs together.
 fn is_explode(vertices: &[Vertex], ins: &[Source], outs: &[u32]) -> bool
     ensures { result ≡ is_only (sum outs.now) (lens_of vertices.now ins.now) }
 {
@@ -64,6 +70,7 @@ fn is_explode(vertices: &[Vertex], ins: &[Source], outs: &[u32]) -> bool
     }
 }
 
+/// Whether there is one output, which is as long as the inputs together.
 #[tactic(auto, using(crate::proofs::Bodies::sum_map))]
 fn is_implode(vertices: &[Vertex], ins: &[Source], outs: &[u32]) -> bool
     ensures { result ≡ is_only (sum (lens_of vertices.now ins.now)) outs.now }
@@ -74,6 +81,8 @@ fn is_implode(vertices: &[Vertex], ins: &[Source], outs: &[u32]) -> bool
     }
 }
 
+/// Whether there is a conditioning input of one element, and after it an input as long as the one output for
+/// each case, of which there is one more than values.
 fn is_merge(vertices: &[Vertex], values: usize, ins: &[Source], outs: &[u32]) -> bool
     ensures { result ≡ is_merge values (lens_of vertices.now ins.now) outs.now }
 {
@@ -88,6 +97,7 @@ fn is_merge(vertices: &[Vertex], values: usize, ins: &[Source], outs: &[u32]) ->
     }
 }
 
+/// Whether each source is as long as the one output.
 fn have_length_of(vertices: &[Vertex], sources: &[Source], outs: &[u32]) -> bool
     ensures { result ≡ list_all (λ n. is_only n outs.now) (lens_of vertices.now sources.now) }
 {

@@ -1,4 +1,5 @@
-//! Laws of the flat meaning, each the contract of a function that does nothing.
+//! The laws of the flat meaning, each the contract of a function that does nothing and is not called: the crates above
+//! take the lemmas in `proofs/`.
 ghost use Rattle.flat_graph.specs.Cycles.{RoundsFindCycles};
 ghost use Rattle.flat_graph.specs.Laws.{IsFired, IsFixedPoint, IsKept, KeepsLengths, RunsInWindows};
 

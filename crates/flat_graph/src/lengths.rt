@@ -1,4 +1,4 @@
-//! The lengths of outputs and sources.
+//! The lengths of outputs and sources. `valid`, `forms` and `twins` call it.
 ghost use Rattle.std.specs.Prelude.{◌≡◌, ◌==◌, ◌&&◌, length, nat_le, slice_index_or, sum};
 ghost use Rattle.std.specs.List.{list_all, sum_by};
 ghost use Rattle.flat_graph.specs.Graph.{len_of, lens_of};
@@ -27,12 +27,14 @@ pub fn are_lens(lens: &[u32]) -> bool
     lens.len() <= MOST && are_all_lens(lens)
 }
 
+/// Whether each length is from 1 to 64.
 fn are_all_lens(lens: &[u32]) -> bool
     ensures { result ≡ list_all is_len lens.now }
 {
     lens.iter().all(|len| is_len(*len))
 }
 
+/// Whether this is a length from 1 to 64.
 fn is_len(len: u32) -> bool
     ensures { result ≡ is_len len }
 {

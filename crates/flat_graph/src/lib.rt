@@ -1,8 +1,8 @@
-//! Flat operations: their sources, guards and kinds, which lists of them are valid, and what each
-//! gives in each reaction.
+//! The flat graph of an algorithm: its operations with their sources, guards and kinds, which lists of them are
+//! valid, and what each gives in each reaction.
 //!
-//! `Flat` is a valid graph, as `is_flat` decides, which flattening makes and the executive runs; `fire` is
-//! one of its operations. The laws are contracts of functions that do nothing.
+//! Flattening makes a `Flat`, which is valid as `is_flat` decides, and the executive runs its operations by `fire`.
+//! The laws are contracts of functions that do nothing.
 #![tactic(auto)]
 
 mod flat;

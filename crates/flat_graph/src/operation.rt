@@ -1,4 +1,4 @@
-//! One operation.
+//! The step of one operation in one reaction. `semaphore_core` calls it by `fire`.
 ghost use Rattle.std.specs.Prelude.{◌≡◌, ◌+◌, ◌<◌, ◌≤◌, ◌==◌, All, IsTrue, true, length, map, take, drop};
 ghost use Rattle.level_meaning.specs.Level.{element_at, selected, vector_at};
 ghost use Rattle.flat_graph.specs.Valid.{fits};
@@ -27,6 +27,7 @@ pub fn fire(flat: &Flat, v: u32, ins: &Ins, cell: &mut [i64], row: &[i64], outs:
     fire_vertex(vertex, flat.bodies(), ins, cell, row, outs);
 }
 
+/// Fires this operation: an active one by its kind, and any other with zeros as its outputs.
 fn fire_vertex(
     vertex: &Vertex,
     bodies: &[Body],
@@ -39,7 +40,8 @@ fn fire_vertex(
         (take (length vertex.now.ins) (map length ins.now)) vertex.now.outs) }
     requires short { All (λ n. n ≤ 64) vertex.now.outs }
     requires ins { length vertex.now.ins + length vertex.now.guards ≡ length ins.now }
-    requires cell { length cell.old ≡ kind_cell_len vertex.now.kind (take (length vertex.now.ins) (map length ins.now)) }
+    requires cell { length cell.old ≡ kind_cell_len vertex.now.kind
+        (take (length vertex.now.ins) (map length ins.now)) }
     requires row { length row.now ≡ kind_seen_len vertex.now.kind vertex.now.outs }
     requires outs { map length outs.old ≡ vertex.now.outs }
     ensures outs { outs.new ≡ fired bodies.now vertex.now cell.old row.now
@@ -105,6 +107,7 @@ fn are_holding(guards: &[Guard], first: usize, ins: &Ins) -> bool
     true
 }
 
+/// Whether a guard holds, where its source has this value.
 fn is_holding(guard: &Guard, condition: &[i64]) -> bool
     ensures { result ≡ (selected guard.now.values condition.now == guard.now.case) }
 {
@@ -124,6 +127,7 @@ fn selected(values: &[i64], vector: &[i64]) -> usize
     values.len()
 }
 
+/// The first element, or 0 where there is none.
 fn first_element(vector: &[i64]) -> i64
     ensures { result ≡ element_at vector.now 0 }
 {

@@ -1,4 +1,4 @@
-//! Writing the outputs of an operation.
+//! The outputs of an operation, written in their places. `operation` calls it.
 ghost use Rattle.std.specs.Prelude.{◌≡◌, ◌+◌, ◌<◌, ◌≤◌, [], ◌∷◌, All, length, map, take, slice_set, sum};
 ghost use Rattle.body_lang.specs.Expr.{view, function_outputs, vector_of, value_of, PortsBelow};
 ghost use Rattle.flat_graph.specs.Put.{over};
@@ -28,6 +28,7 @@ pub fn put_zeros(lens: &[u32], outs: &mut Ins)
     }
 }
 
+/// This many zeros.
 fn zero_vector(len: u32) -> &'static [i64]
     requires { len ≤ 64 }
     ensures { result.now ≡ zeros len }
@@ -61,6 +62,7 @@ pub fn put_values(lens: &[u32], body: &[Expr], ins: &Ins, outs: &mut Ins)
     }
 }
 
+/// Puts the value of one expression in the place of this output.
 fn put_value(port: usize, len: u32, e: &Expr, ins: &Ins, outs: &mut Ins)
     requires port { port < length outs.old }
     requires len { length (vector_at outs.old port) ≡ len }
@@ -87,6 +89,7 @@ pub fn put_joined(count: usize, ins: &Ins, outs: &mut Ins)
     }
 }
 
+/// Writes a vector over the one output from this place on.
 fn put_over(from: usize, vector: &[i64], outs: &mut Ins)
     requires port { 0 < length outs.old }
     requires len { from + length vector.now ≤ length (vector_at outs.old 0) }

@@ -1,4 +1,4 @@
-//! The halves of delays.
+//! The twins of operations: the two halves of each delay. `valid` calls it.
 ghost use Rattle.std.specs.Prelude.{◌≡◌, false, slice_get};
 ghost use Rattle.flat_graph.specs.Graph.{lens_of, with_vertex};
 ghost use Rattle.flat_graph.specs.Valid.{has_get_half, has_set_half, has_twin, is_get_half_of, is_only, is_set_half_of, names};
@@ -17,6 +17,7 @@ pub fn has_twin(vertices: &[Vertex], v: usize, vertex: &Vertex) -> bool
     }
 }
 
+/// Whether a get half has a later set half of this length as its twin.
 fn has_set_half(vertices: &[Vertex], v: usize, len: usize, twin: Option<u32>) -> bool
     ensures { result ≡ has_set_half vertices.now v len twin }
 {
@@ -26,6 +27,7 @@ fn has_set_half(vertices: &[Vertex], v: usize, len: usize, twin: Option<u32>) ->
     }
 }
 
+/// Whether a set half has an earlier get half as its twin.
 fn has_get_half(vertices: &[Vertex], v: usize, twin: Option<u32>) -> bool
     ensures { result ≡ has_get_half vertices.now v twin }
 {
@@ -35,6 +37,7 @@ fn has_get_half(vertices: &[Vertex], v: usize, twin: Option<u32>) -> bool
     }
 }
 
+/// Whether `twin` is a set half of this length that has `v` as its twin.
 fn is_set_half(vertices: &[Vertex], v: usize, len: usize, twin: usize) -> bool
     ensures { result ≡ with_vertex (slice_get vertices.now twin) false (is_set_half_of vertices.now v len) }
 {
@@ -48,6 +51,7 @@ fn is_set_half(vertices: &[Vertex], v: usize, len: usize, twin: usize) -> bool
     }
 }
 
+/// Whether `twin` is a get half that has `v` as its twin.
 fn is_get_half(vertices: &[Vertex], v: usize, twin: usize) -> bool
     ensures { result ≡ with_vertex (slice_get vertices.now twin) false (is_get_half_of v) }
 {
@@ -57,6 +61,7 @@ fn is_get_half(vertices: &[Vertex], v: usize, twin: usize) -> bool
     }
 }
 
+/// Whether this twin is operation `v`.
 fn is_named(twin: Option<u32>, v: usize) -> bool
     ensures { result ≡ names twin v }
 {
@@ -66,6 +71,7 @@ fn is_named(twin: Option<u32>, v: usize) -> bool
     }
 }
 
+/// Whether there is one input, of this length.
 fn is_only_input(vertices: &[Vertex], len: usize, ins: &[Source]) -> bool
     ensures { result ≡ is_only len (lens_of vertices.now ins.now) }
 {

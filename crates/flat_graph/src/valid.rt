@@ -1,4 +1,4 @@
-//! Which operations and bodies make a flat graph.
+//! The validity of a flat graph: which operations and bodies make one.
 ghost use Rattle.std.specs.Prelude.{◌≡◌};
 ghost use Rattle.std.specs.List.{list_all, list_any};
 ghost use Rattle.std.specs.Str.{bytes_eq};
@@ -34,6 +34,7 @@ pub fn is_flat(vertices: &[Vertex], bodies: &[Body]) -> bool
         && is_acyclic(vertices)
 }
 
+/// Whether no two operations have the same name.
 fn are_named_apart(vertices: &[Vertex]) -> bool
     ensures { result ≡ are_named_apart vertices.now }
 {
@@ -45,12 +46,14 @@ fn are_named_apart(vertices: &[Vertex]) -> bool
     true
 }
 
+/// Whether one of these operations has this name.
 fn is_named(vertices: &[Vertex], name: &[u8]) -> bool
     ensures { result ≡ list_any (λ y. bytes_eq name.now y.name) vertices.now }
 {
     vertices.iter().any(|vertex| name == vertex.name.as_slice())
 }
 
+/// Whether each operation is valid.
 fn are_all_valid(vertices: &[Vertex], bodies: &[Body]) -> bool
     ensures { result ≡ all_from (is_vertex (record { vertices = vertices.now; bodies = bodies.now })) 0 vertices.now }
 {
@@ -62,6 +65,7 @@ fn are_all_valid(vertices: &[Vertex], bodies: &[Body]) -> bool
     true
 }
 
+/// Whether operation `v` is valid among the others.
 fn is_valid(vertices: &[Vertex], bodies: &[Body], v: usize, vertex: &Vertex) -> bool
     ensures { result ≡ is_vertex (record { vertices = vertices.now; bodies = bodies.now }) v vertex.now }
 {
@@ -73,30 +77,35 @@ fn is_valid(vertices: &[Vertex], bodies: &[Body], v: usize, vertex: &Vertex) -> 
         && has_twin(vertices, v, vertex)
 }
 
+/// Whether this is the text of a path: one byte at least, and allowed bytes alone.
 fn is_path(name: &[u8]) -> bool
     ensures { result ≡ is_path name.now }
 {
     !name.is_empty() && are_path_bytes(name)
 }
 
+/// Whether each byte may stand in a path.
 fn are_path_bytes(name: &[u8]) -> bool
     ensures { result ≡ list_all is_path_byte name.now }
 {
     name.iter().all(|byte| is_path_byte(*byte))
 }
 
+/// Whether this is a letter, a digit, `_`, `.`, `/` or `:`.
 fn is_path_byte(byte: u8) -> bool
     ensures { result ≡ is_path_byte byte }
 {
     byte.is_ascii_alphanumeric() || matches!(byte, b'_' | b'.' | b'/' | b':')
 }
 
+/// Whether each guard is valid.
 fn are_guards(vertices: &[Vertex], guards: &[Guard]) -> bool
     ensures { result ≡ list_all (is_guard vertices.now) guards.now }
 {
     guards.iter().all(|guard| is_guard(vertices, guard))
 }
 
+/// Whether a guard's source has one element, and its case is there.
 fn is_guard(vertices: &[Vertex], guard: &Guard) -> bool
     ensures { result ≡ is_guard vertices.now guard.now }
 {

@@ -1,4 +1,4 @@
-//! Operations.
+//! The vertices of a flat graph, which are its operations.
 use syn_base::{Items, Name};
 
 /// An output of an operation, both by number from 0.

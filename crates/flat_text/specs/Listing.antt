@@ -5,7 +5,17 @@ use Rattle.syn_base.specs.Bytes.{Bytes}
 use Rattle.flat_graph.specs.declared.vertex.Source.{Source}
 use Rattle.flat_graph.specs.declared.vertex.Guard.{Guard}
 use Rattle.flat_graph.specs.declared.vertex.Kind.{Kind}
-use Rattle.flat_graph.specs.declared.vertex.Kind.TheVariants.{Sensor, Actuator, Function, Constant, Get, Set, Explode, Implode, Merge}
+use Rattle.flat_graph.specs.declared.vertex.Kind.TheVariants.{
+  Sensor,
+  Actuator,
+  Function,
+  Constant,
+  Get,
+  Set,
+  Explode,
+  Implode,
+  Merge,
+}
 use Rattle.flat_graph.specs.declared.vertex.Vertex.{Vertex}
 use Rattle.flat_graph.specs.Graph.{Graph}
 
@@ -34,9 +44,9 @@ each_after_comma [] = []
 each_after_comma (w ∷ ws) = (codes "," ++ w) ++ each_after_comma ws
 
 -- joined by commas, and `-` for none
-abbrev pub listed : List Bytes → Bytes
-listed [] = codes "-"
-listed (w ∷ ws) = w ++ each_after_comma ws
+abbrev pub comma_list : List Bytes → Bytes
+comma_list [] = codes "-"
+comma_list (w ∷ ws) = w ++ each_after_comma ws
 
 -- number, name, kind and definition
 abbrev pub vertex_head : ℕ → Vertex → Bytes
@@ -44,7 +54,10 @@ vertex_head v x = decimal v ++ (codes " " ++ (x.name ++ (codes " " ++ (kind_word
 
 -- guards, inputs, lengths of outputs
 abbrev pub vertex_lists : Vertex → Bytes
-vertex_lists x = codes " " ++ (listed (map guard_text x.guards) ++ (codes " " ++ (listed (map source_text x.ins) ++ (codes " " ++ listed (map decimal x.outs)))))
+vertex_lists x =
+    codes " " ++ (comma_list (map guard_text x.guards) ++
+    (codes " " ++ (comma_list (map source_text x.ins) ++
+    (codes " " ++ comma_list (map decimal x.outs)))))
 
 -- the line of operation v
 abbrev pub vertex_line : ℕ → Vertex → Bytes

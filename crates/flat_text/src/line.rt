@@ -1,4 +1,4 @@
-//! The line of an operation.
+//! The line of an operation. `listing` calls it for each.
 ghost use Rattle.std.specs.Prelude.{◌≡◌, ◌++◌, OnOk};
 ghost use Rattle.flat_text.specs.Listing.{kind_word, vertex_head, vertex_line, vertex_lists};
 
@@ -7,6 +7,7 @@ use flat_graph::{Kind, Vertex};
 use grown_text::{append, append_count};
 use syn_base::OutOfMemory;
 
+/// The word that stands for this kind in a listing.
 fn word_of(kind: &Kind) -> &'static [u8]
     ensures { result.now ≡ kind_word kind.now }
 {

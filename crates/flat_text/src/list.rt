@@ -1,7 +1,7 @@
-//! Lists in a line, joined by commas.
+//! The lists in a line, joined by commas. `line` calls it.
 ghost use Rattle.std.specs.Prelude.{◌≡◌, ◌++◌, ℕ, List, OnOk, map};
 ghost use Rattle.std.specs.Fmt.{decimal};
-ghost use Rattle.flat_text.specs.Listing.{each_after_comma, guard_text, listed, source_text};
+ghost use Rattle.flat_text.specs.Listing.{comma_list, each_after_comma, guard_text, source_text};
 
 use flat_graph::{Guard, Source};
 use grown_text::{append, append_count};
@@ -47,7 +47,7 @@ impl Entry for u32 {
 
 /// Appends the entries, joined by commas, or `-` where there is none.
 pub fn append_list<T: Entry>(out: &mut Vec<u8>, entries: &[T]) -> Result<(), OutOfMemory>
-    ensures { OnOk result (out.new.items ≡ out.old.items ++ listed (map T.shown entries.now)) }
+    ensures { OnOk result (out.new.items ≡ out.old.items ++ comma_list (map T.shown entries.now)) }
 {
     match entries.split_first() {
         None => append(out, b"-"),

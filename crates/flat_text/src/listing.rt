@@ -1,4 +1,4 @@
-//! The whole listing.
+//! The listing, line by line. `syndex_program` calls it.
 ghost use Rattle.std.specs.Prelude.{◌≡◌, ◌++◌, OnOk, OnErr};
 ghost use Rattle.flat_text.specs.Listing.{lines_from, listing};
 

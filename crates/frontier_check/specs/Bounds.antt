@@ -5,14 +5,14 @@ use Rattle.algo_defs.specs.declared.definition.Body.{Body}
 use Rattle.algo_defs.specs.declared.definition.Body.TheVariants.{Constant, Delay, Repeat}
 use Rattle.algo_rules.specs.declared.ports.Ports.{Ports}
 
--- at most 64 elements in each port
+-- At most 64 elements in each port.
 abbrev pub AreShort : List Port → Type 0
 AreShort ps = All (λ p. p.len ≤ 64) ps
 
 abbrev pub HasShortPorts : Ports → Type 0
 HasShortPorts p = AreShort p.ins × AreShort p.outs
 
--- at most 64 values, in each group of a delay too, and at most 64 copies of a definition with such ports
+-- At most 64 values, in each group of a delay too, and at most 64 copies of a definition with such ports.
 abbrev pub IsBounded : Ports → Body → Type 0
 IsBounded inner (Constant values) = length values ≤ 64
 IsBounded inner (Delay depth values) = (1 ≤ depth) × (length values / depth ≤ 64)

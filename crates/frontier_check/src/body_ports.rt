@@ -33,7 +33,7 @@ pub fn ports_of_body(alloc: Global, body: &Body, inner: &Ports) -> Result<Ports,
     }
 }
 
-/// These inputs and outputs.
+/// The ports with these inputs and outputs.
 fn both(ins: Vec<Port>, outs: Vec<Port>) -> Ports
     ensures { result ≡ record { ins = ins.items; outs = outs.items } }
 {
@@ -126,6 +126,7 @@ fn one_port(alloc: Global, name: &[u8], len: u32) -> Result<Vec<Port>, OutOfMemo
     Ok(ports)
 }
 
+/// A copy of a port.
 fn copy_port(alloc: Global, port: &Port) -> Result<Port, OutOfMemory>
     ensures { IfOk result (λ p. p ≡ port.now) }
 {
@@ -135,6 +136,7 @@ fn copy_port(alloc: Global, port: &Port) -> Result<Port, OutOfMemory>
     })
 }
 
+/// A copy of each of these ports, in order.
 fn copy_ports(alloc: Global, ports: &[Port]) -> Result<Vec<Port>, OutOfMemory>
     ensures { IfOk result (λ v. v.items ≡ ports.now) }
 {

@@ -1,4 +1,4 @@
-//! The refusals of the checks. None of them takes memory.
+//! The refusals of the checks of frontier lines and cases. None of them takes memory.
 ghost use Rattle.std.specs.Prelude.{◌≡◌, Some};
 ghost use Rattle.algo_rules.specs.Frontiers.{too_long};
 ghost use Rattle.algo_rules.specs.Links.{fault};
@@ -14,7 +14,7 @@ pub fn refusal(line: u32, cause: AlgoCause) -> AlgoError
     AlgoError::Refused(AlgoFault { line, cause })
 }
 
-/// A port may have 64 elements.
+/// The limit, with the length, where a port would have more than 64 elements.
 pub fn check_len(len: u32) -> Result<(), AlgoError>
     ensures { Checks result (too_long len) }
 {

@@ -1,4 +1,5 @@
-//! The checks of repetitions and switches, and the ports of a definition.
+//! Checks a repetition or a switch by itself, against the ports of the definitions that it names, and finds the ports
+//! of a definition from those of its body. `algo_check` calls it for each definition, by depth.
 #![tactic(auto)]
 
 mod body_ports;

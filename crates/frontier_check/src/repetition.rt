@@ -38,7 +38,7 @@ pub fn check_repeat(
     Ok(())
 }
 
-/// A line after others.
+/// Checks a line after others.
 fn check_line(
     copies: u32,
     inner: &Ports,
@@ -105,7 +105,7 @@ fn open_len(ins: &[Port], before: &[FrontierLine], name: &Name) -> Option<u32>
     }
 }
 
-/// A line uses this inner input.
+/// Whether one of these lines uses this inner input.
 fn is_used(lines: &[FrontierLine], name: &Name) -> bool
     ensures { result ≡ is_among name.now (all_used lines.now) }
 {
@@ -117,6 +117,7 @@ fn is_used(lines: &[FrontierLine], name: &Name) -> bool
     false
 }
 
+/// Whether a line uses this inner input.
 fn uses(frontier: &Frontier, name: &Name) -> bool
     ensures { result ≡ is_among name.now (used_by frontier.now) }
 {
@@ -128,7 +129,7 @@ fn uses(frontier: &Frontier, name: &Name) -> bool
     }
 }
 
-/// Each inner input stands in a line.
+/// Whether each inner input stands in one of these lines.
 fn are_used(ins: &[Port], lines: &[FrontierLine]) -> bool
     ensures { result ≡ list_all (λ p. is_among p.name (all_used lines.now)) ins.now }
 {

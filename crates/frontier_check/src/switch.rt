@@ -39,6 +39,7 @@ pub fn check_switch(
     Ok(())
 }
 
+/// The ports at a place of the table.
 fn ports_at(table: &[Ports], place: u32) -> &Ports
     requires { place < length table.now }
     ensures { result.now ≡ slice_index_or table.now place no_ports }
@@ -46,7 +47,7 @@ fn ports_at(table: &[Ports], place: u32) -> &Ports
     &table[place as usize]
 }
 
-/// A case after others, of a definition with these ports.
+/// Checks a case after others, of a definition with these ports.
 pub fn check_case(
     ins: &[Port],
     outs: &[Port],
@@ -62,7 +63,7 @@ pub fn check_case(
     Ok(())
 }
 
-/// A case has this value.
+/// Whether one of these cases has this value.
 fn has_value(cases: &[Case], value: i64) -> bool
     ensures { result ≡ has_value (map (λ c. c.value) cases.now) value }
 {
@@ -74,14 +75,14 @@ fn has_value(cases: &[Case], value: i64) -> bool
     false
 }
 
-/// A definition has these ports.
+/// Whether a definition with these ports has the inputs and outputs of the switch.
 fn fits(ins: &[Port], outs: &[Port], ports: &Ports) -> bool
     ensures { result ≡ fits ins.now outs.now ports.now }
 {
     same_ports(ports.ins.as_slice(), ins) && same_ports(ports.outs.as_slice(), outs)
 }
 
-/// The same names and lengths in the same order.
+/// Whether ports have the same names and lengths in the same order.
 #[tactic(auto, using(crate::proofs::Same::other_lengths))]
 fn same_ports(ports: &[Port], others: &[Port]) -> bool
     ensures { result ≡ same_ports ports.now others.now }
@@ -97,6 +98,7 @@ fn same_ports(ports: &[Port], others: &[Port]) -> bool
     true
 }
 
+/// Whether two ports have the same name and length.
 fn same_port(port: &Port, other: &Port) -> bool
     ensures { result ≡ (bytes_eq port.now.name other.now.name && (port.now.len == other.now.len)) }
 {

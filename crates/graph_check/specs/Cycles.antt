@@ -3,7 +3,7 @@ use Rattle.std.specs.Prelude.{Bool, List, [], ◌∷◌, if◌then◌else◌}
 use Rattle.syn_base.specs.Bytes.{Bytes}
 use Rattle.algo_defs.specs.declared.definition.Reference.{Reference}
 
--- the names of those that are flagged, in order
+-- The names of those that are flagged, in order.
 abbrev pub flagged : List Bool → List Reference → List Bytes
 flagged fs [] = []
 flagged [] (r ∷ rs) = []

@@ -1,5 +1,25 @@
 -- Marks of the ends into which edges lead: a row of 65 for each reference, and one for the graph itself.
-use Rattle.std.specs.Prelude.{ℕ, ◌≡◌, ◌≤◌, ◌+◌, ◌*◌, Bool, true, false, nat_lt, List, length, Option, Some, None, if◌then◌else◌, slice_index_or, slice_set, not, ◌==◌}
+use Rattle.std.specs.Prelude.{
+  ℕ,
+  ◌≡◌,
+  ◌≤◌,
+  ◌+◌,
+  ◌*◌,
+  Bool,
+  true,
+  false,
+  nat_lt,
+  List,
+  length,
+  Option,
+  Some,
+  None,
+  if◌then◌else◌,
+  slice_index_or,
+  slice_set,
+  not,
+  ◌==◌,
+}
 use Rattle.std.specs.List.{All}
 use Rattle.body_lang.specs.declared.expression.Port.{Port}
 use Rattle.syn_base.specs.Bytes.{Bytes}
@@ -12,11 +32,11 @@ use Rattle.algo_rules.specs.Graphs.{place, is_connected, written}
 use Rattle.graph_check.specs.Parts.{named}
 use Rattle.graph_check.specs.declared.parts.GraphParts.{GraphParts}
 
--- the place of a port in a row
+-- The place of a port in a row.
 abbrev pub spot_in : ℕ → List Port → Bytes → Option ℕ
 spot_in row ps w = if nat_lt (number_of ps w) (length ps) then Some (row * 65 + number_of ps w) else None
 
--- the place of the mark of an end, if the end is there
+-- The place of the mark of an end, if the end is there.
 abbrev pub spot : GraphParts → Option Bytes → Bytes → Option ℕ
 spot g None w = spot_in (length g.references.now) g.outs.now w
 spot g (Some r) w = spot_in (place g.references.now r) (named g r).ins w
@@ -25,16 +45,18 @@ abbrev pub marked : List Bool → Option ℕ → Bool
 marked marks None = false
 marked marks (Some at) = slice_index_or marks at false
 
--- the marks with one more
+-- The marks with one more.
 abbrev pub mark_at : List Bool → Option ℕ → List Bool
 mark_at marks None = marks
 mark_at marks (Some at) = slice_set marks at true
 
--- exactly the ends are marked into which these edges lead
+-- Exactly the ends are marked into which these edges lead.
 abbrev pub AreMarked : GraphParts → List Bool → List Edge → Type 0
-AreMarked g marks edges = (owner : Option Bytes) (port : Bytes) → marked marks (spot g owner port) ≡ is_connected edges (record { owner = owner; port = port })
+AreMarked g marks edges =
+    (owner : Option Bytes) (port : Bytes) →
+    marked marks (spot g owner port) ≡ is_connected edges (record { owner = owner; port = port })
 
--- every row is long enough
+-- Every row is long enough.
 pub record HasRows (g : GraphParts) : Type 0 where
   pub outs : length g.outs.now ≤ 65
   pub ins : All (λ p. length (slice_index_or g.table.now p no_ports).ins ≤ 65) g.places.now

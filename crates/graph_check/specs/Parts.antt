@@ -14,7 +14,7 @@ of g = ports_of g.defs.now
 abbrev pub own : GraphParts → Ports
 own g = record { ins = g.ins.now; outs = g.outs.now }
 
--- the ports of a reference
+-- The ports of a reference.
 abbrev pub named : GraphParts → Bytes → Ports
 named g w = graphs.ports_at (of g) g.references.now w
 
@@ -24,6 +24,6 @@ givers g owner = graphs.givers (of g) (own g) g.references.now owner
 abbrev pub takers : GraphParts → Option Bytes → List Port
 takers g owner = graphs.takers (of g) (own g) g.references.now owner
 
--- the definitions of the references stand at their places
+-- The definitions of the references stand at their places.
 abbrev pub IsPlacedGraph : GraphParts → Type 0
 IsPlacedGraph g = ArePlaced g.defs.now g.table.now (map (λ r. r.def) g.references.now) g.places.now

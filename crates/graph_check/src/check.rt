@@ -1,4 +1,4 @@
-//! The check of a graph.
+//! The whole check of a graph, which `algo_check` calls for each.
 ghost use Rattle.std.specs.Prelude.{◌≤◌, length, map, slice_index_or};
 ghost use Rattle.std.specs.List.{All};
 ghost use Rattle.algo_rules.specs.Graphs.{graph_fault};
@@ -15,7 +15,7 @@ use std::alloc::Global;
 
 /// Whether the edges of a graph join what they may, each input has one, and no reference depends on itself.
 /// The definition of the k-th reference stands at the k-th place, with its ports in the table at that place.
-/// The first refusal is told; want of memory may come in place of any answer.
+/// It returns the first refusal; want of memory may come in place of any result.
 pub fn check_graph(
     alloc: Global,
     line: u32,

@@ -1,4 +1,4 @@
-//! References that depend on themselves.
+//! The check that no reference depends on itself, the last of a graph's.
 ghost use Rattle.std.specs.Prelude.{◌≡◌, ◌≤◌, ◌<◌, ◌++◌, ◌&&◌, IfOk, Some, None, length, map};
 ghost use Rattle.std.specs.List.{list_any};
 ghost use Rattle.std.specs.Str.{bytes_eq};
@@ -17,6 +17,7 @@ use reference_graph::reaching;
 use std::alloc::Global;
 use syn_base::{Items, Name, OutOfMemory};
 
+/// Whether a definition is a delay.
 fn is_delay(def: &Def) -> bool
     ensures { result ≡ is_delay (Some def.now) }
 {
@@ -147,12 +148,13 @@ impl<'a> GraphParts<'a> {
         flagged(alloc, flags.as_slice(), self.references)
     }
 
-    /// Whether no reference depends on itself.
+    /// Checks that no reference depends on itself.
     pub fn check_cycles(&self, alloc: Global) -> Result<(), AlgoError>
         requires placed { IsPlacedGraph self.now }
         requires few { length self.now.references.now ≤ 64 }
         requires inside { AreInside (dependences self.now.defs.now self.now.references.now self.now.edges.now) }
-        ensures { Checks result (cycle_fault self.now.defs.now self.now.references.now self.now.line self.now.edges.now) }
+        ensures { Checks result
+            (cycle_fault self.now.defs.now self.now.references.now self.now.line self.now.edges.now) }
     {
         match self.cycle_names(alloc) {
             Ok(names) => {

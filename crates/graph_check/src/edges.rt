@@ -1,4 +1,4 @@
-//! The edges of a graph in order.
+//! The check of the edges in order, the first of a graph's.
 ghost use Rattle.std.specs.Prelude.{◌≡◌, ◌≤◌, ◌+◌, ◌*◌, IfOk, length, []};
 ghost use Rattle.algo_rules.specs.Graphs.{edge_faults, port_len};
 ghost use Rattle.algo_rules.specs.Links.{first_of};
@@ -13,7 +13,7 @@ use algo_defs::{AlgoError, Edge};
 use std::alloc::Global;
 
 impl<'a> GraphParts<'a> {
-    /// Whether an edge joins two ports of one length, into an end that no edge before has.
+    /// Checks that an edge joins two ports of one length, into an end that no edge before has.
     fn check_edge(&self, alloc: Global, edge: &Edge, is_twice: bool) -> Result<(), AlgoError>
         requires { IsPlacedGraph self.now }
         ensures { Checks result (edge_by is_twice edge.now

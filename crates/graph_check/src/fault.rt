@@ -1,4 +1,4 @@
-//! The refusals of a graph.
+//! The refusals of a graph, each with the end or the names that it tells, or want of memory for them.
 ghost use Rattle.std.specs.Prelude.{◌≡◌, ◌++◌, ◌∷◌, IfOk};
 ghost use Rattle.algo_defs.specs.declared.fault.AlgoCause.TheVariants.{UnknownName, WrongLength, TwiceConnected, Unconnected, Cycle};
 ghost use Rattle.algo_rules.specs.Links.{fault};
@@ -9,12 +9,14 @@ use algo_defs::{AlgoCause, AlgoError, AlgoFault, End};
 use std::alloc::Global;
 use syn_base::{Items, Name, OutOfMemory};
 
+/// The refusal of a line for this cause.
 fn refusal(line: u32, cause: AlgoCause) -> AlgoError
     ensures { Stops result (fault line cause) }
 {
     AlgoError::Refused(AlgoFault { line, cause })
 }
 
+/// An end as it is written: its owner, a dot and its port.
 fn joined(alloc: Global, owner: &[u8], port: &[u8]) -> Result<Items<u8>, OutOfMemory>
     ensures { IfOk result (λ w. w ≡ owner.now ++ 46 ∷ port.now) }
 {
@@ -34,7 +36,7 @@ fn written(alloc: Global, end: &End) -> Result<Items<u8>, OutOfMemory>
     }
 }
 
-/// An end of an edge that is not there.
+/// The refusal of an end of an edge that is not there.
 pub fn unknown(alloc: Global, line: u32, end: &End) -> AlgoError
     ensures { Stops result (fault line (UnknownName (written end.now))) }
 {
@@ -44,7 +46,7 @@ pub fn unknown(alloc: Global, line: u32, end: &End) -> AlgoError
     }
 }
 
-/// The target of an edge between unequal lengths.
+/// The refusal of an edge between unequal lengths, which tells its target.
 pub fn wrong_length(alloc: Global, line: u32, end: &End) -> AlgoError
     ensures { Stops result (fault line (WrongLength (written end.now))) }
 {
@@ -54,7 +56,7 @@ pub fn wrong_length(alloc: Global, line: u32, end: &End) -> AlgoError
     }
 }
 
-/// The target of a second edge.
+/// The refusal of a second edge into its target.
 pub fn twice(alloc: Global, line: u32, end: &End) -> AlgoError
     ensures { Stops result (fault line (TwiceConnected (written end.now))) }
 {
@@ -64,7 +66,7 @@ pub fn twice(alloc: Global, line: u32, end: &End) -> AlgoError
     }
 }
 
-/// An input of a reference into which no edge leads.
+/// The refusal of an input of a reference into which no edge leads.
 pub fn open_input(alloc: Global, line: u32, owner: &[u8], port: &[u8]) -> AlgoError
     ensures { Stops result (fault line (Unconnected (owner.now ++ 46 ∷ port.now))) }
 {
@@ -74,7 +76,7 @@ pub fn open_input(alloc: Global, line: u32, owner: &[u8], port: &[u8]) -> AlgoEr
     }
 }
 
-/// An output of the graph into which no edge leads.
+/// The refusal of an output of the graph into which no edge leads.
 pub fn open_output(alloc: Global, line: u32, port: &[u8]) -> AlgoError
     ensures { Stops result (fault line (Unconnected port.now)) }
 {
@@ -84,7 +86,7 @@ pub fn open_output(alloc: Global, line: u32, port: &[u8]) -> AlgoError
     }
 }
 
-/// The references that depend on themselves.
+/// The refusal of the references that depend on themselves.
 pub fn cycle(line: u32, names: Vec<Name>) -> AlgoError
     ensures { Stops result (fault line (Cycle names.items)) }
 {

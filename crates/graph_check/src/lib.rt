@@ -1,5 +1,5 @@
-//! Checks of a graph: whether its edges join what they may, each input has one, and no reference depends
-//! on itself. `find_reference` and `find_port` find what a name means in it.
+//! Checks a graph by itself: whether its edges join what they may, each input has one, and no reference depends on
+//! itself. `algo_check` calls `check_graph`; `find_reference` and `find_port` find what a name means in a graph.
 #![tactic(auto)]
 
 mod check;

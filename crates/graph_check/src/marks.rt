@@ -1,4 +1,4 @@
-//! Marks of the ends into which edges lead.
+//! The marks of the ends into which edges lead, which the checks of a graph share.
 ghost use Rattle.std.specs.Prelude.{◌≡◌, ◌≤◌, ◌*◌, ◌+◌, IfOk, length, replicate, false, Some, None};
 ghost use Rattle.graph_check.specs.Marks.{mark_at, marked, spot, spot_in};
 ghost use Rattle.graph_check.specs.Parts.{IsPlacedGraph};
@@ -40,6 +40,7 @@ pub fn mark(marks: &mut [bool], spot: Option<usize>)
     }
 }
 
+/// Where the mark of the port of a name stands, which is one of the ports of this row.
 fn spot_in(row: usize, ports: &[Port], name: &[u8]) -> Option<usize>
     requires { row ≤ 64 }
     ensures { result ≡ spot_in row ports.now name.now }
@@ -53,7 +54,7 @@ fn spot_in(row: usize, ports: &[Port], name: &[u8]) -> Option<usize>
 }
 
 impl<'a> GraphParts<'a> {
-    /// No marks yet: a row for each reference, and one for the graph itself.
+    /// The marks before any edge: a row for each reference, and one for the graph itself.
     pub fn no_marks(&self, alloc: Global) -> Result<Vec<bool>, OutOfMemory>
         requires { length self.now.references.now ≤ 64 }
         ensures { IfOk result (λ marks. marks.items ≡ replicate ((length self.now.references.now + 1) * 65) false) }

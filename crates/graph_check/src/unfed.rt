@@ -1,4 +1,4 @@
-//! Ends of a graph into which no edge leads.
+//! The check that an edge leads into each input, the second of a graph's.
 ghost use Rattle.std.specs.Prelude.{◌≤◌, length, Some, None};
 ghost use Rattle.algo_rules.specs.Graphs.{open_fault, open_faults};
 ghost use Rattle.algo_rules.specs.Links.{first_of};
@@ -14,7 +14,7 @@ use body_lang::Port;
 use std::alloc::Global;
 
 impl<'a> GraphParts<'a> {
-    /// Whether an edge leads into each of these inputs of a reference.
+    /// Checks that an edge leads into each of these inputs of a reference.
     fn check_inputs(
         &self,
         alloc: Global,
@@ -37,7 +37,7 @@ impl<'a> GraphParts<'a> {
         Ok(())
     }
 
-    /// Whether an edge leads into each of these outputs of the graph.
+    /// Checks that an edge leads into each of these outputs of the graph.
     fn check_outputs(&self, alloc: Global, outs: &[Port], marks: &[bool]) -> Result<(), AlgoError>
         requires few { length self.now.references.now ≤ 64 }
         requires marked { AreMarked self.now marks.now self.now.edges.now }
@@ -52,7 +52,7 @@ impl<'a> GraphParts<'a> {
         Ok(())
     }
 
-    /// Whether an edge leads into each input of the references in order, and then into each output of the
+    /// Checks that an edge leads into each input of the references in order, and then into each output of the
     /// graph.
     pub fn check_unfed(&self, alloc: Global, marks: &[bool]) -> Result<(), AlgoError>
         requires placed { IsPlacedGraph self.now }

@@ -1,6 +1,23 @@
--- The flat list of operations, and what it means: the meaning of one level, whose nodes are the operations. A delay is a chain of
--- stages, one for each active reaction that it looks back; each stage has its cell, by the path of the delay and its number in it.
-use Rattle.std.specs.Prelude.{ℕ, zero, suc, List, [], ◌∷◌, ◌++◌, map, Bool, true, false, ◌&&◌, ◌==◌, if◌then◌else◌, slice_index_or}
+-- The flat list of operations, and what it means: the meaning of one level, whose nodes are the operations. A delay
+-- is a chain of stages, one for each active reaction that it looks back; each stage has its cell, by the path of the
+-- delay and its number in it.
+use Rattle.std.specs.Prelude.{
+  ℕ,
+  zero,
+  suc,
+  List,
+  [],
+  ◌∷◌,
+  ◌++◌,
+  map,
+  Bool,
+  true,
+  false,
+  ◌&&◌,
+  ◌==◌,
+  if◌then◌else◌,
+  slice_index_or,
+}
 use Rattle.level_meaning.specs.declared.source.Source.{Source}
 use Rattle.level_meaning.specs.declared.source.Guard.{Guard}
 use Rattle.level_meaning.specs.declared.part.Part.TheVariants.{Numbered}
@@ -8,14 +25,16 @@ use Rattle.level_meaning.specs.Level.{Vector, Values, Path, State, Node, same_pa
 use Rattle.algo_tree.specs.Tree.{Kind, actuator}
 use Rattle.algo_tree.specs.Meaning.{kind_outputs, input_value}
 
--- What an operation does: what a vertex of this kind does, or it gives the value of a stage of a delay, or takes its next one.
+-- What an operation does: what a vertex of this kind does, or it gives the value of a stage of a delay, or takes its
+-- next one.
 pub data Task : Type 0 where
   runs : Kind → Task
   gets : Vector → Task
   sets : Task
 
--- An operation: the path and the definition of its vertex, the number of its stage where that is a delay (0 for any other), its inputs, its guards (outer first) and the lengths of its outputs.
--- Each source is an output of an operation, whose number is its place in the list. One that leads nowhere is `Own 0`.
+-- An operation: the path and the definition of its vertex, the number of its stage where that is a delay (0 for any
+-- other), its inputs, its guards (outer first) and the lengths of its outputs. Each source is an output of an
+-- operation, whose number is its place in the list. One that leads nowhere is `Own 0`.
 pub record Operation : Type 0 where
   pub path : Path
   pub stage : ℕ
@@ -51,7 +70,11 @@ node_of cells op = record {
   asked = op.ins;
   guards = op.guards;
   outs = op.outs;
-  does = record { outputs = λ row st ins. task_outputs op.task op.outs (cells op.path op.stage) row ins; next = λ row st ins. st; initial = no_state };
+  does = record {
+    outputs = λ row st ins. task_outputs op.task op.outs (cells op.path op.stage) row ins;
+    next = λ row st ins. st;
+    initial = no_state;
+  };
 }
 
 abbrev pub flat_level : Stages → List Operation → List Node
@@ -74,7 +97,8 @@ is_cell op q i = same_path op.path q && (op.stage == i)
 -- for each stage what the first operation there of this sort tells, or else what stands there in `other`
 abbrev pub pick : (Task → Bool) → (Operation → Vector) → Stages → List Operation → Stages
 pick test value other [] q i = other q i
-pick test value other (op ∷ ops) q i = if test op.task && is_cell op q i then value op else pick test value other ops q i
+pick test value other (op ∷ ops) q i =
+    if test op.task && is_cell op q i then value op else pick test value other ops q i
 
 abbrev pub is_set : Task → Bool
 is_set (runs k) = false
@@ -106,7 +130,8 @@ first_cells ops = pick is_get (λ op. initial_value op.task) (stages_of no_state
 -- the cells after k reactions over these rows of the sensors
 abbrev pub flat_past : List Operation → List Values → ℕ → Stages
 flat_past ops rows zero = first_cells ops
-flat_past ops rows (suc k) = next_cells (flat_value ops (slice_index_or rows k []) (flat_past ops rows k)) (flat_past ops rows k) ops
+flat_past ops rows (suc k) =
+    next_cells (flat_value ops (slice_index_or rows k []) (flat_past ops rows k)) (flat_past ops rows k) ops
 
 -- what an actuator takes
 abbrev pub taken : (Source → Vector) → Operation → Task → Values

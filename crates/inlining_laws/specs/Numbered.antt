@@ -1,6 +1,22 @@
--- The flat meaning with cells by number: the cell of each stage of a delay is told by the number of its get half, and its set half
--- is the next operation. No path is looked up.
-use Rattle.std.specs.Prelude.{◌≡◌, ℕ, zero, suc, List, [], ◌∷◌, map, if◌then◌else◌, slice_index_or, slice_get, Option, Some, None, true}
+-- The flat meaning with cells by number: the cell of each stage of a delay is told by the number of its get half, and
+-- its set half is the next operation. No path is looked up.
+use Rattle.std.specs.Prelude.{
+  ◌≡◌,
+  ℕ,
+  zero,
+  suc,
+  List,
+  [],
+  ◌∷◌,
+  map,
+  if◌then◌else◌,
+  slice_index_or,
+  slice_get,
+  Option,
+  Some,
+  None,
+  true,
+}
 use Rattle.level_meaning.specs.declared.source.Source.{Source}
 use Rattle.level_meaning.specs.declared.part.Part.TheVariants.{Numbered}
 use Rattle.level_meaning.specs.Level.{Vector, Values, Node, vector_at, all_hold, level_value}
@@ -18,7 +34,11 @@ numbered_node kept op = record {
   asked = op.ins;
   guards = op.guards;
   outs = op.outs;
-  does = record { outputs = λ row st ins. task_outputs op.task op.outs kept row ins; next = λ row st ins. st; initial = no_state };
+  does = record {
+    outputs = λ row st ins. task_outputs op.task op.outs kept row ins;
+    next = λ row st ins. st;
+    initial = no_state;
+  };
 }
 
 -- operations that are numbered from v on
@@ -46,9 +66,15 @@ numbered_first ops v = with_operation (slice_get ops v) [] (λ op. initial_value
 -- the cells after k reactions over these rows of the sensors
 abbrev pub numbered_past : List Operation → List Values → ℕ → Cells
 numbered_past ops rows zero = numbered_first ops
-numbered_past ops rows (suc k) = numbered_next (numbered_value ops (slice_index_or rows k []) (numbered_past ops rows k)) (numbered_past ops rows k) ops
+numbered_past ops rows (suc k) =
+    numbered_next (numbered_value ops (slice_index_or rows k []) (numbered_past ops rows k))
+    (numbered_past ops rows k) ops
 
 -- The cell of each get half is that of its path and stage, and each source has the same value.
 pub record SameCells (ops : List Operation) : Type 0 where
-  pub cells : (rows : List Values) (k v : ℕ) (op : Operation) → slice_get ops v ≡ Some op → is_get op.task ≡ true → numbered_past ops rows k v ≡ flat_past ops rows k op.path op.stage
-  pub values : (rows : List Values) (k : ℕ) (s : Source) → numbered_value ops (slice_index_or rows k []) (numbered_past ops rows k) s ≡ flat_value ops (slice_index_or rows k []) (flat_past ops rows k) s
+  pub cells : (rows : List Values) (k v : ℕ) (op : Operation) →
+      slice_get ops v ≡ Some op → is_get op.task ≡ true →
+      numbered_past ops rows k v ≡ flat_past ops rows k op.path op.stage
+  pub values : (rows : List Values) (k : ℕ) (s : Source) →
+      numbered_value ops (slice_index_or rows k []) (numbered_past ops rows k) s ≡
+      flat_value ops (slice_index_or rows k []) (flat_past ops rows k) s

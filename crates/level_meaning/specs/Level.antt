@@ -1,5 +1,34 @@
 -- What one level does in a reaction, from what its nodes do.
-use Rattle.std.specs.Prelude.{ℕ, zero, suc, ◌*◌, ◌-◌, ℤ, pos, List, [], ◌∷◌, ◌++◌, map, length, take, drop, Bool, true, false, ◌&&◌, ◌==◌, nat_lt, if◌then◌else◌, replicate, slice_index_or, Option, Some, None, slice_get}
+use Rattle.std.specs.Prelude.{
+  ℕ,
+  zero,
+  suc,
+  ◌*◌,
+  ◌-◌,
+  ℤ,
+  pos,
+  List,
+  [],
+  ◌∷◌,
+  ◌++◌,
+  map,
+  length,
+  take,
+  drop,
+  Bool,
+  true,
+  false,
+  ◌&&◌,
+  ◌==◌,
+  nat_lt,
+  if◌then◌else◌,
+  replicate,
+  slice_index_or,
+  Option,
+  Some,
+  None,
+  slice_get,
+}
 use Rattle.std.specs.Str.{bytes_eq}
 use Rattle.std.specs.Ordering.{int_eq}
 use Rattle.level_meaning.specs.declared.source.Source.{Source}
@@ -12,26 +41,27 @@ use Rattle.level_meaning.specs.declared.frontier.Feed.TheVariants.{Fork, Diffuse
 use Rattle.level_meaning.specs.declared.frontier.Give.{Give}
 use Rattle.level_meaning.specs.declared.frontier.Give.TheVariants.{Last, Join}
 
--- a value of the algorithm
+-- A value of the algorithm.
 abbrev pub Vector : Type 0
 Vector = List ℤ
 
--- the values at several ports, in order
+-- The values at several ports, in order.
 abbrev pub Values : Type 0
 Values = List (List ℤ)
 
--- the parts of the units around a vertex and its own, outer first
+-- The parts of the units around a vertex and its own, outer first.
 abbrev pub Path : Type 0
 Path = List Part
 
--- the kept values of each delay, the next to be given first, by its path below the node that is spoken of
+-- The kept values of each delay, the next to be given first, by its path below the node that is spoken of.
 abbrev pub State : Type 0
 State = Path → List Vector
 
--- what a level keeps below one part
+-- What a level keeps below one part.
 abbrev pub below : Part → State → State
 below p st = λ q. st (p ∷ q)
 
+-- Two parts are the same.
 abbrev pub same_part : Part → Part → Bool
 same_part (Named x) (Named y) = bytes_eq x y
 same_part (Named x) (Numbered n) = false
@@ -43,23 +73,25 @@ same_part (Port x) (Named y) = false
 same_part (Port x) (Numbered n) = false
 same_part (Port x) (Port y) = bytes_eq x y
 
--- vector k, empty past the end
+-- The vector of number k, empty past the end.
 abbrev pub vector_at : Values → ℕ → Vector
 vector_at vs k = slice_index_or vs k []
 
--- element j, 0 outside the length
+-- The element of number j, 0 outside the vector.
 abbrev pub element_at : Vector → ℕ → ℤ
 element_at v j = slice_index_or v j (pos 0)
 
+-- A vector of this length, all zeros.
 abbrev pub zeros : ℕ → Vector
 zeros n = replicate n (pos 0)
 
+-- The numbers below n, in order.
 abbrev pub numbers_below : ℕ → List ℕ
 numbers_below zero = []
 numbers_below (suc n) = numbers_below n ++ n ∷ []
 
--- What a node does in a reaction, from this row of the sensors, the kept values below it and its inputs:
--- its outputs, and what is kept next. And what its delays keep at the start.
+-- What a node does in a reaction, from this row of the sensors, the kept values below it and its inputs: its outputs,
+-- and what is kept next. Beside these, what its delays keep at the start.
 pub record Behaviour : Type 0 where
   pub outputs : Values → State → Values → Values
   pub next : Values → State → Values → State
@@ -75,157 +107,169 @@ pub record Node : Type 0 where
   pub outs : List ℕ
   pub does : Behaviour
 
+-- What is said of a node, where there is one.
 abbrev pub with_node : {A : Type 0} → Option Node → A → (Node → A) → A
 with_node None a f = a
 with_node (Some c) a f = f c
 
--- the number of the first case with the value of v, or the number of cases
+-- The number of the first case with the value of v, or the number of cases.
 abbrev pub selected : List ℤ → Vector → ℕ
 selected [] v = 0
 selected (x ∷ xs) v = if int_eq x (element_at v 0) then 0 else suc (selected xs v)
 
--- the value of a source, from the level's own inputs and what its nodes give
+-- The value of a source, from the level's own inputs and what its nodes give.
 abbrev pub source_value : Values → (ℕ → Values) → Source → Vector
 source_value ins given (Own k) = vector_at ins k
 source_value ins given (Of r p) = vector_at (given r) p
 
--- each guard's source selects its case
+-- Each guard's source selects its case.
 abbrev pub all_hold : (Source → Vector) → List Guard → Bool
 all_hold look [] = true
 all_hold look (g ∷ gs) = (selected g.values (look g.source) == g.case) && all_hold look gs
 
--- the outputs of a node, by what is kept below it: zeros where a guard does not hold
+-- The outputs of a node, by what is kept below it: zeros where a guard does not hold.
 abbrev pub node_outputs : Values → State → (Source → Vector) → Node → Values
 node_outputs row st look c =
     if all_hold look c.guards then c.does.outputs row st (map look c.asked) else map zeros c.outs
 
--- what is kept next below a node: the same where a guard does not hold
+-- What is kept next below a node: the same where a guard does not hold.
 abbrev pub node_next : Values → State → (Source → Vector) → Node → State
 node_next row st look c =
     if all_hold look c.guards then c.does.next row st (map look c.ins) else st
 
--- the outputs of node r of a level, with this much fuel
+-- The outputs of node r of a level, with this much fuel.
 abbrev pub out : List Node → Values → State → Values → ℕ → ℕ → Values
 out cs row st ins zero r = with_node (slice_get cs r) [] (λ c. map zeros c.outs)
 out cs row st ins (suc fuel) r =
-    with_node (slice_get cs r) [] (λ c. node_outputs row (below c.part st) (source_value ins (out cs row st ins fuel)) c)
+    with_node (slice_get cs r) [] (λ c.
+    node_outputs row (below c.part st) (source_value ins (out cs row st ins fuel)) c)
 
--- the value of a source of a level, with as much fuel as the level has nodes
+-- The value of a source of a level, with as much fuel as the level has nodes.
 abbrev pub level_value : List Node → Values → State → Values → Source → Vector
 level_value cs row st ins = source_value ins (out cs row st ins (length cs))
 
+-- The first node with this part.
 abbrev pub find_node : Part → List Node → Option Node
 find_node p [] = None
 find_node p (c ∷ cs) = if same_part c.part p then Some c else find_node p cs
 
--- a graph gives the values of the sources of its outputs
+-- A graph gives the values of the sources of its outputs.
 abbrev pub graph_outputs : List Source → List Node → Values → State → Values → Values
 graph_outputs outs cs row st ins = map (level_value cs row st ins) outs
 
--- a graph keeps what its nodes keep, each below its part
+-- A graph keeps what its nodes keep, each below its part.
 abbrev pub graph_next : List Node → Values → State → Values → State
 graph_next cs row st ins [] = st []
 graph_next cs row st ins (p ∷ q) =
     with_node (find_node p cs) (st (p ∷ q)) (λ c. node_next row (below c.part st) (level_value cs row st ins) c q)
 
+-- At the start a graph keeps what its nodes keep, each below its part.
 abbrev pub graph_initial : List Node → State
 graph_initial cs [] = []
 graph_initial cs (p ∷ q) = with_node (find_node p cs) [] (λ c. c.does.initial q)
 
--- the inputs of a case are inputs of the switch
+-- The inputs of a case are inputs of the switch.
 abbrev pub case_look : Values → Source → Vector
 case_look ins = source_value ins (λ _. [])
 
--- the case that the first input, the conditioning one, selects
+-- The case that the first input, the conditioning one, selects.
 abbrev pub selected_case : List ℤ → List Node → Values → Option Node
 selected_case values cs ins = slice_get cs (selected values (vector_at ins 0))
 
+-- The outputs of the selected case.
 abbrev pub case_outputs : List ℤ → List Node → Values → State → Values → Values
-case_outputs values cs row st ins = with_node (selected_case values cs ins) [] (λ c. node_outputs row (below c.part st) (case_look ins) c)
+case_outputs values cs row st ins =
+    with_node (selected_case values cs ins) [] (λ c. node_outputs row (below c.part st) (case_look ins) c)
 
--- a switch with m outputs gives those of the selected case alone
+-- A switch with m outputs gives those of the selected case alone.
 abbrev pub switch_outputs : List ℤ → ℕ → List Node → Values → State → Values → Values
 switch_outputs values m cs row st ins = map (vector_at (case_outputs values cs row st ins)) (numbers_below m)
 
--- in a switch only the selected case goes on
+-- In a switch only the selected case goes on.
 abbrev pub switch_next : List ℤ → List Node → Values → State → Values → State
 switch_next values cs row st ins [] = st []
 switch_next values cs row st ins (p ∷ q) =
     with_node (selected_case values cs ins) (st (p ∷ q)) (λ c.
     if same_part c.part p then node_next row (below c.part st) (case_look ins) c q else st (p ∷ q))
 
--- an input of copy i of a repetition, from the outer inputs and the outputs of the copy before
+-- An input of copy i of a repetition, from the outer inputs and the outputs of the copy before.
 abbrev pub copy_input : Values → Values → ℕ → Feed → Vector
 copy_input ins before i (Fork name k len) = take len (drop (i * len) (vector_at ins k))
 copy_input ins before i (Diffuse k) = vector_at ins k
 copy_input ins before i (Iterate k y) = if i == 0 then vector_at ins k else vector_at before y
 
--- the outputs of copy i of a body
+-- The outputs of copy i of a body.
 abbrev pub copy_outputs : List Feed → Behaviour → Values → State → Values → ℕ → Values
 copy_outputs feeds body row st ins zero = body.outputs row (below (Numbered 0) st) (map (copy_input ins [] 0) feeds)
 copy_outputs feeds body row st ins (suc i) =
-    body.outputs row (below (Numbered (suc i)) st) (map (copy_input ins (copy_outputs feeds body row st ins i) (suc i)) feeds)
+    body.outputs row (below (Numbered (suc i)) st)
+    (map (copy_input ins (copy_outputs feeds body row st ins i) (suc i)) feeds)
 
--- the outputs of the copy before copy i
+-- The outputs of the copy before copy i.
 abbrev pub copy_before : List Feed → Behaviour → Values → State → Values → ℕ → Values
 copy_before feeds body row st ins zero = []
 copy_before feeds body row st ins (suc i) = copy_outputs feeds body row st ins i
 
--- output y of the copies below n, one after another
+-- Output y of the copies below n, one after another.
 abbrev pub joined : (ℕ → Values) → ℕ → ℕ → Vector
 joined copy y zero = []
 joined copy y (suc i) = joined copy y i ++ vector_at (copy i) y
 
+-- An output of a repetition, from the outputs of its copies.
 abbrev pub give_value : (ℕ → Values) → ℕ → Give → Vector
 give_value copy n (Last y) = vector_at (copy (n - 1)) y
 give_value copy n (Join name y) = joined copy y n
 
--- what the one node of a level does
+-- What the one node of a level does.
 abbrev pub body_of : List Node → Behaviour
 body_of [] = record { outputs = λ _ _ _. []; next = λ _ st _. st; initial = λ _. [] }
 body_of (c ∷ cs) = c.does
 
--- a repetition applies its body to the copies below n, in order
+-- A repetition applies its body to the copies below n, in order.
 abbrev pub repeat_outputs : ℕ → List Feed → List Give → Behaviour → Values → State → Values → Values
 repeat_outputs n feeds gives body row st ins = map (give_value (copy_outputs feeds body row st ins) n) gives
 
--- each copy keeps its own values
+-- Each copy keeps its own values.
 abbrev pub repeat_next : ℕ → List Feed → Behaviour → Values → State → Values → State
 repeat_next n feeds body row st ins [] = st []
 repeat_next n feeds body row st ins (Named x ∷ q) = st (Named x ∷ q)
 repeat_next n feeds body row st ins (Port x ∷ q) = st (Port x ∷ q)
 repeat_next n feeds body row st ins (Numbered i ∷ q) =
-    if nat_lt i n then body.next row (below (Numbered i) st) (map (copy_input ins (copy_before feeds body row st ins i) i) feeds) q else st (Numbered i ∷ q)
+    if nat_lt i n
+    then body.next row (below (Numbered i) st) (map (copy_input ins (copy_before feeds body row st ins i) i) feeds) q
+    else st (Numbered i ∷ q)
 
+-- At the start each copy keeps what its body keeps.
 abbrev pub repeat_initial : ℕ → Behaviour → State
 repeat_initial n body [] = []
 repeat_initial n body (Named x ∷ q) = []
 repeat_initial n body (Port x ∷ q) = []
 repeat_initial n body (Numbered i ∷ q) = if nat_lt i n then body.initial q else []
 
--- the parts of a vector, of these lengths
+-- The parts of a vector, of these lengths.
 abbrev pub parts_of : List ℕ → Vector → Values
 parts_of [] v = []
 parts_of (len ∷ lens) v = take len v ∷ parts_of lens (drop len v)
 
--- several vectors, one after another
+-- Several vectors, one after another.
 abbrev pub all_joined : Values → Vector
 all_joined [] = []
 all_joined (v ∷ vs) = v ++ all_joined vs
 
--- the input of the case that the first input selects
+-- The input of the case that the first input selects.
 abbrev pub merged : List ℤ → Values → Vector
 merged values ins = vector_at ins (suc (selected values (vector_at ins 0)))
 
--- a delay gives the first of its kept values
+-- A delay gives the first of its kept values.
 abbrev pub delay_output : State → Vector
 delay_output st = slice_index_or (st []) 0 []
 
--- and then drops it, and keeps its input after the others
+-- It then drops that value, and keeps its input after the others.
 abbrev pub delay_next : State → Values → State
 delay_next st ins [] = drop 1 (st []) ++ vector_at ins 0 ∷ []
 delay_next st ins (p ∷ q) = st (p ∷ q)
 
+-- At the start a delay keeps its initial values.
 abbrev pub delay_initial : List Vector → State
 delay_initial vs [] = vs
 delay_initial vs (p ∷ q) = []

@@ -1,4 +1,4 @@
-//! The frontier of a repetition: fork, diffuse, iterate and join.
+//! The frontier of a repetition: how fork, diffuse, iterate and join lines feed its copies and give its outputs.
 use syn_base::Items;
 
 /// How an input of a repeated body is fed in each copy.

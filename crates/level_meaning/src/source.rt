@@ -1,4 +1,4 @@
-//! Where a value comes from, and under which condition a node is active.
+//! Sources and guards: where a value comes from, and under which condition a node is active.
 use syn_base::Items;
 
 /// The source of an edge within one level. The number of an own input, of a vertex and of an

@@ -1,4 +1,4 @@
-//! The order in which the vertices of a level run.
+//! The order in which the vertices of a level run: `find_order`, by what was proposed and by rounds.
 ghost use Rattle.std.specs.Prelude.{◌≡◌, ◌<◌, ◌&&◌, ℕ, [], IfOk, OnOk, IsTrue, length, not, true, false, replicate};
 ghost use Rattle.algo_tree.specs.View.{view};
 ghost use Rattle.algo_tree.specs.Meaning.{node};
@@ -12,6 +12,7 @@ use level_meaning::{Guard, Source};
 use std::alloc::Global;
 use syn_base::OutOfMemory;
 
+/// Whether a source is an input of the level, or an output of a vertex that has run.
 fn is_source_ready(source: Source, done: &[bool]) -> bool
     ensures { result ≡ source_ready (is_done done.now) source }
 {
@@ -21,6 +22,7 @@ fn is_source_ready(source: Source, done: &[bool]) -> bool
     }
 }
 
+/// Whether each of these sources is ready.
 fn are_sources_ready(sources: &[Source], done: &[bool]) -> bool
     ensures { result ≡ sources_ready (is_done done.now) sources.now }
 {
@@ -32,6 +34,7 @@ fn are_sources_ready(sources: &[Source], done: &[bool]) -> bool
     true
 }
 
+/// Whether the source of each guard is ready.
 fn are_guards_ready(guards: &[Guard], done: &[bool]) -> bool
     ensures { result ≡ guards_ready (is_done done.now) guards.now }
 {
@@ -43,8 +46,9 @@ fn are_guards_ready(guards: &[Guard], done: &[bool]) -> bool
     true
 }
 
-/// Whether all that the outputs of a vertex ask for is there.
-fn is_vertex_ready(vertex: &Vertex, done: &[bool]) -> bool
+/// Whether all that the outputs of a vertex ask for is done, where each vertex has a flag. A delay's ask
+/// for none of its inputs.
+pub fn is_vertex_ready(vertex: &Vertex, done: &[bool]) -> bool
     ensures { result ≡ is_ready (is_done done.now) (node (view vertex.now)) }
 {
     if !are_guards_ready(vertex.guards.as_slice(), done) {
@@ -108,7 +112,7 @@ fn run_proposed(
     Ok(())
 }
 
-/// A level of that many vertices, before any has run.
+/// A level of as many vertices as `count` says, before any has run.
 fn none_done(alloc: Global, count: usize) -> Result<Begun, OutOfMemory>
     ensures { IfOk result (λ b. (b.order.items ≡ []) × (b.done.items ≡ replicate count false)) }
 {
@@ -130,7 +134,7 @@ fn one_round(vertices: &Vec<Vertex>, begun: &mut Begun) -> Result<(), OutOfMemor
 }
 
 /// An order of a level of which some vertices have run, found by rounds over all of them.
-fn by_rounds(vertices: &Vec<Vertex>, mut begun: Begun) -> Result<Vec<usize>, OutOfMemory>
+fn order_by_rounds(vertices: &Vec<Vertex>, mut begun: Begun) -> Result<Vec<usize>, OutOfMemory>
     requires begun { IsBegun (nodes_of vertices.now.items) begun }
     requires acyclic { IsAcyclic (nodes_of vertices.now.items) }
     ensures { IfOk result (λ order. IsOrder (nodes_of vertices.now.items) order.items) }
@@ -152,7 +156,7 @@ fn run_as_written(alloc: Global, vertices: &Vec<Vertex>) -> Result<Begun, OutOfM
 }
 
 /// An order of a level of which some vertices have run, mostly all.
-fn finished(vertices: &Vec<Vertex>, begun: Begun) -> Result<Vec<usize>, OutOfMemory>
+fn finish_order(vertices: &Vec<Vertex>, begun: Begun) -> Result<Vec<usize>, OutOfMemory>
     requires begun { IsBegun (nodes_of vertices.now.items) begun }
     requires acyclic { IsAcyclic (nodes_of vertices.now.items) }
     ensures { IfOk result (λ order. IsOrder (nodes_of vertices.now.items) order.items) }
@@ -162,12 +166,12 @@ fn finished(vertices: &Vec<Vertex>, begun: Begun) -> Result<Vec<usize>, OutOfMem
         return Ok(order);
     }
     // The proposal leads through every level without a cycle; rounds need no proof of that.
-    by_rounds(vertices, begun)
+    order_by_rounds(vertices, begun)
 }
 
 /// An order in which each vertex of a level stands after all that its outputs ask for. It takes
-/// time and memory in proportion to the vertices and edges of the level. Many a text lists the
-/// vertices in such an order, and then no other is sought.
+/// time and memory in proportion to the vertices and edges of the level. Where the vertices stand in
+/// such an order, as in many a text, no other is sought.
 pub fn find_order(alloc: Global, vertices: &Vec<Vertex>) -> Result<Vec<usize>, OutOfMemory>
     requires { IsAcyclic (nodes_of vertices.now.items) }
     ensures { IfOk result (λ order. IsOrder (nodes_of vertices.now.items) order.items) }
@@ -177,5 +181,5 @@ pub fn find_order(alloc: Global, vertices: &Vec<Vertex>) -> Result<Vec<usize>, O
         let proposed = proposed_order(alloc, vertices)?;
         run_proposed(vertices, &proposed, &mut begun)?;
     }
-    finished(vertices, begun)
+    finish_order(vertices, begun)
 }

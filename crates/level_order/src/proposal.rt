@@ -1,4 +1,4 @@
-//! An order for the vertices of a level that is only proposed.
+//! Proposed orders of the vertices of a level, which `order` tries.
 use algo_tree::{Kind, Vertex};
 use level_meaning::Source;
 use std::alloc::Global;

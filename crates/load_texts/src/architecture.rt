@@ -70,6 +70,7 @@ fn append_everywhere(out: &mut Vec<u8>, name: &[u8], ticks: &[u8]) -> Result<(),
     append_duration(out, name, b"o3", ticks)
 }
 
+/// Appends how long a definition lasts on an operator.
 fn append_duration(
     out: &mut Vec<u8>,
     name: &[u8],

@@ -33,6 +33,7 @@ fn next(state: u64) -> u64
     state.wrapping_mul(FACTOR).wrapping_add(INCREMENT)
 }
 
+/// The value of a state, from its upper bits.
 fn value(state: u64) -> i64
     ensures { result ≡ value_of state }
 {

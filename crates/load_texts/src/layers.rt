@@ -15,6 +15,7 @@ pub fn append_main(out: &mut Vec<u8>, layers: usize) -> Result<(), OutOfMemory>
     append_main_edges(out, layers)
 }
 
+/// Appends the head of the main graph and its references.
 fn append_main_references(out: &mut Vec<u8>, layers: usize) -> Result<(), OutOfMemory>
     requires { layers < 9 }
     ensures { OnOk result (out.new.items ≡ out.old.items ++ main_references layers) }
@@ -34,6 +35,7 @@ fn append_main_references(out: &mut Vec<u8>, layers: usize) -> Result<(), OutOfM
     )
 }
 
+/// Appends the references of all layers.
 fn append_references_of_layers(out: &mut Vec<u8>, layers: usize) -> Result<(), OutOfMemory>
     requires { layers < 9 }
     ensures { OnOk result (out.new.items ≡ out.old.items ++ references_of_layers layers) }
@@ -54,6 +56,7 @@ fn append_layer_references(out: &mut Vec<u8>, layer: usize) -> Result<(), OutOfM
     append_reference(out, layer, 3)
 }
 
+/// Appends the reference to function i of a layer.
 fn append_reference(out: &mut Vec<u8>, layer: usize, i: usize) -> Result<(), OutOfMemory>
     ensures { OnOk result (out.new.items ≡ out.old.items ++ mix_reference layer i) }
 {
@@ -72,6 +75,7 @@ fn append_name(out: &mut Vec<u8>, layer: usize, i: usize) -> Result<(), OutOfMem
     append_count(out, i)
 }
 
+/// Appends the edges of the main graph and its end.
 fn append_main_edges(out: &mut Vec<u8>, layers: usize) -> Result<(), OutOfMemory>
     requires { layers < 9 }
     ensures { OnOk result (out.new.items ≡ out.old.items ++ main_edges layers) }
@@ -90,6 +94,7 @@ fn append_main_edges(out: &mut Vec<u8>, layers: usize) -> Result<(), OutOfMemory
     )
 }
 
+/// Appends the edges into all layers.
 fn append_edges_of_layers(out: &mut Vec<u8>, layers: usize) -> Result<(), OutOfMemory>
     requires { layers < 9 }
     ensures { OnOk result (out.new.items ≡ out.old.items ++ edges_of_layers layers) }

@@ -1,7 +1,5 @@
-//! The texts of a load: an algorithm, an architecture and a sensor table that are made from a number, to
-//! measure how fast the executive runs.
-//!
-//! `load_texts` makes all three; `syndex_program` calls it for the command `load`.
+//! The texts of a load: an algorithm, an architecture and a sensor table that are made from a number, to measure
+//! how fast the executive runs. `syndex_program` calls `load_texts`, which makes all three, for the command `load`.
 #![tactic(auto)]
 
 ghost use Rattle.std.specs.Prelude.{◌≡◌, ◌≤◌, IfOk};

@@ -1,4 +1,4 @@
-//! Lines that are appended to a text.
+//! Lines that are appended to a text, for all three texts of a load.
 ghost use Rattle.std.specs.Prelude.{◌≡◌, ◌++◌, OnOk, map};
 ghost use Rattle.load_texts.specs.Lines.{lines_text};
 

@@ -11,14 +11,15 @@ use Rattle.multi_period.specs.Marks.{mark_at}
 use Rattle.multi_period.specs.Meaning.{act_row_at, history}
 use Rattle.multi_period.specs.Periods.{periods, period}
 
--- in each reaction the actuators of another main graph take what the meaning with periods says
+-- In each reaction the actuators of another main graph take what the meaning with periods says.
 abbrev pub DoesAsMarked : List Mark → Vertex → Vertex → Type 0
 DoesAsMarked marks main made = (rows : List Values) (k : ℕ) → act_row made rows k ≡ act_row_at marks main rows k
 
 abbrev pub PeriodsKeep : List Mark → Vertex → Type 0
 PeriodsKeep marks main = DoesAsMarked marks main (periods marks main)
 
--- a marked reference of m operations and q outputs becomes m + 2n + 3q
+-- A marked reference becomes its own operations, two for each reaction that its count looks back, and three for each
+-- output.
 abbrev pub PeriodCounts : Mark → Label → Vertices → Type 0
 PeriodCounts m l us = operations (period m l us) ≡ operations (vertex l us) + (2 * m.every + 3 * length l.outs)
 
@@ -26,7 +27,7 @@ abbrev pub added_by : Option Mark → Label → ℕ
 added_by None l = 0
 added_by (Some m) l = 2 * m.every + 3 * length l.outs
 
--- what the marks add, without making anything
+-- How many operations the marks add, without making anything.
 abbrev pub added : (ℕ → Option Mark) → Vertices → ℕ
 added mark no_vertices = 0
 added mark (and_vertex (vertex l vs) us) = added_by (mark 0) l + added (λ r. mark (suc r)) us
@@ -34,11 +35,11 @@ added mark (and_vertex (vertex l vs) us) = added_by (mark 0) l + added (λ r. ma
 abbrev pub PeriodsCount : List Mark → Vertex → Type 0
 PeriodsCount marks main = operations (periods marks main) ≡ operations main + added (mark_at marks) (vertices_in main)
 
--- what has few enough operations is a tree again
+-- The made tree is a tree again, where it has few enough operations.
 abbrev pub PeriodsAreTrees : List Mark → Vertex → Type 0
 PeriodsAreTrees marks main = operations (periods marks main) ≤ 2048 → IsTree (periods marks main)
 
--- where what stood below a reference stands
+-- The path at which what stood below a reference stands in the made tree.
 abbrev pub moved : Option Mark → Path → Path
 moved None q = q
 moved (Some m) q = Named (codes "body") ∷ Numbered 0 ∷ Named (codes "run") ∷ q
@@ -46,9 +47,14 @@ moved (Some m) q = Named (codes "body") ∷ Numbered 0 ∷ Named (codes "run") �
 abbrev pub ValuesMoved : (ℕ → Option Mark) → State → State → Vertices → Type 0
 ValuesMoved mark before after no_vertices = Unit {0}
 ValuesMoved mark before after (and_vertex (vertex l vs) us) =
-    ((q : Path) → after (l.part ∷ moved (mark 0) q) ≡ before (l.part ∷ q)) × ValuesMoved (λ r. mark (suc r)) before after us
+    ((q : Path) → after (l.part ∷ moved (mark 0) q) ≡ before (l.part ∷ q)) ×
+    ValuesMoved (λ r. mark (suc r)) before after us
 
--- what is kept below each reference is kept in the made tree after each reaction
+-- What is kept below each reference is kept in the made tree after each reaction.
 abbrev pub PeriodsKeepValues : List Mark → Vertex → Type 0
 PeriodsKeepValues marks main =
-    (rows : List Values) (k : ℕ) → ValuesMoved (mark_at marks) (history (mark_at marks) main rows k).past (past (periods marks main) rows k) (vertices_in main)
+    (rows : List Values) (k : ℕ) →
+    ValuesMoved (mark_at marks)
+    (history (mark_at marks) main rows k).past
+    (past (periods marks main) rows k)
+    (vertices_in main)

@@ -1,17 +1,33 @@
 -- The meaning of an algorithm some of whose references run in some reactions only. It looks back over the reactions.
-use Rattle.std.specs.Prelude.{ℕ, zero, suc, ◌-◌, ◌%◌, ◌==◌, List, [], ◌∷◌, length, Option, Some, None, if◌then◌else◌, slice_index_or}
+use Rattle.std.specs.Prelude.{
+  ℕ,
+  zero,
+  suc,
+  ◌-◌,
+  ◌%◌,
+  ◌==◌,
+  List,
+  [],
+  ◌∷◌,
+  length,
+  Option,
+  Some,
+  None,
+  if◌then◌else◌,
+  slice_index_or,
+}
 use Rattle.level_meaning.specs.Level.{Values, State, Node, out, level_value, graph_next}
 use Rattle.algo_tree.specs.Tree.{Vertex}
 use Rattle.algo_tree.specs.Meaning.{behaviour, vertices_in, inside, actuator_values}
 use Rattle.multi_period.specs.declared.mark.Mark.{Mark}
 use Rattle.multi_period.specs.Marks.{mark_at}
 
--- what was kept before a reaction, and what each reference gave in each reaction before it
+-- What was kept before a reaction, and what each reference gave in each reaction before it.
 pub record History : Type 0 where
   pub past : State
   pub gave : ℕ → ℕ → Values
 
--- a node that gives these values, and whose delays stand still
+-- A node that gives these values, and whose delays stand still.
 abbrev pub held : Values → Node → Node
 held vs c = record {
   part = c.part;
@@ -26,17 +42,17 @@ abbrev pub held_by : Option Values → Node → Node
 held_by None c = c
 held_by (Some vs) c = held vs c
 
--- a level, some of whose nodes give values of before
+-- A level, some of whose nodes give earlier values.
 abbrev pub holding : (ℕ → Option Values) → List Node → List Node
 holding hold [] = []
 holding hold (c ∷ cs) = held_by (hold 0) c ∷ holding (λ r. hold (suc r)) cs
 
--- In a reaction that its number does not divide a marked reference gives what it gave in the last that it divides.
+-- In a reaction that its number does not divide, a marked reference gives what it gave in the last one that it divides.
 abbrev pub held_in : Option Mark → ℕ → (ℕ → Values) → Option Values
 held_in None k gave = None
 held_in (Some m) k gave = if (k % m.every) == 0 then None else Some (gave (k - (k % m.every)))
 
--- the main graph in reaction k
+-- The main graph in reaction k.
 abbrev pub level_in : (ℕ → Option Mark) → List Node → ℕ → (ℕ → ℕ → Values) → List Node
 level_in mark cs k gave = holding (λ r. held_in (mark r) k (λ j. gave j r)) cs
 
@@ -51,8 +67,10 @@ history mark main rows zero = record { past = (behaviour main).initial; gave = �
 history mark main rows (suc k) =
     let h = history mark main rows k in after (level_in mark (inside main) k h.gave) (slice_index_or rows k []) k h
 
--- what the actuators take in reaction k
+-- What the actuators take in reaction k.
 abbrev pub act_row_at : List Mark → Vertex → List Values → ℕ → Values
 act_row_at marks main rows k =
     let h = history (mark_at marks) main rows k in
-    actuator_values (level_value (level_in (mark_at marks) (inside main) k h.gave) (slice_index_or rows k []) h.past []) (vertices_in main)
+    actuator_values
+    (level_value (level_in (mark_at marks) (inside main) k h.gave) (slice_index_or rows k []) h.past [])
+    (vertices_in main)

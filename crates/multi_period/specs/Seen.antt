@@ -17,37 +17,45 @@ label_seen u = label_view (out-Vertex u)
 abbrev pub inside_seen : Vertex → Vertices
 inside_seen u = vertices_view (out-Vertex u).inner.items
 
--- what a declared vertex becomes, by its label and what is inside it
+-- What a declared vertex becomes, by its label and what is inside it.
 abbrev pub of_seen : {A : Type 0} → (Label → Vertices → A) → Vertex → A
 of_seen f u = f (label_seen u) (inside_seen u)
 
--- a vertex with these declared ones inside
+-- A vertex with these declared ones inside.
 abbrev pub with_inner : Label → List Vertex → plain.Vertex
 with_inner l us = plain.vertex l (vertices_view us)
 
--- How many inputs and outputs. The switch stands after the count and a delay for each output; its kept inputs stand after the count's
--- and the reference's own. These numbers have 32 bits.
-pub record ArePorts (p : Ports) (l : Label) : Type 0 where
-  pub ins : p.ins ≡ length l.ins
-  pub outs : p.outs ≡ length l.outs
-  pub switch : p.switch ≡ suc (length l.outs)
-  pub kept : p.kept ≡ suc (length l.ins)
-  pub few : p.kept + p.outs < 2 ^ 32
+-- How many inputs and outputs there are. The switch stands after the count and a delay for each output; its kept inputs
+-- stand after the count's and the reference's own. These numbers have 32 bits.
+pub record ArePorts (ports : Ports) (label : Label) : Type 0 where
+  pub ins : ports.ins ≡ length label.ins
+  pub outs : ports.outs ≡ length label.outs
+  pub switch : ports.switch ≡ suc (length label.outs)
+  pub kept : ports.kept ≡ suc (length label.ins)
+  pub few : ports.kept + ports.outs < 2 ^ 32
 
--- what a vertex with this label keeps
-pub record AreKept (k : Kept) (l : Label) : Type 0 where
-  pub definition : k.definition ≡ l.definition
-  pub outs : k.outs ≡ l.outs
-  pub names : k.names ≡ l.names
+-- What a vertex with this label keeps.
+pub record AreKept (kept : Kept) (label : Label) : Type 0 where
+  pub definition : kept.definition ≡ label.definition
+  pub outs : kept.outs ≡ label.outs
+  pub names : kept.names ≡ label.names
 
--- a label of the same definition with the same outputs, without guards
+-- A label of the same definition with the same outputs, without guards.
 abbrev pub relabelled : Label → Part → List Source → Kind → Label
-relabelled l p ins k = record { part = p; definition = l.definition; ins = ins; guards = []; outs = l.outs; names = l.names; kind = k }
+relabelled l p ins k = record {
+  part = p;
+  definition = l.definition;
+  ins = ins;
+  guards = [];
+  outs = l.outs;
+  names = l.names;
+  kind = k;
+}
 
--- the inputs of the switch after its count
+-- The inputs of the switch after its count.
 abbrev pub body_ins : ℕ → ℕ → List Source
 body_ins a q = Of 0 0 ∷ (inputs_from 0 a ++ firsts q)
 
--- the cases of the switch
+-- The cases of the switch.
 abbrev pub both_cases : Label → Vertices → Vertices
 both_cases l us = and_vertex (when_runs l us) (and_vertex (otherwise l) no_vertices)

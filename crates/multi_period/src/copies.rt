@@ -1,4 +1,4 @@
-//! Copies of vertices.
+//! Copies of vertices, of which the pass makes others.
 ghost use Rattle.std.specs.Prelude.{◌≡◌, IfOk, map};
 ghost use Rattle.algo_tree.specs.View.{kind_view, view};
 ghost use Rattle.multi_period.specs.Periods.{run as runs};
@@ -14,22 +14,22 @@ use std::alloc::Global;
 use syn_base::{Items, OutOfMemory};
 
 /// The same vertex, with copies of all that is inside it.
-#[cycle(copied)]
-pub fn copied(alloc: Global, vertex: &Vertex) -> Result<Vertex, OutOfMemory>
+#[cycle(copy)]
+pub fn copy_vertex(alloc: Global, vertex: &Vertex) -> Result<Vertex, OutOfMemory>
     ensures { IfOk result (λ u. view u ≡ view vertex.now) }
 {
-    let inner = copied_each(alloc, &vertex.inner)?;
+    let inner = copy_each(alloc, &vertex.inner)?;
     with_inside(alloc, vertex, inner)
 }
 
 /// The same vertices.
-#[cycle(copied)]
-fn copied_each(alloc: Global, vertices: &Vec<Vertex>) -> Result<Vec<Vertex>, OutOfMemory>
+#[cycle(copy)]
+fn copy_each(alloc: Global, vertices: &Vec<Vertex>) -> Result<Vec<Vertex>, OutOfMemory>
     ensures { IfOk result (λ us. map view us.items ≡ map view vertices.now.items) }
 {
     let mut all = Vec::new(alloc);
     for vertex in vertices {
-        all.push(copied(alloc, vertex)?)?;
+        all.push(copy_vertex(alloc, vertex)?)?;
     }
     Ok(all)
 }
@@ -43,7 +43,7 @@ struct Kept {
 }
 
 /// Copies of what a vertex keeps.
-fn kept_of(alloc: Global, vertex: &Vertex) -> Result<Kept, OutOfMemory>
+fn copy_kept(alloc: Global, vertex: &Vertex) -> Result<Kept, OutOfMemory>
     ensures { IfOk result (λ kept. AreKept kept (label_seen vertex.now)) }
 {
     let definition = copy_bytes(alloc, vertex.definition.as_slice())?;
@@ -66,7 +66,7 @@ pub fn with_inside(
 {
     let ins = copy_sources(alloc, vertex.ins.as_slice())?;
     let guards = copy_guards(alloc, vertex.guards.as_slice())?;
-    let kept = kept_of(alloc, vertex)?;
+    let kept = copy_kept(alloc, vertex)?;
     let part = copy_part(alloc, &vertex.part)?;
     let kind = copy_kind(alloc, &vertex.kind)?;
     let Kept {
@@ -102,7 +102,7 @@ pub fn relabelled(
         definition,
         outs,
         names,
-    } = kept_of(alloc, vertex)?;
+    } = copy_kept(alloc, vertex)?;
     Ok(Vertex {
         part,
         definition,
@@ -123,7 +123,7 @@ pub fn run(alloc: Global, vertex: &Vertex, ports: Ports) -> Result<Vertex, OutOf
     let ins = inputs_from(alloc, 0, ports.ins)?;
     let name = copy_bytes(alloc, b"run")?;
     let kind = copy_kind(alloc, &vertex.kind)?;
-    let inner = copied_each(alloc, &vertex.inner)?;
+    let inner = copy_each(alloc, &vertex.inner)?;
     let part = Part::Named(name);
     relabelled(alloc, vertex, part, Items::new(ins), kind, inner)
 }

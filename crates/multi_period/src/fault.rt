@@ -1,4 +1,4 @@
-//! Why no tree is made.
+//! Why the pass makes no tree.
 ghost use Rattle.std.specs.Prelude.{◌≡◌};
 ghost use Rattle.multi_period.specs.declared.fault.PeriodError.TheVariants.{OutOfMemory as Wants};
 

@@ -1,4 +1,4 @@
-//! Laws, each the contract of a function that does nothing.
+//! Laws of marked references, each the contract of a function that does nothing.
 ghost use Rattle.std.specs.Prelude.{◌≡◌, ℕ, List, []};
 ghost use Rattle.level_meaning.specs.Level.{Values};
 ghost use Rattle.algo_tree.specs.Tree.{Label, Vertex, Vertices};

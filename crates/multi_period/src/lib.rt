@@ -1,13 +1,15 @@
-//! References of the main graph that run in some reactions only. `Mark` says which, `periods` makes
-//! the tree in which each of them has become a graph that counts the reactions and keeps the last
-//! outputs, and the laws say that it does what the meaning with marks says.
+//! References of the main graph that run only in each nth reaction, turned into graphs of the plain language.
+//!
+//! `Mark` says which reference runs when, and `periods` makes the tree in which each of them has become a graph
+//! that counts the reactions and keeps the last outputs. The laws say that this tree does what the meaning with
+//! marks says.
 #![tactic(auto)]
 
-mod added;
 mod copies;
+mod count;
 mod fault;
+mod graph;
 mod laws;
-mod made;
 mod mark;
 mod pass;
 mod ports;

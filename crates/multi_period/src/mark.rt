@@ -1,4 +1,4 @@
-//! A mark on a reference.
+//! Marks on references, which the pass is given.
 
 /// A reference of the main graph runs in the reactions that `every` divides; in the others its
 /// outputs keep their last values, and the delays inside it stand still.
@@ -6,6 +6,6 @@
 pub struct Mark {
     /// The place of the reference in the main graph, from 0.
     pub reference: u32,
-    /// In every how many reactions it runs, 1 to 16.
+    /// The number that divides the reactions in which it runs, 1 to 16.
     pub every: u32,
 }

@@ -1,4 +1,4 @@
-//! The pass over the main graph.
+//! The pass over the main graph: `periods`, which `elaboration` calls.
 ghost use Rattle.std.specs.Prelude.{◌≡◌, ◌≤◌, ◌<◌, IfOk, length};
 ghost use Rattle.std.specs.List.{All};
 ghost use Rattle.syn_base.specs.Limits.{most_operations};
@@ -14,18 +14,18 @@ ghost use Rattle.multi_period.specs.Periods.{period_by as one_period, all_period
 ghost use Rattle.multi_period.specs.Seen.{label_seen};
 ghost use Rattle.multi_period.specs.Within.{Gives, made_within};
 
-use crate::added::added;
-use crate::copies::{copied, with_inside};
+use crate::copies::{copy_vertex, with_inside};
+use crate::count::added;
 use crate::fault::PeriodError;
-use crate::made::period;
+use crate::graph::period;
 use crate::mark::Mark;
 use crate::table::mark_table;
 use algo_tree::{Tree, Vertex};
 use std::alloc::Global;
 use syn_base::{LimitFault, LimitKind, OutOfMemory};
 
-/// The tree in which each marked reference has become a graph that runs it in every so many
-/// reactions: it does what the meaning with these marks says.
+/// The tree in which each marked reference has become a graph that runs it in each reaction that the
+/// number of its mark divides: it does what the meaning with these marks says.
 ///
 /// `Limit` comes exactly where that tree would stand for more than 2,048 flat operations, with
 /// their number, and before anything is made. Want of memory comes only where it would not. Time
@@ -39,14 +39,15 @@ pub fn periods(alloc: Global, tree: &Tree, marks: &[Mark]) -> Result<Tree, Perio
     ensures bounded { HasBounds tree.now → IfOk result (λ t. HasBounds t) }
 {
     let count = count_made(tree, marks);
-    if count > 2048 {
+    let bound = LimitKind::Operations.bound();
+    if count > bound {
         return Err(PeriodError::Limit(LimitFault {
             which: LimitKind::Operations,
             count,
-            bound: LimitKind::Operations.bound(),
+            bound,
         }));
     }
-    match made_tree(alloc, tree, marks) {
+    match make_tree(alloc, tree, marks) {
         Ok(made) => Ok(made),
         Err(_) => Err(PeriodError::OutOfMemory),
     }
@@ -62,7 +63,7 @@ fn count_made(tree: &Tree, marks: &[Mark]) -> u128
 }
 
 /// The made tree, where it stands for few enough operations.
-fn made_tree(alloc: Global, tree: &Tree, marks: &[Mark]) -> Result<Tree, OutOfMemory>
+fn make_tree(alloc: Global, tree: &Tree, marks: &[Mark]) -> Result<Tree, OutOfMemory>
     requires may { MayHaveMarks marks.now tree.now }
     requires few { operations (tree_made marks.now tree.now) ≤ most_operations }
     ensures is { IfOk result (λ t. t ≡ tree_made marks.now tree.now) }
@@ -99,6 +100,6 @@ fn period_by(alloc: Global, vertex: &Vertex, mark: Option<Mark>) -> Result<Verte
 {
     match mark {
         Some(mark) => period(alloc, vertex, mark),
-        None => copied(alloc, vertex),
+        None => copy_vertex(alloc, vertex),
     }
 }

@@ -1,4 +1,4 @@
-//! Sources by their numbers.
+//! Sources by their numbers, for the vertices that the pass makes.
 ghost use Rattle.std.specs.Prelude.{◌≡◌, ◌<◌, ◌+◌, ◌^◌, IfOk};
 ghost use Rattle.multi_period.specs.Periods.{inputs_from as inputs, outputs_of as outputs, firsts as first_outputs};
 ghost use Rattle.multi_period.specs.Seen.{ArePorts, label_seen};
@@ -38,7 +38,7 @@ pub fn ports_of(vertex: &Vertex) -> Result<Ports, OutOfMemory>
     })
 }
 
-/// This many own inputs, from this one on.
+/// As many own inputs as `count` says, from this one on.
 pub fn inputs_from(alloc: Global, first: u32, count: u32) -> Result<Vec<Source>, OutOfMemory>
     requires { first + count < 2 ^ 32 }
     ensures { IfOk result (λ ss. ss.items ≡ inputs first count) }
@@ -50,7 +50,7 @@ pub fn inputs_from(alloc: Global, first: u32, count: u32) -> Result<Vec<Source>,
     Ok(all)
 }
 
-/// This many outputs of a vertex.
+/// The first outputs of a vertex, as many as `count` says.
 pub fn outputs_of(alloc: Global, vertex: u32, count: u32) -> Result<Vec<Source>, OutOfMemory>
     ensures { IfOk result (λ ss. ss.items ≡ outputs vertex count) }
 {
@@ -61,7 +61,7 @@ pub fn outputs_of(alloc: Global, vertex: u32, count: u32) -> Result<Vec<Source>,
     Ok(all)
 }
 
-/// The first outputs of this many vertices after the first.
+/// The first output of each vertex after the first, of as many vertices as `count` says.
 pub fn firsts(alloc: Global, count: u32) -> Result<Vec<Source>, OutOfMemory>
     requires { count + 1 < 2 ^ 32 }
     ensures { IfOk result (λ ss. ss.items ≡ first_outputs count) }

@@ -1,4 +1,4 @@
-//! The marks by their references.
+//! The marks by their references, for the pass.
 ghost use Rattle.std.specs.Prelude.{◌≡◌, ◌<◌, [], IfOk, map};
 ghost use Rattle.std.specs.List.{All};
 ghost use Rattle.level_meaning.specs.Level.{numbers_below};
@@ -9,7 +9,7 @@ use std::alloc::Global;
 use syn_base::OutOfMemory;
 
 /// No mark on any of this many references.
-fn unmarked(alloc: Global, count: usize) -> Result<Vec<Option<Mark>>, OutOfMemory>
+fn no_marks(alloc: Global, count: usize) -> Result<Vec<Option<Mark>>, OutOfMemory>
     ensures { IfOk result (λ t. t.items ≡ map (mark_at []) (numbers_below count)) }
 {
     let mut table = Vec::new(alloc);
@@ -28,7 +28,7 @@ pub fn mark_table(
     requires { All (λ m. m.reference < count) marks.now }
     ensures { IfOk result (λ t. t.items ≡ map (mark_at marks.now) (numbers_below count)) }
 {
-    let mut table = unmarked(alloc, count)?;
+    let mut table = no_marks(alloc, count)?;
     for left in (0..marks.len()).rev() {
         let mark = marks[left];
         table[mark.reference as usize] = Some(mark);

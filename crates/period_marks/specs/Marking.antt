@@ -1,5 +1,25 @@
 -- Which references of a text are marked, and the first that may not be.
-use Rattle.std.specs.Prelude.{ℕ, suc, Bool, true, false, ◌&&◌, List, [], ◌∷◌, ◌++◌, map, Option, Some, None, Result, Ok, Err, if◌then◌else◌, codes}
+use Rattle.std.specs.Prelude.{
+  ℕ,
+  suc,
+  Bool,
+  true,
+  false,
+  ◌&&◌,
+  List,
+  [],
+  ◌∷◌,
+  ◌++◌,
+  map,
+  Option,
+  Some,
+  None,
+  Result,
+  Ok,
+  Err,
+  if◌then◌else◌,
+  codes,
+}
 use Rattle.std.specs.List.{flat_map}
 use Rattle.algo_defs.specs.declared.definition.Def.{Def}
 use Rattle.algo_defs.specs.declared.definition.Body.{Body}
@@ -15,12 +35,12 @@ abbrev pub references_of : Body → List Reference
 references_of (Graph ins outs references edges) = references
 references_of _ = []
 
--- what may have a mark is what may stand in a case: neither a sensor nor an actuator, a constant or a delay
+-- What may have a mark is what may stand in a case: neither a sensor nor an actuator, a constant or a delay.
 abbrev pub may_be_marked : Option Def → Bool
 may_be_marked None = false
 may_be_marked (Some d) = may_be_inner d.body
 
--- a reference may stand where it has no mark, or may have one
+-- A reference may stand where it has no mark, or may have one.
 abbrev pub may_stand_by : Bool → Option ℕ → Bool
 may_stand_by may None = true
 may_stand_by may (Some n) = may
@@ -39,7 +59,7 @@ abbrev pub mark_of : ℕ → Option ℕ → List Mark
 mark_of k None = []
 mark_of k (Some n) = record { reference = k; every = n } ∷ []
 
--- the marks on references that stand from place k on
+-- The marks on references that stand from place k on.
 abbrev pub marks_from : ℕ → List Reference → List Mark
 marks_from k [] = []
 marks_from k (r ∷ rs) = mark_of k r.every ++ marks_from (suc k) rs
@@ -52,6 +72,6 @@ abbrev pub marking_by : List Def → Option AlgoError → Result (List Mark) Alg
 marking_by ds None = Ok (marks_in (definition ds (codes "main")))
 marking_by ds (Some e) = Err e
 
--- the marks of the definitions of a text, or their first refusal
+-- The marks of the definitions of a text, or their first refusal.
 abbrev pub marking_of : List Def → Result (List Mark) AlgoError
 marking_of ds = marking_by ds (bad_every ds)

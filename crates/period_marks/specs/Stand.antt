@@ -10,7 +10,7 @@ use Rattle.multi_period.specs.Marks.{mark_at, MayHaveMarks}
 use Rattle.multi_period.specs.Named.{AreNamed}
 use Rattle.period_marks.specs.Marking.{references_of, marking_of}
 
--- a mark is a number from 1 to 16
+-- A mark is a number from 1 to 16.
 abbrev pub IsPeriod : Option ℕ → Type 0
 IsPeriod None = Unit {0}
 IsPeriod (Some n) = (1 ≤ n) × (n ≤ 16)
@@ -18,12 +18,13 @@ IsPeriod (Some n) = (1 ≤ n) × (n ≤ 16)
 abbrev pub HavePeriods : List Def → Type 0
 HavePeriods ds = All (λ d. All (λ r. IsPeriod r.every) (references_of d.body)) ds
 
--- the marks are on references that may have them, whose outputs have names
+-- The marks are on references that may have them, whose outputs have names.
 pub record Stand (marks : List Mark) (main : Vertex) : Type 0 where
   pub may : MayHaveMarks marks main
   pub named : AreNamed (mark_at marks) (vertices_in main)
 
 abbrev pub AcceptedMarksStand : Type 0
 AcceptedMarksStand =
-    (ds : List Def) (main : Vertex) (marks : List Mark) → AreWellRead ds → HavePeriods ds → resolution_of ds ≡ Ok main → marking_of ds ≡ Ok marks
-    → Stand marks main
+    (ds : List Def) (main : Vertex) (marks : List Mark) →
+    AreWellRead ds → HavePeriods ds → resolution_of ds ≡ Ok main → marking_of ds ≡ Ok marks →
+    Stand marks main

@@ -1,4 +1,4 @@
-//! A law, the contract of a function that does nothing.
+//! The law of accepted marks, the contract of a function that does nothing.
 ghost use Rattle.period_marks.specs.Stand.{AcceptedMarksStand};
 
 /// Of definitions as an accepted text has them, that resolve to a tree and whose marks are accepted, each mark

@@ -1,6 +1,8 @@
-//! The marks of a text: which references of `main` run in every nth reaction alone, or the first mark that
-//! may not stand where it does. The law says that accepted marks may stand in the tree that the definitions
-//! resolve to, so that `multi_period` makes its tree from both.
+//! Reads the marks of a text: which references of `main` run in every nth reaction alone, or the first mark that may
+//! not stand where it does.
+//!
+//! The law says that accepted marks may stand in the tree that the definitions resolve to, so that `multi_period` makes
+//! its tree from both.
 #![tactic(auto)]
 
 mod laws;

@@ -1,4 +1,4 @@
-//! The marks on the references of `main`.
+//! The marks on the references of `main`: `marks`, which `elaboration` calls.
 ghost use Rattle.std.specs.Prelude.{◌≡◌, ◌≤◌, IfOk, None, codes, length, map};
 ghost use Rattle.syn_base.specs.Limits.{most_in_text};
 ghost use Rattle.algo_tree.specs.Well.{AreDistinctNames};
@@ -18,7 +18,7 @@ use syn_base::{OutOfMemory, to_u32};
 ///
 /// Refused with BadEvery comes at the first line, by line, with a mark that stands outside `main` or whose
 /// definition is a sensor, an actuator, a constant or a delay, and tells the name of the reference. OutOfMemory
-/// may come in place of any answer. Time is in proportion to the text.
+/// may come in place of any result. Time is in proportion to the text.
 pub fn marks(alloc: Global, defs: &Defs) -> Result<Vec<Mark>, AlgoError>
     requires resolved { refusal defs.now.defs ≡ None }
     requires distinct { AreDistinctNames (map (λ d. d.name) defs.now.defs) }

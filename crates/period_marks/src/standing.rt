@@ -1,4 +1,4 @@
-//! Where marks may stand.
+//! The check of where marks may stand, which `marks` makes before it lists them.
 ghost use Rattle.std.specs.Prelude.{◌≡◌, ◌&&◌, slice_get};
 ghost use Rattle.algo_defs.specs.declared.fault.AlgoCause.TheVariants.{BadEvery};
 ghost use Rattle.algo_rules.specs.Links.{fault, is_main as names_main, links_of, may_be_inner as inner};
@@ -12,7 +12,7 @@ use algo_defs::{AlgoCause, AlgoError, AlgoFault, Body, Def, Reference};
 use std::alloc::Global;
 use syn_base::{Items, Name};
 
-/// The mark of this reference may not stand there.
+/// The refusal of the mark of this reference, or want of memory for its name.
 fn bad_every(alloc: Global, line: u32, name: &Name) -> AlgoError
     ensures { Tells result (fault line (BadEvery name.now)) }
 {
@@ -25,13 +25,14 @@ fn bad_every(alloc: Global, line: u32, name: &Name) -> AlgoError
     }
 }
 
+/// Whether this is the name of the main graph.
 fn is_main(name: &Name) -> bool
     ensures { result ≡ names_main name.now }
 {
     name.as_bytes() == b"main".as_slice()
 }
 
-/// What may have a mark: neither a sensor nor an actuator, a constant or a delay.
+/// Whether a definition may have a mark: it is neither a sensor nor an actuator, a constant or a delay.
 fn may_be_inner(body: &Body) -> bool
     ensures { result ≡ inner body.now }
 {
@@ -41,14 +42,14 @@ fn may_be_inner(body: &Body) -> bool
     )
 }
 
-/// A reference of this owner to the definition at a place may have a mark.
+/// Whether a reference of this owner to the definition at a place may have a mark.
 fn may_have(owner: &Name, defs: &[Def], place: usize) -> bool
     ensures { result ≡ (names_main owner.now && may_be_marked (slice_get defs.now place)) }
 {
     is_main(owner) && place < defs.len() && may_be_inner(&defs[place].body)
 }
 
-/// A reference of this owner to the definition at a place has no mark, or may have one.
+/// Whether a reference of this owner to the definition at a place has no mark, or may have one.
 fn may_stand(owner: &Name, reference: &Reference, defs: &[Def], place: usize) -> bool
     ensures { result ≡ stands owner.now reference.now (slice_get defs.now place) }
 {
@@ -58,7 +59,7 @@ fn may_stand(owner: &Name, reference: &Reference, defs: &[Def], place: usize) ->
     }
 }
 
-/// The first reference of the owner with a mark that may have none. The places are those of the definitions
+/// Checks that each reference of the owner with a mark may have one. The places are those of the definitions
 /// that the references name.
 fn check_references(
     alloc: Global,
@@ -79,7 +80,7 @@ fn check_references(
     Ok(())
 }
 
-/// The same of a definition.
+/// Checks the marks of a definition.
 fn check_def(alloc: Global, def: &Def, places: &[u32], defs: &[Def]) -> Result<(), AlgoError>
     requires { places.now ≡ places_of defs.now (mentions def.now) }
     ensures { Checks result (bad_of defs.now def.now) }
@@ -92,7 +93,7 @@ fn check_def(alloc: Global, def: &Def, places: &[u32], defs: &[Def]) -> Result<(
     }
 }
 
-/// The first reference of any definition with a mark that may have none.
+/// Checks the marks of all definitions, by line.
 pub fn check_marks(alloc: Global, defs: &[Def], links: &[Items<u32>]) -> Result<(), AlgoError>
     requires { links.now ≡ links_of defs.now }
     ensures { Checks result (bad_all defs.now defs.now) }

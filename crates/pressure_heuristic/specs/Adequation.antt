@@ -1,4 +1,4 @@
--- What adequation answers.
+-- What adequation returns.
 use Rattle.std.specs.Prelude.{◌≡◌}
 use Rattle.flat_graph.specs.Graph.{Graph}
 use Rattle.archi_graph.specs.Archi.{Architecture}

@@ -1,5 +1,19 @@
 -- What is chosen, step by step: an operator for a candidate, and a candidate.
-use Rattle.std.specs.Prelude.{◌≡◌, ℕ, ◌<◌, ◌≤◌, true, List, length, if◌then◌else◌, nat_lt, Option, Some, None, slice_index_or}
+use Rattle.std.specs.Prelude.{
+  ◌≡◌,
+  ℕ,
+  ◌<◌,
+  ◌≤◌,
+  true,
+  List,
+  length,
+  if◌then◌else◌,
+  nat_lt,
+  Option,
+  Some,
+  None,
+  slice_index_or,
+}
 use Rattle.durations.specs.Table.{Table}
 use Rattle.schedule.specs.Acts.{Act}
 use Rattle.comm_routing.specs.Task.{Task}
@@ -18,7 +32,8 @@ AreTails t tails = (v : ℕ) → v < length t.graph.vertices → slice_index_or 
 -- the first of least pressure among these operators, with its pressure
 abbrev pub IsLeastStand : Task → List Act → ℕ → List ℕ → Option Stand → Type 0
 IsLeastStand t before v ps None = first_least (pressure t before v) ps ≡ None
-IsLeastStand t before v ps (Some s) = (first_least (pressure t before v) ps ≡ Some s.operator) × (s.pressure ≡ pressure t before v s.operator)
+IsLeastStand t before v ps (Some s) =
+    (first_least (pressure t before v) ps ≡ Some s.operator) × (s.pressure ≡ pressure t before v s.operator)
 
 -- the operator of least pressure of an operation, with that pressure
 abbrev pub operator_of_stand : Option Stand → Option ℕ
@@ -62,4 +77,5 @@ next_of v (Some s) = Some (record { op = v; operator = s.operator })
 -- the next decision is that of this operation on this operator, which may be placed there
 abbrev pub IsNext : Task → List Act → Option Next → Type 0
 IsNext t before None = next t before ≡ None
-IsNext t before (Some n) = (next t before ≡ Some (decision t before n.op n.operator)) × (may_place t before n.op n.operator ≡ true)
+IsNext t before (Some n) =
+    (next t before ≡ Some (decision t before n.op n.operator)) × (may_place t before n.op n.operator ≡ true)

@@ -29,7 +29,8 @@ module _ (t : Task) where
   abbrev pub dependents : ℕ → List ℕ
   dependents v = filter (λ s. list_any (nat_eq v) (needs t s)) operations
 
-  -- The longest time from its end on, by least durations, along operations of which each depends on the one before. At most this many are followed.
+  -- The longest time from its end on, by least durations, along operations of which each depends on the one before.
+  -- At most this many are followed.
   abbrev pub tail_within : ℕ → ℕ → ℕ
   tail_within zero v = 0
   tail_within (suc n) v = greatest (map (λ s. least s + tail_within n s) (dependents v))
@@ -57,7 +58,9 @@ module _ (t : Task) where
 
   -- the candidate of greatest least pressure, on its operator of least pressure
   abbrev pub next : List Act → Option Decision
-  next before = with_some (first_greatest (urgency before) (candidates before)) None (λ v. with_some (best_operator before v) None (λ p. Some (decision t before v p)))
+  next before =
+      with_some (first_greatest (urgency before) (candidates before)) None
+      (λ v. with_some (best_operator before v) None (λ p. Some (decision t before v p)))
 
   -- these decisions, and at most this many more, each chosen after those before it
   abbrev pub run_after : ℕ → List Decision → List Decision

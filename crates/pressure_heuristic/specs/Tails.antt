@@ -14,9 +14,12 @@ abbrev pub needs_in : List Vertex → ℕ → List ℕ
 needs_in vertices v = with_vertex (slice_get vertices v) [] depends_on
 
 module _ (vertices : List Vertex) (table : Table) where
-  -- of the operations below this number, those that depend on this one: the greatest sum of such a one's least duration and what it had before
+  -- of the operations below this number, those that depend on this one: the greatest sum of such a one's least
+  -- duration and what it had before
   abbrev pub so_far : (ℕ → ℕ) → ℕ → ℕ → ℕ
-  so_far before count v = greatest (map (λ s. least_in table s + before s) (filter (λ s. list_any (nat_eq v) (needs_in vertices s)) (range_with_len 0 count)))
+  so_far before count v =
+      greatest (map (λ s. least_in table s + before s)
+      (filter (λ s. list_any (nat_eq v) (needs_in vertices s)) (range_with_len 0 count)))
 
   abbrev pub tails_in : ℕ → ℕ → ℕ
   tails_in zero v = 0

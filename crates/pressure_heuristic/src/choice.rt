@@ -1,4 +1,5 @@
-//! The next decision: the candidate of greatest least pressure, on its operator of least pressure.
+//! The choice of the next decision: the candidate of greatest least pressure, on its operator of
+//! least pressure. `adequation` asks for it in each step.
 ghost use Rattle.std.specs.Prelude.{◌≡◌, ◌<◌, ◌≤◌, IfSome, IsTrue, length};
 ghost use Rattle.std.specs.List.{filter};
 ghost use Rattle.schedule.specs.Acts.{acts_of};
@@ -43,6 +44,7 @@ pub(crate) fn decide(draft: &Draft, durations: &Durations, tails: &[u64]) -> Opt
     }
 }
 
+/// The decision of a choice, where the operation has an operator.
 fn next_of(choice: Choice) -> Option<Next>
     ensures { result ≡ next_of choice.op choice.stand }
 {
@@ -96,6 +98,7 @@ fn choice_of(draft: &Draft, durations: &Durations, tails: &[u64], op: u32) -> Ch
     }
 }
 
+/// The pressure on an operator, 0 where there is none.
 fn pressure_of(stand: Option<Stand>) -> u64
     ensures { result ≡ pressure_of stand }
 {
@@ -105,6 +108,9 @@ fn pressure_of(stand: Option<Stand>) -> u64
     }
 }
 
+/// The operator of least pressure of a candidate with that pressure, the first of those that have
+/// it. It goes over the operators from the last to the first, so that of equal ones the first
+/// stays.
 fn least_stand(draft: &Draft, durations: &Durations, tails: &[u64], op: u32) -> Option<Stand>
     requires guide { IsGuide draft.now durations.now tails.now }
     requires candidate { IsTrue (is_candidate (task_of draft.now) (acts_of draft.now.decisions) op) }
@@ -146,6 +152,7 @@ fn pressure(draft: &Draft, durations: &Durations, tails: &[u64], op: u32, operat
     start + time(durations.ticks(op, operator)) + tails[op as usize]
 }
 
+/// The ticks that are there, or 0.
 fn time(ticks: Option<u64>) -> u64
     requires { IfSome ticks (λ t. t ≤ 1000000000) }
     ensures time { result ≡ ticks_in ticks }

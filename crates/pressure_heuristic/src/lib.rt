@@ -1,5 +1,8 @@
-//! The pressure run: a schedule by greedy choice. `adequation` computes it for a flat graph on an
-//! architecture, and its schedule is valid and tight; the commands that need a schedule call it.
+//! The pressure run: a schedule of a flat graph on an architecture by greedy choice, which is valid
+//! and tight.
+//!
+//! `adequation` computes it, and the commands that need a schedule call it. The laws say which list
+//! of decisions it is.
 #![tactic(auto)]
 
 mod choice;

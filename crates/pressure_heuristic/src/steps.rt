@@ -1,4 +1,4 @@
-//! Adequation: the pressure run from its first decision to its last.
+//! The run from its first decision to its last: `adequation`, which the commands call.
 ghost use Rattle.std.specs.Prelude.{◌≡◌, [], IfOk, IsTrue, length};
 ghost use Rattle.durations.specs.Fitting.{IsOf};
 ghost use Rattle.durations.specs.Table.{entry_in};
@@ -37,6 +37,7 @@ pub fn adequation(
     ensures valid { IfOk result (λ s. IsTrue (is_valid flat.now archi.now (entry_in durations.now) s)) }
     ensures tight { IfOk result (λ s. IsTrue (is_tight flat.now s)) }
 {
+    // The proof takes from this call that the architecture is valid.
     let _operators = archi.operators();
     let operations = durations.operations();
     let vertices = flat.vertices();

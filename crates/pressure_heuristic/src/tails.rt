@@ -1,4 +1,4 @@
-//! The longest times from the ends of operations on.
+//! The tails: the longest times from the ends of operations on, by which the run chooses.
 ghost use Rattle.std.specs.Prelude.{◌≡◌, ℕ, ◌+◌, ◌*◌, ◌<◌, ◌≤◌, IfOk, length, map, slice_index_or, ◌∷◌, [], IsTrue};
 ghost use Rattle.syn_base.specs.Limits.{most_operations};
 ghost use Rattle.flat_graph.specs.Order.{depends_on, get_half, is_acyclic};
@@ -110,6 +110,7 @@ fn all_rounds(
     Ok(tails)
 }
 
+/// This many dates, all of them 0.
 fn zeros(alloc: Global, len: usize) -> Result<Vec<u64>, OutOfMemory>
     ensures size { IfOk result (λ v. length v.items ≡ len) }
     ensures zero { IfOk result (λ v. (i : ℕ) → slice_index_or v.items i 0 ≡ 0) }
@@ -117,6 +118,7 @@ fn zeros(alloc: Global, len: usize) -> Result<Vec<u64>, OutOfMemory>
     Ok(vec![in alloc; 0; len]?)
 }
 
+/// Whether both lists of dates are equal.
 fn are_same(one: &[u64], other: &[u64]) -> bool
     requires { length one.now ≡ length other.now }
     ensures { IsTrue result → one.now ≡ other.now }
@@ -184,6 +186,7 @@ fn raise(dates: &mut [u64], vertex: &Vertex, date: u64)
     raise_half(dates, &vertex.kind, vertex.twin, date);
 }
 
+/// Raises the dates of the operations that these guards read.
 fn raise_guards(dates: &mut [u64], guards: &[Guard], date: u64)
     ensures size { length dates.new ≡ length dates.old }
     ensures raised { (v : ℕ) → v < length dates.old →
@@ -195,6 +198,7 @@ fn raise_guards(dates: &mut [u64], guards: &[Guard], date: u64)
     }
 }
 
+/// Raises the dates of the operations of these sources.
 fn raise_sources(dates: &mut [u64], sources: &[Source], date: u64)
     ensures size { length dates.new ≡ length dates.old }
     ensures raised { (v : ℕ) → v < length dates.old →
@@ -206,6 +210,7 @@ fn raise_sources(dates: &mut [u64], sources: &[Source], date: u64)
     }
 }
 
+/// Raises the date of the get half, where the operation is a set half.
 fn raise_half(dates: &mut [u64], kind: &Kind, twin: Option<u32>, date: u64)
     ensures size { length dates.new ≡ length dates.old }
     ensures raised { (v : ℕ) → v < length dates.old →
@@ -219,6 +224,7 @@ fn raise_half(dates: &mut [u64], kind: &Kind, twin: Option<u32>, date: u64)
     }
 }
 
+/// Raises the date of one operation, if there is one of this number.
 fn raise_one(dates: &mut [u64], op: u32, date: u64)
     ensures size { length dates.new ≡ length dates.old }
     ensures raised { (v : ℕ) → v < length dates.old →

@@ -5,6 +5,6 @@ use Rattle.algo_defs.specs.declared.definition.Defs.{Defs}
 use Rattle.algo_text.specs.Text.{definitions_of}
 use Rattle.syn_base.specs.Bytes.{Bytes}
 
--- at most one for each line
+-- Every text that is accepted has at most one definition for each line.
 abbrev pub AcceptedAreFew : Type 0
 AcceptedAreFew = (text : Bytes) (ds : Defs) → definitions_of text ≡ Ok ds → length ds.defs ≤ length (lines_of text)

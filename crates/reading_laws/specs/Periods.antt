@@ -7,7 +7,7 @@ use Rattle.algo_defs.specs.declared.definition.Reference.{Reference}
 use Rattle.syn_base.specs.Bytes.{Bytes}
 use Rattle.algo_text.specs.Text.{definitions_of}
 
--- a mark stands in version 3 alone, and is a number from 1 to 16
+-- A mark stands in version 3 alone, and is a number from 1 to 16.
 abbrev pub IsPeriod : ℕ → Option ℕ → Type 0
 IsPeriod version None = Unit {0}
 IsPeriod version (Some n) = (version ≡ 3) × (1 ≤ n) × (n ≤ 16)
@@ -19,6 +19,7 @@ references_of _ = []
 abbrev pub HasPeriods : ℕ → Body → Type 0
 HasPeriods version body = All (λ r. IsPeriod version r.every) (references_of body)
 
--- so have the definitions of every text that is accepted
+-- So have the definitions of every text that is accepted.
 abbrev pub AcceptedHavePeriods : Type 0
-AcceptedHavePeriods = (text : Bytes) (ds : Defs) → definitions_of text ≡ Ok ds → All (λ d. HasPeriods ds.version d.body) ds.defs
+AcceptedHavePeriods =
+    (text : Bytes) (ds : Defs) → definitions_of text ≡ Ok ds → All (λ d. HasPeriods ds.version d.body) ds.defs

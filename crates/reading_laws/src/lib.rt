@@ -1,5 +1,6 @@
-//! What the definitions of every accepted text keep, before any of them is linked to another. Whoever reads a
-//! text and resolves its definitions has by these laws all that `resolve` asks for.
+//! The laws of what the definitions of every accepted text keep, before any of them is linked to another.
+//!
+//! Whoever reads a text and resolves its definitions has by these laws all that `resolve` asks for.
 //!
 //! Each law is the contract of a function that does nothing. Worked texts are resolved in `proofs/`.
 #![tactic(auto)]
@@ -10,8 +11,9 @@ ghost use Rattle.reading_laws.specs.Periods.{AcceptedHavePeriods};
 
 /// The definitions of every text that is accepted are well read: names are names; definitions, the ports of one
 /// definition, the references of a graph and the outer names of a repetition are each named once; vectors have 1 to
-/// 64 elements; a delay looks back 1 to 16 reactions, with a vector of initial values for each; a definition has at most 64 inputs, outputs, references, cases or frontier lines each; a function
-/// has an output, and its formulas name inputs of its own; a repetition has 1 to 64 copies.
+/// 64 elements; a delay looks back 1 to 16 reactions, with a vector of initial values for each; a definition has at
+/// most 64 inputs, outputs, references, cases or frontier lines each; a function has an output, and its formulas name
+/// inputs of its own; a repetition has 1 to 64 copies.
 pub fn accepted_are_well_read()
     ensures { AcceptedAreWellRead }
 {}

@@ -5,11 +5,11 @@ use Rattle.reference_graph.specs.Links.{Links, from, first_recursive, depths}
 use Rattle.reference_graph.specs.declared.depths.Depths.{Depths}
 use Rattle.reference_graph.specs.declared.depths.Depths.TheVariants.{Recursive, Of}
 
--- every number is that of a vertex
+-- Every number is that of a vertex.
 abbrev pub AreInside : Links → Type 0
 AreInside links = All (All (λ b. b < length links)) links
 
--- vertex a refers to vertex b
+-- Vertex a refers to vertex b.
 abbrev pub Refers : Links → ℕ → ℕ → Type 0
 Refers links a b = Contains (from links a) b
 

@@ -1,5 +1,21 @@
 -- Vertices by number, each with the numbers of those that it refers to: which reach themselves, and how deep each is.
-use Rattle.std.specs.Prelude.{ℕ, zero, suc, max, Bool, ◌||◌, ◌==◌, List, [], ◌∷◌, length, map, Option, slice_index_or, position}
+use Rattle.std.specs.Prelude.{
+  ℕ,
+  zero,
+  suc,
+  max,
+  Bool,
+  ◌||◌,
+  ◌==◌,
+  List,
+  [],
+  ◌∷◌,
+  length,
+  map,
+  Option,
+  slice_index_or,
+  position,
+}
 use Rattle.std.specs.List.{list_any, range_with_len}
 
 abbrev pub Links : Type 0
@@ -8,19 +24,19 @@ Links = List (List ℕ)
 abbrev pub from : Links → ℕ → List ℕ
 from links a = slice_index_or links a []
 
--- a path of at most this many links and one more leads from a to b
+-- A path of at most this many links and one more leads from a to b.
 abbrev pub leads_within : Links → ℕ → ℕ → ℕ → Bool
 leads_within links zero a b = list_any (λ c. c == b) (from links a)
 leads_within links (suc n) a b = leads_within links n a b || list_any (λ c. leads_within links n c b) (from links a)
 
--- a vertex reaches itself, on a path no longer than there are vertices and one
+-- A vertex reaches itself, on a path no longer than there are vertices and one.
 abbrev pub reaches_itself : Links → ℕ → Bool
 reaches_itself links a = leads_within links (length links) a a
 
 abbrev pub numbers : Links → List ℕ
 numbers links = range_with_len 0 (length links)
 
--- the first vertex that reaches itself
+-- The first vertex that reaches itself.
 abbrev pub first_recursive : Links → Option ℕ
 first_recursive links = position (reaches_itself links) (numbers links)
 
@@ -28,7 +44,7 @@ abbrev pub greatest : List ℕ → ℕ
 greatest [] = 0
 greatest (n ∷ ns) = max n (greatest ns)
 
--- how deep references go below a vertex, followed so often
+-- How deep references go below a vertex, followed so often.
 abbrev pub depth_within : Links → ℕ → ℕ → ℕ
 depth_within links zero a = 0
 depth_within links (suc n) a = suc (greatest (map (depth_within links n) (from links a)))

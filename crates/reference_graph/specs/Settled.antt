@@ -3,7 +3,7 @@ use Rattle.std.specs.Prelude.{◌≡◌, ℕ, ◌+◌, ◌<◌, ◌≤◌, List,
 use Rattle.reference_graph.specs.Links.{Links, from, greatest, depth_within, numbers}
 use Rattle.reference_graph.specs.Answer.{Refers}
 
--- by these depths of the others, one more than the deepest reference
+-- The depth of a vertex by these depths of the others: one more than that of the deepest reference.
 abbrev pub depth_by : Links → List ℕ → ℕ → ℕ
 depth_by links depths a = greatest (map (slice_index depths) (from links a)) + 1
 
@@ -14,6 +14,6 @@ pub record IsSettled (links : Links) (depths : List ℕ) (bound : ℕ) : Type 0 
   pub closed : (a b : ℕ) → 0 < slice_index depths a → Refers links a b → 0 < slice_index depths b
   pub bounded : (a : ℕ) → slice_index depths a ≤ bound
 
--- how deep references go below each vertex, followed so often
+-- How deep references go below each vertex, followed so often.
 abbrev pub depths_within : Links → ℕ → List ℕ
 depths_within links n = map (depth_within links n) (numbers links)

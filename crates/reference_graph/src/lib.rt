@@ -1,4 +1,6 @@
-//! Vertices that refer to one another by number: which reach themselves, and how deep each is.
+//! Finds which of some vertices that refer to one another by number reach themselves, and how deep each is.
+//!
+//! The checks of definitions and of graphs call it.
 #![tactic(auto)]
 
 mod depths;

@@ -28,6 +28,7 @@ pub fn are_inside(links: &[Items<u32>]) -> bool
     true
 }
 
+/// Whether each of these numbers is below this one.
 fn are_below(refs: &[u32], count: usize) -> bool
     ensures { IsTrue result ↔ All (λ b. b < count) refs.now }
 {

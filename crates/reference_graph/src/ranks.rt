@@ -21,6 +21,7 @@ pub fn without_return(links: &[Items<u32>], ranks: &[u32]) -> usize
     }
 }
 
+/// Whether no reference leads to a vertex of a greater rank.
 fn never_rise(links: &[Items<u32>], ranks: &[u32]) -> bool
     requires links { AreInside links.now }
     requires same { length ranks.now ≡ length links.now }
@@ -34,6 +35,7 @@ fn never_rise(links: &[Items<u32>], ranks: &[u32]) -> bool
     true
 }
 
+/// How many vertices come before the first that refers to one of no smaller rank.
 fn falling(links: &[Items<u32>], ranks: &[u32]) -> usize
     requires links { AreInside links.now }
     requires same { length ranks.now ≡ length links.now }
@@ -48,6 +50,7 @@ fn falling(links: &[Items<u32>], ranks: &[u32]) -> usize
     links.len()
 }
 
+/// Whether each of these vertices has at most this rank.
 fn are_at_most(refs: &[u32], ranks: &[u32], rank: u32) -> bool
     requires { All (λ b. b < length ranks.now) refs.now }
     ensures { IsTrue result → (b : ℕ) → Contains refs.now b → slice_index ranks.now b ≤ rank }
@@ -60,6 +63,7 @@ fn are_at_most(refs: &[u32], ranks: &[u32], rank: u32) -> bool
     true
 }
 
+/// Whether each of these vertices has a rank below this one.
 fn are_below(refs: &[u32], ranks: &[u32], rank: u32) -> bool
     requires { All (λ b. b < length ranks.now) refs.now }
     ensures { IsTrue result → (b : ℕ) → Contains refs.now b → slice_index ranks.now b < rank }

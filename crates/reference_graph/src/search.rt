@@ -41,6 +41,7 @@ fn mark_all(refs: &[u32], marks: &mut [bool], queue: &mut Vec<u32>) -> Result<()
     Ok(())
 }
 
+/// This many marks, of which none is set.
 fn unmarked(alloc: Global, count: usize) -> Result<Vec<bool>, OutOfMemory>
     ensures { IfOk result (λ v. v.items ≡ replicate count false) }
 {

@@ -22,6 +22,7 @@ pub fn greatest_depth(refs: &[u32], depths: &[u32]) -> u32
     most
 }
 
+/// Whether the depth of each of these vertices is settled.
 fn are_all_settled(refs: &[u32], depths: &[u32]) -> bool
     requires { All (λ b. b < length depths.now) refs.now }
     ensures { IsTrue result → (b : ℕ) → Contains refs.now b → 0 < slice_index depths.now b }

@@ -58,6 +58,7 @@ impl Walk {
         &self.ranks
     }
 
+    /// A walk that has entered no vertex.
     fn start(alloc: Global, count: usize) -> Result<Walk, OutOfMemory> {
         let unseen = Mark {
             entered: 0,
@@ -75,6 +76,7 @@ impl Walk {
         })
     }
 
+    /// Enters a vertex, where that has not happened, and goes on until all that was entered is left.
     fn walk_from(
         &mut self,
         links: &[Items<u32>],
@@ -93,6 +95,7 @@ impl Walk {
         Ok(())
     }
 
+    /// Follows the next reference of a vertex, or leaves it where none is left.
     fn step(&mut self, links: &[Items<u32>], a: u32) -> Result<(), OutOfMemory> {
         match self.next_reference(links, a) {
             Some(b) => self.follow(a, b),
@@ -100,6 +103,7 @@ impl Walk {
         }
     }
 
+    /// The next reference of a vertex, which is followed with this.
     fn next_reference(&mut self, links: &[Items<u32>], a: u32) -> Option<u32> {
         let refs = links.get(a as usize)?.as_slice();
         let mark = self.marks.get_mut(a as usize)?;
@@ -108,6 +112,7 @@ impl Walk {
         Some(*b)
     }
 
+    /// Enters the target of a reference, or notes that the vertex leads back to it.
     fn follow(&mut self, a: u32, b: u32) -> Result<(), OutOfMemory> {
         let entered = self.mark(b).entered;
         if entered == 0 {
@@ -119,6 +124,7 @@ impl Walk {
         Ok(())
     }
 
+    /// Enters a vertex: it is last on the path, and its component is not complete.
     fn enter(&mut self, a: u32) -> Result<(), OutOfMemory> {
         self.entries = self.entries.saturating_add(1);
         let entered = self.entries;
@@ -131,6 +137,7 @@ impl Walk {
         Ok(())
     }
 
+    /// Leaves the last vertex of the path, and completes its component where it is the first of it.
     fn leave(&mut self, a: u32) -> Result<(), OutOfMemory> {
         let _left = self.path.pop();
         self.order.push(a)?;
@@ -158,16 +165,19 @@ impl Walk {
         }
     }
 
+    /// Notes that a vertex leads to one that was entered at this time.
     fn leads_to(&mut self, a: u32, entered: u32) {
         if let Some(mark) = self.marks.get_mut(a as usize) {
             mark.earliest = mark.earliest.min(entered);
         }
     }
 
+    /// The last vertex of the path.
     fn top(&self) -> Option<u32> {
         self.path.last().copied()
     }
 
+    /// What is known of a vertex.
     fn mark(&self, a: u32) -> Mark {
         match self.marks.get(a as usize) {
             Some(mark) => *mark,
@@ -179,12 +189,13 @@ impl Walk {
         }
     }
 
+    /// When the component of a vertex was complete; 0 before.
     fn rank(&self, a: u32) -> u32 {
         self.ranks.get(a as usize).copied().unwrap_or(0)
     }
 }
 
-/// At most this many steps are made: each vertex is left once, and each reference followed once.
+/// How many steps a walk makes at most: each vertex is left once, and each reference followed once.
 fn steps_of(links: &[Items<u32>]) -> usize {
     let mut steps = links.len();
     for row in links {

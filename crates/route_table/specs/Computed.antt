@@ -1,5 +1,22 @@
 -- The least routes of an architecture, computed: of all routes of this many hops, the least one.
-use Rattle.std.specs.Prelude.{ℕ, zero, suc, ◌*◌, ◌==◌, if◌then◌else◌, IsTrue, List, [], ◌∷◌, ◌++◌, map, length, Option, Some, None}
+use Rattle.std.specs.Prelude.{
+  ℕ,
+  zero,
+  suc,
+  ◌*◌,
+  ◌==◌,
+  if◌then◌else◌,
+  IsTrue,
+  List,
+  [],
+  ◌∷◌,
+  ◌++◌,
+  map,
+  length,
+  Option,
+  Some,
+  None,
+}
 use Rattle.std.specs.List.{flat_map, range_with_len}
 use Rattle.archi_graph.specs.declared.medium.Medium.{Medium}
 use Rattle.archi_graph.specs.declared.medium.Hop.{Hop}
@@ -14,7 +31,8 @@ hops_over number stands = map (λ o. record { medium = number; to = o }) stands
 -- the hops from an operator over media that are numbered from this number on
 abbrev pub hops_from : ℕ → ℕ → List Medium → List Hop
 hops_from from number [] = []
-hops_from from number (m ∷ media) = (if stands_at m from then hops_over number m.stands else []) ++ hops_from from (suc number) media
+hops_from from number (m ∷ media) =
+    (if stands_at m from then hops_over number m.stands else []) ++ hops_from from (suc number) media
 
 -- from an operator to itself there is a route without a hop
 abbrev pub stay : ℕ → ℕ → List (List Hop)
@@ -24,7 +42,8 @@ module _ (media : List Medium) where
   -- the routes of at most this many hops from an operator to another
   abbrev pub routes_within : ℕ → ℕ → ℕ → List (List Hop)
   routes_within zero from to = stay from to
-  routes_within (suc hops) from to = stay from to ++ flat_map (λ h. map (λ r. h ∷ r) (routes_within hops h.to to)) (hops_from from 0 media)
+  routes_within (suc hops) from to =
+      stay from to ++ flat_map (λ h. map (λ r. h ∷ r) (routes_within hops h.to to)) (hops_from from 0 media)
 
 -- the second route, where it is there and less
 abbrev pub lesser : List Hop → Option (List Hop) → List Hop
@@ -47,7 +66,10 @@ abbrev pub routes_from : Architecture → ℕ → List (List Hop)
 routes_from a from = map (least_route a.media (2 * length a.operators) from) (range_with_len 0 (length a.operators))
 
 abbrev pub table_of : Architecture → RouteTable
-table_of a = record { operators = length a.operators; routes = flat_map (routes_from a) (range_with_len 0 (length a.operators)) }
+table_of a = record {
+  operators = length a.operators;
+  routes = flat_map (routes_from a) (range_with_len 0 (length a.operators));
+}
 
 -- it is the table of the architecture, which has each least route
 abbrev pub RoutesAreLeast : Type 0

@@ -12,11 +12,14 @@ abbrev pub Covers : List Medium → RouteTable → ℕ → ℕ → ℕ → Type 
 Covers media t hops from to = (r : List Hop) → IsRoute media from r to → length r ≤ hops → is_known t from to ≡ true
 
 -- each route that is there is the least one, and those of at most this many hops are there
-pub record IsKnownWithin (media : List Medium) (t : RouteTable) (hops : ℕ) : Type 0 where
-  pub least : (from to : ℕ) → from < t.operators → to < t.operators → is_known t from to ≡ true → IsLeastRoute media from (route_in t from to) to
-  pub covers : (from to : ℕ) → from < t.operators → to < t.operators → Covers media t hops from to
+pub record IsKnownWithin (media : List Medium) (table : RouteTable) (hops : ℕ) : Type 0 where
+  pub least : (from to : ℕ) → from < table.operators → to < table.operators → is_known table from to ≡ true
+      → IsLeastRoute media from (route_in table from to) to
+  pub covers : (from to : ℕ) → from < table.operators → to < table.operators → Covers media table hops from to
 
 -- the table keeps its size, and what is there stays there
 abbrev pub Grows : RouteTable → RouteTable → Type 0
 Grows before after =
-    (after.operators ≡ before.operators) × (length after.routes ≡ length before.routes) × ((from to : ℕ) → from < before.operators → to < before.operators → is_known before from to ≡ true → is_known after from to ≡ true)
+    (after.operators ≡ before.operators) × (length after.routes ≡ length before.routes) ×
+    ((from to : ℕ) → from < before.operators → to < before.operators → is_known before from to ≡ true
+    → is_known after from to ≡ true)

@@ -1,4 +1,5 @@
--- The least route between two operators: the fewest hops, then the least list of media, then the least list of operators.
+-- The least route between two operators: the fewest hops, then the least list of media, then the least list of
+-- operators.
 use Rattle.std.specs.Prelude.{◌≡◌, ℕ, Bool, true, false, ◌&&◌, ◌||◌, ◌==◌, nat_lt, List, [], ◌∷◌, length, map}
 use Rattle.archi_graph.specs.declared.medium.Medium.{Medium}
 use Rattle.archi_graph.specs.declared.medium.Hop.{Hop}
@@ -25,7 +26,9 @@ are_equal (x ∷ xs) (y ∷ ys) = (x == y) && are_equal xs ys
 
 -- The first route is less. The whole lists of media are compared before any operator.
 abbrev pub is_less : List Hop → List Hop → Bool
-is_less a b = nat_lt (length a) (length b) || ((length a == length b) && (comes_before (media_of a) (media_of b) || (are_equal (media_of a) (media_of b) && comes_before (operators_of a) (operators_of b))))
+is_less a b =
+    nat_lt (length a) (length b) || ((length a == length b) && (comes_before (media_of a) (media_of b) ||
+    (are_equal (media_of a) (media_of b) && comes_before (operators_of a) (operators_of b))))
 
 -- it is a route, and no route is less
 pub record IsLeastRoute (media : List Medium) (from : ℕ) (hops : List Hop) (to : ℕ) : Type 0 where

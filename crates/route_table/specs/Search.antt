@@ -1,5 +1,21 @@
 -- The choice of a route's first hop among those that lead to routes of this many hops.
-use Rattle.std.specs.Prelude.{ℕ, ◌+◌, Bool, true, ◌&&◌, ◌||◌, ◌==◌, nat_lt, if◌then◌else◌, List, [], ◌∷◌, Option, Some, None}
+use Rattle.std.specs.Prelude.{
+  ℕ,
+  ◌+◌,
+  Bool,
+  true,
+  ◌&&◌,
+  ◌||◌,
+  ◌==◌,
+  nat_lt,
+  if◌then◌else◌,
+  List,
+  [],
+  ◌∷◌,
+  Option,
+  Some,
+  None,
+}
 use Rattle.archi_graph.specs.declared.medium.Medium.{Medium}
 use Rattle.archi_graph.specs.declared.medium.Hop.{Hop}
 use Rattle.archi_graph.specs.Archi.{stands_at}
@@ -30,10 +46,12 @@ pick t hops to best h = if is_at t hops h.to to && is_better t to best h then So
 -- the best one of the hops over a medium
 abbrev pub pick_over : RouteTable → ℕ → ℕ → ℕ → Option Hop → List ℕ → Option Hop
 pick_over t hops to number best [] = best
-pick_over t hops to number best (o ∷ stands) = pick_over t hops to number (pick t hops to best (record { medium = number; to = o })) stands
+pick_over t hops to number best (o ∷ stands) =
+    pick_over t hops to number (pick t hops to best (record { medium = number; to = o })) stands
 
 -- the best one of the hops from an operator over media that are numbered from this number on
 abbrev pub pick_among : RouteTable → ℕ → ℕ → ℕ → ℕ → Option Hop → List Medium → Option Hop
 pick_among t hops to from number best [] = best
 pick_among t hops to from number best (m ∷ media) =
-    pick_among t hops to from (number + 1) (if stands_at m from then pick_over t hops to number best m.stands else best) media
+    pick_among t hops to from (number + 1)
+    (if stands_at m from then pick_over t hops to number best m.stands else best) media

@@ -1,4 +1,5 @@
-//! The law of the least routes.
+//! The law of the least routes, by which a schedule over the routes that were found is the schedule
+//! that is defined.
 ghost use Rattle.route_table.specs.Computed.{RoutesAreLeast};
 
 /// The computed routes are the least ones of their architecture, so that whatever is chosen over them is

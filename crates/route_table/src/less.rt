@@ -1,4 +1,4 @@
-//! Which one of two routes is less.
+//! The order of routes, by which `search` compares two of them.
 ghost use Rattle.std.specs.Prelude.{◌≡◌, ◌∷◌, length};
 ghost use Rattle.route_table.specs.Least.{are_equal, comes_before, is_less, media_of, operators_of};
 
@@ -24,6 +24,7 @@ pub fn is_less(hop: Hop, rest: &[Hop], other: Hop, other_rest: &[Hop]) -> bool
     operators_come_before(rest, other_rest)
 }
 
+/// Whether both routes go over the same media.
 fn are_media_equal(hops: &[Hop], others: &[Hop]) -> bool
     requires { length hops.now ≡ length others.now }
     ensures { result ≡ are_equal (media_of hops.now) (media_of others.now) }
@@ -36,6 +37,7 @@ fn are_media_equal(hops: &[Hop], others: &[Hop]) -> bool
     true
 }
 
+/// Whether the media of the first route come before those of the other one.
 fn media_come_before(hops: &[Hop], others: &[Hop]) -> bool
     requires { length hops.now ≡ length others.now }
     ensures { result ≡ comes_before (media_of hops.now) (media_of others.now) }
@@ -48,6 +50,7 @@ fn media_come_before(hops: &[Hop], others: &[Hop]) -> bool
     false
 }
 
+/// Whether the operators of the first route come before those of the other one.
 fn operators_come_before(hops: &[Hop], others: &[Hop]) -> bool
     requires { length hops.now ≡ length others.now }
     ensures { result ≡ comes_before (operators_of hops.now) (operators_of others.now) }

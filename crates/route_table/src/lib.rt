@@ -1,5 +1,7 @@
-//! The least route between each two operators of an architecture: the table that `routes_of` searches, and the
-//! law that it is the one computed from all routes of as many hops (`routes_are_least`).
+//! The least route between each two operators of an architecture, and the law that the routes that
+//! are found are those computed from all routes of as many hops.
+//!
+//! `routes_of` makes the table `Routes`, and `routes_are_least` is the law.
 #![tactic(auto)]
 
 mod laws;

@@ -1,7 +1,10 @@
 //! The routes of an architecture, by rounds: each round finds those that are one hop longer.
+//! `pressure_heuristic` calls `routes_of`.
 ghost use Rattle.std.specs.Prelude.{◌≡◌, ℕ, ◌<◌, ◌≤◌, ◌+◌, ◌∷◌, length, IfOk, OnOk};
+ghost use Rattle.syn_base.specs.Limits.{bound_of};
+ghost use Rattle.syn_base.specs.declared.limits.LimitKind.TheVariants.{Media};
 ghost use Rattle.archi_graph.specs.Routes.{AreOperators};
-ghost use Rattle.route_table.specs.Table.{IsTableOf};
+ghost use Rattle.route_table.specs.Table.{IsTableOf, most_hops};
 ghost use Rattle.route_table.specs.Known.{Covers, Grows, IsKnownWithin};
 
 use crate::search::first_hop;
@@ -25,13 +28,15 @@ pub fn routes_of(alloc: Global, archi: &Archi) -> Result<Routes, OutOfMemory>
     Ok(routes)
 }
 
+/// Puts the routes that are one hop longer than this many into the table, from each operator to
+/// each.
 fn add_routes(
     alloc: Global,
     hops: u32,
     media: &[Medium],
     routes: &mut Routes,
 ) -> Result<(), OutOfMemory>
-    requires few { (hops < 32) × (length media.now ≤ 16) }
+    requires few { (hops < most_hops) × (length media.now ≤ bound_of Media) }
     requires known { AreOperators routes.old.operators media.now }
     requires so_far { IsKnownWithin media.now routes.old hops }
     ensures grows { OnOk result (Grows routes.old routes.new) }
@@ -43,6 +48,7 @@ fn add_routes(
     Ok(())
 }
 
+/// The same from one operator to each.
 fn add_routes_from(
     alloc: Global,
     hops: u32,
@@ -50,7 +56,7 @@ fn add_routes_from(
     from: u32,
     routes: &mut Routes,
 ) -> Result<(), OutOfMemory>
-    requires few { (hops < 32) × (length media.now ≤ 16) }
+    requires few { (hops < most_hops) × (length media.now ≤ bound_of Media) }
     requires from { from < routes.old.operators }
     requires known { AreOperators routes.old.operators media.now }
     requires so_far { IsKnownWithin media.now routes.old hops }
@@ -65,6 +71,7 @@ fn add_routes_from(
     Ok(())
 }
 
+/// The same from one operator to another one. A route that is there stays, since it has fewer hops.
 fn add_route(
     alloc: Global,
     hops: u32,
@@ -73,7 +80,7 @@ fn add_route(
     to: u32,
     routes: &mut Routes,
 ) -> Result<(), OutOfMemory>
-    requires few { (hops < 32) × (length media.now ≤ 16) }
+    requires few { (hops < most_hops) × (length media.now ≤ bound_of Media) }
     requires places { (from < routes.old.operators) × (to < routes.old.operators) }
     requires known { AreOperators routes.old.operators media.now }
     requires so_far { IsKnownWithin media.now routes.old hops }
@@ -85,14 +92,15 @@ fn add_route(
         return Ok(());
     }
     if let Some(hop) = first_hop(routes, hops, from, to, media) {
-        let route = after(alloc, hop, routes.route(hop.to, to))?;
+        let route = prepend(alloc, hop, routes.route(hop.to, to))?;
         routes.put(from, to, route);
     }
     Ok(())
 }
 
-fn after(alloc: Global, hop: Hop, rest: &[Hop]) -> Result<Items<Hop>, OutOfMemory>
-    requires { length rest.now ≤ 32 }
+/// The route over this hop and then along the rest.
+fn prepend(alloc: Global, hop: Hop, rest: &[Hop]) -> Result<Items<Hop>, OutOfMemory>
+    requires { length rest.now ≤ most_hops }
     ensures { IfOk result (λ r. r ≡ hop ∷ rest.now) }
 {
     let mut route = Vec::with_capacity(alloc, rest.len() + 1)?;

@@ -1,5 +1,7 @@
-//! The choice of a route's first hop.
+//! The choice of a route's first hop, which `rounds` makes for each two operators.
 ghost use Rattle.std.specs.Prelude.{◌≡◌, ◌<◌, ◌≤◌, All, length, None, IfSome};
+ghost use Rattle.syn_base.specs.Limits.{bound_of};
+ghost use Rattle.syn_base.specs.declared.limits.LimitKind.TheVariants.{Media};
 ghost use Rattle.archi_graph.specs.Archi.{stands_at};
 ghost use Rattle.archi_graph.specs.Routes.{AreOperators};
 ghost use Rattle.route_table.specs.Search.{is_better, pick, pick_over, pick_among};
@@ -14,7 +16,7 @@ use archi_graph::{Hop, Medium};
 pub fn first_hop(routes: &Routes, hops: u32, from: u32, to: u32, media: &[Medium]) -> Option<Hop>
     requires to { to < routes.now.operators }
     requires known { AreOperators routes.now.operators media.now }
-    requires few { length media.now ≤ 16 }
+    requires few { length media.now ≤ bound_of Media }
     ensures chosen { result ≡ pick_among routes.now hops to from 0 None media.now }
     ensures below { IfSome result (λ h. h.to < routes.now.operators) }
 {
@@ -28,12 +30,14 @@ pub fn first_hop(routes: &Routes, hops: u32, from: u32, to: u32, media: &[Medium
     best
 }
 
+/// Whether the operator stands at the medium.
 fn is_stand(operator: u32, medium: &Medium) -> bool
     ensures { result ≡ stands_at medium.now operator }
 {
     medium.stands.as_slice().contains(&operator)
 }
 
+/// The best hop so far, or a better one over this medium to one of these operators.
 fn first_over(
     routes: &Routes,
     hops: u32,
@@ -54,6 +58,8 @@ fn first_over(
     best
 }
 
+/// The best hop so far, or this one where it leads to a route of this many hops and makes a lesser
+/// route.
 fn better(routes: &Routes, hops: u32, to: u32, best: Option<Hop>, hop: Hop) -> Option<Hop>
     requires to { to < routes.now.operators }
     requires hop { hop.to < routes.now.operators }
@@ -68,6 +74,8 @@ fn better(routes: &Routes, hops: u32, to: u32, best: Option<Hop>, hop: Hop) -> O
     }
 }
 
+/// Whether a hop, with the route from where it leads, makes a lesser route than the best hop so
+/// far.
 fn is_better(routes: &Routes, to: u32, best: Option<Hop>, hop: Hop) -> bool
     requires to { to < routes.now.operators }
     requires hop { hop.to < routes.now.operators }

@@ -1,6 +1,8 @@
-//! The table of routes.
+//! The table of routes, which `comm_routing` carries values along.
 ghost use Rattle.std.specs.Prelude.{◌≡◌, ℕ, ◌+◌, ◌*◌, ◌<◌, ◌≤◌, ◌≢◌, ◌⊎◌, [], All, length, slice_index_or, IfOk};
-ghost use Rattle.route_table.specs.Table.{RouteTable, route_in, level_in};
+ghost use Rattle.syn_base.specs.Limits.{bound_of};
+ghost use Rattle.syn_base.specs.declared.limits.LimitKind.TheVariants.{Operators};
+ghost use Rattle.route_table.specs.Table.{RouteTable, level_in, most_hops, route_in};
 ghost use Rattle.route_table.specs.Search.{is_at, is_known};
 
 use archi_graph::Hop;
@@ -18,13 +20,16 @@ pub struct Routes {
 
 impl Model for Routes {
     ghost use Rattle.std.specs.Prelude.{◌≡◌, ◌*◌, ◌≤◌, All, length};
-    ghost use Rattle.route_table.specs.Table.{RouteTable};
+    ghost use Rattle.syn_base.specs.Limits.{bound_of};
+    ghost use Rattle.syn_base.specs.declared.limits.LimitKind.TheVariants.{Operators};
+    ghost use Rattle.route_table.specs.Table.{RouteTable, most_hops};
 
     ghost Value = { RouteTable };
 
     ghost view = { λ s. record { operators = s.operators; routes = s.routes.items } };
 
-    ghost invariant = { λ s. (s.operators ≤ 16) × (length s.routes.items ≡ s.operators * s.operators) × All (λ r. length r ≤ 32) s.routes.items };
+    ghost invariant = { λ s. (s.operators ≤ bound_of Operators) × (length s.routes.items ≡ s.operators * s.operators) ×
+        All (λ r. length r ≤ most_hops) s.routes.items };
 }
 
 impl Routes {
@@ -49,7 +54,7 @@ impl Routes {
 
     /// A table of this many operators in which only the routes from operators to themselves are there.
     pub(crate) fn new(alloc: Global, operators: u32) -> Result<Routes, OutOfMemory>
-        requires { operators ≤ 16 }
+        requires { operators ≤ bound_of Operators }
         ensures { IfOk result (λ t. (t.operators ≡ operators) ×
             (length t.routes ≡ operators * operators) × ((from to : ℕ) → route_in t from to ≡ [])) }
     {
@@ -78,7 +83,7 @@ impl Routes {
     /// Puts a route in its place. It takes no memory.
     pub(crate) fn put(&mut self, from: u32, to: u32, route: Items<Hop>)
         requires places { (from < self.old.operators) × (to < self.old.operators) }
-        requires short { length route ≤ 32 }
+        requires short { length route ≤ most_hops }
         ensures operators { self.new.operators ≡ self.old.operators }
         ensures size { length self.new.routes ≡ length self.old.routes }
         ensures put { route_in self.new from to ≡ route }
@@ -97,8 +102,9 @@ impl Routes {
     }
 }
 
+/// The place of a route in a table of this many operators.
 fn place(operators: u32, from: u32, to: u32) -> usize
-    requires few { operators ≤ 16 }
+    requires few { operators ≤ bound_of Operators }
     requires places { (from < operators) × (to < operators) }
     ensures place { result ≡ from * operators + to }
     ensures within { result < operators * operators }
@@ -106,11 +112,12 @@ fn place(operators: u32, from: u32, to: u32) -> usize
     (from * operators + to) as usize
 }
 
+/// This many routes without hops.
 fn empty_routes(alloc: Global, count: u32) -> Result<Vec<Items<Hop>>, OutOfMemory>
     requires { count ≤ 256 }
     ensures length { IfOk result (λ v. length v.items ≡ count) }
     ensures empty { IfOk result (λ v. (i : ℕ) → slice_index_or v.items i [] ≡ []) }
-    ensures short { IfOk result (λ v. All (λ r. length r ≤ 32) v.items) }
+    ensures short { IfOk result (λ v. All (λ r. length r ≤ most_hops) v.items) }
 {
     let mut routes = Vec::new(alloc);
     for _ in 0..count {

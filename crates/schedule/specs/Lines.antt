@@ -1,5 +1,28 @@
--- The check of a schedule's lines: the operations of each operator, and the transfers of each medium. What is kept of the acts so far stands in tables by number.
-use Rattle.std.specs.Prelude.{◌≡◌, ℕ, ◌≤◌, Bool, true, false, ◌&&◌, nat_le, nat_lt, List, [], ◌∷◌, length, Option, Some, None, is_none, is_some, slice_get, slice_index_or, slice_set}
+-- The check of a schedule's lines: the operations of each operator, and the transfers of each medium. What is kept
+-- of the acts so far stands in tables by number.
+use Rattle.std.specs.Prelude.{
+  ◌≡◌,
+  ℕ,
+  ◌≤◌,
+  Bool,
+  true,
+  false,
+  ◌&&◌,
+  nat_le,
+  nat_lt,
+  List,
+  [],
+  ◌∷◌,
+  length,
+  Option,
+  Some,
+  None,
+  is_none,
+  is_some,
+  slice_get,
+  slice_index_or,
+  slice_set,
+}
 use Rattle.std.specs.List.{list_all, range_with_len}
 use Rattle.flat_graph.specs.declared.vertex.Kind.{Kind}
 use Rattle.flat_graph.specs.declared.vertex.Kind.TheVariants.{Set}
@@ -43,15 +66,19 @@ module _ (s : Setting) where
   -- The medium joins both operators, and carries the value, which is there, in this time and when it is free.
   abbrev pub may_carry : Lines → Transfer → Bool
   may_carry l t =
-      nat_le 1 (len_of s.vertices.now t.source) && is_carried (slice_get s.media.now t.medium) (len_of s.vertices.now t.source) t && nat_le (slice_index_or l.ends t.medium 0) t.start
+      nat_le 1 (len_of s.vertices.now t.source) &&
+      is_carried (slice_get s.media.now t.medium) (len_of s.vertices.now t.source) t &&
+      nat_le (slice_index_or l.ends t.medium 0) t.start
 
   -- The operation was not placed before, and it runs on this operator for its time and when the operator is free.
   abbrev pub runs_in_time : Lines → Decision → Bool
   runs_in_time l d =
-      nat_lt d.operator s.operators && (lasts (entry_in s.durations.now d.op d.operator) d.start d.end && is_none (slice_index_or l.places d.op None) && nat_le (slice_index_or l.busy d.operator 0) d.start)
+      nat_lt d.operator s.operators && (lasts (entry_in s.durations.now d.op d.operator) d.start d.end &&
+      is_none (slice_index_or l.places d.op None) && nat_le (slice_index_or l.busy d.operator 0) d.start)
 
   abbrev pub may_run : Lines → Decision → Bool
-  may_run l d = with_vertex (slice_get s.vertices.now d.op) false (λ x. follows l d.operator x.kind x.twin && runs_in_time l d)
+  may_run l d =
+      with_vertex (slice_get s.vertices.now d.op) false (λ x. follows l d.operator x.kind x.twin && runs_in_time l d)
 
   abbrev pub may_follow : Lines → Act → Bool
   may_follow l (carry t) = may_carry l t
@@ -59,7 +86,11 @@ module _ (s : Setting) where
 
   abbrev pub lines_after : Lines → Act → Lines
   lines_after l (carry t) = record { places = l.places; busy = l.busy; ends = slice_set l.ends t.medium t.end }
-  lines_after l (run d) = record { places = slice_set l.places d.op (Some d.operator); busy = slice_set l.busy d.operator d.end; ends = l.ends }
+  lines_after l (run d) = record {
+    places = slice_set l.places d.op (Some d.operator);
+    busy = slice_set l.busy d.operator d.end;
+    ends = l.ends;
+  }
 
   -- each operation is placed
   abbrev pub are_all_placed : Lines → Bool

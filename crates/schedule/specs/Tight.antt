@@ -1,10 +1,41 @@
--- Which schedules are tight: no act waits longer than for the act before it in its line, and for those that make what it reads.
-use Rattle.std.specs.Prelude.{◌≡◌, ◌↔◌, ℕ, Bool, true, ◌&&◌, ◌==◌, IsTrue, List, [], ◌∷◌, ◌++◌, max, Some, slice_get, take}
+-- Which schedules are tight: no act waits longer than for the act before it in its line, and for those that make
+-- what it reads.
+use Rattle.std.specs.Prelude.{
+  ◌≡◌,
+  ◌↔◌,
+  ℕ,
+  Bool,
+  true,
+  ◌&&◌,
+  ◌==◌,
+  IsTrue,
+  List,
+  [],
+  ◌∷◌,
+  ◌++◌,
+  max,
+  Some,
+  slice_get,
+  take,
+}
 use Rattle.std.specs.List.{list_any, filter}
 use Rattle.flat_graph.specs.declared.vertex.Vertex.{Vertex}
 use Rattle.flat_graph.specs.Graph.{Graph}
 use Rattle.schedule.specs.declared.decision.Schedule.{Schedule}
-use Rattle.schedule.specs.Acts.{Act, carry, run, acts, start_of, end_of, is_over, is_on, same_copy, read_by, made_by, latest}
+use Rattle.schedule.specs.Acts.{
+  Act,
+  carry,
+  run,
+  acts,
+  start_of,
+  end_of,
+  is_over,
+  is_on,
+  same_copy,
+  read_by,
+  made_by,
+  latest,
+}
 
 -- The line of a transfer is its medium, that of a run its operator: the second act is in the line of the first.
 abbrev pub same_line : Act → Act → Bool
@@ -36,4 +67,5 @@ is_tight g s = are_tight g.vertices [] (acts s)
 -- a schedule is tight exactly where each act, by number, starts at its earliest date after the acts before it
 abbrev pub TightActByAct : Type 0
 TightActByAct = (g : Graph) (s : Schedule)
-    → IsTrue (is_tight g s) ↔ ((i : ℕ) (x : Act) → slice_get (acts s) i ≡ Some x → start_of x ≡ earliest g.vertices (take i (acts s)) x)
+    → IsTrue (is_tight g s) ↔
+    ((i : ℕ) (x : Act) → slice_get (acts s) i ≡ Some x → start_of x ≡ earliest g.vertices (take i (acts s)) x)

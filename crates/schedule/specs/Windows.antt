@@ -1,5 +1,32 @@
 -- The check of copies, for the outputs of sixteen operations at a time: a table says from when on each copy is held.
-use Rattle.std.specs.Prelude.{◌≡◌, ℕ, ◌+◌, ◌-◌, ◌*◌, Bool, true, false, ◌&&◌, ◌||◌, not, if◌then◌else◌, nat_le, nat_lt, min, List, [], ◌∷◌, ◌++◌, length, Option, Some, None, is_none, slice_index_or, slice_set}
+use Rattle.std.specs.Prelude.{
+  ◌≡◌,
+  ℕ,
+  ◌+◌,
+  ◌-◌,
+  ◌*◌,
+  Bool,
+  true,
+  false,
+  ◌&&◌,
+  ◌||◌,
+  not,
+  if◌then◌else◌,
+  nat_le,
+  nat_lt,
+  min,
+  List,
+  [],
+  ◌∷◌,
+  ◌++◌,
+  length,
+  Option,
+  Some,
+  None,
+  is_none,
+  slice_index_or,
+  slice_set,
+}
 use Rattle.std.specs.List.{list_all, list_any}
 use Rattle.flat_graph.specs.declared.vertex.Vertex.{Vertex}
 use Rattle.schedule.specs.declared.window.Window.{Window}
@@ -14,7 +41,8 @@ pub record IsEmpty (w : Window) (first : ℕ) : Type 0 where
 -- the table has a place for the copy
 abbrev pub covers : ℕ → Copy → Bool
 covers first c =
-    nat_le first c.source.vertex && nat_lt c.source.vertex (first + 16) && nat_lt c.source.port 64 && nat_lt c.operator 16
+    nat_le first c.source.vertex && nat_lt c.source.vertex (first + 16) && nat_lt c.source.port 64 &&
+    nat_lt c.operator 16
 
 abbrev pub place : ℕ → Copy → ℕ
 place first c = ((c.source.vertex - first) * 64 + c.source.port) * 16 + c.operator
@@ -70,13 +98,16 @@ module _ (vertices : List Vertex) where
   abbrev pub is_made : List Act → Copy → Bool
   is_made before c = list_any (λ y. list_any (same_copy c) (made_by vertices y)) before
 
-  -- Of the copies that a table from this operation on covers: what a transfer brings was not there, and what an act reads is held when it starts.
+  -- Of the copies that a table from this operation on covers: what a transfer brings was not there, and what an act
+  -- reads is held when it starts.
   abbrev pub is_fresh : ℕ → List Act → Act → Bool
   is_fresh first before (carry t) = not (covers first (copy t.to t.source)) || not (is_made before (copy t.to t.source))
   is_fresh first before (run d) = true
 
   abbrev pub is_fed : ℕ → List Act → Act → Bool
-  is_fed first before x = is_fresh first before x && list_all (λ c. not (covers first c) || held_by before (start_of x) c) (read_by vertices x)
+  is_fed first before x =
+      is_fresh first before x &&
+      list_all (λ c. not (covers first c) || held_by before (start_of x) c) (read_by vertices x)
 
   abbrev pub fed_after : ℕ → List Act → List Act → Bool
   fed_after first before [] = true

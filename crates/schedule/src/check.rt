@@ -1,4 +1,4 @@
-//! Whether a schedule is valid.
+//! The exact check of a schedule, `is_valid`, for schedules of any origin.
 ghost use Rattle.std.specs.Prelude.{◌≡◌, ◌<◌, ◌≤◌, ◌+◌, ◌/◌, length};
 ghost use Rattle.std.specs.List.{list_all, range_with_len};
 ghost use Rattle.syn_base.specs.Limits.{most_operations};
@@ -15,7 +15,7 @@ use archi_graph::Archi;
 use durations::Durations;
 use flat_graph::{Flat, Vertex};
 
-/// Whether a schedule is valid for a flat graph on an architecture, where operations last so long. Of
+/// Whether a schedule is valid for a flat graph on an architecture, by these durations of operations. Of
 /// each act counts what the acts before it have done: decision by decision its transfers, and then its
 /// operation. Each operation is placed once, on an operator where it may stand, and lasts its time.
 /// Acts of one operator, or of one medium, follow each other without an overlap. A transfer joins two

@@ -1,4 +1,5 @@
-//! Decisions of a schedule.
+//! The decisions of a schedule, as plain data. `comm_routing` makes them, and all crates that
+//! follow a schedule read them.
 ghost use Rattle.std.specs.Prelude.{◌≡◌, map};
 ghost use Rattle.schedule.specs.Acts.{acts_of, carry, latest, length_of};
 
@@ -43,6 +44,7 @@ impl Schedule {
     }
 }
 
+/// The latest end of these decisions' operations and transfers.
 fn latest_end(decisions: &[Decision]) -> u64
     ensures { result ≡ latest (acts_of decisions.now) }
 {
@@ -54,6 +56,7 @@ fn latest_end(decisions: &[Decision]) -> u64
     latest
 }
 
+/// The latest end of these transfers.
 fn latest_of(transfers: &[Transfer]) -> u64
     ensures { result ≡ latest (map carry transfers.now) }
 {

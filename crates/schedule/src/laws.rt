@@ -1,4 +1,4 @@
-//! What holds of tight schedules.
+//! The law of tight schedules, act by act, which says what the definition means.
 ghost use Rattle.schedule.specs.Tight.{TightActByAct};
 
 /// A schedule is tight exactly where each act starts at the greatest end of the act before it in its line

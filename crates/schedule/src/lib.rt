@@ -1,7 +1,9 @@
 //! Schedules: where and when each operation of a flat graph runs, and which values are carried over
-//! which media. `is_valid` decides exactly whether a schedule is valid, and `Schedule::length` is its
-//! latest end. Schedules are made by `comm_routing` and `pressure_heuristic`, and read by
-//! `timing_chart`.
+//! which media; with an exact check of whether a schedule is valid.
+//!
+//! `is_valid` is the check, and `Schedule::length` is a schedule's latest end. Schedules are made
+//! by `comm_routing` and `pressure_heuristic`, and read by `timing_chart` and by whoever builds
+//! programs.
 #![tactic(auto)]
 
 mod check;

@@ -1,4 +1,5 @@
-//! The acts of each operator and of each medium, one after another.
+//! The lines of a schedule: the acts of each operator and of each medium, one after another.
+//! `is_valid` checks them first.
 ghost use Rattle.std.specs.Prelude.{◌≡◌, ℕ, ◌<◌, ◌≤◌, ◌==◌, ◌&&◌, ◌+◌, ◌++◌, ◌∷◌, List, None, Some, IsTrue, length, map, slice_index_or, slice_set, is_some};
 ghost use Rattle.std.specs.List.{list_all, range_with_len};
 ghost use Rattle.syn_base.specs.Limits.{most_operations};
@@ -23,6 +24,7 @@ pub(crate) struct Lines {
 }
 
 impl Lines {
+    /// No act was done so far.
     pub fn new() -> Lines
         ensures { IsStart result }
     {
@@ -66,6 +68,7 @@ impl Lines {
         true
     }
 
+    /// Takes transfers one after the other, as long as each may follow.
     fn carry_all(&mut self, setting: &Setting, transfers: &[Transfer]) -> bool
         requires setting { IsSetting setting.now }
         requires sizes { HasPlaces self.old }
@@ -82,6 +85,7 @@ impl Lines {
         true
     }
 
+    /// Takes a transfer: its medium is free from its end on.
     fn carry(&mut self, transfer: Transfer)
         requires { transfer.medium < length self.old.ends }
         ensures { self.new ≡ record {
@@ -93,6 +97,7 @@ impl Lines {
         self.ends[transfer.medium as usize] = transfer.end;
     }
 
+    /// Takes a decision's operation: it is placed, and its operator is free from its end on.
     fn run(&mut self, decision: &Decision)
         requires { (decision.now.op < length self.old.places) × (decision.now.operator < length self.old.busy) }
         ensures { self.new ≡ record {
@@ -107,6 +112,7 @@ impl Lines {
         self.busy[decision.operator as usize] = decision.end;
     }
 
+    /// Whether the transfer carries a value over its medium in its time, when the medium is free.
     fn may_carry(&self, setting: &Setting, transfer: Transfer) -> bool
         requires sizes { HasPlaces self.now }
         requires few { length setting.now.media.now ≤ 16 }
@@ -124,11 +130,14 @@ impl Lines {
         is_carried(&setting.media[medium], len, transfer) && self.ends[medium] <= transfer.start
     }
 
+    /// Whether the operation is there and may run: not placed before, in its time, beside its get
+    /// half.
     fn may_run(&self, setting: &Setting, decision: &Decision) -> bool
         requires setting { IsSetting setting.now }
         requires sizes { HasPlaces self.now }
         ensures may { result ≡ may_run setting.now self.now decision.now }
-        ensures places { IsTrue result → (decision.now.op < most_operations) × (decision.now.operator < 16) }
+        ensures places { IsTrue result →
+            (decision.now.op < most_operations) × (decision.now.operator < 16) }
     {
         let op = decision.op as usize;
         if op >= setting.vertices.len() {
@@ -139,6 +148,8 @@ impl Lines {
             && self.runs_in_time(setting, decision)
     }
 
+    /// Whether the operation was not placed before, and runs on its operator for its time when the
+    /// operator is free.
     fn runs_in_time(&self, setting: &Setting, decision: &Decision) -> bool
         requires setting { IsSetting setting.now }
         requires sizes { HasPlaces self.now }
@@ -170,6 +181,7 @@ impl Lines {
         }
     }
 
+    /// Whether the operation is placed on this operator.
     fn stands_on(&self, op: u32, operator: u32) -> bool
         requires { HasPlaces self.now }
         ensures { result ≡ names (slice_index_or self.now.places op None) operator }
@@ -184,14 +196,17 @@ impl Lines {
         }
     }
 
+    /// Whether each of this many operations is placed.
     fn are_all_placed(&self, operations: usize) -> bool
         requires few { operations ≤ most_operations }
         requires sizes { HasPlaces self.now }
-        ensures { result ≡ list_all (λ v. is_some (slice_index_or self.now.places v None)) (range_with_len 0 operations) }
+        ensures { result ≡
+            list_all (λ v. is_some (slice_index_or self.now.places v None)) (range_with_len 0 operations) }
     {
         (0..operations).all(|op| self.is_placed(op))
     }
 
+    /// Whether the operation is placed.
     fn is_placed(&self, op: usize) -> bool
         requires { HasPlaces self.now }
         ensures { result ≡ is_some (slice_index_or self.now.places op None) }
@@ -200,6 +215,8 @@ impl Lines {
     }
 }
 
+/// A table in which no operation is placed. It stands in a function of its own, whose clause says
+/// what each place has.
 #[tactic(auto, using(crate::proofs::Starts::no_entry))]
 fn no_places() -> [Option<u32>; 2048]
     ensures size { length result ≡ 2048 }
@@ -208,6 +225,7 @@ fn no_places() -> [Option<u32>; 2048]
     [None; 2048]
 }
 
+/// A table in which nothing has ended.
 fn no_dates() -> [u64; 16]
     ensures size { length result ≡ 16 }
     ensures none { (o : ℕ) → slice_index_or result o 0 ≡ 0 }
@@ -225,6 +243,7 @@ fn is_carried(medium: &Medium, len: u32, transfer: Transfer) -> bool
         && takes(transfer.start, transfer.end, time)
 }
 
+/// Whether the operator stands at the medium.
 fn stands_at(medium: &Medium, operator: u32) -> bool
     ensures { result ≡ stands_at medium.now operator }
 {
@@ -245,6 +264,7 @@ fn lasts(ticks: Option<u64>, start: u64, end: u64) -> bool
     }
 }
 
+/// Whether exactly this many ticks lie between both dates.
 fn takes(start: u64, end: u64, ticks: u64) -> bool
     ensures { result ≡ (end == start + ticks) }
 {

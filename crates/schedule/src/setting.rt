@@ -1,4 +1,4 @@
-//! What a schedule is for.
+//! The setting of a schedule: what its check is asked beside it.
 use archi_graph::Medium;
 use durations::Durations;
 use flat_graph::Vertex;

@@ -1,4 +1,5 @@
-//! Copies of values on operators: whether each act reads what is held when it starts.
+//! Windows over the copies of values on operators: whether each act reads what is held when it
+//! starts. `is_valid` checks one window after the other.
 ghost use Rattle.std.specs.Prelude.{◌≡◌, ℕ, ◌<◌, ◌+◌, ◌&&◌, ◌++◌, ◌∷◌, List, None, Some, IsTrue, true, length, map, slice_index_or};
 ghost use Rattle.std.specs.List.{list_all};
 ghost use Rattle.flat_graph.specs.declared.vertex.Vertex.{Vertex};
@@ -41,6 +42,7 @@ impl Window {
         true
     }
 
+    /// Takes a decision, where its acts read what is held by then and bring what is not there.
     fn take(&mut self, vertices: &[Vertex], decision: &Decision) -> bool
         requires { length self.old.held ≡ 16384 }
         ensures size { length self.new.held ≡ 16384 }
@@ -54,6 +56,8 @@ impl Window {
         self.run(vertices, decision)
     }
 
+    /// Takes transfers one after the other, as long as each carries what is held by then and brings
+    /// what is not there.
     fn carry_all(&mut self, transfers: &[Transfer]) -> bool
         requires { length self.old.held ≡ 16384 }
         ensures size { length self.new.held ≡ 16384 }
@@ -69,6 +73,8 @@ impl Window {
         true
     }
 
+    /// Takes a transfer, where its near operator holds the value when it starts, and its far
+    /// operator does not have it.
     fn carry(&mut self, transfer: Transfer) -> bool
         requires { length self.old.held ≡ 16384 }
         ensures size { length self.new.held ≡ 16384 }
@@ -90,6 +96,8 @@ impl Window {
         true
     }
 
+    /// Takes a decision's operation, where what it reads is held when it starts. An operation that
+    /// is not there reads and makes nothing.
     fn run(&mut self, vertices: &[Vertex], decision: &Decision) -> bool
         requires { length self.old.held ≡ 16384 }
         ensures size { length self.new.held ≡ 16384 }
@@ -108,6 +116,7 @@ impl Window {
         true
     }
 
+    /// Whether all that the operation reads is held on its operator when it starts.
     #[tactic(auto, using(crate::proofs::Starts::reads_by_parts))]
     fn reads(&self, decision: &Decision, vertex: &Vertex) -> bool
         requires { length self.now.held ≡ 16384 }
@@ -118,6 +127,7 @@ impl Window {
             && self.reads_inputs(decision, vertex.ins.as_slice())
     }
 
+    /// Whether what these guards read is held on the decision's operator when it starts.
     fn reads_guards(&self, decision: &Decision, guards: &[Guard]) -> bool
         requires { length self.now.held ≡ 16384 }
         ensures { result ≡ list_all (λ g. is_in_time self.now decision.now.start
@@ -126,6 +136,7 @@ impl Window {
         guards.iter().all(|guard| self.is_in_time(decision.start, decision.operator, guard.source))
     }
 
+    /// Whether these sources are held on the decision's operator when it starts.
     fn reads_inputs(&self, decision: &Decision, sources: &[Source]) -> bool
         requires { length self.now.held ≡ 16384 }
         ensures { result ≡ list_all (λ x. is_in_time self.now decision.now.start
@@ -134,6 +145,8 @@ impl Window {
         sources.iter().all(|source| self.is_in_time(decision.start, decision.operator, *source))
     }
 
+    /// The operator holds the operation's outputs from its end on. The table has places for 64
+    /// outputs, so no others are noted.
     fn note_outputs(&mut self, decision: &Decision, outs: &[u32])
         requires { length self.old.held ≡ 16384 }
         ensures size { length self.new.held ≡ 16384 }
@@ -170,6 +183,7 @@ impl Window {
         }
     }
 
+    /// Whether the copy is not there so far. Of copies that the table does not cover, any may come.
     fn is_new(&self, operator: u32, source: Source) -> bool
         requires { length self.now.held ≡ 16384 }
         ensures { result ≡ is_new self.now (copy operator source) }
@@ -177,6 +191,8 @@ impl Window {
         !self.covers(operator, source) || self.held[self.place(operator, source)].is_none()
     }
 
+    /// Whether the copy is held by this date. Of copies that the table does not cover, any may be
+    /// read.
     fn is_in_time(&self, date: u64, operator: u32, source: Source) -> bool
         requires { length self.now.held ≡ 16384 }
         ensures { result ≡ is_in_time self.now date (copy operator source) }
@@ -184,6 +200,7 @@ impl Window {
         !self.covers(operator, source) || is_by(self.held[self.place(operator, source)], date)
     }
 
+    /// Whether the table has a place for the copy.
     fn covers(&self, operator: u32, source: Source) -> bool
         ensures { result ≡ covers self.now.first (copy operator source) }
     {
@@ -193,6 +210,7 @@ impl Window {
             && operator < 16
     }
 
+    /// The place of the copy in the table.
     fn place(&self, operator: u32, source: Source) -> usize
         requires { IsTrue (covers self.now.first (copy operator source)) }
         ensures place { result ≡ place self.now.first (copy operator source) }
@@ -203,6 +221,8 @@ impl Window {
     }
 }
 
+/// A table in which no copy is held. It stands in a function of its own, whose clause says what
+/// each place has.
 #[tactic(auto, using(crate::proofs::Starts::no_entry))]
 fn nothing_held() -> [Option<u64>; 16384]
     ensures size { length result ≡ 16384 }
@@ -211,6 +231,7 @@ fn nothing_held() -> [Option<u64>; 16384]
     [None; 16384]
 }
 
+/// Whether there is a date, and it is no later than this one.
 fn is_by(start: Option<u64>, date: u64) -> bool
     ensures { result ≡ is_by start date }
 {
@@ -220,6 +241,7 @@ fn is_by(start: Option<u64>, date: u64) -> bool
     }
 }
 
+/// The lesser of both dates, or the second one where the first is not there.
 fn lesser(start: Option<u64>, date: u64) -> u64
     ensures { result ≡ lesser_date start date }
 {

@@ -1,5 +1,25 @@
--- The steps of a schedule's acts, one act after another: of each the entry, the line, and the entries of the acts that make what it reads.
-use Rattle.std.specs.Prelude.{◌≡◌, ℕ, ◌+◌, ◌*◌, ◌<◌, ◌≤◌, List, [], ◌∷◌, ◌++◌, length, map, replicate, Some, All, slice_get, slice_index_or, slice_set}
+-- The steps of a schedule's acts, one act after another: of each the entry, the line, and the entries of the acts that
+-- make what it reads.
+use Rattle.std.specs.Prelude.{
+  ◌≡◌,
+  ℕ,
+  ◌+◌,
+  ◌*◌,
+  ◌<◌,
+  ◌≤◌,
+  List,
+  [],
+  ◌∷◌,
+  ◌++◌,
+  length,
+  map,
+  replicate,
+  Some,
+  All,
+  slice_get,
+  slice_index_or,
+  slice_set,
+}
 use Rattle.flat_graph.specs.declared.vertex.Vertex.{Vertex}
 use Rattle.flat_graph.specs.declared.vertex.Guard.{Guard}
 use Rattle.flat_graph.specs.declared.vertex.Source.{Source}
@@ -53,7 +73,11 @@ next_after next (run d) = next
 next_after next (carry t) = next + 1
 
 abbrev pub step_of : Laid → Act → Step
-step_of l x = record { entry = entry_after l.next x; line = line_of x; sources = map (maker_in l.makers) (read_by l.vertices x) }
+step_of l x = record {
+  entry = entry_after l.next x;
+  line = line_of x;
+  sources = map (maker_in l.makers) (read_by l.vertices x);
+}
 
 -- one more act, and more acts
 abbrev pub after : Laid → Act → Laid
@@ -89,13 +113,17 @@ Follows l these m = (rest : List Act) → after_all l (these rest) ≡ after_all
 
 -- with one more step, and with makers that are noted
 abbrev pub with_step : Laid → ℕ → Line → List ℕ → Laid
-with_step l entry line sources = record l { steps = l.steps ++ record { entry = entry; line = line; sources = sources } ∷ [] }
+with_step l entry line sources = record l {
+  steps = l.steps ++ record { entry = entry; line = line; sources = sources } ∷ [];
+}
 
 abbrev pub with_note : Laid → Copy → ℕ → Laid
 with_note l c entry = record l { makers = with_maker l.makers c entry }
 
 abbrev pub with_outputs : Laid → ℕ → ℕ → List ℕ → Laid
-with_outputs l op operator outs = record l { makers = with_makers l.makers (map (copy operator) (outputs_from op 0 outs)) op }
+with_outputs l op operator outs = record l {
+  makers = with_makers l.makers (map (copy operator) (outputs_from op 0 outs)) op;
+}
 
 -- the makers of what guards and inputs read on an operator
 abbrev pub guard_makers : List (List ℕ) → ℕ → List Guard → List ℕ

@@ -1,5 +1,24 @@
 -- One reaction, step by step.
-use Rattle.std.specs.Prelude.{◌≡◌, ℕ, ◌+◌, ◌-◌, ◌^◌, ◌<◌, nat_le, List, [], ◌∷◌, length, map, max, replicate, cond, All, slice_index_or, slice_set}
+use Rattle.std.specs.Prelude.{
+  ◌≡◌,
+  ℕ,
+  ◌+◌,
+  ◌-◌,
+  ◌^◌,
+  ◌<◌,
+  nat_le,
+  List,
+  [],
+  ◌∷◌,
+  length,
+  map,
+  max,
+  replicate,
+  cond,
+  All,
+  slice_index_or,
+  slice_set,
+}
 use Rattle.self_timed_laws.specs.Dates.{greatest}
 use Rattle.self_timed.specs.declared.dates.Span.{Span}
 use Rattle.self_timed.specs.declared.layout.Step.{Step}
@@ -34,7 +53,9 @@ free_all row (st ∷ sts) freed = free_all row sts (free st.sources (end_in row 
 -- for each entry the greatest end of the acts that read what it made `depth` reactions ago
 abbrev pub freed_in : Plan → ℕ → List (List Span) → List ℕ
 freed_in p depth past =
-    cond (nat_le depth (length past)) (free_all (slice_index_or past (length past - depth) []) p.steps.items (replicate p.entries 0)) (replicate p.entries 0)
+    cond (nat_le depth (length past))
+    (free_all (slice_index_or past (length past - depth) []) p.steps.items (replicate p.entries 0))
+    (replicate p.entries 0)
 
 -- the last ends of lines, and the dates so far
 pub record Running : Type 0 where
@@ -55,7 +76,8 @@ module _ (freed ticks : List ℕ) where
   ended_in st r = start_in st r + slice_index_or ticks st.entry 0
 
   abbrev pub after_step : Step → Running → Running
-  after_step st r = running (noted r.ends st.line (ended_in st r)) (slice_set r.row st.entry (span (start_in st r) (ended_in st r)))
+  after_step st r =
+      running (noted r.ends st.line (ended_in st r)) (slice_set r.row st.entry (span (start_in st r) (ended_in st r)))
 
   abbrev pub after_steps : List Step → Running → Running
   after_steps [] r = r

@@ -1,5 +1,20 @@
 -- What is told of the dates of reactions, entry by entry.
-use Rattle.std.specs.Prelude.{◌≡◌, ℕ, ◌+◌, ◌*◌, ◌<◌, ◌≤◌, IsTrue, List, [], length, Some, All, slice_get, slice_index_or}
+use Rattle.std.specs.Prelude.{
+  ◌≡◌,
+  ℕ,
+  ◌+◌,
+  ◌*◌,
+  ◌<◌,
+  ◌≤◌,
+  IsTrue,
+  List,
+  [],
+  length,
+  Some,
+  All,
+  slice_get,
+  slice_index_or,
+}
 use Rattle.std.specs.List.{count_by}
 use Rattle.flat_graph.specs.Graph.{Graph}
 use Rattle.archi_graph.specs.Archi.{Architecture}
@@ -45,17 +60,22 @@ module _ (depth : ℕ) (g : Graph) (s : Schedule) (ticks : List (List ℕ)) wher
   pub record AreDatesOf (reactions : List (List Span)) : Type 0 where
     pub count : length reactions ≡ length ticks
     pub entries : All (λ (row : List Span). length row ≡ entries_of g s) reactions
-    pub each : (k i : ℕ) (x : Act) → k < length ticks → slice_get (acts s) i ≡ Some x → span_at reactions k (entry_of g.vertices (acts s) i) ≡ span (start_at k i x) (end_at k i)
+    pub each : (k i : ℕ) (x : Act) → k < length ticks → slice_get (acts s) i ≡ Some x
+        → span_at reactions k (entry_of g.vertices (acts s) i) ≡ span (start_at k i x) (end_at k i)
 
 module _ (g : Graph) (s : Schedule) (reactions : List (List Span)) where
   -- no act of reaction k ends later than k times the schedule's length and its end there
   abbrev pub EndInTime : Type 0
-  EndInTime = (k i : ℕ) (x : Act) → k < length reactions → slice_get (acts s) i ≡ Some x → (span_at reactions k (entry_of g.vertices (acts s) i)).end ≤ k * length_of s + end_of x
+  EndInTime = (k i : ℕ) (x : Act) → k < length reactions → slice_get (acts s) i ≡ Some x
+      → (span_at reactions k (entry_of g.vertices (acts s) i)).end ≤ k * length_of s + end_of x
 
   -- the first reaction has the schedule's dates
   abbrev pub IsChart : Type 0
-  IsChart = (i : ℕ) (x : Act) → 0 < length reactions → slice_get (acts s) i ≡ Some x → span_at reactions 0 (entry_of g.vertices (acts s) i) ≡ span (start_of x) (end_of x)
+  IsChart = (i : ℕ) (x : Act) → 0 < length reactions → slice_get (acts s) i ≡ Some x
+      → span_at reactions 0 (entry_of g.vertices (acts s) i) ≡ span (start_of x) (end_of x)
 
--- where each entry of the first reaction lasts as stated, and the schedule is tight, that reaction has the schedule's dates
+-- where each entry of the first reaction lasts as stated, and the schedule is tight, that reaction has the
+-- schedule's dates
 abbrev pub StartsAsStated : Graph → Schedule → List (List ℕ) → List (List Span) → Type 0
-StartsAsStated g s ticks reactions = IsFirstStated g.vertices (acts s) ticks → IsTrue (is_tight g s) → IsChart g s reactions
+StartsAsStated g s ticks reactions =
+    IsFirstStated g.vertices (acts s) ticks → IsTrue (is_tight g s) → IsChart g s reactions

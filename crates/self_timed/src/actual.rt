@@ -1,4 +1,5 @@
-//! How long operations and transfers really last.
+//! The ticks that operations and transfers really last, reaction by reaction, as callers hand them
+//! to `dates_of`.
 use std::alloc::Global;
 use std::marker::Model;
 use syn_base::{Items, OutOfMemory};

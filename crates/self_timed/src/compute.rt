@@ -1,4 +1,4 @@
-//! The dates of all reactions.
+//! The computation of all reactions' dates: `dates_of`, which `dates_text` calls.
 ghost use Rattle.std.specs.Prelude.{◌≡◌, ◌≤◌, IfOk, length};
 ghost use Rattle.schedule.specs.Acts.{acts};
 ghost use Rattle.sequence_build_laws.specs.Built.{program_of};
@@ -43,7 +43,7 @@ pub fn dates_of(
     ensures in_time { IfOk result (EndInTime flat.now schedule.now) }
     ensures first { IfOk result (StartsAsStated flat.now schedule.now actual.now) }
 {
-    // What the architecture keeps is asked for: it is valid, and its depth is 1 to 4.
+    // The proof takes from these calls what the architecture keeps: it is valid, and its depth is 1 to 4.
     let _operators = archi.operators();
     let _depth = archi.depth();
     let plan = plan_of(alloc, flat.vertices(), schedule.decisions.as_slice())?;

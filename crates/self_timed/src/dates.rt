@@ -1,4 +1,4 @@
-//! The dates of reactions.
+//! The dates of reactions, as `dates_of` hands them out.
 use std::marker::Model;
 use syn_base::Items;
 

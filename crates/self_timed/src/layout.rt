@@ -1,4 +1,4 @@
-//! What must precede each act in its reaction, found once for all reactions.
+//! The plan of a reaction: what must precede each act, found once for all reactions.
 ghost use Rattle.std.specs.Prelude.{◌≡◌, ◌<◌, ◌≤◌, ◌++◌, All, IfOk, OnErr, OnOk, length};
 ghost use Rattle.schedule.specs.Acts.{carry, copy, run};
 ghost use Rattle.self_timed.specs.Laid.{Follows, HasFewOutputs, HasPlace, HasRow, HasShape, HaveGuardPlaces, HavePlaces, IsCarried, IsDecided, IsPlaced, after, empty_makers, guard_makers, input_makers, laid_out, maker_in, makers_of, place, started, with_decision, with_note, with_outputs, with_step, with_transfers};
@@ -59,7 +59,12 @@ impl<'a> Model for Layout<'a> {
 
     ghost Value = { Laid };
 
-    ghost view = { λ s. record { vertices = s.vertices.now; next = s.next; makers = s.makers.items; steps = s.steps.items } };
+    ghost view = { λ s. record {
+      vertices = s.vertices.now;
+      next = s.next;
+      makers = s.makers.items;
+      steps = s.steps.items;
+    } };
 }
 
 impl<'a> Layout<'a> {
@@ -77,6 +82,7 @@ impl<'a> Layout<'a> {
         })
     }
 
+    /// The steps, with how many entries there are.
     fn finish(self) -> Plan
         ensures entries { result.entries ≡ self.entry.next }
         ensures steps { result.steps.items ≡ self.entry.steps }
@@ -99,6 +105,7 @@ impl<'a> Layout<'a> {
         self.run(decision)
     }
 
+    /// Transfers, one more after the other.
     fn carry_all(&mut self, transfers: &[Transfer]) -> Result<(), OutOfMemory>
         requires shape { HasShape self.old.vertices self.old.makers }
         requires carried { All (IsCarried self.old.vertices) transfers.now }
@@ -112,6 +119,7 @@ impl<'a> Layout<'a> {
         Ok(())
     }
 
+    /// One more transfer: it reads its value on the near operator, and has the next entry.
     fn carry(&mut self, transfer: Transfer) -> Result<(), OutOfMemory>
         requires shape { HasShape self.old.vertices self.old.makers }
         requires carried { IsCarried self.old.vertices transfer }
@@ -128,6 +136,7 @@ impl<'a> Layout<'a> {
         Ok(())
     }
 
+    /// One more operation: it reads its sources on its operator, and makes its outputs there.
     fn run(&mut self, decision: &Decision) -> Result<(), OutOfMemory>
         requires shape { HasShape self.old.vertices self.old.makers }
         requires placed { IsPlaced self.old.vertices decision.now }
@@ -169,6 +178,7 @@ impl<'a> Layout<'a> {
         Ok(sources)
     }
 
+    /// Appends the entries of the acts that have made what guards read on an operator.
     fn add_guards(
         &self,
         sources: &mut Vec<usize>,
@@ -185,6 +195,7 @@ impl<'a> Layout<'a> {
         Ok(())
     }
 
+    /// Appends the entries of the acts that have made what inputs read on an operator.
     fn add_inputs(
         &self,
         sources: &mut Vec<usize>,

@@ -1,6 +1,8 @@
-//! Self-timed dates as code: when each operation and each transfer of a schedule starts and ends in each
-//! reaction, where they last as long as they really do. `dates_of` computes the dates of
-//! `self_timed_laws` from an `Actual`, and answers `Dates`; the command `dates` prints them.
+//! Computes the self-timed dates of a schedule: when each operation and each transfer starts and
+//! ends in each reaction, where they last as long as they really do.
+//!
+//! `dates_of` computes the dates of `self_timed_laws` from an `Actual`, and returns `Dates`; the
+//! command `dates` prints them.
 #![tactic(auto)]
 
 mod actual;

@@ -1,4 +1,4 @@
-//! The lines of acts, and when the last act in each has ended.
+//! The lines of acts, and when the last act in each has ended, as `reaction` goes on.
 ghost use Rattle.std.specs.Prelude.{◌≡◌, ℕ, length, slice_index_or};
 ghost use Rattle.self_timed.specs.Lines.{AreStarted, IsLine, last_in, noted};
 
@@ -19,6 +19,7 @@ pub(crate) struct Ends {
 }
 
 impl Ends {
+    /// Nothing has ended so far.
     pub fn new() -> Ends
         ensures { AreStarted result }
     {
@@ -51,6 +52,7 @@ impl Ends {
     }
 }
 
+/// The last ends of operators or media before anything has ended.
 fn no_dates() -> [u64; 16]
     ensures size { length result ≡ 16 }
     ensures none { (i : ℕ) → slice_index_or result i 0 ≡ 0 }

@@ -1,4 +1,4 @@
-//! The dates of one reaction.
+//! One reaction: its dates after those of the reactions before it.
 ghost use Rattle.std.specs.Prelude.{◌≡◌, ◌<◌, ◌≤◌, All, IfOk, length, replicate};
 ghost use Rattle.self_timed.specs.Running.{AreSized, FitSteps, FitsReaction, IsLong, after_steps, free, free_all, freed_in, latest_in, no_span, reaction_after, running};
 
@@ -111,12 +111,14 @@ fn latest(row: &[Span], entries: &[usize]) -> u64
     latest
 }
 
+/// As many dates as there are entries, all of them 0.
 fn no_dates(alloc: Global, entries: usize) -> Result<Vec<u64>, OutOfMemory>
     ensures { IfOk result (λ dates. dates.items ≡ replicate entries 0) }
 {
     Ok(vec![in alloc; 0; entries]?)
 }
 
+/// As many spans as there are entries, from 0 to 0.
 fn no_spans(alloc: Global, entries: usize) -> Result<Vec<Span>, OutOfMemory>
     ensures { IfOk result (λ spans. spans.items ≡ replicate entries no_span) }
 {

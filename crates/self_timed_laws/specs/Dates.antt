@@ -1,5 +1,31 @@
--- When each act of a schedule starts and ends in each reaction, where it waits for nothing but what must precede it: for given durations, act by act and reaction by reaction.
-use Rattle.std.specs.Prelude.{◌≡◌, ℕ, zero, suc, ◌+◌, ◌-◌, ◌*◌, Bool, ◌&&◌, not, cond, nat_le, max, List, [], ◌∷◌, ◌++◌, map, length, take, Option, Some, None, slice_get}
+-- When each act of a schedule starts and ends in each reaction, where it waits for nothing but what must precede it:
+-- for given durations, act by act and reaction by reaction.
+use Rattle.std.specs.Prelude.{
+  ◌≡◌,
+  ℕ,
+  zero,
+  suc,
+  ◌+◌,
+  ◌-◌,
+  ◌*◌,
+  Bool,
+  ◌&&◌,
+  not,
+  cond,
+  nat_le,
+  max,
+  List,
+  [],
+  ◌∷◌,
+  ◌++◌,
+  map,
+  length,
+  take,
+  Option,
+  Some,
+  None,
+  slice_get,
+}
 use Rattle.flat_graph.specs.declared.vertex.Vertex.{Vertex}
 use Rattle.schedule.specs.Acts.{Act}
 use Rattle.schedule.specs.Tight.{same_line, reads_from}
@@ -43,7 +69,8 @@ abbrev pub ago : ℕ → ℕ → List ℕ → List Event
 ago d k numbers = cond (nat_le d k) (map (event (k - d)) numbers) []
 
 module _ (xs : List Act) where
-  -- the act before act i, which is x, on its operator or medium: the last one of the reaction before, where it is the first
+  -- the act before act i, which is x, on its operator or medium: the last one of the reaction before, where it is
+  -- the first
   abbrev pub in_line : ℕ → ℕ → Act → List Event
   in_line k i x = latest_of k (last_where (same_line x) 0 (take i xs)) (last_where (same_line x) 0 xs)
 
@@ -77,7 +104,8 @@ module _ (depth : ℕ) (vertices : List Vertex) (xs : List Act) where
 
     abbrev pub ends_within : ℕ → ℕ → ℕ → ℕ
     ends_within zero k i = 0
-    ends_within (suc fuel) k i = with_act (slice_get xs i) (λ x. start_by (λ j h. ends_within fuel j h) k i x + lasts k i)
+    ends_within (suc fuel) k i =
+        with_act (slice_get xs i) (λ x. start_by (λ j h. ends_within fuel j h) k i x + lasts k i)
 
     -- the one solution: what must precede act i of reaction k has a lower rank
     abbrev pub dates : ℕ → ℕ → ℕ

@@ -1,5 +1,24 @@
 -- Durations and dates by entry: operations by number, and then transfers in their order.
-use Rattle.std.specs.Prelude.{ℕ, suc, ◌+◌, ◌-◌, Bool, true, false, List, [], ◌∷◌, length, take, Option, Some, None, slice_get, ◌≡◌, ◌≤◌}
+use Rattle.std.specs.Prelude.{
+  ℕ,
+  suc,
+  ◌+◌,
+  ◌-◌,
+  Bool,
+  true,
+  false,
+  List,
+  [],
+  ◌∷◌,
+  length,
+  take,
+  Option,
+  Some,
+  None,
+  slice_get,
+  ◌≡◌,
+  ◌≤◌,
+}
 use Rattle.std.specs.List.{count_by}
 use Rattle.flat_graph.specs.declared.vertex.Vertex.{Vertex}
 use Rattle.schedule.specs.Acts.{Act, carry, run, start_of, end_of}
@@ -32,7 +51,8 @@ module _ (vertices : List Vertex) (xs : List Act) where
 
   -- no entry of any reaction is longer than stated; in the first reaction each is as stated
   abbrev pub AreWithin : List (List ℕ) → Type 0
-  AreWithin ticks = (k : ℕ) (row : List ℕ) → slice_get ticks k ≡ Some row → (i : ℕ) (x : Act) → slice_get xs i ≡ Some x → number_or 0 (slice_get row (entry_of i)) ≤ stated x
+  AreWithin ticks = (k : ℕ) (row : List ℕ) → slice_get ticks k ≡ Some row
+      → (i : ℕ) (x : Act) → slice_get xs i ≡ Some x → number_or 0 (slice_get row (entry_of i)) ≤ stated x
 
   abbrev pub IsFirstStated : List (List ℕ) → Type 0
   IsFirstStated ticks = (i : ℕ) (x : Act) → slice_get xs i ≡ Some x → lasting ticks 0 i ≡ stated x
@@ -41,7 +61,9 @@ module _ (vertices : List Vertex) (xs : List Act) where
 module _ (depth : ℕ) (vertices : List Vertex) (xs : List Act) (lasts : ℕ → ℕ → ℕ) where
   abbrev pub dates_from : ℕ → ℕ → List Act → List (ℕ × ℕ)
   dates_from k i [] = []
-  dates_from k i (x ∷ ys) = (start_by depth vertices xs (dates depth vertices xs lasts) k i x, dates depth vertices xs lasts k i) ∷ dates_from k (suc i) ys
+  dates_from k i (x ∷ ys) =
+      (start_by depth vertices xs (dates depth vertices xs lasts) k i x, dates depth vertices xs lasts k i)
+      ∷ dates_from k (suc i) ys
 
   abbrev pub dates_of_reaction : ℕ → List (ℕ × ℕ)
   dates_of_reaction k = dates_from k 0 xs

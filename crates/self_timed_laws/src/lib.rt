@@ -1,9 +1,11 @@
-//! Self-timed dates: when each act of a schedule starts and ends in each reaction, where it waits for
-//! nothing but what must precede it, and the acts last so long. The definitions are equations over the
-//! acts: an act waits for the act before it on its operator or medium, for those that make what it
-//! reads, and for those that read in another sequence what it made as many reactions before as the
-//! buffer has places. The laws are contracts of functions that do nothing; `self_timed` computes the
-//! dates and cites them.
+//! Self-timed dates, as equations with laws: when each act of a schedule starts and ends in each
+//! reaction, where it waits for nothing but what must precede it, and the acts last as long as they
+//! really do.
+//!
+//! An act waits for the act before it on its operator or medium, for those that make what it reads,
+//! and for those that read in another sequence what it made as many reactions before as the buffer
+//! has places. The laws are contracts of functions that do nothing; `self_timed` computes the dates
+//! and cites them.
 #![tactic(auto)]
 
 ghost use Rattle.self_timed_laws.specs.Laws.{BuffersHaveDepth, DatesAreOne, EntriesAreActs, EntriesEndInTime, FirstReactionIsStated, LinesAreInOrder, NoLaterThanStated};

@@ -1,23 +1,16 @@
 -- The columns of the table of the sensors: `k`, and then each element of each sensor reference of the main graph.
 use Rattle.std.specs.Prelude.{ℕ, pos, List, [], ◌∷◌, ◌++◌, map, codes}
 use Rattle.std.specs.Fmt.{signed_decimal}
-use Rattle.level_meaning.specs.declared.part.Part.{Part}
-use Rattle.level_meaning.specs.declared.part.Part.TheVariants.{Named, Numbered, Port}
 use Rattle.level_meaning.specs.Level.{numbers_below}
+use Rattle.level_meaning.specs.Parts.{name_of}
 use Rattle.algo_tree.specs.Tree.{Kind, sensor, Vertex, vertex, Vertices, no_vertices, and_vertex}
 use Rattle.algo_tree.specs.Ends.{first_length}
 
--- the name of a reference
-abbrev pub name_of : Part → List ℕ
-name_of (Named name) = name
-name_of (Numbered n) = []
-name_of (Port name) = name
-
--- the column of element j of the sensor with this name: `name.j`
+-- The column of element j of the sensor with this name: `name.j`.
 abbrev pub column : List ℕ → ℕ → List ℕ
 column name j = name ++ (codes "." ++ signed_decimal (pos j))
 
--- the columns of a sensor of this name and length; any other kind has none
+-- The columns of a sensor of this name and length; any other kind has none.
 abbrev pub columns_of : Kind → List ℕ → ℕ → List (List ℕ)
 columns_of (sensor n) name len = map (column name) (numbers_below len)
 columns_of _ name len = []
@@ -26,6 +19,6 @@ abbrev pub columns_in : Vertices → List (List ℕ)
 columns_in no_vertices = []
 columns_in (and_vertex (vertex l vs) us) = columns_of l.kind (name_of l.part) (first_length l.outs) ++ columns_in us
 
--- the header, sensors in declared order
+-- The header, sensors in declared order.
 abbrev pub header_of : Vertex → List (List ℕ)
 header_of (vertex l us) = codes "k" ∷ columns_in us

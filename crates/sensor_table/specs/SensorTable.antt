@@ -1,5 +1,25 @@
 -- The table of the sensors: the rows that the records of a text give, or why it is refused.
-use Rattle.std.specs.Prelude.{◌+◌, ◌==◌, ℕ, suc, ℤ, pos, Bool, false, nat_lt, if◌then◌else◌, List, [], ◌∷◌, ◌++◌, length, sum, Result, Ok, Err}
+use Rattle.std.specs.Prelude.{
+  ◌+◌,
+  ◌==◌,
+  ℕ,
+  suc,
+  ℤ,
+  pos,
+  Bool,
+  false,
+  nat_lt,
+  if◌then◌else◌,
+  List,
+  [],
+  ◌∷◌,
+  ◌++◌,
+  length,
+  sum,
+  Result,
+  Ok,
+  Err,
+}
 use Rattle.std.specs.Cmp.Lexicographic.{pointwise}
 use Rattle.std.specs.Ordering.{int_eq}
 use Rattle.std.specs.Str.{bytes_eq}
@@ -16,11 +36,11 @@ use Rattle.sensor_table.specs.declared.fault.SensorCause.TheVariants.{BadHeader,
 use Rattle.sensor_table.specs.declared.fault.SensorError.{SensorError}
 use Rattle.sensor_table.specs.declared.fault.SensorError.TheVariants.{Refused, Limit}
 
--- the fields of a record
+-- The fields of a record.
 abbrev pub Record : Type 0
 Record = List (List ℕ)
 
--- the vectors of one reaction
+-- The vectors of one reaction.
 abbrev pub Row : Type 0
 Row = List (List ℤ)
 
@@ -35,46 +55,50 @@ abbrev pub with_error : {A E F : Type 0} → (E → F) → Result A E → Result
 with_error f (Ok x) = Ok x
 with_error f (Err e) = Err (f e)
 
--- the first of these and then the others, or the first error
+-- The first of these and then the others, or the first error.
 abbrev pub before : {A E : Type 0} → Result A E → Result (List A) E → Result (List A) E
 before (Err e) more = Err e
 before (Ok x) more = with_value (λ xs. x ∷ xs) more
 
--- the numbers of fields, of which the first stands in this column
+-- The numbers of fields, of which the first stands in this column.
 abbrev pub numbers_from : ℕ → Record → Result (List ℤ) SensorCause
 numbers_from column [] = Ok []
-numbers_from column (field ∷ fields) = before (with_error (λ _. BadNumber column) (integer_of field)) (numbers_from (suc column) fields)
+numbers_from column (field ∷ fields) =
+    before (with_error (λ _. BadNumber column) (integer_of field)) (numbers_from (suc column) fields)
 
--- whether a field that was read is this number
+-- Whether a field that was read is this number.
 abbrev pub is_number : ℕ → Result ℤ NumFault → Bool
 is_number n (Ok v) = int_eq v (pos n)
 is_number n (Err e) = false
 
--- the record of reaction k: a field for each column, of which the first is k, and the others are its values
+-- The record of reaction k: a field for each column, of which the first is k, and the others are its values.
 abbrev pub values_in : ℕ → ℕ → Record → Result (List ℤ) SensorCause
 values_in columns k [] = Err (BadCount 0 columns)
 values_in columns k (index ∷ fields) =
-    if suc (length fields) == columns then (if is_number k (integer_of index) then numbers_from 1 fields else Err BadIndex)
+    if suc (length fields) == columns
+    then (if is_number k (integer_of index) then numbers_from 1 fields else Err BadIndex)
     else Err (BadCount (suc (length fields)) columns)
 
--- the vectors of reaction k, for sensors of these lengths
+-- The vectors of reaction k, for sensors of these lengths.
 abbrev pub row_in : List ℕ → ℕ → Record → Result Row SensorCause
 row_in lens k fields = with_value (cut lens) (values_in (suc (sum lens)) k fields)
 
--- one reaction more than there may be, whatever its record holds
+-- One reaction more than there may be, whatever its record holds.
 abbrev pub too_many : SensorError
-too_many = Limit (record { which = limit.Reactions; count = bound_of limit.Reactions + 1; bound = bound_of limit.Reactions })
+too_many = Limit
+    (record { which = limit.Reactions; count = bound_of limit.Reactions + 1; bound = bound_of limit.Reactions })
 
--- reaction k stands in row k + 1
+-- Reaction k stands in row k + 1.
 abbrev pub row_of : List ℕ → ℕ → Record → Result Row SensorError
-row_of lens k fields = if nat_lt k (bound_of limit.Reactions) then with_error (refused (suc k)) (row_in lens k fields) else Err too_many
+row_of lens k fields =
+    if nat_lt k (bound_of limit.Reactions) then with_error (refused (suc k)) (row_in lens k fields) else Err too_many
 
--- the rows of records, of which the first is that of reaction k
+-- The rows of records, of which the first is that of reaction k.
 abbrev pub rows_from : List ℕ → ℕ → List Record → Result (List Row) SensorError
 rows_from lens k [] = Ok []
 rows_from lens k (fields ∷ records) = before (row_of lens k fields) (rows_from lens (suc k) records)
 
--- these rows, and then those of the records after them
+-- These rows, and then those of the records after them.
 abbrev pub rows_after : Reactions → List Record → Result (List Row) SensorError
 rows_after old records = with_value (λ more. old.reactions ++ more) (rows_from old.lens (length old.reactions) records)
 
@@ -84,7 +108,8 @@ reactions_of lens records = with_value (λ rows. record { lens = lens; reactions
 abbrev pub is_header : Vertex → Record → Bool
 is_header main fields = pointwise bytes_eq fields (header_of main)
 
--- the reactions of a table of this algorithm with these records
+-- The reactions of a table of this algorithm with these records.
 abbrev pub rows_of : Vertex → List Record → Result Reactions SensorError
 rows_of main [] = Err (refused 0 BadHeader)
-rows_of main (header ∷ records) = if is_header main header then reactions_of (sensor_lengths main) records else Err (refused 0 BadHeader)
+rows_of main (header ∷ records) =
+    if is_header main header then reactions_of (sensor_lengths main) records else Err (refused 0 BadHeader)

@@ -1,4 +1,4 @@
-//! Why a sensor table is refused.
+//! Why a sensor table is refused, for whoever tells it.
 ghost use Rattle.std.specs.Prelude.{◌≡◌};
 ghost use Rattle.sensor_table.specs.SensorTable.{refused};
 ghost use Rattle.sensor_table.specs.declared.fault.SensorError.TheVariants.{OutOfMemory as Wants};

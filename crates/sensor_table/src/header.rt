@@ -1,22 +1,20 @@
-//! The header of a table.
+//! The header of a table, which `table` asks for before it reads rows.
 ghost use Rattle.std.specs.Prelude.{◌≡◌, ◌++◌, map, IfOk, OnOk};
 ghost use Rattle.std.specs.Cmp.Lexicographic.{pointwise};
 ghost use Rattle.std.specs.Str.{bytes_eq};
 ghost use Rattle.csv.specs.Records.{fields_of};
 ghost use Rattle.level_meaning.specs.Level.{numbers_below};
-ghost use Rattle.algo_tree.specs.Ends.{first_length};
 ghost use Rattle.algo_tree.specs.View.{kind_view, vertices_view};
-ghost use Rattle.sensor_table.specs.Columns.{column, columns_in, columns_of, header_of, name_of};
+ghost use Rattle.sensor_table.specs.Columns.{column, columns_in, columns_of, header_of};
 ghost use Rattle.sensor_table.specs.SensorTable.{is_header};
 
 use crate::records::field_at;
 use algo_tree::{Kind, Tree, Vertex};
 use csv::ByteRecord;
-use level_meaning::Part;
 use std::alloc::Global;
-use syn_base::{Items, OutOfMemory, print_int};
+use syn_base::{Items, OutOfMemory, len_at, print_int};
 
-/// Says whether a record is the header of the sensors of this algorithm.
+/// Whether a record is the header of the sensors of this algorithm.
 pub fn is_header(alloc: Global, tree: &Tree, fields: &ByteRecord) -> Result<bool, OutOfMemory>
     ensures { IfOk result (λ same. same ≡ is_header tree.now (fields_of fields.now)) }
 {
@@ -24,6 +22,7 @@ pub fn is_header(alloc: Global, tree: &Tree, fields: &ByteRecord) -> Result<bool
     Ok(are_fields(fields, &header))
 }
 
+/// Whether the fields of a record are these, in order.
 fn are_fields(fields: &ByteRecord, wanted: &[Items<u8>]) -> bool
     ensures { result ≡ pointwise bytes_eq (fields_of fields.now) wanted.now }
 {
@@ -57,8 +56,8 @@ fn append_sensors(
     ensures { OnOk result (header.new.items ≡ header.old.items ++ columns_in (vertices_view vertices.now)) }
 {
     for vertex in vertices {
-        let name = name_in(&vertex.part);
-        let len = first_len(vertex.outs.as_slice());
+        let name = vertex.part.name();
+        let len = len_at(vertex.outs.as_slice(), 0);
         append_columns(alloc, &vertex.kind, name, len, header)?;
     }
     Ok(())
@@ -103,19 +102,4 @@ fn column(alloc: Global, name: &[u8], j: u32) -> Result<Items<u8>, OutOfMemory>
     text.push(b'.')?;
     print_int(i64::from(j), &mut text)?;
     Ok(Items::new(text))
-}
-
-fn first_len(lens: &[u32]) -> u32
-    ensures { result ≡ first_length lens.now }
-{
-    lens.first().copied().unwrap_or(0)
-}
-
-fn name_in(part: &Part) -> &[u8]
-    ensures { result.now ≡ name_of part.now }
-{
-    match part {
-        Part::Named(name) | Part::Port(name) => name.as_slice(),
-        Part::Numbered(_) => &[],
-    }
 }

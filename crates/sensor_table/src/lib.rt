@@ -1,5 +1,5 @@
-//! The table of the sensors: `read_sensors` reads its text with `csv` and answers the rows that it gives for
-//! the sensors of a tree, or its first refusal. The command `sim` begins with it.
+//! The table of the sensors: `read_sensors` reads its text with `csv` and returns the rows that it gives for
+//! the sensors of a tree, or its first refusal. The commands that run an algorithm begin with it.
 #![tactic(auto)]
 
 mod fault;

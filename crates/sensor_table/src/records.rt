@@ -1,4 +1,4 @@
-//! The records of a text, taken one after another.
+//! The records of a text, which `table` and `rows` take one after another.
 ghost use Rattle.std.specs.Prelude.{◌≡◌, [], slice_index_or, IfOk};
 ghost use Rattle.csv.specs.Reading.{default_config, error_kind, records, strip_bom};
 ghost use Rattle.csv.specs.Records.{fields_of};

@@ -1,4 +1,4 @@
-//! The rows of a table.
+//! The rows of a table, read record by record.
 ghost use Rattle.std.specs.Prelude.{◌≡◌, ◌<◌, length, sum, suc, drop};
 ghost use Rattle.csv.specs.Records.{fields_of};
 ghost use Rattle.syn_base.specs.Integer.{integer_of};
@@ -104,6 +104,7 @@ fn read_row(
     read_values(alloc, row, fields)
 }
 
+/// Whether a field is the number of this reaction.
 fn is_index(reaction: usize, field: &[u8]) -> bool
     ensures { result ≡ is_number reaction (integer_of field.now) }
 {

@@ -1,4 +1,4 @@
-//! The reading of a table.
+//! The reading of a table: `read_sensors`.
 ghost use Rattle.std.specs.Prelude.{◌∷◌};
 ghost use Rattle.csv.specs.Reading.{default_config, records, strip_bom};
 ghost use Rattle.csv.specs.Records.{fields_of};
@@ -16,7 +16,7 @@ use std::alloc::Global;
 use syn_base::SensorRows;
 
 /// The rows of a sensor table for this algorithm, or its first refusal in the order of its records: Refused
-/// with the row and the cause, or Limit. OutOfMemory may come in place of any answer.
+/// with the row and the cause, or Limit. OutOfMemory may come in place of any of these.
 pub fn read_sensors(alloc: Global, bytes: &[u8], tree: &Tree) -> Result<SensorRows, SensorError>
     ensures { Gives result (rows_of tree.now (records default_config (strip_bom bytes.now))) }
 {

@@ -1,8 +1,28 @@
 -- The bounds of this profile, and the words that messages have for them.
 use Rattle.std.specs.Prelude.{ℕ, List, codes}
 use Rattle.syn_base.specs.declared.limits.LimitKind.{LimitKind}
-use Rattle.syn_base.specs.declared.limits.LimitKind.TheVariants.{File, Tokens, PortLength, Ports, Copies, Cases, References, Depth, Delay, Operations, Operators, Media, Connections, Words, MicroSteps, Reactions, Output, Total}
+use Rattle.syn_base.specs.declared.limits.LimitKind.TheVariants.{
+  File,
+  Tokens,
+  PortLength,
+  Ports,
+  Copies,
+  Cases,
+  References,
+  Depth,
+  Delay,
+  Operations,
+  Operators,
+  Media,
+  Connections,
+  Words,
+  MicroSteps,
+  Reactions,
+  Output,
+  Total,
+}
 
+-- The word by which messages name a quantity.
 abbrev pub word_of : LimitKind → List ℕ
 word_of File = codes "file"
 word_of Tokens = codes "tokens"
@@ -23,6 +43,7 @@ word_of Reactions = codes "reactions"
 word_of Output = codes "output"
 word_of Total = codes "total"
 
+-- The most that a quantity may be.
 abbrev pub bound_of : LimitKind → ℕ
 bound_of File = 16777216
 bound_of Tokens = 512
@@ -43,7 +64,7 @@ bound_of Reactions = 10000
 bound_of Output = 2000000
 bound_of Total = 20000000
 
--- the most operations of a flat graph
+-- The most operations of a flat graph.
 abbrev pub most_operations : ℕ
 most_operations = 2048
 

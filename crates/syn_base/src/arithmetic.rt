@@ -1,4 +1,4 @@
-//! Arithmetic on 64-bit signed numbers, total by this project's profile.
+//! The arithmetic of 64-bit signed numbers, which always gives a value: expressions are computed with it.
 ghost use Rattle.std.specs.Prelude.{◌≡◌};
 ghost use Rattle.syn_base.specs.Arithmetic.{applied, quotient_of, remainder_of, truth_value};
 
@@ -26,7 +26,7 @@ pub enum Op {
 
 /// The value of an operator. Sums, differences, products, quotients and negations are taken modulo
 /// 2^64 in two's complement, `x / 0` is 0 and `x % 0` is `x`; a comparison gives 1 or 0. It always
-/// answers and takes no memory.
+/// returns and takes no memory.
 pub fn apply(op: Op, a: i64, b: i64) -> i64
     ensures { result ≡ applied op a b }
 {
@@ -48,18 +48,21 @@ pub fn apply(op: Op, a: i64, b: i64) -> i64
     }
 }
 
+/// The quotient, cut towards zero, and 0 where the divisor is 0.
 fn quotient(a: i64, b: i64) -> i64
     ensures { result ≡ quotient_of a b }
 {
     if b == 0 { 0 } else { a.wrapping_div(b) }
 }
 
+/// The remainder, with the dividend's sign, and the dividend where the divisor is 0.
 fn remainder(a: i64, b: i64) -> i64
     ensures { result ≡ remainder_of a b }
 {
     if b == 0 { a } else { a.wrapping_rem(b) }
 }
 
+/// The number that stands for a comparison: 1 where it holds, else 0.
 fn truth(holds: bool) -> i64
     ensures { result ≡ truth_value holds }
 {

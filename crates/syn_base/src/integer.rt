@@ -1,4 +1,4 @@
-//! Integers as texts.
+//! Integers as texts: `read_int` and `print_int`, for the readers and writers of texts.
 ghost use Rattle.std.specs.Prelude.{◌≡◌, ◌+◌, ◌*◌, ◌++◌, ◌^◌, ◌<◌, ◌≤◌, OnOk, OnErr, FitsSigned, ℤ, min, length, None, true, false};
 ghost use Rattle.std.specs.Fmt.{signed_decimal};
 ghost use Rattle.std.specs.Int.{w64};
@@ -33,6 +33,8 @@ pub fn read_int(text: &[u8]) -> Result<i64, NumFault>
     }
 }
 
+/// The number of digits after a sign, where the first digit has the place `from` in the text: a fault
+/// tells the place of a byte in the whole text.
 fn read_digits(negative: bool, from: usize, digits: &[u8]) -> Result<i64, NumFault>
     requires { from + length digits.now < 2 ^ 64 }
     ensures { result ≡ signed negative from digits.now }
@@ -44,6 +46,7 @@ fn read_digits(negative: bool, from: usize, digits: &[u8]) -> Result<i64, NumFau
     }
 }
 
+/// The place of the first byte that is no digit, where the first byte has the place `from`.
 fn other_byte(from: usize, digits: &[u8]) -> Option<usize>
     requires { from + length digits.now < 2 ^ 64 }
     ensures { result ≡ first_other from digits.now }
@@ -68,6 +71,8 @@ fn magnitude(digits: &[u8]) -> u64
     number
 }
 
+/// The number with one digit more, or `TOO_LARGE` where it is at least that: so no sum overflows,
+/// however long the text is.
 fn with_digit(number: u64, digit: u64) -> u64
     requires number { number ≤ too_large }
     requires digit { digit < 10 }
@@ -80,6 +85,7 @@ fn with_digit(number: u64, digit: u64) -> u64
     }
 }
 
+/// The number with this sign and magnitude, where 64 bits hold it.
 fn sign(negative: bool, magnitude: u64) -> Result<i64, NumFault>
     ensures { result ≡ with_sign negative magnitude }
 {

@@ -1,4 +1,4 @@
-//! A list that contracts see as its elements.
+//! A list that contracts see as its elements: what a tree is made of.
 ghost use Rattle.std.specs.Prelude.{◌≡◌, ◌<◌, length, slice_set};
 
 use std::marker::Model;

@@ -1,4 +1,4 @@
-//! Lengths of outputs and inputs, by their places.
+//! Lengths of outputs and inputs by their places: `len_at`, for whoever checks or makes trees and graphs.
 ghost use Rattle.std.specs.Prelude.{◌≡◌, slice_index_or};
 
 /// The length at this place, 0 where there is none.

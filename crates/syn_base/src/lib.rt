@@ -1,4 +1,5 @@
-//! Numbers, names, rows and limits: what every other crate speaks of.
+//! What every other crate speaks of: 64-bit numbers and their arithmetic, names, rows of vectors, limits, and
+//! want of memory.
 #![tactic(auto)]
 
 mod arithmetic;

@@ -1,4 +1,4 @@
-//! The bounds of this profile, and how far a quantity is above one.
+//! The bounds of this profile, and how far a quantity is above one: for all that refuse a text or a program.
 ghost use Rattle.std.specs.Prelude.{◌≡◌};
 
 /// A quantity that is bounded.

@@ -1,7 +1,7 @@
-//! Want of memory.
+//! Want of memory, as an answer of every function that allocates.
 use std::alloc::{AllocError, AllocFailed};
 
-/// There was not enough memory. It is an answer like any other, and merged with none.
+/// There was not enough memory: an answer of its own, with which no other error is merged.
 #[derive(Clone, Copy, Debug, PartialEq, Eq)]
 pub struct OutOfMemory;
 

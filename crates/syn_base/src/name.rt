@@ -1,4 +1,4 @@
-//! Names of definitions, ports, references, operators and media.
+//! Names of definitions, ports, references, operators and media, as texts give them.
 ghost use Rattle.std.specs.Prelude.{◌≡◌, ◌↔◌, IsTrue, IfOk, false};
 ghost use Rattle.syn_base.specs.Name.{begins_name, is_name, is_name_byte, is_digit};
 ghost use Rattle.std.specs.List.{list_all};
@@ -77,12 +77,14 @@ impl Name {
     }
 }
 
+/// Whether a text is a name.
 fn is_allowed(text: &[u8]) -> bool
     ensures { result ≡ is_name text.now }
 {
     begins(text) && text.len() <= LONGEST && all_parts(text)
 }
 
+/// Whether a text is not empty and begins with no digit.
 fn begins(text: &[u8]) -> bool
     ensures { result ≡ begins_name text.now }
 {
@@ -92,18 +94,21 @@ fn begins(text: &[u8]) -> bool
     }
 }
 
+/// Whether each byte of a text may stand in a name.
 fn all_parts(text: &[u8]) -> bool
     ensures { result ≡ list_all is_name_byte text.now }
 {
     text.iter().all(|byte| is_part(*byte))
 }
 
+/// Whether a byte may stand in a name: a letter, a digit or `_`.
 fn is_part(byte: u8) -> bool
     ensures { result ≡ is_name_byte byte }
 {
     byte.is_ascii_alphabetic() || is_decimal(byte) || byte == b'_'
 }
 
+/// Whether a byte is a digit.
 fn is_decimal(byte: u8) -> bool
     ensures { result ≡ is_digit byte }
 {

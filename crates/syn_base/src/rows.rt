@@ -28,6 +28,7 @@ impl Model for Rows {
 }
 
 impl Rows {
+    /// No reaction yet, of vectors of these lengths.
     fn new(alloc: Global, lens: &[u32]) -> Result<Rows, OutOfMemory>
         ensures { IfOk result (λ s. s ≡ record { lens = lens.now; reactions = [] }) }
     {
@@ -38,12 +39,14 @@ impl Rows {
         })
     }
 
+    /// The lengths of the vectors of a reaction.
     fn lens(&self) -> &[u32]
         ensures { result.now ≡ self.now.lens }
     {
         self.shape.lens()
     }
 
+    /// Adds a reaction, its vectors one after the other. After want of memory all is as before.
     fn push(&mut self, row: &[i64]) -> Result<(), OutOfMemory>
         requires { length row.now ≡ sum self.old.lens }
         ensures ok { OnOk result (self.new ≡ record self.old {
@@ -57,12 +60,14 @@ impl Rows {
         Ok(())
     }
 
+    /// How many reactions there are.
     fn count(&self) -> usize
         ensures { result ≡ length self.now.reactions }
     {
         self.rows.len()
     }
 
+    /// A vector of reaction k.
     fn vector(&self, k: usize, vector: usize) -> &[i64]
         requires reaction { k < length self.now.reactions }
         requires vector { vector < length self.now.lens }
@@ -74,6 +79,7 @@ impl Rows {
         &self.rows[k].as_slice()[start..start + len]
     }
 
+    /// As many reactions as are counted, from this one on, as rows of their own.
     fn window(&self, from: usize, count: usize) -> Result<Rows, OutOfMemory>
         requires { from + count ≤ length self.now.reactions }
         ensures { IfOk result (λ s. s ≡ record self.now { reactions = take count (drop from self.now.reactions) }) }
@@ -85,12 +91,15 @@ impl Rows {
         Ok(window)
     }
 
+    /// That each reaction has a vector of each length: a law, which runs nothing.
     fn are_cut(&self)
         ensures { AreCut self.now }
     {
+        // What holds of all rows is known where a field is named: each flat row has the width of the shape.
         let _ = &self.rows;
     }
 
+    /// Puts a value in the place of element j of a vector of reaction k. It takes no memory.
     fn set(&mut self, k: usize, vector: usize, j: usize, v: i64)
         requires reaction { k < length self.old.reactions }
         requires vector { vector < length self.old.lens }
@@ -170,7 +179,7 @@ impl SensorRows {
         })
     }
 
-    /// That each reaction has a vector of its length for each sensor.
+    /// That each reaction has a vector of its length for each sensor: a law, which runs nothing.
     pub fn are_cut(&self)
         ensures { AreCut self.now }
     {

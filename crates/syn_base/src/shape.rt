@@ -1,4 +1,4 @@
-//! How vectors of given lengths lie in one flat row.
+//! How vectors of given lengths lie in one flat row: `Shape`, for the rows of sensors and actuators.
 ghost use Rattle.std.specs.Prelude.{◌≡◌, ◌+◌, ◌^◌, ◌<◌, ◌≤◌, length, slice_index, take, sum, IfOk};
 
 use crate::memory::OutOfMemory;
@@ -37,7 +37,7 @@ impl Shape {
         let mut width: usize = 0;
         for len in lens {
             starts.push(width)?;
-            // more elements than that are in no memory
+            // More elements than that are in no memory.
             width = width.checked_add(*len as usize).ok_or(OutOfMemory)?;
         }
         Ok(Shape {
@@ -76,6 +76,7 @@ impl Shape {
         ensures inside { result + slice_index self.now vector ≤ sum self.now }
         ensures fits { sum self.now < 2 ^ 64 }
     {
+        // The width is the sum of the lengths: reading it tells that the sum fits in 64 bits.
         let _width = self.width;
         self.starts[vector]
     }

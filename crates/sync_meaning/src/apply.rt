@@ -1,5 +1,5 @@
-//! Functions of a level. Inputs that are just what one vertex gives are read where they stand;
-//! others are copied, one after another.
+//! Functions of a level, which run in a reaction. Inputs that are just what one vertex gives are read where they
+//! stand; others are copied, one after another.
 ghost use Rattle.std.specs.Prelude.{◌≡◌, ◌≢◌, ◌<◌, ℕ, [], IsTrue, IfSome, length, map, slice_index_or, slice_set};
 ghost use Rattle.body_lang.specs.Expr.{view as expression, function_outputs};
 ghost use Rattle.level_meaning.specs.declared.source.Source.{Source};

@@ -1,4 +1,4 @@
-//! Fork, diffuse, iterate and join: what goes into the copies of a repetition, and what comes out.
+//! The frontier of a repetition in a reaction: what goes into its copies, and what comes out.
 ghost use Rattle.std.specs.Prelude.{◌≡◌, ◌<◌, ◌*◌, length, map, replicate, slice_index, slice_index_or, slice_set, [], ◌-◌, ◌+◌};
 ghost use Rattle.level_meaning.specs.Level.{copy_input, give_value, joined};
 ghost use Rattle.algo_tree.specs.Typed.{AreLengths, AllFed, IsFed, fed_length, given_length};
@@ -9,8 +9,8 @@ use crate::leaf::write_at;
 use body_lang::Ins;
 use level_meaning::{Feed, Give};
 
-/// An input of copy i, from the outer inputs and the outputs of the copies before.
-fn fed<'a>(feed: &Feed, own: &'a Ins, table: &'a [Ins], i: usize) -> &'a [i64]
+/// The vector that a line feeds to copy i, from the outer inputs and the outputs of the copies before.
+fn fed_vector<'a>(feed: &Feed, own: &'a Ins, table: &'a [Ins], i: usize) -> &'a [i64]
     requires copy { i < length table.now }
     requires there { 0 < fed_length (lengths own.now) feed.now }
     requires fed { IsFed (length table.now) (lengths own.now)
@@ -45,7 +45,7 @@ pub fn feed(into: &mut Ins, feeds: &[Feed], own: &Ins, table: &[Ins], i: usize)
     ensures lens { lengths into.new ≡ lengths into.old }
 {
     for (p, feed) in feeds.iter().enumerate() {
-        into.set_vector(p, fed(feed, own, table, i));
+        into.set_vector(p, fed_vector(feed, own, table, i));
     }
 }
 

@@ -1,7 +1,7 @@
-//! The stores beside a tree, as they are before the first reaction.
+//! The stores beside a tree, as the simulator lays them out before the first reaction.
 ghost use Rattle.std.specs.Prelude.{◌≡◌, ◌<◌, [], ℕ, length, map, replicate, slice_index_or, IfOk};
 ghost use Rattle.algo_tree.specs.View.{view, vertices_view};
-ghost use Rattle.algo_tree.specs.Typed.{source_length, fed_length, outs_of, label_of, IsTyped, AllTyped, IsBodyTyped};
+ghost use Rattle.algo_tree.specs.Typed.{fed_length, outs_of, label_of, IsTyped, AllTyped, IsBodyTyped};
 ghost use Rattle.algo_tree.specs.Well.{IsWell, AllWell, IsOne};
 ghost use Rattle.level_meaning.specs.Order.{IsAcyclic};
 ghost use Rattle.level_order.specs.Order.{nodes_of};
@@ -9,52 +9,13 @@ ghost use Rattle.sync_meaning.specs.Store.{AreDelays, HasTurns, delay_flags, len
 ghost use Rattle.sync_meaning.specs.declared.store.Store.{Store};
 ghost use Rattle.sync_meaning.specs.First.{IsFirst, AreFirst, AreCopies, HoldsGroups, HoldsLevel, HoldsInside};
 
-use crate::lengths::length_of;
 use crate::store::{Store, Turns};
-use algo_tree::{Kind, Vertex};
+use algo_tree::{Kind, Vertex, fed_lens, source_lens};
 use body_lang::Ins;
-use level_meaning::{Feed, Source};
+use level_meaning::Feed;
 use level_order::find_order;
 use std::alloc::Global;
 use syn_base::{Items, OutOfMemory};
-
-/// The lengths of the values of several sources.
-fn lengths_of(
-    alloc: Global,
-    sources: &[Source],
-    own: &[u32],
-    level: &[Vertex],
-) -> Result<Vec<u32>, OutOfMemory>
-    ensures { IfOk result (λ lens. lens.items ≡
-        map (source_length own.now (outs_of (vertices_view level.now))) sources.now) }
-{
-    let mut lens = Vec::new(alloc);
-    for source in sources {
-        lens.push(length_of(*source, own, level))?;
-    }
-    Ok(lens)
-}
-
-/// The length of the input of a body that a line feeds.
-fn fed_length(feed: &Feed, own: &[u32]) -> u32
-    ensures { result ≡ fed_length own.now feed.now }
-{
-    match feed {
-        Feed::Fork(_, _, len) => *len,
-        Feed::Diffuse(k) | Feed::Iterate(k, _) => own.get(*k as usize).copied().unwrap_or(0),
-    }
-}
-
-/// The lengths of the inputs of a body.
-fn fed_lengths(alloc: Global, feeds: &[Feed], own: &[u32]) -> Result<Vec<u32>, OutOfMemory>
-    ensures { IfOk result (λ lens. lens.items ≡ map (fed_length own.now) feeds.now) }
-{
-    let mut lens = Vec::new(alloc);
-    for feed in feeds {
-        lens.push(fed_length(feed, own))?;
-    }
-    Ok(lens)
-}
 
 /// Places for the outputs of each vertex of a level.
 fn level_outputs(alloc: Global, vertices: &Vec<Vertex>) -> Result<Vec<Ins>, OutOfMemory>
@@ -116,7 +77,7 @@ fn initial_values(alloc: Global, len: u32, groups: &[Items<i64>]) -> Result<Ins,
     requires { lengths groups.now ≡ replicate (length groups.now) len }
     ensures { IfOk result (λ kept. kept ≡ groups.now) }
 {
-    let lens = repeated(alloc, len, groups.len())?;
+    let lens = repeat_length(alloc, len, groups.len())?;
     let mut kept = Ins::new(alloc, &lens)?;
     for (at, group) in groups.iter().enumerate() {
         kept.set_vector(at, group.as_slice());
@@ -125,7 +86,7 @@ fn initial_values(alloc: Global, len: u32, groups: &[Items<i64>]) -> Result<Ins,
 }
 
 /// The same length `count` times.
-fn repeated(alloc: Global, len: u32, count: usize) -> Result<Vec<u32>, OutOfMemory>
+fn repeat_length(alloc: Global, len: u32, count: usize) -> Result<Vec<u32>, OutOfMemory>
     ensures { IfOk result (λ lens. lens.items ≡ replicate count len) }
 {
     Ok(vec![in alloc; len; count]?)
@@ -194,7 +155,7 @@ fn level_stores(
 {
     let mut stores = Vec::new(alloc);
     for vertex in vertices {
-        let lens = lengths_of(alloc, vertex.ins.as_slice(), own, level)?;
+        let lens = source_lens(alloc, own, level, vertex.ins.as_slice())?;
         stores.push(new_store(alloc, vertex, &lens)?)?;
     }
     Ok(stores)
@@ -237,7 +198,7 @@ fn copies(
         inner.now.items p.0.items p.1.items) }
 {
     let body = &inner[0];
-    let fed = fed_lengths(alloc, feeds, lens)?;
+    let fed = fed_lens(alloc, lens, feeds)?;
     let outs = copies_outputs(alloc, body, count)?;
     let stores = copy_stores(alloc, body, count, &fed)?;
     Ok((outs, stores))

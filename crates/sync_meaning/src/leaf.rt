@@ -1,4 +1,4 @@
-//! The outputs of vertices with nothing inside.
+//! The outputs of vertices with nothing inside, written in a reaction.
 ghost use Rattle.std.specs.Prelude.{◌≡◌, ◌<◌, ◌≤◌, ◌+◌, ◌++◌, ◌∷◌, [], length, map, sum, take, drop, slice_set, slice_index_or};
 ghost use Rattle.level_meaning.specs.Level.{parts_of, all_joined};
 ghost use Rattle.body_lang.specs.Expr.{view as expression, value_of, vector_of, function_outputs, zeros as zeros_of, PortsBelow};

@@ -1,4 +1,4 @@
-//! One reaction.
+//! One reaction of a vertex, and of a level: for the simulator.
 ghost use Rattle.std.specs.Prelude.{◌≡◌, ◌<◌, ◌+◌, ◌++◌, ◌∷◌, [], length, map, drop, replicate, slice_index_or, slice_set};
 ghost use Rattle.level_meaning.specs.Level.{source_value, case_look};
 ghost use Rattle.level_meaning.specs.Order.{IsAcyclic};
@@ -316,7 +316,8 @@ fn advance_delays(
 fn advance(vertex: &Vertex, own: &Ins, table: &[Ins], store: &mut Store)
     requires guards { AreGuardsTyped (source_length (lengths own.now) (map lengths table.now))
         (label_of (view vertex.now)).guards }
-    requires typed { IsTyped (in_lengths (lengths own.now) (map lengths table.now) (view vertex.now)) (view vertex.now) }
+    requires typed { IsTyped (in_lengths (lengths own.now) (map lengths table.now) (view vertex.now))
+        (view vertex.now) }
     requires fit { Fits (in_lengths (lengths own.now) (map lengths table.now) (view vertex.now))
         (view vertex.now) store.old }
     ensures { Advances (view vertex.now) (in_lengths (lengths own.now) (map lengths table.now)

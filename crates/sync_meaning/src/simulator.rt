@@ -1,4 +1,4 @@
-//! The synchronous meaning of an algorithm, reaction by reaction.
+//! The simulation of an algorithm over rows of its sensors: `simulate`.
 ghost use Rattle.std.specs.Prelude.{◌≡◌, ◌<◌, ◌++◌, [], length, map, IfOk, OnOk, IsErr};
 ghost use Rattle.level_meaning.specs.Level.{source_value, all_joined};
 ghost use Rattle.algo_tree.specs.View.{view, vertices_view};
@@ -83,10 +83,10 @@ fn actuator_row(
 }
 
 /// What the actuators take in each reaction, over these rows of the sensors. The rows have the
-/// lengths of the tree's sensors. A tree of more vertices than `MOST_VERTICES`, each copy of a body
-/// counted, is answered by `OutOfMemory` before anything is laid out. What is laid out is in
+/// lengths of the tree's sensors. For a tree of more vertices than `MOST_VERTICES`, each copy of a body
+/// counted, it returns `OutOfMemory` before anything is laid out. What is laid out is in
 /// proportion to these vertices and their edges, each reaction takes time for each vertex that is
-/// active, and after the first one it takes memory for the answer alone.
+/// active, and after the first one it takes memory for the rows alone.
 pub fn simulate(alloc: Global, tree: &Tree, rows: &SensorRows) -> Result<ActRows, OutOfMemory>
     requires { rows.now.lens ≡ sensor_lengths tree.now }
     ensures taken { IfOk result (λ taken. taken ≡ simulated tree.now rows.now) }

@@ -1,4 +1,4 @@
-//! All that a reaction writes, laid out once beside the tree.
+//! The stores beside a tree: all that a reaction writes, laid out once.
 use body_lang::Ins;
 
 /// When the vertices of a level have their turns: the order in which they run, and the places of those

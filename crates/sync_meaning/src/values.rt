@@ -1,4 +1,4 @@
-//! The values of sources, and the case that a value selects.
+//! The values of sources, and the case that a value selects: what a reaction reads.
 ghost use Rattle.std.specs.Prelude.{◌≡◌, ◌<◌, ◌≤◌, [], length, map, slice_set, slice_index_or};
 ghost use Rattle.level_meaning.specs.Level.{source_value, element_at, selected, all_hold};
 ghost use Rattle.algo_tree.specs.Typed.{source_length, AreLengths, AreGuardsTyped};

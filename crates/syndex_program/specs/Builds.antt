@@ -15,5 +15,8 @@ use Rattle.top_plans.specs.Plans.{Made, program_by, program_plan}
 
 -- the program of the pressure run, within its limits and well formed; or carrying on from it ends so, whatever follows
 abbrev pub BuildsProgram : Graph → Archi → Table → Result Program Status → Type 0
-BuildsProgram g a t (Ok p) = (p ≡ program_by g a t) × (program_limit (program_by g a t) (length a.media) ≡ None) × IsWellFormed p g (sequences a) (length a.media)
-BuildsProgram g a t (Err status) = (held : Held) (next : Program → Made) → Makes held held (program_plan g a t next) (Err (ending_of status))
+BuildsProgram g a t (Ok p) =
+    (p ≡ program_by g a t) × (program_limit (program_by g a t) (length a.media) ≡ None) ×
+    IsWellFormed p g (sequences a) (length a.media)
+BuildsProgram g a t (Err status) =
+    (held : Held) (next : Program → Made) → Makes held held (program_plan g a t next) (Err (ending_of status))

@@ -11,4 +11,7 @@ use Rattle.top_plans.specs.Plans.{Made, durations_in, program_plan, schedule_of}
 
 -- the dates of this many reactions under the durations of a text, within the limits of the program
 abbrev pub dated_in : Bytes → Graph → Archi → Table → ℕ → Made
-dated_in text g a t n = durations_in text g a t (λ ticks. program_plan g a t (λ p. give (written (dates_text g a (schedule_of g a t) ticks n))))
+dated_in text g a t n =
+    durations_in text g a t (λ ticks.
+    program_plan g a t (λ p.
+    give (written (dates_text g a (schedule_of g a t) ticks n))))

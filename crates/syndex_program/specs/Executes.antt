@@ -17,14 +17,29 @@ use Rattle.command_status.specs.Status.{Refusal, ending_of}
 use Rattle.command_status.specs.declared.status.Status.{Status}
 use Rattle.word_rule.specs.Driven.{Driven, driven_by}
 use Rattle.top_plans.specs.Given.{Given, Execution as Executed, one_job, stages}
-use Rattle.top_plans.specs.Plans.{Made, algorithm_in, algorithm_plan, architecture_in, architecture_plan, code_in, described_in, read_file, table_in, table_plan, program_plan, execution, execution_plan}
+use Rattle.top_plans.specs.Plans.{
+  Made,
+  algorithm_in,
+  algorithm_plan,
+  architecture_in,
+  architecture_plan,
+  code_in,
+  described_in,
+  read_file,
+  table_in,
+  table_plan,
+  program_plan,
+  execution,
+  execution_plan,
+}
 use Rattle.syndex_program.specs.declared.execution.Execution.{Execution}
 
 -- what is executed
 abbrev pub executed : Execution → Executed
 executed x = execution x.tree x.text.archi x.program x.rows
 
--- The flat graph is the algorithm's, which is valid and means the same; the parts make a job over all rows, which meets no limit and has this many micro-steps.
+-- The flat graph is the algorithm's, which is valid and means the same; the parts make a job over all rows, which
+-- meets no limit and has this many micro-steps.
 pub record IsExecuted (x : Execution) : Type 0 where
   pub flat : x.flat ≡ flat_of x.tree
   pub has : HasFlat x.tree
@@ -32,21 +47,31 @@ pub record IsExecuted (x : Execution) : Type 0 where
   pub limit : limit_of (one_job (executed x)) ≡ None
   pub steps : x.steps ≡ total_steps x.program (length x.rows.reactions)
 
--- The plan of a program that is executed, whatever is made of it: of one that is built, over a table's rows, over files, and over texts; and of
--- one that stands in a file of macro-code.
+-- The plan of a program that is executed, whatever is made of it: of one that is built, over a table's rows, over
+-- files, and over texts; and of one that stands in a file of macro-code.
 module _ (next : Executed → Given) where
   abbrev pub rest_plan : Vertex → Archi → Table → Reactions → Made
   rest_plan main a t rows = program_plan (flat_of main) a t (λ p. execution_plan (execution main a p rows) next)
 
   abbrev pub files_plan : Bytes → Bytes → Bytes → Made
-  files_plan a h s = algorithm_plan a (λ defs main. architecture_plan h main (λ d t. table_plan main s (λ rows. rest_plan main d.archi t rows)))
+  files_plan a h s =
+      algorithm_plan a (λ defs main.
+      architecture_plan h main (λ d t.
+      table_plan main s (λ rows. rest_plan main d.archi t rows)))
 
   abbrev pub texts_plan : Bytes → Bytes → Bytes → Made
-  texts_plan a h s = algorithm_in a (λ defs main. architecture_in h main (λ d t. table_in main s (λ rows. rest_plan main d.archi t rows)))
+  texts_plan a h s =
+      algorithm_in a (λ defs main.
+      architecture_in h main (λ d t.
+      table_in main s (λ rows. rest_plan main d.archi t rows)))
 
   abbrev pub foreign_plan : Bytes → Bytes → Bytes → Bytes → Made
-  foreign_plan a h c s = algorithm_plan a (λ defs main. read_file Architecture h (λ lines. described_in lines (λ d. read_file Code c (λ text.
-      code_in text (flat_of main) d.archi (λ p. table_plan main s (λ rows. execution_plan (execution main d.archi p rows) next))))))
+  foreign_plan a h c s =
+      algorithm_plan a (λ defs main.
+      read_file Architecture h (λ lines. described_in lines (λ d.
+      read_file Code c (λ text. code_in text (flat_of main) d.archi (λ p.
+      table_plan main s (λ rows.
+      execution_plan (execution main d.archi p rows) next))))))
 
   -- what is made of an execution, or the ending that a status stands for
   abbrev pub made_of : Result Execution Status → Result Given (Ending Refusal)
@@ -55,4 +80,5 @@ module _ (next : Executed → Given) where
 
 -- what was made is performed; or memory ran out before anything was written and any job was run
 abbrev pub EndsOrWants : Result Given (Ending Refusal) → Sunk → Sunk → Driven → Driven → Ending Refusal → Type 0
-EndsOrWants made sunk sunk' d d' ending = Ends driven_by stages made sunk sunk' d d' ending ⊎ Ends driven_by stages (Err no_memory) sunk sunk' d d' ending
+EndsOrWants made sunk sunk' d d' ending =
+    Ends driven_by stages made sunk sunk' d d' ending ⊎ Ends driven_by stages (Err no_memory) sunk sunk' d d' ending

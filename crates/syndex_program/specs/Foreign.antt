@@ -25,9 +25,12 @@ module _ (g : Graph) (a : Archi) where
   -- the program of a text, which lacks nothing; or carrying on from the text ends so, whatever follows
   abbrev pub MakesProgram : Bytes → Result Program Status → Type 0
   MakesProgram text (Ok p) = IsProgram text p
-  MakesProgram text (Err status) = (held : Held) (next : Program → Made) → Makes held held (code_in text g a next) (Err (ending_of status))
+  MakesProgram text (Err status) =
+      (held : Held) (next : Program → Made) → Makes held held (code_in text g a next) (Err (ending_of status))
 
   -- the same of a file
   abbrev pub ReadsProgram : Bytes → Held → Held → Result Program Status → Type 0
   ReadsProgram name old new (Ok p) = (text : Bytes) × WasRead Code name old new text × IsProgram text p
-  ReadsProgram name old new (Err status) = (next : Program → Made) → Makes old new (read_file Code name (λ text. code_in text g a next)) (Err (ending_of status))
+  ReadsProgram name old new (Err status) =
+      (next : Program → Made) → Makes old new (read_file Code name (λ text. code_in text g a next))
+      (Err (ending_of status))

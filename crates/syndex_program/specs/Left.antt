@@ -23,7 +23,8 @@ jobs_left w = map (job_from w.job) (starts_left w)
 
 -- the window that begins with reaction s, with its lines
 abbrev pub stage_from : Vertex → JobData → ℕ → Stage JobData
-stage_from main j s = record { jobs = job_from j s ∷ []; text = window_text (actuator_names main) (acts_of main j.sensors) s }
+stage_from main j s =
+    record { jobs = job_from j s ∷ []; text = window_text (actuator_names main) (acts_of main j.sensors) s }
 
 abbrev pub stages_left : Vertex → WindowsData → List (Stage JobData)
 stages_left main w = map (stage_from main w.job) (starts_left w)

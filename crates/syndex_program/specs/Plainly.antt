@@ -23,7 +23,8 @@ MakesOrLeaves command held held' (Some made) = ¬ RunsJobs command × Makes held
 abbrev pub IsRunOrPlain : Command → Held → Held → Sunk → Sunk → Option Status → Type 0
 IsRunOrPlain command held held' sunk sunk' None = RunsJobs command × (held' ≡ held) × (sunk' ≡ sunk)
 IsRunOrPlain command held held' sunk sunk' (Some status) =
-    ¬ RunsJobs command × ((driven : Driven) → Ran driven_by stages (plan_for command) held held' sunk sunk' driven driven (ending_of status))
+    ¬ RunsJobs command ×
+    ((driven : Driven) → Ran driven_by stages (plan_for command) held held' sunk sunk' driven driven (ending_of status))
 
 -- the ending that a status stands for, if there is one
 abbrev pub ending_in : Option Status → Option (Ending Refusal)
@@ -32,4 +33,5 @@ ending_in (Some status) = Some (ending_of status)
 
 -- what is answered for the words, where nothing is written to the error stream
 abbrev pub RepliesOrLeaves : Option Command → Held → Held → Sunk → Sunk → Option Status → Type 0
-RepliesOrLeaves command held held' sunk sunk' answer = (err : Sunk) → PlainReplies command held held' sunk sunk' err err (ending_in answer)
+RepliesOrLeaves command held held' sunk sunk' answer =
+    (err : Sunk) → PlainReplies command held held' sunk sunk' err err (ending_in answer)

@@ -59,8 +59,10 @@ MakesAlgorithm text (Err error.OutOfMemory) = Unit {0}
 
 -- the file has a text of this algorithm; or carrying on from it ends so, whatever follows
 abbrev pub ReadsAlgorithm : Bytes → Held → Held → Result Algorithm Status → Type 0
-ReadsAlgorithm name old new (Ok algorithm) = (text : Bytes) × WasRead file.Algorithm name old new text × IsAlgorithm text algorithm
-ReadsAlgorithm name old new (Err status) = (next : Defs → Vertex → Made) → Makes old new (algorithm_plan name next) (Err (ending_of status))
+ReadsAlgorithm name old new (Ok algorithm) =
+    (text : Bytes) × WasRead file.Algorithm name old new text × IsAlgorithm text algorithm
+ReadsAlgorithm name old new (Err status) =
+    (next : Defs → Vertex → Made) → Makes old new (algorithm_plan name next) (Err (ending_of status))
 
 -- what a text describes
 abbrev pub described : ArchiText → Described
@@ -68,9 +70,11 @@ described text = record { version = text.version; archi = text.archi; durations 
 
 -- the file has a text that describes this; or carrying on from it ends so, whatever follows
 abbrev pub ReadsText : Bytes → Held → Held → Result ArchiText Status → Type 0
-ReadsText name old new (Ok text) = (bytes : Bytes) × WasRead file.Architecture name old new bytes × (description_of bytes ≡ Ok (described text))
+ReadsText name old new (Ok text) =
+    (bytes : Bytes) × WasRead file.Architecture name old new bytes × (description_of bytes ≡ Ok (described text))
 ReadsText name old new (Err status) =
-    (next : Described → Made) → Makes old new (read_file file.Architecture name (λ bytes. described_in bytes next)) (Err (ending_of status))
+    (next : Described → Made) → Makes old new (read_file file.Architecture name (λ bytes. described_in bytes next))
+    (Err (ending_of status))
 
 -- what a text describes, the flat graph of this algorithm, and how long its operations last by the text
 pub record IsArchitecture (main : Vertex) (text : Bytes) (architecture : Architecture) : Type 0 where
@@ -81,28 +85,33 @@ pub record IsArchitecture (main : Vertex) (text : Bytes) (architecture : Archite
 -- the first refusal of a text, by itself or for an operation without a duration
 pub data IsArchitectureRefused (main : Vertex) (text : Bytes) (error : ArchiError) : Type 0 where
   describes_none : description_of text ≡ Err error → IsArchitectureRefused main text error
-  lasts_none : (d : Described) → description_of text ≡ Ok d → durations_of (flat_of main) d ≡ Err error → IsArchitectureRefused main text error
+  lasts_none : (d : Described) → description_of text ≡ Ok d → durations_of (flat_of main) d ≡ Err error →
+      IsArchitectureRefused main text error
 
 -- the architecture of a text or its first refusal; want of memory may come in place of either
 abbrev pub MakesArchitecture : Vertex → Bytes → Result Architecture ArchiError → Type 0
 MakesArchitecture main text (Ok architecture) = IsArchitecture main text architecture
-MakesArchitecture main text (Err (archi_error.Refused fault)) = IsArchitectureRefused main text (archi_error.Refused fault)
+MakesArchitecture main text (Err (archi_error.Refused fault)) =
+    IsArchitectureRefused main text (archi_error.Refused fault)
 MakesArchitecture main text (Err (archi_error.Limit fault)) = IsArchitectureRefused main text (archi_error.Limit fault)
 MakesArchitecture main text (Err archi_error.OutOfMemory) = Unit {0}
 
 -- the file has a text of this architecture; or carrying on from it ends so, whatever follows
 abbrev pub ReadsArchitecture : Vertex → Bytes → Held → Held → Result Architecture Status → Type 0
-ReadsArchitecture main name old new (Ok architecture) = (text : Bytes) × WasRead file.Architecture name old new text × IsArchitecture main text architecture
+ReadsArchitecture main name old new (Ok architecture) =
+    (text : Bytes) × WasRead file.Architecture name old new text × IsArchitecture main text architecture
 ReadsArchitecture main name old new (Err status) =
     (next : Described → Table → Made) → Makes old new (architecture_plan name main next) (Err (ending_of status))
 
 -- the rows of a table for this algorithm or its first refusal; want of memory may come in place of either
 abbrev pub MakesTable : Vertex → Bytes → Result Reactions SensorError → Type 0
-MakesTable main table (Ok rows) = (rows_of main (records default_config (strip_bom table)) ≡ Ok rows) × (rows.lens ≡ sensor_lengths main)
+MakesTable main table (Ok rows) =
+    (rows_of main (records default_config (strip_bom table)) ≡ Ok rows) × (rows.lens ≡ sensor_lengths main)
 MakesTable main table (Err e) = Fails e (rows_of main (records default_config (strip_bom table)))
 
 -- the file has a table of these rows for this algorithm; or carrying on from it ends so, whatever follows
 abbrev pub ReadsTable : Vertex → Bytes → Held → Held → Result Reactions Status → Type 0
 ReadsTable main name old new (Ok rows) =
     (table : Bytes) × WasRead file.Sensors name old new table × MakesTable main table (Ok rows)
-ReadsTable main name old new (Err status) = (next : Reactions → Made) → Makes old new (table_plan main name next) (Err (ending_of status))
+ReadsTable main name old new (Err status) =
+    (next : Reactions → Made) → Makes old new (table_plan main name next) (Err (ending_of status))

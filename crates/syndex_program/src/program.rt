@@ -27,6 +27,7 @@ pub fn scheduled(alloc: Global, architecture: &Architecture) -> Result<Schedule,
 {
     let flat = &architecture.flat;
     let archi = &architecture.text.archi;
+    // By this call the proof knows that the architecture is valid, which the law of the least routes asks for.
     let _operators = archi.operators();
     durations_fit();
     routes_are_least();

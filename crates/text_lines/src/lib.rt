@@ -1,8 +1,9 @@
-//! Lines of a text, and words of a line: what the readers of algorithm and architecture texts begin with.
+//! The lines of a text and the words of a line: what the readers of algorithm, architecture and code texts begin
+//! with.
 //!
-//! Lines end at a line feed; the last line may lack one. Tab, carriage return and space are blanks.
-//! From `#` on a line is comment. `line_end` finds the end of a line, `code` cuts off its comment,
-//! `foreign` finds a byte that may not stand there, and `Words` are its words.
+//! Lines end at a line feed; the last line may lack one. Tab, carriage return and space are blanks
+//! (`is_blank_byte`). From `#` on a line is comment. `line_end` finds the end of a line, `code` cuts off its
+//! comment, `foreign` finds a byte that may not stand there, and `Words` are its words.
 #![tactic(auto)]
 
 mod words;
@@ -35,18 +36,21 @@ pub fn line_end(bytes: &[u8], from: usize) -> usize
     }
 }
 
-fn is_blank_byte(b: u8) -> bool
+/// Whether a byte is a blank: tab, carriage return or space.
+pub fn is_blank_byte(b: u8) -> bool
     ensures { result ≡ is_blank b }
 {
     b == b'\t' || b == b'\r' || b == b' '
 }
 
+/// Whether a byte may not stand in a line: it is neither a blank nor a printable character.
 fn is_foreign_byte(b: u8) -> bool
     ensures { result ≡ is_foreign b }
 {
     !(is_blank_byte(b) || (33 <= b && b <= 126))
 }
 
+/// The place of the `#` with which the comment of a line begins, or the end of the line.
 #[tactic(auto, using(crate::proofs::Places::found_at, crate::proofs::Places::missing_at))]
 fn code_end(line: &[u8]) -> usize
     ensures place { result ≡ position_or_len is_hash line.now }
@@ -58,6 +62,7 @@ fn code_end(line: &[u8]) -> usize
     }
 }
 
+/// The place of the next blank from a place on, or the end.
 #[tactic(auto, using(crate::proofs::Places::found_at, crate::proofs::Places::missing_at))]
 fn word_end(code: &[u8], from: usize) -> usize
     requires { from ≤ length code.now }
@@ -70,24 +75,28 @@ fn word_end(code: &[u8], from: usize) -> usize
     }
 }
 
+/// The place of the first line feed.
 fn feed_in(bytes: &[u8]) -> Option<usize>
     ensures { result ≡ position is_feed bytes.now }
 {
     bytes.iter().position(|b| *b == b'\n')
 }
 
+/// The place of the first `#`.
 fn hash_in(bytes: &[u8]) -> Option<usize>
     ensures { result ≡ position is_hash bytes.now }
 {
     bytes.iter().position(|b| *b == b'#')
 }
 
+/// The place of the first blank.
 fn blank_in(bytes: &[u8]) -> Option<usize>
     ensures { result ≡ position is_blank bytes.now }
 {
     bytes.iter().position(|b| is_blank_byte(*b))
 }
 
+/// The place of the first byte that may not stand in a line.
 fn foreign_in(code: &[u8]) -> Option<usize>
     ensures { result ≡ position is_foreign code.now }
 {
@@ -101,7 +110,7 @@ pub fn code(line: &[u8]) -> &[u8]
     &line[..code_end(line)]
 }
 
-/// The place of the first byte that may not stand in a line.
+/// The place of the first byte before the comment of a line that may not stand there.
 pub fn foreign(line: &[u8]) -> Option<usize>
     ensures { result ≡ foreign_place line.now }
 {

@@ -1,4 +1,4 @@
-//! The words of a line.
+//! The words of a line: `Words`, which the readers go through line by line.
 ghost use Rattle.std.specs.Prelude.{◌≡◌, ◌<◌, List, ℕ, map, length, slice_index_or, [], All, IfOk};
 ghost use Rattle.text_lines.specs.Text.{text_at, IsWithin, words_of};
 

@@ -37,7 +37,9 @@ module _ (vertices : List Vertex) (operators : List Bytes) where
   -- START END OPERATION, and of a transfer PORT FROM TO
   abbrev pub act_line : Act → Line
   act_line (run d) = decimal d.start ∷ decimal d.end ∷ operation_name d.op ∷ []
-  act_line (carry c) = decimal c.start ∷ decimal c.end ∷ operation_name c.source.vertex ∷ decimal c.source.port ∷ operator_name c.from ∷ operator_name c.to ∷ []
+  act_line (carry c) =
+      decimal c.start ∷ decimal c.end ∷ operation_name c.source.vertex ∷ decimal c.source.port ∷
+      operator_name c.from ∷ operator_name c.to ∷ []
 
   -- a head, and then the acts that pass, in their order
   abbrev pub part : Bytes → Bytes → (Act → Bool) → List Act → List Line

@@ -1,4 +1,4 @@
-//! The whole chart.
+//! The chart as a whole, printed for the command `chart`.
 ghost use Rattle.std.specs.Prelude.{◌≡◌, ◌++◌, OnErr, OnOk, map};
 ghost use Rattle.std.specs.List.{filter};
 ghost use Rattle.schedule.specs.Acts.{acts_of, carry, is_on, is_over};
@@ -34,6 +34,7 @@ pub fn print_chart(
     Ok(())
 }
 
+/// Appends the whole chart. After want of memory part of it may stand there.
 fn append_chart(
     out: &mut Vec<u8>,
     flat: &Flat,
@@ -54,6 +55,7 @@ fn append_chart(
     append(out, b"\n")
 }
 
+/// Appends the parts of all operators: a head, and the lines of its operations.
 fn append_operators(
     out: &mut Vec<u8>,
     named: &Named,
@@ -70,6 +72,7 @@ fn append_operators(
     Ok(())
 }
 
+/// Appends the parts of all media: a head, and the lines of its transfers.
 fn append_media(
     out: &mut Vec<u8>,
     named: &Named,
@@ -123,6 +126,7 @@ fn append_over(
     Ok(())
 }
 
+/// Appends the lines of those of these transfers that go over the medium.
 fn append_transfers(
     out: &mut Vec<u8>,
     named: &Named,

@@ -1,5 +1,7 @@
 //! The timing chart of a schedule: when each operation runs on its operator, and when each value is
-//! carried over a medium. `print_chart` appends it; the command `chart` writes it.
+//! carried over a medium.
+//!
+//! `print_chart` appends its text, which the command `chart` writes.
 #![tactic(auto)]
 
 mod chart;

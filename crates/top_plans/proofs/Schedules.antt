@@ -15,7 +15,7 @@ use Rattle.pressure_heuristic.proofs.Whole.{runs_are_valid}
 use Rattle.route_table.specs.Computed.{table_of}
 use Rattle.route_table.proofs.LeastRoutes.{routes_are_least}
 use Rattle.schedule.specs.Valid.{is_valid}
-use Rattle.accepted_laws.proofs.Architectures.{described_are}
+use Rattle.archi_reader.proofs.Accepted.{described_are}
 use Rattle.top_plans.specs.Plans.{schedule_of}
 
 abbrev gives : Table → Result Table ArchiError

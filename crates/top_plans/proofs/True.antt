@@ -24,7 +24,7 @@ use Rattle.phase_laws.specs.Ended.{RunsEnd, RunsTakeRows}
 use Rattle.phase_laws.specs.Windows.{WindowsMakeTheRun}
 use Rattle.accepted_laws.specs.Flat.{HasFlat}
 use Rattle.accepted_laws.proofs.Definitions.{accepted_have_flat}
-use Rattle.accepted_laws.proofs.Architectures.{described_are}
+use Rattle.archi_reader.proofs.Accepted.{described_are}
 use Rattle.accepted_laws.proofs.Tables.{tables_fit}
 use Rattle.check_laws.specs.Tests.{Cause, cause}
 use Rattle.check_laws.proofs.Whole.{no_cause_is_well_formed}

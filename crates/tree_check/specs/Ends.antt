@@ -15,12 +15,12 @@ abbrev mutual
   all_no_ends no_vertices = true
   all_no_ends (and_vertex u us) = has_no_ends u && all_no_ends us
 
--- no sensor and no actuator stands inside one of these vertices
+-- No sensor and no actuator stands inside one of these vertices.
 abbrev pub none_inside : Vertices → Bool
 none_inside no_vertices = true
 none_inside (and_vertex (vertex l vs) us) = all_no_ends vs && none_inside us
 
--- these count up from this number
+-- These count up from this number.
 abbrev pub counts_from : ℕ → List ℕ → Bool
 counts_from n [] = true
 counts_from n (x ∷ xs) = (x == n) && counts_from (n + 1) xs

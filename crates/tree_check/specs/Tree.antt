@@ -23,4 +23,7 @@ has_no_ports l = gives_nothing l.kind && are_no_sources l.ins
 
 abbrev pub is_tree : Vertex → Bool
 is_tree u =
-    has_no_ports (label_of u) && (is_well u && is_typed [] u) && (none_inside (vertices_in u) && (counts_from 0 (sensor_numbers (vertices_in u)) && counts_from 0 (actuator_numbers (vertices_in u)))) && nat_le (operations u) 2048
+    has_no_ports (label_of u) && (is_well u && is_typed [] u) &&
+    (none_inside (vertices_in u) &&
+    (counts_from 0 (sensor_numbers (vertices_in u)) && counts_from 0 (actuator_numbers (vertices_in u)))) &&
+    nat_le (operations u) 2048

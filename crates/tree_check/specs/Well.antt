@@ -14,7 +14,7 @@ use Rattle.algo_tree.specs.Meaning.{nodes}
 use Rattle.algo_tree.specs.Well.{fork_names, join_names}
 use Rattle.tree_check.specs.Acyclic.{is_acyclic}
 
--- no later name is the same
+-- No later name is the same.
 abbrev pub is_new_name : List ℕ → List (List ℕ) → Bool
 is_new_name x [] = true
 is_new_name x (y ∷ ys) = not (bytes_eq x y) && is_new_name x ys
@@ -23,7 +23,7 @@ abbrev pub are_distinct_names : List (List ℕ) → Bool
 are_distinct_names [] = true
 are_distinct_names (x ∷ xs) = is_new_name x xs && are_distinct_names xs
 
--- no later vertex has this part
+-- No later vertex has this part.
 abbrev pub is_apart : Part → List Node → Bool
 is_apart p [] = true
 is_apart p (c ∷ cs) = not (same_part p c.part) && is_apart p cs
@@ -41,7 +41,7 @@ abbrev pub are_numbered : List Node → Bool
 are_numbered [] = true
 are_numbered (c ∷ cs) = is_numbered_part c.part && are_numbered cs
 
--- an input of the vertex around
+-- An input of the vertex around.
 abbrev pub is_own : Source → Bool
 is_own (Own k) = true
 is_own (Of r p) = false
@@ -54,7 +54,7 @@ abbrev pub own_guards : List Guard → Bool
 own_guards [] = true
 own_guards (g ∷ gs) = is_own g.source && own_guards gs
 
--- fed by the inputs of the vertex around alone
+-- Fed by the inputs of the vertex around alone.
 abbrev pub are_cases : List Node → Bool
 are_cases [] = true
 are_cases (c ∷ cs) = (are_own c.ins && own_guards c.guards) && are_cases cs
@@ -72,16 +72,18 @@ is_one_node [] = false
 is_one_node (c ∷ []) = true
 is_one_node (c ∷ d ∷ cs) = false
 
--- a case for each value and one more, with numbers for parts
+-- A case for each value and one more, with numbers for parts.
 abbrev pub is_switch_well : List Guard → ℕ → List (List ℕ) → List Node → Bool
 is_switch_well gs values names cs =
-    (are_no_guards gs && ((length cs == suc values) && (has_distinct_parts cs && are_cases cs))) && (are_numbered cs && are_distinct_names names)
+    (are_no_guards gs && ((length cs == suc values) && (has_distinct_parts cs && are_cases cs))) &&
+    (are_numbered cs && are_distinct_names names)
 
--- one body, in one copy at least
+-- One body, in one copy at least.
 abbrev pub is_repeat_well : List Guard → ℕ → List Feed → List Give → List Node → Bool
-is_repeat_well gs n feeds gives cs = are_no_guards gs && ((nat_lt 0 n && is_one_node cs) && are_distinct_names (fork_names feeds ++ join_names gives))
+is_repeat_well gs n feeds gives cs =
+    are_no_guards gs && ((nat_lt 0 n && is_one_node cs) && are_distinct_names (fork_names feeds ++ join_names gives))
 
--- what a kind asks of its guards and of the level inside
+-- What a kind asks of its guards and of the level inside.
 abbrev pub is_kind_well : Kind → List Guard → List Node → Bool
 is_kind_well (graph outs) gs cs = are_no_guards gs && (is_acyclic cs && has_distinct_parts cs)
 is_kind_well (switch values names) gs cs = is_switch_well gs (length values) names cs

@@ -1,13 +1,12 @@
-//! Levels without a cycle.
-ghost use Rattle.std.specs.Prelude.{◌≡◌, IfOk, false, slice_index_or};
+//! The test that a level has no cycle: for `well`.
+ghost use Rattle.std.specs.Prelude.{◌≡◌, IfOk};
 ghost use Rattle.std.specs.List.{list_all};
-ghost use Rattle.level_meaning.specs.Order.{source_ready, sources_ready, guards_ready, is_ready};
-ghost use Rattle.algo_tree.specs.Meaning.{asked_by, node, nodes};
-ghost use Rattle.algo_tree.specs.View.{kind_view, view, vertices_view};
+ghost use Rattle.algo_tree.specs.Meaning.{nodes};
+ghost use Rattle.algo_tree.specs.View.{vertices_view};
 ghost use Rattle.tree_check.specs.Acyclic.{is_acyclic, one_more};
 
-use algo_tree::{Kind, Vertex};
-use level_meaning::{Guard, Source};
+use algo_tree::Vertex;
+use level_order::is_vertex_ready;
 use std::alloc::Global;
 use syn_base::OutOfMemory;
 
@@ -23,12 +22,14 @@ pub fn is_acyclic(alloc: Global, vertices: &[Vertex]) -> Result<bool, OutOfMemor
     Ok(are_all_set(done.as_slice()))
 }
 
+/// Whether each flag is set.
 fn are_all_set(flags: &[bool]) -> bool
     ensures { result ≡ list_all (λ is_done. is_done) flags.now }
 {
     flags.iter().all(|is_done| *is_done)
 }
 
+/// The flags after one more round: a vertex is done if all that its outputs ask for was done before.
 fn one_round_more(
     alloc: Global,
     before: &[bool],
@@ -38,62 +39,7 @@ fn one_round_more(
 {
     let mut done = Vec::new(alloc);
     for vertex in vertices {
-        done.push(is_ready(before, vertex))?;
+        done.push(is_vertex_ready(vertex, before))?;
     }
     Ok(done)
-}
-
-fn is_ready(done: &[bool], vertex: &Vertex) -> bool
-    ensures { result ≡ is_ready (λ q. slice_index_or done.now q false) (node (view vertex.now)) }
-{
-    are_guards_ready(done, vertex.guards.as_slice())
-        && are_asked_ready(done, &vertex.kind, vertex.ins.as_slice())
-}
-
-fn are_guards_ready(done: &[bool], guards: &[Guard]) -> bool
-    ensures { result ≡ guards_ready (λ q. slice_index_or done.now q false) guards.now }
-{
-    for guard in guards {
-        if !is_source_ready(done, guard.source) {
-            return false;
-        }
-    }
-    true
-}
-
-/// The outputs of a delay ask for none of its inputs.
-fn are_asked_ready(done: &[bool], kind: &Kind, sources: &[Source]) -> bool
-    ensures { result ≡ sources_ready (λ q. slice_index_or done.now q false)
-        (asked_by (kind_view kind.now) sources.now) }
-{
-    match kind {
-        Kind::Delay(_) => true,
-        _ => are_sources_ready(done, sources),
-    }
-}
-
-fn are_sources_ready(done: &[bool], sources: &[Source]) -> bool
-    ensures { result ≡ sources_ready (λ q. slice_index_or done.now q false) sources.now }
-{
-    for source in sources {
-        if !is_source_ready(done, *source) {
-            return false;
-        }
-    }
-    true
-}
-
-fn is_source_ready(done: &[bool], source: Source) -> bool
-    ensures { result ≡ source_ready (λ q. slice_index_or done.now q false) source }
-{
-    match source {
-        Source::Own(_) => true,
-        Source::Of(vertex, _) => is_set(done, vertex as usize),
-    }
-}
-
-fn is_set(flags: &[bool], at: usize) -> bool
-    ensures { result ≡ slice_index_or flags.now at false }
-{
-    at < flags.len() && flags[at]
 }

@@ -1,4 +1,4 @@
-//! Sensors and actuators stand in the main graph alone, and are numbered there.
+//! The test that sensors and actuators stand in the main graph alone, and are numbered there: for `is_tree`.
 ghost use Rattle.std.specs.Prelude.{◌≡◌};
 ghost use Rattle.algo_tree.specs.Ends.{sensor_numbers, actuator_numbers};
 ghost use Rattle.algo_tree.specs.View.{kind_view, view, vertices_view};
@@ -18,6 +18,7 @@ pub fn is_none_inside(vertices: &[Vertex]) -> bool
     true
 }
 
+/// Whether no sensor and no actuator stands among these vertices or inside them.
 fn have_no_ends(vertices: &[Vertex]) -> bool
     ensures { result ≡ all_no_ends (vertices_view vertices.now) }
 {
@@ -29,6 +30,7 @@ fn have_no_ends(vertices: &[Vertex]) -> bool
     true
 }
 
+/// Whether neither a vertex nor any inside it is a sensor or an actuator.
 fn has_no_ends(vertex: &Vertex) -> bool
     ensures { result ≡ has_no_ends (view vertex.now) }
 {
@@ -43,6 +45,7 @@ fn has_no_ends(vertex: &Vertex) -> bool
     true
 }
 
+/// Whether a kind is neither that of a sensor nor that of an actuator.
 fn is_no_end(kind: &Kind) -> bool
     ensures { result ≡ is_no_end (kind_view kind.now) }
 {

@@ -1,7 +1,7 @@
-//! Whether a vertex that was built by hand is a tree.
+//! The test whether a vertex that was built by hand is a tree.
 //!
-//! `is_tree` decides it, part by part of what a tree keeps. Whoever builds a vertex by itself asks it
-//! before `Tree::new`, as tests do; a tree that `algo_resolve` makes is one by a law.
+//! `is_tree` decides it, part by part of what a tree keeps. Whoever builds a vertex alone asks it before
+//! `Tree::new`, as tests do; a tree that `algo_resolve` makes is one by a law.
 #![tactic(auto)]
 
 mod acyclic;

@@ -1,4 +1,4 @@
-//! Whether a vertex is a tree.
+//! Whether a vertex is a tree: `is_tree`, which puts the tests of the other files together.
 ghost use Rattle.std.specs.Prelude.{◌≡◌, ◌&&◌, IfOk, nat_le};
 ghost use Rattle.std.specs.Bool.{Decides};
 ghost use Rattle.algo_tree.specs.View.{kind_view, view, vertices_view};
@@ -31,6 +31,7 @@ pub fn is_tree(alloc: Global, main: &Vertex) -> Result<bool, OutOfMemory>
     passes(alloc, main)
 }
 
+/// Whether a vertex passes the tests, which say together that it is a tree. The cheap ones come first.
 fn passes(alloc: Global, main: &Vertex) -> Result<bool, OutOfMemory>
     ensures { IfOk result (λ answer. answer ≡ is_tree (view main.now)) }
 {
@@ -43,12 +44,14 @@ fn passes(alloc: Global, main: &Vertex) -> Result<bool, OutOfMemory>
     is_typed(alloc, &[], main)
 }
 
+/// Whether a vertex is a graph with neither inputs nor outputs.
 fn has_no_ports(main: &Vertex) -> bool
     ensures { result ≡ has_no_ports (label_of (view main.now)) }
 {
     gives_nothing(&main.kind) && are_no_sources(main.ins.as_slice())
 }
 
+/// Whether a kind is that of a graph without outputs.
 fn gives_nothing(kind: &Kind) -> bool
     ensures { result ≡ gives_nothing (kind_view kind.now) }
 {
@@ -58,18 +61,21 @@ fn gives_nothing(kind: &Kind) -> bool
     }
 }
 
+/// Whether there are no sources.
 fn are_no_sources(sources: &[Source]) -> bool
     ensures { result ≡ are_no_sources sources.now }
 {
     sources.is_empty()
 }
 
+/// Whether a vertex stands for as many flat operations as a tree may.
 fn is_small(main: &Vertex) -> bool
     ensures { result ≡ nat_le (operations (view main.now)) 2048 }
 {
     count_operations(main) <= MOST
 }
 
+/// Whether sensors and actuators stand among these vertices alone, each numbered from 0 in order.
 fn are_ends_in_place(vertices: &[Vertex]) -> bool
     ensures { result ≡ (none_inside (vertices_view vertices.now) &&
         (counts_from 0 (sensor_numbers (vertices_view vertices.now)) &&

@@ -1,4 +1,4 @@
-//! The lengths of values fit, and every source is there.
+//! The test that the lengths of values fit, and that every source is there: for `is_tree`.
 ghost use Rattle.std.specs.Prelude.{◌≡◌, ◌==◌, ◌&&◌, ◌∷◌, [], IfOk, length, map, slice_index_or};
 ghost use Rattle.std.specs.List.{list_all};
 ghost use Rattle.std.specs.Str.{bytes_eq};
@@ -7,8 +7,8 @@ ghost use Rattle.algo_tree.specs.View.{kind_view, view, vertices_view};
 ghost use Rattle.algo_tree.specs.Typed.{outs_of, source_length, given_length};
 ghost use Rattle.tree_check.specs.Typed.{is_guard_typed, ports_below, is_fed, all_give, is_merge, are_groups, fits, inner_lengths, are_guards_typed, is_typed};
 
-use crate::lens::{are_lengths, fed_lens, is_only, is_sum, source_len, source_lens};
-use algo_tree::{Kind, Vertex};
+use crate::lens::{are_lengths, is_only, is_sum};
+use algo_tree::{Kind, Vertex, fed_lens, source_len, source_lens};
 use body_lang::{Expr, has_ports_below};
 use level_meaning::{Feed, Give, Guard, Source};
 use std::alloc::Global;
@@ -80,6 +80,7 @@ fn is_guarded(lens: &[u32], kind: &Kind, inner: &[Vertex], guards: &[Guard]) -> 
     }
 }
 
+/// Whether each guard fits, over the own inputs and the vertices of its level.
 fn are_guards_typed(own: &[u32], vertices: &[Vertex], guards: &[Guard]) -> bool
     ensures { result ≡ list_all (is_guard_typed
         (source_length own.now (outs_of (vertices_view vertices.now)))) guards.now }
@@ -89,6 +90,7 @@ fn are_guards_typed(own: &[u32], vertices: &[Vertex], guards: &[Guard]) -> bool
         .all(|guard| is_guard_typed(own, vertices, guard))
 }
 
+/// Whether the source of a guard has one element, and its case is there.
 fn is_guard_typed(own: &[u32], vertices: &[Vertex], guard: &Guard) -> bool
     ensures { result ≡ is_guard_typed (source_length own.now (outs_of (vertices_view vertices.now))) guard.now }
 {
@@ -96,7 +98,7 @@ fn is_guard_typed(own: &[u32], vertices: &[Vertex], guard: &Guard) -> bool
         && (guard.case as usize) <= guard.values.as_slice().len()
 }
 
-/// What a kind asks of the lengths of its inputs and outputs, and of the outputs inside.
+/// Whether the lengths of inputs and outputs, and those of the outputs inside, are as a kind asks.
 fn fits(
     alloc: Global,
     lens: &[u32],
@@ -138,6 +140,7 @@ fn are_groups(outs: &[u32], groups: &[Items<i64>]) -> bool
     1 <= groups.len() && all_have(outs, groups)
 }
 
+/// Whether each group has the one length.
 fn all_have(outs: &[u32], groups: &[Items<i64>]) -> bool
     ensures { result ≡ list_all (λ v. bytes_eq outs.now (length v ∷ [])) groups.now }
 {
@@ -146,6 +149,7 @@ fn all_have(outs: &[u32], groups: &[Items<i64>]) -> bool
         .all(|group| is_only(group.as_slice().len(), outs))
 }
 
+/// Whether there is an expression for each output, each over the inputs alone.
 fn is_function(lens: &[u32], outs: &[u32], es: &[Expr]) -> bool
     ensures { result ≡ ((length es.now == length outs.now) &&
         list_all (ports_below (length lens.now)) (map expression es.now)) }
@@ -153,6 +157,7 @@ fn is_function(lens: &[u32], outs: &[u32], es: &[Expr]) -> bool
     es.len() == outs.len() && are_expressions(es, lens.len())
 }
 
+/// Whether each expression names ports below this number alone.
 fn are_expressions(es: &[Expr], ports: usize) -> bool
     ensures { result ≡ list_all (ports_below ports) (map expression es.now) }
 {
@@ -164,13 +169,14 @@ fn are_expressions(es: &[Expr], ports: usize) -> bool
     true
 }
 
+/// Whether an expression names ports below this number alone.
 fn is_expression(e: &Expr, ports: usize) -> bool
     ensures { result ≡ ports_below ports (expression e.now) }
 {
     has_ports_below(e, ports)
 }
 
-/// A conditioning input, and an input of this length for each case and one more.
+/// Whether there are a conditioning input, and an input of this length for each case and one more.
 fn is_merge(values: usize, len: u32, lens: &[u32]) -> bool
     ensures { result ≡ is_merge values len lens.now }
 {
@@ -182,6 +188,7 @@ fn is_merge(values: usize, len: u32, lens: &[u32]) -> bool
     }
 }
 
+/// Whether each of these lengths is this one.
 fn are_all(lens: &[u32], len: u32) -> bool
     ensures { result ≡ list_all (λ n. n == len) lens.now }
 {
@@ -204,6 +211,8 @@ fn is_given(
     Ok(outs == given.as_slice())
 }
 
+/// Whether the conditioning input has one element, each case has the outputs of the switch, and there is
+/// a name for each output.
 fn is_switch(lens: &[u32], outs: &[u32], names: usize, cases: &[Vertex]) -> bool
     ensures { result ≡ ((slice_index_or lens.now 0 0 == 1) &&
         (all_give outs.now (outs_of (vertices_view cases.now)) && (names == length outs.now))) }
@@ -211,6 +220,7 @@ fn is_switch(lens: &[u32], outs: &[u32], names: usize, cases: &[Vertex]) -> bool
     len_at(lens, 0) == 1 && all_give(outs, cases) && names == outs.len()
 }
 
+/// Whether each case has outputs of these lengths.
 fn all_give(outs: &[u32], cases: &[Vertex]) -> bool
     ensures { result ≡ all_give outs.now (outs_of (vertices_view cases.now)) }
 {
@@ -222,6 +232,7 @@ fn all_give(outs: &[u32], cases: &[Vertex]) -> bool
     true
 }
 
+/// Whether the lines of a repetition fit the lengths of its inputs and outputs, and those of its body.
 fn is_repeat(
     lens: &[u32],
     outs: &[u32],
@@ -249,12 +260,15 @@ fn body_outs(inner: &[Vertex]) -> &[u32]
     }
 }
 
+/// Whether each line of an input fits.
 fn are_fed(copies: u32, lens: &[u32], body: &[u32], feeds: &[Feed]) -> bool
     ensures { result ≡ list_all (is_fed copies lens.now body.now) feeds.now }
 {
     feeds.iter().all(|feed| is_fed(copies, lens, body, feed))
 }
 
+/// Whether a line of an input fits: a forked one has a part for each copy, and an iterated one has the
+/// length of the output of the body that it takes.
 fn is_fed(copies: u32, lens: &[u32], body: &[u32], feed: &Feed) -> bool
     ensures { result ≡ is_fed copies lens.now body.now feed.now }
 {
@@ -269,6 +283,7 @@ fn is_fed(copies: u32, lens: &[u32], body: &[u32], feed: &Feed) -> bool
     }
 }
 
+/// Whether these are the lengths that the lines of outputs give.
 fn are_given(copies: u32, body: &[u32], gives: &[Give], outs: &[u32]) -> bool
     ensures { result ≡ bytes_eq outs.now (map (given_length copies body.now) gives.now) }
 {
@@ -283,6 +298,7 @@ fn are_given(copies: u32, body: &[u32], gives: &[Give], outs: &[u32]) -> bool
     true
 }
 
+/// The length of the output that a line gives.
 fn given_len(copies: u32, body: &[u32], give: &Give) -> u64
     ensures { result ≡ given_length copies body.now give.now }
 {

@@ -1,4 +1,4 @@
-//! The form of a tree.
+//! The test of the form of a tree: for `is_tree`.
 ghost use Rattle.std.specs.Prelude.{◌≡◌, ◌++◌, ◌&&◌, ◌==◌, IfOk, length, suc};
 ghost use Rattle.level_meaning.specs.Level.{same_part};
 ghost use Rattle.level_meaning.specs.declared.part.Part.TheVariants.{Named, Numbered, Port};
@@ -32,6 +32,7 @@ pub fn is_well(alloc: Global, vertex: &Vertex) -> Result<bool, OutOfMemory>
     Ok(true)
 }
 
+/// Whether the guards of a vertex and the vertices inside it are as its kind asks.
 fn is_kind_well(
     alloc: Global,
     kind: &Kind,
@@ -60,6 +61,7 @@ fn is_kind_well(
     }
 }
 
+/// Whether a graph has no guards, no cycle, and vertices with distinct parts.
 fn is_graph_well(alloc: Global, guards: &[Guard], inner: &[Vertex]) -> Result<bool, OutOfMemory>
     ensures { IfOk result (λ answer. answer ≡
         (are_no_guards guards.now && (is_acyclic (nodes (vertices_view inner.now)) &&
@@ -71,6 +73,8 @@ fn is_graph_well(alloc: Global, guards: &[Guard], inner: &[Vertex]) -> Result<bo
     Ok(have_distinct_parts(inner))
 }
 
+/// Whether a switch has no guards, a case for each value and one more with numbers for parts, and names
+/// that are distinct.
 fn is_switch_well(guards: &[Guard], values: usize, names: &[Items<u8>], cases: &[Vertex]) -> bool
     ensures { result ≡ is_switch_well guards.now values names.now (nodes (vertices_view cases.now)) }
 {
@@ -82,6 +86,7 @@ fn is_switch_well(guards: &[Guard], values: usize, names: &[Items<u8>], cases: &
         && are_distinct_names(names)
 }
 
+/// Whether a repetition has no guards, a copy at least, one body, and ports with distinct names.
 fn is_repeat_well(
     guards: &[Guard],
     copies: u32,
@@ -94,12 +99,14 @@ fn is_repeat_well(
     are_no_guards(guards) && 0 < copies && is_one(body) && are_frontier_names(feeds, gives)
 }
 
+/// Whether there are no guards.
 fn are_no_guards(guards: &[Guard]) -> bool
     ensures { result ≡ are_no_guards guards.now }
 {
     guards.is_empty()
 }
 
+/// Whether there are no vertices.
 #[tactic(auto, using(crate::proofs::Inside::nothing_by))]
 fn is_nothing(vertices: &[Vertex]) -> bool
     ensures { result ≡ are_no_nodes (nodes (vertices_view vertices.now)) }
@@ -107,6 +114,7 @@ fn is_nothing(vertices: &[Vertex]) -> bool
     vertices.is_empty()
 }
 
+/// Whether there is one vertex.
 #[tactic(auto, using(crate::proofs::Inside::one_by))]
 fn is_one(vertices: &[Vertex]) -> bool
     ensures { result ≡ is_one_node (nodes (vertices_view vertices.now)) }
@@ -114,6 +122,7 @@ fn is_one(vertices: &[Vertex]) -> bool
     vertices.len() == 1
 }
 
+/// Whether there is one vertex more than there are values.
 #[tactic(auto, using(crate::proofs::Inside::as_many))]
 fn is_one_more(vertices: &[Vertex], values: usize) -> bool
     ensures { result ≡ (length (nodes (vertices_view vertices.now)) == suc values) }
@@ -121,6 +130,7 @@ fn is_one_more(vertices: &[Vertex], values: usize) -> bool
     !vertices.is_empty() && vertices.len() - 1 == values
 }
 
+/// Whether no two of these vertices have the same part.
 fn have_distinct_parts(vertices: &[Vertex]) -> bool
     ensures { result ≡ has_distinct_parts (nodes (vertices_view vertices.now)) }
 {
@@ -132,6 +142,7 @@ fn have_distinct_parts(vertices: &[Vertex]) -> bool
     true
 }
 
+/// Whether none of these vertices has this part.
 fn is_apart(part: &Part, vertices: &[Vertex]) -> bool
     ensures { result ≡ is_apart part.now (nodes (vertices_view vertices.now)) }
 {
@@ -143,6 +154,7 @@ fn is_apart(part: &Part, vertices: &[Vertex]) -> bool
     true
 }
 
+/// Whether two parts are the same.
 fn is_same_part(a: &Part, b: &Part) -> bool
     ensures { result ≡ same_part a.now b.now }
 {
@@ -153,6 +165,7 @@ fn is_same_part(a: &Part, b: &Part) -> bool
     }
 }
 
+/// Whether a part is the reference of this name.
 fn is_named(part: &Part, name: &[u8]) -> bool
     ensures { result ≡ same_part (Named name.now) part.now }
 {
@@ -162,6 +175,7 @@ fn is_named(part: &Part, name: &[u8]) -> bool
     }
 }
 
+/// Whether a part is the case or copy of this number.
 fn has_number(part: &Part, number: u32) -> bool
     ensures { result ≡ same_part (Numbered number) part.now }
 {
@@ -171,6 +185,7 @@ fn has_number(part: &Part, number: u32) -> bool
     }
 }
 
+/// Whether a part is the port of this name.
 fn is_port(part: &Part, name: &[u8]) -> bool
     ensures { result ≡ same_part (Port name.now) part.now }
 {
@@ -180,6 +195,7 @@ fn is_port(part: &Part, name: &[u8]) -> bool
     }
 }
 
+/// Whether each of these vertices has a number for its part.
 fn are_numbered(vertices: &[Vertex]) -> bool
     ensures { result ≡ are_numbered (nodes (vertices_view vertices.now)) }
 {
@@ -191,6 +207,7 @@ fn are_numbered(vertices: &[Vertex]) -> bool
     true
 }
 
+/// Whether a part is a number.
 fn is_numbered_part(part: &Part) -> bool
     ensures { result ≡ is_numbered_part part.now }
 {
@@ -209,6 +226,7 @@ fn are_cases(vertices: &[Vertex]) -> bool
     true
 }
 
+/// Whether each of these sources is an input of the vertex around.
 fn are_own(sources: &[Source]) -> bool
     ensures { result ≡ are_own sources.now }
 {
@@ -220,6 +238,7 @@ fn are_own(sources: &[Source]) -> bool
     true
 }
 
+/// Whether the source of each guard is an input of the vertex around.
 fn are_guards_own(guards: &[Guard]) -> bool
     ensures { result ≡ own_guards guards.now }
 {
@@ -231,12 +250,14 @@ fn are_guards_own(guards: &[Guard]) -> bool
     true
 }
 
+/// Whether a source is an input of the vertex around.
 fn is_own(source: Source) -> bool
     ensures { result ≡ is_own source }
 {
     matches!(source, Source::Own(_))
 }
 
+/// Whether no two of these names are the same.
 fn are_distinct_names(names: &[Items<u8>]) -> bool
     ensures { result ≡ are_distinct_names names.now }
 {
@@ -248,6 +269,7 @@ fn are_distinct_names(names: &[Items<u8>]) -> bool
     true
 }
 
+/// Whether none of these names is this one.
 fn is_new_name(name: &[u8], names: &[Items<u8>]) -> bool
     ensures { result ≡ is_new_name name.now names.now }
 {
@@ -273,6 +295,7 @@ fn are_frontier_names(feeds: &[Feed], gives: &[Give]) -> bool
     are_join_names(gives)
 }
 
+/// Whether no outer port of these fork and join lines has this name.
 fn is_new_port(name: &[u8], feeds: &[Feed], gives: &[Give]) -> bool
     ensures { result ≡ is_new_name name.now (fork_names feeds.now ++ join_names gives.now) }
 {
@@ -286,6 +309,7 @@ fn is_new_port(name: &[u8], feeds: &[Feed], gives: &[Give]) -> bool
     is_new_join(name, gives)
 }
 
+/// Whether the outer ports of join lines have distinct names.
 fn are_join_names(gives: &[Give]) -> bool
     ensures { result ≡ are_distinct_names (join_names gives.now) }
 {
@@ -299,6 +323,7 @@ fn are_join_names(gives: &[Give]) -> bool
     true
 }
 
+/// Whether no outer port of these join lines has this name.
 fn is_new_join(name: &[u8], gives: &[Give]) -> bool
     ensures { result ≡ is_new_name name.now (join_names gives.now) }
 {

@@ -16,7 +16,8 @@ AcceptedMakeATree = (ds : List Def) → AreWellRead ds → refusal ds ≡ None �
 
 -- Their tree stands for as many flat operations as are counted without making it.
 abbrev pub OperationsAreCounted : Type 0
-OperationsAreCounted = (ds : List Def) → AreWellRead ds → refusal ds ≡ None → counted.operations (tree_of ds) ≡ operations ds
+OperationsAreCounted =
+    (ds : List Def) → AreWellRead ds → refusal ds ≡ None → counted.operations (tree_of ds) ≡ operations ds
 
 -- Their tree is made of as many vertices, each copy of a body counted, as are counted without making it.
 abbrev pub VerticesAreCounted : Type 0

@@ -8,8 +8,8 @@ use Rattle.syn_base.specs.Bytes.{Bytes}
 use Rattle.algo_rules.specs.Links.{definition}
 use Rattle.algo_rules.specs.Resolved.{is_fork}
 
--- A definition by those that it names: it is a vertex itself, and a repetition has besides an explode or an implode for each of
--- its fork and join lines.
+-- A definition by those that it names: it is a vertex itself, and a repetition has besides an explode or an implode for
+-- each of its fork and join lines.
 abbrev pub made_of : (Bytes → ℕ) → Body → ℕ
 made_of of (Graph ins outs references edges) = suc (sum_by (λ r. of r.def) references)
 made_of of (Switch on ins outs cases otherwise last) = suc (sum_by (λ c. of c.def) cases + of otherwise)
@@ -20,11 +20,11 @@ abbrev pub made_in : (Bytes → ℕ) → Option Def → ℕ
 made_in of None = 1
 made_in of (Some d) = made_of of d.body
 
--- to this depth
+-- The count of a definition, followed to this depth.
 abbrev pub made_within : List Def → ℕ → Bytes → ℕ
 made_within ds zero w = 1
 made_within ds (suc n) w = made_in (made_within ds n) (definition ds w)
 
--- how many vertices the tree of the main graph has
+-- How many vertices the tree of the main graph has.
 abbrev pub made : List Def → ℕ
 made ds = made_within ds 8 (codes "main")

@@ -1,4 +1,4 @@
-//! Laws of resolving, each the contract of a function that does nothing.
+//! The laws of resolving, each the contract of a function that does nothing.
 ghost use Rattle.tree_laws.specs.Central.{AcceptedHaveBounds, AcceptedHaveNames, AcceptedMakeATree, OperationsAreCounted, VerticesAreCounted};
 ghost use Rattle.tree_laws.specs.Depths.{NamedAreLessDeep, PortsFollowFromBodies};
 

@@ -1,4 +1,7 @@
-//! Laws of resolving: definitions of an algorithm text that are not refused make a valid tree.
+//! The laws of resolving: definitions of an algorithm text that are not refused make a valid tree, of a size that is
+//! counted without making it.
+//!
+//! `algo_resolve` calls them where it makes the tree, and the laws of marks and of elaborated trees stand on them.
 #![tactic(auto)]
 
 mod laws;

@@ -115,7 +115,7 @@ add_vertices-returns-clause-count t c =
 pub add_level-add_vertices-requires : goal.add_level-add_vertices-requires
 add_level-add_vertices-requires t c =
     let us = vertices_view c.args.vertices.now.items in
-    let number = c.in_ok-first.ensures ∙ c.len.ensures ∙ c.args.all.now.vertices.ok.0 in
+    let number = c.in_ok-first.ensures.same ∙ c.len.ensures ∙ c.args.all.now.vertices.ok.0 in
     let leads = ap (λ xs. led xs c.args.own.now) c.deref.ensures.value ∙ c.in_ok-leds.ensures in
     let linked = level_linked (led c.deref.result.now c.args.own.now) c.args.own.now c.in_ok-first.first (length c.args.all.now.vertices.items) us number leads c.requires.linked in
     (search (rules, the_lemmas), (c.requires.well, (c.requires.plain, (c.requires.names, linked))))
@@ -123,7 +123,7 @@ add_level-add_vertices-requires t c =
 pub add_level-returns-clause-added : goal.add_level-returns-clause-added
 add_level-returns-clause-added t c =
     let us = vertices_view c.args.vertices.now.items in
-    let number = c.in_ok-first.ensures ∙ c.len.ensures ∙ c.args.all.now.vertices.ok.0 in
+    let number = c.in_ok-first.ensures.same ∙ c.len.ensures ∙ c.args.all.now.vertices.ok.0 in
     let leads = ap (λ xs. led xs c.args.own.now) c.deref.ensures.value ∙ c.in_ok-leds.ensures in
     on_ok_weaker c.add_vertices.result
     (λ adds below prefix.

@@ -55,12 +55,12 @@ loop-at-preserved c =
     let z = get_or vs i [] in
     let here = turn w n i l vs c.loop-at-test.true c.loop-at.invariant.linked in
     let more : length next.vertices.items ≡ n + 2 = c.in_ok-add_stage.ensures.count in
-    let get : c.in_ok-get.get ≡ n = c.in_ok-get.ensures ∙ c.len.ensures ∙ now.vertices.ok.0 in
+    let get : c.in_ok-get.get ≡ n = c.in_ok-get.ensures.same ∙ c.len.ensures ∙ now.vertices.ok.0 in
     let value : c.as_slice-in-loop-at.result.now ≡ z = c.as_slice-in-loop-at.ensures ∙ c.index-groups-at.is ∙ get_or_default vs i c.index-groups-at.result [] c.loop-at-test.true in
     let taken : map level_source c.in_ok-ins.ins.items ≡ stage_input n (map w l.ins) (drop (i + 1) vs) =
     c.in_ok-ins.ensures
     ∙ ap₂ (λ ss g. cond (i + 1 == length vs) (map w ss) (Of (g + 2) 0 ∷ [])) c.as_slice.ensures get ∙ sym (input_is n i (map w l.ins) vs c.loop-at-test.true) in
-    let number : c.in_ok-number.field-0 ≡ i = c.in_ok-number.ensures in
+    let number : c.in_ok-to_u32.field-0 ≡ i = c.in_ok-to_u32.ensures.same in
     record {
       count = omega (arith, more, c.loop-at.invariant.count);
       linked =
@@ -69,7 +69,7 @@ loop-at-preserved c =
       added = λ at named.
           let pair : Adds (graph_of now) (graph_of next) (λ b. stage_pair w at i l z (map level_source c.in_ok-ins.ins.items)) =
           subst (λ j. Adds (graph_of now) (graph_of next) (λ b. stage_pair w at j l z (map level_source c.in_ok-ins.ins.items))) number
-          (subst (λ v. Adds (graph_of now) (graph_of next) (λ b. stage_pair w at c.in_ok-number.field-0 l v (map level_source c.in_ok-ins.ins.items))) value (c.in_ok-add_stage.ensures.added at named)) in
+          (subst (λ v. Adds (graph_of now) (graph_of next) (λ b. stage_pair w at c.in_ok-to_u32.field-0 l v (map level_source c.in_ok-ins.ins.items))) value (c.in_ok-add_stage.ensures.added at named)) in
           stage_added (graph_of old) (graph_of now) (graph_of next) w at l i z (map level_source c.in_ok-ins.ins.items) vs (stages_from i vs c.loop-at-test.true) taken pair (c.loop-at.invariant.added at named);
     }
 

@@ -5,8 +5,8 @@ use Rattle.route_table.specs.Search.{is_known, through}
 use Rattle.route_table.proofs.Steps.{chosen_is_least, chosen_level, none_longer, put_keeps}
 use Rattle.route_table.proofs.rounds.add_route.Goals as goal
 
-pub after-requires : goal.after-requires
-after-requires c =
+pub prepend-requires : goal.prepend-requires
+prepend-requires c =
     let h = c.in-Some.hop in
     let level = chosen_level c.args.media.now c.args.routes.now c.args.hops c.args.from c.args.to h (sym c.in-Some.ensures.chosen) in
     let same : length c.route.result.now ≡ level_in c.args.routes.now h.to c.args.to = ap (λ (r : List Hop). length r) c.route.ensures in

@@ -5,7 +5,8 @@ use Rattle.algo_tree.specs.Tree.{Vertex as Plain, and_vertex}
 use Rattle.algo_tree.specs.View.{kind_view, view, vertices_view}
 use Rattle.algo_tree.specs.declared.vertex.Vertex.{Vertex, out-Vertex}
 use Rattle.algo_tree.proofs.Views.{view_out}
-use Rattle.sensor_table.specs.Columns.{columns_in, columns_of, name_of}
+use Rattle.level_meaning.specs.Parts.{name_of}
+use Rattle.sensor_table.specs.Columns.{columns_in, columns_of}
 use Rattle.sensor_table.proofs.header.append_sensors.Goals as goal
 
 abbrev columns_left : List Vertex → List (List ℕ)
@@ -32,7 +33,7 @@ one_more us i u old new all name outs len h is named same long added whole =
 pub loop-vertex-preserved : goal.loop-vertex-preserved
 loop-vertex-preserved c =
     one_more c.args.vertices.now c.loop-vertex.vertex-index c.vertex-item.result c.loop-vertex.header.items c.append_columns.new.header.items _ _ _ _
-    c.loop-vertex-test.true c.vertex-item.is c.name_in-name.ensures c.as_slice.ensures c.first_len-len.ensures c.in_ok-append_columns.ensures c.loop-vertex.invariant
+    c.loop-vertex-test.true c.vertex-item.is c.name-name.ensures c.as_slice.ensures c.len_at-len.ensures c.in_ok-append_columns.ensures c.loop-vertex.invariant
 
 pub returns : goal.returns
 returns c =

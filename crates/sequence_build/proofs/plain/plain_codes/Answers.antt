@@ -30,5 +30,5 @@ returns c =
     c.args.places.now c.in_ok-numbers.numbers.items c.in_ok-loops.loops.items c.requires.places c.in_ok-numbers.ensures
     (many ∙ ap (λ l. length l) c.in_ok-sequences.ensures)
     (λ k h. c.in_ok-loops.ensures.each k h
-    ∙ (λ i. projection (flat_map (steps_of (same i) (seqs i) (number_in (length (same i)) (c.as_slice-2.ensures.value i) (c.in_ok-copies.ensures i))) (acts_of (decisions i))) k)))
+    ∙ (λ i. projection (flat_map (steps_of (same i) (seqs i) (number_in (length (same i)) (c.as_slice-2.ensures.value i) (c.in_ok-copies.ensures.same i))) (acts_of (decisions i))) k)))
     c.codes_of.ensures

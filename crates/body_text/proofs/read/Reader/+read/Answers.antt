@@ -12,17 +12,17 @@ pub ended-returns : goal.ended-returns
 ended-returns t c = ended_step _ _ c.args.start _ c.args.mark c.in_ok-read.read _ c.in_ok-read.ensures (sym c.has.ensures ∙ c.if-not-has.false) refl refl refl
 
 pub negation-returns : goal.negation-returns
-negation-returns t c = negation_made _ _ c.args.start _ c.in_ok-a.a _ c.in_ok-a.ensures c.negated.ensures
+negation-returns t c = negation_made _ _ c.args.start _ c.in_ok-a.a _ c.in_ok-a.ensures c.make_negation.ensures
 
 pub apply-returns : goal.apply-returns
-apply-returns t c = apply_made _ _ c.args.start c.args.op (parse c.args.depth) _ c.in_ok-a.a c.in_ok-b.b _ c.in_ok-a.ensures c.in_ok-b.ensures c.applied.ensures
+apply-returns t c = apply_made _ _ c.args.start c.args.op (parse c.args.depth) _ c.in_ok-a.a c.in_ok-b.b _ c.in_ok-a.ensures c.in_ok-b.ensures c.make_application.ensures
 
 pub element-returns : goal.element-returns
 element-returns t c = element_made (names_of c.args.self.now.ports.now) _ c.args.start c.port-port.result c.args.name.now _ c.in_ok-index.index c.unknown.result _ c.in_ok-index.ensures
     c.port-port.ensures (c.unknown.ensures ∙ rw (length-map c.args.self.now.ports.now (λ p. p.name)) refl) c.element_at.ensures
 
 pub select-returns : goal.select-returns
-select-returns t c = select_made _ _ c.args.start (parse c.args.depth) _ c.in_ok-condition.condition c.in_ok-a.a c.in_ok-b.b _ c.in_ok-condition.ensures c.in_ok-a.ensures c.in_ok-b.ensures c.selected.ensures
+select-returns t c = select_made _ _ c.args.start (parse c.args.depth) _ c.in_ok-condition.condition c.in_ok-a.a c.in_ok-b.b _ c.in_ok-condition.ensures c.in_ok-a.ensures c.in_ok-b.ensures c.make_selection.ensures
 
 pub named-returns-then-has : goal.named-returns-then-has
 named-returns-then-has t c = answers_along _ _ c.args.start _ _ _ (named_element (parse c.args.depth) c.args.name.now c.args.start _ (sym c.has.ensures ∙ c.if-has.true)) c.element.ensures

@@ -1,0 +1,5 @@
+pub mod Stops
+pub mod FrontNames
+pub mod Numbers
+pub mod NameTokens
+pub mod PortTokens

@@ -1,6 +1,0 @@
-use Rattle.std.proofs.Common.{◌≡◌, ℕ, [], length}
-use Rattle.std.specs.Prelude.{slice_index_or}
-use Rattle.durations.proofs.given.without_any.Given as goal
-
-abbrev pub invariant-loop : goal.invariant-loop
-invariant-loop l = (length l.found.items ≡ l.counter) × ((o : ℕ) → slice_index_or l.found.items o [] ≡ [])
