@@ -1,45 +1,145 @@
 #!/usr/bin/env python3
-"""Makes each allocation of the built program fail in turn, for each command over the examples: the answer has to be the right
-one, or want of memory with nothing written; of `run` and `exec`, which write window by window, with the first part of what is right. Prints a line a command with the number of its allocations; ends with status 1
-where an answer is wrong.
+"""Makes each call of the built program that asks for memory fail in turn, for each command over the examples and over texts of the
+script of `crates/worked_rows`: the answer has to be the right one, or want of memory with nothing written; by `run` and `exec`, which
+write window by window, with the first windows of what is right. Then each start of a thread fails in turn, and then all of them: the
+answer has to be the right one, since the other threads drive all groups. Prints a line a command with the number of its calls; ends
+with status 1 where an answer is wrong, or where no start of a thread was seen.
 
 The program is the one that ./build makes. A small library in C, compiled with `cc` and loaded before the C library, lets the Nth
-call that asks for memory fail."""
+call of a kind fail: `malloc`, `calloc`, `realloc`, `aligned_alloc`, `posix_memalign` and `mmap` ask for memory, `pthread_create`
+starts a thread. What the C library asks of itself is not seen."""
 import os
 import subprocess
 import sys
 import tempfile
 
+from plain.script import Script
+
 TOP = os.path.dirname(os.path.dirname(os.path.abspath(__file__)))
 PROGRAM = sys.argv[1] if sys.argv[1:] else f"{TOP}/crates/syndex/out/syndex"
-WANT = (9, b"", b"out of memory\n")
+WANT = (9, b"out of memory\n")
+WINDOW = 256
 LIBRARY = r"""
 #define _GNU_SOURCE
 #include <dlfcn.h>
 #include <errno.h>
 #include <fcntl.h>
+#include <pthread.h>
+#include <stdatomic.h>
 #include <stdio.h>
 #include <stdlib.h>
 #include <string.h>
+#include <sys/mman.h>
 #include <unistd.h>
-static long calls, failing = -1;
-static int fails(void) {
-    if (failing < 0) { const char *n = getenv("FAILING_CALL"); failing = n ? atol(n) : 0; }
-    return ++calls == failing;
+/* For each kind the calls so far, and which one fails: 0 for none, -1 for all. Threads may ask at once. */
+enum { MEMORY, THREADS };
+static const char *const names[] = { "FAILING_CALL", "FAILING_START" };
+static atomic_long calls[2];
+static int fails(int kind) {
+    const char *number = getenv(names[kind]);
+    long failing = number ? atol(number) : 0, call = atomic_fetch_add(&calls[kind], 1) + 1;
+    return failing < 0 || call == failing;
 }
-#define NEXT(name) (*(void **)&next = dlsym(RTLD_NEXT, name))
-void *malloc(size_t n) { static void *(*next)(size_t); if (!next) NEXT("malloc"); return fails() ? (errno = ENOMEM, NULL) : next(n); }
-void *realloc(void *p, size_t n) { static void *(*next)(void *, size_t); if (!next) NEXT("realloc"); return fails() ? (errno = ENOMEM, NULL) : next(p, n); }
-void *aligned_alloc(size_t a, size_t n) { static void *(*next)(size_t, size_t); if (!next) NEXT("aligned_alloc"); return fails() ? (errno = ENOMEM, NULL) : next(a, n); }
-int posix_memalign(void **p, size_t a, size_t n) { static int (*next)(void **, size_t, size_t); if (!next) NEXT("posix_memalign"); return fails() ? ENOMEM : next(p, a, n); }
+#define NEXT(name) do { if (!next) *(void **)&next = dlsym(RTLD_NEXT, name); } while (0)
+/* `dlsym` itself may ask for memory before the call that it looks for is known. */
+static char early[8192];
+static size_t early_used;
+static int looking;
+void *malloc(size_t n) {
+    static void *(*next)(size_t);
+    NEXT("malloc");
+    return fails(MEMORY) ? (errno = ENOMEM, NULL) : next(n);
+}
+void *calloc(size_t count, size_t n) {
+    static void *(*next)(size_t, size_t);
+    if (!next && looking) {
+        char *at = early + early_used;
+        if (n && count > (sizeof early - early_used) / n) abort();
+        early_used += (count * n + 15) / 16 * 16;
+        return at;
+    }
+    looking = 1;
+    NEXT("calloc");
+    looking = 0;
+    return fails(MEMORY) ? (errno = ENOMEM, NULL) : next(count, n);
+}
+void free(void *p) {
+    static void (*next)(void *);
+    if ((char *)p >= early && (char *)p < early + sizeof early) return;
+    NEXT("free");
+    next(p);
+}
+void *realloc(void *p, size_t n) {
+    static void *(*next)(void *, size_t);
+    NEXT("realloc");
+    return fails(MEMORY) ? (errno = ENOMEM, NULL) : next(p, n);
+}
+void *aligned_alloc(size_t a, size_t n) {
+    static void *(*next)(size_t, size_t);
+    NEXT("aligned_alloc");
+    return fails(MEMORY) ? (errno = ENOMEM, NULL) : next(a, n);
+}
+int posix_memalign(void **p, size_t a, size_t n) {
+    static int (*next)(void **, size_t, size_t);
+    NEXT("posix_memalign");
+    return fails(MEMORY) ? ENOMEM : next(p, a, n);
+}
+void *mmap(void *p, size_t n, int protection, int flags, int file, off_t at) {
+    static void *(*next)(void *, size_t, int, int, int, off_t);
+    NEXT("mmap");
+    return fails(MEMORY) ? (errno = ENOMEM, MAP_FAILED) : next(p, n, protection, flags, file, at);
+}
+void *mmap64(void *p, size_t n, int protection, int flags, int file, off_t at) { return mmap(p, n, protection, flags, file, at); }
+int pthread_create(pthread_t *thread, const pthread_attr_t *how, void *(*body)(void *), void *given) {
+    static int (*next)(pthread_t *, const pthread_attr_t *, void *(*)(void *), void *);
+    NEXT("pthread_create");
+    return fails(THREADS) ? EAGAIN : next(thread, how, body, given);
+}
 static void __attribute__((destructor)) tell(void) {
-    char text[32]; const char *path = getenv("CALLS_FILE");
+    char text[64];
+    const char *path = getenv("CALLS_FILE");
     int file = path ? open(path, O_WRONLY | O_TRUNC | O_CREAT, 0600) : -1;
-    if (file >= 0) { int n = snprintf(text, sizeof text, "%ld", calls); if (write(file, text, n) < 0) abort(); close(file); }
+    if (file >= 0) {
+        int n = snprintf(text, sizeof text, "%ld %ld", (long)calls[MEMORY], (long)calls[THREADS]);
+        if (write(file, text, n) < 0) abort();
+        close(file);
+    }
 }
 /* The program may end by this call, which runs no destructor. */
-void _exit(int status) { static void (*next)(int); tell(); NEXT("_exit"); next(status); __builtin_unreachable(); }
+void _exit(int status) {
+    static void (*next)(int);
+    tell();
+    NEXT("_exit");
+    next(status);
+    __builtin_unreachable();
+}
 """
+# An architecture and tables beside those of the script, and what is called of it: the words, after a call of the script that has
+# the files. The first texts have two operators and a delay over three windows, then come cases, a repetition, and a quoted table.
+OWN = {
+    "cases.one": "architecture 1\noperator P\n" + "".join(f"duration {it} P 1\n" for it in ("Sense", "Act", "Same", "Neg", "Add")),
+    "quoted.two": 'k,s.0\r\n0,"5"\r\n1,-1\r\n',
+    "windows": "k,s.0\n" + "".join(f"{k},{k}\n" for k in range(600)),
+}
+CALLED = [
+    ("syndex exec functions bus code table", [
+        "check functions bus", "sim functions table", "flat functions", "chart functions bus", "code functions bus",
+        "run functions bus table", "run functions bus windows --workers 3", "exec functions bus code table",
+        "exec functions bus code windows --workers 1", "dates functions bus bus 3"]),
+    ("syndex sim cases chosen", [
+        "check cases cases.one", "sim cases chosen", "flat cases", "run cases cases.one chosen", "run cases cases.one windows"]),
+    ("syndex run chain three quad", ["check chain three", "sim chain quad", "flat chain", "code chain three", "run chain three quad"]),
+    ("syndex sim plain table", ["sim plain quoted.two", "sim plain quoted.one"]),
+]
+
+
+def written(room, name, text):
+    """The file of this name and text, or where no text is the name itself, which is no file then."""
+    if text is None:
+        return name
+    with open(f"{room}/{name}", "wb") as it:
+        it.write(text)
+    return f"{room}/{name}"
 
 
 def code_of(room, name, words):
@@ -69,6 +169,17 @@ def commands(room):
     yield from (["check", "absent"], ["load", "1"], ["load", "0"], ["help"], [])
 
 
+def rows(room):
+    """The words of each command over texts of the script, with the files of one of its calls."""
+    script = Script(f"{TOP}/crates/worked_rows")
+    own = {name: text.encode() for name, text in OWN.items()}
+    for shown, all_words in CALLED:
+        files = {**next(call for call in script.calls if call.shown == shown).files, **own}
+        for words in all_words:
+            name, *rest = words.split()
+            yield [name, *(written(room, word, files.get(word)) for word in rest)]
+
+
 class Runs:
     """Runs of the program with the library in front."""
 
@@ -78,38 +189,70 @@ class Runs:
             it.write(LIBRARY)
         subprocess.run(["cc", "-O1", "-shared", "-fPIC", "-o", self.library, f"{room}/failing.c", "-ldl"], check=True)
 
-    def answer(self, words, failing=0):
-        """The status, the output and the line of a run whose call of that number fails, and how many calls it made."""
-        env = {**os.environ, "LD_PRELOAD": self.library, "FAILING_CALL": str(failing), "CALLS_FILE": self.count}
+    def answer(self, words, failing=0, start=0):
+        """The status, the output and the line of a run in which these calls fail, and how many it made of each kind."""
+        env = {**os.environ, "LD_PRELOAD": self.library, "CALLS_FILE": self.count}
+        env.update(FAILING_CALL=str(failing), FAILING_START=str(start))
         done = subprocess.run([PROGRAM, *words], capture_output=True, env=env, stdin=subprocess.DEVNULL, check=False)
         with open(self.count, encoding="ascii") as it:
-            return (done.returncode, done.stdout, done.stderr), int(it.read())
+            calls, starts = map(int, it.read().split())
+        return (done.returncode, done.stdout, done.stderr), calls, starts
+
+
+def windows(words, output):
+    """What may stand where memory ran out: nothing, and by `run` and `exec` what ends with the macro-code or with a window."""
+    if words[:1] not in (["run"], ["exec"]):
+        return [b""]
+    code, empty, rest = output.rpartition(b"\n\n") if words[0] == "run" else (b"", b"", output)
+    parts = [b"", code + empty]
+    for line in rest.splitlines(keepends=True):
+        if len(parts) - 2 < int(line.split()[0]) // WINDOW + 1:
+            parts.append(parts[-1])
+        parts[-1] += line
+    return parts[:-1]
 
 
 def is_want(words, got, right):
     """Whether this is want of memory, with nothing written but what the command may write before it."""
     status, output, line = got
-    may_begin = words[:1] in (["run"], ["exec"])
-    return (status, b"", line) == WANT and (not output or may_begin and right[1].startswith(output))
+    return (status, line) == WANT and output in windows(words, right[1])
+
+
+def shown(words):
+    return " ".join(os.path.basename(it) if it.startswith("/tmp") else os.path.relpath(it, f"{TOP}/examples") if "/" in it else it
+                    for it in words)
+
+
+def tried(runs, words):
+    """How many answers are wrong, and how many threads were started, where each call of the program fails in turn."""
+    right, calls, starts = runs.answer(words)
+    wants = wrong = 0
+    for number in range(1, calls + 1):
+        got = runs.answer(words, failing=number)[0]
+        wanted = is_want(words, got, right)
+        wants += wanted
+        if got != right and not wanted:
+            wrong += 1
+            print(f"WRONG where call {number} for memory fails: {shown(words)}: {got}")
+    for number in [*range(1, starts + 1), -1] if starts else []:
+        got = runs.answer(words, start=number)[0]
+        if got != right:
+            wrong += 1
+            print(f"WRONG where {'each' if number < 0 else number} start of a thread fails: {shown(words)}: {got}")
+    print(f"{shown(words)}: status {right[0]}, {calls} calls, {wants} want memory, {calls - wants} answer as ever;"
+          f" {starts} threads", flush=True)
+    return wrong, starts
 
 
 def main():
-    wrong = 0
+    wrong = threads = 0
     with tempfile.TemporaryDirectory() as room:
         runs = Runs(room)
-        for words in commands(room):
-            right, calls = runs.answer(words)
-            wants = 0
-            for number in range(1, calls + 1):
-                got = runs.answer(words, number)[0]
-                wants += is_want(words, got, right)
-                if got != right and not is_want(words, got, right):
-                    wrong += 1
-                    print(f"WRONG with allocation {number}: {' '.join(words)}: {got}")
-            shown = " ".join(os.path.relpath(it, f"{TOP}/examples") if "/" in it else it for it in words)
-            print(f"{shown}: status {right[0]}, {calls} allocations, {wants} want memory, {calls - wants} answer as ever", flush=True)
-    print(f"{wrong} wrong answers")
-    return 1 if wrong else 0
+        for words in [*commands(room), *rows(room)]:
+            bad, starts = tried(runs, words)
+            wrong, threads = wrong + bad, threads + starts
+    print(f"{wrong} wrong answers, {threads} starts of threads")
+    return 1 if wrong or not threads else 0
 
 
 if __name__ == "__main__":

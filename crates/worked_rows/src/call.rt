@@ -1,9 +1,11 @@
 //! One call of the program, and what the transcript has of it.
 
-use crate::conditions::Conditions;
+use crate::conditions::{Conditions, Sweep};
 use crate::cuts::call_cuts;
+use crate::faults::call_faults;
 use crate::file::{File, bytes_of};
 use crate::gate::answered_at;
+use crate::spoilt::call_spoilt;
 use outside::{Gate, ShelfMem, SinkMem};
 use std::alloc::{AllocError, Global};
 use std::io::Write;
@@ -18,7 +20,7 @@ use word_table::Driven;
 /// What a call reads and writes, and what it drives.
 #[derive(Drop)]
 pub struct Outside {
-    shelf: ShelfMem,
+    pub shelf: ShelfMem,
     pub out: SinkMem,
     pub err: SinkMem,
     driven: Driven,
@@ -33,9 +35,11 @@ pub fn call<R: Files + Print + AllocGlobal + Threads + Wait + Sync>(
 ) -> io::Result<()> {
     println!(rt; "$ {words}")?;
     let given = words_of(rt.alloc(), words)?;
-    match &holds.cuts {
-        Some(name) => call_cuts(rt, files, &given, holds, name.as_str()),
-        None => call_once(rt, files, &given, holds),
+    match &holds.sweep {
+        Sweep::Once => call_once(rt, files, &given, holds),
+        Sweep::Cuts(name) => call_cuts(rt, files, &given, holds, name.as_str()),
+        Sweep::Spoilt(name) => call_spoilt(rt, files, &given, holds, name.as_str()),
+        Sweep::Faults => call_faults(rt, files, &given, holds),
     }
 }
 
@@ -97,7 +101,11 @@ fn write_answers<R: Files + Print + AllocGlobal>(
     outside: &Outside,
     number: u8,
 ) -> io::Result<()> {
-    write_output(rt, files, holds, outside.out.bytes())?;
+    if holds.sum {
+        write_sum(rt, outside.out.bytes())?;
+    } else {
+        write_output(rt, files, holds, outside.out.bytes())?;
+    }
     write_line(rt, outside.err.bytes())?;
     println!(rt; "= {number}")?;
     if holds.counts {
@@ -105,6 +113,9 @@ fn write_answers<R: Files + Print + AllocGlobal>(
     }
     if holds.driven {
         write_driven(rt, &outside.driven)?;
+    }
+    if holds.words {
+        write_words(rt, &outside.driven)?;
     }
     Ok(())
 }
@@ -213,4 +224,38 @@ fn write_driven(rt: &impl Print, driven: &Driven) -> io::Result<()> {
         print!(rt; " {count}")?;
     }
     println!(rt; ", words {}", driven.words().len())
+}
+
+/// Writes the words of the last table that was driven.
+fn write_words(rt: &impl Print, driven: &Driven) -> io::Result<()> {
+    print!(rt; "words:")?;
+    for word in driven.words() {
+        print!(rt; " {word}")?;
+    }
+    println!(rt; "")
+}
+
+/// Writes the sum of all values that the lines of an output have after a number and a name, brought back to
+/// 64 bits.
+fn write_sum(rt: &impl Print, output: &[u8]) -> io::Result<()> {
+    let mut sum = 0i64;
+    if let Ok(text) = str::from_utf8(output) {
+        for line in text.lines() {
+            sum = sum.wrapping_add(sum_of(line));
+        }
+    }
+    println!(rt; "sum {sum}")
+}
+
+/// The sum of the values of a line, brought back to 64 bits.
+fn sum_of(line: &str) -> i64 {
+    let mut sum = 0i64;
+    let mut place = 0usize;
+    for word in line.split_whitespace() {
+        if place >= 2 {
+            sum = sum.wrapping_add(word.parse::<i64>().unwrap_or(0));
+        }
+        place = place.saturating_add(1);
+    }
+    sum
 }

@@ -31,6 +31,19 @@ impl SinkSays {
     }
 }
 
+/// How often the next call is made.
+#[derive(Drop)]
+pub enum Sweep {
+    /// Once.
+    Once,
+    /// For each length of this file.
+    Cuts(String),
+    /// For each length of this file, and for each other byte at each of its places.
+    Spoilt(String),
+    /// For each call of its outside, which fails.
+    Faults,
+}
+
 /// What is said of the next call.
 #[derive(Drop)]
 pub struct Conditions {
@@ -39,9 +52,11 @@ pub struct Conditions {
     pub err: SinkSays,
     pub output: Option<String>,
     pub has: Option<String>,
-    pub cuts: Option<String>,
+    pub sweep: Sweep,
     pub counts: bool,
     pub driven: bool,
+    pub words: bool,
+    pub sum: bool,
     pub gate: GateKind,
 }
 
@@ -54,9 +69,11 @@ impl Conditions {
             err: SinkSays::new(alloc),
             output: None,
             has: None,
-            cuts: None,
+            sweep: Sweep::Once,
             counts: false,
             driven: false,
+            words: false,
+            sum: false,
             gate: GateKind::Free,
         }
     }
@@ -72,10 +89,14 @@ impl Conditions {
             Condition::ErrTakes(most) => self.err.takes = most,
             Condition::Count => self.counts = true,
             Condition::Driven => self.driven = true,
+            Condition::Words => self.words = true,
+            Condition::Sum => self.sum = true,
             Condition::Gate(gate) => self.gate = gate,
             Condition::Output(name) => self.output = Some(String::from_str(alloc, name)?),
             Condition::Has(name) => self.has = Some(String::from_str(alloc, name)?),
-            Condition::Cuts(name) => self.cuts = Some(String::from_str(alloc, name)?),
+            Condition::Cuts(name) => self.sweep = Sweep::Cuts(String::from_str(alloc, name)?),
+            Condition::Spoilt(name) => self.sweep = Sweep::Spoilt(String::from_str(alloc, name)?),
+            Condition::Faults => self.sweep = Sweep::Faults,
         }
         Ok(())
     }

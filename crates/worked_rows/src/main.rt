@@ -10,13 +10,17 @@
 //! folder. A row is added there and in `stdin`, with no proof; `script` has the lines of a script.
 #![tactic(auto)]
 
+mod answer;
 mod call;
 mod conditions;
 mod cuts;
+mod damage;
+mod faults;
 mod file;
 mod gate;
 mod player;
 mod script;
+mod spoilt;
 
 use player::Player;
 use std::io;

@@ -65,6 +65,10 @@ pub enum Condition<'a> {
     Count,
     /// `tell driven`: the number of micro-steps that were driven is told, with the counts of the last table.
     Driven,
+    /// `tell words`: the words of the last table are told.
+    Words,
+    /// `tell sum`: the sum of all values in the output is told in the place of the output.
+    Sum,
     /// `gate KIND`, with `meeting`, `counting` or `holding`: this gate is asked before each step, and what it has seen is told.
     Gate(GateKind),
     /// `output NAME`: where the output is what this file holds, its name stands in the transcript.
@@ -75,6 +79,12 @@ pub enum Condition<'a> {
     /// `cuts NAME`: the call is made once for each length of this file, from 0 up to the whole, with the file cut there.
     /// `cuts` has what then stands in the transcript. Nothing is held back, and nothing else is told.
     Cuts(&'a str),
+    /// `spoilt NAME`: the call is made once for each length of this file, and for each of five bytes at each of its
+    /// places. `spoilt` has what then stands in the transcript, and nothing else is told.
+    Spoilt(&'a str),
+    /// `faults`: the call is made once for each call on its shelf and its sinks, which fails. `faults` has what then
+    /// stands in the transcript, and nothing else is told.
+    Faults,
 }
 
 /// What a line asks for.
@@ -125,13 +135,25 @@ fn condition_of<'a>(word: &str, rest: &'a str) -> Option<Condition<'a>> {
         "output" => Some(Condition::Output(rest)),
         "has" => Some(Condition::Has(rest)),
         "cuts" => Some(Condition::Cuts(rest)),
+        "spoilt" => Some(Condition::Spoilt(rest)),
+        "faults" => Some(Condition::Faults),
         "count" => Some(Condition::Count),
-        "tell" => Some(Condition::Driven),
+        "tell" => told_by(rest),
         "gate" => Some(Condition::Gate(gate_of(rest)?)),
         _ => {
             let (verb, number) = rest.split_once(' ')?;
             limit_of(word, verb, number.parse::<u64>().ok()?)
         }
+    }
+}
+
+/// What is told by this name.
+fn told_by(name: &str) -> Option<Condition<'static>> {
+    match name {
+        "driven" => Some(Condition::Driven),
+        "words" => Some(Condition::Words),
+        "sum" => Some(Condition::Sum),
+        _ => None,
     }
 }
 
