@@ -21,6 +21,7 @@ CHECKS = {
     "needs": "crates.txt says what each crate stands on",
     "rooms": "the rooms in README and ARCHITECTURE are those of crates.txt",
     "claims": "each crate has its line in CLAIMS",
+    "definitions": "each definition that a clause of the top names has its row in DEFINITIONS",
     "names": "what the documents name is there",
     "widths": "no line of a contract is too wide",
     "kit": "rt still has what tools/kit.py and tools/plant.py change in it",
