@@ -1,6 +1,6 @@
-//! A call for each length to which one of its files is cut.
+//! The cuts of a file: a call for each length to which it is cut. `call` makes them.
 //!
-//! Where the answers of several lengths are equal, one line tells them: the least and the greatest of these
+//! Where the answers of several lengths are equal, one line has them: the least and the greatest of these
 //! lengths, the status after `= `, and the line of standard error. Under it stands the output, where there is any.
 
 use crate::call::{answered, outside_for, write_ended, write_output};
@@ -21,6 +21,7 @@ struct Answer {
 }
 
 impl Answer {
+    /// Whether both answers have the same status, output and line.
     fn is_same(&self, other: &Answer) -> bool {
         self.number == other.number
             && self.output.as_slice() == other.output.as_slice()
@@ -37,6 +38,7 @@ struct Span {
 }
 
 impl Span {
+    /// The answer at this length alone.
     fn new(length: usize, answer: Answer) -> Span {
         Span {
             first: length,
