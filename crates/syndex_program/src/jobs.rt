@@ -16,10 +16,10 @@ ghost use Rattle.syndex_program.specs.Counts.{IsCounted};
 ghost use Rattle.syndex_program.specs.Jobs.{RunsIn};
 ghost use Rattle.syndex_program.specs.Unread.{LeavesUnread};
 
-use crate::exec::{read_foreign, write_exec};
+use crate::commands::exec::{read_foreign, write_exec};
+use crate::commands::load::write_load;
+use crate::commands::run::write_run;
 use crate::execution::{Execution, load_execution, read_execution};
-use crate::load::write_load;
-use crate::run::write_run;
 use command_status::Status;
 use command_words::{Command, command_of};
 use job_windows::Drive;

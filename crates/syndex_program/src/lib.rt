@@ -20,24 +20,13 @@ use std::thread::Threads;
 use top_plans::commands_reply;
 use word_table::Driven;
 
-mod algorithm;
-mod architecture;
-mod chart;
-mod check;
-mod code;
-mod dates;
-mod exec;
+mod commands;
+mod compile;
 mod execution;
 mod files;
-mod flat;
 mod jobs;
 mod lines;
-mod load;
 mod plain;
-mod program;
-mod run;
-mod sim;
-mod table;
 mod windows;
 
 pub use command_status::Status;
@@ -61,7 +50,7 @@ pub fn plain_command<S: Shelf, K: Sink, E: Sink>(
     ensures unread { LeavesUnread (command_of (map string_bytes words.now)) (S.held shelf.old) (S.held shelf.new) }
 {
     match plain::status_of(alloc, words, shelf, out) {
-        Some(status) => Some(told(err, status)),
+        Some(status) => Some(report(err, status)),
         None => None,
     }
 }
@@ -91,7 +80,7 @@ pub fn syndex<R: Threads + Wait + Sync, S: Shelf, K: Sink, E: Sink, G: Gate>(
         Some(status) => status,
         None => {
             let drive = Drive { rt, gate };
-            told(
+            report(
                 err,
                 jobs::status_of(alloc, words, shelf, out, &drive, driven),
             )

@@ -13,12 +13,12 @@ ghost use Rattle.syndex_program.specs.Plainly.{IsRunOrPlain, MakesOrLeaves, Repl
 ghost use Rattle.syndex_program.specs.Reads.{text_in};
 ghost use Rattle.syndex_program.specs.Unread.{LeavesUnread};
 
-use crate::chart::chart_text;
-use crate::check::check_texts;
-use crate::code::code_text;
-use crate::dates::dates_listing;
-use crate::flat::listing_text;
-use crate::sim::sim_text;
+use crate::commands::chart::chart_text;
+use crate::commands::check::check_texts;
+use crate::commands::code::code_text;
+use crate::commands::dates::dates_listing;
+use crate::commands::flat::listing_text;
+use crate::commands::sim::sim_text;
 use command_status::Status;
 use command_words::{Command, command_of};
 use outside::{Failed, Shelf, Sink, write_whole};

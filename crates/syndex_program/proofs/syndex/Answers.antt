@@ -31,7 +31,7 @@ returns-in-None-clause-replies g c =
     let K = g.K.Sink.sunk in
     let o = command_of (map string_bytes c.args.words.now) in
     let left = left_so o (H c.args.shelf.now) (H c.plain_command.new.shelf) (K c.args.out.now) (K c.plain_command.new.out) c.in-None.ensures.replies.0 in
-    subst (λ (s : Status). Replies o (H c.args.shelf.now) (H c.status_of.new.shelf) (K c.args.out.now) (K c.status_of.new.out) c.args.driven.now c.status_of.new.driven (ending_of s)) (sym c.told.ensures.same)
+    subst (λ (s : Status). Replies o (H c.args.shelf.now) (H c.status_of.new.shelf) (K c.args.out.now) (K c.status_of.new.out) c.args.driven.now c.status_of.new.driven (ending_of s)) (sym c.report.ensures.same)
     (subst (λ (x : Held). Replies o x (H c.status_of.new.shelf) (K c.args.out.now) (K c.status_of.new.out) c.args.driven.now c.status_of.new.driven (ending_of c.status_of.result)) left.1
     (subst (λ (x : Sunk). Replies o (H c.plain_command.new.shelf) (H c.status_of.new.shelf) x (K c.status_of.new.out) c.args.driven.now c.status_of.new.driven (ending_of c.status_of.result)) left.2
     c.status_of.ensures.replies))
@@ -39,8 +39,8 @@ returns-in-None-clause-replies g c =
 pub returns-in-None-clause-line : goal.returns-in-None-clause-line
 returns-in-None-clause-line g c =
     let E = g.E.Sink.sunk in
-    subst (λ (s : Status). Said (line_of s) (E c.args.err.now) (E c.told.new.err)) (sym c.told.ensures.same)
-    (subst (λ (x : Sunk). Said (line_of c.status_of.result) x (E c.told.new.err)) c.in-None.ensures.replies.1 c.told.ensures.line)
+    subst (λ (s : Status). Said (line_of s) (E c.args.err.now) (E c.report.new.err)) (sym c.report.ensures.same)
+    (subst (λ (x : Sunk). Said (line_of c.status_of.result) x (E c.report.new.err)) c.in-None.ensures.replies.1 c.report.ensures.line)
 
 pub returns-in-None-clause-stays : goal.returns-in-None-clause-stays
 returns-in-None-clause-stays g c =
