@@ -8,6 +8,5 @@ pub mod Left
 pub mod Sums
 pub mod Unread
 pub mod Plainly
-pub mod Jobs
 pub mod Dates
 pub mod Counts

@@ -81,8 +81,27 @@ fn program_of(alloc: Global, text: &[u8], flat: &Flat, archi: &Archi) -> Result<
     }
 }
 
+/// Runs what is to be executed, and writes its lines; or returns why there is nothing.
+pub fn finish_exec<R: Threads + Wait + Sync, K: Sink, G: Gate>(
+    alloc: Global,
+    made: Result<Execution, Status>,
+    out: &mut K,
+    drive: &Drive<R, G>,
+    workers: Option<u32>,
+    driven: &mut Driven,
+) -> Status
+    requires { IfOk made IsExecuted }
+    ensures { EndsOrWants (made_of alone made) (K.sunk out.old) (K.sunk out.new) driven.old
+        driven.new (ending_of result) }
+{
+    match made {
+        Ok(execution) => write_exec(alloc, &execution, out, drive, workers, driven),
+        Err(refused) => refused,
+    }
+}
+
 /// Runs the windows of an execution, and writes the lines of each.
-pub fn write_exec<R: Threads + Wait + Sync, K: Sink, G: Gate>(
+fn write_exec<R: Threads + Wait + Sync, K: Sink, G: Gate>(
     alloc: Global,
     execution: &Execution,
     out: &mut K,

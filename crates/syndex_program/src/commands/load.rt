@@ -5,19 +5,19 @@ ghost use Rattle.body_lang.specs.Expr.{total};
 ghost use Rattle.syn_base.specs.Arithmetic.{wrapped};
 ghost use Rattle.semaphore_core.specs.Job.{actuator_lens};
 ghost use Rattle.phase_laws.specs.Ended.{all_acts};
-ghost use Rattle.command_plan.specs.Run.{Performs};
+ghost use Rattle.command_plan.specs.Run.{Ends, Performs};
 ghost use Rattle.command_status.specs.Status.{ending_of};
 ghost use Rattle.command_plan.specs.Stage.{after_jobs, RunsSome};
 ghost use Rattle.run_laws.specs.Windows.{window_jobs};
 ghost use Rattle.word_rule.specs.Driven.{driven_by};
 ghost use Rattle.top_plans.specs.Given.{one_job, stages, summed};
 ghost use Rattle.top_plans.specs.Plans.{summary};
-ghost use Rattle.syndex_program.specs.Executes.{IsExecuted, executed};
+ghost use Rattle.syndex_program.specs.Executes.{IsExecuted, executed, made_of};
 ghost use Rattle.syndex_program.specs.Left.{jobs_left};
 ghost use Rattle.syndex_program.specs.Sums.{AreFew, summary_with, total_left, total_of};
 
+use crate::commands::put_text;
 use crate::execution::Execution;
-use crate::plain::put_text;
 use crate::windows::windows_of;
 use command_status::Status;
 use grown_text::{append, append_count};
@@ -29,8 +29,26 @@ use std::thread::Threads;
 use syn_base::{ActRows, OutOfMemory, print_int};
 use word_table::Driven;
 
+/// Runs what is to be executed, and writes its summary; or returns why there is nothing.
+pub fn finish_load<R: Threads + Wait + Sync, K: Sink, G: Gate>(
+    alloc: Global,
+    made: Result<Execution, Status>,
+    out: &mut K,
+    drive: &Drive<R, G>,
+    driven: &mut Driven,
+) -> Status
+    requires { IfOk made IsExecuted }
+    ensures { Ends driven_by stages (made_of (λ e. summed e (summary e)) made) (K.sunk out.old)
+        (K.sunk out.new) driven.old driven.new (ending_of result) }
+{
+    match made {
+        Ok(execution) => write_load(alloc, &execution, out, drive, driven),
+        Err(refused) => refused,
+    }
+}
+
 /// Runs all windows of an execution, and writes its summary.
-pub fn write_load<R: Threads + Wait + Sync, K: Sink, G: Gate>(
+fn write_load<R: Threads + Wait + Sync, K: Sink, G: Gate>(
     alloc: Global,
     execution: &Execution,
     out: &mut K,

@@ -1,12 +1,12 @@
 //! The command `run A H S`.
 ghost use Rattle.std.specs.Prelude.{◌≡◌, IfOk};
-ghost use Rattle.command_plan.specs.Run.{Performs};
+ghost use Rattle.command_plan.specs.Run.{Ends, Performs};
 ghost use Rattle.command_status.specs.Status.{Refusal, ending_of};
 ghost use Rattle.syndex_program.specs.Stopped as windows;
 ghost use Rattle.word_rule.specs.Driven.{driven_by};
 ghost use Rattle.top_plans.specs.Given.{printed, stages};
 ghost use Rattle.top_plans.specs.Plans.{head};
-ghost use Rattle.syndex_program.specs.Executes.{IsExecuted, executed};
+ghost use Rattle.syndex_program.specs.Executes.{IsExecuted, executed, made_of};
 
 use crate::commands::code::print_program;
 use crate::execution::Execution;
@@ -20,9 +20,28 @@ use std::thread::Threads;
 use syn_base::OutOfMemory;
 use word_table::Driven;
 
+/// Runs what is to be executed, and writes its text; or returns why there is nothing.
+pub fn finish_run<R: Threads + Wait + Sync, K: Sink, G: Gate>(
+    alloc: Global,
+    made: Result<Execution, Status>,
+    out: &mut K,
+    drive: &Drive<R, G>,
+    workers: Option<u32>,
+    driven: &mut Driven,
+) -> Status
+    requires { IfOk made IsExecuted }
+    ensures { Ends driven_by stages (made_of (λ e. printed (head e) e) made) (K.sunk out.old)
+        (K.sunk out.new) driven.old driven.new (ending_of result) }
+{
+    match made {
+        Ok(execution) => write_run(alloc, &execution, out, drive, workers, driven),
+        Err(refused) => refused,
+    }
+}
+
 /// Writes the macro-code and an empty line, and then runs the windows of an execution and writes the lines
 /// of each.
-pub fn write_run<R: Threads + Wait + Sync, K: Sink, G: Gate>(
+fn write_run<R: Threads + Wait + Sync, K: Sink, G: Gate>(
     alloc: Global,
     execution: &Execution,
     out: &mut K,

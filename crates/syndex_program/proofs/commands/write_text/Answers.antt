@@ -1,5 +1,5 @@
 use Rattle.std.proofs.Common.{refl}
-use Rattle.syndex_program.proofs.plain.write_text.Goals as goal
+use Rattle.syndex_program.proofs.commands.write_text.Goals as goal
 
 pub returns-in-Err : goal.returns-in-Err
 returns-in-Err g c = rw c.in-Err.is (λ driven. (refl, refl, refl))

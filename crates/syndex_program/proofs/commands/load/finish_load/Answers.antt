@@ -1,5 +1,5 @@
 use Rattle.std.proofs.Common.{refl}
-use Rattle.syndex_program.proofs.jobs.load_made.Goals as goal
+use Rattle.syndex_program.proofs.commands.load.finish_load.Goals as goal
 
 pub write_load-requires : goal.write_load-requires
 write_load-requires g c = (c.type_bounds.sync-R, (c.type_bounds.sync-G, rw c.in-Ok.is at c.requires))

@@ -1,5 +1,5 @@
 use Rattle.std.proofs.Common.{refl, inl, inr}
-use Rattle.syndex_program.proofs.plain.put_text.Goals as goal
+use Rattle.syndex_program.proofs.commands.put_text.Goals as goal
 
 pub returns-in-Ok : goal.returns-in-Ok
 returns-in-Ok g c = λ driven. inr (_, c.in-Ok.ensures, (refl, refl, refl))

@@ -1,5 +1,5 @@
 use Rattle.std.proofs.Common.{inl, refl}
-use Rattle.syndex_program.proofs.jobs.exec_made.Goals as goal
+use Rattle.syndex_program.proofs.commands.exec.finish_exec.Goals as goal
 
 pub write_exec-requires : goal.write_exec-requires
 write_exec-requires g c = (c.type_bounds.sync-R, (c.type_bounds.sync-G, rw c.in-Ok.is at c.requires))

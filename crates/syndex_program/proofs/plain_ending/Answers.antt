@@ -11,17 +11,17 @@ use Rattle.syndex_program.specs.Counts.{AreCounted}
 use Rattle.syndex_program.specs.Plainly.{RepliesOrLeaves}
 use Rattle.syndex_program.proofs.Counts.{counted_words}
 use Rattle.syndex_program.proofs.Replying.{answered, none_answered, wanted}
-use Rattle.syndex_program.proofs.plain.status_of.Goals as goal
+use Rattle.syndex_program.proofs.plain_ending.Goals as goal
 
-pub status_for-requires : goal.status_for-requires
-status_for-requires g c = subst AreCounted (sym (rw c.in-Ok-Some.field-0-is at c.in-Ok-Some.ensures)) (counted_words (map string_bytes c.args.words.now))
+pub carry_out_plain-requires : goal.carry_out_plain-requires
+carry_out_plain-requires g c = subst AreCounted (sym (rw c.in-Ok-Some.field-0-is at c.in-Ok-Some.ensures)) (counted_words (map string_bytes c.args.words.now))
 
 pub returns-in-Ok-Some-clause-replies : goal.returns-in-Ok-Some-clause-replies
 returns-in-Ok-Some-clause-replies g c =
     let H = g.S.Shelf.held in
     let K = g.K.Sink.sunk in
-    subst (λ (o : Option Command). RepliesOrLeaves o (H c.args.shelf.now) (H c.status_for.new.shelf) (K c.args.out.now) (K c.status_for.new.out) c.status_for.result) (rw c.in-Ok-Some.field-0-is at c.in-Ok-Some.ensures)
-    (λ (err : Sunk). answered c.plain_commands_reply.ensures (H c.args.shelf.now) (H c.status_for.new.shelf) (K c.args.out.now) (K c.status_for.new.out) err (view_of c.in-Ok-Some.command) c.status_for.result c.status_for.ensures.ran)
+    subst (λ (o : Option Command). RepliesOrLeaves o (H c.args.shelf.now) (H c.carry_out_plain.new.shelf) (K c.args.out.now) (K c.carry_out_plain.new.out) c.carry_out_plain.result) (rw c.in-Ok-Some.field-0-is at c.in-Ok-Some.ensures)
+    (λ (err : Sunk). answered c.plain_commands_reply.ensures (H c.args.shelf.now) (H c.carry_out_plain.new.shelf) (K c.args.out.now) (K c.carry_out_plain.new.out) err (view_of c.in-Ok-Some.command) c.carry_out_plain.result c.carry_out_plain.ensures.ran)
 
 pub returns-in-Ok-None-clause-replies : goal.returns-in-Ok-None-clause-replies
 returns-in-Ok-None-clause-replies g c =

@@ -1,5 +1,5 @@
 use Rattle.std.proofs.Common.{refl}
-use Rattle.syndex_program.proofs.jobs.run_made.Goals as goal
+use Rattle.syndex_program.proofs.commands.run.finish_run.Goals as goal
 
 pub write_run-requires : goal.write_run-requires
 write_run-requires g c = (c.type_bounds.sync-R, (c.type_bounds.sync-G, rw c.in-Ok.is at c.requires))
