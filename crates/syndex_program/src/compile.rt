@@ -1,13 +1,16 @@
 //! The compiler on one page, from the texts of an algorithm and an architecture to the program of an executive. Each
-//! stage takes what the stages above it made, and each command takes as many as it needs:
+//! stage takes what the stages before it made, and each command takes as many stages as it needs:
 //!
-//! - text → definitions → tree: `parse_algorithm`, for every command;
-//! - tree → flat graph: `flatten_tree`, for `flat` and `exec`;
-//! - text → architecture: `parse_architecture`, for `exec`;
-//! - flat graph, architecture → durations: `find_durations`, and from the start `compile_to_durations`, for `check`;
-//! - durations → least routes → schedule: `find_schedule`, for `chart` and `dates`;
-//! - schedule → program: `build_program`, for `dates`, and from the durations `compile_to_program`, for `code`, `run`
-//!   and `load`.
+//! 1. `parse_algorithm`: a text → its definitions → the tree that they mean. Every command begins with it.
+//! 2. `flatten_tree`: the tree → its flat graph. `flat` ends here.
+//! 3. `parse_architecture`: a text → an architecture and durations of definitions. `exec` ends here, and takes its
+//!    program from a text.
+//! 4. `find_durations`: flat graph, architecture → how long each operation lasts on each operator. `check` ends here
+//!    where an architecture is named.
+//! 5. `find_schedule`: durations → least routes → the schedule of the pressure run. `chart` ends here.
+//! 6. `build_program`: the schedule → its program, for `code`, `dates`, `run` and `load`.
+//!
+//! `compile_to_durations` is stages 2 to 4 one after another, and `compile_to_program` is stages 5 and 6.
 ghost use Rattle.std.specs.Prelude.{◌≡◌, ◌≤◌, IfOk, IsTrue, length};
 ghost use Rattle.archi_defs.specs.Text.{description_of};
 ghost use Rattle.archi_reader.specs.Given.{Gives};
@@ -101,7 +104,7 @@ impl Compilation {
     }
 }
 
-/// The definitions of a text and the tree that they mean, or the first refusal.
+/// Stage 1: the definitions of a text and the tree that they mean, or the first refusal.
 pub fn parse_algorithm(alloc: Global, text: &[u8]) -> Result<Algorithm, AlgoError>
     requires { length text.now ≤ file_bound }
     ensures { MakesAlgorithm text.now result }
@@ -114,7 +117,7 @@ pub fn parse_algorithm(alloc: Global, text: &[u8]) -> Result<Algorithm, AlgoErro
     Ok(Algorithm { defs, tree })
 }
 
-/// The flat graph of a tree: its operations alone, without repetitions, cases and levels.
+/// Stage 2: the flat graph of a tree, which is its operations alone, without repetitions, cases and levels.
 pub fn flatten_tree(alloc: Global, tree: &Tree) -> Result<Flat, OutOfMemory>
     requires names { HasNames tree.now }
     requires bounds { HasBounds tree.now }
@@ -123,7 +126,7 @@ pub fn flatten_tree(alloc: Global, tree: &Tree) -> Result<Flat, OutOfMemory>
     flatten(alloc, tree)
 }
 
-/// What a text says of an architecture and of the durations of definitions, or its first refusal.
+/// Stage 3: what a text says of an architecture and of the durations of definitions, or its first refusal.
 pub fn parse_architecture(alloc: Global, text: &[u8]) -> Result<ArchiText, ArchiError>
     requires { length text.now ≤ file_bound }
     ensures says { Gives result (description_of text.now) }
@@ -133,7 +136,7 @@ pub fn parse_architecture(alloc: Global, text: &[u8]) -> Result<ArchiText, Archi
     read_archi(alloc, text)
 }
 
-/// How long each operation of a flat graph lasts on each operator by a text, or the first refusal.
+/// Stage 4: how long each operation of a flat graph lasts on each operator by a text, or the first refusal.
 pub fn find_durations(alloc: Global, flat: Flat, text: ArchiText) -> Result<Compilation, ArchiError>
     requires { AreDurations (length text.archi.operators) text.lines }
     ensures { FindsDurations flat text result }
@@ -146,7 +149,7 @@ pub fn find_durations(alloc: Global, flat: Flat, text: ArchiText) -> Result<Comp
     })
 }
 
-/// The stages from a tree and the text of an architecture to the durations, or the first refusal.
+/// Stages 2 to 4: from a tree and the text of an architecture to the durations, or the first refusal.
 pub fn compile_to_durations(
     alloc: Global,
     text: &[u8],
@@ -164,7 +167,7 @@ pub fn compile_to_durations(
     find_durations(alloc, flat, text)
 }
 
-/// The schedule of the pressure run, for which `adequation` first finds the least routes between the operators.
+/// Stage 5: the schedule of the pressure run, for which `adequation` first finds the least routes between operators.
 pub fn find_schedule(alloc: Global, compilation: &Compilation) -> Result<Schedule, OutOfMemory>
     requires { HasDurations compilation.now }
     ensures run { IfOk result (λ s. s ≡ schedule_of compilation.now.flat
@@ -181,7 +184,7 @@ pub fn find_schedule(alloc: Global, compilation: &Compilation) -> Result<Schedul
     adequation(alloc, flat, archi, &compilation.durations)
 }
 
-/// The program of the schedule of the pressure run, or the first limit that refuses it.
+/// Stage 6: the program of the schedule of the pressure run, or the first limit that refuses it.
 pub fn build_program(
     alloc: Global,
     compilation: &Compilation,
@@ -203,7 +206,7 @@ pub fn build_program(
     }
 }
 
-/// The stages from the durations to the program, or the first limit that refuses it.
+/// Stages 5 and 6: from the durations to the program, or the first limit that refuses it.
 pub fn compile_to_program(alloc: Global, compilation: &Compilation) -> Result<Program, Status>
     requires { HasDurations compilation.now }
     ensures { BuildsProgram compilation.now.flat compilation.now.text.archi

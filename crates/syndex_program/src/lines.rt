@@ -108,7 +108,7 @@ pub fn write_lines<R: Threads + Wait + Sync, K: Sink, G: Gate>(
     }
 }
 
-/// How a command ends whose windows went so.
+/// The status of a command whose lines were written or stopped so.
 pub fn status_of(answer: Result<(), Stopped>) -> Status
     ensures { status_ending result ≡ ending_of answer }
 {

@@ -1,4 +1,4 @@
-//! The command `chart A H`.
+//! The command `chart A H`: the timing chart of a schedule. `commands` calls `chart_text`.
 ghost use Rattle.std.specs.Prelude.{◌≡◌, IfOk};
 ghost use Rattle.command_plan.specs.Run.{Makes};
 ghost use Rattle.outside.specs.Shelf.{Stays};

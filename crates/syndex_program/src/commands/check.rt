@@ -1,4 +1,4 @@
-//! The command `check A [H]`.
+//! The command `check A [H]`: the canonical texts. `commands` calls `check_texts`.
 ghost use Rattle.std.specs.Prelude.{◌≡◌, IfOk, None, Some, option_map};
 ghost use Rattle.algo_print.specs.Canonical.{canonical_text, ArePrintable};
 ghost use Rattle.command_plan.specs.Run.{Makes};

@@ -1,4 +1,5 @@
-//! The command `code A H`.
+//! The command `code A H`: the macro-code of a program. `commands` calls `code_text`, and `run` prints by
+//! `print_program`.
 ghost use Rattle.std.specs.Prelude.{◌≡◌, IfOk};
 ghost use Rattle.command_plan.specs.Run.{Makes};
 ghost use Rattle.macro_code.specs.Text.{macro_code};

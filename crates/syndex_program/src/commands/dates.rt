@@ -1,4 +1,4 @@
-//! The command `dates A H G N`.
+//! The command `dates A H G N`: when what begins and ends. `commands` calls `dates_listing`.
 ghost use Rattle.std.specs.Prelude.{◌≡◌, ◌≤◌, IfOk, IsTrue, Ok, length, replicate};
 ghost use Rattle.command_plan.specs.Run.{Makes};
 ghost use Rattle.durations.specs.Table.{entry_in};

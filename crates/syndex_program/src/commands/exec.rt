@@ -1,4 +1,5 @@
-//! The command `exec A H C S`: macro-code of any hand, checked and executed.
+//! The command `exec A H C S`: macro-code of any hand, checked and executed. `commands` calls `read_foreign`, and then
+//! `finish_exec`.
 ghost use Rattle.std.specs.Prelude.{◌≤◌, IfOk, Ok, length};
 ghost use Rattle.syn_base.specs.Limits.{most_in_text};
 ghost use Rattle.command_plan.specs.Run.{Makes};

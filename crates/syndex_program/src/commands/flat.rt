@@ -1,4 +1,4 @@
-//! The command `flat A`.
+//! The command `flat A`: the listing of a flat graph. `commands` calls `listing_text`.
 ghost use Rattle.std.specs.Prelude.{◌≡◌, IfOk};
 ghost use Rattle.command_plan.specs.Run.{Makes};
 ghost use Rattle.flat_laws.specs.FlatOf.{flat_of};

@@ -1,4 +1,4 @@
-//! The command `load N`.
+//! The command `load N`: the sum of all that the actuators take in a load. `commands` calls `finish_load`.
 ghost use Rattle.std.specs.Prelude.{◌≡◌, ◌≤◌, ◌<◌, ◌+ℤ◌, [], length, slice_index_or, IfOk, OnErr};
 ghost use Rattle.level_meaning.specs.Level.{all_joined};
 ghost use Rattle.body_lang.specs.Expr.{total};

@@ -1,4 +1,4 @@
-//! The command `run A H S`.
+//! The command `run A H S`: the macro-code of a program, and what the actuators take. `commands` calls `finish_run`.
 ghost use Rattle.std.specs.Prelude.{◌≡◌, IfOk};
 ghost use Rattle.command_plan.specs.Run.{Ends, Performs};
 ghost use Rattle.command_status.specs.Status.{Refusal, ending_of};

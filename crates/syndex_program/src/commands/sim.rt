@@ -1,4 +1,4 @@
-//! The command `sim A S`.
+//! The command `sim A S`: what the actuators take by the synchronous meaning. `commands` calls `sim_text`.
 ghost use Rattle.std.specs.Prelude.{◌≡◌, ◌*◌, sum, IfOk};
 ghost use Rattle.algo_tree.specs.Ends.{sensor_lengths, actuator_lengths};
 ghost use Rattle.command_plan.specs.Run.{Makes};
