@@ -4,7 +4,21 @@
 
 ghost use Rattle.std.specs.Prelude.{◌≡◌, IfOk, Some, map, option_map};
 ghost use Rattle.std.specs.String.{string_bytes};
-ghost use Rattle.command_words.specs.Command.{check, sim, flat, chart, code, one, two, one_or_two, four, loaded, dated, number_up_to, command_of};
+ghost use Rattle.command_words.specs.Command.{
+  check,
+  sim,
+  flat,
+  chart,
+  code,
+  one,
+  two,
+  one_or_two,
+  four,
+  loaded,
+  dated,
+  number_up_to,
+  command_of,
+};
 ghost use Rattle.command_words.specs.Plain.{command_without_options, run_with, exec_with};
 ghost use Rattle.command_words.specs.Answer.{exec_of, command_given, plain_of, run_of};
 ghost use Rattle.command_words.specs.View.{view_of};

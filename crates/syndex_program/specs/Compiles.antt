@@ -49,9 +49,10 @@ HasDurations compilation = durations_of compilation.flat (described compilation.
 
 -- the durations of this flat graph by this text, or the first operation without any; or want of memory
 abbrev pub FindsDurations : Graph → ArchiText → Result Compilation ArchiError → Type 0
-FindsDurations g text (Ok compilation) =
-    (compilation.flat ≡ g) × (compilation.text ≡ text) × (durations_of g (described text) ≡ Ok compilation.durations)
-FindsDurations g text (Err error) = Gives (Err error) (durations_of g (described text))
+FindsDurations graph text (Ok compilation) =
+    (compilation.flat ≡ graph) × (compilation.text ≡ text) ×
+    (durations_of graph (described text) ≡ Ok compilation.durations)
+FindsDurations graph text (Err error) = Gives (Err error) (durations_of graph (described text))
 
 -- what a text describes, the flat graph of this algorithm, and how long its operations last by the text
 pub record IsCompilation (main : Vertex) (text : Bytes) (compilation : Compilation) : Type 0 where

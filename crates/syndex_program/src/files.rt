@@ -6,7 +6,13 @@ ghost use Rattle.command_status.specs.Status.{above, ending_of};
 ghost use Rattle.outside.specs.Shelf.{Stays, file_limit};
 ghost use Rattle.operation_paths.specs.Bounded.{HasBounds};
 ghost use Rattle.operation_paths.specs.Named.{HasNames};
-ghost use Rattle.syndex_program.specs.Reads.{MakesTable, ReadsAlgorithm, ReadsCompilation, ReadsDescription, ReadsTable};
+ghost use Rattle.syndex_program.specs.Reads.{
+  MakesTable,
+  ReadsAlgorithm,
+  ReadsCompilation,
+  ReadsDescription,
+  ReadsTable,
+};
 
 use crate::compile::{
     Algorithm, Compilation, compile_to_durations, parse_algorithm, parse_architecture,
