@@ -125,7 +125,7 @@ fn ending<R: Threads + Wait + Sync, S: Shelf, K: Sink, G: Gate>(
 }
 
 /// Writes the line of a status to the error stream.
-fn told<E: Sink>(err: &mut E, status: Status) -> Status
+fn report<E: Sink>(err: &mut E, status: Status) -> Status
     ensures same { result ≡ status }
     ensures line { Said (line_of status) (E.sunk err.old) (E.sunk err.new) }
 {
