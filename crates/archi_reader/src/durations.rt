@@ -1,6 +1,8 @@
 //! The durations of a text while it is read, each definition and operator once. `reader` adds them
 //! line by line.
 ghost use Rattle.std.specs.Prelude.{◌≡◌, ◌<◌, []};
+ghost use Rattle.syn_base.specs.Limits.{bound_of};
+ghost use Rattle.syn_base.specs.declared.limits.LimitKind.TheVariants.{Operators};
 ghost use Rattle.archi_reader.specs.Given.{Adds, Has};
 ghost use Rattle.archi_reader.specs.Durations.{is_given, AreGiven};
 
@@ -52,7 +54,7 @@ impl<'a> Durations<'a> {
 
     /// A duration of this definition was given on this operator.
     pub fn has(&self, def: &[u8], operator: u32) -> bool
-        requires { operator < 16 }
+        requires { operator < bound_of Operators }
         ensures { result ≡ is_given self.now def.now operator }
     {
         self.given[operator as usize].find(def).is_some()
@@ -67,7 +69,7 @@ impl<'a> Durations<'a> {
         ticks: u32,
     ) -> Result<(), ArchiError>
         requires same { def ≡ word.now }
-        requires known { operator < 16 }
+        requires known { operator < bound_of Operators }
         ensures { Adds result self.old (record { def = def; operator = operator; ticks = ticks }) self.new }
     {
         let line = DurationLine {

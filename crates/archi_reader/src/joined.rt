@@ -1,6 +1,8 @@
 //! The least operator that no route joins to operator 0, which `whole` names in a refusal.
 ghost use Rattle.std.specs.Prelude.{◌≡◌, ◌<◌, ◌≤◌, not, length, position, IfSome};
 ghost use Rattle.std.specs.List.{range_with_len};
+ghost use Rattle.syn_base.specs.Limits.{bound_of};
+ghost use Rattle.syn_base.specs.declared.limits.LimitKind.TheVariants.{Operators};
 ghost use Rattle.archi_graph.specs.Archi.{reached_within};
 ghost use Rattle.archi_graph.specs.Routes.{AreOperators};
 
@@ -8,8 +10,8 @@ use archi_graph::{Medium, reached};
 
 /// The least of this many operators to which no route leads from operator 0.
 pub fn apart(operators: usize, media: &[Medium]) -> Option<usize>
-    requires few { operators ≤ 16 }
-    requires known { AreOperators 16 media.now }
+    requires few { operators ≤ bound_of Operators }
+    requires known { AreOperators (bound_of Operators) media.now }
     ensures place { result ≡ position (λ o. not (reached_within media.now operators o)) (range_with_len 0 operators) }
     ensures within { IfSome result (λ o. o < operators) }
 {

@@ -17,14 +17,14 @@ pub fn print_archi(alloc: Global, text: &ArchiText, out: &mut Vec<u8>) -> Result
     ensures ok { OnOk result (out.new.items ≡ out.old.items ++ canonical_text (described_by text.now)) }
     ensures err { OnErr result (out.new.items ≡ out.old.items) }
 {
-    let written = written(alloc, text)?;
+    let written = canonical_bytes(alloc, text)?;
     out.extend_from_slice(&written)?;
     Ok(())
 }
 
 /// The canonical text by itself, so that `out` is changed only once all of the text is there.
 #[tactic(auto, using(crate::proofs::Texts::text_of_parts))]
-fn written(alloc: Global, text: &ArchiText) -> Result<Vec<u8>, OutOfMemory>
+fn canonical_bytes(alloc: Global, text: &ArchiText) -> Result<Vec<u8>, OutOfMemory>
     ensures { IfOk result (λ v. v.items ≡ canonical_text (described_by text.now)) }
 {
     let operators = text.archi.operators();

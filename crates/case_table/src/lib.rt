@@ -1,7 +1,6 @@
-//! Named cases, found by name.
+//! Named cases, found by name: the words of expressions and of macro-code.
 //!
-//! A `CaseTable` gives the place of a name, and `case_arms!` the case that stands at a place. The words of
-//! expressions are found so.
+//! A `CaseTable` gives the place of a name, and `case_arms!` the case that stands at a place.
 #![tactic(auto)]
 
 mod table;

@@ -1,4 +1,4 @@
-//! A list of distinct names.
+//! A list of distinct names: `CaseTable`, in which the words of expressions and of macro-code are found.
 
 ghost use Rattle.std.specs.Prelude.{◌≡◌, ◌↔◌, ◌<◌, ◌≤◌, ◌++◌, ◌∷◌, [], ℕ, Some, false, length, slice_get, bytes_eq, position};
 ghost use Rattle.std.specs.List.{list_any};
@@ -62,6 +62,7 @@ impl<'a, const N: usize> CaseTable<'a, N> {
     }
 }
 
+/// The place of a name in a list.
 fn place_in(names: &[&[u8]], name: &[u8]) -> Option<usize>
     ensures { result ≡ position (λ known. bytes_eq known.now name.now) names.now }
 {

@@ -1,4 +1,5 @@
-//! The vertices and edges that the lines of a repetition become.
+//! The frontier of an unrolled repetition: the vertices and sources that its lines become. `pass` and `vertices` call
+//! it.
 ghost use Rattle.std.specs.Prelude.{◌≡◌, ◌<◌, ◌≤◌, ◌+◌, ◌++◌, IfOk, OnOk, length, map, replicate, slice_index_or, ◌-◌, ◌==◌, if◌then◌else◌};
 ghost use Rattle.level_meaning.specs.Level.{numbers_below};
 ghost use Rattle.algo_tree.specs.View.{kind_view, view};

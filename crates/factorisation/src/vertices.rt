@@ -1,4 +1,4 @@
-//! Vertices that are made again, with another inside.
+//! The vertices that the pass makes again, with others inside. `pass` calls it.
 ghost use Rattle.std.specs.Prelude.{◌≡◌, ◌<◌, ◌≤◌, ◌+◌, IfOk, length, map};
 ghost use Rattle.algo_tree.specs.declared.vertex.Vertex.{out-Vertex};
 ghost use Rattle.algo_tree.specs.Tree.{graph, vertex as plain_vertex};
@@ -30,7 +30,7 @@ struct Label {
     names: Items<Items<u8>>,
 }
 
-/// What is said of this vertex beside its kind.
+/// A copy of what is said of this vertex beside its kind.
 fn copied_label(alloc: Global, vertex: &Vertex) -> Result<Label, OutOfMemory>
     ensures { IfOk result (λ b. b ≡ record {
       part = (out-Vertex vertex.now).part;

@@ -3,13 +3,13 @@ use Rattle.std.specs.Prelude.{◌≡◌, ℕ, ◌<◌, ◌↔◌, IsTrue, List, 
 use Rattle.flat_graph.specs.declared.vertex.Vertex.{Vertex}
 use Rattle.flat_graph.specs.Order.{depends_on, is_acyclic}
 
--- operation v depends on operation u
+-- Operation v depends on operation u.
 pub record DependsOn (vertices : List Vertex) (v u : ℕ) : Type 0 where
   pub at : Vertex
   pub is : slice_get vertices v ≡ Some at
   pub among : Contains (depends_on at) u
 
--- operation v depends on the other, at once or through others
+-- Operation v depends on the other, at once or through others.
 pub data LeadsTo (vertices : List Vertex) : ℕ → ℕ → Type 0 where
   at_once : {v u : ℕ} → DependsOn vertices v u → LeadsTo vertices v u
   through : {v u w : ℕ} → DependsOn vertices v u → LeadsTo vertices u w → LeadsTo vertices v w
@@ -17,11 +17,11 @@ pub data LeadsTo (vertices : List Vertex) : ℕ → ℕ → Type 0 where
 abbrev pub NoneLeadsToItself : List Vertex → Type 0
 NoneLeadsToItself vertices = (v : ℕ) → LeadsTo vertices v v → ⊥
 
--- each operation that another depends on is there
+-- Each operation that another depends on is there.
 abbrev pub AllAreThere : List Vertex → Type 0
 AllAreThere vertices = (v u : ℕ) → DependsOn vertices v u → u < length vertices
 
--- as many rounds as there are operations do all of them exactly where none depends on itself
+-- As many rounds as there are operations do all of them exactly where none depends on itself.
 abbrev pub RoundsFindCycles : Type 0
 RoundsFindCycles = (vertices : List Vertex) → AllAreThere vertices →
     (IsTrue (is_acyclic vertices) ↔ NoneLeadsToItself vertices)

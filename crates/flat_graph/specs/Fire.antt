@@ -37,12 +37,12 @@ use Rattle.flat_graph.specs.declared.vertex.Kind.TheVariants.{
 use Rattle.flat_graph.specs.declared.vertex.Vertex.{Vertex}
 use Rattle.flat_graph.specs.Graph.{Graph, with_vertex, lens_of}
 
--- the guards hold, where their sources have these values
+-- The guards hold, where their sources have these values.
 abbrev pub guards_hold : List Guard → Values → Bool
 guards_hold [] vs = true
 guards_hold (g ∷ gs) vs = (selected g.values (vector_at vs 0) == g.case) && guards_hold gs (drop 1 vs)
 
--- the outputs of an active operation, from its cell, what it senses and its inputs
+-- The outputs of an active operation, from its cell, what it senses and its inputs.
 abbrev pub kind_outputs : List (List Expr) → Kind → List ℕ → Vector → Vector → Values → Values
 kind_outputs bodies (Sensor i) outs cell seen ins = seen ∷ []
 kind_outputs bodies (Actuator i) outs cell seen ins = []
@@ -54,7 +54,7 @@ kind_outputs bodies Explode outs cell seen ins = parts_of outs (vector_at ins 0)
 kind_outputs bodies Implode outs cell seen ins = all_joined ins ∷ []
 kind_outputs bodies (Merge values) outs cell seen ins = merged values ins ∷ []
 
--- an operation with a guard that does not hold gives zeros
+-- An operation with a guard that does not hold gives zeros.
 abbrev pub fired : List (List Expr) → Vertex → Vector → Vector → Values → Values → Values
 fired bodies x cell seen conditions ins =
     if guards_hold x.guards conditions then kind_outputs bodies x.kind x.outs cell seen ins else map zeros x.outs
@@ -64,17 +64,17 @@ stored Set true cell input = input
 stored Set false cell input = cell
 stored _ active cell input = cell
 
--- the cell afterwards: a set half stores its input where it is active
+-- The cell afterwards: a set half stores its input where it is active.
 abbrev pub kept : Vertex → Vector → Values → Values → Vector
 kept x cell conditions ins = stored x.kind (guards_hold x.guards conditions) cell (vector_at ins 0)
 
--- the length of its cell, where its inputs have these lengths: a half of a delay has one
+-- The length of its cell, where its inputs have these lengths: a half of a delay has one.
 abbrev pub kind_cell_len : Kind → List ℕ → ℕ
 kind_cell_len (Get z) lens = length z
 kind_cell_len Set lens = slice_index_or lens 0 0
 kind_cell_len _ lens = 0
 
--- the length of what it senses, where its outputs have these lengths
+-- The length of what it senses, where its outputs have these lengths.
 abbrev pub kind_seen_len : Kind → List ℕ → ℕ
 kind_seen_len (Sensor i) outs = slice_index_or outs 0 0
 kind_seen_len _ outs = 0
@@ -84,7 +84,7 @@ module _ (g : Graph) (v : ℕ) where
   abbrev pub of_vertex : {A : Type 0} → A → (Vertex → A) → A
   of_vertex a f = with_vertex (slice_get g.vertices v) a f
 
-  -- the lengths of its inputs, and 1 for each guard
+  -- The lengths of its inputs, and 1 for each guard.
   abbrev pub read_lens : List ℕ
   read_lens = of_vertex [] (λ x. lens_of g.vertices x.ins ++ replicate (length x.guards) 1)
 
@@ -97,7 +97,7 @@ module _ (g : Graph) (v : ℕ) where
   abbrev pub seen_len : ℕ
   seen_len = of_vertex 0 (λ x. kind_seen_len x.kind x.outs)
 
-  -- its outputs, from its cell, what it senses, and the values of its inputs and then of its guards' sources
+  -- Its outputs, from its cell, what it senses, and the values of its inputs and then of its guards' sources.
   abbrev pub fired_at : Vector → Vector → Values → Values
   fired_at cell seen read =
       of_vertex [] (λ x. fired g.bodies x cell seen (drop (length x.ins) read) (take (length x.ins) read))

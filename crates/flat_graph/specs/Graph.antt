@@ -5,7 +5,7 @@ use Rattle.body_lang.specs.Expr.{Expr}
 use Rattle.flat_graph.specs.declared.vertex.Source.{Source}
 use Rattle.flat_graph.specs.declared.vertex.Vertex.{Vertex}
 
--- the operations, and the bodies of functions: one expression for each output
+-- The operations, and the bodies of functions: one expression for each output.
 pub record Graph : Type 0 where
   pub vertices : List Vertex
   pub bodies : List (List Expr)
@@ -14,14 +14,14 @@ abbrev pub with_vertex : {A : Type 0} → Option Vertex → A → (Vertex → A)
 with_vertex None a f = a
 with_vertex (Some x) a f = f x
 
--- the length of a source, 0 where there is none
+-- The length of a source, 0 where there is none.
 abbrev pub len_of : List Vertex → Source → ℕ
 len_of vertices s = with_vertex (slice_get vertices s.vertex) 0 (λ x. slice_index_or x.outs s.port 0)
 
 abbrev pub lens_of : List Vertex → List Source → List ℕ
 lens_of vertices sources = map (len_of vertices) sources
 
--- a graph is stored as the pair of its parts
+-- A graph is stored as the pair of its parts.
 abbrev pub graph_code : Coded Vertex → Coded Expr → Coded Graph
 graph_code vertex expr =
     code_by (List Vertex × List (List Expr)) (coded× (coded_list vertex) (coded_list (coded_list expr)))

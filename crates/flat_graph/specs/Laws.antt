@@ -21,7 +21,7 @@ use Rattle.flat_graph.specs.Meaning.{
   flat_act_row,
 }
 
--- each operation gives what it makes of what its sources give
+-- Each operation gives what it makes of what its sources give.
 abbrev pub IsFixedPoint : Type 0
 IsFixedPoint = (g : Graph) (cells row : Values) → IsTrue (is_flat g)
     → (v : ℕ) (x : Vertex) → slice_get g.vertices v ≡ Some x
@@ -29,19 +29,19 @@ IsFixedPoint = (g : Graph) (cells row : Values) → IsTrue (is_flat g)
     fired g.bodies x (cell_of g cells v) (sensed x.kind row)
     (conditions (value_in g cells row) x) (inputs (value_in g cells row) x)
 
--- an operation that is fired on its cell, what it senses and what its sources give has its outputs
+-- An operation that is fired on its cell, what it senses and what its sources give has its outputs.
 abbrev pub IsFired : Type 0
 IsFired = (g : Graph) (cells row : Values) → IsTrue (is_flat g)
     → (v : ℕ) (x : Vertex) → slice_get g.vertices v ≡ Some x
     → outputs_in g cells row v ≡ fired_at g v (cell_of g cells v) (sensed x.kind row) (reads (value_in g cells row) x)
 
--- the next cell of a delay is what its set half, fired on the cell and what its sources give, keeps
+-- The next cell of a delay is what its set half, fired on the cell and what its sources give, keeps.
 abbrev pub IsKept : Type 0
 IsKept = (g : Graph) (cells row : Values) (v t : ℕ) (x y : Vertex) (z : List ℤ)
     → slice_get g.vertices v ≡ Some x → x.kind ≡ Get z → x.twin ≡ Some t → slice_get g.vertices t ≡ Some y
     → cell_of g (next_cells g cells row) v ≡ kept_at g t (cell_of g cells v) (reads (value_in g cells row) y)
 
--- a run over rows that follow others is a run over these alone, from the cells that the others leave
+-- A run over rows that follow others is a run over these alone, from the cells that the others leave.
 abbrev pub RunsInWindows : Type 0
 RunsInWindows = (g : Graph) (before after : List Values) (opening : Values) (k : ℕ)
     → let left = cells_after g before opening (length before) in
@@ -53,7 +53,7 @@ abbrev pub sensor_len : Kind → List ℕ → List ℕ
 sensor_len (Sensor i) outs = slice_index_or outs 0 0 ∷ []
 sensor_len _ outs = []
 
--- the lengths of the sensors' vectors
+-- The lengths of the sensors' vectors.
 abbrev pub sensor_lens : List Vertex → List ℕ
 sensor_lens [] = []
 sensor_lens (x ∷ xs) = sensor_len x.kind x.outs ++ sensor_lens xs
@@ -62,12 +62,12 @@ abbrev pub delay_len : Kind → List ℕ
 delay_len (Get z) = length z ∷ []
 delay_len _ = []
 
--- the lengths of the delays' cells
+-- The lengths of the delays' cells.
 abbrev pub delay_lens : List Vertex → List ℕ
 delay_lens [] = []
 delay_lens (x ∷ xs) = delay_len x.kind ++ delay_lens xs
 
--- with a row and cells of the right lengths each output has its length, and the cells keep theirs
+-- With a row and cells of the right lengths each output has its length, and the cells keep theirs.
 abbrev pub KeepsLengths : Type 0
 KeepsLengths = (g : Graph) (cells row : Values) → IsTrue (is_flat g)
     → map length row ≡ sensor_lens g.vertices → map length cells ≡ delay_lens g.vertices

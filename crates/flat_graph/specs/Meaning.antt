@@ -41,7 +41,7 @@ level_source s = Of s.vertex s.port
 abbrev pub level_guard : Guard → guard_of_level.Guard
 level_guard g = record { source = level_source g.source; values = g.values; case = g.case }
 
--- a sensor's vector of the row
+-- A sensor's vector of the row.
 abbrev pub sensed : Kind → Values → Vector
 sensed (Sensor i) row = vector_at row i
 sensed _ row = []
@@ -50,17 +50,17 @@ abbrev pub is_get : Kind → Bool
 is_get (Get z) = true
 is_get _ = false
 
--- the number of get halves before operation v, which for a get half is the number of its delay
+-- The number of get halves before operation v, which for a get half is the number of its delay.
 abbrev pub delay_number : List Vertex → ℕ → ℕ
 delay_number [] v = 0
 delay_number (x ∷ xs) zero = 0
 delay_number (x ∷ xs) (suc v) = if is_get x.kind then delay_number xs v + 1 else delay_number xs v
 
--- a level keeps nothing for operations: each delay has its cell beside it
+-- A level keeps nothing for operations: each delay has its cell beside it.
 abbrev pub no_state : State
 no_state q = []
 
--- an operation as a node of a level, with this cell
+-- An operation as a node of a level, with this cell.
 abbrev pub node_of : List (List Expr) → Vector → Vertex → Node
 node_of bodies cell x = record {
   part = Numbered 0;
@@ -75,12 +75,12 @@ node_of bodies cell x = record {
   };
 }
 
--- cells are those of the delays, by number
+-- Cells are those of the delays, by number.
 module _ (g : Graph) (cells : Values) where
   abbrev pub cell_of : ℕ → Vector
   cell_of v = vector_at cells (delay_number g.vertices v)
 
-  -- operations that are numbered from v on
+  -- Operations that are numbered from v on.
   abbrev pub nodes_from : ℕ → List Vertex → List Node
   nodes_from v [] = []
   nodes_from v (x ∷ xs) = node_of g.bodies (cell_of v) x ∷ nodes_from (suc v) xs
@@ -88,32 +88,32 @@ module _ (g : Graph) (cells : Values) where
   abbrev pub level : List Node
   level = nodes_from 0 g.vertices
 
-  -- the outputs of an operation in a reaction with this row of the sensors
+  -- The outputs of an operation in a reaction with this row of the sensors.
   abbrev pub outputs_in : Values → ℕ → Values
   outputs_in row v = out level row no_state [] (length level) v
 
-  -- the value of a source
+  -- The value of a source.
   abbrev pub value_in : Values → Source → Vector
   value_in row s = level_value level row no_state [] (level_source s)
 
--- the values of the sources of an operation's guards, and of its inputs
+-- The values of the sources of an operation's guards, and of its inputs.
 abbrev pub conditions : (Source → Vector) → Vertex → Values
 conditions look x = map (λ g. look g.source) x.guards
 
 abbrev pub inputs : (Source → Vector) → Vertex → Values
 inputs look x = map look x.ins
 
--- all that an operation reads: the values of its inputs, and then of its guards' sources
+-- All that an operation reads: the values of its inputs, and then of its guards' sources.
 abbrev pub reads : (Source → Vector) → Vertex → Values
 reads look x = inputs look x ++ conditions look x
 
--- the cell of a delay after a reaction, by the set half that is its get half's twin
+-- The cell of a delay after a reaction, by the set half that is its get half's twin.
 abbrev pub next_cell : List Vertex → (Source → Vector) → Option ℕ → Vector → Vector
 next_cell vertices look None cell = cell
 next_cell vertices look (Some t) cell =
     with_vertex (slice_get vertices t) cell (λ y. kept y cell (conditions look y) (inputs look y))
 
--- get half by get half
+-- Get half by get half.
 abbrev pub next_from : List Vertex → (Source → Vector) → List Vertex → Values → Values
 next_from vertices look [] cells = []
 next_from vertices look (x ∷ xs) cells =
@@ -128,12 +128,12 @@ abbrev pub initial_cell : Kind → Values
 initial_cell (Get z) = z ∷ []
 initial_cell _ = []
 
--- the initial values of the delays
+-- The initial values of the delays.
 abbrev pub initial_cells : List Vertex → Values
 initial_cells [] = []
 initial_cells (x ∷ xs) = initial_cell x.kind ++ initial_cells xs
 
--- what an actuator takes
+-- What an actuator takes.
 abbrev pub taken_by : (Source → Vector) → Vertex → Kind → Values
 taken_by look x (Actuator i) = vector_at (inputs look x) 0 ∷ []
 taken_by look x _ = []
@@ -142,28 +142,28 @@ abbrev pub taken : (Source → Vector) → List Vertex → Values
 taken look [] = []
 taken look (x ∷ xs) = taken_by look x x.kind ++ taken look xs
 
--- a run over these rows of the sensors, from opening cells
+-- A run over these rows of the sensors, from opening cells.
 module _ (g : Graph) (rows : List Values) (opening : Values) where
   abbrev pub row_of : ℕ → Values
   row_of k = slice_index_or rows k []
 
-  -- the cells of the delays after k reactions
+  -- The cells of the delays after k reactions.
   abbrev pub cells_after : ℕ → Values
   cells_after zero = opening
   cells_after (suc k) = next_cells g (cells_after k) (row_of k)
 
-  -- the outputs of operation v in reaction k
+  -- The outputs of operation v in reaction k.
   abbrev pub flat_outputs : ℕ → ℕ → Values
   flat_outputs v k = outputs_in g (cells_after k) (row_of k) v
 
-  -- output p of operation v in reaction k
+  -- Output p of operation v in reaction k.
   abbrev pub flat_val : ℕ → ℕ → ℕ → Vector
   flat_val v p k = vector_at (flat_outputs v k) p
 
-  -- what the actuators take in reaction k, in order
+  -- What the actuators take in reaction k, in order.
   abbrev pub flat_act_row : ℕ → Values
   flat_act_row k = taken (value_in g (cells_after k) (row_of k)) g.vertices
 
-  -- the value at the input of actuator a in reaction k
+  -- The value at the input of actuator a in reaction k.
   abbrev pub flat_act : ℕ → ℕ → Vector
   flat_act a k = vector_at (flat_act_row k) a

@@ -2,6 +2,6 @@
 use Rattle.std.specs.Prelude.{ℕ, ◌+◌, ◌++◌, length, take, drop}
 use Rattle.level_meaning.specs.Level.{Vector}
 
--- the values v stand in w from this place on
+-- The values v stand in w from this place on.
 abbrev pub over : ℕ → Vector → Vector → Vector
 over from v w = take from w ++ (v ++ drop (from + length v) w)

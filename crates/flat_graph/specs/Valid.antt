@@ -44,14 +44,14 @@ use Rattle.flat_graph.specs.declared.vertex.Vertex.{Vertex}
 use Rattle.flat_graph.specs.Graph.{Graph, with_vertex, len_of, lens_of}
 use Rattle.flat_graph.specs.Order.{is_acyclic}
 
--- a letter, a digit, `_`, `.`, `/` or `:`
+-- A letter, a digit, `_`, `.`, `/` or `:`.
 abbrev pub is_path_byte : ℕ → Bool
 is_path_byte b = is_name_byte b || (b == 46) || (b == 47) || (b == 58)
 
 abbrev pub is_path : List ℕ → Bool
 is_path name = nat_le 1 (length name) && list_all is_path_byte name
 
--- each name is that of one operation
+-- Each name is that of one operation.
 abbrev pub are_named_apart : List Vertex → Bool
 are_named_apart [] = true
 are_named_apart (x ∷ xs) = not (list_any (λ y. bytes_eq x.name y.name) xs) && are_named_apart xs
@@ -59,11 +59,11 @@ are_named_apart (x ∷ xs) = not (list_any (λ y. bytes_eq x.name y.name) xs) &&
 abbrev pub is_len : ℕ → Bool
 is_len n = nat_le 1 n && nat_le n 64
 
--- the guard's source has one element, and its case is there
+-- The guard's source has one element, and its case is there.
 abbrev pub is_guard : List Vertex → Guard → Bool
 is_guard vertices g = (len_of vertices g.source == 1) && nat_le g.case (length g.values)
 
--- each port that the expression names is below n
+-- Each port that the expression names is below n.
 abbrev pub ports_below : ℕ → Expr → Bool
 ports_below n (literal v) = true
 ports_below n index = true
@@ -73,23 +73,23 @@ ports_below n (negation e) = ports_below n e
 ports_below n (apply op a b) = ports_below n a && ports_below n b
 ports_below n (select c a b) = ports_below n c && (ports_below n a && ports_below n b)
 
--- an expression for each output, of which there is one at least, over this many inputs
+-- An expression for each output, of which there is one at least, over this many inputs.
 abbrev pub is_body : ℕ → ℕ → Option (List Expr) → Bool
 is_body ins outs None = false
 is_body ins outs (Some es) = nat_le 1 outs && ((length es == outs) && list_all (ports_below ins) es)
 
--- this length alone
+-- This length alone.
 abbrev pub is_only : ℕ → List ℕ → Bool
 is_only n [] = false
 is_only n (x ∷ []) = x == n
 is_only n (x ∷ y ∷ ys) = false
 
--- a conditioning input, and for each case an input as long as the output
+-- A conditioning input, and for each case an input as long as the output.
 abbrev pub is_merge : ℕ → List ℕ → List ℕ → Bool
 is_merge values [] outs = false
 is_merge values (c ∷ lens) outs = (c == 1) && (length lens == values + 1) && list_all (λ n. is_only n outs) lens
 
--- inputs of these lengths and outputs of those fit the kind
+-- Inputs of these lengths and outputs of those fit the kind.
 abbrev pub fits : List (List Expr) → Kind → List ℕ → List ℕ → Bool
 fits bodies (Sensor i) lens outs = (length lens == 0) && (length outs == 1)
 fits bodies (Actuator i) lens outs = (length lens == 1) && (length outs == 0)
@@ -109,7 +109,7 @@ abbrev pub is_set_half_by : List Vertex → ℕ → ℕ → Vertex → Kind → 
 is_set_half_by vertices v len y Set = names y.twin v && is_only len (lens_of vertices y.ins)
 is_set_half_by vertices v len y _ = false
 
--- it is the set half of a delay of this length, whose get half is operation v
+-- It is the set half of a delay of this length, whose get half is operation v.
 abbrev pub is_set_half_of : List Vertex → ℕ → ℕ → Vertex → Bool
 is_set_half_of vertices v len y = is_set_half_by vertices v len y y.kind
 
@@ -117,7 +117,7 @@ abbrev pub is_get_half_by : ℕ → Vertex → Kind → Bool
 is_get_half_by v y (Get z) = names y.twin v
 is_get_half_by v y _ = false
 
--- it is the get half of a delay whose set half is operation v
+-- It is the get half of a delay whose set half is operation v.
 abbrev pub is_get_half_of : ℕ → Vertex → Bool
 is_get_half_of v y = is_get_half_by v y y.kind
 
@@ -130,13 +130,13 @@ abbrev pub has_get_half : List Vertex → ℕ → Option ℕ → Bool
 has_get_half vertices v None = false
 has_get_half vertices v (Some u) = nat_lt u v && with_vertex (slice_get vertices u) false (is_get_half_of v)
 
--- the halves of a delay are each other's twins, and the set half stands later; no other operation has a twin
+-- The halves of a delay are each other's twins, and the set half stands later; no other operation has a twin.
 abbrev pub has_twin : List Vertex → ℕ → Kind → Option ℕ → Bool
 has_twin vertices v (Get z) twin = has_set_half vertices v (length z) twin
 has_twin vertices v Set twin = has_get_half vertices v twin
 has_twin vertices v _ twin = is_none twin
 
--- operation v is valid
+-- Operation v is valid.
 abbrev pub is_vertex : Graph → ℕ → Vertex → Bool
 is_vertex g v x =
     is_path x.name &&
@@ -150,7 +150,7 @@ abbrev pub all_from : (ℕ → Vertex → Bool) → ℕ → List Vertex → Bool
 all_from test v [] = true
 all_from test v (x ∷ xs) = test v x && all_from test (v + 1) xs
 
--- the sensors are numbered from this number on, in order
+-- The sensors are numbered from this number on, in order.
 abbrev pub sensors_from : ℕ → List Kind → Bool
 sensors_from n [] = true
 sensors_from n (Sensor i ∷ kinds) = (i == n) && sensors_from (n + 1) kinds
@@ -164,7 +164,7 @@ actuators_from n (_ ∷ kinds) = actuators_from n kinds
 abbrev pub kinds_of : List Vertex → List Kind
 kinds_of vertices = map (λ x. x.kind) vertices
 
--- valid operations and bodies
+-- Valid operations and bodies.
 abbrev pub is_flat : Graph → Bool
 is_flat g =
     nat_le (length g.vertices) 2048 &&

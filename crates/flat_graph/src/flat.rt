@@ -3,7 +3,7 @@ use crate::vertex::Vertex;
 use body_lang::Body;
 use std::marker::Model;
 
-/// Operations and bodies that are valid, as `is_flat` tells. Operations are numbered from 0 in order,
+/// Operations and bodies that are valid, as `is_flat` decides. Operations are numbered from 0 in order,
 /// and bodies may be shared with others. Contracts see the list of the operations, and the bodies as
 /// plain expressions.
 pub struct Flat {

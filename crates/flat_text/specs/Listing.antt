@@ -30,40 +30,40 @@ kind_word Explode = codes "explode"
 kind_word Implode = codes "implode"
 kind_word (Merge values) = codes "merge"
 
--- an output of an operation: `v.p`
+-- An output of an operation: `v.p`.
 abbrev pub source_text : Source → Bytes
 source_text s = decimal s.vertex ++ (codes "." ++ decimal s.port)
 
--- the source of a condition, and the case that it has to select: `v.p?c`
+-- The source of a condition, and the case that it has to select: `v.p?c`.
 abbrev pub guard_text : Guard → Bytes
 guard_text g = source_text g.source ++ (codes "?" ++ decimal g.case)
 
--- a comma before each
+-- A comma before each.
 abbrev pub each_after_comma : List Bytes → Bytes
 each_after_comma [] = []
 each_after_comma (w ∷ ws) = (codes "," ++ w) ++ each_after_comma ws
 
--- joined by commas, and `-` for none
+-- Joined by commas, and `-` for none.
 abbrev pub comma_list : List Bytes → Bytes
 comma_list [] = codes "-"
 comma_list (w ∷ ws) = w ++ each_after_comma ws
 
--- number, name, kind and definition
+-- Number, name, kind and definition.
 abbrev pub vertex_head : ℕ → Vertex → Bytes
 vertex_head v x = decimal v ++ (codes " " ++ (x.name ++ (codes " " ++ (kind_word x.kind ++ (codes ":" ++ x.def)))))
 
--- guards, inputs, lengths of outputs
+-- Guards, inputs, lengths of outputs.
 abbrev pub vertex_lists : Vertex → Bytes
 vertex_lists x =
     codes " " ++ (comma_list (map guard_text x.guards) ++
     (codes " " ++ (comma_list (map source_text x.ins) ++
     (codes " " ++ comma_list (map decimal x.outs)))))
 
--- the line of operation v
+-- The line of operation v.
 abbrev pub vertex_line : ℕ → Vertex → Bytes
 vertex_line v x = vertex_head v x ++ (vertex_lists x ++ codes "\n")
 
--- operations that are numbered from v on
+-- Operations that are numbered from v on.
 abbrev pub lines_from : ℕ → List Vertex → Bytes
 lines_from v [] = []
 lines_from v (x ∷ xs) = vertex_line v x ++ lines_from (suc v) xs

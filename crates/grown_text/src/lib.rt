@@ -1,5 +1,5 @@
 //! Texts that grow at their end: bytes and counts are appended, and after want of memory a text is
-//! as it was before the call. `act_text` and `flat_text` write their lines with it.
+//! as it was before the call. All crates that print lines write them with it.
 #![tactic(auto)]
 
 ghost use Rattle.std.specs.Prelude.{◌≡◌, ◌++◌, OnOk, OnErr};

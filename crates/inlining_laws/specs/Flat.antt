@@ -44,25 +44,25 @@ pub record Operation : Type 0 where
   pub outs : List ℕ
   pub task : Task
 
--- the cells of the stages of delays, by path and number
+-- The cells of the stages of delays, by path and number.
 abbrev pub Stages : Type 0
 Stages = Path → ℕ → Vector
 
--- what is kept at each path, stage by stage
+-- What is kept at each path, stage by stage.
 abbrev pub stages_of : State → Stages
 stages_of st q i = vector_at (st q) i
 
--- a level keeps nothing for operations: each stage has its cell beside it
+-- A level keeps nothing for operations: each stage has its cell beside it.
 abbrev pub no_state : State
 no_state q = []
 
--- the outputs of an active operation, by what its stage keeps
+-- The outputs of an active operation, by what its stage keeps.
 abbrev pub task_outputs : Task → List ℕ → Vector → Values → Values → Values
 task_outputs (runs k) outs kept row ins = kind_outputs k outs [] row no_state ins
 task_outputs (gets v) outs kept row ins = kept ∷ []
 task_outputs sets outs kept row ins = []
 
--- an operation as a node of a level, with these cells
+-- An operation as a node of a level, with these cells.
 abbrev pub node_of : Stages → Operation → Node
 node_of cells op = record {
   part = Numbered 0;
@@ -80,7 +80,7 @@ node_of cells op = record {
 abbrev pub flat_level : Stages → List Operation → List Node
 flat_level cells ops = map (node_of cells) ops
 
--- the value of a source in a reaction with this row of the sensors
+-- The value of a source in a reaction with this row of the sensors.
 abbrev pub flat_value : List Operation → Values → Stages → Source → Vector
 flat_value ops row cells = level_value (flat_level cells ops) row no_state []
 
@@ -90,11 +90,11 @@ same_path [] (p ∷ q) = false
 same_path (p ∷ q) [] = false
 same_path (p ∷ q) (x ∷ y) = same_part p x && same_path q y
 
--- the cell of an operation is that of stage i of the delay at this path
+-- The cell of an operation is that of stage i of the delay at this path.
 abbrev pub is_cell : Operation → Path → ℕ → Bool
 is_cell op q i = same_path op.path q && (op.stage == i)
 
--- for each stage what the first operation there of this sort tells, or else what stands there in `other`
+-- For each stage the value of the first operation of this sort there, or else what stands there in `other`.
 abbrev pub pick : (Task → Bool) → (Operation → Vector) → Stages → List Operation → Stages
 pick test value other [] q i = other q i
 pick test value other (op ∷ ops) q i =
@@ -105,11 +105,11 @@ is_set (runs k) = false
 is_set (gets v) = false
 is_set sets = true
 
--- what a set half leaves in its cell: the same where a guard does not hold
+-- What a set half leaves in its cell: the same where a guard does not hold.
 abbrev pub set_value : (Source → Vector) → Stages → Operation → Vector
 set_value look cells op = if all_hold look op.guards then vector_at (map look op.ins) 0 else cells op.path op.stage
 
--- the cells after a reaction with these values
+-- The cells after a reaction with these values.
 abbrev pub next_cells : (Source → Vector) → Stages → List Operation → Stages
 next_cells look cells ops = pick is_set (set_value look cells) cells ops
 
@@ -123,17 +123,17 @@ initial_value (gets v) = v
 initial_value (runs k) = []
 initial_value sets = []
 
--- the initial values of the stages
+-- The initial values of the stages.
 abbrev pub first_cells : List Operation → Stages
 first_cells ops = pick is_get (λ op. initial_value op.task) (stages_of no_state) ops
 
--- the cells after k reactions over these rows of the sensors
+-- The cells after k reactions over these rows of the sensors.
 abbrev pub flat_past : List Operation → List Values → ℕ → Stages
 flat_past ops rows zero = first_cells ops
 flat_past ops rows (suc k) =
     next_cells (flat_value ops (slice_index_or rows k []) (flat_past ops rows k)) (flat_past ops rows k) ops
 
--- what an actuator takes
+-- What an actuator takes.
 abbrev pub taken : (Source → Vector) → Operation → Task → Values
 taken look op (runs (actuator n)) = input_value look op.ins ∷ []
 taken look op _ = []
@@ -142,6 +142,6 @@ abbrev pub flat_taken : (Source → Vector) → List Operation → Values
 flat_taken look [] = []
 flat_taken look (op ∷ ops) = taken look op op.task ++ flat_taken look ops
 
--- what the actuators take in reaction k, in order
+-- What the actuators take in reaction k, in order.
 abbrev pub flat_act_row : List Operation → List Values → ℕ → Values
 flat_act_row ops rows k = flat_taken (flat_value ops (slice_index_or rows k []) (flat_past ops rows k)) ops

@@ -40,18 +40,18 @@ abbrev pub with_wiring : {A : Type 0} → Option Wiring → A → (Wiring → A)
 with_wiring None a f = a
 with_wiring (Some w) a f = f w
 
--- where a source of a level leads, from where its own inputs and the outputs of its vertices lead
+-- Where a source of a level leads, from where its own inputs and the outputs of its vertices lead.
 abbrev pub wire_source : List Source → (ℕ → ℕ → Source) → Source → Source
 wire_source own given (Own k) = slice_index_or own k nowhere
 wire_source own given (Of r p) = given r p
 
--- where output p of vertex r of a level leads, with this much fuel
+-- Where output p of vertex r of a level leads, with this much fuel.
 abbrev pub wire_out : List Wiring → List Source → ℕ → ℕ → ℕ → Source
 wire_out ws own zero r p = nowhere
 wire_out ws own (suc fuel) r p =
     with_wiring (slice_get ws r) nowhere (λ w. w.gives (map (wire_source own (wire_out ws own fuel)) w.asked) p)
 
--- a source of a level as a source of the flat list, with as much fuel as the level has vertices
+-- A source of a level as a source of the flat list, with as much fuel as the level has vertices.
 abbrev pub wire : List Wiring → List Source → Source → Source
 wire ws own = wire_source own (wire_out ws own (length ws))
 
@@ -65,7 +65,7 @@ abbrev mutual
   wiring first (vertex l us) =
       record { asked = asked_by l.kind l.ins; gives = gives_by first l.kind (λ c. wirings c us) }
 
-  -- the vertices of a level, whose first operation has the number `first`
+  -- The vertices of a level, whose first operation has the number `first`.
   pub wirings : ℕ → Vertices → List Wiring
   wirings first no_vertices = []
   wirings first (and_vertex u us) = wiring first u ∷ wirings (first + count u) us
@@ -73,7 +73,7 @@ abbrev mutual
 abbrev pub wire_guard : (Source → Source) → Guard → Guard
 wire_guard w g = record { source = w g.source; values = g.values; case = g.case }
 
--- an operation of a vertex, with these sources, where the sources of the guards of its level lead as w says
+-- An operation of a vertex, with these sources, where the sources of the guards of its level lead as w says.
 abbrev pub operation_of : (Source → Source) → Path → ℕ → Label → List Source → List ℕ → Task → Operation
 operation_of w path i l ins outs task = record {
   path = path;
@@ -117,10 +117,10 @@ abbrev mutual
   inlined_all w first at no_vertices = []
   inlined_all w first at (and_vertex u us) = inlined w first at u ++ inlined_all w (first + count u) at us
 
--- the operations of a level, from where its own inputs lead
+-- The operations of a level, from where its own inputs lead.
 abbrev pub inlined_level : List Source → ℕ → (Path → Path) → Vertices → List Operation
 inlined_level own first at us = inlined_all (wire (wirings first us) own) first at us
 
--- the flat list of an algorithm without repetitions and cases
+-- The flat list of an algorithm without repetitions and cases.
 abbrev pub operations : Vertex → List Operation
 operations (vertex l us) = inlined_level [] 0 (λ q. q) us

@@ -1,4 +1,4 @@
--- The flat meaning with cells by number: the cell of each stage of a delay is told by the number of its get half, and
+-- The flat meaning with cells by number: the cell of each stage of a delay has the number of its get half, and
 -- its set half is the next operation. No path is looked up.
 use Rattle.std.specs.Prelude.{
   ◌≡◌,
@@ -22,11 +22,11 @@ use Rattle.level_meaning.specs.declared.part.Part.TheVariants.{Numbered}
 use Rattle.level_meaning.specs.Level.{Vector, Values, Node, vector_at, all_hold, level_value}
 use Rattle.inlining_laws.specs.Flat.{Operation, task_outputs, no_state, is_get, initial_value, flat_value, flat_past}
 
--- what is kept, by the number of the get half
+-- What is kept, by the number of the get half.
 abbrev pub Cells : Type 0
 Cells = ℕ → Vector
 
--- an operation as a node of a level, with this cell
+-- An operation as a node of a level, with this cell.
 abbrev pub numbered_node : Vector → Operation → Node
 numbered_node kept op = record {
   part = Numbered 0;
@@ -41,7 +41,7 @@ numbered_node kept op = record {
   };
 }
 
--- operations that are numbered from v on
+-- Operations that are numbered from v on.
 abbrev pub numbered_level : Cells → ℕ → List Operation → List Node
 numbered_level cells v [] = []
 numbered_level cells v (op ∷ ops) = numbered_node (cells v) op ∷ numbered_level cells (suc v) ops
@@ -53,7 +53,7 @@ abbrev pub with_operation : {A : Type 0} → Option Operation → A → (Operati
 with_operation None a f = a
 with_operation (Some op) a f = f op
 
--- what a set half leaves in this cell
+-- What a set half leaves in this cell.
 abbrev pub numbered_set : (Source → Vector) → Vector → Operation → Vector
 numbered_set look kept op = if all_hold look op.guards then vector_at (map look op.ins) 0 else kept
 
@@ -63,7 +63,7 @@ numbered_next look cells ops v = with_operation (slice_get ops (suc v)) (cells v
 abbrev pub numbered_first : List Operation → Cells
 numbered_first ops v = with_operation (slice_get ops v) [] (λ op. initial_value op.task)
 
--- the cells after k reactions over these rows of the sensors
+-- The cells after k reactions over these rows of the sensors.
 abbrev pub numbered_past : List Operation → List Values → ℕ → Cells
 numbered_past ops rows zero = numbered_first ops
 numbered_past ops rows (suc k) =

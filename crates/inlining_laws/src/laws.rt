@@ -1,4 +1,5 @@
-//! Laws of inlining, each the contract of a function that does nothing.
+//! The laws of inlining, each the contract of a function that does nothing and is not called: the crates above
+//! take the lemmas in `proofs/`.
 ghost use Rattle.std.specs.Prelude.{◌≡◌, length};
 ghost use Rattle.algo_tree.specs.Tree.{Vertex};
 ghost use Rattle.algo_tree.specs.Valid.{IsTree};
@@ -16,7 +17,7 @@ pub fn inline_keeps()
         → length (operations main) ≡ count main }
 {}
 
-/// Its cells may be told by the numbers of get halves in place of paths.
+/// Its cells may be named by the numbers of get halves in place of paths.
 pub fn cells_by_number()
     ensures { (main : Vertex) → IsTree main → IsPlain main → SameCells (operations main) }
 {}

@@ -1,6 +1,7 @@
-//! The flat list of the operations of a tree without repetitions and cases (`Inlined.operations`), its
-//! meaning (`Flat`), and that this is the meaning of the tree. `flat_laws` makes of the list the product's
-//! flat graph.
+//! The flat list of the operations of a tree without repetitions and cases (`Inlined.operations`), its meaning
+//! (`Flat`), and the laws that this is the meaning of the tree.
+//!
+//! `flat_laws` makes of the list the flat graph.
 #![tactic(auto)]
 
 mod laws;

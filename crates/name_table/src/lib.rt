@@ -34,7 +34,7 @@ impl<'a> Names<'a> {
         }
     }
 
-    /// Adds a name at the end, unless it is there: the answer says whether it is new.
+    /// Adds a name at the end, unless it is there, and returns whether it is new.
     /// After want of memory the names are as before.
     pub fn add(&mut self, name: &'a [u8]) -> Result<bool, OutOfMemory>
         ensures new { IfOk result (λ r. r ≡ not (list_any (pointwise nat_eq name.now) self.old)) }

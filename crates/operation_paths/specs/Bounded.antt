@@ -5,7 +5,7 @@ use Rattle.level_meaning.specs.declared.part.Part.TheVariants.{Named, Numbered, 
 use Rattle.level_meaning.specs.Level.{Path}
 use Rattle.algo_tree.specs.Tree.{Kind, function, repeat, Label, Vertex, vertex, Vertices, no_vertices, and_vertex}
 
--- the number of a case or of a copy has 32 bits
+-- The number of a case or of a copy has 32 bits.
 abbrev pub IsPartBounded : Part → Type 0
 IsPartBounded (Named x) = Unit {0}
 IsPartBounded (Numbered n) = n < 2 ^ 32
@@ -15,15 +15,16 @@ abbrev pub IsPathBounded : Path → Type 0
 IsPathBounded [] = Unit {0}
 IsPathBounded (p ∷ q) = IsPartBounded p × IsPathBounded q
 
--- a function has 1 to 64 outputs; each copy of a repetition has a number of 32 bits
+-- A function has 1 to 64 outputs; each copy of a repetition has a number of 32 bits.
 abbrev pub IsKindBounded : Kind → List ℕ → Type 0
 IsKindBounded (function es) outs = (1 ≤ length outs) × (length outs ≤ 64)
 IsKindBounded (repeat n feeds gives) outs = n ≤ 2 ^ 32
 IsKindBounded _ outs = Unit {0}
 
-pub record IsLabelBounded (l : Label) : Type 0 where
-  pub part : IsPartBounded l.part
-  pub kind : IsKindBounded l.kind l.outs
+-- What is said of a vertex keeps these bounds.
+pub record IsLabelBounded (label : Label) : Type 0 where
+  pub part : IsPartBounded label.part
+  pub kind : IsKindBounded label.kind label.outs
 
 abbrev mutual
   pub IsBounded : Vertex → Type 0
@@ -33,6 +34,6 @@ abbrev mutual
   AllBounded no_vertices = Unit {0}
   AllBounded (and_vertex u us) = IsBounded u × AllBounded us
 
--- all inside the main graph
+-- All that is inside the main graph keeps these bounds.
 abbrev pub HasBounds : Vertex → Type 0
 HasBounds (vertex l us) = AllBounded us

@@ -10,7 +10,8 @@ use Rattle.algo_tree.specs.Well.{fork_names, join_names}
 use Rattle.operation_paths.specs.Texts.{path_text}
 use Rattle.operation_paths.specs.Bounded.{IsPathBounded}
 
--- One or more letters, digits and `_`, of which the first is no digit: a name of a text, or a longer one, as passes make them.
+-- One or more letters, digits and `_`, of which the first is no digit: a name of a text, or a longer one, as passes
+-- make them.
 abbrev pub is_word : List ℕ → Bool
 is_word x = begins_name x && list_all is_name_byte x
 
@@ -27,17 +28,17 @@ abbrev pub AreNames : List (List ℕ) → Type 0
 AreNames [] = Unit {0}
 AreNames (x ∷ xs) = IsTrue (is_word x) × AreNames xs
 
--- the outputs of a switch and the outer ports of fork and join lines, of which flattening makes vertices
+-- The outputs of a switch and the outer ports of fork and join lines, of which flattening makes vertices.
 abbrev pub IsKindNamed : Kind → Type 0
 IsKindNamed (switch values names) = AreNames names
 IsKindNamed (repeat n feeds gives) = AreNames (fork_names feeds) × AreNames (join_names gives)
 IsKindNamed _ = Unit {0}
 
--- a definition has a name of a text, since it is one of a text
-pub record IsLabelNamed (l : Label) : Type 0 where
-  pub part : IsPartNamed l.part
-  pub definition : IsTrue (is_name l.definition)
-  pub kind : IsKindNamed l.kind
+-- A definition has a name of a text, since it is one of a text.
+pub record IsLabelNamed (label : Label) : Type 0 where
+  pub part : IsPartNamed label.part
+  pub definition : IsTrue (is_name label.definition)
+  pub kind : IsKindNamed label.kind
 
 abbrev mutual
   pub IsNamed : Vertex → Type 0
@@ -47,10 +48,11 @@ abbrev mutual
   AllNamed no_vertices = Unit {0}
   AllNamed (and_vertex u us) = IsNamed u × AllNamed us
 
--- all inside the main graph
+-- All that is inside the main graph has such names.
 abbrev pub HasNames : Vertex → Type 0
 HasNames (vertex l us) = AllNamed us
 
 -- A path is told by its text. Numbers are bounded, since `decimal` writes 64 digits at most.
 abbrev pub TextsTellPaths : Type 0
-TextsTellPaths = (p q : Path) → IsPathNamed p → IsPathNamed q → IsPathBounded p → IsPathBounded q → path_text p ≡ path_text q → p ≡ q
+TextsTellPaths = (p q : Path) → IsPathNamed p → IsPathNamed q → IsPathBounded p → IsPathBounded q →
+    path_text p ≡ path_text q → p ≡ q

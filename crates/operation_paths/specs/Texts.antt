@@ -15,7 +15,7 @@ abbrev pub parts_text : Path → List ℕ
 parts_text [] = []
 parts_text (p ∷ q) = part_text p ++ parts_text q
 
--- a path begins with a reference of the main graph, before which nothing stands
+-- A path begins with a reference of the main graph, before which nothing stands.
 abbrev pub path_text : Path → List ℕ
 path_text (Named x ∷ q) = x ++ parts_text q
 path_text q = parts_text q

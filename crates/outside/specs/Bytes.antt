@@ -3,15 +3,15 @@ use Rattle.std.specs.Prelude.{◌≡◌, ℕ, List, [], ◌∷◌, ◌++◌, Opt
 use Rattle.std.specs.Str.{bytes_eq}
 use Rattle.syn_base.specs.Bytes.{Bytes}
 
--- the text begins so
+-- The text begins with these bytes.
 abbrev pub IsPrefix : Bytes → Bytes → Type 0
 IsPrefix front text = (rest : Bytes) × (text ≡ front ++ rest)
 
--- the pieces, one after another
+-- The pieces, one after another.
 abbrev pub joined : List Bytes → Bytes
 joined [] = []
 joined (piece ∷ pieces) = piece ++ joined pieces
 
--- the bytes of the first entry with this name
+-- The bytes of the first entry with this name.
 abbrev pub named : List (Bytes × Bytes) → Bytes → Option Bytes
 named entries name = option_map (λ entry. entry.1) (find (λ entry. bytes_eq entry.0 name) entries)

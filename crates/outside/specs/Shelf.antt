@@ -9,40 +9,40 @@ use Rattle.outside.specs.declared.file.File.{File}
 use Rattle.outside.specs.declared.file.ReadAnswer.{ReadAnswer}
 use Rattle.outside.specs.declared.file.ReadAnswer.TheVariants.{Fault, TooLong, OutOfMemory}
 
--- the bytes under each name, where the shelf tells them, and the faults of each file and name
+-- The bytes under each name, where the shelf tells them, and the faults of each file and name.
 pub record Held : Type 0 where
   pub told : Bytes → Option Bytes
   pub faults : File → Bytes → ℕ
 
--- what was told is told, and no count fell
+-- What was told is told, and no count fell.
 pub record Stays (old new : Held) : Type 0 where
   pub told : (name : Bytes) → new.told name ≡ old.told name
   pub faults : (file : File) (name : Bytes) → old.faults file name ≤ new.faults file name
 
--- only this file's counts may have changed
+-- Only this file's counts may have changed.
 abbrev pub OthersStay : File → Held → Held → Type 0
 OthersStay file old new = (other : File) (name : Bytes) → other ≢ file → new.faults other name ≡ old.faults other name
 
--- n bytes of a file, from a place on, were put into a buffer
+-- As many bytes of a file as n says, from a place on, were put into a buffer.
 pub record Took (file : Bytes) (at n : ℕ) (buffer : List ℕ) : Type 0 where
   pub bytes : take n buffer ≡ take n (drop at file)
   pub within : n ≤ length file - at
-  -- into a buffer with room none are put only at the end
+  -- Into a buffer with room no bytes are put only at the end of the file.
   pub ends : 0 < length buffer → n ≡ 0 → length file ≤ at
 
--- the most bytes that a file may have
+-- The most bytes that a file may have.
 abbrev pub file_bound : ℕ
 file_bound = bound_of limit.File
 
--- a file that is one byte or more too long
+-- A file that is one byte or more too long.
 abbrev pub file_limit : LimitFault
 file_limit = record { which = limit.File; count = file_bound + 1; bound = file_bound }
 
--- these bytes were read: they are at most the bound, and those that the shelf tells
+-- These bytes were read: they are at most the bound, and those that the shelf tells.
 abbrev pub IsRead : Bytes → Held → Bytes → Type 0
 IsRead name held bytes = (length bytes ≤ file_bound) × IfSome (held.told name) (λ told. bytes ≡ told)
 
--- the file was not read: its count rose, it is too long, or memory ran out
+-- The file was not read: its count rose, it is too long, or memory ran out.
 abbrev pub NotRead : File → Bytes → Held → Held → ReadAnswer → Type 0
 NotRead file name old new Fault = Rose (old.faults file name) (new.faults file name)
 NotRead file name old new (TooLong fault) =

@@ -1,4 +1,4 @@
-//! The kinds of files, and why a call on the outside gave nothing.
+//! The kinds of files, and why a call on the outside gave nothing: for shelves, sinks and whoever reads them.
 use syn_base::LimitFault;
 
 /// As which file of a command a name is read.

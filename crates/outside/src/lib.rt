@@ -1,5 +1,5 @@
-//! The outside world: files that are read piece by piece, sinks that bytes are put into, and a gate
-//! that is asked before a step; whole reads and writes over them.
+//! The outside world as the program sees it: files that are read piece by piece, sinks that bytes are put into,
+//! and a gate that is asked before a step; and whole reads and writes over them.
 //!
 //! `read_whole`, `write_whole` and `write_pieces` work over any shelf and sink, and the top call of the
 //! program is generic over them. Those in memory serve tests; `real_edge` has the real ones.
@@ -27,13 +27,14 @@ pub trait Shelf {
 
     ghost held: { Self → Held };
 
-    /// Puts bytes of the file `name` from place `at` into the buffer, and answers how many. Into a
+    /// Puts bytes of the file `name` from place `at` into the buffer, and returns how many. Into a
     /// buffer with room it puts none only where `at` is at or past the file's end. It fails only
     /// where the count of this file under this name rose, and raises the count of no other file.
     fn piece(&mut self, file: File, name: &str, at: u64, into: &mut [u8]) -> Result<usize, Failed>
         ensures stays { Stays (held self.old) (held self.new) }
         ensures others { OthersStay file (held self.old) (held self.new) }
-        ensures failed { OnErr result (Rose ((held self.old).faults file name.now) ((held self.new).faults file name.now)) }
+        ensures failed { OnErr result (Rose ((held self.old).faults file name.now)
+            ((held self.new).faults file name.now)) }
         ensures fits { IfOk result (λ n. n ≤ length into.old) }
         ensures took { IfOk result (λ n. IfSome ((held self.old).told name.now) (λ bytes. Took bytes at n into.new)) };
 }
@@ -45,7 +46,7 @@ pub trait Sink {
 
     ghost sunk: { Self → Sunk };
 
-    /// Appends the first bytes of the piece, and answers how many: at least one where the piece has
+    /// Appends the first bytes of the piece, and returns how many: at least one where the piece has
     /// any. It fails only where the count rose, and nothing was appended then.
     fn put(&mut self, bytes: &[u8]) -> Result<usize, Failed>
         ensures fits { IfOk result (λ n. n ≤ length bytes.now) }
@@ -59,13 +60,14 @@ pub trait Sink {
 /// What is asked once before the first try of step `n` of sequence `seq`, by the thread that drives
 /// the sequence. It promises nothing, and may wait.
 pub trait Gate: Sync {
+    /// Returns when step `n` of sequence `seq` may be tried.
     fn pass(&self, seq: u32, n: u64);
 }
 
 /// The most bytes that one call on a shelf is asked for.
 const PIECE: usize = 4096;
 
-/// The most bytes that a file may have.
+/// The most bytes that a file may have: the bound of `LimitKind::File`.
 const FILE_BOUND: usize = 16_777_216;
 
 /// All bytes of a file. It fails only where a call on the shelf failed, and says TooLong exactly

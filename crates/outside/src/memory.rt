@@ -1,4 +1,4 @@
-//! Shelves and sinks in memory, and a gate that does nothing.
+//! Shelves and sinks in memory, and a gate that does nothing: for tests, and for calls that are sure to succeed.
 
 ghost use Rattle.std.specs.Prelude.{◌≡◌, ◌≤◌, ◌<◌, ◌-◌, [], length, min, take, replicate, option_map, MatchOption, IfOk, IfSome, IsErr, OnErr, is_ok, if◌then◌else◌, not};
 ghost use Rattle.outside.specs.Bytes.{named};
@@ -56,7 +56,7 @@ fn file_at<'a>(files: &'a [(Items<u8>, Items<u8>)], name: &[u8]) -> Option<&'a [
     None
 }
 
-/// Copies what fits of the bytes from a place on.
+/// Copies what fits of the bytes from a place on, and returns how many bytes that is.
 fn copy_piece(bytes: &[u8], at: u64, into: &mut [u8]) -> usize
     ensures count { result ≡ min (length into.old) (length bytes.now - at) }
     ensures took { Took bytes.now at result into.new }
@@ -118,7 +118,8 @@ impl Shelf for ShelfSure {
         ensures stays { Stays (sure_held self.old) (sure_held self.new) }
         ensures others { OthersStay _file (sure_held self.old) (sure_held self.new) }
         ensures fits { IfOk result (λ n. n ≤ length into.old) }
-        ensures took { IfOk result (λ n. IfSome ((sure_held self.old).told name.now) (λ bytes. Took bytes at n into.new)) }
+        ensures took { IfOk result (λ n. IfSome ((sure_held self.old).told name.now)
+            (λ bytes. Took bytes at n into.new)) }
 
         // It never fails, and stays as it is.
         ensures count { result ≡ Ok (min (length into.old) (length (sure_bytes self.old name.now) - at)) }

@@ -1,5 +1,13 @@
--- What is said of a vertex, where its kind alone is changed.
+-- Labels of vertices of which the kind alone is changed.
 use Rattle.algo_tree.specs.Tree.{Label, Kind}
 
 abbrev pub with_kind : Label → Kind → Label
-with_kind l k = record { part = l.part; definition = l.definition; ins = l.ins; guards = l.guards; outs = l.outs; names = l.names; kind = k }
+with_kind l k = record {
+  part = l.part;
+  definition = l.definition;
+  ins = l.ins;
+  guards = l.guards;
+  outs = l.outs;
+  names = l.names;
+  kind = k;
+}

@@ -4,8 +4,8 @@ use Rattle.level_meaning.specs.Level.{Values, Path}
 use Rattle.algo_tree.specs.Tree.{Vertex}
 use Rattle.algo_tree.specs.Meaning.{past, act_row}
 
--- Over any rows of the sensors: in each reaction the actuators take the same values in the same order, and after any number
--- of reactions the same values are kept at each path, so each delay has its own cell as before.
+-- Over any rows of the sensors, in each reaction the actuators take the same values in the same order, and after any
+-- number of reactions the same values are kept at each path, so that each delay has its own cell as before.
 pub record KeepsMeaning (before after : Vertex) : Type 0 where
   pub taken : (rows : List Values) (k : ℕ) → act_row after rows k ≡ act_row before rows k
   pub kept : (rows : List Values) (k : ℕ) (q : Path) → past after rows k q ≡ past before rows k q

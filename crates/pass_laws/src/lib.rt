@@ -1,7 +1,8 @@
-//! What every pass of flattening keeps: the meaning of the algorithm, and the kept values path by path
-//! (`KeepsMeaning`). And what the laws of several passes share: trees without repetitions, vertices of
-//! which the kind alone is changed, lists and the parts of a level. `factorisation_laws`,
-//! `conditioning_laws` and `inlining_laws` stand on it.
+//! What every pass of flattening keeps: the meaning of the algorithm, and the kept values path by path.
+//!
+//! `KeepsMeaning` says both. Beside it stands what the laws of several passes share: trees without
+//! repetitions, vertices of which the kind alone is changed, lists and the parts of a level.
+//! `factorisation_laws`, `conditioning_laws` and `inlining_laws` rest on it.
 #![tactic(auto)]
 
 mod laws;

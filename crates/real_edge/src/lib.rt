@@ -1,6 +1,8 @@
-//! The real outside: files, standard output and standard error. None of them tells what it holds;
-//! each counts its faults. Nothing here is proved beyond that: what a file gives and what a terminal
-//! takes is trusted. `main` makes a `FileShelf`, a `StdSink` and an `ErrSink`, and hands them to the program.
+//! The real outside world: files, standard output and standard error. None of them tells what it holds,
+//! and each counts its faults.
+//!
+//! Nothing here is proved beyond that: what a file gives and what a terminal takes is trusted. `main` makes
+//! a `FileShelf`, a `StdSink` and an `ErrSink`, and hands them to the program.
 #![tactic(auto)]
 
 ghost use Rattle.std.specs.Prelude.{◌≡◌, ◌≤◌, length, replicate, IfSome};
@@ -10,7 +12,7 @@ use std::fs;
 use std::io::Write;
 use std::os::unix::fs::FileExt;
 
-/// Files where they lie. Each call opens the file that it names, so that its answer depends on no call
+/// Files where they lie. Each call opens the file that it names, so that what it reads depends on no call
 /// before it.
 #[derive(Drop)]
 pub struct FileShelf<'r> {
@@ -26,7 +28,7 @@ impl<'r> FileShelf<'r> {
         FileShelf { rt, faults: [0; 5] }
     }
 
-    /// Reads from a place of a file on.
+    /// Reads bytes of a file from a place on, and returns how many: none where the file cannot be opened or read.
     fn read(&self, name: &str, at: u64, into: &mut [u8]) -> Option<usize>
         ensures { IfSome result (λ n. n ≤ length into.old) }
     {

@@ -24,6 +24,8 @@ use Rattle.std.specs.Prelude.{
   slice_set,
 }
 use Rattle.std.specs.List.{list_all, range_with_len}
+use Rattle.syn_base.specs.Limits.{bound_of, most_operations}
+use Rattle.syn_base.specs.declared.limits.LimitKind.TheVariants.{Media, Operators}
 use Rattle.flat_graph.specs.declared.vertex.Kind.{Kind}
 use Rattle.flat_graph.specs.declared.vertex.Kind.TheVariants.{Set}
 use Rattle.flat_graph.specs.Graph.{with_vertex, len_of}
@@ -37,25 +39,25 @@ use Rattle.schedule.specs.Acts.{Act, carry, run}
 use Rattle.schedule.specs.Valid.{is_carried, lasts}
 
 -- the durations are those of the operations and the operators, of which there are few
-pub record IsSetting (s : Setting) : Type 0 where
-  pub rows : length s.durations.now.rows ≡ length s.vertices.now
-  pub columns : s.durations.now.operators ≡ s.operators
-  pub operations : length s.vertices.now ≤ 2048
-  pub operators : s.operators ≤ 16
-  pub media : length s.media.now ≤ 16
+pub record IsSetting (setting : Setting) : Type 0 where
+  pub rows : length setting.durations.now.rows ≡ length setting.vertices.now
+  pub columns : setting.durations.now.operators ≡ setting.operators
+  pub operations : length setting.vertices.now ≤ most_operations
+  pub operators : setting.operators ≤ bound_of Operators
+  pub media : length setting.media.now ≤ bound_of Media
 
 -- the tables have their sizes
-pub record HasPlaces (l : Lines) : Type 0 where
-  pub places : length l.places ≡ 2048
-  pub busy : length l.busy ≡ 16
-  pub ends : length l.ends ≡ 16
+pub record HasPlaces (lines : Lines) : Type 0 where
+  pub places : length lines.places ≡ most_operations
+  pub busy : length lines.busy ≡ bound_of Operators
+  pub ends : length lines.ends ≡ bound_of Media
 
 -- nothing was done so far
-pub record IsStart (l : Lines) : Type 0 where
-  pub sizes : HasPlaces l
-  pub places : (v : ℕ) → slice_index_or l.places v None ≡ None
-  pub busy : (o : ℕ) → slice_index_or l.busy o 0 ≡ 0
-  pub ends : (m : ℕ) → slice_index_or l.ends m 0 ≡ 0
+pub record IsStart (lines : Lines) : Type 0 where
+  pub sizes : HasPlaces lines
+  pub places : (v : ℕ) → slice_index_or lines.places v None ≡ None
+  pub busy : (o : ℕ) → slice_index_or lines.busy o 0 ≡ 0
+  pub ends : (m : ℕ) → slice_index_or lines.ends m 0 ≡ 0
 
 -- the get half runs on this operator, where the operation is the set half
 abbrev pub follows : Lines → ℕ → Kind → Option ℕ → Bool

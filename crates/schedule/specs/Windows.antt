@@ -32,11 +32,15 @@ use Rattle.flat_graph.specs.declared.vertex.Vertex.{Vertex}
 use Rattle.schedule.specs.declared.window.Window.{Window}
 use Rattle.schedule.specs.Acts.{Act, carry, run, start_of, end_of, Copy, copy, same_copy, read_by, made_by}
 
+-- how many places the table has: for 64 outputs of each of sixteen operations, on each of 16 operators
+abbrev pub window_places : ℕ
+window_places = 16384
+
 -- no copy is held, of outputs of the operations from this one on
-pub record IsEmpty (w : Window) (first : ℕ) : Type 0 where
-  pub from : w.first ≡ first
-  pub size : length w.held ≡ 16384
-  pub none : (i : ℕ) → slice_index_or w.held i None ≡ None
+pub record IsEmpty (window : Window) (first : ℕ) : Type 0 where
+  pub from : window.first ≡ first
+  pub size : length window.held ≡ window_places
+  pub none : (i : ℕ) → slice_index_or window.held i None ≡ None
 
 -- the table has a place for the copy
 abbrev pub covers : ℕ → Copy → Bool

@@ -2,7 +2,8 @@
 //! `is_valid` checks them first.
 ghost use Rattle.std.specs.Prelude.{◌≡◌, ℕ, ◌<◌, ◌≤◌, ◌==◌, ◌&&◌, ◌+◌, ◌++◌, ◌∷◌, List, None, Some, IsTrue, length, map, slice_index_or, slice_set, is_some};
 ghost use Rattle.std.specs.List.{list_all, range_with_len};
-ghost use Rattle.syn_base.specs.Limits.{most_operations};
+ghost use Rattle.syn_base.specs.Limits.{bound_of, most_operations};
+ghost use Rattle.syn_base.specs.declared.limits.LimitKind.TheVariants.{Media, Operators};
 ghost use Rattle.flat_graph.specs.Valid.{names};
 ghost use Rattle.archi_graph.specs.Archi.{stands_at};
 ghost use Rattle.schedule.specs.Acts.{Act, acts_of, carry, run};
@@ -14,13 +15,18 @@ use crate::setting::Setting;
 use archi_graph::Medium;
 use flat_graph::{Kind, Source, Vertex, len_of};
 
+/// The operator of each operation that is placed, by number.
+type Places = [Option<u32>; 2048];
+/// A date for each operator, or for each medium.
+type Dates = [u64; 16];
+
 /// What the acts so far have left: the operator of each operation that is placed, and the last ends of
 /// operators and media.
 #[derive(Drop)]
 pub(crate) struct Lines {
-    places: [Option<u32>; 2048],
-    busy: [u64; 16],
-    ends: [u64; 16],
+    places: Places,
+    busy: Dates,
+    ends: Dates,
 }
 
 impl Lines {
@@ -115,9 +121,9 @@ impl Lines {
     /// Whether the transfer carries a value over its medium in its time, when the medium is free.
     fn may_carry(&self, setting: &Setting, transfer: Transfer) -> bool
         requires sizes { HasPlaces self.now }
-        requires few { length setting.now.media.now ≤ 16 }
+        requires few { length setting.now.media.now ≤ bound_of Media }
         ensures may { result ≡ may_carry setting.now self.now transfer }
-        ensures medium { IsTrue result → transfer.medium < 16 }
+        ensures medium { IsTrue result → transfer.medium < bound_of Media }
     {
         let len = len_of(setting.vertices, transfer.source);
         if len < 1 {
@@ -137,7 +143,7 @@ impl Lines {
         requires sizes { HasPlaces self.now }
         ensures may { result ≡ may_run setting.now self.now decision.now }
         ensures places { IsTrue result →
-            (decision.now.op < most_operations) × (decision.now.operator < 16) }
+            (decision.now.op < most_operations) × (decision.now.operator < bound_of Operators) }
     {
         let op = decision.op as usize;
         if op >= setting.vertices.len() {
@@ -155,7 +161,7 @@ impl Lines {
         requires sizes { HasPlaces self.now }
         requires operation { decision.now.op < length setting.now.vertices.now }
         ensures may { result ≡ runs_in_time setting.now self.now decision.now }
-        ensures operator { IsTrue result → decision.now.operator < 16 }
+        ensures operator { IsTrue result → decision.now.operator < bound_of Operators }
     {
         let operator = decision.operator as usize;
         if operator >= setting.operators {
@@ -218,16 +224,16 @@ impl Lines {
 /// A table in which no operation is placed. It stands in a function of its own, whose clause says
 /// what each place has.
 #[tactic(auto, using(crate::proofs::Starts::no_entry))]
-fn no_places() -> [Option<u32>; 2048]
-    ensures size { length result ≡ 2048 }
+fn no_places() -> Places
+    ensures size { length result ≡ most_operations }
     ensures none { (v : ℕ) → slice_index_or result v None ≡ None }
 {
     [None; 2048]
 }
 
 /// A table in which nothing has ended.
-fn no_dates() -> [u64; 16]
-    ensures size { length result ≡ 16 }
+fn no_dates() -> Dates
+    ensures size { length result ≡ bound_of Operators }
     ensures none { (o : ℕ) → slice_index_or result o 0 ≡ 0 }
 {
     [0; 16]
