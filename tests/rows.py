@@ -1,8 +1,9 @@
 #!/usr/bin/env python3
-"""Holds the transcript of `crates/worked_rows` against plain readers that were written from docs/MANUAL.md by themselves
-(`plain/`): each call of `check`, `sim`, `exec` and `dates` that they can answer has to be answered so in the transcript, and
-each line of a sweep over spoilt texts has to have their counts and their digest. It runs no program. Prints how many calls
-agree, and each one that does not; ends with status 1 where there is one.
+"""Holds the transcript of `crates/worked_rows` against plain readers that were written from docs/MANUAL.md by
+themselves (`plain/`): each call of `check`, `sim`, `exec` and `dates` that they can answer has to be answered
+so in the transcript, and each line of a sweep over spoilt texts has to have their counts and their digest. It
+runs no program. Prints how many calls agree, and each one that does not; ends with status 1 where there is
+one.
 
     tests/rows.py            all rows
     tests/rows.py sweeps     prints what the transcript has to have of each sweep over spoilt texts"""
@@ -14,19 +15,22 @@ from plain.dates import Decision
 from plain.script import Script
 
 FOLDER = os.path.join(os.path.dirname(os.path.dirname(os.path.abspath(__file__))), "crates", "worked_rows")
+PLACED = [("plain", "across"), ("plain", "row.across"), ("functions", "bus")]
 WORDS = {"check": (2, 3), "sim": (3,), "exec": (5,), "dates": (5,)}
 BYTES = [1, 10, ord("2"), ord("w"), ord("#")]
 PRIME, FIRST, WHOLE = 1_099_511_628_211, 14_695_981_039_346_656_037, 2**64
 
 
 def placed(flat):
-    """The decisions on the speed controller, on row 5 and on a value that goes over two media, as the papers have them."""
+    """The decisions on the speed controller, on two functions at a bus and on a value that goes over two media, each
+    worked by hand."""
     names = flat.number
     if "d:get" in names and "w:y" in names:
         v, f = (names["v"], 0), (names["f"], 0)
         return [
-            Decision("v", "P"), Decision("d:get", "Q"), Decision("h", "Q", ("can", v, "P", "Q")), Decision("f", "Q"),
-            Decision("n", "Q"), Decision("d:set", "Q"), Decision("r", "P"), Decision("e", "P", ("can", f, "Q", "P")),
+            Decision("v", "P"), Decision("d:get", "Q"), Decision("h", "Q", ("can", v, "P", "Q")),
+            Decision("f", "Q"), Decision("n", "Q"), Decision("d:set", "Q"), Decision("r", "P"),
+            Decision("e", "P", ("can", f, "Q", "P")),
             *(Decision(name, "P") for name in ("k", "w.0", "w.1", "w.2", "w:y", "m")),
         ]
     s = (names["s"], 0)
@@ -67,7 +71,8 @@ def sweep(call):
 
     lines = ["cut:" + account(whole[:length] for length in range(len(whole) + 1))]
     for byte in BYTES:
-        lines.append(f"byte {byte}:" + account(whole[:at] + bytes([byte]) + whole[at + 1 :] for at in range(len(whole))))
+        texts = (whole[:at] + bytes([byte]) + whole[at + 1 :] for at in range(len(whole)))
+        lines.append(f"byte {byte}:" + account(texts))
     return "".join(lines).encode()
 
 
@@ -78,7 +83,7 @@ def is_plain(call):
         return False
     if any(word.startswith("-") for word in words):
         return False
-    return words[0] != "dates" or "spoilt" in call.said or words[1:3] == ["plain", "across"]
+    return words[0] != "dates" or "spoilt" in call.said or tuple(words[1:3]) in PLACED and words[4].isdigit()
 
 
 def main(words):

@@ -1,8 +1,8 @@
 #!/usr/bin/env python3
-"""Compares the built program with the plain readers of `plain/` over texts that are spoilt at random, of each of the five kinds: an
-algorithm by `check`, an architecture by `check`, macro-code by `exec`, a table by `sim`, durations by `dates`. The status, the line
-and the output have to be the same. Prints how often each cause came, and every text on which both differ; ends with status 1 where
-there is one.
+"""Compares the built program with the plain readers of `plain/` over texts that are spoilt at random, of each of
+the five kinds: an algorithm by `check`, an architecture by `check`, macro-code by `exec`, a table by `sim`,
+durations by `dates`. The status, the line and the output have to be the same. Prints how often each cause
+came, and every text on which both differ; ends with status 1 where there is one.
 
     tests/spoilt.py [COUNT [SEED]]     COUNT texts of each kind, 10,000 where nothing is said"""
 import collections
@@ -21,7 +21,7 @@ sys.path.insert(0, os.path.join(os.path.dirname(os.path.dirname(os.path.abspath(
 from program import built_program
 
 BYTES = b"(),;#_b.= \t\r\n0123456789-opaQj[]\"\x01\x7f\x00\xe9"
-NUMBERS = [b"-1", b"-0", b"0", b"00", b"1", b"2", b"3", b"16", b"17", b"64", b"65", b"9223372036854775807", b"9223372036854775808", b""]
+NUMBERS = b"-1 -0 0 00 1 2 3 16 17 64 65 9223372036854775807 9223372036854775808".split() + [b""]
 SPEED = "speed_controller/"
 # The words of a command, and the place in them of the file that is spoilt.
 KINDS = {
@@ -101,7 +101,8 @@ def compare(program, files, kind, count, rng):
         if wanted != got:
             wrong += 1
             print(f"WRONG: {called}: the program says {got}, the readers {wanted} of\n{spoilt!r}", flush=True)
-    print(f"{kind}: {wrong} of {count} differ; " + ", ".join(f"{number} x {it}" for it, number in causes.most_common()), flush=True)
+    told = ", ".join(f"{number} x {it}" for it, number in causes.most_common())
+    print(f"{kind}: {wrong} of {count} differ; {told}", flush=True)
     return wrong
 
 

@@ -1,13 +1,14 @@
 #!/usr/bin/env python3
-"""Makes each call of the built program that asks for memory fail in turn, for each command over the examples and over texts of the
-script of `crates/worked_rows`: the answer has to be the right one, or want of memory with nothing written; by `run` and `exec`, which
-write window by window, with the first windows of what is right. Then each start of a thread fails in turn, and then all of them: the
-answer has to be the right one, since the other threads drive all groups. Prints a line a command with the number of its calls; ends
-with status 1 where an answer is wrong, or where no start of a thread was seen.
+"""Makes each call of the built program that asks for memory fail in turn, for each command over the examples and
+over texts of the script of `crates/worked_rows`: the answer has to be the right one, or want of memory with
+nothing written; by `run` and `exec`, which write window by window, with the first windows of what is right.
+Then each start of a thread fails in turn, and then all of them: the answer has to be the right one, since the
+other threads drive all groups. Prints a line a command with the number of its calls; ends with status 1 where
+an answer is wrong, or where no start of a thread was seen.
 
-The program is the one that ./build makes. A small library in C, compiled with `cc` and loaded before the C library, lets the Nth
-call of a kind fail: `malloc`, `calloc`, `realloc`, `aligned_alloc`, `posix_memalign` and `mmap` ask for memory, `pthread_create`
-starts a thread. What the C library asks of itself is not seen."""
+The program is the one that ./build makes. A small library in C, compiled with `cc` and loaded before the C
+library, lets the Nth call of a kind fail: `malloc`, `calloc`, `realloc`, `aligned_alloc`, `posix_memalign`
+and `mmap` ask for memory, `pthread_create` starts a thread. What the C library asks of itself is not seen."""
 import os
 import subprocess
 import sys
@@ -89,7 +90,9 @@ void *mmap(void *p, size_t n, int protection, int flags, int file, off_t at) {
     NEXT("mmap");
     return fails(MEMORY) ? (errno = ENOMEM, MAP_FAILED) : next(p, n, protection, flags, file, at);
 }
-void *mmap64(void *p, size_t n, int protection, int flags, int file, off_t at) { return mmap(p, n, protection, flags, file, at); }
+void *mmap64(void *p, size_t n, int protection, int flags, int file, off_t at) {
+    return mmap(p, n, protection, flags, file, at);
+}
 int pthread_create(pthread_t *thread, const pthread_attr_t *how, void *(*body)(void *), void *given) {
     static int (*next)(pthread_t *, const pthread_attr_t *, void *(*)(void *), void *);
     NEXT("pthread_create");
@@ -114,10 +117,12 @@ void _exit(int status) {
     __builtin_unreachable();
 }
 """
-# An architecture and tables beside those of the script, and what is called of it: the words, after a call of the script that has
-# the files. The first texts have two operators and a delay over three windows, then come cases, a repetition, and a quoted table.
+# An architecture and tables beside those of the script, and what is called: the words, after a call of the script that
+# has the files. The first texts have two operators, then come cases with a delay, both over three windows too, a
+# repetition over three operators, and a quoted table.
 OWN = {
-    "cases.one": "architecture 1\noperator P\n" + "".join(f"duration {it} P 1\n" for it in ("Sense", "Act", "Same", "Neg", "Add")),
+    "cases.one": "architecture 1\noperator P\n" + "".join(
+        f"duration {it} P 1\n" for it in ("Sense", "Act", "Same", "Neg", "Add")),
     "quoted.two": 'k,s.0\r\n0,"5"\r\n1,-1\r\n',
     "windows": "k,s.0\n" + "".join(f"{k},{k}\n" for k in range(600)),
 }
@@ -127,8 +132,10 @@ CALLED = [
         "run functions bus table", "run functions bus windows --workers 3", "exec functions bus code table",
         "exec functions bus code windows --workers 1", "dates functions bus bus 3"]),
     ("syndex sim cases chosen", [
-        "check cases cases.one", "sim cases chosen", "flat cases", "run cases cases.one chosen", "run cases cases.one windows"]),
-    ("syndex run chain three quad", ["check chain three", "sim chain quad", "flat chain", "code chain three", "run chain three quad"]),
+        "check cases cases.one", "sim cases chosen", "flat cases", "run cases cases.one chosen",
+        "run cases cases.one windows"]),
+    ("syndex run chain three quad", [
+        "check chain three", "sim chain quad", "flat chain", "code chain three", "run chain three quad"]),
     ("syndex sim plain table", ["sim plain quoted.two", "sim plain quoted.one"]),
 ]
 
@@ -200,7 +207,7 @@ class Runs:
 
 
 def windows(words, output):
-    """What may stand where memory ran out: nothing, and by `run` and `exec` what ends with the macro-code or with a window."""
+    """What may stand where memory ran out: nothing, and by `run` and `exec` the macro-code and whole windows."""
     if words[:1] not in (["run"], ["exec"]):
         return [b""]
     code, empty, rest = output.rpartition(b"\n\n") if words[0] == "run" else (b"", b"", output)
@@ -219,8 +226,9 @@ def is_want(words, got, right):
 
 
 def shown(words):
-    return " ".join(os.path.basename(it) if it.startswith("/tmp") else os.path.relpath(it, f"{TOP}/examples") if "/" in it else it
-                    for it in words)
+    """The words, each file by its last part, or by its place in the examples."""
+    top = f"{TOP}/examples"
+    return " ".join(os.path.relpath(it, top) if it.startswith(top) else os.path.basename(it) for it in words)
 
 
 def tried(runs, words):

@@ -235,7 +235,7 @@ class Reader:
             for macro, *rest in it.before + it.loop:
                 if macro == "send_" and it.medium is not None:
                     wires[it.medium] = max(wires[it.medium], lengths[rest[0]])
-            steps += sum(self.steps(lengths, *instr) for instr in it.loop)
+            steps += sum(self.steps(lengths, *instr) for instr in it.loop) + self.takes(it)
         words = 2 * len(self.pairs) + len(self.media) + sum(row[3] * row[4] for row in self.buffers)
         words += sum(wires.values())
         if words > 65_536:
@@ -243,6 +243,29 @@ class Reader:
         if steps > 262_144:
             raise limit("steps", steps, 262_144)
         self.total = steps, sum(self.steps(lengths, *instr) for it in self.sequences for instr in it.before)
+
+    def takes(self, sequence):
+        """How many takes of its loop are two steps: those of pairs whose buffers have several places."""
+        places, pairs = {row[0]: row[4] for row in self.buffers}, []
+        ordered = []
+        for name in self.archi.operators:
+            here = [it for it in self.sequences if it.operator == name]
+            ordered += sorted(here, key=lambda it: -1 if it.medium is None else self.media.index(it.medium))
+        for b in sorted(places):
+            pairs += [places[b] for it in ordered if b in self.touched(it, 1) and b not in self.touched(it, 2)]
+        taken = [rest[0] for macro, *rest in sequence.loop if macro in ("Suc0_", "Suc1_")]
+        return sum(q < len(pairs) and pairs[q] > 1 for q in taken)
+
+    @staticmethod
+    def touched(sequence, part):
+        """The buffers that a loop reads (part 1) or writes (part 2)."""
+        found = set()
+        for macro, *rest in sequence.loop:
+            if macro == "op":
+                found |= set(rest[part])
+            elif macro == ("send_", "recv_")[part - 1]:
+                found.add(rest[0])
+        return found
 
     @staticmethod
     def steps(lengths, macro, *rest):

@@ -1,4 +1,5 @@
-"""The script of `crates/worked_rows`: its files, and its calls with what is said of each. `src/script.rt` has the words."""
+"""The script of `crates/worked_rows`: its files, and its calls with what is said of each. `src/script.rt` has
+the words."""
 import os
 import re
 

@@ -12,8 +12,12 @@ use Rattle.accepted_laws.specs.Flat.{HasFlat}
 
 -- definitions that are accepted have a flat graph
 abbrev pub AcceptedHaveFlat : Type 0
-AcceptedHaveFlat = (text : Bytes) (defs : Defs) (main : Vertex) → definitions_of text ≡ Ok defs → elaboration_of defs ≡ Ok main → HasFlat main
+AcceptedHaveFlat =
+    (text : Bytes) (defs : Defs) (main : Vertex) → definitions_of text ≡ Ok defs → elaboration_of defs ≡ Ok main →
+    HasFlat main
 
 -- the rows of a table have the vectors of the algorithm's sensors
 abbrev pub TablesFit : Type 0
-TablesFit = (main : Vertex) (records : List (List (List ℕ))) (rows : Reactions) → rows_of main records ≡ Ok rows → (rows.lens ≡ sensor_lengths main) × AreCut rows
+TablesFit =
+    (main : Vertex) (records : List (List (List ℕ))) (rows : Reactions) → rows_of main records ≡ Ok rows →
+    (rows.lens ≡ sensor_lengths main) × AreCut rows

@@ -25,7 +25,8 @@ pub record HasFlat (main : Vertex) : Type 0 where
   pub tree : IsTree main
   pub valid : is_flat (flat_of main) ≡ true
   pub lengths : HasEndLengths main (flat_of main)
-  pub taken : (rows : List Values) (k : ℕ) → flat_act_row (flat_of main) rows (initial_cells (flat_of main).vertices) k ≡ act_row main rows k
+  pub taken : (rows : List Values) (k : ℕ) →
+      flat_act_row (flat_of main) rows (initial_cells (flat_of main).vertices) k ≡ act_row main rows k
 
 abbrev pub TreesHaveFlat : Type 0
 TreesHaveFlat = (main : Vertex) → IsTree main → HasNames main → HasBounds main → HasFlat main

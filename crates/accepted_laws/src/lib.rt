@@ -1,6 +1,7 @@
-//! What the texts that are accepted make, each law the contract of a function that does nothing: the
-//! definitions of an algorithm have a flat graph that is valid and means the same, and the rows of a sensor
-//! table have the vectors of the algorithm's sensors. Whoever says what an accepted command makes, over texts
+//! The laws of accepted texts: the definitions of an algorithm have a flat graph that is valid and means the same, and
+//! the rows of a sensor table have the vectors of the algorithm's sensors.
+//!
+//! Each law is the contract of a function that does nothing. Whoever says what an accepted command makes, over texts
 //! that are only told and not read, stands on them.
 #![tactic(auto)]
 

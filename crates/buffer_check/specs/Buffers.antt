@@ -1,5 +1,20 @@
 -- What makes a buffer right, as tests.
-use Rattle.std.specs.Prelude.{ℕ, Bool, true, false, ◌&&◌, ◌||◌, nat_eq, nat_le, nat_lt, length, Option, Some, None, slice_get}
+use Rattle.std.specs.Prelude.{
+  ℕ,
+  Bool,
+  true,
+  false,
+  ◌&&◌,
+  ◌||◌,
+  nat_eq,
+  nat_le,
+  nat_lt,
+  length,
+  Option,
+  Some,
+  None,
+  slice_get,
+}
 use Rattle.std.specs.List.{list_all}
 use Rattle.executive_program.specs.declared.program.Instr.{Instr}
 use Rattle.executive_program.specs.declared.program.Instr.TheVariants.{Call, Recv}
@@ -35,7 +50,9 @@ module _ (p : Program) where
 
   -- b is touched on its own operator alone
   abbrev pub is_near : ℕ → Bool
-  is_near b = list_all (λ q. list_all (λ x. implies (touches b x) (is_operator (slice_get p.buffers b) q.seq.operator)) q.turn) p.seqs
+  is_near b =
+      list_all (λ q.
+      list_all (λ x. implies (touches b x) (is_operator (slice_get p.buffers b) q.seq.operator)) q.turn) p.seqs
 
   -- its writer reads it after this place alone
   abbrev pub is_written_first : ℕ → ℕ → ℕ → Bool
@@ -46,7 +63,9 @@ module _ (p : Program) where
   has_places b = nat_le 1 (depth_of p b) && nat_le (depth_of p b) 4 && (nat_eq (depth_of p b) 1 || is_guarded p b)
 
   abbrev pub is_buffer_at : ℕ → ℕ → ℕ → ℕ → Bool
-  is_buffer_at b writer at port = writes_at b port (slice_get (turn p writer) at) && is_written_once b writer at port && is_near b && is_written_first b writer at && has_places b
+  is_buffer_at b writer at port =
+      writes_at b port (slice_get (turn p writer) at) && is_written_once b writer at port && is_near b &&
+      is_written_first b writer at && has_places b
 
   abbrev pub is_buffer : ℕ → Bool
   is_buffer b = is_buffer_at b (writing p b).writer (writing p b).at (writing p b).port

@@ -1,5 +1,23 @@
--- What makes the prologues right, as tests: each signals in ascending order, and each pair's empty semaphore as often as it is to be.
-use Rattle.std.specs.Prelude.{ℕ, Bool, true, false, ◌&&◌, cond, nat_eq, nat_le, nat_lt, List, [], ◌∷◌, length, Option, Some, None}
+-- What makes the prologues right, as tests: each signals in ascending order, and each pair's empty semaphore as often
+-- as it is to be.
+use Rattle.std.specs.Prelude.{
+  ℕ,
+  Bool,
+  true,
+  false,
+  ◌&&◌,
+  cond,
+  nat_eq,
+  nat_le,
+  nat_lt,
+  List,
+  [],
+  ◌∷◌,
+  length,
+  Option,
+  Some,
+  None,
+}
 use Rattle.std.specs.List.{count_by, list_all}
 use Rattle.executive_program.specs.declared.program.Instr.{Instr}
 use Rattle.executive_program.specs.declared.program.Instr.TheVariants.{Pre0}
@@ -9,7 +27,8 @@ use Rattle.executive_program.specs.Instructions.{Reader, depth_of, readers}
 use Rattle.executive_program.specs.Places.{signals_empty}
 use Rattle.program_walks.specs.Walks.{all_at, passed}
 
--- each instruction signals the empty semaphore of a pair below n, the first of one at least this, and each of one at least that before it
+-- each instruction signals the empty semaphore of a pair below n, the first of one at least this, and each of one at
+-- least that before it
 abbrev pub rises : ℕ → ℕ → List Instr → Bool
 rises n least [] = true
 rises n least (Pre0 q ∷ xs) = nat_le least q && nat_lt q n && rises n q xs

@@ -20,7 +20,8 @@ module _ (p : Program) where
 
   -- sequence s takes the empty semaphore of pair q at one place, writes at another, and signals the full one at a third
   abbrev pub is_written_within : ℕ → ℕ → ℕ → ℕ → ℕ → Bool
-  is_written_within q s at take signal = is_only p (takes_empty q) s take && is_only p (signals_full q) s signal && nat_lt take at && nat_lt at signal
+  is_written_within q s at take signal =
+      is_only p (takes_empty q) s take && is_only p (signals_full q) s signal && nat_lt take at && nat_lt at signal
 
   abbrev pub is_written_between : ℕ → ℕ → ℕ → Bool
   is_written_between q s at = is_written_within q s at (first_place (takes_empty q) s) (first_place (signals_full q) s)
@@ -31,19 +32,23 @@ module _ (p : Program) where
 
   -- sequence s takes the full semaphore of pair q at one place, reads, and signals the empty one at another
   abbrev pub is_read_within : ℕ → ℕ → ℕ → ℕ → ℕ → Bool
-  is_read_within q b s take signal = is_only p (takes_full q) s take && is_only p (signals_empty q) s signal && reads_between b s take signal
+  is_read_within q b s take signal =
+      is_only p (takes_full q) s take && is_only p (signals_empty q) s signal && reads_between b s take signal
 
   abbrev pub is_read_between : ℕ → ℕ → ℕ → Bool
   is_read_between q b s = is_read_within q b s (first_place (takes_full q) s) (first_place (signals_empty q) s)
 
   -- the full semaphore is signalled before it is taken
   abbrev pub is_full_first : List ℕ → ℕ → ℕ → ℕ → Bool
-  is_full_first order q writer reader = nat_lt (place_in order writer (first_place (signals_full q) writer)) (place_in order reader (first_place (takes_full q) reader))
+  is_full_first order q writer reader =
+      nat_lt (place_in order writer (first_place (signals_full q) writer))
+      (place_in order reader (first_place (takes_full q) reader))
 
   -- pair q guards a buffer that is written here for this reader
   abbrev pub guards_from : List ℕ → ℕ → Reader → ℕ → ℕ → Bool
   guards_from order q x writer at =
-      nat_lt q (length p.pairs) && has_operator (slice_get p.pairs q) (operator_of p x.buffer) && is_written_between q writer at && is_read_between q x.buffer x.sequence && is_full_first order q writer x.sequence
+      nat_lt q (length p.pairs) && has_operator (slice_get p.pairs q) (operator_of p x.buffer) &&
+      is_written_between q writer at && is_read_between q x.buffer x.sequence && is_full_first order q writer x.sequence
 
   abbrev pub guards : List ℕ → ℕ → Reader → Bool
   guards order q x = guards_from order q x (writer_of p x.buffer) (written_at p x.buffer)

@@ -1,4 +1,5 @@
-//! Buffers are written once, touched on their own operator alone, and deep only where a pair guards them.
+//! The check of buffers: each is written once, touched on its own operator alone, and deep only where a pair guards
+//! it.
 ghost use Rattle.std.specs.Prelude.{◌≡◌, ◌&&◌, nat_eq, nat_lt, slice_get};
 ghost use Rattle.std.specs.List.{list_all};
 ghost use Rattle.executive_program.specs.Instructions.{is_guarded, reads, turn};
@@ -34,6 +35,7 @@ fn is_written(list: &[Instr], buffer: usize, written: Written) -> bool
     }
 }
 
+/// Whether a buffer stands among the outputs of a call only as the output `port`, and only if the call stands here.
 fn outputs_only(outs: &[u32], buffer: usize, port: usize, here: bool) -> bool
     ensures { result ≡ all_at (λ k c. implies (nat_eq c buffer) (here && nat_eq k port)) 0 outs.now }
 {
@@ -59,6 +61,7 @@ fn writes_only(instr: &Instr, buffer: usize, port: usize, here: bool) -> bool
     }
 }
 
+/// Whether none of these instructions of a sequence writes a buffer, apart from the write that is known.
 fn all_write_only(list: &[Instr], sequence: usize, buffer: usize, written: Written) -> bool
     ensures { result ≡ all_at (λ a x. writes_only buffer written.port
         (nat_eq sequence written.writer && nat_eq a written.at) x) 0 list.now }
@@ -84,12 +87,14 @@ fn is_written_once(program: &Program, buffer: usize, written: Written) -> bool
     true
 }
 
+/// Whether an instruction writes or reads a buffer.
 fn touches(instr: &Instr, buffer: usize) -> bool
     ensures { result ≡ touches buffer instr.now }
 {
     writes(instr, buffer) || reads(instr, buffer)
 }
 
+/// Whether a buffer is there and belongs to an operator.
 fn is_on_operator(program: &Program, buffer: usize, operator: u32) -> bool
     ensures { result ≡ is_operator (slice_get program.now.buffers buffer) operator }
 {
@@ -99,12 +104,14 @@ fn is_on_operator(program: &Program, buffer: usize, operator: u32) -> bool
     }
 }
 
+/// Whether none of these instructions touches a buffer, or the buffer is near.
 fn all_near(list: &[Instr], buffer: usize, near: bool) -> bool
     ensures { result ≡ list_all (λ x. implies (touches buffer x) near) list.now }
 {
     list.iter().all(|instr| !touches(instr, buffer) || near)
 }
 
+/// Whether these instructions, of a sequence of an operator, touch a buffer only if it belongs to this operator.
 fn near_in(program: &Program, list: &[Instr], buffer: usize, operator: u32) -> bool
     ensures { result ≡ list_all (λ x. implies (touches buffer x)
         (is_operator (slice_get program.now.buffers buffer) operator)) list.now }
@@ -124,6 +131,7 @@ fn is_near(program: &Program, buffer: usize) -> bool
     ))
 }
 
+/// Whether these instructions read a buffer only after this place.
 fn all_read_after(list: &[Instr], buffer: usize, written_at: usize) -> bool
     ensures { result ≡ all_at (λ a x. implies (reads buffer x) (nat_lt written_at a)) 0 list.now }
 {
@@ -161,6 +169,7 @@ fn has_places(program: &Program, buffer: usize) -> bool
     1 <= depth && depth <= 4 && (depth == 1 || is_guarded(program, buffer))
 }
 
+/// Whether a buffer is right, where this is its write.
 fn is_right_at(program: &Program, buffer: usize, written: Written) -> bool
     ensures { result ≡ is_buffer_at program.now buffer written.writer written.at written.port }
 {

@@ -1,4 +1,4 @@
-//! What a well-formed program asks of its buffers, as exact checks.
+//! The checks with what they say of a well-formed program, which callers of the crate ask for.
 ghost use Rattle.std.specs.Prelude.{◌≡◌, ℕ, ◌<◌, Some, length, map, true};
 ghost use Rattle.executive_program.specs.Instructions.{prologue, readers};
 ghost use Rattle.executive_program.specs.Places.{opening_of, places};
@@ -13,7 +13,7 @@ use crate::opening::are_opened;
 use executive_program::Program;
 
 /// Whether each buffer is written once, touched on its own operator alone, written before it is read
-/// where one sequence does both, and has one place.
+/// where one sequence does both, and has one to four places, one where no pair guards it.
 pub fn buffers_are_right(program: &Program, order: &[u32]) -> bool
     ensures test { result ≡ are_buffers program.now }
     ensures sound { result ≡ true → (b : ℕ) → b < length program.now.buffers →

@@ -1,4 +1,4 @@
-//! Each pair of semaphores guards its buffer for its reader.
+//! The check of pairs of semaphores: each guards its buffer for its reader.
 ghost use Rattle.std.specs.Prelude.{◌≡◌, ◌&&◌, ◌≤◌, nat_lt, length, slice_get};
 ghost use Rattle.executive_program.specs.Instructions.{reads, readers_from};
 ghost use Rattle.executive_program.specs.WellFormed.{operator_of};
@@ -25,6 +25,8 @@ struct Span {
     signal: usize,
 }
 
+/// Whether a sequence takes the empty semaphore of a pair and signals its full one at these places alone, and writes
+/// between them.
 fn is_written_within(program: &Program, pair: usize, writing: Stand, span: Span) -> bool
     ensures { result ≡ is_written_within program.now pair writing.sequence writing.at span.take span.signal }
 {
@@ -56,6 +58,7 @@ fn first_place(program: &Program, sequence: usize, act: Act, pair: usize) -> usi
     first_act(turn_of(program, sequence), act, pair)
 }
 
+/// Whether a sequence writes between the two instructions that it has on a pair, each of which stands once.
 fn is_written_between(program: &Program, pair: usize, writing: Stand) -> bool
     ensures { result ≡ is_written_between program.now pair writing.sequence writing.at }
 {
@@ -64,6 +67,7 @@ fn is_written_between(program: &Program, pair: usize, writing: Stand) -> bool
     is_written_within(program, pair, writing, Span { take, signal })
 }
 
+/// Whether these instructions read a buffer only between two places.
 fn all_between(list: &[Instr], buffer: usize, after: usize, before: usize) -> bool
     ensures { result ≡ all_at (λ a x. implies (reads buffer x) (nat_lt after a && nat_lt a before)) 0 list.now }
 {
@@ -75,6 +79,7 @@ fn all_between(list: &[Instr], buffer: usize, after: usize, before: usize) -> bo
     true
 }
 
+/// Whether a sequence reads a buffer only between two places.
 fn reads_between(program: &Program, reading: Reading, span: Span) -> bool
     ensures { result ≡ reads_between program.now reading.buffer reading.sequence span.take span.signal }
 {
@@ -86,6 +91,8 @@ fn reads_between(program: &Program, reading: Reading, span: Span) -> bool
     )
 }
 
+/// Whether a sequence takes the full semaphore of a pair and signals its empty one at these places alone, and reads
+/// the buffer only between them.
 fn is_read_within(program: &Program, pair: usize, reading: Reading, span: Span) -> bool
     ensures { result ≡ is_read_within program.now pair reading.buffer reading.sequence span.take span.signal }
 {
@@ -109,6 +116,8 @@ fn is_read_within(program: &Program, pair: usize, reading: Reading, span: Span) 
     ) && reads_between(program, reading, span)
 }
 
+/// Whether a sequence reads its buffer only between the two instructions that it has on a pair, each of which stands
+/// once.
 fn is_read_between(program: &Program, pair: usize, reading: Reading) -> bool
     ensures { result ≡ is_read_between program.now pair reading.buffer reading.sequence }
 {
@@ -117,6 +126,7 @@ fn is_read_between(program: &Program, pair: usize, reading: Reading) -> bool
     is_read_within(program, pair, reading, Span { take, signal })
 }
 
+/// Whether the full semaphore of a pair is signalled before it is taken, in a serial order.
 fn is_full_first(
     program: &Program,
     order: &[u32],
@@ -131,6 +141,7 @@ fn is_full_first(
     place_in(order, writer, signal) < place_in(order, reader, take)
 }
 
+/// Whether a pair and a buffer are there and belong to the same operator.
 fn has_operator(program: &Program, pair: usize, buffer: usize) -> bool
     ensures { result ≡ has_operator (slice_get program.now.pairs pair) (operator_of program.now buffer) }
 {
@@ -143,6 +154,7 @@ fn has_operator(program: &Program, pair: usize, buffer: usize) -> bool
     }
 }
 
+/// Whether a pair guards the buffer of a reader, which is written there.
 fn guards_from(
     program: &Program,
     order: &[u32],
@@ -161,6 +173,7 @@ fn guards_from(
         && is_full_first(program, order, pair, writing.sequence, reading.sequence)
 }
 
+/// Whether a pair guards the buffer of a reader.
 fn guards(program: &Program, order: &[u32], pair: usize, reading: Reading) -> bool
     ensures { result ≡ guards program.now order.now pair
         (record { buffer = reading.buffer; sequence = reading.sequence }) }
@@ -170,6 +183,7 @@ fn guards(program: &Program, order: &[u32], pair: usize, reading: Reading) -> bo
     guards_from(program, order, pair, reading, Stand { sequence, at })
 }
 
+/// Whether the pairs from `first` on guard a buffer, one for each of its readers in order.
 fn guards_buffer(program: &Program, order: &[u32], buffer: usize, first: usize) -> bool
     requires { first ≤ length program.now.pairs }
     ensures { result ≡ all_at (guards program.now order.now) first (readers_from 0 program.now.seqs buffer) }

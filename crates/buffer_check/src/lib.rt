@@ -1,7 +1,9 @@
-//! Exact checks of the buffers of a program, each a part of what makes the program well formed by a serial order:
-//! each is written once and near, and as deep as it may be (`buffers_are_right`), a pair of semaphores guards it
-//! for each reader (`pairs_guard`), and the prologues signal once for each place (`prologues_open`). None takes
-//! memory. `order_check` asks them.
+//! Exact checks of the buffers of a program, of the pairs of semaphores that guard them, and of the prologues that
+//! open these, without memory.
+//!
+//! Each is a part of what makes the program well formed by a serial order: each buffer is written once and near, and
+//! as deep as it may be (`buffers_are_right`), a pair guards it for each reader (`pairs_guard`), and the prologues
+//! signal once for each place (`prologues_open`). `order_check` asks them.
 #![tactic(auto)]
 
 mod buffers;

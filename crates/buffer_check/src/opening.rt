@@ -1,4 +1,4 @@
-//! Each sequence has its prologue: the signals that let the writers of its buffers begin.
+//! The check of prologues: each signals so that the writers of its buffers begin.
 ghost use Rattle.std.specs.Prelude.{◌≡◌};
 ghost use Rattle.std.specs.List.{count_by, list_all};
 ghost use Rattle.executive_program.specs.Instructions.{readers, readers_from};
@@ -26,6 +26,7 @@ fn rises(list: &[Instr], bound: usize) -> bool
     true
 }
 
+/// How many of these instructions signal the empty semaphore of a pair.
 fn count_signals(list: &[Instr], pair: usize) -> usize
     ensures { result ≡ count_by (signals_empty pair) list.now }
 {
@@ -91,6 +92,7 @@ fn count_opened(program: &Program) -> Option<usize>
     Some(pair)
 }
 
+/// Whether each prologue signals empty semaphores alone, of this many pairs in ascending order.
 fn are_rising(program: &Program, pairs: usize) -> bool
     ensures { result ≡ list_all (λ q. rises pairs 0 q.prologue) program.now.seqs }
 {

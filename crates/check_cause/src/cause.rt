@@ -1,4 +1,4 @@
-//! Why a program is not well formed.
+//! The causes, in the order in which they are looked for.
 
 use syn_base::Items;
 

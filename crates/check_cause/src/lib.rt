@@ -1,5 +1,6 @@
-//! Why a program of the executive is refused, in words: the causes that `macro_check` tells and that the line of a
-//! command says. They stand below both, so that a line is written without the checks.
+//! The causes for which `macro_check` refuses a program.
+//!
+//! They stand apart from the checks, so that the line of a command that names a cause is written without them.
 #![tactic(auto)]
 
 mod cause;

@@ -1,4 +1,4 @@
--- What the check of a program tells: whether there is a serial order.
+-- The laws of the check of a program: whether there is a serial order.
 use Rattle.std.specs.Prelude.{◌≡◌, ◌↔◌, ℕ, IsTrue, List, [], length, Some, None, slice_get}
 use Rattle.flat_graph.specs.declared.vertex.Vertex.{Vertex}
 use Rattle.flat_graph.specs.Graph.{Graph}
@@ -9,15 +9,28 @@ use Rattle.executive_program.specs.declared.program.Program.{Program}
 use Rattle.executive_program.specs.WellFormed.{IsOrder, IsWellFormed}
 use Rattle.check_laws.specs.Items.{AreNamed, IsCalledOnce, AreTransferred, AreWritten, AreGuarded, AreOpened, HasItems}
 use Rattle.check_laws.specs.Run.{next, run, left_from, stuck, IsRun}
-use Rattle.check_laws.specs.Tests.{Cause, sequences_differ, calls_wrong, transfers_wrong, buffers_wrong, pairs_wrong, prologue_wrong, stuck_at, cause}
+use Rattle.check_laws.specs.Tests.{
+  Cause,
+  sequences_differ,
+  calls_wrong,
+  transfers_wrong,
+  buffers_wrong,
+  pairs_wrong,
+  prologue_wrong,
+  stuck_at,
+  cause,
+}
 
 -- a run by any choice in which every sequence comes to its end is a serial order
 abbrev pub RunsAreOrders : Type 0
-RunsAreOrders = (p : Program) (g : Graph) (seqs : List Seq) (operators media : ℕ) (order : List ℕ) → HasItems p g seqs operators media → IsRun p order → left_from p order 0 (length p.seqs) ≡ [] → IsOrder p g seqs media order
+RunsAreOrders = (p : Program) (g : Graph) (seqs : List Seq) (operators media : ℕ) (order : List ℕ) →
+    HasItems p g seqs operators media → IsRun p order → left_from p order 0 (length p.seqs) ≡ [] →
+    IsOrder p g seqs media order
 
 -- where every sequence comes to its end, the run that takes the lowest is a serial order
 abbrev pub RunIsOrder : Type 0
-RunIsOrder = (p : Program) (g : Graph) (seqs : List Seq) (operators media : ℕ) → HasItems p g seqs operators media → stuck p ≡ [] → IsOrder p g seqs media (run p)
+RunIsOrder = (p : Program) (g : Graph) (seqs : List Seq) (operators media : ℕ) →
+    HasItems p g seqs operators media → stuck p ≡ [] → IsOrder p g seqs media (run p)
 
 -- where there is a serial order, every sequence comes to its end
 abbrev pub OrderIsFound : Type 0
@@ -25,13 +38,16 @@ OrderIsFound = (p : Program) (g : Graph) (seqs : List Seq) (media : ℕ) → IsW
 
 -- where a run stops does not depend on which ready sequence it takes
 abbrev pub RunsStopAlike : Type 0
-RunsStopAlike = (p : Program) (order : List ℕ) → IsRun p order → next p order ≡ None → left_from p order 0 (length p.seqs) ≡ stuck p
+RunsStopAlike =
+    (p : Program) (order : List ℕ) → IsRun p order → next p order ≡ None → left_from p order 0 (length p.seqs) ≡ stuck p
 
 -- a well-formed program has all that is asked whatever the order
 abbrev pub WellFormedHasItems : Type 0
-WellFormedHasItems = (p : Program) (g : Graph) (a : Architecture) → IsTrue (is_archi a.operators a.media) → IsWellFormed p g (sequences a) (length a.media) → HasItems p g (sequences a) (length a.operators) (length a.media)
+WellFormedHasItems = (p : Program) (g : Graph) (a : Architecture) → IsTrue (is_archi a.operators a.media) →
+    IsWellFormed p g (sequences a) (length a.media) → HasItems p g (sequences a) (length a.operators) (length a.media)
 
--- What each cause says: what is asked before it is there, and it is not; or all is there, there is no serial order, and the run stops at these places.
+-- What each cause says: what is asked before it is there, and it is not; or all is there, there is no serial order,
+-- and the run stops at these places.
 module _ (p : Program) (g : Graph) (seqs : List Seq) (operators media : ℕ) where
   abbrev pub Named : Type 0
   Named = AreNamed p (length g.vertices) operators seqs
@@ -45,14 +61,17 @@ module _ (p : Program) (g : Graph) (seqs : List Seq) (operators media : ℕ) whe
   IsCause transfers_wrong = Named × Called × (AreTransferred p media → ⊥)
   IsCause buffers_wrong = Named × Called × AreTransferred p media × (AreWritten p g media → ⊥)
   IsCause pairs_wrong = Named × Called × AreTransferred p media × AreWritten p g media × (AreGuarded p → ⊥)
-  IsCause prologue_wrong = Named × Called × AreTransferred p media × AreWritten p g media × AreGuarded p × (AreOpened p → ⊥)
+  IsCause prologue_wrong =
+      Named × Called × AreTransferred p media × AreWritten p g media × AreGuarded p × (AreOpened p → ⊥)
   IsCause (stuck_at places) = HasItems p g seqs operators media × (IsWellFormed p g seqs media → ⊥) × (places ≡ stuck p)
 
--- the cause that is told is exact
+-- the first cause of a program is exact
 abbrev pub CauseIsExact : Type 0
-CauseIsExact = (p : Program) (g : Graph) (seqs : List Seq) (operators media : ℕ) (c : Cause) → cause p g.vertices seqs operators media ≡ Some c → IsCause p g seqs operators media c
+CauseIsExact = (p : Program) (g : Graph) (seqs : List Seq) (operators media : ℕ) (c : Cause) →
+    cause p g.vertices seqs operators media ≡ Some c → IsCause p g seqs operators media c
 
 -- there is no cause exactly where the program is well formed
 abbrev pub NoCauseIsWellFormed : Type 0
 NoCauseIsWellFormed = (p : Program) (g : Graph) (a : Architecture) → IsTrue (is_archi a.operators a.media)
-    → (cause p g.vertices (sequences a) (length a.operators) (length a.media) ≡ None) ↔ IsWellFormed p g (sequences a) (length a.media)
+    → (cause p g.vertices (sequences a) (length a.operators) (length a.media) ≡ None) ↔
+    IsWellFormed p g (sequences a) (length a.media)

@@ -1,5 +1,27 @@
 -- The run of one reaction that always takes the lowest sequence whose next instruction awaits nothing more.
-use Rattle.std.specs.Prelude.{◌≡◌, ◌<◌, ℕ, zero, suc, Bool, true, false, cond, nat_eq, nat_lt, List, [], ◌∷◌, ◌++◌, length, take, Option, Some, None, slice_get}
+use Rattle.std.specs.Prelude.{
+  ◌≡◌,
+  ◌<◌,
+  ℕ,
+  zero,
+  suc,
+  Bool,
+  true,
+  false,
+  cond,
+  nat_eq,
+  nat_lt,
+  List,
+  [],
+  ◌∷◌,
+  ◌++◌,
+  length,
+  take,
+  Option,
+  Some,
+  None,
+  slice_get,
+}
 use Rattle.std.specs.List.{count_by}
 use Rattle.interleavings.specs.Owners.{sum_below}
 use Rattle.executive_program.specs.declared.program.Instr.{Instr}
@@ -45,7 +67,8 @@ module _ (p : Program) where
   abbrev pub signal_of : ℕ → Option Place
   signal_of q = Some (record { sequence = (writing p (pair p q).buffer).writer; at = (pair p q).signal_full })
 
-  -- What instruction a of s, which is x, awaits of another sequence: a take of a full semaphore its signal; a receive the send; a wait the receive; a send the receive of the transfer before.
+  -- What instruction a of s, which is x, awaits of another sequence: a take of a full semaphore its signal; a receive
+  -- the send; a wait the receive; a send the receive of the transfer before.
   abbrev pub awaited : ℕ → ℕ → Instr → Option Place
   awaited s a (Suc1 q) = signal_of q
   awaited s a (Recv b o) = on_medium (medium p s) (λ m. send_of m (communications p s a))
@@ -55,7 +78,8 @@ module _ (p : Program) where
 
   -- in this order each instruction stands after what it awaits
   abbrev pub Keeps : List ℕ → Type 0
-  Keeps order = (s a : ℕ) (x : Instr) (y : Place) → Stands p s a x → awaited s a x ≡ Some y → place_in order y.sequence y.at < place_in order s a
+  Keeps order = (s a : ℕ) (x : Instr) (y : Place) → Stands p s a x → awaited s a x ≡ Some y →
+      place_in order y.sequence y.at < place_in order s a
 
   abbrev pub is_past : List ℕ → Option Place → Bool
   is_past order None = true
@@ -80,10 +104,14 @@ module _ (p : Program) where
   abbrev pub run : List ℕ
   run = run_from (sum_below (λ s. length (turn p s)) (length p.seqs)) []
 
-  -- of this many sequences from s on those that are not at their end after these entries, each with the place of its next instruction
+  -- of this many sequences from s on those that are not at their end after these entries, each with the place of its
+  -- next instruction
   abbrev pub left_from : List ℕ → ℕ → ℕ → List Place
   left_from order s zero = []
-  left_from order s (suc n) = cond (nat_lt (made order s) (length (turn p s))) (record { sequence = s; at = made order s } ∷ left_from order (suc s) n) (left_from order (suc s) n)
+  left_from order s (suc n) =
+      cond (nat_lt (made order s) (length (turn p s)))
+      (record { sequence = s; at = made order s } ∷ left_from order (suc s) n)
+      (left_from order (suc s) n)
 
   -- where the run stops
   abbrev pub stuck : List Place

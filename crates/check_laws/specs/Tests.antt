@@ -1,5 +1,22 @@
 -- What is asked of a program, as tests, and the first of them that fails.
-use Rattle.std.specs.Prelude.{ℕ, Bool, true, ◌&&◌, cond, nat_eq, nat_lt, List, [], ◌∷◌, length, Option, Some, None, is_none, slice_get}
+use Rattle.std.specs.Prelude.{
+  ℕ,
+  Bool,
+  true,
+  ◌&&◌,
+  cond,
+  nat_eq,
+  nat_lt,
+  List,
+  [],
+  ◌∷◌,
+  length,
+  Option,
+  Some,
+  None,
+  is_none,
+  slice_get,
+}
 use Rattle.std.specs.List.{list_all}
 use Rattle.flat_graph.specs.declared.vertex.Vertex.{Vertex}
 use Rattle.archi_graph.specs.declared.medium.Seq.{Seq}
@@ -51,7 +68,9 @@ module _ (p : Program) where
 
   abbrev pub are_named : ℕ → ℕ → List Seq → Bool
   are_named operations operators seqs =
-      are_sequences p.seqs seqs && list_all (λ (q : SeqCode). list_all (all_there operations operators) q.turn) p.seqs && list_all (λ (q : SeqCode). list_all (all_there operations operators) q.prologue) p.seqs
+      are_sequences p.seqs seqs &&
+      list_all (λ (q : SeqCode). list_all (all_there operations operators) q.turn) p.seqs &&
+      list_all (λ (q : SeqCode). list_all (all_there operations operators) q.prologue) p.seqs
 
   abbrev pub is_called_at : ℕ → Vertex → ℕ → ℕ → Bool
   is_called_at v x s a = is_only p (calls v) s a && is_none (medium p s) && is_before_twin p s a x.kind x.twin
@@ -64,7 +83,9 @@ module _ (p : Program) where
 
   -- communication t of another communicator of the medium waits for this transfer
   abbrev pub waits_between : ℕ → ℕ → ℕ → ℕ → ℕ → SeqCode → Bool
-  waits_between m t sender receiver s q = implies (is_other m sender receiver s q.seq.medium) (is_wait (operator p sender) (operator p receiver) true (slice_get q.turn (communication_at q.turn t)))
+  waits_between m t sender receiver s q =
+      implies (is_other m sender receiver s q.seq.medium)
+      (is_wait (operator p sender) (operator p receiver) true (slice_get q.turn (communication_at q.turn t)))
 
   abbrev pub is_moved_between : ℕ → ℕ → ℕ → ℕ → Bool
   is_moved_between m t s r = is_sent p m t s r && is_received p m t s r && all_at (waits_between m t s r) 0 p.seqs
@@ -80,7 +101,9 @@ module _ (p : Program) where
 
   -- its buffers carry what operation v takes and gives
   abbrev pub fits_at : List Vertex → ℕ → Vertex → ℕ → ℕ → Bool
-  fits_at vertices v x s a = takes p vertices (ins_in (slice_get (turn p s) a)) x.guards x.ins && gives p v (outs_in (slice_get (turn p s) a)) x.outs
+  fits_at vertices v x s a =
+      takes p vertices (ins_in (slice_get (turn p s) a)) x.guards x.ins &&
+      gives p v (outs_in (slice_get (turn p s) a)) x.outs
 
   abbrev pub fits : List Vertex → ℕ → Vertex → Bool
   fits vertices v x = fits_at vertices v x (caller_of p v) (called_at p v)
@@ -90,13 +113,15 @@ module _ (p : Program) where
 
   abbrev pub are_written : List Vertex → ℕ → Bool
   are_written vertices media =
-      are_buffers p && all_below (is_made p (length p.buffers)) (length p.buffers) && all_at (λ v x. fits vertices v x) 0 vertices
+      are_buffers p && all_below (is_made p (length p.buffers)) (length p.buffers) &&
+      all_at (λ v x. fits vertices v x) 0 vertices
       && all_below (λ m. all_below (λ t. has_same_len m t) (transfers p m)) media && are_kept p media
 
   -- pair q is on its buffer's operator, and stands round the write and the reads
   abbrev pub guards : ℕ → Reader → Bool
   guards q x =
-      nat_lt q (length p.pairs) && has_operator (slice_get p.pairs q) (operator_of p x.buffer) && is_written_between p q (writer_of p x.buffer) (written_at p x.buffer) && is_read_between p q x.buffer x.sequence
+      nat_lt q (length p.pairs) && has_operator (slice_get p.pairs q) (operator_of p x.buffer) &&
+      is_written_between p q (writer_of p x.buffer) (written_at p x.buffer) && is_read_between p q x.buffer x.sequence
 
   abbrev pub are_guarded : Bool
   are_guarded = nat_eq (length p.pairs) (length (readers p)) && all_at guards 0 (readers p)

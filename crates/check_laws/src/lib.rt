@@ -1,7 +1,8 @@
-//! When a program of any origin is well formed: what is asked of it whatever the order in which its sequences
-//! take turns, in the order in which it is refused for it, and the run that finds a serial order or shows
-//! where there is none. The functions do nothing: their contracts are the laws. `macro_check`, which checks
-//! programs, stands on them.
+//! The laws of checking: what is asked of a program whatever the order in which its sequences take turns, and why one
+//! run of it finds a serial order or shows that there is none.
+//!
+//! What is asked comes in the order in which a program is refused for it. The functions do nothing: their contracts
+//! are the laws. `macro_check`, which checks programs, stands on them.
 #![tactic(auto)]
 
 ghost use Rattle.check_laws.specs.Laws.{CauseIsExact, NoCauseIsWellFormed, OrderIsFound, RunIsOrder, RunsAreOrders, RunsStopAlike, WellFormedHasItems};
@@ -21,12 +22,12 @@ pub fn well_formed_has_items()
     ensures { WellFormedHasItems }
 {}
 
-/// The first cause that is told says what is missing, and that nothing before it is.
+/// The first cause of a program says what is missing, and that nothing before it is.
 pub fn cause_is_exact()
     ensures { CauseIsExact }
 {}
 
-/// No cause is told exactly of the well-formed programs.
+/// Exactly the well-formed programs have no cause.
 pub fn no_cause_is_well_formed()
     ensures { NoCauseIsWellFormed }
 {}

@@ -23,7 +23,9 @@ lacks check.OutOfMemory = Text code.OutOfMemory
 
 -- a text says a program, and this is the first that it lacks
 abbrev pub IsLacking : List ℕ → Graph → Architecture → CheckCause → Type 0
-IsLacking text g a c = (p : Program) × (program_in text g a ≡ Ok p) × (cause p g.vertices (sequences a) (length a.operators) (length a.media) ≡ Some (cause_of c))
+IsLacking text g a c =
+    (p : Program) × (program_in text g a ≡ Ok p) ×
+    (cause p g.vertices (sequences a) (length a.operators) (length a.media) ≡ Some (cause_of c))
 
 -- what a text gives: its program, which is well formed; its first refusal; or the first that its program lacks
 abbrev pub GivesChecked : List ℕ → Graph → Architecture → Result Program CheckedError → Type 0

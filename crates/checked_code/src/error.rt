@@ -1,4 +1,4 @@
-//! Why a text gives no program to execute.
+//! The error of a text that gives no program to execute.
 ghost use Rattle.std.specs.Prelude.{◌≡◌};
 ghost use Rattle.checked_code.specs.Checked.{lacks};
 ghost use Rattle.checked_code.specs.declared.error.CheckedError.TheVariants.{Text as InText};

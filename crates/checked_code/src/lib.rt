@@ -1,6 +1,7 @@
-//! Programs of any hand: `read_checked` reads a text of macro-code and checks its program. What it gives is well
-//! formed, so that all that is proved of well-formed programs holds of it; else it answers the first refusal of the
-//! text, or the first that its program lacks.
+//! Reads and checks macro-code of any origin: `read_checked` returns the program of a text if it is well formed.
+//!
+//! All that is proved of well-formed programs then holds of it. Else it returns the first refusal of the text, or the
+//! first that its program lacks.
 #![tactic(auto)]
 
 mod error;

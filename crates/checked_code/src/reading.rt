@@ -1,4 +1,4 @@
-//! A text is read, and then its program is checked.
+//! The reading of a text, and then the check of its program.
 ghost use Rattle.std.specs.Prelude.{◌≤◌, length};
 ghost use Rattle.syn_base.specs.Limits.{most_in_text};
 ghost use Rattle.text_lines.specs.Text.{lines_of};
@@ -28,6 +28,7 @@ pub fn read_checked(
     if !loops_are_short(&program) {
         return Err(CheckedError::Text(CodeError::OutOfMemory));
     }
+    // That there is an order makes the program well formed; whoever executes it needs none.
     let _order = macro_check(alloc, flat, archi, &program)?;
     Ok(program)
 }

@@ -29,17 +29,20 @@ pub record IsNamedArchi (a : Architecture) : Type 0 where
 -- The flat graph is valid, so that each operation has a name of its own; the limits hold, as they do for a text.
 abbrev pub WellFormedReadBack : Type 0
 WellFormedReadBack = (p : Program) (g : Graph) (a : Architecture)
-    → IsTrue (is_flat g) → IsNamedArchi a → IsWellFormed p g (sequences a) (length a.media) → program_limit p (length a.media) ≡ None
+    → IsTrue (is_flat g) → IsNamedArchi a → IsWellFormed p g (sequences a) (length a.media) →
+    program_limit p (length a.media) ≡ None
     → ReadsBack p g a
 
 -- the program of a schedule that is valid for some durations
 abbrev pub BuiltReadBack : Type 0
 BuiltReadBack = (g : Graph) (a : Architecture) (ticks : ℕ → ℕ → Option ℕ) (s : Schedule)
-    → IsTrue (is_flat g) → IsNamedArchi a → IsTrue (is_depth a.depth) → IsTrue (is_valid g a ticks s) → program_limit (program_of g a s) (length a.media) ≡ None
+    → IsTrue (is_flat g) → IsNamedArchi a → IsTrue (is_depth a.depth) → IsTrue (is_valid g a ticks s) →
+    program_limit (program_of g a s) (length a.media) ≡ None
     → ReadsBack (program_of g a s) g a
 
 -- on an architecture that a text describes
 abbrev pub DescribedReadBack : Type 0
 DescribedReadBack = (text : Bytes) (d : Described) (g : Graph) (ticks : ℕ → ℕ → Option ℕ) (s : Schedule)
-    → description_of text ≡ Ok d → IsTrue (is_flat g) → IsTrue (is_valid g d.archi ticks s) → program_limit (program_of g d.archi s) (length d.archi.media) ≡ None
+    → description_of text ≡ Ok d → IsTrue (is_flat g) → IsTrue (is_valid g d.archi ticks s) →
+    program_limit (program_of g d.archi s) (length d.archi.media) ≡ None
     → ReadsBack (program_of g d.archi s) g d.archi

@@ -1,5 +1,7 @@
-//! What was printed reads back as the same program: laws over the macro-code that `macro_code` prints and what
-//! `code_text` says that a text is. Each is the contract of a function that does nothing.
+//! The laws of reading back: what `macro_code` prints is read as the same program.
+//!
+//! They speak of what `code_text` says that a text gives, so that they hold of `code_reader`, which returns just that.
+//! Each is the contract of a function that does nothing.
 #![tactic(auto)]
 
 ghost use Rattle.code_laws.specs.ReadsBack.{BuiltReadBack, DescribedReadBack, WellFormedReadBack};

@@ -1,5 +1,34 @@
 -- The forms of a line of macro-code, and of its arguments.
-use Rattle.std.specs.Prelude.{ℕ, ◌+◌, ◌-◌, Bool, true, false, not, ◌&&◌, ◌||◌, ◌==◌, if◌then◌else◌, nat_le, List, [], ◌∷◌, take, drop, length, Option, Some, None, Result, Ok, Err, ℤ, pos, negsuc, codes}
+use Rattle.std.specs.Prelude.{
+  ℕ,
+  ◌+◌,
+  ◌-◌,
+  Bool,
+  true,
+  false,
+  not,
+  ◌&&◌,
+  ◌||◌,
+  ◌==◌,
+  if◌then◌else◌,
+  nat_le,
+  List,
+  [],
+  ◌∷◌,
+  take,
+  drop,
+  length,
+  Option,
+  Some,
+  None,
+  Result,
+  Ok,
+  Err,
+  ℤ,
+  pos,
+  negsuc,
+  codes,
+}
 use Rattle.std.specs.List.{list_any, position_or_len, slice_split}
 use Rattle.std.specs.Str.{bytes_eq}
 use Rattle.syn_base.specs.Bytes.{Bytes}
@@ -7,10 +36,30 @@ use Rattle.syn_base.specs.Name.{is_name}
 use Rattle.syn_base.specs.Integer.{integer_of}
 use Rattle.syn_base.specs.declared.integer.NumFault.{NumFault}
 use Rattle.macro_code.specs.declared.macros.Macro.{Macro}
-use Rattle.macro_code.specs.declared.macros.Macro.TheVariants.{Processor, Semaphores, Alloc, Thread, EndThread, Main, EndMain, SpawnThread, WaitEndThread, Loop, EndLoop, Suc0, Suc1, Pre0, Pre1, Send, Recv, Sync}
+use Rattle.macro_code.specs.declared.macros.Macro.TheVariants.{
+  Processor,
+  Semaphores,
+  Alloc,
+  Thread,
+  EndThread,
+  Main,
+  EndMain,
+  SpawnThread,
+  WaitEndThread,
+  Loop,
+  EndLoop,
+  Suc0,
+  Suc1,
+  Pre0,
+  Pre1,
+  Send,
+  Recv,
+  Sync,
+}
 use Rattle.macro_code.specs.Macros.{word_of}
 
--- A line: a name alone, a name with what stands between its parentheses, or an operation with what stands there before and after the semicolon.
+-- A line: a name alone, a name with what stands between its parentheses, or an operation with what stands there before
+-- and after the semicolon.
 pub data Form : Type 0 where
   bare : Bytes → Form
   listed : Bytes → Bytes → Form
@@ -57,7 +106,8 @@ may_name w = is_name w && not (bytes_eq w (codes "op"))
 
 -- a name and, after its opening parenthesis, what closes
 abbrev pub list_form : Bytes → Bytes → Option Form
-list_form name rest = if may_name name && is_closed rest && is_unmarked (inside rest) then Some (listed name (inside rest)) else None
+list_form name rest =
+    if may_name name && is_closed rest && is_unmarked (inside rest) then Some (listed name (inside rest)) else None
 
 abbrev pub name_form : Bytes → Option Form
 name_form w = if may_name w then Some (bare w) else None
@@ -73,7 +123,8 @@ lists_form operation lists =
     then Some (call operation (before is_semicolon lists) (after is_semicolon lists)) else None
 
 abbrev pub operation_form : Bytes → Bytes → Option Form
-operation_form operation rest = if has_bytes operation && is_unmarked operation && is_closed rest then lists_form operation (inside rest) else None
+operation_form operation rest =
+    if has_bytes operation && is_unmarked operation && is_closed rest then lists_form operation (inside rest) else None
 
 -- OPERATION(INS;OUTS)
 abbrev pub call_form : Bytes → Option Form
@@ -92,7 +143,8 @@ form_of (o ∷ w ∷ v ∷ ws) = None
 
 -- The macros, each once.
 abbrev pub macros : List Macro
-macros = Processor ∷ Semaphores ∷ Alloc ∷ Thread ∷ EndThread ∷ Main ∷ EndMain ∷ SpawnThread ∷ WaitEndThread ∷ Loop ∷ EndLoop ∷ Suc0 ∷ Suc1 ∷ Pre0 ∷ Pre1 ∷ Send ∷ Recv ∷ Sync ∷ []
+macros = Processor ∷ Semaphores ∷ Alloc ∷ Thread ∷ EndThread ∷ Main ∷ EndMain ∷ SpawnThread ∷ WaitEndThread ∷ Loop ∷
+    EndLoop ∷ Suc0 ∷ Suc1 ∷ Pre0 ∷ Pre1 ∷ Send ∷ Recv ∷ Sync ∷ []
 
 -- the first of these macros that has this name
 abbrev pub found_in : List Macro → Bytes → Option Macro

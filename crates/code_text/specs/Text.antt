@@ -1,5 +1,40 @@
 -- What a text of macro-code says: its program, or its first refusal. Lines are numbered from 1.
-use Rattle.std.specs.Prelude.{ℕ, ◌+◌, ◌-◌, ◌*◌, max, min, cond, Bool, true, false, not, ◌&&◌, ◌||◌, nat_eq, nat_le, nat_lt, List, [], ◌∷◌, ◌++◌, length, map, position, slice_get, slice_index_or, Option, Some, None, is_some, is_none, Result, Ok, Err, if◌then◌else◌}
+use Rattle.std.specs.Prelude.{
+  ℕ,
+  ◌+◌,
+  ◌-◌,
+  ◌*◌,
+  max,
+  min,
+  cond,
+  Bool,
+  true,
+  false,
+  not,
+  ◌&&◌,
+  ◌||◌,
+  nat_eq,
+  nat_le,
+  nat_lt,
+  List,
+  [],
+  ◌∷◌,
+  ◌++◌,
+  length,
+  map,
+  position,
+  slice_get,
+  slice_index_or,
+  Option,
+  Some,
+  None,
+  is_some,
+  is_none,
+  Result,
+  Ok,
+  Err,
+  if◌then◌else◌,
+}
 use Rattle.std.specs.List.{list_any, range_with_len, sum_by}
 use Rattle.std.specs.Str.{bytes_eq}
 use Rattle.interleavings.specs.Owners.{sum_below}
@@ -19,7 +54,26 @@ use Rattle.executive_program.specs.Instructions.{number_or}
 use Rattle.executive_program.specs.MicroSteps.{is_on, longest_sent}
 use Rattle.executive_program.specs.Steps.{all_turns}
 use Rattle.macro_code.specs.declared.macros.Macro.{Macro}
-use Rattle.macro_code.specs.declared.macros.Macro.TheVariants.{Processor, Semaphores, Alloc, Thread, EndThread, Main, EndMain, SpawnThread, WaitEndThread, Loop, EndLoop, Suc0, Suc1, Pre0, Pre1, Send, Recv, Sync}
+use Rattle.macro_code.specs.declared.macros.Macro.TheVariants.{
+  Processor,
+  Semaphores,
+  Alloc,
+  Thread,
+  EndThread,
+  Main,
+  EndMain,
+  SpawnThread,
+  WaitEndThread,
+  Loop,
+  EndLoop,
+  Suc0,
+  Suc1,
+  Pre0,
+  Pre1,
+  Send,
+  Recv,
+  Sync,
+}
 use Rattle.code_text.specs.declared.fault.CodeError.{CodeError}
 use Rattle.code_text.specs.declared.fault.CodeError.TheVariants.{Refused, Limit}
 use Rattle.code_text.specs.declared.fault.CodeCause.{CodeCause}
@@ -29,10 +83,26 @@ use Rattle.code_text.specs.declared.numbered.Size.{Size}
 use Rattle.code_text.specs.declared.stage.Stage.{Stage}
 use Rattle.code_text.specs.declared.stage.Stage.TheVariants.{Outside, Named, Declared, Threaded, Prologue, Turn, Ended}
 use Rattle.syn_base.specs.Bytes.{Bytes}
-use Rattle.code_text.specs.Forms.{Form, bare, listed, call, form_of, macro_of, arguments_of, number_in, buffer_in, each_in, Declaration, declaration_in}
+use Rattle.code_text.specs.Forms.{
+  Form,
+  bare,
+  listed,
+  call,
+  form_of,
+  macro_of,
+  arguments_of,
+  number_in,
+  buffer_in,
+  each_in,
+  Declaration,
+  declaration_in,
+}
 
--- What was read so far. Of the whole text: how far it got, the operator of the processor that began last, the pairs and the buffers that were declared with their operators and sizes, and the sequences of the processors that ended.
--- Of the processor that began last: the numbers of its pairs and buffers, the media of its threads, of those that its main part started and of those for whose end it waits, its threads that ended; and the sequence that began last, with its medium, prologue and loop.
+-- What was read so far. Of the whole text: how far it got, the operator of the processor that began last, the pairs
+-- and the buffers that were declared with their operators and sizes, and the sequences of the processors that ended.
+-- Of the processor that began last: the numbers of its pairs and buffers, the media of its threads, of those that its
+-- main part started and of those for whose end it waits, its threads that ended; and the sequence that began last,
+-- with its medium, prologue and loop.
 pub record Reading : Type 0 where
   pub stage : Stage
   pub operator : Option ℕ
@@ -226,11 +296,13 @@ operator_here r = number_or 0 r.operator
 
 -- the sequence that began last
 abbrev pub code_here : Reading → SeqCode
-code_here r = record { seq = record { operator = operator_here r; medium = r.medium }; prologue = r.prologue; turn = r.turn }
+code_here r =
+    record { seq = record { operator = operator_here r; medium = r.medium }; prologue = r.prologue; turn = r.turn }
 
 -- an instruction more, inside the loop or before it
 abbrev pub with_instr : Reading → Instr → Reading
-with_instr r x = if is_turn r.stage then record r { turn = r.turn ++ x ∷ [] } else record r { prologue = r.prologue ++ x ∷ [] }
+with_instr r x =
+    if is_turn r.stage then record r { turn = r.turn ++ x ∷ [] } else record r { prologue = r.prologue ++ x ∷ [] }
 
 abbrev pub numbered : ℕ → ℕ → Numbered
 numbered line number = record { number = number; line = line }
@@ -238,13 +310,20 @@ numbered line number = record { number = number; line = line }
 -- Lines of a known macro that may stand where they do.
 -- semaphores_(q,q)
 abbrev pub with_pairs : Reading → ℕ → List ℕ → Reading
-with_pairs r n qs = record r { stage = Declared; pairs = r.pairs ++ map (numbered n) qs; owners = r.owners ++ map (λ _. operator_here r) qs; pairs_here = qs }
+with_pairs r n qs =
+    record r {
+      stage = Declared;
+      pairs = r.pairs ++ map (numbered n) qs;
+      owners = r.owners ++ map (λ _. operator_here r) qs;
+      pairs_here = qs;
+    }
 
 abbrev pub ascending : ℕ → List ℕ → Result (List ℕ) CodeError
 ascending n qs = if ascends_from 0 qs then Ok qs else refused n BadArgument
 
 abbrev pub pairs_of : ℕ → Arguments → Result (List ℕ) CodeError
-pairs_of n arguments = and_then (argument n arguments) (λ ws. and_then (argument n (each_in number_in ws)) (λ qs. ascending n qs))
+pairs_of n arguments =
+    and_then (argument n arguments) (λ ws. and_then (argument n (each_in number_in ws)) (λ qs. ascending n qs))
 
 abbrev pub semaphores_line : Reading → ℕ → Arguments → Result Reading CodeError
 semaphores_line r n arguments = and_then (pairs_of n arguments) (λ qs. Ok (with_pairs r n qs))
@@ -269,7 +348,8 @@ alloc_line r n arguments = and_then (declaration_of n r.buffers_here arguments) 
 
 -- main_
 abbrev pub main_line : Reading → ℕ → Arguments → Result Reading CodeError
-main_line r n arguments = without n arguments (Ok (record r { stage = Prologue; medium = None; spawned = []; awaited = [] }))
+main_line r n arguments =
+    without n arguments (Ok (record r { stage = Prologue; medium = None; spawned = []; awaited = [] }))
 
 -- loop_, endloop_, endthread_ and endmain_
 abbrev pub loop_line : Reading → ℕ → Arguments → Result Reading CodeError
@@ -279,11 +359,19 @@ abbrev pub end_loop_line : Reading → ℕ → Arguments → Result Reading Code
 end_loop_line r n arguments = without n arguments (Ok (record r { stage = Ended }))
 
 abbrev pub end_thread_line : Reading → ℕ → Arguments → Result Reading CodeError
-end_thread_line r n arguments = without n arguments (Ok (record r { stage = Threaded; threads = r.threads ++ code_here r ∷ []; prologue = []; turn = [] }))
+end_thread_line r n arguments =
+    without n arguments
+    (Ok (record r { stage = Threaded; threads = r.threads ++ code_here r ∷ []; prologue = []; turn = [] }))
 
 -- of a processor the main part comes first, and then the threads
 abbrev pub end_main_line : Reading → ℕ → Arguments → Result Reading CodeError
-end_main_line r n arguments = without n arguments (Ok (record r { stage = Outside; seqs = r.seqs ++ (code_here r ∷ r.threads); threads = []; prologue = []; turn = [] }))
+end_main_line r n arguments = without n arguments (Ok (record r {
+  stage = Outside;
+  seqs = r.seqs ++ (code_here r ∷ r.threads);
+  threads = [];
+  prologue = [];
+  turn = [];
+}))
 
 -- Suc0_(q) and its like, of a pair that is declared here
 abbrev pub pair_of : ℕ → List ℕ → Arguments → Result ℕ CodeError
@@ -347,17 +435,20 @@ module _ (a : Architecture) where
   abbrev pub thread_line : Reading → ℕ → Arguments → Result Reading CodeError
   thread_line r n arguments = and_then (medium_of n r.media arguments) (λ j. Ok (at_thread r j.medium))
 
-  -- spawn_thread_(MEDIUM) and wait_endthread_(MEDIUM): a medium that is above the last one of these, and at which the processor has a thread
+  -- spawn_thread_(MEDIUM) and wait_endthread_(MEDIUM): a medium that is above the last one of these, and at which the
+  -- processor has a thread
   abbrev pub thread_of : ℕ → List ℕ → List ℕ → Arguments → Result ℕ CodeError
   thread_of n threads media arguments =
       and_then (medium_of n media arguments) (λ j.
       if is_among threads j.medium then Ok j.medium else refused n (UnknownName j.word))
 
   abbrev pub spawn_line : Reading → ℕ → Arguments → Result Reading CodeError
-  spawn_line r n arguments = and_then (thread_of n r.media r.spawned arguments) (λ m. Ok (record r { spawned = r.spawned ++ m ∷ [] }))
+  spawn_line r n arguments =
+      and_then (thread_of n r.media r.spawned arguments) (λ m. Ok (record r { spawned = r.spawned ++ m ∷ [] }))
 
   abbrev pub wait_line : Reading → ℕ → Arguments → Result Reading CodeError
-  wait_line r n arguments = and_then (thread_of n r.media r.awaited arguments) (λ m. Ok (record r { awaited = r.awaited ++ m ∷ [] }))
+  wait_line r n arguments =
+      and_then (thread_of n r.media r.awaited arguments) (λ m. Ok (record r { awaited = r.awaited ++ m ∷ [] }))
 
   -- send_(bN,TO) and recv_(bN,FROM)
   abbrev pub moved_of : ℕ → List ℕ → Arguments → Result Moved CodeError
@@ -369,7 +460,8 @@ module _ (a : Architecture) where
       and_then (operator_of n t.second) (λ o. Ok (record { buffer = b; operator = o }))))))
 
   abbrev pub transfer_line : Reading → ℕ → (ℕ → ℕ → Instr) → Arguments → Result Reading CodeError
-  transfer_line r n make arguments = and_then (moved_of n r.buffers_here arguments) (λ t. Ok (with_instr r (make t.buffer t.operator)))
+  transfer_line r n make arguments =
+      and_then (moved_of n r.buffers_here arguments) (λ t. Ok (with_instr r (make t.buffer t.operator)))
 
   -- sync_(FROM,TO)
   abbrev pub ends_of : ℕ → Arguments → Result Ends CodeError
@@ -403,7 +495,7 @@ module _ (a : Architecture) where
   macro_line r n arguments Recv = transfer_line r n (λ b o. instr.Recv b o) arguments
   macro_line r n arguments Sync = sync_line r n arguments
 
-  -- A macro that stands where it may not is told before its arguments, and an unknown one wherever it stands.
+  -- A macro that stands where it may not is refused before its arguments, and an unknown one wherever it stands.
   abbrev pub placed_line : Reading → ℕ → Arguments → Macro → Result Reading CodeError
   placed_line r n arguments m = if may_stand r m then macro_line r n arguments m else refused n BadLine
 
@@ -427,7 +519,8 @@ module _ (operations : List Bytes) where
 
   abbrev pub call_line : Reading → ℕ → Bytes → List Bytes → List Bytes → Result Reading CodeError
   call_line r n operation ins outs =
-      if takes_instr r then and_then (call_of n r.buffers_here operation ins outs) (λ x. Ok (with_instr r x)) else refused n BadLine
+      if takes_instr r then and_then (call_of n r.buffers_here operation ins outs) (λ x. Ok (with_instr r x))
+      else refused n BadLine
 
 -- the place at which a number is declared, where the first of these declarations has this place
 abbrev pub place_from : ℕ → ℕ → List Numbered → Option ℕ
@@ -441,7 +534,8 @@ place_of number ds = place_from number 0 ds
 abbrev pub first_wrong : ℕ → List Numbered → List Numbered → Option ℕ
 first_wrong count before [] = None
 first_wrong count before (d ∷ ds) =
-    if nat_le count d.number || is_some (place_of d.number before) then Some d.line else first_wrong count (before ++ d ∷ []) ds
+    if nat_le count d.number || is_some (place_of d.number before) then Some d.line
+    else first_wrong count (before ++ d ∷ []) ds
 
 abbrev pub misnumbered : List Numbered → Option ℕ
 misnumbered ds = first_wrong (length ds) [] ds
@@ -506,7 +600,8 @@ abbrev pub counted : ℕ → Reading → Option ℕ → Result Program CodeError
 counted media r (Some line) = refused line BadArgument
 counted media r None = limited media (program_of r)
 
--- The whole, of which all lines are numbered below n: the last processor has ended; buffers and pairs use the numbers from 0 on, each once; the limits hold.
+-- The whole, of which all lines are numbered below n: the last processor has ended; buffers and pairs use the numbers
+-- from 0 on, each once; the limits hold.
 abbrev pub whole : ℕ → Reading → ℕ → Result Program CodeError
 whole media r n = if is_outside r.stage then counted media r (first_misnumbered r) else refused n BadLine
 

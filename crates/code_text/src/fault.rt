@@ -1,4 +1,4 @@
-//! Why a text of macro-code is refused.
+//! The refusals of a text of macro-code.
 use std::alloc::{AllocError, AllocFailed};
 use std::fmt;
 use syn_base::{Items, LimitFault, OutOfMemory};

@@ -1,7 +1,8 @@
-//! What a text of macro-code says: its program, or its first refusal. The definitions stand in `specs/`: `Forms`
-//! has the forms of a line and of its arguments, `Text` what is read line by line and the program that it gives.
-//! Here are the refusals and the types that the definitions share with the code. `code_reader` reads such
-//! texts, and the commands take its refusals.
+//! What a text of macro-code says, as a definition: its program, or its first refusal.
+//!
+//! `specs/Forms` has the forms of a line and of its arguments, `specs/Text` what is read line by line and the program
+//! that it gives. In code there are the refusals and the types that definitions and readers share. `code_reader` reads
+//! such texts, and the commands print their refusals.
 #![tactic(auto)]
 
 mod fault;

@@ -1,4 +1,4 @@
-//! What lines declare.
+//! The numbers and sizes that lines declare.
 
 /// A buffer or a pair is declared with this number, at this line.
 #[derive(Clone, Copy, Drop)]

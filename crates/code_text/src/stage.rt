@@ -1,4 +1,4 @@
-//! How far the text of a processor has been read.
+//! The stage of reading a processor's text.
 
 /// What the line before the next one was.
 #[derive(Clone, Copy, Debug, PartialEq, Eq)]

@@ -27,7 +27,20 @@ use Rattle.check_cause.specs.declared.cause.Stop.{Stop}
 use Rattle.actual_defs.specs.declared.fault.ActualFault.{ActualFault}
 use Rattle.actual_defs.specs.declared.fault.ActualFault.TheVariants as e
 use Rattle.command_status.specs.declared.status.Status.{Status}
-use Rattle.command_status.specs.declared.status.Status.TheVariants.{Done, Usage, ReadFault, WriteFault, AlgoRefused, ArchiRefused, SensorsRefused, CodeRefused, CheckRefused, ActualRefused, Limit, OutOfMemory}
+use Rattle.command_status.specs.declared.status.Status.TheVariants.{
+  Done,
+  Usage,
+  ReadFault,
+  WriteFault,
+  AlgoRefused,
+  ArchiRefused,
+  SensorsRefused,
+  CodeRefused,
+  CheckRefused,
+  ActualRefused,
+  Limit,
+  OutOfMemory,
+}
 
 abbrev pub file_word : File → Bytes
 file_word file.Algorithm = codes "algorithm"
@@ -38,7 +51,8 @@ file_word file.Durations = codes "durations"
 
 abbrev pub limit_line : LimitFault → Bytes
 limit_line fault =
-    joined (codes "limit " ∷ word_of fault.which ∷ codes ": " ∷ decimal fault.count ∷ codes " above " ∷ decimal fault.bound ∷ codes "\n" ∷ [])
+    joined (codes "limit " ∷ word_of fault.which ∷ codes ": " ∷ decimal fault.count ∷ codes " above " ∷
+    decimal fault.bound ∷ codes "\n" ∷ [])
 
 -- where a text is refused, and for which cause
 abbrev pub head : Bytes → ℕ → Bytes → Bytes
@@ -102,7 +116,8 @@ algorithm_detail a.BadDelay = codes "\n"
 algorithm_detail (a.BadEvery w) = word_line w
 
 abbrev pub algorithm_line : AlgoFault → Bytes
-algorithm_line fault = head (codes "algorithm line ") fault.line (algorithm_word fault.cause) ++ algorithm_detail fault.cause
+algorithm_line fault =
+    head (codes "algorithm line ") fault.line (algorithm_word fault.cause) ++ algorithm_detail fault.cause
 
 abbrev pub architecture_word : ArchiCause → Bytes
 architecture_word (h.NotText place) = codes "H1 NotText"

@@ -19,7 +19,20 @@ use Rattle.actual_defs.specs.declared.fault.ActualError.TheVariants as durations
 use Rattle.actual_defs.specs.declared.fault.ActualFault.{ActualFault}
 use Rattle.syn_base.specs.declared.limits.LimitFault.{LimitFault}
 use Rattle.command_status.specs.declared.status.Status.{Status}
-use Rattle.command_status.specs.declared.status.Status.TheVariants.{Done, Usage, ReadFault, WriteFault, AlgoRefused, ArchiRefused, SensorsRefused, CodeRefused, CheckRefused, ActualRefused, Limit, OutOfMemory}
+use Rattle.command_status.specs.declared.status.Status.TheVariants.{
+  Done,
+  Usage,
+  ReadFault,
+  WriteFault,
+  AlgoRefused,
+  ArchiRefused,
+  SensorsRefused,
+  CodeRefused,
+  CheckRefused,
+  ActualRefused,
+  Limit,
+  OutOfMemory,
+}
 
 -- Why a command is refused. No definition says `wants_memory`: it is there because the types of errors have it.
 pub data Refusal : Type 0 where

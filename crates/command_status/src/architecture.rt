@@ -1,4 +1,4 @@
-//! The line of a refused architecture, and of a text of durations that is refused as one.
+//! The line of a refused architecture, and of a text of durations that is refused as one; `say` writes it.
 ghost use Rattle.std.specs.Prelude.{◌≡◌, is_ok};
 ghost use Rattle.outside.specs.Sink.{Wrote};
 ghost use Rattle.command_status.specs.Lines.{architecture_detail, architecture_word, described_line, two_names_line};
@@ -7,7 +7,7 @@ use crate::line::{write_head, write_number, write_word};
 use archi_defs::{ArchiCause, ArchiFault};
 use outside::{Failed, Sink, write_pieces, write_whole};
 
-/// Where an architecture's text is refused, for which cause, and what comes with it, after this text.
+/// Writes, after this text, where an architecture's text is refused, for which cause, and what comes with it.
 pub fn write_described<E: Sink>(err: &mut E, text: &[u8], fault: &ArchiFault) -> Result<(), Failed>
     ensures { Wrote (E.sunk err.old) (E.sunk err.new) (described_line text.now fault.now) (is_ok result) }
 {
@@ -16,6 +16,7 @@ pub fn write_described<E: Sink>(err: &mut E, text: &[u8], fault: &ArchiFault) ->
     write_architecture_detail(err, &fault.cause)
 }
 
+/// The number and the name of an architecture's cause.
 fn architecture_word(cause: &ArchiCause) -> &'static [u8]
     ensures { result.now ≡ architecture_word cause.now }
 {
@@ -33,7 +34,7 @@ fn architecture_word(cause: &ArchiCause) -> &'static [u8]
     }
 }
 
-/// What stands after the cause's word.
+/// Writes what stands after the cause's word.
 fn write_architecture_detail<E: Sink>(err: &mut E, cause: &ArchiCause) -> Result<(), Failed>
     ensures { Wrote (E.sunk err.old) (E.sunk err.new) (architecture_detail cause.now) (is_ok result) }
 {
@@ -53,6 +54,7 @@ fn write_architecture_detail<E: Sink>(err: &mut E, cause: &ArchiCause) -> Result
     }
 }
 
+/// Writes two names after the cause, and the end of the line.
 fn write_two_names<E: Sink>(err: &mut E, first: &[u8], other: &[u8]) -> Result<(), Failed>
     ensures { Wrote (E.sunk err.old) (E.sunk err.new) (two_names_line first.now other.now) (is_ok result) }
 {

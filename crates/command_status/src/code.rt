@@ -1,7 +1,17 @@
-//! The lines of refused macro-code: by its text, and by the check of its program.
+//! The lines of refused macro-code, by its text and by the check of its program; `say` writes them.
 ghost use Rattle.std.specs.Prelude.{◌≡◌, is_ok};
 ghost use Rattle.outside.specs.Sink.{Wrote};
-ghost use Rattle.command_status.specs.Lines.{check_detail, check_head, check_line, check_word, code_detail, code_line, code_word, stop_text, stops_line};
+ghost use Rattle.command_status.specs.Lines.{
+  check_detail,
+  check_head,
+  check_line,
+  check_word,
+  code_detail,
+  code_line,
+  code_word,
+  stop_text,
+  stops_line,
+};
 
 use crate::line::{write_head, write_word};
 use check_cause::{CheckCause, Stop};
@@ -9,7 +19,7 @@ use code_text::{CodeCause, CodeFault};
 use itoa::Buffer;
 use outside::{Failed, Sink, write_pieces, write_whole};
 
-/// Where a text of macro-code is refused, for which cause, and what stands after it.
+/// Writes where a text of macro-code is refused, for which cause, and what stands after it.
 pub fn write_code<E: Sink>(err: &mut E, fault: &CodeFault) -> Result<(), Failed>
     ensures { Wrote (E.sunk err.old) (E.sunk err.new) (code_line fault.now) (is_ok result) }
 {
@@ -18,6 +28,7 @@ pub fn write_code<E: Sink>(err: &mut E, fault: &CodeFault) -> Result<(), Failed>
     write_code_detail(err, &fault.cause)
 }
 
+/// The number and the name of the cause for which a text of macro-code is refused.
 fn code_word(cause: &CodeCause) -> &'static [u8]
     ensures { result.now ≡ code_word cause.now }
 {
@@ -29,7 +40,7 @@ fn code_word(cause: &CodeCause) -> &'static [u8]
     }
 }
 
-/// What stands after the cause's word.
+/// Writes what stands after the cause's word.
 fn write_code_detail<E: Sink>(err: &mut E, cause: &CodeCause) -> Result<(), Failed>
     ensures { Wrote (E.sunk err.old) (E.sunk err.new) (code_detail cause.now) (is_ok result) }
 {
@@ -41,7 +52,7 @@ fn write_code_detail<E: Sink>(err: &mut E, cause: &CodeCause) -> Result<(), Fail
     }
 }
 
-/// For which cause a program fails its check, and what stands after it.
+/// Writes for which cause a program fails its check, and what stands after it.
 pub fn write_check<E: Sink>(err: &mut E, cause: &CheckCause) -> Result<(), Failed>
     ensures { Wrote (E.sunk err.old) (E.sunk err.new) (check_line cause.now) (is_ok result) }
 {
@@ -50,12 +61,14 @@ pub fn write_check<E: Sink>(err: &mut E, cause: &CheckCause) -> Result<(), Faile
     write_check_detail(err, cause)
 }
 
+/// Writes the head of a failed check with the word of its cause.
 fn write_check_head<E: Sink>(err: &mut E, word: &[u8]) -> Result<(), Failed>
     ensures { Wrote (E.sunk err.old) (E.sunk err.new) (check_head word.now) (is_ok result) }
 {
     write_pieces(err, &[b"code check: ", word])
 }
 
+/// The number and the name of the cause for which a program fails its check.
 fn check_word(cause: &CheckCause) -> &'static [u8]
     ensures { result.now ≡ check_word cause.now }
 {
@@ -70,7 +83,7 @@ fn check_word(cause: &CheckCause) -> &'static [u8]
     }
 }
 
-/// The places at which the run of a program stops, and the end of the line.
+/// Writes the places at which the run of a program stops where there are any, and the end of the line.
 fn write_check_detail<E: Sink>(err: &mut E, cause: &CheckCause) -> Result<(), Failed>
     ensures { Wrote (E.sunk err.old) (E.sunk err.new) (check_detail cause.now) (is_ok result) }
 {
@@ -85,6 +98,7 @@ fn write_check_detail<E: Sink>(err: &mut E, cause: &CheckCause) -> Result<(), Fa
     }
 }
 
+/// Writes the places at which sequences stop, and the end of the line.
 fn write_stops<E: Sink>(err: &mut E, stops: &[Stop]) -> Result<(), Failed>
     ensures { Wrote (E.sunk err.old) (E.sunk err.new) (stops_line stops.now) (is_ok result) }
 {
@@ -94,6 +108,7 @@ fn write_stops<E: Sink>(err: &mut E, stops: &[Stop]) -> Result<(), Failed>
     write_whole(err, b"\n")
 }
 
+/// Writes the place at which one sequence stops.
 fn write_stop<E: Sink>(err: &mut E, stop: &Stop) -> Result<(), Failed>
     ensures { Wrote (E.sunk err.old) (E.sunk err.new) (stop_text stop.now) (is_ok result) }
 {

@@ -1,4 +1,4 @@
-//! The line of a refused text of the durations that really occur.
+//! The line of a refused text of the durations that really occur; `say` writes it.
 ghost use Rattle.std.specs.Prelude.{is_ok};
 ghost use Rattle.outside.specs.Sink.{Wrote};
 ghost use Rattle.command_status.specs.Lines.{durations_line, named_line};
@@ -7,7 +7,7 @@ use crate::architecture::write_described;
 use actual_defs::ActualFault;
 use outside::{Failed, Sink, write_pieces, write_whole};
 
-/// Why the durations are refused, and which medium or definition it is.
+/// Writes why the durations are refused, and for which medium or definition.
 pub fn write_durations<E: Sink>(err: &mut E, fault: &ActualFault) -> Result<(), Failed>
     ensures { Wrote (E.sunk err.old) (E.sunk err.new) (durations_line fault.now) (is_ok result) }
 {
@@ -19,6 +19,7 @@ pub fn write_durations<E: Sink>(err: &mut E, fault: &ActualFault) -> Result<(), 
     }
 }
 
+/// Writes this text, a name and the end of the line.
 fn write_named<E: Sink>(err: &mut E, text: &[u8], name: &[u8]) -> Result<(), Failed>
     ensures { Wrote (E.sunk err.old) (E.sunk err.new) (named_line text.now name.now) (is_ok result) }
 {

@@ -1,7 +1,23 @@
-//! The line on the error sink, written piece by piece without memory.
+//! The line of a status on the error sink, written piece by piece without memory. The top call writes it by `say`.
 ghost use Rattle.std.specs.Prelude.{◌≡◌, is_ok};
 ghost use Rattle.outside.specs.Sink.{Wrote};
-ghost use Rattle.command_status.specs.Lines.{algorithm_detail, algorithm_line, algorithm_word, counts_line, file_word, head, limit_line, line_of, names_line, number_line, sensors_detail, sensors_line, sensors_word, word_line, Said};
+ghost use Rattle.command_status.specs.Lines.{
+  algorithm_detail,
+  algorithm_line,
+  algorithm_word,
+  counts_line,
+  file_word,
+  head,
+  limit_line,
+  line_of,
+  names_line,
+  number_line,
+  sensors_detail,
+  sensors_line,
+  sensors_word,
+  word_line,
+  Said,
+};
 
 use crate::architecture::write_described;
 use crate::code::{write_check, write_code};
@@ -20,6 +36,7 @@ pub fn say<E: Sink>(err: &mut E, status: &Status)
     let _ = write_line(err, status);
 }
 
+/// Writes the status's line, which is empty where the command is done.
 fn write_line<E: Sink>(err: &mut E, status: &Status) -> Result<(), Failed>
     ensures { Wrote (E.sunk err.old) (E.sunk err.new) (line_of status.now) (is_ok result) }
 {
@@ -39,6 +56,7 @@ fn write_line<E: Sink>(err: &mut E, status: &Status) -> Result<(), Failed>
     }
 }
 
+/// Writes which quantity is above its bound, and both numbers.
 fn write_limit<E: Sink>(err: &mut E, fault: &LimitFault) -> Result<(), Failed>
     ensures { Wrote (E.sunk err.old) (E.sunk err.new) (limit_line fault.now) (is_ok result) }
 {
@@ -53,6 +71,7 @@ fn write_limit<E: Sink>(err: &mut E, fault: &LimitFault) -> Result<(), Failed>
     )
 }
 
+/// The word for a file.
 fn word_of(file: File) -> &'static [u8]
     ensures { result.now ≡ file_word file }
 {
@@ -65,7 +84,7 @@ fn word_of(file: File) -> &'static [u8]
     }
 }
 
-/// Where a text is refused, and for which cause.
+/// Writes where a text is refused, and for which cause.
 pub fn write_head<E: Sink>(err: &mut E, text: &[u8], at: u64, word: &[u8]) -> Result<(), Failed>
     ensures { Wrote (E.sunk err.old) (E.sunk err.new) (head text.now at word.now) (is_ok result) }
 {
@@ -73,6 +92,7 @@ pub fn write_head<E: Sink>(err: &mut E, text: &[u8], at: u64, word: &[u8]) -> Re
     write_pieces(err, &[text, digits.format(at).as_bytes(), b": ", word])
 }
 
+/// Writes where an algorithm's text is refused, for which cause, and what stands after it.
 fn write_algorithm<E: Sink>(err: &mut E, fault: &AlgoFault) -> Result<(), Failed>
     ensures { Wrote (E.sunk err.old) (E.sunk err.new) (algorithm_line fault.now) (is_ok result) }
 {
@@ -81,6 +101,7 @@ fn write_algorithm<E: Sink>(err: &mut E, fault: &AlgoFault) -> Result<(), Failed
     write_algorithm_detail(err, &fault.cause)
 }
 
+/// The number and the name of an algorithm's cause.
 fn algorithm_word(cause: &AlgoCause) -> &'static [u8]
     ensures { result.now ≡ algorithm_word cause.now }
 {
@@ -106,7 +127,7 @@ fn algorithm_word(cause: &AlgoCause) -> &'static [u8]
     }
 }
 
-/// What stands after the cause's word.
+/// Writes what stands after the cause's word.
 fn write_algorithm_detail<E: Sink>(err: &mut E, cause: &AlgoCause) -> Result<(), Failed>
     ensures { Wrote (E.sunk err.old) (E.sunk err.new) (algorithm_detail cause.now) (is_ok result) }
 {
@@ -130,6 +151,7 @@ fn write_algorithm_detail<E: Sink>(err: &mut E, cause: &AlgoCause) -> Result<(),
     }
 }
 
+/// Writes where a sensor table is refused, for which cause, and what stands after it.
 fn write_sensors<E: Sink>(err: &mut E, fault: &SensorFault) -> Result<(), Failed>
     ensures { Wrote (E.sunk err.old) (E.sunk err.new) (sensors_line fault.now) (is_ok result) }
 {
@@ -138,6 +160,7 @@ fn write_sensors<E: Sink>(err: &mut E, fault: &SensorFault) -> Result<(), Failed
     write_sensors_detail(err, &fault.cause)
 }
 
+/// The number and the name of a sensor table's cause.
 fn sensors_word(cause: &SensorCause) -> &'static [u8]
     ensures { result.now ≡ sensors_word cause.now }
 {
@@ -149,7 +172,7 @@ fn sensors_word(cause: &SensorCause) -> &'static [u8]
     }
 }
 
-/// What stands after the cause's word.
+/// Writes what stands after the cause's word.
 fn write_sensors_detail<E: Sink>(err: &mut E, cause: &SensorCause) -> Result<(), Failed>
     ensures { Wrote (E.sunk err.old) (E.sunk err.new) (sensors_detail cause.now) (is_ok result) }
 {
@@ -160,6 +183,7 @@ fn write_sensors_detail<E: Sink>(err: &mut E, cause: &SensorCause) -> Result<(),
     }
 }
 
+/// Writes two counts after the cause, and the end of the line.
 fn write_counts<E: Sink>(err: &mut E, found: u64, wanted: u64) -> Result<(), Failed>
     ensures { Wrote (E.sunk err.old) (E.sunk err.new) (counts_line found wanted) (is_ok result) }
 {
@@ -170,7 +194,7 @@ fn write_counts<E: Sink>(err: &mut E, found: u64, wanted: u64) -> Result<(), Fai
     write_pieces(err, &[b" ", found, b" ", wanted, b"\n"])
 }
 
-/// A number after the cause, and the end of the line.
+/// Writes a number after the cause, and the end of the line.
 pub fn write_number<E: Sink>(err: &mut E, number: usize) -> Result<(), Failed>
     ensures { Wrote (E.sunk err.old) (E.sunk err.new) (number_line number) (is_ok result) }
 {
@@ -178,14 +202,14 @@ pub fn write_number<E: Sink>(err: &mut E, number: usize) -> Result<(), Failed>
     write_pieces(err, &[b" ", digits.format(number).as_bytes(), b"\n"])
 }
 
-/// A word after the cause, and the end of the line.
+/// Writes a word after the cause, and the end of the line.
 pub fn write_word<E: Sink>(err: &mut E, word: &[u8]) -> Result<(), Failed>
     ensures { Wrote (E.sunk err.old) (E.sunk err.new) (word_line word.now) (is_ok result) }
 {
     write_pieces(err, &[b" ", word, b"\n"])
 }
 
-/// Names after the cause, and the end of the line.
+/// Writes names after the cause, and the end of the line.
 pub fn write_names<E: Sink>(err: &mut E, names: &[Name]) -> Result<(), Failed>
     ensures { Wrote (E.sunk err.old) (E.sunk err.new) (names_line names.now) (is_ok result) }
 {

@@ -1,6 +1,13 @@
-//! The status of a command that has ended.
+//! The status of a command that has ended, for the top call and for whoever asks how it ended.
 ghost use Rattle.std.specs.Prelude.{◌≡◌};
-ghost use Rattle.command_status.specs.Status.{number_of, status_of_algorithm, status_of_architecture, status_of_code, status_of_durations, status_of_sensors};
+ghost use Rattle.command_status.specs.Status.{
+  number_of,
+  status_of_algorithm,
+  status_of_architecture,
+  status_of_code,
+  status_of_durations,
+  status_of_sensors,
+};
 ghost use Rattle.command_status.specs.declared.status.Status.TheVariants.{OutOfMemory as Wants};
 
 use actual_defs::{ActualError, ActualFault};
@@ -31,7 +38,7 @@ pub enum Status {
     SensorsRefused(SensorFault),
     /// The first refusal of a text of macro-code.
     CodeRefused(CodeFault),
-    /// The first that the program of such a text lacks.
+    /// The first cause for which the program of such a text fails its check.
     CheckRefused(CheckCause),
     /// The first refusal of the durations that really occur.
     ActualRefused(ActualFault),

@@ -7,7 +7,18 @@ ghost use Rattle.clap.specs.Values.{kind_of};
 ghost use Rattle.clap.specs.Walk.{Row};
 ghost use Rattle.clap.specs.declared.builder.command.Command.TheViews.{out-Command as fields_of};
 ghost use Rattle.syn_base.specs.Bytes.{Bytes};
-ghost use Rattle.command_words.specs.App.{argument, workers_rule, one_app, two_app, four_app, working_app, form_app, bare_app, with_forms, the_app};
+ghost use Rattle.command_words.specs.App.{
+  argument,
+  workers_rule,
+  one_app,
+  two_app,
+  four_app,
+  working_app,
+  form_app,
+  bare_app,
+  with_forms,
+  the_app,
+};
 ghost use Rattle.command_words.specs.Answer.{wants_memory, Tells, Gives, Is};
 
 use clap::error::ErrorKind;

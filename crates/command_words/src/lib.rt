@@ -4,74 +4,34 @@
 
 ghost use Rattle.std.specs.Prelude.{◌≡◌, IfOk, Some, map, option_map};
 ghost use Rattle.std.specs.String.{string_bytes};
-ghost use Rattle.command_words.specs.Command.{check, sim, flat, chart, code, one, two, one_or_two, four, loaded, dated, number_up_to, command_of};
+ghost use Rattle.command_words.specs.Command.{
+  check,
+  sim,
+  flat,
+  chart,
+  code,
+  one,
+  two,
+  one_or_two,
+  four,
+  loaded,
+  dated,
+  number_up_to,
+  command_of,
+};
 ghost use Rattle.command_words.specs.Plain.{command_without_options, run_with, exec_with};
 ghost use Rattle.command_words.specs.Answer.{exec_of, command_given, plain_of, run_of};
 ghost use Rattle.command_words.specs.View.{view_of};
 
+mod commands;
 mod given;
 mod number;
 
+pub use commands::{Command, JobCommand, PlainCommand};
 use given::{Given, given_words};
 use number::number_up_to;
 use std::alloc::Global;
 use syn_base::OutOfMemory;
-
-/// A command, with the names of its files as they are given.
-#[derive(Clone, Copy, Drop)]
-pub enum Command<'a> {
-    /// `check A [H]`: the canonical texts.
-    Check {
-        algorithm: &'a str,
-        architecture: Option<&'a str>,
-    },
-    /// `sim A S`: what the actuators take.
-    Sim {
-        algorithm: &'a str,
-        sensors: &'a str,
-    },
-    /// `flat A`: the flat listing.
-    Flat {
-        algorithm: &'a str,
-    },
-    /// `chart A H`: the timing chart.
-    Chart {
-        algorithm: &'a str,
-        architecture: &'a str,
-    },
-    /// `code A H`: the macro-code.
-    Code {
-        algorithm: &'a str,
-        architecture: &'a str,
-    },
-    /// `run A H S [--workers W]`: the macro-code, and what the actuators take. Workers are 1 to 80; without
-    /// them there is one for each sequence.
-    Run {
-        algorithm: &'a str,
-        architecture: &'a str,
-        sensors: &'a str,
-        workers: Option<u32>,
-    },
-    /// `load N`: a load of 1 to 1,000.
-    Load(u32),
-    /// `exec A H C S [--workers W]`: what the actuators take when this macro-code is executed. Workers are as
-    /// those of a run.
-    Exec {
-        algorithm: &'a str,
-        architecture: &'a str,
-        code: &'a str,
-        sensors: &'a str,
-        workers: Option<u32>,
-    },
-    /// `dates A H G N`: the dates of 1 to 1,000 reactions where the durations are those of another
-    /// architecture text.
-    Dates {
-        algorithm: &'a str,
-        architecture: &'a str,
-        durations: &'a str,
-        reactions: u32,
-    },
-}
 
 /// The most workers.
 const MOST_WORKERS: u32 = 80;
@@ -153,14 +113,14 @@ fn check<'a>(plain: &[&'a str]) -> Option<Command<'a>>
     ensures { option_map view_of result ≡ one_or_two (λ a h. Some (check a h)) (map (λ w. w.now) plain.now) }
 {
     match plain {
-        [algorithm] => Some(Command::Check {
+        [algorithm] => Some(Command::Plain(PlainCommand::Check {
             algorithm,
             architecture: None,
-        }),
-        [algorithm, architecture] => Some(Command::Check {
+        })),
+        [algorithm, architecture] => Some(Command::Plain(PlainCommand::Check {
             algorithm,
             architecture: Some(architecture),
-        }),
+        })),
         _ => None,
     }
 }
@@ -170,7 +130,7 @@ fn sim<'a>(plain: &[&'a str]) -> Option<Command<'a>>
     ensures { option_map view_of result ≡ two (λ a s. Some (sim a s)) (map (λ w. w.now) plain.now) }
 {
     match plain {
-        [algorithm, sensors] => Some(Command::Sim { algorithm, sensors }),
+        [algorithm, sensors] => Some(Command::Plain(PlainCommand::Sim { algorithm, sensors })),
         _ => None,
     }
 }
@@ -180,7 +140,7 @@ fn flat<'a>(plain: &[&'a str]) -> Option<Command<'a>>
     ensures { option_map view_of result ≡ one (λ a. Some (flat a)) (map (λ w. w.now) plain.now) }
 {
     match plain {
-        [algorithm] => Some(Command::Flat { algorithm }),
+        [algorithm] => Some(Command::Plain(PlainCommand::Flat { algorithm })),
         _ => None,
     }
 }
@@ -190,10 +150,10 @@ fn chart<'a>(plain: &[&'a str]) -> Option<Command<'a>>
     ensures { option_map view_of result ≡ two (λ a h. Some (chart a h)) (map (λ w. w.now) plain.now) }
 {
     match plain {
-        [algorithm, architecture] => Some(Command::Chart {
+        [algorithm, architecture] => Some(Command::Plain(PlainCommand::Chart {
             algorithm,
             architecture,
-        }),
+        })),
         _ => None,
     }
 }
@@ -203,10 +163,10 @@ fn code<'a>(plain: &[&'a str]) -> Option<Command<'a>>
     ensures { option_map view_of result ≡ two (λ a h. Some (code a h)) (map (λ w. w.now) plain.now) }
 {
     match plain {
-        [algorithm, architecture] => Some(Command::Code {
+        [algorithm, architecture] => Some(Command::Plain(PlainCommand::Code {
             algorithm,
             architecture,
-        }),
+        })),
         _ => None,
     }
 }
@@ -216,7 +176,10 @@ fn load<'a>(plain: &[&'a str]) -> Option<Command<'a>>
     ensures { option_map view_of result ≡ one (λ n. loaded (number_up_to 1000 n)) (map (λ w. w.now) plain.now) }
 {
     match plain {
-        [number] => Some(Command::Load(number_up_to(MOST_LOAD, number.as_bytes())?)),
+        [number] => {
+            let layers = number_up_to(MOST_LOAD, number.as_bytes())?;
+            Some(Command::Job(JobCommand::Load(layers)))
+        }
         _ => None,
     }
 }
@@ -229,12 +192,12 @@ fn dates<'a>(plain: &[&'a str]) -> Option<Command<'a>>
     match plain {
         [algorithm, architecture, durations, count] => {
             let reactions = number_up_to(MOST_REACTIONS, count.as_bytes())?;
-            Some(Command::Dates {
+            Some(Command::Plain(PlainCommand::Dates {
                 algorithm,
                 architecture,
                 durations,
                 reactions,
-            })
+            }))
         }
         _ => None,
     }
@@ -266,12 +229,12 @@ fn run_with<'a>(
         Some(text) => Some(number_up_to(MOST_WORKERS, text.as_bytes())?),
         None => None,
     };
-    Some(Command::Run {
+    Some(Command::Job(JobCommand::Run {
         algorithm,
         architecture,
         sensors,
         workers,
-    })
+    }))
 }
 
 /// The command `exec` of what was given: four words, and workers where they are given.
@@ -301,11 +264,11 @@ fn exec_with<'a>(
         Some(count) => Some(number_up_to(MOST_WORKERS, count.as_bytes())?),
         None => None,
     };
-    Some(Command::Exec {
+    Some(Command::Job(JobCommand::Exec {
         algorithm,
         architecture,
         code,
         sensors,
         workers,
-    })
+    }))
 }

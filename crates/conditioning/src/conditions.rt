@@ -1,4 +1,5 @@
-//! Sources and guards under the guards of cases.
+//! The conditions of a level under guards: its sources shifted, and the guards of its vertices. `pass` and `vertices`
+//! call it.
 ghost use Rattle.std.specs.Prelude.{◌≡◌, ◌++◌, [], ◌∷◌, IfOk, map};
 ghost use Rattle.conditioning_laws.specs.Guarded.{shift, shift_guard, guard_sources, guard_for, own_guards as guards_owned};
 
@@ -51,6 +52,7 @@ pub fn handed(
     Ok(all)
 }
 
+/// The sources of these guards, in order.
 fn sources_of(alloc: Global, guards: &[Guard]) -> Result<Vec<Source>, OutOfMemory>
     ensures { IfOk result (λ ss. ss.items ≡ guard_sources guards.now) }
 {

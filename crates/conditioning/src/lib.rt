@@ -1,5 +1,7 @@
-//! The second pass of flattening: `guard`, the tree without cases. `conditioning_laws` says which tree that
-//! is, and that it has the same meaning. `hierarchy` calls it.
+//! The second pass of flattening: `guard` makes of a tree without repetitions one without cases, of the same
+//! meaning.
+//!
+//! `conditioning_laws` says which tree that is, and that it has the same meaning. `hierarchy` calls `guard`.
 #![tactic(auto)]
 
 mod conditions;

@@ -1,4 +1,4 @@
-//! The merges of a switch, and the outputs of the graph that it becomes.
+//! The merges of a switch, and the outputs of the graph that it becomes. `pass` calls it.
 ghost use Rattle.std.specs.Prelude.{◌≡◌, ◌++◌, ◌∷◌, ◌+◌, IfOk, OnOk, map, slice_index_or};
 ghost use Rattle.level_meaning.specs.Level.{numbers_below};
 ghost use Rattle.algo_tree.specs.View.{view};

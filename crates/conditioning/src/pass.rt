@@ -1,4 +1,4 @@
-//! The pass over a tree.
+//! The pass over a tree, which replaces each switch by a graph of its cases and merges. `hierarchy` calls it.
 ghost use Rattle.std.specs.Prelude.{◌≡◌, [], IfOk, map};
 ghost use Rattle.algo_tree.specs.declared.vertex.Vertex.{out-Vertex};
 ghost use Rattle.algo_tree.specs.Counted.{operations};

@@ -1,4 +1,4 @@
-//! Vertices that are made again, under the guards of cases.
+//! The vertices that the pass makes again, under the guards of cases. `pass` calls it.
 ghost use Rattle.std.specs.Prelude.{◌≡◌, IfOk};
 ghost use Rattle.algo_tree.specs.declared.vertex.Vertex.{out-Vertex};
 ghost use Rattle.algo_tree.specs.View.{kind_view, label_view, view, vertices_view};

@@ -1,6 +1,7 @@
--- The tree without cases. Each switch becomes a graph: its cases in order, and after them a merge for each output. An operation
--- carries a guard for each case around it, outer first. The sources of the guards are handed inward as further inputs of the
--- graphs between: they stand before a graph's own inputs, so that these are shifted, and nothing has to be known of their number.
+-- The tree without cases. Each switch becomes a graph: its cases in order, and after them a merge for each output. An
+-- operation carries a guard for each case around it, outer first. The sources of the guards are handed inward as
+-- further inputs of the graphs between: they stand before a graph's own inputs, so that these are shifted, and
+-- nothing has to be known of their number.
 use Rattle.std.specs.Prelude.{ℕ, suc, ◌+◌, ℤ, List, [], ◌∷◌, ◌++◌, length, map, slice_index_or}
 use Rattle.level_meaning.specs.declared.source.Source.{Source}
 use Rattle.level_meaning.specs.declared.source.Source.TheVariants.{Own, Of}
@@ -10,7 +11,7 @@ use Rattle.level_meaning.specs.Level.{numbers_below}
 use Rattle.algo_tree.specs.Tree.{Label, Kind, merge, graph, switch, Vertex, vertex, Vertices, no_vertices, and_vertex}
 use Rattle.algo_tree.specs.Code.{count_of, join}
 
--- a source of a level, where n further inputs stand before the level's own
+-- A source of a level, where n further inputs stand before the level's own.
 abbrev pub shift : ℕ → Source → Source
 shift n (Own k) = Own (n + k)
 shift n (Of r p) = Of r p
@@ -21,14 +22,14 @@ shift_guard n g = record { source = shift n g.source; values = g.values; case = 
 abbrev pub guard_sources : List Guard → List Source
 guard_sources gs = map (λ g. g.source) gs
 
--- the same conditions inside a graph to which their sources are handed, from input i on
+-- The same conditions inside a graph to which their sources are handed, from input i on.
 abbrev pub own_guards : ℕ → List Guard → List Guard
 own_guards i [] = []
 own_guards i (g ∷ gs) = record { source = Own i; values = g.values; case = g.case } ∷ own_guards (suc i) gs
 
--- case i of a switch with these values, whose conditioning input stands after m others
+-- This case of a switch with these values, whose conditioning input has the number `condition`.
 abbrev pub guard_for : ℕ → List ℤ → ℕ → Guard
-guard_for m values i = record { source = Own m; values = values; case = i }
+guard_for condition values case = record { source = Own condition; values = values; case = case }
 
 -- An operation under these guards: they stand before its own. Nothing is inside it.
 abbrev pub operation_under : List Guard → ℕ → Label → Kind → Vertex
@@ -42,8 +43,8 @@ operation_under gs n l k = vertex (record {
   kind = k;
 }) no_vertices
 
--- A graph under these guards. It has none itself, since one that passes an input on gives it whatever they say; it hands their
--- sources inward.
+-- A graph under these guards. It has none itself, since one that passes an input on gives it whatever they say; it
+-- hands their sources inward.
 abbrev pub graph_under : List Guard → ℕ → Label → List Source → Vertices → Vertex
 graph_under gs n l outs us = vertex (record {
   part = l.part;
@@ -55,55 +56,67 @@ graph_under gs n l outs us = vertex (record {
   kind = graph outs;
 }) us
 
--- The merge of output q of the k cases of a switch of definition d, whose conditioning input stands after m others.
+-- The merge of this output of the cases of a switch of this definition, whose conditioning input has the number
+-- `condition`.
 abbrev pub merge_of : List ℕ → List Guard → ℕ → List ℤ → ℕ → ℕ → List ℕ → ℕ → Vertex
-merge_of d gs m values k q name len = vertex (record {
+merge_of definition gs condition values cases output name len = vertex (record {
   part = Port name;
-  definition = d;
-  ins = Own m ∷ map (λ i. Of i q) (numbers_below k);
+  definition = definition;
+  ins = Own condition ∷ map (λ i. Of i output) (numbers_below cases);
   guards = gs;
   outs = len ∷ [];
   names = [];
   kind = merge values;
 }) no_vertices
 
--- A merge for each output, of the length of the switch's output. The first of these names is that of output q.
+-- A merge for each output, of the length of the switch's output. The first of these names is that of this output.
 abbrev pub merges : List ℕ → List Guard → ℕ → List ℤ → ℕ → List ℕ → ℕ → List (List ℕ) → Vertices
-merges d gs m values k outs q [] = no_vertices
-merges d gs m values k outs q (name ∷ names) =
-    and_vertex (merge_of d gs m values k q name (slice_index_or outs q 0)) (merges d gs m values k outs (suc q) names)
+merges definition gs condition values cases outs output [] = no_vertices
+merges definition gs condition values cases outs output (name ∷ names) =
+    and_vertex
+    (merge_of definition gs condition values cases output name (slice_index_or outs output 0))
+    (merges definition gs condition values cases outs (suc output) names)
 
--- the outputs of the graph that a switch of k cases becomes: of each of the merges
+-- The outputs of the graph that a switch of this many cases becomes: of each of the merges.
 abbrev pub merge_sources : ℕ → ℕ → List Source
-merge_sources k outputs = map (λ q. Of (k + q) 0) (numbers_below outputs)
+merge_sources cases outputs = map (λ output. Of (cases + output) 0) (numbers_below outputs)
 
 -- What stands inside that graph, where the cases have become these.
 abbrev pub switch_inside : List Guard → Label → List ℤ → List (List ℕ) → ℕ → Vertices → Vertices
-switch_inside gs l values names k cases = join cases (merges l.definition (own_guards 0 gs) (length gs) values k l.outs 0 names)
+switch_inside gs l values names count cases =
+    join cases (merges l.definition (own_guards 0 gs) (length gs) values count l.outs 0 names)
 
--- A vertex of this kind with these vertices inside, from what those become under given guards, and from what they become as
--- the cases of a switch with given values.
-abbrev pub guarded_by : List Guard → ℕ → Label → Kind → Vertices → (List Guard → ℕ → Vertices) → (List Guard → ℕ → List ℤ → Vertices) → Vertex
+-- A vertex of this kind with these vertices inside, from what those become under given guards, and from what they
+-- become as the cases of a switch with given values.
+abbrev pub guarded_by : List Guard → ℕ → Label → Kind → Vertices → (List Guard → ℕ → Vertices) →
+    (List Guard → ℕ → List ℤ → Vertices) → Vertex
 guarded_by gs n l (graph outs) us inner cases =
     graph_under gs n l (map (shift (length gs)) outs) (inner (own_guards 0 gs) (length gs))
 guarded_by gs n l (switch values names) us inner cases =
-    graph_under gs n l (merge_sources (count_of us) (length names)) (switch_inside gs l values names (count_of us) (cases (own_guards 0 gs) (length gs) values))
+    graph_under gs n l (merge_sources (count_of us) (length names))
+    (switch_inside gs l values names (count_of us) (cases (own_guards 0 gs) (length gs) values))
 guarded_by gs n l k us inner cases = operation_under gs n l k
 
 abbrev mutual
   -- A vertex under these guards, whose sources are inputs of its level, in a level that has n further inputs.
   pub guarded : List Guard → ℕ → Vertex → Vertex
-  guarded gs n (vertex l us) = guarded_by gs n l l.kind us (λ inside m. guarded_all inside m us) (λ inside m values. guarded_cases inside m values 0 us)
+  guarded gs n (vertex l us) =
+      guarded_by gs n l l.kind us
+      (λ inside m. guarded_all inside m us)
+      (λ inside m values. guarded_cases inside m values 0 us)
 
   pub guarded_all : List Guard → ℕ → Vertices → Vertices
   guarded_all gs n no_vertices = no_vertices
   guarded_all gs n (and_vertex u us) = and_vertex (guarded gs n u) (guarded_all gs n us)
 
-  -- The cases of a switch from case i on, each under one guard more, after those around the switch.
+  -- The cases of a switch from this case on, each under one guard more, after those around the switch.
   pub guarded_cases : List Guard → ℕ → List ℤ → ℕ → Vertices → Vertices
-  guarded_cases gs m values i no_vertices = no_vertices
-  guarded_cases gs m values i (and_vertex u us) = and_vertex (guarded (gs ++ guard_for m values i ∷ []) m u) (guarded_cases gs m values (suc i) us)
+  guarded_cases gs condition values case no_vertices = no_vertices
+  guarded_cases gs condition values case (and_vertex u us) =
+      and_vertex
+      (guarded (gs ++ guard_for condition values case ∷ []) condition u)
+      (guarded_cases gs condition values (suc case) us)
 
--- the main graph, which no case is around
+-- The main graph, which no case is around.
 abbrev pub guard : Vertex → Vertex
 guard main = guarded [] 0 main

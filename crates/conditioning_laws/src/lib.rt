@@ -1,5 +1,7 @@
-//! What putting cases under guards makes of a tree (`Guarded.guard`), and that it keeps the meaning,
-//! validity and names. Each operation carries the guards around it. `conditioning` makes this tree.
+//! The tree of an algorithm with its cases put under guards (`Guarded.guard`), and the laws that it keeps the
+//! meaning, validity and names.
+//!
+//! Each operation carries the guards of the cases around it (`Carries`). `conditioning` makes this tree.
 #![tactic(auto)]
 
 mod laws;

@@ -13,6 +13,8 @@ abbrev pub MakesProgress : Type 0
 MakesProgress = (p : Precedence) (c : ℕ → ℕ) → IsSerial p → IsConsistent p c
     → (s : ℕ) → s < p.sequences → c s < p.full s → (t : ℕ) × (t < p.sequences) × IsReady p c t
 
--- Of a test that holds at one site: more than j of the first n steps passed it exactly where the step at which it holds for the j-th time is one of them.
+-- Of a test that holds at one site: more than j of the first n steps passed it
+-- exactly where the step at which it holds for the j-th time is one of them.
 abbrev pub CountsPasses : Type 0
-CountsPasses = (p : ℕ → Bool) (c : Code ℕ) (x : Site) → IsSite p c x → (n j : ℕ) → (j < passes p c n → nth c x j < n) × (nth c x j < n → j < passes p c n)
+CountsPasses = (p : ℕ → Bool) (c : Code ℕ) (x : Site) → IsSite p c x → (n j : ℕ) →
+    (j < passes p c n → nth c x j < n) × (nth c x j < n → j < passes p c n)

@@ -1,4 +1,5 @@
--- A precedence of events (Lamport): sequences, the order within each, and for each event the one event of another sequence that must happen before it.
+-- A precedence of events (Lamport): sequences, the order within each, and for
+-- each event the one event of another sequence that must happen before it.
 use Rattle.std.specs.Prelude.{◌≡◌, ℕ, ◌+◌, ◌<◌, ◌≤◌, Option, Some, cond, eqb}
 
 -- an event is the number of its sequence and the number of events of that sequence before it
@@ -30,7 +31,8 @@ pub record IsSerial (p : Precedence) : Type 0 where
   pub needs_here : (e f : Event) → IsEvent p e → p.needs e ≡ Some f → IsEvent p f
   pub needs_below : (e f : Event) → IsEvent p e → p.needs e ≡ Some f → p.rank f < p.rank e
 
--- Counts of made events are a consistent cut (Mattern): no event is made before the one that it needs. This alone is the invariant on counts.
+-- Counts of made events are a consistent cut (Mattern): no event is made
+-- before the one that it needs. This alone is the invariant on counts.
 pub record IsConsistent (p : Precedence) (c : ℕ → ℕ) : Type 0 where
   pub within : (s : ℕ) → c s ≤ p.full s
   pub made : (e f : Event) → IsMade c e → p.needs e ≡ Some f → IsMade c f

@@ -1,5 +1,27 @@
--- A sequence: a prologue that is done once, and a turn that is done once in each reaction. How often its first n steps passed a test.
-use Rattle.std.specs.Prelude.{◌≡◌, ℕ, zero, suc, ◌+◌, ◌-◌, ◌*◌, ◌/◌, ◌%◌, ◌<◌, ◌≤◌, Bool, cond, nat_lt, List, length, Option, Some, None, slice_get}
+-- A sequence: a prologue that is done once, and a turn that is done
+-- once in each reaction. How often its first n steps passed a test.
+use Rattle.std.specs.Prelude.{
+  ◌≡◌,
+  ℕ,
+  zero,
+  suc,
+  ◌+◌,
+  ◌-◌,
+  ◌*◌,
+  ◌/◌,
+  ◌%◌,
+  ◌<◌,
+  ◌≤◌,
+  Bool,
+  cond,
+  nat_lt,
+  List,
+  length,
+  Option,
+  Some,
+  None,
+  slice_get,
+}
 
 pub record Code (A : Type 0) : Type 0 where
   pub prologue : List A

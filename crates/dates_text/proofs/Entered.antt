@@ -11,7 +11,7 @@ use Rattle.self_timed.specs.declared.dates.Span.{Span}
 use Rattle.self_timed.specs.Laid.{entry_after, next_after}
 use Rattle.self_timed.specs.Told.{reaction_at, span_at}
 use Rattle.dates_text.specs.Listing.{Dated, dated, dated_from, dated_in}
-use Rattle.dates_text.specs.Printed.{dated_by, told}
+use Rattle.dates_text.specs.Printed.{dated_by, dates_up_to}
 use Rattle.dates_text.proofs.Counting.{count_carry, count_more, count_run}
 
 seam : {A : Type 0} (pre : List A) (x : A) (ys : List A) → slice_get (pre ++ x ∷ ys) (length pre) ≡ Some x
@@ -53,7 +53,7 @@ module _ (g : Graph) (s : Schedule) (reactions : List (List Span)) (when : ℕ �
       (ap (λ (n : ℕ). span_at reactions k n) (sym entry) ∙ agree (length pre) x here)
       (same_from k agree (pre ++ x ∷ []) ys (next_after next x) (e ∙ sym (append_assoc pre (x ∷ []) ys)) (next_is pre x next c) ∙ ap (λ (n : ℕ). dated_from when k n ys) long)
 
-  pub told_is : (n : ℕ) → ((k : ℕ) → k < n → Agree k) → told reactions (length g.vertices) (acts s) n ≡ dated_in when n (acts s)
+  pub told_is : (n : ℕ) → ((k : ℕ) → k < n → Agree k) → dates_up_to reactions (length g.vertices) (acts s) n ≡ dated_in when n (acts s)
   told_is zero agree = refl
   told_is (suc k) agree =
       let none : length g.vertices ≡ length g.vertices + 0 = omega arith in

@@ -25,17 +25,17 @@ module _ (k : ℕ) (row : List Span) where
   dated_by next (x ∷ xs) = dated k (span_in row (entry_after next x)) x ∷ dated_by (next_after next x) xs
 
 -- this many reactions of acts, where this many operations stand before the transfers
-abbrev pub told : List (List Span) → ℕ → List Act → ℕ → List Dated
-told reactions operations xs zero = []
-told reactions operations xs (suc k) =
-    told reactions operations xs k ++ dated_by k (reaction_at reactions k) operations xs
+abbrev pub dates_up_to : List (List Span) → ℕ → List Act → ℕ → List Dated
+dates_up_to reactions operations xs zero = []
+dates_up_to reactions operations xs (suc k) =
+    dates_up_to reactions operations xs k ++ dated_by k (reaction_at reactions k) operations xs
 
 abbrev pub lines_text : Graph → Architecture → List Dated → Bytes
 lines_text g a ds = text_of (map (dated_line g a) ds)
 
 -- the lines of these were appended, and their latest end is answered
-pub record Appends (g : Graph) (a : Architecture) (old new : Bytes) (end : ℕ) (ds : List Dated) : Type 0 where
-  pub text : new ≡ old ++ lines_text g a ds
+pub record Appends (graph : Graph) (archi : Architecture) (old new : Bytes) (end : ℕ) (ds : List Dated) : Type 0 where
+  pub text : new ≡ old ++ lines_text graph archi ds
   pub latest : end ≡ latest_end ds
 
 -- the entries of these decisions are among this many, where the next transfer has this one
@@ -53,7 +53,7 @@ abbrev pub HaveSpans : Graph → Schedule → List (List Span) → Type 0
 HaveSpans g s reactions = All (λ (row : List Span). length row ≡ entries_of g s) reactions
 
 -- what is left of all that is to be told, where this text and this latest end are there
-pub record IsLeft (g : Graph) (a : Architecture) (old now : Bytes) (latest : ℕ) (left all : List Dated)
+pub record IsLeft (graph : Graph) (archi : Architecture) (old now : Bytes) (latest : ℕ) (left all : List Dated)
     : Type 0 where
-  pub text : now ++ lines_text g a left ≡ old ++ lines_text g a all
+  pub text : now ++ lines_text graph archi left ≡ old ++ lines_text graph archi all
   pub end : max latest (latest_end left) ≡ latest_end all

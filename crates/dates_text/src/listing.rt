@@ -3,7 +3,7 @@ ghost use Rattle.std.specs.Prelude.{◌≡◌, ◌++◌, IfOk, OnErr, OnOk, leng
 ghost use Rattle.schedule.specs.Acts.{acts, acts_of};
 ghost use Rattle.self_timed.specs.Told.{IsValidForSome};
 ghost use Rattle.dates_text.specs.Listing.{dated_in, dated_text};
-ghost use Rattle.dates_text.specs.Printed.{Appends, EachFits, HaveSpans, entry_span, told};
+ghost use Rattle.dates_text.specs.Printed.{Appends, EachFits, HaveSpans, entry_span, dates_up_to};
 
 use crate::line::Reaction;
 use crate::reaction::append_reaction;
@@ -51,7 +51,7 @@ fn append_dates(
 ) -> Result<(), OutOfMemory>
     requires { EachFits flat.now decisions.now dates.now }
     ensures { OnOk result (out.new.items ≡ out.old.items ++ dated_text flat.now archi.now
-        (told dates.now (length flat.now.vertices) (acts_of decisions.now) (length dates.now))) }
+        (dates_up_to dates.now (length flat.now.vertices) (acts_of decisions.now) (length dates.now))) }
 {
     let latest = append_reactions(out, flat, archi, decisions, dates)?;
     append(out, b"latest ")?;
@@ -69,7 +69,7 @@ fn append_reactions(
 ) -> Result<u64, OutOfMemory>
     requires { EachFits flat.now decisions.now dates.now }
     ensures { IfOk result (λ end. Appends flat.now archi.now out.old.items out.new.items end
-        (told dates.now (length flat.now.vertices) (acts_of decisions.now) (length dates.now))) }
+        (dates_up_to dates.now (length flat.now.vertices) (acts_of decisions.now) (length dates.now))) }
 {
     let mut latest = 0;
     for number in 0..dates.reactions() {

@@ -9,7 +9,10 @@ use Rattle.executive_program.specs.Instructions.{number_or}
 use Rattle.executive_program.specs.Steps.{steps_in_list}
 
 abbrev pub expanded : Program → SeqCode → SeqSteps
-expanded p q = record { prologue = steps_in_list p (number_or 0 q.seq.medium) q.prologue; turn = steps_in_list p (number_or 0 q.seq.medium) q.turn }
+expanded p q = record {
+  prologue = steps_in_list p (number_or 0 q.seq.medium) q.prologue;
+  turn = steps_in_list p (number_or 0 q.seq.medium) q.turn;
+}
 
 -- these are the micro-steps of each sequence of the program
 abbrev pub AreSteps : Program → List SeqSteps → Type 0

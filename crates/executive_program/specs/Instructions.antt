@@ -1,5 +1,25 @@
 -- Instructions and programs: what an instruction reads, writes and sends, and the parts of a sequence.
-use Rattle.std.specs.Prelude.{ℕ, suc, ◌≤◌, Bool, true, false, ◌&&◌, not, cond, nat_eq, List, [], ◌∷◌, length, Option, Some, None, slice_get, take}
+use Rattle.std.specs.Prelude.{
+  ℕ,
+  suc,
+  ◌≤◌,
+  Bool,
+  true,
+  false,
+  ◌&&◌,
+  not,
+  cond,
+  nat_eq,
+  List,
+  [],
+  ◌∷◌,
+  length,
+  Option,
+  Some,
+  None,
+  slice_get,
+  take,
+}
 use Rattle.std.specs.List.{count_by, list_any}
 use Rattle.executive_program.specs.declared.program.Instr.{Instr}
 use Rattle.executive_program.specs.declared.program.Instr.TheVariants.{Call, Send, Recv, Sync}
@@ -66,7 +86,8 @@ waits_for b q = list_any (reads b) q.turn && not (list_any (writes b) q.turn)
 -- of these sequences, of which the first has number s, those that read buffer b and do not write it
 abbrev pub readers_from : ℕ → List SeqCode → ℕ → List Reader
 readers_from s [] b = []
-readers_from s (q ∷ qs) b = cond (waits_for b q) (record { buffer = b; sequence = s } ∷ readers_from (suc s) qs b) (readers_from (suc s) qs b)
+readers_from s (q ∷ qs) b = cond (waits_for b q) (record { buffer = b; sequence = s } ∷ readers_from (suc s) qs b)
+    (readers_from (suc s) qs b)
 
 module _ (p : Program) where
   abbrev pub turn : ℕ → List Instr

@@ -1,5 +1,29 @@
--- The micro-steps of a program's sequences, by the table of instructions. Semaphores 2q and 2q + 1 are the empty and the full one of pair q.
-use Rattle.std.specs.Prelude.{ℕ, zero, suc, ◌+◌, ◌*◌, Bool, true, false, cond, max, nat_eq, nat_lt, List, [], ◌∷◌, ◌++◌, length, take, Option, Some, None, slice_get}
+-- The micro-steps of a program's sequences, by the table of instructions.
+-- Semaphores 2q and 2q + 1 are the empty and the full one of pair q.
+use Rattle.std.specs.Prelude.{
+  ℕ,
+  zero,
+  suc,
+  ◌+◌,
+  ◌*◌,
+  Bool,
+  true,
+  false,
+  cond,
+  max,
+  nat_eq,
+  nat_lt,
+  List,
+  [],
+  ◌∷◌,
+  ◌++◌,
+  length,
+  take,
+  Option,
+  Some,
+  None,
+  slice_get,
+}
 use Rattle.std.specs.List.{count_by}
 use Rattle.interleavings.specs.System.{Micro, take as taken, see, sub, signal, await, advance, load, store}
 use Rattle.interleavings.specs.Owners.{sum_below}
@@ -9,7 +33,16 @@ use Rattle.executive_program.specs.declared.program.Instr.TheVariants.{Suc0, Suc
 use Rattle.executive_program.specs.declared.program.SeqCode.{SeqCode}
 use Rattle.executive_program.specs.declared.program.Program.{Program}
 use Rattle.executive_program.specs.Blocks.{blocks}
-use Rattle.executive_program.specs.Instructions.{is_communication, turn, prologue, medium, number_or, len_of, depth_of, pair_depth}
+use Rattle.executive_program.specs.Instructions.{
+  is_communication,
+  turn,
+  prologue,
+  medium,
+  number_or,
+  len_of,
+  depth_of,
+  pair_depth,
+}
 
 abbrev pub first_of : {A : Type 0} → Option A → Option A → Option A
 first_of (Some x) y = Some x
@@ -44,7 +77,8 @@ abbrev pub sent_by : List SeqCode → ℕ → ℕ → Option ℕ
 sent_by [] m t = None
 sent_by (q ∷ qs) m t = first_of (cond (is_on m q.seq.medium) (sent_in q.turn t) None) (sent_by qs m t)
 
--- a take of semaphore x, where the pair's buffer has this many places: with one place it is one micro-step, with more a look comes first
+-- a take of semaphore x, where the pair's buffer has this many places:
+-- with one place it is one micro-step, with more a look comes first
 abbrev pub takes : ℕ → ℕ → List Micro
 takes depth x = cond (nat_eq depth 1) (taken x ∷ []) (see x ∷ sub x ∷ [])
 
@@ -133,7 +167,8 @@ module _ (p : Program) where
   micros_of m t (Pre1 q) = signal (2 * q + 1) ∷ []
   micros_of m t (Call v ins outs) = blocks (loads_at ins) (length ins) ++ blocks (stores_at outs) (length outs)
   micros_of m t (Send b q) = await m (2 * t) true ∷ (blocks (send_at m t b) (len_of p b) ++ advance m (2 * t) ∷ [])
-  micros_of m t (Recv b q) = await m (2 * t + 1) true ∷ (blocks (receive_at m t b) (len_of p b) ++ advance m (2 * t + 1) ∷ [])
+  micros_of m t (Recv b q) = await m (2 * t + 1) true ∷
+      (blocks (receive_at m t b) (len_of p b) ++ advance m (2 * t + 1) ∷ [])
   micros_of m t (Sync q r) = await m (2 * t + 2) false ∷ []
 
   abbrev pub micros_in : ℕ → ℕ → Option Instr → List Micro
@@ -152,7 +187,10 @@ module _ (p : Program) where
   front_block s a = block_in (number_or 0 (medium p s)) (prologue p s) a
 
   abbrev pub code : ℕ → Code Micro
-  code s = record { prologue = blocks (front_block s) (length (prologue p s)); turn = blocks (block s) (length (turn p s)) }
+  code s = record {
+    prologue = blocks (front_block s) (length (prologue p s));
+    turn = blocks (block s) (length (turn p s));
+  }
 
   abbrev pub size : ℕ → ℕ → ℕ
   size s a = length (block s a)
@@ -161,6 +199,8 @@ module _ (p : Program) where
   abbrev pub begins : ℕ → ℕ → ℕ
   begins s a = sum_below (size s) a
 
-  -- the number of words: two for each pair, one turn for each medium, the elements of the buffers in all their places, and those of the wires
+  -- the number of words: two for each pair, one turn for each medium, the
+  -- elements of the buffers in all their places, and those of the wires
   abbrev pub words : ℕ → ℕ
-  words media = 2 * length p.pairs + media + sum_below (λ b. depth_of p b * len_of p b) (length p.buffers) + sum_below wire_len media
+  words media = 2 * length p.pairs + media + sum_below (λ b. depth_of p b * len_of p b) (length p.buffers) +
+      sum_below wire_len media

@@ -1,5 +1,24 @@
--- Where things stand in a program: an instruction is named by its sequence and its place in its loop. All of it is computed from the program.
-use Rattle.std.specs.Prelude.{ℕ, zero, suc, Bool, true, false, ◌&&◌, cond, nat_eq, List, [], ◌∷◌, length, Option, Some, None, slice_get}
+-- Where things stand in a program: an instruction is named by its sequence and
+-- its place in its loop. All of it is computed from the program.
+use Rattle.std.specs.Prelude.{
+  ℕ,
+  zero,
+  suc,
+  Bool,
+  true,
+  false,
+  ◌&&◌,
+  cond,
+  nat_eq,
+  List,
+  [],
+  ◌∷◌,
+  length,
+  Option,
+  Some,
+  None,
+  slice_get,
+}
 use Rattle.std.specs.List.{list_any, position_or_len}
 use Rattle.flat_graph.specs.declared.vertex.Source.{Source}
 use Rattle.interleavings.specs.Owners.{sum_below}
@@ -8,7 +27,16 @@ use Rattle.executive_program.specs.declared.program.Instr.TheVariants.{Suc0, Suc
 use Rattle.executive_program.specs.declared.program.SeqCode.{SeqCode}
 use Rattle.executive_program.specs.declared.program.Program.{Program}
 use Rattle.executive_program.specs.Blocks.{blocks, repeated}
-use Rattle.executive_program.specs.Instructions.{is_communication, writes, turn, medium, Reader, readers, depth_of, communications}
+use Rattle.executive_program.specs.Instructions.{
+  is_communication,
+  writes,
+  turn,
+  medium,
+  Reader,
+  readers,
+  depth_of,
+  communications,
+}
 use Rattle.executive_program.specs.MicroSteps.{is_on, sent}
 
 -- A buffer is written as output `port` of instruction `at` of sequence `writer`.
@@ -17,7 +45,8 @@ pub record Writing : Type 0 where
   pub at : ℕ
   pub port : ℕ
 
--- A pair of semaphores: its buffer, the reading sequence, the places of its four instructions in the loops of the writing and the reading sequence, and of its first signal in the reader's prologue.
+-- A pair of semaphores: its buffer, the reading sequence, the places of its four instructions in the
+-- loops of the writing and the reading sequence, and of its first signal in the reader's prologue.
 pub record Pair : Type 0 where
   pub buffer : ℕ
   pub reader : ℕ
@@ -27,6 +56,8 @@ pub record Pair : Type 0 where
   pub signal_empty : ℕ
   pub front : ℕ
 
+-- A transfer: its sending and its receiving sequence, the places of the send and of the receive in their loops, and the
+-- buffers that are sent and received.
 pub record Transfer : Type 0 where
   pub sender : ℕ
   pub send_at : ℕ
@@ -35,12 +66,14 @@ pub record Transfer : Type 0 where
   pub sent : ℕ
   pub received : ℕ
 
+-- The call of an operation: its sequence, its place in the loop, and the buffers that it reads and writes.
 pub record Calling : Type 0 where
   pub sequence : ℕ
   pub at : ℕ
   pub ins : List ℕ
   pub outs : List ℕ
 
+-- by buffer, by pair, by medium and number, and by operation
 pub record Places : Type 0 where
   pub writing : ℕ → Writing
   pub pair : ℕ → Pair
@@ -75,7 +108,7 @@ abbrev pub is_receive : Option Instr → Bool
 is_receive (Some (Recv b q)) = true
 is_receive _ = false
 
--- the number of the output at which an instruction writes buffer b, and of the first input by which it reads it
+-- the number of the output at which an instruction writes buffer b
 abbrev pub output_at : ℕ → Option Instr → ℕ
 output_at b (Some (Call v ins outs)) = position_or_len (λ c. nat_eq c b) outs
 output_at b _ = 0
@@ -115,7 +148,11 @@ module _ (p : Program) where
   written_at b = position_or_len (writes b) (turn p (writer_of b))
 
   abbrev pub writing : ℕ → Writing
-  writing b = record { writer = writer_of b; at = written_at b; port = output_at b (slice_get (turn p (writer_of b)) (written_at b)) }
+  writing b = record {
+    writer = writer_of b;
+    at = written_at b;
+    port = output_at b (slice_get (turn p (writer_of b)) (written_at b));
+  }
 
   abbrev pub reader : ℕ → Reader
   reader q = reader_or (slice_get (readers p) q)
@@ -135,7 +172,8 @@ module _ (p : Program) where
     front = sum_below (opening_signals (reader q).sequence) q;
   }
 
-  -- the prologue that a sequence has: for each pair of which it is the reader, by number, a signal of the empty semaphore for each place of the buffer
+  -- the prologue that a sequence has: for each pair of which it is the reader, by
+  -- number, a signal of the empty semaphore for each place of the buffer
   abbrev pub signals_of : ℕ → ℕ → List Instr
   signals_of s q = repeated (Pre0 q) (opening_signals s q)
 
@@ -163,7 +201,12 @@ module _ (p : Program) where
   transfer m t = transfer_by t (sequence_where (sends_at m t)) (sequence_where (receives_at m t))
 
   abbrev pub calling_by : ℕ → ℕ → Calling
-  calling_by s a = record { sequence = s; at = a; ins = ins_in (slice_get (turn p s) a); outs = outs_in (slice_get (turn p s) a) }
+  calling_by s a = record {
+    sequence = s;
+    at = a;
+    ins = ins_in (slice_get (turn p s) a);
+    outs = outs_in (slice_get (turn p s) a);
+  }
 
   abbrev pub caller_of : ℕ → ℕ
   caller_of v = sequence_where (λ q. list_any (calls v) q.turn)
@@ -174,7 +217,8 @@ module _ (p : Program) where
   abbrev pub places : Places
   places = record { writing = writing; pair = pair; transfer = transfer; calling = calling }
 
-  -- The source that a buffer carries: an output of the call that writes it, or what the buffer carries whose transfer it receives. A value goes over no more transfers than there are buffers.
+  -- The source that a buffer carries: an output of the call that writes it, or what the buffer carries
+  -- whose transfer it receives. A value goes over no more transfers than there are buffers.
   abbrev pub no_source : Source
   no_source = record { vertex = 0; port = 0 }
 
@@ -193,7 +237,8 @@ module _ (p : Program) where
 
   abbrev pub carried_within : ℕ → ℕ → Source
   carried_within zero b = no_source
-  carried_within (suc hops) b = source_by (carried_within hops) (writing b) (slice_get (turn p (writing b).writer) (writing b).at)
+  carried_within (suc hops) b = source_by (carried_within hops) (writing b)
+      (slice_get (turn p (writing b).writer) (writing b).at)
 
   abbrev pub carried : ℕ → Source
   carried b = carried_within (length p.buffers) b

@@ -1,5 +1,22 @@
 -- How many micro-steps a program has, counted without laying them out.
-use Rattle.std.specs.Prelude.{ℕ, ◌+◌, ◌*◌, Bool, true, false, cond, nat_eq, List, [], ◌∷◌, length, replicate, Option, Some, None}
+use Rattle.std.specs.Prelude.{
+  ℕ,
+  ◌+◌,
+  ◌*◌,
+  Bool,
+  true,
+  false,
+  cond,
+  nat_eq,
+  List,
+  [],
+  ◌∷◌,
+  length,
+  replicate,
+  Option,
+  Some,
+  None,
+}
 use Rattle.std.specs.List.{sum_by, count_by}
 use Rattle.executive_program.specs.declared.program.Instr.{Instr}
 use Rattle.executive_program.specs.declared.program.Instr.TheVariants.{Suc0, Suc1, Pre0, Call, Send, Recv}
@@ -23,14 +40,16 @@ module _ (depth : ℕ → ℕ) where
   abbrev pub looks_in : List Instr → ℕ
   looks_in xs = sum_by looks_of xs
 
--- How many pairs these signals open several times in succession. The pair opened last, and whether it was counted, come first.
+-- How many pairs these signals open several times in succession. The
+-- pair opened last, and whether it was counted, come first.
 abbrev pub is_last : ℕ → Option ℕ → Bool
 is_last q None = false
 is_last q (Some r) = nat_eq q r
 
 abbrev pub opened_after : Option ℕ → Bool → List Instr → ℕ
 opened_after last again [] = 0
-opened_after last again (Pre0 q ∷ xs) = cond (is_last q last) (cond again 0 1 + opened_after last true xs) (opened_after (Some q) false xs)
+opened_after last again (Pre0 q ∷ xs) =
+    cond (is_last q last) (cond again 0 1 + opened_after last true xs) (opened_after (Some q) false xs)
 opened_after last again (_ ∷ xs) = opened_after None false xs
 
 module _ (p : Program) where
@@ -41,7 +60,8 @@ module _ (p : Program) where
   abbrev pub pair_depths : List ℕ
   pair_depths = blocks depths_of (length p.buffers)
 
-  -- Without looks: a call loads and stores each element once; a send and a receive wait, load and store each element, and go on.
+  -- Without looks: a call loads and stores each element once; a send and
+  -- a receive wait, load and store each element, and go on.
   abbrev pub plain_of : Instr → ℕ
   plain_of (Call v ins outs) = elements_in p ins + elements_in p outs
   plain_of (Send b q) = 2 + 2 * len_of p b
@@ -64,6 +84,7 @@ module _ (p : Program) where
   abbrev pub turn_looks : ℕ
   turn_looks = sum_by (λ (q : SeqCode). looks_in (pair_depth p) q.turn) p.seqs
 
-  -- how many pairs the prologues open several times; in a well-formed program these are the pairs of buffers of several places
+  -- how many pairs the prologues open several times; in a well-formed
+  -- program these are the pairs of buffers of several places
   abbrev pub deep_pairs : ℕ
   deep_pairs = sum_by (λ (q : SeqCode). opened_after None false q.prologue) p.seqs

@@ -1,6 +1,30 @@
--- The micro-steps of a program with what each does beside: where the element lies that it loads or stores, and what it does with the registers.
--- They are a table of their own beside that of `MicroSteps`: the theory names an access of an element by its number among the accesses of one reaction, which the core has no use for, and forgets registers, which the core needs. That both have the same micro-steps is a law of `phase_laws`.
-use Rattle.std.specs.Prelude.{ℕ, ◌+◌, ◌-◌, ◌*◌, true, false, cond, nat_eq, nat_lt, List, [], ◌∷◌, ◌++◌, length, Option, Some, None, slice_get, take as take_list}
+-- The micro-steps of a program as the core makes them: where the element lies that a micro-step loads or stores, and
+-- what it does with the registers.
+--
+-- The theory has a table of its own, in `MicroSteps`. It names an access of an element by its number among the
+-- accesses of one reaction, which the core has no use for, and it forgets registers, which the core needs. That both
+-- tables have the same micro-steps is a law of `phase_laws`.
+use Rattle.std.specs.Prelude.{
+  ℕ,
+  ◌+◌,
+  ◌-◌,
+  ◌*◌,
+  true,
+  false,
+  cond,
+  nat_eq,
+  nat_lt,
+  List,
+  [],
+  ◌∷◌,
+  ◌++◌,
+  length,
+  Option,
+  Some,
+  None,
+  slice_get,
+  take as take_list,
+}
 use Rattle.std.specs.List.{count_by}
 use Rattle.interleavings.specs.Owners.{sum_below}
 use Rattle.consistent_cuts.specs.Sites.{Code}
@@ -14,101 +38,128 @@ use Rattle.executive_program.specs.declared.steps.OnLoad.TheVariants.{Gather, Ca
 use Rattle.executive_program.specs.declared.steps.OnStore.{OnStore}
 use Rattle.executive_program.specs.declared.steps.OnStore.TheVariants.{Give, Carry as CarryOut, Compute as ComputeOut}
 use Rattle.executive_program.specs.declared.steps.MicroStep.{MicroStep}
-use Rattle.executive_program.specs.declared.steps.MicroStep.TheVariants.{Take, See, Lower, Signal, Await, Advance, Load, Store}
+use Rattle.executive_program.specs.declared.steps.MicroStep.TheVariants.{
+  Take,
+  See,
+  Lower,
+  Signal,
+  Await,
+  Advance,
+  Load,
+  Store,
+}
 use Rattle.executive_program.specs.Blocks.{blocks}
 use Rattle.executive_program.specs.Instructions.{is_communication, number_or, len_of, pair_depth}
 
--- a take of semaphore x, where the pair's buffer has this many places
+-- A take of a semaphore of a pair whose buffer has this many places. With one place it is one micro-step. With several
+-- the word may be above 1, so that it is seen first and then lowered by one.
 abbrev pub take_steps : ℕ → ℕ → List MicroStep
-take_steps depth x = cond (nat_eq depth 1) (Take x ∷ []) (See x ∷ Lower x ∷ [])
+take_steps depth semaphore = cond (nat_eq depth 1) (Take semaphore ∷ []) (See semaphore ∷ Lower semaphore ∷ [])
 
--- load or store r of a call of v, of this many loads and micro-steps: the computation belongs to the last load, or to the first store where there is no load
+-- What load or store `number` of a call does, where the call has this many loads and this many micro-steps. The
+-- computation belongs to the last load, or to the first store where there is no load.
 abbrev pub on_load : ℕ → ℕ → ℕ → ℕ → OnLoad
-on_load v loads micros r = cond (nat_eq (r + 1) loads) (ComputeIn v r (nat_lt (r + 1) micros)) (Gather r)
+on_load vertex loads micros number = cond (nat_eq (number + 1) loads)
+    (ComputeIn vertex number (nat_lt (number + 1) micros))
+    (Gather number)
 
 abbrev pub on_store : ℕ → ℕ → ℕ → ℕ → OnStore
-on_store v loads micros r = cond (nat_eq r 0) (ComputeOut v (nat_lt (r + 1) micros)) (Give (r - loads) (nat_lt (r + 1) micros))
+on_store vertex loads micros number = cond (nat_eq number 0)
+    (ComputeOut vertex (nat_lt (number + 1) micros))
+    (Give (number - loads) (nat_lt (number + 1) micros))
 
-module _ (v loads micros : ℕ) where
+-- the load, or the store, of one element of a buffer whose first element is access `first` of the call
+module _ (vertex loads micros : ℕ) where
   abbrev pub load_step : ℕ → ℕ → ℕ → List MicroStep
-  load_step b r j = Load (Buffer b j) (on_load v loads micros (r + j)) ∷ []
+  load_step buffer first element = Load (Buffer buffer element) (on_load vertex loads micros (first + element)) ∷ []
 
   abbrev pub store_step : ℕ → ℕ → ℕ → List MicroStep
-  store_step b r j = Store (Buffer b j) (on_store v loads micros (r + j)) ∷ []
+  store_step buffer first element = Store (Buffer buffer element) (on_store vertex loads micros (first + element)) ∷ []
 
--- element j of buffer b on its way over medium m
+-- one element of a buffer on its way over a medium: from the buffer to the wire, and from the wire to the buffer
 abbrev pub send_step : ℕ → ℕ → ℕ → List MicroStep
-send_step m b j = Load (Buffer b j) CarryIn ∷ Store (Wire m j) CarryOut ∷ []
+send_step medium buffer element = Load (Buffer buffer element) CarryIn ∷ Store (Wire medium element) CarryOut ∷ []
 
 abbrev pub receive_step : ℕ → ℕ → ℕ → List MicroStep
-receive_step m b j = Load (Wire m j) CarryIn ∷ Store (Buffer b j) CarryOut ∷ []
+receive_step medium buffer element = Load (Wire medium element) CarryIn ∷ Store (Buffer buffer element) CarryOut ∷ []
 
 module _ (p : Program) where
   abbrev pub len_by : Option ℕ → ℕ
   len_by None = 0
-  len_by (Some b) = len_of p b
+  len_by (Some buffer) = len_of p buffer
 
-  -- how many elements the buffer at place k of a list has
+  -- how many elements the buffer at this place of a list has, and all buffers of the list together
   abbrev pub len_at : List ℕ → ℕ → ℕ
-  len_at list k = len_by (slice_get list k)
+  len_at buffers place = len_by (slice_get buffers place)
 
-  -- how many elements these buffers have
   abbrev pub elements_in : List ℕ → ℕ
-  elements_in list = sum_below (len_at list) (length list)
+  elements_in buffers = sum_below (len_at buffers) (length buffers)
 
-  module _ (v loads micros : ℕ) where
-    -- the loads of a buffer, of which the first is load r of the call, and likewise its stores
+  module _ (vertex loads micros : ℕ) where
+    -- the loads of a buffer, of which the first is load `first` of the call, and likewise its stores
     abbrev pub load_steps : ℕ → Option ℕ → List MicroStep
-    load_steps r None = []
-    load_steps r (Some b) = blocks (load_step v loads micros b r) (len_of p b)
+    load_steps first None = []
+    load_steps first (Some buffer) = blocks (load_step vertex loads micros buffer first) (len_of p buffer)
 
     abbrev pub store_steps : ℕ → Option ℕ → List MicroStep
-    store_steps r None = []
-    store_steps r (Some b) = blocks (store_step v loads micros b r) (len_of p b)
+    store_steps first None = []
+    store_steps first (Some buffer) = blocks (store_step vertex loads micros buffer first) (len_of p buffer)
 
-    -- the loads of input k of a call, and the stores of its output k
+    -- the loads of the input at this place, and the stores of the output at this place
     abbrev pub input_steps : List ℕ → ℕ → List MicroStep
-    input_steps ins k = load_steps (sum_below (len_at ins) k) (slice_get ins k)
+    input_steps ins place = load_steps (sum_below (len_at ins) place) (slice_get ins place)
 
     abbrev pub output_steps : List ℕ → ℕ → List MicroStep
-    output_steps outs k = store_steps (loads + sum_below (len_at outs) k) (slice_get outs k)
+    output_steps outs place = store_steps (loads + sum_below (len_at outs) place) (slice_get outs place)
 
+  -- a call loads all elements of its inputs, and then stores all elements of its outputs
   abbrev pub call_steps : ℕ → List ℕ → List ℕ → List MicroStep
-  call_steps v ins outs = blocks (input_steps v (elements_in ins) (elements_in ins + elements_in outs) ins) (length ins)
-      ++ blocks (output_steps v (elements_in ins) (elements_in ins + elements_in outs) outs) (length outs)
+  call_steps vertex ins outs =
+      blocks (input_steps vertex (elements_in ins) (elements_in ins + elements_in outs) ins) (length ins) ++
+      blocks (output_steps vertex (elements_in ins) (elements_in ins + elements_in outs) outs) (length outs)
 
-  -- the micro-steps of an instruction on medium m, where the loop has n communications, and t of them stand before it
+  -- The micro-steps of an instruction. It stands on this medium, in a list with this many communications, of which
+  -- `before` stand before it. A communication waits for its half of the medium's turn: each transfer has two halves,
+  -- that of the send and that of the receive, and whoever is not concerned waits until both are over.
   abbrev pub steps_of : ℕ → ℕ → ℕ → Instr → List MicroStep
-  steps_of m n t (Suc0 q) = take_steps (pair_depth p q) (2 * q)
-  steps_of m n t (Suc1 q) = take_steps (pair_depth p q) (2 * q + 1)
-  steps_of m n t (Pre0 q) = Signal (2 * q) ∷ []
-  steps_of m n t (Pre1 q) = Signal (2 * q + 1) ∷ []
-  steps_of m n t (Call v ins outs) = call_steps v ins outs
-  steps_of m n t (Send b q) = Await m (2 * t) (2 * n) true ∷ (blocks (send_step m b) (len_of p b) ++ Advance m ∷ [])
-  steps_of m n t (Recv b q) = Await m (2 * t + 1) (2 * n) true ∷ (blocks (receive_step m b) (len_of p b) ++ Advance m ∷ [])
-  steps_of m n t (Sync q r) = Await m (2 * t + 2) (2 * n) false ∷ []
+  steps_of medium communications before (Suc0 pair) = take_steps (pair_depth p pair) (2 * pair)
+  steps_of medium communications before (Suc1 pair) = take_steps (pair_depth p pair) (2 * pair + 1)
+  steps_of medium communications before (Pre0 pair) = Signal (2 * pair) ∷ []
+  steps_of medium communications before (Pre1 pair) = Signal (2 * pair + 1) ∷ []
+  steps_of medium communications before (Call vertex ins outs) = call_steps vertex ins outs
+  steps_of medium communications before (Send buffer to) =
+      Await medium (2 * before) (2 * communications) true ∷
+      (blocks (send_step medium buffer) (len_of p buffer) ++ Advance medium ∷ [])
+  steps_of medium communications before (Recv buffer from) =
+      Await medium (2 * before + 1) (2 * communications) true ∷
+      (blocks (receive_step medium buffer) (len_of p buffer) ++ Advance medium ∷ [])
+  steps_of medium communications before (Sync from to) = Await medium (2 * before + 2) (2 * communications) false ∷ []
 
   abbrev pub steps_in : ℕ → ℕ → ℕ → Option Instr → List MicroStep
-  steps_in m n t None = []
-  steps_in m n t (Some x) = steps_of m n t x
+  steps_in medium communications before None = []
+  steps_in medium communications before (Some instr) = steps_of medium communications before instr
 
-  -- of instruction a of a list on medium m, and of the whole list
+  -- the micro-steps of the instruction at this place of a list, and of the whole list
   abbrev pub steps_at : ℕ → List Instr → ℕ → List MicroStep
-  steps_at m xs a = steps_in m (count_by is_communication xs) (count_by is_communication (take_list a xs)) (slice_get xs a)
+  steps_at medium list place =
+      steps_in medium (count_by is_communication list) (count_by is_communication (take_list place list))
+      (slice_get list place)
 
   abbrev pub steps_in_list : ℕ → List Instr → List MicroStep
-  steps_in_list m xs = blocks (steps_at m xs) (length xs)
+  steps_in_list medium list = blocks (steps_at medium list) (length list)
 
-  -- the micro-steps of a sequence, of which there may be none
+  -- the micro-steps of a sequence; one that is not there has none
   abbrev pub steps_by : Option SeqCode → Code MicroStep
   steps_by None = record { prologue = []; turn = [] }
-  steps_by (Some q) = record { prologue = steps_in_list (number_or 0 q.seq.medium) q.prologue; turn = steps_in_list (number_or 0 q.seq.medium) q.turn }
+  steps_by (Some code) = record {
+    prologue = steps_in_list (number_or 0 code.seq.medium) code.prologue;
+    turn = steps_in_list (number_or 0 code.seq.medium) code.turn;
+  }
 
-  -- the micro-steps of sequence s
   abbrev pub steps : ℕ → Code MicroStep
-  steps s = steps_by (slice_get p.seqs s)
+  steps sequence = steps_by (slice_get p.seqs sequence)
 
-  -- the micro-steps of all prologues, and of one reaction of all sequences
+  -- how many micro-steps all prologues have, and all loops in one reaction
   abbrev pub all_prologues : ℕ
   all_prologues = sum_below (λ s. length (steps s).prologue) (length p.seqs)
 

@@ -1,5 +1,31 @@
--- A program is well formed for a flat graph and an architecture by a serial order of one reaction. The order names at each place a sequence, whose next instruction stands there.
-use Rattle.std.specs.Prelude.{◌≡◌, ◌≢◌, ℕ, zero, suc, ◌+◌, ◌<◌, ◌≤◌, ◌⊎◌, true, false, cond, nat_eq, List, [], ◌∷◌, ◌++◌, map, length, Option, Some, None, slice_get, ℤ}
+-- A program is well formed for a flat graph and an architecture by a serial order of one
+-- reaction. The order names at each place a sequence, whose next instruction stands there.
+use Rattle.std.specs.Prelude.{
+  ◌≡◌,
+  ◌≢◌,
+  ℕ,
+  zero,
+  suc,
+  ◌+◌,
+  ◌<◌,
+  ◌≤◌,
+  ◌⊎◌,
+  true,
+  false,
+  cond,
+  nat_eq,
+  List,
+  [],
+  ◌∷◌,
+  ◌++◌,
+  map,
+  length,
+  Option,
+  Some,
+  None,
+  slice_get,
+  ℤ,
+}
 use Rattle.std.specs.List.{count_by}
 use Rattle.flat_graph.specs.declared.vertex.Source.{Source}
 use Rattle.flat_graph.specs.declared.vertex.Vertex.{Vertex}
@@ -10,7 +36,18 @@ use Rattle.executive_program.specs.declared.program.Instr.{Instr}
 use Rattle.executive_program.specs.declared.program.Instr.TheVariants.{Suc0, Suc1, Pre0, Pre1, Call, Send, Recv, Sync}
 use Rattle.executive_program.specs.declared.program.Buffer.{Buffer}
 use Rattle.executive_program.specs.declared.program.Program.{Program}
-use Rattle.executive_program.specs.Instructions.{is_communication, turn, prologue, medium, operator, len_of, depth_of, is_guarded, communications, readers}
+use Rattle.executive_program.specs.Instructions.{
+  is_communication,
+  turn,
+  prologue,
+  medium,
+  operator,
+  len_of,
+  depth_of,
+  is_guarded,
+  communications,
+  readers,
+}
 use Rattle.executive_program.specs.MicroSteps.{transfers}
 use Rattle.executive_program.specs.Places.{Places, places, opening_of, carried}
 
@@ -76,13 +113,16 @@ module _ (p : Program) where
       pub lengths : (s : ℕ) → s < length p.seqs → count_by (λ t. nat_eq t s) order ≡ length (turn p s)
 
     module _ (w : Places) where
-      -- Buffer b is written once, and touched on its own operator alone; where it is written and read in one sequence, it is written first. It has one to four places, and one where no pair guards it.
+      -- Buffer b is written once, and touched on its own operator alone; where it is written and read in one
+      -- sequence, it is written first. It has one to four places, and one where no pair guards it.
       pub record IsBuffer (b : ℕ) : Type 0 where
         pub instr : Instr
         pub stands : Stands (w.writing b).writer (w.writing b).at instr
         pub writes : WritesAt instr (w.writing b).port b
-        pub only : (s a k : ℕ) (x : Instr) → Stands s a x → WritesAt x k b → (s ≡ (w.writing b).writer) × (a ≡ (w.writing b).at) × (k ≡ (w.writing b).port)
-        pub near : (s a k : ℕ) (x : Instr) → Stands s a x → WritesAt x k b ⊎ ReadsAt x k b → operator_is (slice_get p.buffers b) (operator p s)
+        pub only : (s a k : ℕ) (x : Instr) → Stands s a x → WritesAt x k b →
+            (s ≡ (w.writing b).writer) × (a ≡ (w.writing b).at) × (k ≡ (w.writing b).port)
+        pub near : (s a k : ℕ) (x : Instr) → Stands s a x → WritesAt x k b ⊎ ReadsAt x k b →
+            operator_is (slice_get p.buffers b) (operator p s)
         pub own_reads : (a k : ℕ) (x : Instr) → Stands (w.writing b).writer a x → ReadsAt x k b → (w.writing b).at < a
         pub some_place : 1 ≤ depth_of p b
         pub few_places : depth_of p b ≤ 4
@@ -100,16 +140,23 @@ module _ (p : Program) where
         pub before_write : (w.pair q).take_empty < (w.writing (w.pair q).buffer).at
         pub after_write : (w.writing (w.pair q).buffer).at < (w.pair q).signal_full
         pub full_first : Before (writer_of q) (w.pair q).signal_full (w.pair q).reader (w.pair q).take_full
-        pub reads : (a k : ℕ) (x : Instr) → Stands (w.pair q).reader a x → ReadsAt x k (w.pair q).buffer → ((w.pair q).take_full < a) × (a < (w.pair q).signal_empty)
+        pub reads : (a k : ℕ) (x : Instr) → Stands (w.pair q).reader a x → ReadsAt x k (w.pair q).buffer →
+            ((w.pair q).take_full < a) × (a < (w.pair q).signal_empty)
 
       -- Transfer t of medium m: its send, its receive, and the others, in this order, and before the next send.
       pub record IsTransfer (m t : ℕ) : Type 0 where
-        pub sends : Communicates m t (w.transfer m t).sender (w.transfer m t).send_at (Send (w.transfer m t).sent (operator p (w.transfer m t).receiver))
-        pub receives : Communicates m t (w.transfer m t).receiver (w.transfer m t).receive_at (Recv (w.transfer m t).received (operator p (w.transfer m t).sender))
-        pub others : (s a : ℕ) (x : Instr) → Communicates m t s a x → s ≢ (w.transfer m t).sender → s ≢ (w.transfer m t).receiver
-            → (x ≡ Sync (operator p (w.transfer m t).sender) (operator p (w.transfer m t).receiver)) × Before (w.transfer m t).receiver (w.transfer m t).receive_at s a
-        pub in_order : Before (w.transfer m t).sender (w.transfer m t).send_at (w.transfer m t).receiver (w.transfer m t).receive_at
-        pub next : t + 1 < transfers p m → Before (w.transfer m t).receiver (w.transfer m t).receive_at (w.transfer m (t + 1)).sender (w.transfer m (t + 1)).send_at
+        pub sends : Communicates m t (w.transfer m t).sender (w.transfer m t).send_at
+            (Send (w.transfer m t).sent (operator p (w.transfer m t).receiver))
+        pub receives : Communicates m t (w.transfer m t).receiver (w.transfer m t).receive_at
+            (Recv (w.transfer m t).received (operator p (w.transfer m t).sender))
+        pub others : (s a : ℕ) (x : Instr) → Communicates m t s a x →
+            s ≢ (w.transfer m t).sender → s ≢ (w.transfer m t).receiver →
+            (x ≡ Sync (operator p (w.transfer m t).sender) (operator p (w.transfer m t).receiver)) ×
+            Before (w.transfer m t).receiver (w.transfer m t).receive_at s a
+        pub in_order : Before (w.transfer m t).sender (w.transfer m t).send_at
+            (w.transfer m t).receiver (w.transfer m t).receive_at
+        pub next : t + 1 < transfers p m → Before (w.transfer m t).receiver (w.transfer m t).receive_at
+            (w.transfer m (t + 1)).sender (w.transfer m (t + 1)).send_at
         pub lengths : len_of p (w.transfer m t).received ≡ len_of p (w.transfer m t).sent
 
       -- What buffers carry: `carried b` is the source.
@@ -125,26 +172,31 @@ module _ (p : Program) where
         -- these buffers carry these sources, in their lengths
         abbrev pub CarryInOrder : List ℕ → List Source → Type 0
         CarryInOrder [] [] = Unit {0}
-        CarryInOrder (b ∷ bs) (x ∷ xs) = (b < length p.buffers) × (carried b ≡ x) × HasLength x (len_of p b) × CarryInOrder bs xs
+        CarryInOrder (b ∷ bs) (x ∷ xs) = (b < length p.buffers) × (carried b ≡ x) × HasLength x (len_of p b) ×
+            CarryInOrder bs xs
         CarryInOrder [] (x ∷ xs) = ⊥
         CarryInOrder (b ∷ bs) [] = ⊥
 
         -- these buffers carry the outputs of operation v from `port` on, whose lengths are these
         abbrev pub CarryOutputs : ℕ → ℕ → List ℕ → List ℕ → Type 0
         CarryOutputs v port [] [] = Unit {0}
-        CarryOutputs v port (b ∷ bs) (n ∷ ns) = (carried b ≡ record { vertex = v; port = port }) × len_is (slice_get p.buffers b) n × CarryOutputs v (port + 1) bs ns
+        CarryOutputs v port (b ∷ bs) (n ∷ ns) = (carried b ≡ record { vertex = v; port = port }) ×
+            len_is (slice_get p.buffers b) n × CarryOutputs v (port + 1) bs ns
         CarryOutputs v port [] (n ∷ ns) = ⊥
         CarryOutputs v port (b ∷ bs) [] = ⊥
 
-        -- Each operation is called once, in a computation sequence, on what carries its guards' sources and its inputs, into what carries its outputs.
+        -- Each operation is called once, in a computation sequence, on what carries its
+        -- guards' sources and its inputs, into what carries its outputs.
         pub record IsCalled (v : ℕ) (x : Vertex) : Type 0 where
           pub stands : Stands (w.calling v).sequence (w.calling v).at (Call v (w.calling v).ins (w.calling v).outs)
-          pub only : (s a : ℕ) (ins outs : List ℕ) → Stands s a (Call v ins outs) → (s ≡ (w.calling v).sequence) × (a ≡ (w.calling v).at)
+          pub only : (s a : ℕ) (ins outs : List ℕ) → Stands s a (Call v ins outs) →
+              (s ≡ (w.calling v).sequence) × (a ≡ (w.calling v).at)
           pub computes : medium p (w.calling v).sequence ≡ None
           pub takes : CarryInOrder (w.calling v).ins (map (λ d. d.source) x.guards ++ x.ins)
           pub gives : CarryOutputs v 0 (w.calling v).outs x.outs
           -- the halves of a delay are called in one sequence, the get half first
-          pub twins : (z : List ℤ) (u : ℕ) → x.kind ≡ Get z → x.twin ≡ Some u → ((w.calling v).sequence ≡ (w.calling u).sequence) × ((w.calling v).at < (w.calling u).at)
+          pub twins : (z : List ℤ) (u : ℕ) → x.kind ≡ Get z → x.twin ≡ Some u →
+              ((w.calling v).sequence ≡ (w.calling u).sequence) × ((w.calling v).at < (w.calling u).at)
 
         -- what an instruction names is there
         abbrev pub NamesIn : Instr → Type 0
@@ -152,7 +204,8 @@ module _ (p : Program) where
         NamesIn (Suc1 q) = q < length p.pairs
         NamesIn (Pre0 q) = q < length p.pairs
         NamesIn (Pre1 q) = q < length p.pairs
-        NamesIn (Call v ins outs) = (v < length g.vertices) × ((k b : ℕ) → (slice_get ins k ≡ Some b) ⊎ (slice_get outs k ≡ Some b) → b < length p.buffers)
+        NamesIn (Call v ins outs) = (v < length g.vertices) ×
+            ((k b : ℕ) → (slice_get ins k ≡ Some b) ⊎ (slice_get outs k ≡ Some b) → b < length p.buffers)
         NamesIn (Send b q) = b < length p.buffers
         NamesIn (Recv b q) = b < length p.buffers
         NamesIn (Sync q r) = Unit {0}
@@ -164,17 +217,21 @@ module _ (p : Program) where
           pub named : (s a : ℕ) (x : Instr) → Stands s a x → NamesIn x
           pub called : (v : ℕ) (x : Vertex) → slice_get g.vertices v ≡ Some x → IsCalled v x
           pub buffers : (b : ℕ) → b < length p.buffers → IsBuffer b
-          -- there is one pair for each buffer and each reading sequence that is not the writing one, by buffer and then by sequence, on the buffer's operator
+          -- there is one pair for each buffer and each reading sequence that is not the
+          -- writing one, by buffer and then by sequence, on the buffer's operator
           pub numbered : map (λ o. Some o) p.pairs ≡ map (λ r. operator_of r.buffer) (readers p)
           pub pairs : (q : ℕ) → q < length p.pairs → IsPair q
-          pub prologues : (s : ℕ) → s < length p.seqs → Rattle.executive_program.specs.Instructions.prologue p s ≡ opening_of p s
+          pub prologues : (s : ℕ) → s < length p.seqs →
+              Rattle.executive_program.specs.Instructions.prologue p s ≡ opening_of p s
           -- communications stand in communicators alone; each communicator of a medium has one in each transfer
-          pub communicators : (s a : ℕ) (x : Instr) → Stands s a x → is_communication x ≡ true → (m : ℕ) × (medium p s ≡ Some m)
+          pub communicators : (s a : ℕ) (x : Instr) → Stands s a x → is_communication x ≡ true →
+              (m : ℕ) × (medium p s ≡ Some m)
           pub on_media : (s m : ℕ) → medium p s ≡ Some m → m < media
           pub counts : (s m : ℕ) → medium p s ≡ Some m → count_by is_communication (turn p s) ≡ transfers p m
           pub transferred : (m t : ℕ) → m < media → t < transfers p m → IsTransfer m t
           -- a received buffer carries what the sent one does
-          pub carries : (m t : ℕ) → m < media → t < transfers p m → carried (w.transfer m t).received ≡ carried (w.transfer m t).sent
+          pub carries : (m t : ℕ) → m < media → t < transfers p m →
+              carried (w.transfer m t).received ≡ carried (w.transfer m t).sent
 
 -- The program is well formed with this serial order.
 abbrev pub IsOrder : (p : Program) → Graph → List Seq → ℕ → List ℕ → Type 0

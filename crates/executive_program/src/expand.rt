@@ -1,4 +1,4 @@
-//! The micro-steps of a program's sequences, laid out so that each is found by its number.
+//! The expansion of instructions: the micro-steps of each sequence, laid out so that each is found by its number.
 ghost use Rattle.std.specs.Prelude.{count_by, ◌≡◌, ◌+◌, ◌*◌, ◌^◌, ◌<◌, ◌≤◌, ◌++◌, ◌∷◌, cond, [], true, length, IfOk, OnOk, slice_index_or, Some, vec_len};
 ghost use Rattle.executive_program.specs.Blocks.{blocks};
 ghost use Rattle.executive_program.specs.Expanded.{AreSteps};

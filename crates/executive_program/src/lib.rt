@@ -3,8 +3,8 @@
 //!
 //! `micro_steps_of` lays the micro-steps of a program out; `turn_micros` counts those of one reaction without
 //! laying them out, and `pair_depths` tells how many places the buffer of each pair has. `plain_prologues`,
-//! `plain_turns` and `deep_pairs` count without memory. `wire_len` tells how long the wire of a medium is. Whoever makes, reads,
-//! checks or runs programs stands on this crate.
+//! `plain_turns` and `deep_pairs` count without memory. `wire_len` tells how long the wire of a medium is.
+//! Whoever makes, reads, checks or runs programs stands on this crate.
 #![tactic(auto)]
 
 mod expand;

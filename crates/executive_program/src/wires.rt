@@ -1,4 +1,4 @@
-//! The wires of a program's media.
+//! The wire of a medium: how long it is.
 ghost use Rattle.std.specs.Prelude.{◌≡◌, max};
 ghost use Rattle.executive_program.specs.MicroSteps.{sent_len, longest_sent, longest_in, wire_len};
 

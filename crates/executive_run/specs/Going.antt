@@ -36,7 +36,8 @@ pub record IsHalted (d : DriverData) (s : ℕ) : Type 0 where
 -- no sequence is enabled in what the reached counts tell, and some sequence has not made all its micro-steps
 pub record IsStuck (d : DriverData) : Type 0 where
   pub reached : AreReached d.fabric.job d.counts
-  pub disabled : (s : ℕ) → s < length d.fabric.job.program.seqs → is_enabled d.fabric.job (told d.fabric.job d.counts) s ≡ false
+  pub disabled : (s : ℕ) → s < length d.fabric.job.program.seqs →
+      is_enabled d.fabric.job (told d.fabric.job d.counts) s ≡ false
   pub seq : ℕ
   pub there : seq < length d.fabric.job.program.seqs
   pub more : slice_index_or d.counts seq 0 < full d.fabric.job seq

@@ -10,4 +10,5 @@ pub record ReadyData : Type 0 where
 
 -- a code of it, from one of the job
 abbrev pub ready_code : Coded JobData → Coded ReadyData
-ready_code job = code_by (JobData × ℕ) (coded× job coded_ℕ) (λ r. (r.job, r.workers)) (λ p. record { job = p.0; workers = p.1 }) (λ _. refl)
+ready_code job = code_by (JobData × ℕ) (coded× job coded_ℕ) (λ r. (r.job, r.workers))
+    (λ p. record { job = p.0; workers = p.1 }) (λ _. refl)

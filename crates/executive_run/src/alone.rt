@@ -1,4 +1,4 @@
-//! One driver of all sequences.
+//! A run by one driver of all sequences, for `run_alone`.
 ghost use Rattle.std.specs.Prelude.{◌≡◌};
 ghost use Rattle.word_rule.specs.Driven.{driven_by};
 ghost use Rattle.word_table.specs.Closed.{IsAtEnd};

@@ -1,4 +1,4 @@
-//! The sequences of one driver, which are driven in turn.
+//! A group: one driver, whose sequences are driven in turn.
 ghost use Rattle.std.specs.Prelude.{◌≡◌, ◌≢◌, ◌<◌, ◌%◌, ℕ, length, slice_index_or, vec_len};
 ghost use Rattle.word_table.specs.Answers.{Answers, AnswersAlone};
 ghost use Rattle.word_table.specs.Driver.{IsFinished};

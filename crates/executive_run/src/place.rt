@@ -1,4 +1,4 @@
-//! Where the groups of a run stand while no worker has them.
+//! The place of a group, from which workers take it and to which they put it back.
 ghost use Rattle.std.specs.Prelude.{◌≡◌, ◌<◌, IfSome};
 ghost use Rattle.executive_run.specs.Places.{IsAtHome, IsPlaceOf};
 

@@ -1,4 +1,4 @@
-//! How far sequences went.
+//! How far sequences went in one turn of a group.
 ghost use Rattle.std.specs.Prelude.{◌≡◌, ◌+◌, min};
 
 /// The micro-steps that were made, and how many sequences have not made all of theirs. Both numbers stand

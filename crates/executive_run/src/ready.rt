@@ -1,4 +1,4 @@
-//! What is made ready before a run.
+//! A run made ready: a fabric with its drivers, and all memory that the run takes.
 ghost use Rattle.std.specs.Prelude.{◌≡◌, ◌≤◌, IfOk, vec_len};
 ghost use Rattle.word_table.specs.Driver.{AreDrivers, AreNew, IsNew};
 ghost use Rattle.executive_run.specs.Prepared.{AreGroups};
@@ -35,7 +35,8 @@ impl<'a> Model for Ready<'a> {
 
     ghost Value = { ReadyData };
 
-    ghost coded = { ready_code (job_code (Prim.hlevel codes) (graph_code (Prim.hlevel codes) (expr_code (Prim.hlevel codes)))) };
+    ghost coded = { ready_code (job_code (Prim.hlevel codes)
+        (graph_code (Prim.hlevel codes) (expr_code (Prim.hlevel codes)))) };
 
     ghost view = { λ r. record { job = r.job.now; workers = r.fabric.groups } };
 
@@ -84,6 +85,7 @@ fn groups_of<'a>(
     Ok(groups)
 }
 
+/// The group of a driver, for whose sequences the gate was not asked.
 fn group_of<'a>(
     alloc: Global,
     fabric: &Fabric<'a>,

@@ -1,4 +1,4 @@
-//! All groups driven by workers who share them.
+//! A run by workers who share all groups, for `run_ready`.
 ghost use Rattle.std.specs.Prelude.{◌≡◌, vec_len, vec_capacity};
 ghost use Rattle.word_rule.specs.Driven.{driven_by};
 ghost use Rattle.word_table.specs.Closed.{IsAtEnd};

@@ -1,4 +1,5 @@
-//! The vertices and edges that the lines of a repetition become.
+//! The frontier of an unrolled repetition: the vertices and sources that its lines become. `pass` and `vertices` call
+//! it.
 ghost use Rattle.std.specs.Prelude.{◌≡◌, ◌<◌, ◌≤◌, ◌+◌, ◌++◌, IfOk, OnOk, length, map, replicate, slice_index_or, ◌-◌, ◌==◌, if◌then◌else◌};
 ghost use Rattle.level_meaning.specs.Level.{numbers_below};
 ghost use Rattle.algo_tree.specs.View.{kind_view, view};
@@ -19,7 +20,7 @@ pub struct Copies {
 }
 
 /// A vertex that flattening makes for a port of a repetition of this definition.
-fn made(
+fn vertex_for_port(
     alloc: Global,
     definition: &[u8],
     name: &[u8],
@@ -44,7 +45,7 @@ fn made(
 }
 
 /// The same length `count` times.
-fn repeated(alloc: Global, len: u32, count: u32) -> Result<Vec<u32>, OutOfMemory>
+fn same_lengths(alloc: Global, len: u32, count: u32) -> Result<Vec<u32>, OutOfMemory>
     ensures { IfOk result (λ lens. lens.items ≡ replicate count len) }
 {
     Ok(vec![in alloc; len; count as usize]?)
@@ -62,8 +63,8 @@ fn explode(
     ensures { IfOk result (λ u. view u ≡ explode_of definition.now count name.now input len) }
 {
     let ins = vec![in alloc; Source::Own(input)]?;
-    let outs = repeated(alloc, len, count)?;
-    made(alloc, definition, name, ins, outs, Kind::Explode)
+    let outs = same_lengths(alloc, len, count)?;
+    vertex_for_port(alloc, definition, name, ins, outs, Kind::Explode)
 }
 
 /// An explode for each fork line among these lines.
@@ -100,7 +101,7 @@ pub fn begin_of(feeds: &[Feed]) -> u32
 
 /// The source of an iterated input of copy `i`: the outer input for copy 0, and the body's output for
 /// the copies after it.
-fn iterated(copies: Copies, i: u32, input: u32, output: u32) -> Source
+fn iterated_source(copies: Copies, i: u32, input: u32, output: u32) -> Source
     requires { copies.begin + i ≤ MOST_VERTICES }
     ensures { result ≡ (if i == 0 then Source.Own input else Source.Of (copies.begin + (i - 1)) output) }
 {
@@ -128,7 +129,7 @@ pub fn copy_ins(
         match feed {
             Feed::Fork(name, ..) => all.push(Source::Of(place_of(name.as_slice(), lines), i))?,
             Feed::Diffuse(input) => all.push(Source::Own(*input))?,
-            Feed::Iterate(input, output) => all.push(iterated(copies, i, *input, *output))?,
+            Feed::Iterate(input, output) => all.push(iterated_source(copies, i, *input, *output))?,
         }
     }
     Ok(all)
@@ -161,7 +162,7 @@ fn implode(
 {
     let ins = outputs_of(alloc, copies, output)?;
     let outs = vec![in alloc; len]?;
-    made(alloc, definition, name, ins, outs, Kind::Implode)
+    vertex_for_port(alloc, definition, name, ins, outs, Kind::Implode)
 }
 
 /// Adds an implode for each join line, in order, of the lengths of the repetition's outputs.

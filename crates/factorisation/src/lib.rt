@@ -1,5 +1,7 @@
-//! The first pass of flattening: `unroll`, the tree without repetitions. `factorisation_laws` says which
-//! tree that is, and that it has the same meaning. `hierarchy` calls it.
+//! The first pass of flattening: `unroll` makes of the tree of an algorithm one without repetitions, of the same
+//! meaning.
+//!
+//! `factorisation_laws` says which tree that is, and that it has the same meaning. `hierarchy` calls `unroll`.
 #![tactic(auto)]
 
 mod frontier;

@@ -1,4 +1,5 @@
-//! The lines that feed the body of a repetition, in the order in which they stand in the text.
+//! The lines that feed the body of a repetition, in the order in which they stand in the text. `pass` puts them in
+//! order, and `frontier` looks for the place of one.
 ghost use Rattle.std.specs.Prelude.{◌≡◌, ◌≤◌, ◌<◌, IfOk, length, map};
 ghost use Rattle.std.specs.List.{insert};
 ghost use Rattle.algo_tree.specs.Well.{fork_names};

@@ -1,4 +1,4 @@
-//! The pass over a tree.
+//! The pass over a tree, which replaces each repetition by a graph of its copies. `hierarchy` calls it.
 ghost use Rattle.std.specs.Prelude.{◌≡◌, ◌<◌, ◌≤◌, ◌+◌, ◌++◌, IsErr, IfOk, OnOk, length, map};
 ghost use Rattle.algo_tree.specs.declared.vertex.Vertex.{out-Vertex};
 ghost use Rattle.algo_tree.specs.Tree.{and_vertex, no_vertices};
@@ -24,7 +24,7 @@ use syn_base::OutOfMemory;
 
 /// The tree without repetitions, of the same meaning: each is replaced by a graph of its copies, with
 /// an explode for each fork line before them and an implode for each join line after them. Where
-/// the tree would have more than `MOST_VERTICES` vertices the answer is want of memory, before any of it
+/// the tree would have more than `MOST_VERTICES` vertices it returns want of memory, before any of it
 /// is taken.
 pub fn unroll(alloc: Global, tree: &Tree) -> Result<Tree, OutOfMemory>
     ensures same { IfOk result (λ t. t ≡ unrolled tree.now) }

@@ -1,4 +1,4 @@
-//! Vertices that are made again, with another inside.
+//! The vertices that the pass makes again, with others inside. `pass` calls it.
 ghost use Rattle.std.specs.Prelude.{◌≡◌, ◌<◌, ◌≤◌, ◌+◌, IfOk, length, map};
 ghost use Rattle.algo_tree.specs.declared.vertex.Vertex.{out-Vertex};
 ghost use Rattle.algo_tree.specs.Tree.{graph, vertex as plain_vertex};
@@ -30,8 +30,8 @@ struct Label {
     names: Items<Items<u8>>,
 }
 
-/// What is said of this vertex beside its kind.
-fn copied_label(alloc: Global, vertex: &Vertex) -> Result<Label, OutOfMemory>
+/// A copy of what is said of this vertex beside its kind.
+fn copy_label(alloc: Global, vertex: &Vertex) -> Result<Label, OutOfMemory>
     ensures { IfOk result (λ b. b ≡ record {
       part = (out-Vertex vertex.now).part;
       definition = (out-Vertex vertex.now).definition;
@@ -58,7 +58,7 @@ fn copied_label(alloc: Global, vertex: &Vertex) -> Result<Label, OutOfMemory>
 }
 
 /// A vertex with another kind, and other vertices inside.
-fn remade(
+fn rebuild(
     alloc: Global,
     vertex: &Vertex,
     kind: Kind,
@@ -68,7 +68,7 @@ fn remade(
         (with_kind (label_view (out-Vertex vertex.now)) (kind_view kind))
         (vertices_view inner.items)) }
 {
-    let copy = copied_label(alloc, vertex)?;
+    let copy = copy_label(alloc, vertex)?;
     Ok(Vertex {
         part: copy.part,
         definition: copy.definition,
@@ -91,7 +91,7 @@ pub fn with_inside(
         (vertices_view inner.items)) }
 {
     let kind = copy_kind(alloc, &vertex.kind)?;
-    remade(alloc, vertex, kind, inner)
+    rebuild(alloc, vertex, kind, inner)
 }
 
 /// The graph that a repetition with these copies and outputs becomes, with what stands inside it.
@@ -111,7 +111,7 @@ pub fn as_graph(
         (vertices_view inner.items)) }
 {
     let sources = give_sources(alloc, copies, gives)?;
-    remade(alloc, vertex, Kind::Graph(Items::new(sources)), inner)
+    rebuild(alloc, vertex, Kind::Graph(Items::new(sources)), inner)
 }
 
 /// Makes of an unrolled body the copy number `i`.

@@ -1,4 +1,5 @@
-//! Laws of unrolling, each the contract of a function that does nothing.
+//! The laws of unrolling, each the contract of a function that does nothing and is not called: the crates above
+//! take the lemmas in `proofs/`.
 ghost use Rattle.std.specs.Prelude.{◌≡◌};
 ghost use Rattle.algo_tree.specs.Tree.{Vertex};
 ghost use Rattle.algo_tree.specs.Valid.{IsTree};

@@ -1,5 +1,7 @@
-//! What unrolling a tree is (`Unrolled.unroll`), and that it keeps the meaning, validity and names. The
-//! explodes of a repetition stand in the order of its lines (`Lines`). `factorisation` makes this tree.
+//! The tree of an algorithm with each repetition unrolled (`Unrolled.unroll`), and the laws that it keeps the
+//! meaning, validity and names.
+//!
+//! The explodes of a repetition stand in the order of its lines (`Lines`). `factorisation` makes this tree.
 #![tactic(auto)]
 
 mod laws;

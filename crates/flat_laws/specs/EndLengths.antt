@@ -8,12 +8,12 @@ use Rattle.flat_graph.specs.declared.vertex.Vertex.{Vertex}
 use Rattle.flat_graph.specs.Graph.{Graph, lens_of}
 use Rattle.flat_graph.specs.Laws.{sensor_lens}
 
--- the lengths of the inputs of an actuator, which has one
+-- The lengths of the inputs of an actuator, which has one.
 abbrev pub actuator_len : Graph → Vertex → Kind → List ℕ
 actuator_len g x (Actuator i) = lens_of g.vertices x.ins
 actuator_len g x _ = []
 
--- the lengths of what the actuators take, in order
+-- The lengths of what the actuators take, in order.
 abbrev pub actuator_lens : Graph → List Vertex → List ℕ
 actuator_lens g [] = []
 actuator_lens g (x ∷ xs) = actuator_len g x x.kind ++ actuator_lens g xs

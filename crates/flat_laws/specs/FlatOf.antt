@@ -8,7 +8,17 @@ use Rattle.algo_tree.specs.Tree as tree
 use Rattle.flat_graph.specs.declared.vertex.Source.{Source}
 use Rattle.flat_graph.specs.declared.vertex.Guard.{Guard}
 use Rattle.flat_graph.specs.declared.vertex.Kind.{Kind}
-use Rattle.flat_graph.specs.declared.vertex.Kind.TheVariants.{Sensor, Actuator, Function, Constant, Get, Set, Explode, Implode, Merge}
+use Rattle.flat_graph.specs.declared.vertex.Kind.TheVariants.{
+  Sensor,
+  Actuator,
+  Function,
+  Constant,
+  Get,
+  Set,
+  Explode,
+  Implode,
+  Merge,
+}
 use Rattle.flat_graph.specs.declared.vertex.Vertex.{Vertex}
 use Rattle.flat_graph.specs.Graph.{Graph}
 use Rattle.conditioning_laws.specs.Guarded.{guard}
@@ -17,7 +27,7 @@ use Rattle.inlining_laws.specs.Flat.{Operation, Task, runs, gets, sets}
 use Rattle.inlining_laws.specs.Inlined.{operations}
 use Rattle.flat_laws.specs.Names.{name_of}
 
--- a source is an output of an operation: none leads nowhere
+-- A source is an output of an operation: none leads nowhere.
 abbrev pub flat_source : of_level.Source → Source
 flat_source (Of r p) = record { vertex = r; port = p }
 flat_source (Own k) = record { vertex = 0; port = 0 }
@@ -25,23 +35,23 @@ flat_source (Own k) = record { vertex = 0; port = 0 }
 abbrev pub flat_guard : guard_of_level.Guard → Guard
 flat_guard g = record { source = flat_source g.source; values = g.values; case = g.case }
 
--- what an operation is, where the next body has number b: graphs, switches and repetitions are none
+-- What an operation is, where the next body has the number `body`: graphs, switches and repetitions are none.
 abbrev pub kind_of : ℕ → tree.Kind → Kind
-kind_of b (tree.sensor i) = Sensor i
-kind_of b (tree.actuator i) = Actuator i
-kind_of b (tree.function es) = Function b
-kind_of b (tree.constant z) = Constant z
-kind_of b tree.explode = Explode
-kind_of b tree.implode = Implode
-kind_of b (tree.merge values) = Merge values
-kind_of b _ = Set
+kind_of body (tree.sensor i) = Sensor i
+kind_of body (tree.actuator i) = Actuator i
+kind_of body (tree.function es) = Function body
+kind_of body (tree.constant z) = Constant z
+kind_of body tree.explode = Explode
+kind_of body tree.implode = Implode
+kind_of body (tree.merge values) = Merge values
+kind_of body _ = Set
 
 abbrev pub flat_kind : ℕ → Task → Kind
-flat_kind b (runs k) = kind_of b k
-flat_kind b (gets v) = Get v
-flat_kind b sets = Set
+flat_kind body (runs k) = kind_of body k
+flat_kind body (gets v) = Get v
+flat_kind body sets = Set
 
--- a set half stands right after its get half
+-- A set half stands right after its get half.
 abbrev pub twin_of : ℕ → Task → Option ℕ
 twin_of v (runs k) = None
 twin_of v (gets z) = Some (suc v)
@@ -51,28 +61,28 @@ abbrev pub kind_body : tree.Kind → List (List Expr)
 kind_body (tree.function es) = es ∷ []
 kind_body _ = []
 
--- the body that an operation brings
+-- The body that an operation brings.
 abbrev pub body_of : Task → List (List Expr)
 body_of (runs k) = kind_body k
 body_of (gets v) = []
 body_of sets = []
 
--- operation v, where the next body has number b
+-- Operation v, where the next body has the number `body`.
 abbrev pub vertex_of : ℕ → ℕ → Operation → Vertex
-vertex_of v b op = record {
+vertex_of v body op = record {
   name = name_of op;
   def = op.definition;
-  kind = flat_kind b op.task;
+  kind = flat_kind body op.task;
   guards = map flat_guard op.guards;
   ins = map flat_source op.ins;
   outs = op.outs;
   twin = twin_of v op.task;
 }
 
--- operations that are numbered from v on, and their bodies from b on
+-- Operations that are numbered from v on, and their bodies from `body` on.
 abbrev pub vertices_from : ℕ → ℕ → List Operation → List Vertex
-vertices_from v b [] = []
-vertices_from v b (op ∷ ops) = vertex_of v b op ∷ vertices_from (suc v) (b + length (body_of op.task)) ops
+vertices_from v body [] = []
+vertices_from v body (op ∷ ops) = vertex_of v body op ∷ vertices_from (suc v) (body + length (body_of op.task)) ops
 
 abbrev pub bodies_of : List Operation → List (List Expr)
 bodies_of [] = []
@@ -81,6 +91,6 @@ bodies_of (op ∷ ops) = body_of op.task ++ bodies_of ops
 abbrev pub graph_of : List Operation → Graph
 graph_of ops = record { vertices = vertices_from 0 0 ops; bodies = bodies_of ops }
 
--- repetitions are unrolled, cases are put under guards, and graphs are inlined
+-- Repetitions are unrolled, cases are put under guards, and graphs are inlined.
 abbrev pub flat_of : tree.Vertex → Graph
 flat_of main = graph_of (operations (guard (unroll main)))

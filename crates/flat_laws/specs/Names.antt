@@ -4,12 +4,12 @@ use Rattle.std.specs.Fmt.{decimal}
 use Rattle.inlining_laws.specs.Flat.{Operation, Task, runs, gets, sets}
 use Rattle.operation_paths.specs.Texts.{path_text}
 
--- the number of a stage, which the first one does not tell
+-- The text of the number of a stage, which is empty for the first.
 abbrev pub stage_text : ℕ → List ℕ
 stage_text zero = []
 stage_text (suc i) = codes "." ++ decimal (suc i)
 
--- the halves of the stages of a delay have one path
+-- The halves of the stages of a delay have one path.
 abbrev pub half_text : Task → ℕ → List ℕ
 half_text (runs k) i = []
 half_text (gets v) i = codes ":get" ++ stage_text i

@@ -5,19 +5,19 @@ use Rattle.flat_graph.specs.declared.vertex.Kind.TheVariants.{Function}
 use Rattle.flat_graph.specs.declared.vertex.Vertex.{Vertex}
 use Rattle.flat_graph.specs.Graph.{Graph}
 
--- a function has body b
+-- A function has this body.
 abbrev pub IsNumbered : ℕ → Kind → Type 0
-IsNumbered b (Function c) = c ≡ b
-IsNumbered b _ = Unit {0}
+IsNumbered body (Function number) = number ≡ body
+IsNumbered body _ = Unit {0}
 
 abbrev pub bodies_in : Kind → ℕ
-bodies_in (Function c) = 1
+bodies_in (Function number) = 1
 bodies_in _ = 0
 
--- the functions have the bodies from b on, up to body n
+-- The functions have the bodies from `body` on, up to but without body `count`.
 abbrev pub AreNumbered : ℕ → ℕ → List Vertex → Type 0
-AreNumbered b n [] = b ≡ n
-AreNumbered b n (x ∷ xs) = IsNumbered b x.kind × AreNumbered (b + bodies_in x.kind) n xs
+AreNumbered body count [] = body ≡ count
+AreNumbered body count (x ∷ xs) = IsNumbered body x.kind × AreNumbered (body + bodies_in x.kind) count xs
 
 abbrev pub HasBodiesInOrder : Graph → Type 0
 HasBodiesInOrder g = AreNumbered 0 (length g.bodies) g.vertices

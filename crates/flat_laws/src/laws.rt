@@ -1,4 +1,5 @@
-//! Laws of the flat graph of a tree, each the contract of a function that does nothing.
+//! The laws of the flat graph of a tree, each the contract of a function that does nothing and is not called: the
+//! crates above take the lemmas in `proofs/`.
 ghost use Rattle.std.specs.Prelude.{◌≡◌, ◌≤◌, List, length, IsTrue};
 ghost use Rattle.syn_base.specs.Limits.{most_operations};
 ghost use Rattle.algo_tree.specs.Counted.{operations as count};

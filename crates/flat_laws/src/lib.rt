@@ -1,6 +1,7 @@
-//! The product's flat graph beside the flat list of a tree: `FlatOf.flat_of`, the flat graph of a tree, which
-//! keeps its meaning (`KeepsGraph`), is valid, and has sensors and actuators of the same lengths;
-//! `flattened_is_flat` has all of it. `hierarchy` makes this graph.
+//! The flat graph of a tree as a function of it (`FlatOf.flat_of`), and the laws that it keeps the meaning of the
+//! tree (`KeepsGraph`), is valid, and has sensors and actuators of the same lengths.
+//!
+//! `flattened_is_flat` has all of these. `hierarchy` makes the graph.
 #![tactic(auto)]
 
 mod laws;

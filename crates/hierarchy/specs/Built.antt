@@ -19,7 +19,7 @@ use Rattle.hierarchy.specs.declared.operation.Inlined.{Inlined}
 abbrev pub graph_of : Inlined → Graph
 graph_of all = record { vertices = all.vertices.items; bodies = all.bodies.items }
 
--- the body of a function is one of n
+-- The body of a function is one of n.
 abbrev pub IsBodyThere : ℕ → Kind → Type 0
 IsBodyThere n (Function b) = b < n
 IsBodyThere n _ = Unit {0}
@@ -33,7 +33,7 @@ pub record Brings (n m : ℕ) (k : Kind) : Type 0 where
   pub numbered : IsNumbered n k
   pub many : m ≡ bodies_in k
 
--- a graph, whether valid or not yet, that stands for these operations
+-- A graph, whether valid or not yet, that stands for these operations.
 pub record Built (g : Graph) (ops : List Operation) : Type 0 where
   pub stands : Stands g ops
   pub bodies : AreBodiesThere (length g.bodies) g.vertices
@@ -44,13 +44,14 @@ abbrev pub Adds : Graph → Graph → (ℕ → List Operation) → Type 0
 Adds old new more = (ops : List Operation) → Built old ops → Built new (ops ++ more (length ops))
 
 -- An operation of a vertex with these inputs and outputs, where the sources of the guards of its level lead as w says.
-pub record IsOperation (w : Source → Source) (l : Label) (sources : List Source) (lens : List ℕ) (x : Vertex) : Type 0 where
+pub record IsOperation (w : Source → Source) (l : Label) (sources : List Source) (lens : List ℕ) (x : Vertex) :
+    Type 0 where
   pub definition : x.def ≡ l.definition
   pub ins : map level_source x.ins ≡ sources
   pub guards : map level_guard x.guards ≡ map (wire_guard w) l.guards
   pub outs : x.outs ≡ lens
 
--- a vertex of this kind is one operation
+-- A vertex of this kind is one operation.
 abbrev pub IsRun : tree.Kind → Type 0
 IsRun (tree.delay vs) = ⊥
 IsRun (tree.graph outs) = ⊥
@@ -58,11 +59,12 @@ IsRun (tree.switch values names) = ⊥
 IsRun (tree.repeat n feeds gives) = ⊥
 IsRun _ = Unit {0}
 
--- a function's operation adds a body
+-- A function's operation adds a body.
 abbrev pub body_added : tree.Kind → List (List Expr)
 body_added (tree.function es) = es ∷ []
 body_added _ = []
 
--- the halves of stage i of a delay, which takes what these sources give
+-- The halves of stage i of a delay, which takes what these sources give.
 abbrev pub stage_pair : (Source → Source) → Path → ℕ → Label → Vector → List Source → List Operation
-stage_pair w path i l v sources = operation_of w path i l [] l.outs (gets v) ∷ operation_of w path i l sources [] sets ∷ []
+stage_pair w path i l v sources =
+    operation_of w path i l [] l.outs (gets v) ∷ operation_of w path i l sources [] sets ∷ []

@@ -5,7 +5,7 @@ use Rattle.level_meaning.specs.declared.source.Source.TheVariants.{Own, Of}
 use Rattle.level_meaning.specs.declared.source.Guard.{Guard}
 use Rattle.inlining_laws.specs.Flat.{Operation}
 
--- the source is an output of an operation
+-- The source is an output of an operation.
 abbrev pub IsFound : Source → Type 0
 IsFound (Own k) = ⊥
 IsFound (Of v p) = Unit {0}

@@ -5,7 +5,7 @@ use Rattle.level_meaning.specs.declared.part.Part.TheVariants.{Named, Numbered, 
 use Rattle.level_meaning.specs.Level.{Path}
 use Rattle.operation_paths.specs.Texts.{part_text, parts_text, path_text}
 
--- the text of a path with one more part: nothing stands before a reference of the main graph
+-- The text of a path with one more part: nothing stands before a reference of the main graph.
 abbrev pub joined : List ℕ → Part → List ℕ
 joined [] (Named x) = x
 joined [] (Numbered n) = part_text (Numbered n)

@@ -5,7 +5,7 @@ use Rattle.algo_tree.specs.declared.vertex.Kind.TheVariants.{Graph, Switch}
 use Rattle.algo_tree.specs.declared.vertex.Vertex.{Vertex}
 use Rattle.algo_tree.specs.declared.vertex.Vertex.TheOpen.{Vertex-F}
 
--- a graph, whatever is inside it, or an operation, which has nothing inside
+-- A graph, whatever is inside it, or an operation, which has nothing inside.
 abbrev pub IsGraphOrOperation : Kind → List Vertex → Type 0
 IsGraphOrOperation (Graph outs) us = Unit {0}
 IsGraphOrOperation (Switch values names) us = ⊥

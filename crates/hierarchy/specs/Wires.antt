@@ -7,7 +7,7 @@ use Rattle.inlining_laws.specs.Inlined.{nowhere, wire_source, wiring}
 use Rattle.hierarchy.specs.declared.wires.Led.{Led}
 use Rattle.hierarchy.specs.declared.wires.Led.TheVariants.{Operation, Graph}
 
--- where output p of a vertex leads
+-- Where output p of a vertex leads.
 abbrev pub output_led : Led → ℕ → Source
 output_led (Operation b) p = Of b p
 output_led (Graph sources) p = slice_index_or sources p nowhere
@@ -16,14 +16,15 @@ abbrev pub with_led : {A : Type 0} → Option Led → A → (Led → A) → A
 with_led None a f = a
 with_led (Some x) a f = f x
 
--- where output p of vertex r leads, by a table with a row for each vertex of the level
+-- Where output p of vertex r leads, by a table with a row for each vertex of the level.
 abbrev pub led_out : List Led → ℕ → ℕ → Source
 led_out leds r p = with_led (slice_get leds r) nowhere (λ x. output_led x p)
 
--- where a source of the level leads
+-- Where a source of the level leads.
 abbrev pub led : List Led → List Source → Source → Source
 led leds own = wire_source own (led_out leds)
 
--- the outputs of a vertex, whose first operation has number b, lead where its wiring says, from where the sources of its level lead
+-- The outputs of a vertex, whose first operation has number b, lead where its wiring says, from where the sources of
+-- its level lead.
 abbrev pub Leads : ℕ → (Source → Source) → Vertex → Led → Type 0
 Leads b w u x = (p : ℕ) → output_led x p ≡ (wiring b u).gives (map w (wiring b u).asked) p

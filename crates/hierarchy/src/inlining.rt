@@ -1,4 +1,4 @@
-//! From a tree without repetitions and cases to its operations.
+//! The inlining of graphs: from a tree without repetitions and cases to its operations. `pass` calls it.
 ghost use Rattle.std.specs.Prelude.{◌≡◌, ◌+◌, [], ◌∷◌, IfOk, OnOk, length};
 ghost use Rattle.level_meaning.specs.Level.{Path};
 ghost use Rattle.level_meaning.specs.Order.{IsAcyclic};

@@ -1,4 +1,4 @@
-//! The table of a level: where the outputs of each of its vertices lead.
+//! The table of a level: where the outputs of each of its vertices lead. `inlining` makes it, from the inside out.
 ghost use Rattle.std.specs.Prelude.{◌≡◌, IfOk, length};
 ghost use Rattle.algo_tree.specs.declared.vertex.Vertex.{out-Vertex};
 ghost use Rattle.algo_tree.specs.View.{view, vertices_view};
@@ -53,7 +53,7 @@ pub fn lead_level(
     Ok(leds)
 }
 
-/// Where the outputs of a vertex of a level lead, where the level tells where all that it asks for leads.
+/// Where the outputs of a vertex of a level lead, where the level has where all that it asks for leads.
 #[cycle(lead)]
 fn lead_vertex(
     alloc: Global,

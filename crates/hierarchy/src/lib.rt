@@ -1,4 +1,4 @@
-//! The hierarchy taken away: `flatten`, from the tree of an algorithm to its flat graph.
+//! Flattening: `flatten` makes of the tree of an algorithm its flat graph, of the same meaning.
 //!
 //! What flattening is, and what is proved of it, in the order in which a reader wants it:
 //!
@@ -17,7 +17,7 @@
 //!   graph is valid (`stands_is_flat`); `flattened_is_flat` also has its number of operations and the
 //!   lengths of its sensors and actuators.
 //! - The code: `factorisation::unroll`, `conditioning::guard` and, here, `inline`; `flatten` calls the three,
-//!   and its contract says all of the above of what it answers. A pass that would leave the tree as it is
+//!   and its contract says all of the above of what it returns. A pass that would leave the tree as it is
 //!   (`unchanged`) is not made: most algorithms have no repetition or no case.
 //!
 //! `syndex_program` calls `flatten` for each command that needs the flat graph.

@@ -1,4 +1,4 @@
-//! The names of operations: the texts of their paths.
+//! The names of operations: the texts of their paths. `inlining` and `operation` call it.
 ghost use Rattle.std.specs.Prelude.{◌≡◌, ◌++◌, IfOk};
 ghost use Rattle.flat_laws.specs.Names.{stage_text as text_of_stage};
 ghost use Rattle.hierarchy.specs.Texts.{joined as text_joined};

@@ -1,4 +1,4 @@
-//! The numbers of operations.
+//! The numbers of operations: of the first of each vertex of a level. `level` calls it.
 ghost use Rattle.std.specs.Prelude.{◌≡◌, ◌+◌, IfOk};
 ghost use Rattle.algo_tree.specs.Counted.{operations};
 ghost use Rattle.algo_tree.specs.View.{view, vertices_view};

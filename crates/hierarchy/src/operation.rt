@@ -1,4 +1,4 @@
-//! Operations, one by one.
+//! The operations of a vertex, one by one. `inlining` adds them.
 ghost use Rattle.std.specs.Prelude.{◌≡◌, ◌+◌, ◌*◌, ◌++◌, ◌∷◌, [], true, if◌then◌else◌, IsTrue, IfOk, OnOk, Some, codes, length, map};
 ghost use Rattle.syn_base.specs.Name.{is_name};
 ghost use Rattle.level_meaning.specs.Level.{Path};
@@ -53,6 +53,7 @@ fn output_of(level: &Level<'_>, source: Source) -> Output
     }
 }
 
+/// The outputs of operations that these sources lead to, in order.
 fn outputs_of(
     alloc: Global,
     level: &Level<'_>,
@@ -69,6 +70,7 @@ fn outputs_of(
     Ok(all)
 }
 
+/// The guard of an operation, on the output that the source of a guard of the tree leads to.
 fn condition(alloc: Global, level: &Level<'_>, guard: &Guard) -> Result<Condition, OutOfMemory>
     requires { IsFound (led level.now.leds.now level.now.own.now guard.now.source) }
     ensures { IfOk result (λ c. level_guard c ≡ wire_guard (led level.now.leds.now level.now.own.now) guard.now) }
@@ -80,6 +82,7 @@ fn condition(alloc: Global, level: &Level<'_>, guard: &Guard) -> Result<Conditio
     })
 }
 
+/// The guards of an operation, in the order of those of the tree.
 fn conditions(
     alloc: Global,
     level: &Level<'_>,
@@ -297,7 +300,7 @@ pub fn add_delay(
     Ok(())
 }
 
-/// Adds the body of a function, shared with the tree, and answers its number.
+/// Adds the body of a function, shared with the tree, and returns its number.
 fn add_body(body: &Body, bodies: &mut Vec<Body>) -> Result<u32, OutOfMemory>
     ensures number { IfOk result (λ b. b ≡ length bodies.old.items) }
     ensures added { OnOk result (bodies.new.items ≡ bodies.old.items ++ body.now ∷ []) }

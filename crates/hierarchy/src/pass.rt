@@ -1,4 +1,4 @@
-//! The passes of flattening, one after another.
+//! The passes of flattening, one after another. `syndex_program` calls them by `flatten`.
 ghost use Rattle.std.specs.Prelude.{◌≡◌, IfOk, length};
 ghost use Rattle.algo_tree.specs.Counted.{operations as count};
 ghost use Rattle.flat_laws.specs.EndLengths.{HasEndLengths};

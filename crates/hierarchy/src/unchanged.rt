@@ -1,4 +1,4 @@
-//! Trees that a pass of flattening leaves as they are, so that it need not be made.
+//! The trees that a pass of flattening leaves as they are, so that it need not be made. `pass` asks for them.
 ghost use Rattle.std.specs.Prelude.{◌≡◌, true, false};
 ghost use Rattle.algo_tree.specs.View.{kind_view, view};
 ghost use Rattle.pass_laws.specs.NoRepeat.{IsNoRepeat};
@@ -24,6 +24,7 @@ pub fn is_unrolled(vertex: &Vertex) -> bool
     true
 }
 
+/// Whether a vertex of this kind is a repetition.
 fn is_repetition(kind: &Kind) -> bool
     ensures { result ≡ false → IsNoRepeat (kind_view kind.now) }
 {

@@ -1,4 +1,4 @@
-//! Where the sources of a level lead in the flat graph.
+//! The wires of a level: where its sources lead in the flat graph. `level`, `inlining` and `operation` follow them.
 ghost use Rattle.std.specs.Prelude.{◌≡◌, IfOk, map, slice_index_or};
 ghost use Rattle.inlining_laws.specs.Inlined.{nowhere};
 ghost use Rattle.hierarchy.specs.Wires.{led, output_led};
@@ -24,6 +24,7 @@ pub struct Level<'a> {
     pub leds: &'a [Led],
 }
 
+/// The source at this place, or `Own(0)`, which leads nowhere.
 fn source_at(sources: &[Source], at: usize) -> Source
     ensures { result ≡ slice_index_or sources.now at nowhere }
 {
@@ -34,6 +35,7 @@ fn source_at(sources: &[Source], at: usize) -> Source
     }
 }
 
+/// Where this output of a vertex leads.
 fn output(led: &Led, at: u32) -> Source
     ensures { result ≡ output_led led.now at }
 {

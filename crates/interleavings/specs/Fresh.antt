@@ -1,4 +1,6 @@
--- Freshness: each element keeps the value of a round until every load of it was made, and is loaded after that round was stored. An access of element y in reaction j is one of round j times its period plus the access's number; its place is the round modulo the places of y.
+-- Freshness: each element keeps the value of a round until every load of it was made, and is
+-- loaded after that round was stored. An access of element y in reaction j is one of round j
+-- times its period plus the access's number; its place is the round modulo the places of y.
 use Rattle.std.specs.Prelude.{◌≡◌, ℕ, ◌+◌, ◌*◌, ◌%◌, ◌<◌, Some, slice_get}
 use Rattle.consistent_cuts.specs.Sites.{number_of}
 use Rattle.interleavings.specs.System.{System, load, store}
@@ -20,6 +22,8 @@ module _ {P : Type 0} (w : System P) (c : ℕ → ℕ) where
 
   pub record IsFresh : Type 0 where
     -- where the store of round t was made, every load of a round below t in that place was made
-    pub kept : (y t s l i j : ℕ) → IsStored y t → slice_get (w.codes s).turn l ≡ Some (load y i) → j * w.period y + i < t → (j * w.period y + i) % w.depth y ≡ t % w.depth y → WasMade s l j
+    pub kept : (y t s l i j : ℕ) → IsStored y t → slice_get (w.codes s).turn l ≡ Some (load y i) →
+        j * w.period y + i < t → (j * w.period y + i) % w.depth y ≡ t % w.depth y → WasMade s l j
     -- where a load of round t was made, its store of round t was made
-    pub stored : (y s l i j : ℕ) → slice_get (w.codes s).turn l ≡ Some (load y i) → WasMade s l j → IsStored y (j * w.period y + i)
+    pub stored : (y s l i j : ℕ) → slice_get (w.codes s).turn l ≡ Some (load y i) → WasMade s l j →
+        IsStored y (j * w.period y + i)

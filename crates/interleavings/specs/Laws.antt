@@ -1,7 +1,24 @@
--- The laws of every run of a synchronized system: what it is, that it is fresh, that it can go on, and what one more step does.
+-- The laws of every run of a synchronized system: what it is, that it
+-- is fresh, that it can go on, and what one more step does.
 use Rattle.std.specs.Prelude.{◌≡◌, ℕ, ◌<◌, ◌≤◌, true, List, Some, ℤ}
 use Rattle.consistent_cuts.specs.Precedence.{one_more}
-use Rattle.interleavings.specs.System.{System, Micro, sub, load, store, stores, total, place_number, round_number, run, told, step, enabled, full, next}
+use Rattle.interleavings.specs.System.{
+  System,
+  Micro,
+  sub,
+  load,
+  store,
+  stores,
+  total,
+  place_number,
+  round_number,
+  run,
+  told,
+  step,
+  enabled,
+  full,
+  next,
+}
 use Rattle.interleavings.specs.Owners.{Owner}
 use Rattle.interleavings.specs.Media.{Half}
 use Rattle.interleavings.specs.Order.{IsOrdered}
@@ -10,7 +27,8 @@ use Rattle.interleavings.specs.Fresh.{IsFresh}
 use Rattle.interleavings.specs.Synchronized.{IsSynchronized}
 
 -- How a system is synchronized: who signals each semaphore, what is half i of a reaction's transfers on medium m,
--- the place of each micro-step of a turn in one serial order of a reaction, how many such places there are, and a number above every prologue's length.
+-- the place of each micro-step of a turn in one serial order of a reaction, how
+-- many such places there are, and a number above every prologue's length.
 pub record Discipline : Type 0 where
   pub signaller : ℕ → Owner
   pub half : ℕ → ℕ → Half
@@ -19,7 +37,8 @@ pub record Discipline : Type 0 where
   pub front : ℕ
 
 module _ {P : Type 0} (w : System P) where
-  -- It is synchronized so, and each sequence by itself computes these values: of each element by round, and of each private state by count.
+  -- It is synchronized so, and each sequence by itself computes these values:
+  -- of each element by round, and of each private state by count.
   pub record IsDisciplined (d : Discipline) (stored : ℕ → ℕ → ℤ) (owned : ℕ → ℕ → P) : Type 0 where
     pub synchronized : IsSynchronized w d.signaller d.half
     pub ordered : IsOrdered w d.signaller d.half d.spot d.steps d.front
@@ -30,15 +49,18 @@ module _ {P : Type 0} (w : System P) where
   IsReached c = (list : List ℕ) × ((run w list).counts ≡ c)
 
   module _ (stored : ℕ → ℕ → ℤ) (owned : ℕ → ℕ → P) where
-    -- One more step of a sequence that is enabled in what reached counts tell: its counts are reached, and tell that step.
+    -- One more step of a sequence that is enabled in what reached
+    -- counts tell: its counts are reached, and tell that step.
     pub record HasNext (c : ℕ → ℕ) (s : ℕ) : Type 0 where
       pub reached : IsReached (one_more c s)
       pub tells : told w stored owned (one_more c s) ≡ step w (told w stored owned c) s
 
-    -- What the next micro-step of s finds in what counts tell: a lower finds a signal, a load the value of its own round, and a store is of the next round of its element.
+    -- What the next micro-step of s finds in what counts tell: a lower finds a signal, a
+    -- load the value of its own round, and a store is of the next round of its element.
     abbrev pub Finds : (ℕ → ℕ) → ℕ → Micro → Type 0
     Finds c s (sub x) = 1 ≤ (told w stored owned c).semaphores x
-    Finds c s (load y i) = (told w stored owned c).elements y (place_number w s (c s) y i) ≡ stored y (round_number w s (c s) y i)
+    Finds c s (load y i) = (told w stored owned c).elements y (place_number w s (c s) y i) ≡
+        stored y (round_number w s (c s) y i)
     Finds c s (store y i) = total w (stores y) c ≡ round_number w s (c s) y i
     Finds c s _ = Unit {0}
 
@@ -46,29 +68,33 @@ module _ {P : Type 0} (w : System P) where
     pub record HasLaws : Type 0 where
       pub tells : (list : List ℕ) → run w list ≡ told w stored owned (run w list).counts
       pub fresh : (list : List ℕ) → IsFresh w (run w list).counts
-      pub progress : (list : List ℕ) (s : ℕ) → s < w.sequences → (run w list).counts s < full w s → (t : ℕ) × (t < w.sequences) × (enabled w (run w list) t ≡ true)
+      pub progress : (list : List ℕ) (s : ℕ) → s < w.sequences → (run w list).counts s < full w s →
+          (t : ℕ) × (t < w.sequences) × (enabled w (run w list) t ≡ true)
       pub goes_on : (c : ℕ → ℕ) (s : ℕ) → IsReached c → enabled w (told w stored owned c) s ≡ true → HasNext c s
       pub finds : (c : ℕ → ℕ) (s : ℕ) (m : Micro) → IsReached c → next w c s ≡ Some m → Finds c s m
       pub reached_fresh : (c : ℕ → ℕ) → IsReached c → IsFresh w c
 
 -- The laws at private states that are lists of numbers. The lemmas in proofs/ say them of any private state.
 abbrev pub RunsAreTold : Type 0
-RunsAreTold = (w : System (List ℤ)) (d : Discipline) (stored : ℕ → ℕ → ℤ) (owned : ℕ → ℕ → List ℤ) → IsDisciplined w d stored owned
-    → (list : List ℕ) → run w list ≡ told w stored owned (run w list).counts
+RunsAreTold = (w : System (List ℤ)) (d : Discipline) (stored : ℕ → ℕ → ℤ) (owned : ℕ → ℕ → List ℤ) →
+    IsDisciplined w d stored owned → (list : List ℕ) → run w list ≡ told w stored owned (run w list).counts
 
 abbrev pub RunsAreFresh : Type 0
-RunsAreFresh = (w : System (List ℤ)) (d : Discipline) (stored : ℕ → ℕ → ℤ) (owned : ℕ → ℕ → List ℤ) → IsDisciplined w d stored owned
-    → (list : List ℕ) → IsFresh w (run w list).counts
+RunsAreFresh = (w : System (List ℤ)) (d : Discipline) (stored : ℕ → ℕ → ℤ) (owned : ℕ → ℕ → List ℤ) →
+    IsDisciplined w d stored owned → (list : List ℕ) → IsFresh w (run w list).counts
 
 abbrev pub RunsProgress : Type 0
-RunsProgress = (w : System (List ℤ)) (d : Discipline) (stored : ℕ → ℕ → ℤ) (owned : ℕ → ℕ → List ℤ) → IsDisciplined w d stored owned
-    → (list : List ℕ) (s : ℕ) → s < w.sequences → (run w list).counts s < full w s → (t : ℕ) × (t < w.sequences) × (enabled w (run w list) t ≡ true)
+RunsProgress = (w : System (List ℤ)) (d : Discipline) (stored : ℕ → ℕ → ℤ) (owned : ℕ → ℕ → List ℤ) →
+    IsDisciplined w d stored owned → (list : List ℕ) (s : ℕ) → s < w.sequences → (run w list).counts s < full w s →
+    (t : ℕ) × (t < w.sequences) × (enabled w (run w list) t ≡ true)
 
 abbrev pub RunsGoOn : Type 0
-RunsGoOn = (w : System (List ℤ)) (d : Discipline) (stored : ℕ → ℕ → ℤ) (owned : ℕ → ℕ → List ℤ) → IsDisciplined w d stored owned
-    → (c : ℕ → ℕ) (s : ℕ) → IsReached w c → enabled w (told w stored owned c) s ≡ true → HasNext w stored owned c s
+RunsGoOn = (w : System (List ℤ)) (d : Discipline) (stored : ℕ → ℕ → ℤ) (owned : ℕ → ℕ → List ℤ) →
+    IsDisciplined w d stored owned → (c : ℕ → ℕ) (s : ℕ) → IsReached w c →
+    enabled w (told w stored owned c) s ≡ true → HasNext w stored owned c s
 
 -- In reached counts each next micro-step finds what is its own, and the state is fresh.
 abbrev pub ReachedFind : Type 0
-ReachedFind = (w : System (List ℤ)) (d : Discipline) (stored : ℕ → ℕ → ℤ) (owned : ℕ → ℕ → List ℤ) → IsDisciplined w d stored owned
-    → (c : ℕ → ℕ) (s : ℕ) (m : Micro) → IsReached w c → next w c s ≡ Some m → Finds w stored owned c s m
+ReachedFind = (w : System (List ℤ)) (d : Discipline) (stored : ℕ → ℕ → ℤ) (owned : ℕ → ℕ → List ℤ) →
+    IsDisciplined w d stored owned → (c : ℕ → ℕ) (s : ℕ) (m : Micro) → IsReached w c → next w c s ≡ Some m →
+    Finds w stored owned c s m

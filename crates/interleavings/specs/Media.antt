@@ -1,11 +1,45 @@
 -- Media: the halves of a reaction's transfers follow each other by the medium's turn. The precedence of a system.
-use Rattle.std.specs.Prelude.{◌≡◌, ℕ, zero, suc, ◌+◌, ◌<◌, ◌≤◌, Bool, true, false, Option, Some, None, slice_get, nat_eq, ◌&&◌}
+use Rattle.std.specs.Prelude.{
+  ◌≡◌,
+  ℕ,
+  zero,
+  suc,
+  ◌+◌,
+  ◌<◌,
+  ◌≤◌,
+  Bool,
+  true,
+  false,
+  Option,
+  Some,
+  None,
+  slice_get,
+  nat_eq,
+  ◌&&◌,
+}
 use Rattle.consistent_cuts.specs.Precedence.{Precedence, Event}
 use Rattle.consistent_cuts.specs.Sites.{step_at, passes}
-use Rattle.interleavings.specs.System.{System, Micro, take, see, sub, signal, await, advance, load, store, is_take, advances, stores, half_number, full}
+use Rattle.interleavings.specs.System.{
+  System,
+  Micro,
+  take,
+  see,
+  sub,
+  signal,
+  await,
+  advance,
+  load,
+  store,
+  is_take,
+  advances,
+  stores,
+  half_number,
+  full,
+}
 use Rattle.interleavings.specs.Owners.{Owner, nth_of, nth_in, IsFamily}
 
--- Half i of a reaction's transfers on a medium: its sequence, and the places of its wait and of its advance. The send of transfer t is half 2t, its receive 2t + 1.
+-- Half i of a reaction's transfers on a medium: its sequence, and the places of its
+-- wait and of its advance. The send of transfer t is half 2t, its receive 2t + 1.
 pub record Half : Type 0 where
   pub sequence : ℕ
   pub waits : ℕ
@@ -36,12 +70,18 @@ module _ {P : Type 0} (w : System P) (signaller : ℕ → Owner) (half : ℕ →
   needed e None = None
 
   abbrev pub precedence : (Event → ℕ) → Precedence
-  precedence rank = record { sequences = w.sequences; full = full w; needs = λ e. needed e (step_at (w.codes e.sequence) e.number); rank = rank }
+  precedence rank = record {
+    sequences = w.sequences;
+    full = full w;
+    needs = λ e. needed e (step_at (w.codes e.sequence) e.number);
+    rank = rank;
+  }
 
   pub record IsMedium (m : ℕ) : Type 0 where
     pub family : IsFamily w (w.halves m) (advances m) (advances_half m) (λ i. owner_of (half m i))
     pub before : (i : ℕ) → i < w.halves m → (half m i).waits < (half m i).advances
-    pub waiting : (i : ℕ) → i < w.halves m → slice_get (w.codes (half m i).sequence).turn (half m i).waits ≡ Some (await m i true)
+    pub waiting : (i : ℕ) → i < w.halves m →
+        slice_get (w.codes (half m i).sequence).turn (half m i).waits ≡ Some (await m i true)
 
   -- a wait for exactly its own turn stands in its own half, before the advance
   pub record IsOwnWait (s l m i : ℕ) : Type 0 where
@@ -55,9 +95,11 @@ stores_access y i _ = false
 
 module _ {P : Type 0} (w : System P) (half : ℕ → ℕ → Half) where
   abbrev pub writer_of : ℕ → (ℕ → ℕ) → (ℕ → ℕ) → ℕ → Owner
-  writer_of m half_of place_of i = record { sequence = (half m (half_of i)).sequence; site = record { first = 0; early = 0; place = place_of i } }
+  writer_of m half_of place_of i =
+      record { sequence = (half m (half_of i)).sequence; site = record { first = 0; early = 0; place = place_of i } }
 
-  -- Element y of the wire of medium m: access i of a reaction is stored in half `half_of i`, at place `place_of i` of its sequence, and loaded in the half after it.
+  -- Element y of the wire of medium m: access i of a reaction is stored in half `half_of i`,
+  -- at place `place_of i` of its sequence, and loaded in the half after it.
   pub record IsWire (y m : ℕ) (half_of place_of : ℕ → ℕ) : Type 0 where
     pub family : IsFamily w (w.period y) (stores y) (stores_access y) (writer_of m half_of place_of)
     pub single : w.depth y ≡ 1

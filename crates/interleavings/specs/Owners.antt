@@ -1,4 +1,5 @@
--- Who makes the events that others wait for: one sequence for each test, and families of tests whose events come in one order.
+-- Who makes the events that others wait for: one sequence for each
+-- test, and families of tests whose events come in one order.
 use Rattle.std.specs.Prelude.{◌≡◌, ℕ, zero, suc, ◌+◌, ◌/◌, ◌%◌, ◌<◌, Bool}
 use Rattle.consistent_cuts.specs.Precedence.{Event, event}
 use Rattle.consistent_cuts.specs.Sites.{Site, step_at, hit, IsSite, nth}

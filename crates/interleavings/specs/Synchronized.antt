@@ -28,7 +28,8 @@ module _ {P : Type 0} (w : System P) (signaller : ℕ → Owner) (half : ℕ →
     pub first : i ≡ 0
     pub after : st < l
 
-  -- a reader loads y between its take of the full and its signal of the empty semaphore; the store stands between the others of the pair
+  -- a reader loads y between its take of the full and its signal of the
+  -- empty semaphore; the store stands between the others of the pair
   pub record IsPairLoad (s l y i : ℕ) : Type 0 where
     pub pair : Pair
     pub is_pair : IsPair w signaller pair
@@ -72,6 +73,9 @@ module _ {P : Type 0} (w : System P) (signaller : ℕ → Owner) (half : ℕ →
   pub record IsSynchronized : Type 0 where
     pub joined : IsJoined w signaller half
     pub binary : (s l x : ℕ) → slice_get (w.codes s).turn l ≡ Some (take x) → IsBinary x
-    pub signalled : (s n x : ℕ) → step_at (w.codes s) n ≡ Some (signal x) → (t : ℕ) × (a : ℕ) × (b : ℕ) × IsSemaphore w signaller x t a b
-    pub loads : (s l y i : ℕ) → slice_get (w.codes s).turn l ≡ Some (load y i) → IsOwnLoad s l y i ⊎ (IsPairLoad s l y i ⊎ IsFromWire s l y i)
-    pub stores : (s l y i : ℕ) → slice_get (w.codes s).turn l ≡ Some (store y i) → IsBufferStore s l y i ⊎ IsToWire s l y i
+    pub signalled : (s n x : ℕ) → step_at (w.codes s) n ≡ Some (signal x) →
+        (t : ℕ) × (a : ℕ) × (b : ℕ) × IsSemaphore w signaller x t a b
+    pub loads : (s l y i : ℕ) → slice_get (w.codes s).turn l ≡ Some (load y i) →
+        IsOwnLoad s l y i ⊎ (IsPairLoad s l y i ⊎ IsFromWire s l y i)
+    pub stores : (s l y i : ℕ) → slice_get (w.codes s).turn l ≡ Some (store y i) →
+        IsBufferStore s l y i ⊎ IsToWire s l y i

@@ -1,9 +1,35 @@
--- Sequences of micro-steps on shared words, with private state that no other sequence sees: step, run, and what counts tell.
-use Rattle.std.specs.Prelude.{ℕ, zero, suc, ◌+◌, ◌-◌, ◌*◌, ◌%◌, Bool, true, false, cond, nat_eq, nat_lt, nat_le, List, [], ◌∷◌, length, Option, Some, None, ℤ, pos}
+-- Sequences of micro-steps on shared words, with private state that
+-- no other sequence sees: step, run, and what counts tell.
+use Rattle.std.specs.Prelude.{
+  ℕ,
+  zero,
+  suc,
+  ◌+◌,
+  ◌-◌,
+  ◌*◌,
+  ◌%◌,
+  Bool,
+  true,
+  false,
+  cond,
+  nat_eq,
+  nat_lt,
+  nat_le,
+  List,
+  [],
+  ◌∷◌,
+  length,
+  Option,
+  Some,
+  None,
+  ℤ,
+  pos,
+}
 use Rattle.consistent_cuts.specs.Sites.{Code, step_at, reaction_at, passes}
 use Rattle.consistent_cuts.specs.Precedence.{one_more}
 
--- A micro-step. Semaphore x: `take` at depth 1, `see` and then `sub` at a greater depth. Medium m: i is a half of a transfer of one reaction.
+-- A micro-step. Semaphore x: `take` at depth 1, `see` and then `sub` at a
+-- greater depth. Medium m: i is a half of a transfer of one reaction.
 -- Element y: i is the number of the access in one reaction, among the stores of y in the serial order.
 pub data Micro : Type 0 where
   take see sub signal : ℕ → Micro
@@ -28,7 +54,8 @@ abbrev pub stores : ℕ → Micro → Bool
 stores y (store z i) = nat_eq z y
 stores y _ = false
 
--- P is private state. `absorb s n p v` is it after step n of sequence s loaded v, `emit s n p` what that step stores, `after s n p` what is left then.
+-- P is private state. `absorb s n p v` is it after step n of sequence s loaded v,
+-- `emit s n p` what that step stores, `after s n p` what is left then.
 pub record System (P : Type 0) : Type 0 where
   pub sequences : ℕ
   pub reactions : ℕ
@@ -95,8 +122,14 @@ module _ {P : Type 0} (w : System P) where
   done_by z s None = z
   done_by z s (Some (take x)) = record z { counts = one_more z.counts s; semaphores = put z.semaphores x 0 }
   done_by z s (Some (see x)) = record z { counts = one_more z.counts s }
-  done_by z s (Some (sub x)) = record z { counts = one_more z.counts s; semaphores = put z.semaphores x (z.semaphores x - 1) }
-  done_by z s (Some (signal x)) = record z { counts = one_more z.counts s; semaphores = put z.semaphores x (z.semaphores x + 1) }
+  done_by z s (Some (sub x)) = record z {
+    counts = one_more z.counts s;
+    semaphores = put z.semaphores x (z.semaphores x - 1);
+  }
+  done_by z s (Some (signal x)) = record z {
+    counts = one_more z.counts s;
+    semaphores = put z.semaphores x (z.semaphores x + 1);
+  }
   done_by z s (Some (await m i e)) = record z { counts = one_more z.counts s }
   done_by z s (Some (advance m i)) = record z { counts = one_more z.counts s; turns = put z.turns m (z.turns m + 1) }
   done_by z s (Some (load y i)) = record z {
@@ -105,7 +138,8 @@ module _ {P : Type 0} (w : System P) where
   }
   done_by z s (Some (store y i)) = record z {
     counts = one_more z.counts s;
-    elements = put z.elements y (put (z.elements y) (place_number s (z.counts s) y i) (w.emit s (z.counts s) (z.own s)));
+    elements = put z.elements y (put (z.elements y) (place_number s (z.counts s) y i)
+        (w.emit s (z.counts s) (z.own s)));
     own = put z.own s (w.after s (z.counts s) (z.own s));
   }
 
@@ -132,7 +166,8 @@ module _ {P : Type 0} (w : System P) where
   latest f d zero p = pos 0
   latest f d (suc t) p = cond (nat_eq p (t % d)) (f t) (latest f d t p)
 
-  -- What counts tell, where `stored y t` is the value of element y in round t, and `owned s n` the private state of s after n steps.
+  -- What counts tell, where `stored y t` is the value of element y in
+  -- round t, and `owned s n` the private state of s after n steps.
   abbrev pub told : (ℕ → ℕ → ℤ) → (ℕ → ℕ → P) → (ℕ → ℕ) → State P
   told stored owned c = record {
     counts = c;

@@ -27,14 +27,16 @@ pub record WindowsData : Type 0 where
 
 -- a code of it, from one of the job
 abbrev pub windows_code : Coded JobData → Coded WindowsData
-windows_code job = code_by (JobData × ℕ) (coded× job coded_ℕ) (λ w. (w.job, w.next)) (λ p. record { job = p.0; next = p.1 }) (λ _. refl)
+windows_code job =
+    code_by (JobData × ℕ) (coded× job coded_ℕ) (λ w. (w.job, w.next)) (λ p. record { job = p.0; next = p.1 })
+    (λ _. refl)
 
 -- the first reaction of window w
 abbrev pub first_of : ℕ → ℕ
 first_of w = w * window_bound
 
--- What windows that are still to be run keep: the parts make a job, which meets no limit; workers are 1 to 80; and where there is one more window
--- it opens with these cells, those after the reactions before it.
+-- What windows that are still to be run keep: the parts make a job, which meets no limit; workers are 1 to 80; and
+-- where there is one more window it opens with these cells, those after the reactions before it.
 pub record IsOpen (a : Architecture) (workers : ℕ) (j : JobData) (next : ℕ) (opening : Values) : Type 0 where
   pub fits : FitTogether a j
   pub limit : limit_of j ≡ None
@@ -47,9 +49,12 @@ pub record IsOpen (a : Architecture) (workers : ℕ) (j : JobData) (next : ℕ) 
 abbrev pub next_job : WindowsData → JobData
 next_job w = window_job w.job (first_of w.next) (reactions_from (reactions w.job) (first_of w.next))
 
--- The next window was run to its end, and this is left; or there is none. After want of memory nothing was driven, and there is one.
+-- The next window was run to its end, and this is left; or there is none. After want of memory nothing was driven,
+-- and there is one.
 abbrev pub RunsNext : WindowsData → Driven → Driven → Result (Option ClosedData) OutOfMemory → Type 0
-RunsNext w old new (Ok (Some closed)) = (first_of w.next < reactions w.job) × (new ≡ driven_by (next_job w) old) × IsAtEnd (next_job w) closed
-    × (all_acts (next_job w) ≡ window (first_of w.next) (reactions_from (reactions w.job) (first_of w.next)) (all_acts w.job))
+RunsNext w old new (Ok (Some closed)) =
+    (first_of w.next < reactions w.job) × (new ≡ driven_by (next_job w) old) × IsAtEnd (next_job w) closed
+    × (all_acts (next_job w) ≡
+    window (first_of w.next) (reactions_from (reactions w.job) (first_of w.next)) (all_acts w.job))
 RunsNext w old new (Ok None) = (reactions w.job ≤ first_of w.next) × (new ≡ old)
 RunsNext w old new (Err want) = (first_of w.next < reactions w.job) × (new ≡ old)

@@ -1,9 +1,9 @@
-//! The windows of a job, run one after another: each is a job and a table of its own, which opens with the
-//! cells that the one before it left.
+//! The windows of a job, run one after another: each is a job and a table of its own, which opens with the cells that
+//! the one before it left.
 //!
-//! `JobWindows` knows which window is next; `run_next` runs it to its end by threads, and `go_on` passes on to
-//! the one after it. The commands `run` and `load` of `syndex_program` go through their windows so, and
-//! memory is taken for one window alone.
+//! `JobWindows` knows which window is next; `run_next` runs it to its end by threads, and `go_on` passes on to the one
+//! after it. The commands of `syndex_program` that run jobs go through their windows so, and memory is taken for one
+//! window alone.
 #![tactic(auto)]
 
 mod windows;

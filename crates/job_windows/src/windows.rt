@@ -1,4 +1,4 @@
-//! The windows that are still to be run.
+//! The windows that are still to be run, for the commands that run jobs.
 ghost use Rattle.std.specs.Prelude.{◌≡◌, ◌≤◌, ◌<◌, ◌+◌, IfOk, None};
 ghost use Rattle.semaphore_core.specs.Job.{reactions};
 ghost use Rattle.word_table.specs.Closed.{IsAtEnd};
@@ -59,11 +59,13 @@ impl<'a> Model for JobWindows<'a> {
 
     ghost Value = { WindowsData };
 
-    ghost coded = { windows_code (job_code (Prim.hlevel codes) (graph_code (Prim.hlevel codes) (expr_code (Prim.hlevel codes)))) };
+    ghost coded = { windows_code (job_code (Prim.hlevel codes)
+        (graph_code (Prim.hlevel codes) (expr_code (Prim.hlevel codes)))) };
 
     ghost view = { λ s. record { job = whole_job s.program.now s.flat.now s.archi.now s.rows.now; next = s.next } };
 
-    ghost invariant = { λ s. IsOpen s.archi.now s.workers (whole_job s.program.now s.flat.now s.archi.now s.rows.now) s.next s.opening };
+    ghost invariant = { λ s. IsOpen s.archi.now s.workers
+        (whole_job s.program.now s.flat.now s.archi.now s.rows.now) s.next s.opening };
 }
 
 impl<'a> JobWindows<'a> {
@@ -118,11 +120,13 @@ impl<'a> JobWindows<'a> {
         if from >= reactions {
             return Ok(None);
         }
+        // The next three calls are made for the proof alone: the rows have the vectors of the sensors, the flat graph
+        // is valid, and windows over such a graph make the run.
         self.rows.are_cut();
         let _ = self.flat.vertices();
         windows_make_the_run();
         let rows = self.rows.window(from, WINDOW.min(reactions - from))?;
-        let opening = copied(alloc, self.opening.as_slice())?;
+        let opening = copy_of_vectors(alloc, self.opening.as_slice())?;
         let Ok(job) = Job::new(self.program, self.flat, self.archi, &rows, opening) else {
             unreachable!()
         };
@@ -136,6 +140,7 @@ impl<'a> JobWindows<'a> {
         requires ended { IsAtEnd (next_job self.old) closed }
         ensures { self.new ≡ record self.old { next = self.old.next + 1 } }
     {
+        // As in `run_next`, these three calls are made for the proof alone.
         self.rows.are_cut();
         let _ = self.flat.vertices();
         windows_make_the_run();
@@ -145,7 +150,7 @@ impl<'a> JobWindows<'a> {
 }
 
 /// A copy of these vectors.
-fn copied(alloc: Global, vectors: &[Items<i64>]) -> Result<Items<Items<i64>>, OutOfMemory>
+fn copy_of_vectors(alloc: Global, vectors: &[Items<i64>]) -> Result<Items<Items<i64>>, OutOfMemory>
     ensures { IfOk result (λ copy. copy ≡ vectors.now) }
 {
     let mut copy = Vec::new(alloc);

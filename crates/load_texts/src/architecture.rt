@@ -1,7 +1,14 @@
 //! The architecture of every load.
 ghost use Rattle.std.specs.Prelude.{◌≡◌, ◌++◌, IfOk, OnOk};
 ghost use Rattle.load_texts.specs.Lines.{lines_text};
-ghost use Rattle.load_texts.specs.Architecture.{architecture_text, duration_line, durations_everywhere, end_durations, graph_lines, short_durations};
+ghost use Rattle.load_texts.specs.Architecture.{
+  architecture_text,
+  duration_line,
+  durations_everywhere,
+  end_durations,
+  graph_lines,
+  short_durations,
+};
 
 use crate::lines::append_lines;
 use grown_text::append;

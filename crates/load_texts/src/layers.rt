@@ -1,6 +1,20 @@
 //! The main graph of a load: layers of four functions, and what follows the last one.
 ghost use Rattle.std.specs.Prelude.{◌≡◌, ◌+◌, ◌%◌, ◌<◌, ◌++◌, OnOk};
-ghost use Rattle.load_texts.specs.Algorithm.{edge, edges_from_layer, edges_of_layers, layer_edges, layer_references, main_edges, main_graph, main_references, mix_edges, mix_name, mix_reference, output_end, references_of_layers};
+ghost use Rattle.load_texts.specs.Algorithm.{
+  edge,
+  edges_from_layer,
+  edges_of_layers,
+  layer_edges,
+  layer_references,
+  main_edges,
+  main_graph,
+  main_references,
+  mix_edges,
+  mix_name,
+  mix_reference,
+  output_end,
+  references_of_layers,
+};
 
 use crate::lines::append_lines;
 use grown_text::{append, append_count};

@@ -1,5 +1,32 @@
 -- The run as the code makes it: what is awaited, and who is looked at again after a step.
-use Rattle.std.specs.Prelude.{◌≡◌, ℕ, ◌<◌, ◌⊎◌, zero, suc, Bool, true, false, cond, nat_lt, List, [], ◌∷◌, ◌++◌, ◌+◌, ◌-◌, ◌*◌, map, length, Option, Some, None, slice_get, slice_index, slice_set}
+use Rattle.std.specs.Prelude.{
+  ◌≡◌,
+  ℕ,
+  ◌<◌,
+  ◌⊎◌,
+  zero,
+  suc,
+  Bool,
+  true,
+  false,
+  cond,
+  nat_lt,
+  List,
+  [],
+  ◌∷◌,
+  ◌++◌,
+  ◌+◌,
+  ◌-◌,
+  ◌*◌,
+  map,
+  length,
+  Option,
+  Some,
+  None,
+  slice_get,
+  slice_index,
+  slice_set,
+}
 use Rattle.interleavings.specs.Owners.{sum_below}
 use Rattle.program_tables.specs.declared.mark_table.Mark.{Mark}
 use Rattle.program_walks.specs.declared.acts.Stand.{Stand}
@@ -41,7 +68,8 @@ woken p s (Send b o) = on_it p (medium p s)
 woken p s (Recv b o) = on_it p (medium p s)
 woken p s _ = []
 
--- The run so far, how many instructions of each sequence it made, and the sequences to look at: all that are ready are among them.
+-- The run so far, how many instructions of each sequence it made, and the sequences to look at: all that are ready are
+-- among them.
 pub record IsGoing (p : Program) (order done looks : List ℕ) : Type 0 where
   pub run : IsRun p order
   pub many : length done ≡ length p.seqs
@@ -79,11 +107,15 @@ is_ready_in p done s = goes_in p done s (slice_index done s) (slice_get (turn p 
 -- of this many sequences from s on those that are not at their end
 abbrev pub left_in : Program → List ℕ → ℕ → ℕ → List Place
 left_in p done s zero = []
-left_in p done s (suc n) = cond (nat_lt (slice_index done s) (length (turn p s))) (record { sequence = s; at = slice_index done s } ∷ left_in p done (suc s) n) (left_in p done (suc s) n)
+left_in p done s (suc n) =
+    cond (nat_lt (slice_index done s) (length (turn p s)))
+    (record { sequence = s; at = slice_index done s } ∷ left_in p done (suc s) n)
+    (left_in p done (suc s) n)
 
 -- the place of the next instruction of sequence s, if it is not at its end
 abbrev pub stop_at : Program → List ℕ → ℕ → List Place
-stop_at p done s = cond (nat_lt (slice_index done s) (length (turn p s))) (record { sequence = s; at = slice_index done s } ∷ []) []
+stop_at p done s =
+    cond (nat_lt (slice_index done s) (length (turn p s))) (record { sequence = s; at = slice_index done s } ∷ []) []
 
 abbrev pub place_of : Stop → Place
 place_of x = record { sequence = x.sequence; at = x.at }
@@ -111,4 +143,5 @@ pub record IsWhole (p : Program) (order : List ℕ) : Type 0 where
 
 -- how much is left to do
 abbrev pub to_do : Program → List ℕ → List ℕ → ℕ
-to_do p order looks = (sum_below (λ s. length (turn p s)) (length p.seqs) - length order) * (length p.seqs + 3) + length looks
+to_do p order looks =
+    (sum_below (λ s. length (turn p s)) (length p.seqs) - length order) * (length p.seqs + 3) + length looks

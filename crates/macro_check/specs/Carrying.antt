@@ -1,5 +1,23 @@
 -- Where following receives back from a buffer leads.
-use Rattle.std.specs.Prelude.{◌≡◌, ℕ, zero, suc, ◌<◌, Bool, true, false, ◌&&◌, nat_eq, List, map, length, Option, Some, None, slice_get}
+use Rattle.std.specs.Prelude.{
+  ◌≡◌,
+  ℕ,
+  zero,
+  suc,
+  ◌<◌,
+  Bool,
+  true,
+  false,
+  ◌&&◌,
+  nat_eq,
+  List,
+  map,
+  length,
+  Option,
+  Some,
+  None,
+  slice_get,
+}
 use Rattle.std.specs.List.{list_all, range_with_len}
 use Rattle.flat_graph.specs.declared.vertex.Source.{Source}
 use Rattle.executive_program.specs.declared.program.Program.{Program}
@@ -68,7 +86,8 @@ carries_alike sources c = same_source (met_in sources c.received) (met_in source
 -- each buffer comes from a call, calls fit, and transfers receive what is sent
 abbrev pub carry_all : Program → List Vertex → List Origin → List (List Crossing) → Bool
 carry_all p vertices sources rows =
-    list_all is_call sources && all_at (λ v x. fits p vertices v x) 0 vertices && list_all (λ row. list_all (is_as_long p) row) rows && list_all (λ row. list_all (carries_alike sources) row) rows
+    list_all is_call sources && all_at (λ v x. fits p vertices v x) 0 vertices &&
+    list_all (λ row. list_all (is_as_long p) row) rows && list_all (λ row. list_all (carries_alike sources) row) rows
 
 -- the buffers that are received and sent are there
 pub record AreLow (p : Program) (media : ℕ) : Type 0 where

@@ -1,4 +1,4 @@
--- The causes that are told, and the first that a program lacks.
+-- The causes of a refusal, and the first that a program lacks.
 use Rattle.std.specs.Prelude.{ℕ, ◌<◌, ◌⊎◌, cond, List, map, length, Option, Some, None}
 use Rattle.flat_graph.specs.declared.vertex.Vertex.{Vertex}
 use Rattle.executive_program.specs.declared.program.Instr.TheVariants.{Suc1, Pre1, Send, Recv}
@@ -7,9 +7,31 @@ use Rattle.executive_program.specs.MicroSteps.{first_of}
 use Rattle.executive_program.specs.WellFormed.{Stands}
 use Rattle.buffer_check.specs.Opened.{are_opened}
 use Rattle.check_laws.specs.Run.{stuck}
-use Rattle.check_laws.specs.Tests.{Cause, sequences_differ, calls_wrong, transfers_wrong, buffers_wrong, pairs_wrong, prologue_wrong, stuck_at, stopped, are_called, are_transferred, are_written, are_guarded}
+use Rattle.check_laws.specs.Tests.{
+  Cause,
+  sequences_differ,
+  calls_wrong,
+  transfers_wrong,
+  buffers_wrong,
+  pairs_wrong,
+  prologue_wrong,
+  stuck_at,
+  stopped,
+  are_called,
+  are_transferred,
+  are_written,
+  are_guarded,
+}
 use Rattle.check_cause.specs.declared.cause.CheckCause.{CheckCause}
-use Rattle.check_cause.specs.declared.cause.CheckCause.TheVariants.{Sequences, Calls, Transfers, Buffers, Pairs, Prologue, Stuck}
+use Rattle.check_cause.specs.declared.cause.CheckCause.TheVariants.{
+  Sequences,
+  Calls,
+  Transfers,
+  Buffers,
+  Pairs,
+  Prologue,
+  Stuck,
+}
 use Rattle.macro_check.specs.declared.cause.CheckError.{CheckError}
 use Rattle.macro_check.specs.declared.cause.CheckError.TheVariants.{Refused, OutOfMemory}
 use Rattle.macro_check.specs.Awaiting.{place_of}

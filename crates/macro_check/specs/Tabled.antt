@@ -1,5 +1,22 @@
 -- What the tables of a program hold.
-use Rattle.std.specs.Prelude.{◌≡◌, ℕ, zero, suc, ◌<◌, Bool, true, ◌&&◌, not, nat_eq, List, length, Option, Some, None, slice_get}
+use Rattle.std.specs.Prelude.{
+  ◌≡◌,
+  ℕ,
+  zero,
+  suc,
+  ◌<◌,
+  Bool,
+  true,
+  ◌&&◌,
+  not,
+  nat_eq,
+  List,
+  length,
+  Option,
+  Some,
+  None,
+  slice_get,
+}
 use Rattle.program_tables.specs.declared.mark_table.Mark.{Mark}
 use Rattle.program_tables.specs.MarkRows.{row}
 use Rattle.executive_program.specs.Instructions.{operator, turn}
@@ -49,8 +66,10 @@ guards_by p q r = guards p q (record { buffer = r.buffer; sequence = r.sequence 
 module _ (p : Program) (t : ℕ) where
   -- communication t of sequence s waits for a transfer between these two
   abbrev pub waits_in : ℕ → ℕ → ℕ → Bool
-  waits_in sender receiver s = is_wait (operator p sender) (operator p receiver) true (slice_get (turn p s) (communication_at (turn p s) t))
+  waits_in sender receiver s =
+      is_wait (operator p sender) (operator p receiver) true (slice_get (turn p s) (communication_at (turn p s) t))
 
   -- and so it does at a place whose sequence is neither
   abbrev pub other_waits : ℕ → ℕ → Mark → Bool
-  other_waits sender receiver x = implies (not (nat_eq x.sequence sender) && not (nat_eq x.sequence receiver)) (waits_in sender receiver x.sequence)
+  other_waits sender receiver x =
+      implies (not (nat_eq x.sequence sender) && not (nat_eq x.sequence receiver)) (waits_in sender receiver x.sequence)

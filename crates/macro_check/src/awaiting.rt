@@ -1,4 +1,5 @@
-//! What the next instruction of a sequence awaits of another, and who may await an instruction.
+//! The instruction of another sequence that the next one of a sequence awaits, and the sequences that may await an
+//! instruction.
 ghost use Rattle.std.specs.Prelude.{◌≡◌, ℕ, ◌<◌, ◌++◌, length, slice_get, slice_index, IfSome, OnOk};
 ghost use Rattle.executive_program.specs.declared.program.Instr.TheVariants.{Pre1};
 ghost use Rattle.executive_program.specs.Instructions.{communications, medium, turn};
@@ -25,6 +26,7 @@ fn crossing_at(rows: &[Items<Crossing>], medium: Option<u32>, number: usize) -> 
     }
 }
 
+/// The transfer of a number on its medium.
 fn in_row(row: &[Crossing], number: usize) -> Option<Crossing>
     ensures { result ≡ slice_get row.now number }
 {
@@ -50,6 +52,7 @@ fn signal_of(program: &Program, tables: &Tables, pair: usize) -> Option<Stand>
     }
 }
 
+/// The place of the send of a transfer.
 fn sent_at(crossing: Option<Crossing>) -> Option<Stand>
     ensures { result ≡ sent_at crossing }
 {
@@ -62,6 +65,7 @@ fn sent_at(crossing: Option<Crossing>) -> Option<Stand>
     }
 }
 
+/// The place of the receive of a transfer.
 fn received_at(crossing: Option<Crossing>) -> Option<Stand>
     ensures { result ≡ received_at crossing }
 {
@@ -159,6 +163,7 @@ pub fn count_at(done: &[usize], sequence: usize) -> usize
     }
 }
 
+/// Adds the sequences of these places.
 fn push_sequences(looks: &mut Vec<usize>, marks: &[Mark]) -> Result<(), OutOfMemory>
     ensures { OnOk result (looks.new.items ≡ looks.old.items ++ sequences_in marks.now) }
 {
@@ -168,6 +173,7 @@ fn push_sequences(looks: &mut Vec<usize>, marks: &[Mark]) -> Result<(), OutOfMem
     Ok(())
 }
 
+/// Adds the sequence of the first of these places, if there is one.
 fn push_first(looks: &mut Vec<usize>, marks: &[Mark]) -> Result<(), OutOfMemory>
     ensures { OnOk result (looks.new.items ≡ looks.old.items ++ first_in marks.now) }
 {
@@ -177,6 +183,7 @@ fn push_first(looks: &mut Vec<usize>, marks: &[Mark]) -> Result<(), OutOfMemory>
     Ok(())
 }
 
+/// Adds the communicators of a medium, none where there is no medium.
 fn push_on_medium(
     looks: &mut Vec<usize>,
     program: &Program,

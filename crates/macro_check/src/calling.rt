@@ -1,4 +1,4 @@
-//! Each operation is called once, in a computation sequence, and the halves of a delay in order.
+//! The check of calls: each operation is called once, in a computation sequence, and the halves of a delay in order.
 ghost use Rattle.std.specs.Prelude.{◌≡◌, ℕ, ◌<◌, ◌&&◌, nat_eq, nat_lt, length, is_none};
 ghost use Rattle.executive_program.specs.Instructions.{medium};
 ghost use Rattle.executive_program.specs.Places.{caller_of};
@@ -29,6 +29,7 @@ fn find_call(program: &Program, calls: &MarkTable, operations: usize, operation:
     }
 }
 
+/// Whether a call stands before another one in the same sequence.
 fn is_before(call: Stand, twin: Stand) -> bool
     ensures { result ≡ (nat_eq call.sequence twin.sequence && nat_lt call.at twin.at) }
 {
@@ -54,6 +55,7 @@ fn is_before_twin(
     }
 }
 
+/// Whether these calls of an operation are one, in a computation sequence, a get half before its set half.
 fn is_called_at(
     program: &Program,
     calls: &MarkTable,
@@ -72,6 +74,7 @@ fn is_called_at(
         && is_before_twin(program, calls, operations, call, x)
 }
 
+/// Whether an operation is called once, in a computation sequence, and a get half before its set half.
 fn is_called(
     program: &Program,
     calls: &MarkTable,

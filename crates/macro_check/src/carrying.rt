@@ -1,5 +1,5 @@
-//! What buffers carry: an output of an operation, over any number of transfers. Receives are followed back from
-//! all buffers at once, twice as far with each round.
+//! The sources that buffers carry: outputs of operations, over any number of transfers. Receives are followed back
+//! from all buffers at once, twice as far with each round.
 ghost use Rattle.std.specs.Prelude.{◌≡◌, ℕ, ◌<◌, length, map, slice_get, Some, IfOk};
 ghost use Rattle.executive_program.specs.Instructions.{turn};
 ghost use Rattle.executive_program.specs.WellFormed.{Stands};
@@ -70,6 +70,7 @@ fn origin(program: &Program, tables: &Tables, buffer: usize, writes: &[Mark]) ->
     origin_at(program, tables, write_of(program, buffer, writes))
 }
 
+/// For each buffer where what it holds comes from, one step back.
 fn origins(alloc: Global, program: &Program, tables: &Tables) -> Result<Vec<Origin>, OutOfMemory>
     requires tables { AreTables program.now tables.now }
     requires transferred { AreTransferred program.now tables.now.media }
@@ -92,6 +93,7 @@ fn further(from: Origin, others: &[Origin]) -> Origin
     }
 }
 
+/// Where what a buffer holds comes from, by a table of all buffers.
 pub fn origin_in(others: &[Origin], buffer: usize) -> Origin
     ensures { result ≡ origin_or (slice_get others.now buffer) }
 {

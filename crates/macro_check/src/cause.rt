@@ -1,4 +1,4 @@
-//! Why a check has no order.
+//! The error of a check.
 ghost use Rattle.std.specs.Prelude.{◌≡◌};
 ghost use Rattle.macro_check.specs.declared.cause.CheckError.TheVariants.{OutOfMemory as Wants};
 

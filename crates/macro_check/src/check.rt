@@ -1,4 +1,4 @@
-//! The check of a program.
+//! The check of a program, which callers of the crate ask for.
 ghost use Rattle.std.specs.Prelude.{◌≡◌, ℕ, ◌<◌, ◌≤◌, ◌^◌, length, None, Some, IfErr, IfOk, OnOk};
 ghost use Rattle.archi_graph.specs.Sequences.{sequences};
 ghost use Rattle.executive_program.specs.Instructions.{turn};
@@ -119,9 +119,9 @@ fn check_named(
     check_by_tables(alloc, program, &tables, vertices)
 }
 
-/// Whether a program is well formed for a flat graph and an architecture, with a serial order of one reaction:
-/// the sequences of its entries, which `is_order` accepts. The first cause is told for which it is not, and that
-/// cause is exact. A loop has fewer than 2^32 instructions.
+/// A serial order of one reaction, which `is_order` accepts, if the program is well formed for a flat graph and an
+/// architecture; else the first cause for which it is not, and that cause is exact. The order names the sequence of
+/// each entry. A loop has fewer than 2^32 instructions.
 pub fn macro_check(
     alloc: Global,
     flat: &Flat,

@@ -1,4 +1,4 @@
-//! Buffers carry what the calls take and give, and transfers receive what is sent, in the same length.
+//! The check that the buffers of each call carry what its operation takes and gives.
 ghost use Rattle.std.specs.Prelude.{◌≡◌, ◌+◌, ◌<◌, ◌≤◌, ◌&&◌, Some, drop, length, nat_eq, slice_get};
 ghost use Rattle.executive_program.specs.Instructions.{turn};
 ghost use Rattle.executive_program.specs.Places.{carried};
@@ -44,6 +44,7 @@ fn carries_source(program: &Program, sources: &[Origin], buffer: u32, source: So
     )
 }
 
+/// Whether a buffer is there and carries a source, in its length.
 fn is_carried(
     program: &Program,
     sources: &[Origin],
@@ -59,6 +60,7 @@ fn is_carried(
         && has_output(vertices, source, len_of(program, buffer as usize))
 }
 
+/// Whether the buffer at a place of a list carries a source; false where the list ends before.
 fn carries(
     program: &Program,
     sources: &[Origin],
@@ -76,6 +78,7 @@ fn carries(
     }
 }
 
+/// Whether the first of these buffers carry the sources of the guards, in order.
 fn carry_guards(
     program: &Program,
     sources: &[Origin],
@@ -94,6 +97,7 @@ fn carry_guards(
     true
 }
 
+/// Whether the first of these buffers carry these inputs, in order.
 fn carry_inputs(
     program: &Program,
     sources: &[Origin],
@@ -112,12 +116,14 @@ fn carry_inputs(
     true
 }
 
+/// Whether there are as many buffers as guards and inputs together.
 fn has_as_many(ins: &[u32], guards: &[Guard], inputs: &[Source]) -> bool
     ensures { result ≡ nat_eq (length ins.now) (length guards.now + length inputs.now) }
 {
     ins.len() as u128 == guards.len() as u128 + inputs.len() as u128
 }
 
+/// Whether the buffers after those of the guards carry the inputs of an operation.
 fn carry_after(
     program: &Program,
     sources: &[Origin],
@@ -133,6 +139,7 @@ fn carry_after(
     carry_inputs(program, sources, vertices, &ins[first..], x.ins.as_slice())
 }
 
+/// Whether these buffers carry what an operation takes: the sources of its guards, then its inputs, and no more.
 fn takes(
     program: &Program,
     sources: &[Origin],
@@ -148,6 +155,7 @@ fn takes(
         && carry_after(program, sources, vertices, ins, x)
 }
 
+/// Whether a buffer has a length, and what is met from it is an output of an operation.
 fn is_given_as(
     program: &Program,
     sources: &[Origin],
@@ -177,6 +185,7 @@ fn is_given(
     is_given_as(program, sources, operation, port, len, buffer)
 }
 
+/// Whether the buffer of an output carries it and has its length; false where there is none.
 fn gives_at(
     program: &Program,
     sources: &[Origin],
@@ -194,6 +203,7 @@ fn gives_at(
     }
 }
 
+/// Whether the first of these buffers carry the outputs of an operation, whose lengths are given.
 fn give_all(
     program: &Program,
     sources: &[Origin],
@@ -212,6 +222,7 @@ fn give_all(
     true
 }
 
+/// Whether these buffers carry the outputs of an operation, and no more.
 fn gives(
     program: &Program,
     sources: &[Origin],
@@ -225,6 +236,7 @@ fn gives(
     outs.len() == lens.len() && give_all(program, sources, operation, outs, lens)
 }
 
+/// Whether the call at a place takes and gives what the operation asks for.
 fn fits_at(
     program: &Program,
     sources: &[Origin],
@@ -247,6 +259,7 @@ fn fits_at(
         )
 }
 
+/// Whether the call of an operation takes and gives what the operation asks for.
 fn fits(
     program: &Program,
     tables: &Tables,

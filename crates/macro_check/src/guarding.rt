@@ -1,5 +1,5 @@
-//! There is one pair for each buffer and each other sequence that reads it, and each stands round the write and
-//! the reads.
+//! The check of pairs: there is one for each buffer and each other sequence that reads it, and each stands round the
+//! write and the reads.
 ghost use Rattle.std.specs.Prelude.{◌≡◌, ◌&&◌, length, nat_eq};
 ghost use Rattle.program_walks.specs.Walks.{all_at};
 ghost use Rattle.check_laws.specs.Tests.{are_guarded};
@@ -25,6 +25,7 @@ fn guards_by(program: &Program, tables: &Tables, pair: usize, reading: Reading) 
         )
 }
 
+/// Whether the pairs, in order, guard the buffers of these readings.
 fn all_guard(program: &Program, tables: &Tables, readings: &[Reading]) -> bool
     requires { AreTables program.now tables.now }
     ensures { result ≡ all_at (guards_by program.now) 0 readings.now }
@@ -37,6 +38,7 @@ fn all_guard(program: &Program, tables: &Tables, readings: &[Reading]) -> bool
     true
 }
 
+/// Whether there are as many pairs as these readings, and each guards the buffer of its reading.
 fn guard_each(program: &Program, tables: &Tables, readings: &[Reading]) -> bool
     requires { AreTables program.now tables.now }
     ensures { result ≡ (nat_eq (length program.now.pairs) (length readings.now) &&

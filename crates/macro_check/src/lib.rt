@@ -1,7 +1,8 @@
-//! The exact check of programs of any origin: `macro_check` tells whether a program is well formed for a flat
-//! graph and an architecture, with a serial order of one reaction, or the first that it lacks. Whoever runs
-//! macro-code that this compiler did not make asks it first. It takes time in proportion to the program, by
-//! tables of where operations, buffers and pairs are named and a list of the sequences to look at.
+//! The exact check of programs of any origin: `macro_check` returns a serial order of one reaction, or the first that
+//! the program lacks to be well formed for a flat graph and an architecture.
+//!
+//! Whoever runs macro-code that this compiler did not make asks it first. It takes time in proportion to the program,
+//! by tables of where operations, buffers and pairs are named and a list of the sequences to look at.
 #![tactic(auto)]
 
 mod awaiting;

@@ -1,4 +1,4 @@
-//! Each transfer has one send, one receive, and a wait at each other communicator of its medium.
+//! The check of transfers: each has one send, one receive, and a wait at each other communicator of its medium.
 ghost use Rattle.std.specs.Prelude.{◌≡◌, ℕ, ◌<◌, ◌&&◌, not, nat_eq};
 ghost use Rattle.std.specs.List.{list_all};
 ghost use Rattle.executive_program.specs.MicroSteps.{transfers};
@@ -17,6 +17,7 @@ use program_walks::{is_on, medium_of, operator_of, turn_of};
 use syn_base::Items;
 use value_check::{is_receive_from, is_send_to, is_wait};
 
+/// Whether a transfer has its send: in a communicator of its medium, to the operator that receives.
 fn is_sent(program: &Program, medium: usize, number: usize, moved: Crossing) -> bool
     requires { moved ≡ crossing_by program.now number moved.sender moved.receiver }
     ensures { result ≡ is_sent program.now medium number moved.sender moved.receiver }
@@ -29,6 +30,7 @@ fn is_sent(program: &Program, medium: usize, number: usize, moved: Crossing) -> 
         )
 }
 
+/// Whether a transfer has its receive: in a communicator of its medium, from the operator that sends.
 fn is_received(program: &Program, medium: usize, number: usize, moved: Crossing) -> bool
     requires { moved ≡ crossing_by program.now number moved.sender moved.receiver }
     ensures { result ≡ is_received program.now medium number moved.sender moved.receiver }
@@ -62,12 +64,14 @@ fn waits(
     )
 }
 
+/// Whether a sequence is no end of a transfer.
 fn is_other(moved: Crossing, sequence: usize) -> bool
     ensures { result ≡ (not (nat_eq sequence moved.sender) && not (nat_eq sequence moved.receiver)) }
 {
     sequence != moved.sender && sequence != moved.receiver
 }
 
+/// Whether those of these communicators that are no ends of a transfer wait for it.
 fn all_wait(
     program: &Program,
     places: &[Items<usize>],
@@ -86,6 +90,7 @@ fn all_wait(
     true
 }
 
+/// Whether a transfer has its send, its receive, and the waits of these communicators.
 fn is_moved_by(
     program: &Program,
     places: &[Items<usize>],
@@ -105,6 +110,7 @@ fn is_moved_by(
         && all_wait(program, places, communicators, number, moved)
 }
 
+/// Whether a transfer has its send, its receive, and the waits of the other communicators.
 fn is_moved(
     program: &Program,
     places: &[Items<usize>],
@@ -121,6 +127,7 @@ fn is_moved(
     is_moved_by(program, places, communicators, medium, number, moved)
 }
 
+/// Whether this holds of each transfer of a medium.
 fn are_moved_on(
     program: &Program,
     places: &[Items<usize>],
@@ -141,6 +148,7 @@ fn are_moved_on(
     true
 }
 
+/// Whether this holds of each transfer.
 fn are_moved(
     program: &Program,
     places: &[Items<usize>],

@@ -1,4 +1,4 @@
-//! The sequences are the architecture's, and what instructions name is there.
+//! The check of names: the sequences are the architecture's, and what instructions name is there.
 ghost use Rattle.std.specs.Prelude.{◌≡◌};
 ghost use Rattle.std.specs.List.{flat_map, list_all, range_with_len};
 ghost use Rattle.archi_graph.specs.Sequences.{sequences_of};
@@ -9,6 +9,7 @@ use archi_graph::Medium;
 use executive_program::{Instr, Program};
 use order_check::{are_sequences, names_in};
 
+/// Whether the operators that an instruction names are there, among this many.
 fn operators_in(operators: usize, instr: &Instr) -> bool
     ensures { result ≡ operators_in operators instr.now }
 {
@@ -20,12 +21,14 @@ fn operators_in(operators: usize, instr: &Instr) -> bool
     }
 }
 
+/// Whether all that an instruction names is there.
 fn is_there(program: &Program, operations: usize, operators: usize, instr: &Instr) -> bool
     ensures { result ≡ all_there program.now operations operators instr.now }
 {
     names_in(program, operations, instr) && operators_in(operators, instr)
 }
 
+/// Whether all that these instructions name is there.
 fn are_there(program: &Program, operations: usize, operators: usize, list: &[Instr]) -> bool
     ensures { result ≡ list_all (all_there program.now operations operators) list.now }
 {
@@ -33,6 +36,7 @@ fn are_there(program: &Program, operations: usize, operators: usize, list: &[Ins
         .all(|instr| is_there(program, operations, operators, instr))
 }
 
+/// Whether all that the loops name is there.
 fn loops_there(program: &Program, operations: usize, operators: usize) -> bool
     ensures { result ≡ list_all (λ (q : SeqCode). list_all
         (all_there program.now operations operators) q.turn) program.now.seqs }
@@ -45,6 +49,7 @@ fn loops_there(program: &Program, operations: usize, operators: usize) -> bool
     ))
 }
 
+/// Whether all that the prologues name is there.
 fn prologues_there(program: &Program, operations: usize, operators: usize) -> bool
     ensures { result ≡ list_all (λ (q : SeqCode). list_all
         (all_there program.now operations operators) q.prologue) program.now.seqs }

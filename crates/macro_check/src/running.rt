@@ -1,5 +1,5 @@
-//! The run that takes any sequence whose next instruction awaits nothing more, from a list of the sequences that
-//! may have become ready.
+//! The run that takes any sequence whose next instruction awaits nothing more, from a list of the sequences that may
+//! have become ready.
 ghost use Rattle.std.specs.Prelude.{◌≡◌, ℕ, ◌<◌, ◌≤◌, ◌^◌, ◌++◌, [], ◌∷◌, zero, length, map, replicate, slice_index, IfOk, OnOk};
 ghost use Rattle.std.specs.List.{range_with_len};
 ghost use Rattle.executive_program.specs.Instructions.{turn};
@@ -35,6 +35,7 @@ fn is_ready(program: &Program, tables: &Tables, done: &[usize], sequence: usize)
     }
 }
 
+/// The counts before anything was made: as many zeros.
 fn no_counts(alloc: Global, count: usize) -> Result<Vec<usize>, OutOfMemory>
     ensures { IfOk result (λ done. done.items ≡ replicate count 0) }
 {
@@ -45,6 +46,7 @@ fn no_counts(alloc: Global, count: usize) -> Result<Vec<usize>, OutOfMemory>
     Ok(done)
 }
 
+/// The sequences from 0 on, as many as are asked for.
 fn all_sequences(alloc: Global, count: usize) -> Result<Vec<usize>, OutOfMemory>
     ensures { IfOk result (λ looks. looks.items ≡ range_with_len 0 count) }
 {

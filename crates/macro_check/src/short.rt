@@ -1,4 +1,4 @@
-//! The check numbers places with 32 bits.
+//! The bound on loops: the check numbers places with 32 bits.
 ghost use Rattle.std.specs.Prelude.{ℕ, ◌<◌, ◌^◌, ◌↔◌, IsTrue, length};
 ghost use Rattle.executive_program.specs.Instructions.{turn};
 

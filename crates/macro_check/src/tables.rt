@@ -1,4 +1,4 @@
-//! The tables of a program.
+//! The tables of a program that all checks share.
 ghost use Rattle.std.specs.Prelude.{◌≡◌, IfOk};
 ghost use Rattle.macro_check.specs.Tabled.{AreTables};
 

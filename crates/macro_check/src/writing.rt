@@ -1,4 +1,4 @@
-//! The buffers of a program: each is written once and carries what is called for and what is sent.
+//! The check of buffers: each is written once and carries what is called for and what is sent.
 ghost use Rattle.std.specs.Prelude.{◌≡◌, ◌<◌, ◌≤◌, ◌&&◌, length, nat_eq, IfOk};
 ghost use Rattle.std.specs.List.{list_all};
 ghost use Rattle.check_laws.specs.Items.{AreTransferred};
@@ -17,30 +17,35 @@ use std::alloc::Global;
 use syn_base::{Items, OutOfMemory};
 use value_check::Origin;
 
+/// Whether what is met is an output of an operation.
 fn is_call(origin: &Origin) -> bool
     ensures { result ≡ is_call origin.now }
 {
     matches!(origin, Origin::Made { .. })
 }
 
+/// Whether all that is met is outputs of operations.
 fn are_calls(sources: &[Origin]) -> bool
     ensures { result ≡ list_all is_call sources.now }
 {
     sources.iter().all(|origin| is_call(origin))
 }
 
+/// Whether a transfer receives into a buffer as long as the one that is sent.
 fn is_as_long(program: &Program, crossing: Crossing) -> bool
     ensures { result ≡ is_as_long program.now crossing }
 {
     len_of(program, crossing.received as usize) == len_of(program, crossing.sent as usize)
 }
 
+/// Whether this holds of these transfers.
 fn are_as_long_on(program: &Program, found: &[Crossing]) -> bool
     ensures { result ≡ list_all (is_as_long program.now) found.now }
 {
     found.iter().all(|crossing| is_as_long(program, *crossing))
 }
 
+/// Whether this holds of all transfers.
 fn are_as_long(program: &Program, found: &[Items<Crossing>]) -> bool
     ensures { result ≡ list_all (λ row. list_all (is_as_long program.now) row) found.now }
 {
@@ -56,6 +61,7 @@ struct Met {
     port: usize,
 }
 
+/// The output that is met from a buffer; output 0 of operation 0 where there is none.
 fn meet(sources: &[Origin], buffer: usize) -> Met
     ensures vertex { result.vertex ≡ (met_in sources.now buffer).vertex }
     ensures port { result.port ≡ (met_in sources.now buffer).port }
@@ -66,12 +72,14 @@ fn meet(sources: &[Origin], buffer: usize) -> Met
     }
 }
 
+/// Whether two outputs are the same.
 fn are_one(one: Met, other: Met) -> bool
     ensures { result ≡ (nat_eq one.vertex other.vertex && nat_eq one.port other.port) }
 {
     one.vertex == other.vertex && one.port == other.port
 }
 
+/// Whether the received buffer of a transfer carries what the sent one does.
 fn carries_alike(sources: &[Origin], crossing: Crossing) -> bool
     ensures { result ≡ carries_alike sources.now crossing }
 {
@@ -81,6 +89,7 @@ fn carries_alike(sources: &[Origin], crossing: Crossing) -> bool
     )
 }
 
+/// Whether this holds of these transfers.
 fn carry_alike_on(sources: &[Origin], found: &[Crossing]) -> bool
     ensures { result ≡ list_all (carries_alike sources.now) found.now }
 {
@@ -89,6 +98,7 @@ fn carry_alike_on(sources: &[Origin], found: &[Crossing]) -> bool
         .all(|crossing| carries_alike(sources, *crossing))
 }
 
+/// Whether this holds of all transfers.
 fn carry_alike(sources: &[Origin], found: &[Items<Crossing>]) -> bool
     ensures { result ≡ list_all (λ row. list_all (carries_alike sources.now) row) found.now }
 {

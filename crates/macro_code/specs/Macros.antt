@@ -1,7 +1,26 @@
 -- The names of the macros.
 use Rattle.std.specs.Prelude.{ℕ, List, codes}
 use Rattle.macro_code.specs.declared.macros.Macro.{Macro}
-use Rattle.macro_code.specs.declared.macros.Macro.TheVariants.{Processor, Semaphores, Alloc, Thread, EndThread, Main, EndMain, SpawnThread, WaitEndThread, Loop, EndLoop, Suc0, Suc1, Pre0, Pre1, Send, Recv, Sync}
+use Rattle.macro_code.specs.declared.macros.Macro.TheVariants.{
+  Processor,
+  Semaphores,
+  Alloc,
+  Thread,
+  EndThread,
+  Main,
+  EndMain,
+  SpawnThread,
+  WaitEndThread,
+  Loop,
+  EndLoop,
+  Suc0,
+  Suc1,
+  Pre0,
+  Pre1,
+  Send,
+  Recv,
+  Sync,
+}
 
 abbrev pub word_of : Macro → List ℕ
 word_of Processor = codes "processor_"

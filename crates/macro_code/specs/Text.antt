@@ -1,5 +1,23 @@
--- The text of a program, processor by processor: the pairs and the buffers of the operator, a thread for each of its communicators, and its main part.
-use Rattle.std.specs.Prelude.{ℕ, suc, cond, nat_eq, nat_lt, List, [], ◌∷◌, ◌++◌, map, codes, Option, Some, None, slice_get, slice_index_or}
+-- The text of a program, processor by processor: the pairs and the buffers of the operator, a thread for each of its
+-- communicators, and its main part.
+use Rattle.std.specs.Prelude.{
+  ℕ,
+  suc,
+  cond,
+  nat_eq,
+  nat_lt,
+  List,
+  [],
+  ◌∷◌,
+  ◌++◌,
+  map,
+  codes,
+  Option,
+  Some,
+  None,
+  slice_get,
+  slice_index_or,
+}
 use Rattle.std.specs.Fmt.{decimal}
 use Rattle.std.specs.List.{flat_map}
 use Rattle.syn_base.specs.Bytes.{Bytes}
@@ -85,7 +103,8 @@ module _ (n : Names) where
   -- an operation with the buffers that it reads and those that it writes
   abbrev pub call_line : ℕ → List ℕ → List ℕ → Bytes
   call_line v ins outs =
-      codes "op " ++ (operation_name v ++ (codes "(" ++ (joined (map buffer_name ins) ++ (codes ";" ++ (joined (map buffer_name outs) ++ codes ")\n")))))
+      codes "op " ++ (operation_name v ++
+      (codes "(" ++ (joined (map buffer_name ins) ++ (codes ";" ++ (joined (map buffer_name outs) ++ codes ")\n")))))
 
   abbrev pub instr_line : Instr → Bytes
   instr_line (Suc0 q) = line macros.Suc0 (decimal q ∷ [])
@@ -126,7 +145,8 @@ module _ (n : Names) where
   -- The computation sequence is the main part: it starts the threads of these sequences, and waits for them at the end.
   abbrev pub main_by : List SeqCode → ℕ → SeqCode → Option ℕ → Bytes
   main_by qs o q None =
-      word_line macros.Main ++ (medium_lines macros.SpawnThread o qs ++ (code_text q ++ (medium_lines macros.WaitEndThread o qs ++ word_line macros.EndMain)))
+      word_line macros.Main ++ (medium_lines macros.SpawnThread o qs ++
+      (code_text q ++ (medium_lines macros.WaitEndThread o qs ++ word_line macros.EndMain)))
   main_by qs o q (Some m) = []
 
   abbrev pub main_text : List SeqCode → ℕ → SeqCode → Bytes
@@ -139,7 +159,8 @@ module _ (n : Names) where
   module _ (p : Program) where
     -- the text of an operator
     abbrev pub processor_text : ℕ → Bytes
-    processor_text o = line macros.Processor (operator_name o ∷ []) ++ (declarations o p.pairs p.buffers ++ sequences_text p.seqs o)
+    processor_text o =
+        line macros.Processor (operator_name o ∷ []) ++ (declarations o p.pairs p.buffers ++ sequences_text p.seqs o)
 
     -- of operators with these names, of which the first has number o
     abbrev pub processors_from : ℕ → List Bytes → Bytes
@@ -148,4 +169,5 @@ module _ (n : Names) where
 
 -- the macro-code of a program
 abbrev pub macro_code : Program → Graph → Architecture → Bytes
-macro_code p g a = processors_from (record { vertices = g.vertices; operators = a.operators; media = a.media }) p 0 a.operators
+macro_code p g a =
+    processors_from (record { vertices = g.vertices; operators = a.operators; media = a.media }) p 0 a.operators

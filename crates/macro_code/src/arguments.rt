@@ -1,4 +1,4 @@
-//! Lines of a macro, and lists that are joined by commas.
+//! The line of a macro with its arguments, and lists joined by commas, for all other modules.
 ghost use Rattle.std.specs.Prelude.{◌≡◌, ◌++◌, ◌∷◌, [], OnOk, codes, map};
 ghost use Rattle.std.specs.Fmt.{decimal};
 ghost use Rattle.macro_code.specs.Macros.{word_of};
@@ -63,6 +63,7 @@ pub fn append_buffers(out: &mut Vec<u8>, buffers: &[u32]) -> Result<(), OutOfMem
     }
 }
 
+/// Appends further buffers of a list, each after a comma.
 fn append_more_buffers(out: &mut Vec<u8>, buffers: &[u32]) -> Result<(), OutOfMemory>
     ensures { OnOk result (out.new.items ≡ out.old.items ++ each_after_comma (map buffer_name buffers.now)) }
 {
@@ -86,6 +87,7 @@ pub fn append_numbers(out: &mut Vec<u8>, numbers: &[usize]) -> Result<(), OutOfM
     }
 }
 
+/// Appends further numbers of a list, each after a comma.
 fn append_more_numbers(out: &mut Vec<u8>, numbers: &[usize]) -> Result<(), OutOfMemory>
     ensures { OnOk result (out.new.items ≡ out.old.items ++ each_after_comma (map decimal numbers.now)) }
 {

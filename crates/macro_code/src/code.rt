@@ -1,4 +1,4 @@
-//! The whole text.
+//! The whole text of a program, which callers of the crate ask for.
 ghost use Rattle.std.specs.Prelude.{◌≡◌, ◌++◌, OnErr, OnOk};
 ghost use Rattle.macro_code.specs.Text.{macro_code, names_of, processors_from};
 
@@ -41,6 +41,7 @@ pub fn print_code(
     Ok(())
 }
 
+/// Appends the texts of the processors, each with its sequences, pairs and buffers.
 fn append_processors(
     alloc: Global,
     out: &mut Vec<u8>,

@@ -1,4 +1,4 @@
-//! Lines of instructions.
+//! The lines of a sequence, instruction by instruction, for the text of a processor.
 ghost use Rattle.std.specs.Prelude.{◌≡◌, ◌++◌, ◌∷◌, [], OnOk};
 ghost use Rattle.macro_code.specs.Text.{body_text, buffer_name, call_line, code_text, instr_line, line, names_of, operator_name};
 
@@ -21,6 +21,7 @@ pub fn append_sequence(out: &mut Vec<u8>, named: &Named, code: &SeqCode) -> Resu
     append_word_line(out, Macro::EndLoop)
 }
 
+/// Appends the lines of these instructions.
 fn append_body(out: &mut Vec<u8>, named: &Named, body: &[Instr]) -> Result<(), OutOfMemory>
     ensures { OnOk result (out.new.items ≡ out.old.items ++ body_text (names_of named.now) body.now) }
 {
@@ -30,6 +31,7 @@ fn append_body(out: &mut Vec<u8>, named: &Named, body: &[Instr]) -> Result<(), O
     Ok(())
 }
 
+/// Appends the line of an instruction.
 fn append_instr(out: &mut Vec<u8>, named: &Named, instr: &Instr) -> Result<(), OutOfMemory>
     ensures { OnOk result (out.new.items ≡ out.old.items ++ instr_line (names_of named.now) instr.now) }
 {

@@ -1,5 +1,7 @@
-//! The macro-code: the text of the executive that each processor runs. `print_code` appends it, and
-//! `Macro` has the names of the macros. It is what the command `code` is to write.
+//! Macro-code, the text of an executive: `print_code` prints a program, processor by processor, as the command `code`
+//! writes it.
+//!
+//! `Macro` has the names of the macros.
 #![tactic(auto)]
 
 mod arguments;

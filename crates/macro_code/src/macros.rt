@@ -1,4 +1,4 @@
-//! The macros of the text.
+//! The macros by which lines begin.
 ghost use Rattle.std.specs.Prelude.{◌≡◌};
 
 /// A macro. A sequence's lines stand between `thread_` and `endthread_` or between `main_` and

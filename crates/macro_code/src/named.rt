@@ -1,4 +1,4 @@
-//! What the text names: operations, operators and media. What is not there has an empty name.
+//! The names of operations, operators and media, for the lines that name them. What is not there has an empty name.
 ghost use Rattle.std.specs.Prelude.{◌≡◌};
 ghost use Rattle.macro_code.specs.Text.{medium_name, names_of, operation_name, operator_name};
 

@@ -1,4 +1,4 @@
-//! The text of a processor.
+//! The text of one processor, for the whole text.
 ghost use Rattle.std.specs.Prelude.{◌≡◌, ◌++◌, [], OnOk, IfOk, cond, map, nat_eq};
 ghost use Rattle.std.specs.Fmt.{decimal};
 ghost use Rattle.std.specs.List.{flat_map};

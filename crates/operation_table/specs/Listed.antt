@@ -12,12 +12,18 @@ abbrev pub guard_condition : Guard → Condition
 guard_condition g = record { values = g.values; case = g.case }
 
 abbrev pub vertex_row : List (List Expr) → Vertex → Row
-vertex_row bodies x = record { name = x.name; definition = x.def; conditions = map guard_condition x.guards; outs = x.outs; task = task_of bodies x.kind }
+vertex_row bodies x = record {
+  name = x.name;
+  definition = x.def;
+  conditions = map guard_condition x.guards;
+  outs = x.outs;
+  task = task_of bodies x.kind;
+}
 
 abbrev pub listed : Graph → List Row
 listed g = map (vertex_row g.bodies) g.vertices
 
--- The flat graph has the operations of the tree and no others, in order: with these names, definitions, kinds and lengths of outputs,
--- and each with a guard for each case around it, outer first, and no other guard.
+-- The flat graph has the operations of the tree and no others, in order: with these names, definitions, kinds and
+-- lengths of outputs, and each with a guard for each case around it, outer first, and no other guard.
 abbrev pub HasOperations : tree.Vertex → Graph → Type 0
 HasOperations main g = listed g ≡ table main

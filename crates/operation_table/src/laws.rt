@@ -1,4 +1,5 @@
-//! The law of the operations of a tree, the contract of a function that does nothing.
+//! The law of the operations of a tree, the contract of a function that does nothing and is not called: `hierarchy`
+//! takes the lemmas in `proofs/`.
 ghost use Rattle.std.specs.Prelude.{◌≡◌};
 ghost use Rattle.algo_tree.specs.Tree.{Vertex};
 ghost use Rattle.algo_tree.specs.Valid.{IsTree};

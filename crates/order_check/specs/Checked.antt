@@ -36,7 +36,8 @@ module _ (p : Program) where
   names_in operations (Suc1 q) = nat_lt q (length p.pairs)
   names_in operations (Pre0 q) = nat_lt q (length p.pairs)
   names_in operations (Pre1 q) = nat_lt q (length p.pairs)
-  names_in operations (Call v ins outs) = nat_lt v operations && are_below (length p.buffers) ins && are_below (length p.buffers) outs
+  names_in operations (Call v ins outs) =
+      nat_lt v operations && are_below (length p.buffers) ins && are_below (length p.buffers) outs
   names_in operations (Send b q) = nat_lt b (length p.buffers)
   names_in operations (Recv b q) = nat_lt b (length p.buffers)
   names_in operations (Sync q r) = true

@@ -27,4 +27,5 @@ module _ (p : Program) where
 
   abbrev pub is_order : List Vertex → List Seq → ℕ → List ℕ → Bool
   is_order vertices seqs media order =
-      are_sequences p.seqs seqs && follows_loops p order && are_numbers_right (length vertices) media && are_guards_right order && are_values_right order vertices media
+      are_sequences p.seqs seqs && follows_loops p order && are_numbers_right (length vertices) media &&
+      are_guards_right order && are_values_right order vertices media

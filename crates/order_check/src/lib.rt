@@ -1,7 +1,9 @@
-//! The exact check of a serial order of one reaction: `is_order` tells whether a program is well formed by it,
-//! for a flat graph and an architecture, without memory. Whoever builds a program of its own and wants to run it
-//! asks it first. The sequences, the loops and what instructions name are checked here; buffers with their pairs
-//! and prologues in `buffer_check`, calls and transfers in `value_check`.
+//! The exact check of a serial order of one reaction: `is_order` tells whether a program is well formed by it, for a
+//! flat graph and an architecture, without memory.
+//!
+//! Whoever builds a program of its own and wants to run it asks it first. The sequences, the loops and what
+//! instructions name are checked here; buffers with their pairs and prologues in `buffer_check`, calls and transfers
+//! in `value_check`.
 #![tactic(auto)]
 
 mod loops;

@@ -1,4 +1,4 @@
-//! The order follows the loops of a program.
+//! The check that the order follows the loops of a program.
 ghost use Rattle.std.specs.Prelude.{◌≡◌, nat_eq, length};
 ghost use Rattle.std.specs.List.{count_by};
 ghost use Rattle.executive_program.specs.Instructions.{turn};
@@ -14,12 +14,14 @@ pub fn are_below(list: &[u32], bound: usize) -> bool
     list.iter().all(|entry| (*entry as usize) < bound)
 }
 
+/// Whether the order names a sequence as often as its loop has instructions.
 fn is_named_as_often(program: &Program, order: &[u32], sequence: usize) -> bool
     ensures { result ≡ nat_eq (count_by (λ t. nat_eq t sequence) order.now) (length (turn program.now sequence)) }
 {
     count_in(order, sequence) == turn_of(program, sequence).len()
 }
 
+/// Whether the order names each sequence as often as its loop has instructions.
 fn counts_loops(program: &Program, order: &[u32]) -> bool
     ensures { result ≡ counts_loops program.now order.now }
 {

@@ -1,4 +1,4 @@
-//! What instructions name is there, and communications stand in communicators.
+//! The check that what instructions name is there, and that communications stand in communicators.
 ghost use Rattle.std.specs.Prelude.{◌≡◌, not, nat_lt, length};
 ghost use Rattle.std.specs.List.{list_all};
 ghost use Rattle.executive_program.specs.Instructions.{is_communication};
@@ -8,18 +8,21 @@ use crate::loops::are_below;
 use executive_program::{Instr, Program};
 use program_walks::{count_communications, is_communication, transfers};
 
+/// Whether a pair is there.
 fn is_pair(program: &Program, pair: u32) -> bool
     ensures { result ≡ nat_lt pair (length program.now.pairs) }
 {
     (pair as usize) < program.pairs.as_slice().len()
 }
 
+/// Whether a buffer is there.
 fn is_buffer(program: &Program, buffer: u32) -> bool
     ensures { result ≡ nat_lt buffer (length program.now.buffers) }
 {
     (buffer as usize) < program.buffers.as_slice().len()
 }
 
+/// Whether these buffers are there.
 fn are_buffers(program: &Program, list: &[u32]) -> bool
     ensures { result ≡ are_below (length program.now.buffers) list.now }
 {
@@ -44,6 +47,7 @@ pub fn names_in(program: &Program, operations: usize, instr: &Instr) -> bool
     }
 }
 
+/// Whether what these instructions name is there, among this many operations.
 fn name_in(program: &Program, operations: usize, list: &[Instr]) -> bool
     ensures { result ≡ list_all (names_in program.now operations) list.now }
 {
@@ -62,12 +66,14 @@ pub fn are_named(program: &Program, operations: usize) -> bool
         .all(|code| name_in(program, operations, code.turn.as_slice()))
 }
 
+/// Whether none of these instructions is a communication.
 fn are_no_communications(list: &[Instr]) -> bool
     ensures { result ≡ list_all (λ x. not (is_communication x)) list.now }
 {
     list.iter().all(|instr| !is_communication(instr))
 }
 
+/// Whether a sequence with these instructions is at a medium, if one of them is a communication.
 fn is_at_medium(medium: Option<u32>, list: &[Instr]) -> bool
     ensures { result ≡ is_at_medium medium list.now }
 {
@@ -85,6 +91,7 @@ pub fn are_communicators(program: &Program) -> bool
         .all(|code| is_at_medium(code.seq.medium, code.turn.as_slice()))
 }
 
+/// Whether the medium of a sequence, if it has one, is there.
 fn is_medium(media: usize, medium: Option<u32>) -> bool
     ensures { result ≡ is_medium media medium }
 {
@@ -105,6 +112,8 @@ pub fn are_on_media(program: &Program, media: usize) -> bool
         .all(|code| is_medium(media, code.seq.medium))
 }
 
+/// Whether a sequence with these instructions, if it is a communicator, has one communication in each transfer of its
+/// medium.
 fn is_counted(program: &Program, medium: Option<u32>, list: &[Instr]) -> bool
     ensures { result ≡ is_counted program.now medium list.now }
 {

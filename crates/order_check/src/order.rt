@@ -1,4 +1,4 @@
-//! Whether a program is well formed by a serial order.
+//! The check of a program with a serial order, which callers of the crate ask for.
 ghost use Rattle.std.specs.Prelude.{◌≡◌, length};
 ghost use Rattle.std.specs.Bool.{Decides};
 ghost use Rattle.std.specs.List.{flat_map, range_with_len};

@@ -1,4 +1,4 @@
-//! The sequences of a program are those of an architecture, in order.
+//! The check that the sequences of a program are those of an architecture, in order.
 ghost use Rattle.std.specs.Prelude.{◌≡◌, ◌<◌, length, true};
 ghost use Rattle.std.specs.List.{flat_map, range_with_len};
 ghost use Rattle.archi_graph.specs.Archi.{stands_at};
@@ -9,6 +9,7 @@ ghost use Rattle.order_check.specs.Sequenced.{are_sequences, is_sequence, same_m
 use archi_graph::Medium;
 use executive_program::SeqCode;
 
+/// Whether an operator stands at a medium.
 fn stands_at(medium: &Medium, operator: usize) -> bool
     ensures { result ≡ stands_at medium.now operator }
 {
@@ -19,6 +20,7 @@ fn stands_at(medium: &Medium, operator: usize) -> bool
         .any(|stand| operator == *stand as usize)
 }
 
+/// Whether a sequence is at this medium, or at none where this is none.
 fn is_same_medium(found: Option<u32>, medium: Option<usize>) -> bool
     ensures { result ≡ same_medium found medium }
 {

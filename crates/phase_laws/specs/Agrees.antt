@@ -1,4 +1,5 @@
--- The state of the core, whose cells and rows are shared, and the state of the theory, where each sequence has its own, say the same.
+-- The state of the core, whose cells and rows are shared, and the state
+-- of the theory, where each sequence has its own, say the same.
 use Rattle.std.specs.Prelude.{◌≡◌, ℕ, true, ◌+◌, ◌*◌, ◌<◌, List, [], ◌∷◌, map, length, Some, slice_get, slice_index_or}
 use Rattle.level_meaning.specs.Level.{Values, Vector, element_at, vector_at}
 use Rattle.flat_graph.specs.declared.vertex.Vertex.{Vertex}
@@ -17,7 +18,16 @@ use Rattle.executive_program.specs.declared.steps.OnLoad.TheVariants.{Gather, Ca
 use Rattle.executive_program.specs.declared.steps.OnStore.{OnStore}
 use Rattle.executive_program.specs.declared.steps.OnStore.TheVariants.{Give, Carry as CarryOut, Compute as ComputeOut}
 use Rattle.executive_program.specs.declared.steps.MicroStep.{MicroStep}
-use Rattle.executive_program.specs.declared.steps.MicroStep.TheVariants.{Take, See, Lower, Signal, Await, Advance, Load, Store}
+use Rattle.executive_program.specs.declared.steps.MicroStep.TheVariants.{
+  Take,
+  See,
+  Lower,
+  Signal,
+  Await,
+  Advance,
+  Load,
+  Store,
+}
 use Rattle.executive_program.specs.Instructions.{len_of, depth_of}
 use Rattle.executive_program.specs.MicroSteps.{code, transfers, element_of, wire_of, wire_len}
 use Rattle.executive_program.specs.Places.{calling}
@@ -31,7 +41,8 @@ use Rattle.semaphore_core.specs.Told.{told, stored_value, own_after}
 use Rattle.semaphore_core.specs.Laws.{HasLaws}
 use Rattle.semaphore_core.specs.Core.{Core, opening, count, run, step, is_enabled}
 
--- A job whose program is well formed, whose graph is valid, and whose delays open with a vector of the right length each.
+-- A job whose program is well formed, whose graph is valid, and
+-- whose delays open with a vector of the right length each.
 pub record IsFormed (j : JobData) : Type 0 where
   pub seqs : List Seq
   pub formed : IsWellFormed j.program j.graph seqs j.media
@@ -90,17 +101,23 @@ module _ (j : JobData) where
   abbrev pub caller : ℕ → ℕ
   caller v = (calling j.program v).sequence
 
-  -- Words and registers are the same; a cell and a row are those of the sequence that calls the operation. The lists have the lengths of the opening.
+  -- Words and registers are the same; a cell and a row are those of the sequence
+  -- that calls the operation. The lists have the lengths of the opening.
   pub record Agrees (z : Core) (w : State Own) : Type 0 where
     pub counts : (s : ℕ) → count z s ≡ w.counts s
     pub semaphores : (x : ℕ) → x < 2 * length j.program.pairs → slice_index_or z.semaphores x 0 ≡ w.semaphores x
     pub turns : (m : ℕ) → m < j.media → slice_index_or z.turns m 0 ≡ w.turns m
-    pub buffers : (b n q : ℕ) → b < length j.program.buffers → n < len_of j.program b → q < depth_of j.program b
-        → element_at (slice_index_or z.elements b []) (q * len_of j.program b + n) ≡ w.elements (element_of j.program b n) q
-    pub wires : (m n : ℕ) → m < j.media → n < wire_len j.program m → element_at (slice_index_or z.elements (length j.program.buffers + m) []) n ≡ w.elements (wire_of j.program m n) 0
+    pub buffers : (b n q : ℕ) → b < length j.program.buffers → n < len_of j.program b → q < depth_of j.program b →
+        element_at (slice_index_or z.elements b []) (q * len_of j.program b + n) ≡
+        w.elements (element_of j.program b n) q
+    pub wires : (m n : ℕ) → m < j.media → n < wire_len j.program m →
+        element_at (slice_index_or z.elements (length j.program.buffers + m) []) n ≡
+        w.elements (wire_of j.program m n) 0
     pub registers : (s : ℕ) → s < length j.program.seqs → slice_index_or z.registers s [] ≡ (w.own s).registers
-    pub cells : (v d : ℕ) (x : Vertex) → slice_get j.graph.vertices v ≡ Some x → delay_of j.graph v x ≡ Some d → vector_at z.cells d ≡ vector_at (w.own (caller v)).cells d
-    pub rows : (v a k : ℕ) (x : Vertex) → slice_get j.graph.vertices v ≡ Some x → x.kind ≡ Actuator a → row_at z.rows k a ≡ row_at (w.own (caller v)).rows k a
+    pub cells : (v d : ℕ) (x : Vertex) → slice_get j.graph.vertices v ≡ Some x → delay_of j.graph v x ≡ Some d →
+        vector_at z.cells d ≡ vector_at (w.own (caller v)).cells d
+    pub rows : (v a k : ℕ) (x : Vertex) → slice_get j.graph.vertices v ≡ Some x → x.kind ≡ Actuator a →
+        row_at z.rows k a ≡ row_at (w.own (caller v)).rows k a
     pub counts_there : length z.counts ≡ length j.program.seqs
     pub semaphores_there : length z.semaphores ≡ 2 * length j.program.pairs
     pub turns_there : length z.turns ≡ j.media
@@ -114,7 +131,8 @@ module _ (j : JobData) where
 abbrev pub StepsAreMatched : Type 0
 StepsAreMatched = (j : JobData) → IsFormed j → (s : ℕ) → IsMatched j.program j.media s
 
--- a sequence is enabled in the one state where it is in the other, and a step leads from states that agree to states that agree
+-- a sequence is enabled in the one state where it is in the other, and
+-- a step leads from states that agree to states that agree
 pub record StepsTogether (j : JobData) (z : Core) (w : State Own) (s : ℕ) : Type 0 where
   pub enabled : is_enabled j z s ≡ theory.enabled (system j) w s
   pub steps : Agrees j (step j z s) (theory.step (system j) w s)
@@ -136,7 +154,8 @@ ToldAgrees = (j : JobData) → IsFormed j → (counts : List ℕ) → length cou
 
 -- Where the system of a job is synchronized, and has the values that are told, the laws of every run of the job hold.
 abbrev pub LawsFollow : Type 0
-LawsFollow = (j : JobData) → IsFormed j → (d : Discipline) → IsDisciplined (system j) d (stored_value j) (own_after j) → HasLaws j
+LawsFollow = (j : JobData) → IsFormed j → (d : Discipline) →
+    IsDisciplined (system j) d (stored_value j) (own_after j) → HasLaws j
 
 -- a job on a valid graph is formed so
 abbrev pub JobsAreFormed : Type 0

@@ -12,7 +12,8 @@ use Rattle.semaphore_core.specs.IsJob.{IsJob}
 use Rattle.semaphore_core.specs.Laws.{HasLaws}
 use Rattle.phase_laws.specs.Values.{IsSupplied}
 
--- In every interleaving each state is what its counts tell, no load finds an element of another round than its own, some sequence is enabled until all is done, and one more step of an enabled sequence goes on.
+-- In every interleaving each state is what its counts tell, no load finds an element of another round than its
+-- own, some sequence is enabled until all is done, and one more step of an enabled sequence goes on.
 abbrev pub JobsHaveLaws : Type 0
 JobsHaveLaws = (j : JobData) → IsSupplied j → HasLaws j
 
@@ -22,8 +23,8 @@ JobsAreSupplied = (j : JobData) → IsJob j → is_flat j.graph ≡ true → IsS
 
 -- each actuator has taken, in each reaction, what it takes in the flat graph
 abbrev pub AllTaken : JobData → List Values → Type 0
-AllTaken j rows = (v a k : ℕ) (x : Vertex) → slice_get j.graph.vertices v ≡ Some x → x.kind ≡ Actuator a → k < reactions j
-    → row_at rows k a ≡ flat_act j.graph j.sensors j.opening a k
+AllTaken j rows = (v a k : ℕ) (x : Vertex) → slice_get j.graph.vertices v ≡ Some x → x.kind ≡ Actuator a →
+    k < reactions j → row_at rows k a ≡ flat_act j.graph j.sensors j.opening a k
 
 -- all rows are taken when all is done
 abbrev pub RowsAreTaken : Type 0

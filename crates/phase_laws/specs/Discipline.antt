@@ -1,4 +1,5 @@
--- How a program with a serial order is synchronized: who signals each semaphore, what is each half of a reaction's transfers, and where each micro-step stands in the order.
+-- How a program with a serial order is synchronized: who signals each semaphore, what is
+-- each half of a reaction's transfers, and where each micro-step stands in the order.
 use Rattle.std.specs.Prelude.{ℕ, suc, ◌+◌, ◌*◌, ◌/◌, ◌%◌, cond, nat_eq, List, length}
 use Rattle.interleavings.specs.Owners.{Owner, sum_below}
 use Rattle.interleavings.specs.Media.{Half}
@@ -18,11 +19,19 @@ use Rattle.semaphore_core.specs.Job.{JobData, system}
 module _ (p : Program) (w : Places) where
   -- the reader signals the empty semaphore: before its loop once for each place of the buffer, and in its loop
   abbrev pub empty_owner : ℕ → Owner
-  empty_owner q = record { sequence = (w.pair q).reader; site = record { first = (w.pair q).front; early = pair_depth p q; place = begins p (w.pair q).reader (w.pair q).signal_empty } }
+  empty_owner q = record {
+    sequence = (w.pair q).reader;
+    site = record {
+      first = (w.pair q).front;
+      early = pair_depth p q;
+      place = begins p (w.pair q).reader (w.pair q).signal_empty;
+    };
+  }
 
   -- the writer signals the full semaphore
   abbrev pub full_owner : ℕ → Owner
-  full_owner q = late (w.writing (w.pair q).buffer).writer (begins p (w.writing (w.pair q).buffer).writer (w.pair q).signal_full)
+  full_owner q = late (w.writing (w.pair q).buffer).writer
+      (begins p (w.writing (w.pair q).buffer).writer (w.pair q).signal_full)
 
   -- semaphores 2q and 2q + 1 are the empty and the full one of pair q
   abbrev pub signaller : ℕ → Owner
@@ -36,7 +45,8 @@ module _ (p : Program) (w : Places) where
   abbrev pub half : ℕ → ℕ → Half
   half m i = cond (nat_eq (i % 2) 0)
       (half_by (w.transfer m (i / 2)).sender (w.transfer m (i / 2)).send_at (len_of p (w.transfer m (i / 2)).sent))
-      (half_by (w.transfer m (i / 2)).receiver (w.transfer m (i / 2)).receive_at (len_of p (w.transfer m (i / 2)).received))
+      (half_by (w.transfer m (i / 2)).receiver (w.transfer m (i / 2)).receive_at
+      (len_of p (w.transfer m (i / 2)).received))
 
 module _ (p : Program) (order : List ℕ) where
   -- no loop has more micro-steps than that
@@ -55,10 +65,18 @@ module _ (p : Program) (order : List ℕ) where
   front = sum_below (λ s. length (code p s).prologue) (length p.seqs)
 
 abbrev pub discipline : Program → List ℕ → Discipline
-discipline p order = record { signaller = signaller p (places p); half = half p (places p); spot = spot p order; steps = steps p order; front = front p order }
+discipline p order = record {
+  signaller = signaller p (places p);
+  half = half p (places p);
+  spot = spot p order;
+  steps = steps p order;
+  front = front p order;
+}
 
 -- With a serial order, a job's system is synchronized and ordered so.
 abbrev pub ProgramsAreDisciplined : Type 0
-ProgramsAreDisciplined = (j : JobData) (seqs : List Seq) (order : List ℕ) → IsOrder j.program j.graph seqs j.media order
-    → IsSynchronized (system j) (discipline j.program order).signaller (discipline j.program order).half
-    × IsOrdered (system j) (discipline j.program order).signaller (discipline j.program order).half (discipline j.program order).spot (discipline j.program order).steps (discipline j.program order).front
+ProgramsAreDisciplined = (j : JobData) (seqs : List Seq) (order : List ℕ) →
+    IsOrder j.program j.graph seqs j.media order →
+    IsSynchronized (system j) (discipline j.program order).signaller (discipline j.program order).half ×
+    IsOrdered (system j) (discipline j.program order).signaller (discipline j.program order).half
+    (discipline j.program order).spot (discipline j.program order).steps (discipline j.program order).front

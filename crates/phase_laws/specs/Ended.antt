@@ -29,10 +29,13 @@ module _ (j : JobData) where
     pub cells : z.cells ≡ last_cells
     pub rows : z.rows ≡ all_acts
 
-  -- Row k of an actuator is what it takes in reaction k, where its operation was computed more than k times, and zeros elsewhere.
+  -- Row k of an actuator is what it takes in reaction k, where its
+  -- operation was computed more than k times, and zeros elsewhere.
   abbrev pub RowsSoFar : Core → Type 0
-  RowsSoFar z = (v a k : ℕ) (x : Vertex) → slice_get j.graph.vertices v ≡ Some x → x.kind ≡ Actuator a → k < reactions j
-      → row_at z.rows k a ≡ cond (nat_lt k (done_in j (count z) v)) (flat_act j.graph j.sensors j.opening a k) (zeros (slice_index_or (lens_of j.graph.vertices x.ins) 0 0))
+  RowsSoFar z = (v a k : ℕ) (x : Vertex) → slice_get j.graph.vertices v ≡ Some x → x.kind ≡ Actuator a →
+      k < reactions j → row_at z.rows k a ≡
+      cond (nat_lt k (done_in j (count z) v)) (flat_act j.graph j.sensors j.opening a k)
+      (zeros (slice_index_or (lens_of j.graph.vertices x.ins) 0 0))
 
 -- in every interleaving
 abbrev pub RunsEnd : Type 0

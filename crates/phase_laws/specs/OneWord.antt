@@ -30,6 +30,8 @@ abbrev pub HaveSameWord : Core → Core → Option Word → Type 0
 HaveSameWord z y None = Unit {0}
 HaveSameWord z y (Some w) = word_in z w ≡ word_in y w
 
--- Between two states in which sequence s has made as many micro-steps, and in which the word has the same value that its next micro-step looks at, if any.
+-- Between two states in which sequence s has made as many micro-steps, and in
+-- which the word has the same value that its next micro-step looks at, if any.
 abbrev pub EnabledByOneWord : Type 0
-EnabledByOneWord = (j : JobData) (z y : Core) (s : ℕ) → count z s ≡ count y s → HaveSameWord z y (looked_at_by (next j z s)) → is_enabled j z s ≡ is_enabled j y s
+EnabledByOneWord = (j : JobData) (z y : Core) (s : ℕ) → count z s ≡ count y s →
+    HaveSameWord z y (looked_at_by (next j z s)) → is_enabled j z s ≡ is_enabled j y s

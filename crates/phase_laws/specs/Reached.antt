@@ -30,27 +30,33 @@ module _ (j : JobData) where
     pub semaphores : (x : ℕ) → slice_index_or z.semaphores x 0 ≤ made z
     pub turns : (m : ℕ) → slice_index_or z.turns m 0 ≤ made z
 
-  -- sequence s has the same of its own in two states: its registers, and the cells and rows of the operations that it calls
+  -- sequence s has the same of its own in two states: its registers, and
+  -- the cells and rows of the operations that it calls
   pub record HaveSameOwn (z y : Core) (s : ℕ) : Type 0 where
     pub registers : slice_index_or z.registers s [] ≡ slice_index_or y.registers s []
-    pub cells : (v d : ℕ) (x : Vertex) → slice_get j.graph.vertices v ≡ Some x → delay_of j.graph v x ≡ Some d → caller j v ≡ s → vector_at z.cells d ≡ vector_at y.cells d
-    pub rows : (v a k : ℕ) (x : Vertex) → slice_get j.graph.vertices v ≡ Some x → x.kind ≡ Actuator a → caller j v ≡ s → row_at z.rows k a ≡ row_at y.rows k a
+    pub cells : (v d : ℕ) (x : Vertex) → slice_get j.graph.vertices v ≡ Some x → delay_of j.graph v x ≡ Some d →
+        caller j v ≡ s → vector_at z.cells d ≡ vector_at y.cells d
+    pub rows : (v a k : ℕ) (x : Vertex) → slice_get j.graph.vertices v ≡ Some x → x.kind ≡ Actuator a →
+        caller j v ≡ s → row_at z.rows k a ≡ row_at y.rows k a
 
   -- A load finds the value of its own round of the element that lies there.
   pub record FindsRound (counts : List ℕ) (s : ℕ) (x : Place) : Type 0 where
     pub element : ℕ
     pub access : ℕ
     pub lies : LiesAt j.program j.media x element access
-    pub is : element_of j (told j counts) x (reaction j (told j counts) s) ≡ stored_value j element (round_number (system j) s (count_of counts s) element access)
+    pub is : element_of j (told j counts) x (reaction j (told j counts) s) ≡
+        stored_value j element (round_number (system j) s (count_of counts s) element access)
 
   -- A store is of the next round of the element that lies there.
   pub record StoresNext (counts : List ℕ) (s : ℕ) (x : Place) : Type 0 where
     pub element : ℕ
     pub access : ℕ
     pub lies : LiesAt j.program j.media x element access
-    pub is : total (system j) (stores element) (count_of counts) ≡ round_number (system j) s (count_of counts s) element access
+    pub is : total (system j) (stores element) (count_of counts) ≡
+        round_number (system j) s (count_of counts s) element access
 
-  -- What the next micro-step of s finds in what the counts tell: a lower finds a signal, a load the value of its own round, and a store is of the next round.
+  -- What the next micro-step of s finds in what the counts tell: a lower finds a
+  -- signal, a load the value of its own round, and a store is of the next round.
   abbrev pub Finds : List ℕ → ℕ → MicroStep → Type 0
   Finds counts s (Lower x) = 1 ≤ slice_index_or (told j counts).semaphores x 0
   Finds counts s (Load x then) = FindsRound counts s x
@@ -69,5 +75,6 @@ ReachedHaveLaws = (j : JobData) → IsSupplied j → (counts : List ℕ) → Are
 
 -- What a sequence has of its own depends on its own count alone.
 abbrev pub OwnPartsAgree : Type 0
-OwnPartsAgree = (j : JobData) → IsFormed j → (c d : List ℕ) (s : ℕ) → length c ≡ length j.program.seqs → length d ≡ length j.program.seqs → slice_index_or c s 0 ≡ slice_index_or d s 0
-    → HaveSameOwn j (told j c) (told j d) s
+OwnPartsAgree = (j : JobData) → IsFormed j → (c d : List ℕ) (s : ℕ) → length c ≡ length j.program.seqs →
+    length d ≡ length j.program.seqs → slice_index_or c s 0 ≡ slice_index_or d s 0 →
+    HaveSameOwn j (told j c) (told j d) s

@@ -9,7 +9,8 @@ use Rattle.executive_program.specs.WellFormed.{IsOrder}
 use Rattle.semaphore_core.specs.Job.{JobData, reactions, system}
 use Rattle.semaphore_core.specs.Told.{stored_value, own_after}
 
--- A job whose program has a serial order, whose flat graph is valid, whose delays open with a vector of the right length each, and whose rows have the sensors' vectors.
+-- A job whose program has a serial order, whose flat graph is valid, whose delays open
+-- with a vector of the right length each, and whose rows have the sensors' vectors.
 pub record IsSupplied (j : JobData) : Type 0 where
   pub seqs : List Seq
   pub order : List ℕ
@@ -18,6 +19,7 @@ pub record IsSupplied (j : JobData) : Type 0 where
   pub opened : map length j.opening ≡ map length (initial_cells j.graph.vertices)
   pub sensed : (k : ℕ) → k < reactions j → map length (slice_index_or j.sensors k []) ≡ sensor_lens j.graph.vertices
 
--- if each load finds the value of its own round, each store stores the flat value, and what a sequence has of its own is as it is told
+-- if each load finds the value of its own round, each store stores the
+-- flat value, and what a sequence has of its own is as it is told
 abbrev pub SequencesComputeTheirValues : Type 0
 SequencesComputeTheirValues = (j : JobData) → IsSupplied j → AreValues (system j) (stored_value j) (own_after j)

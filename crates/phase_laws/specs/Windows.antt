@@ -1,4 +1,5 @@
--- A run in windows: some reactions in succession are a job of their own, which begins with the cells that the reactions before them leave.
+-- A run in windows: some reactions in succession are a job of their own,
+-- which begins with the cells that the reactions before them leave.
 use Rattle.std.specs.Prelude.{◌≡◌, ℕ, ◌+◌, ◌≤◌, List, take, drop, None}
 use Rattle.flat_graph.specs.Meaning.{cells_after}
 use Rattle.semaphore_core.specs.Job.{JobData, reactions}
@@ -12,9 +13,13 @@ window from count xs = take count (drop from xs)
 
 -- the job of this many reactions, from one on
 abbrev pub window_job : JobData → ℕ → ℕ → JobData
-window_job j from count = record j { sensors = window from count j.sensors; opening = cells_after j.graph j.sensors j.opening from }
+window_job j from count = record j {
+  sensors = window from count j.sensors;
+  opening = cells_after j.graph j.sensors j.opening from;
+}
 
--- It is a job as the whole one, its actuators take what those of the whole job take in these reactions, and it leaves the cells with which the next window begins.
+-- It is a job as the whole one, its actuators take what those of the whole job take in
+-- these reactions, and it leaves the cells with which the next window begins.
 pub record IsWindow (j : JobData) (from count : ℕ) : Type 0 where
   pub supplied : IsSupplied (window_job j from count)
   pub limit : limit_of j ≡ None → limit_of (window_job j from count) ≡ None

@@ -1,4 +1,4 @@
-//! A run from the opening state, which is what its counts tell, and fresh.
+//! A run from the opening state as a call, whose contract carries the laws to every prefix of its list.
 ghost use Rattle.std.specs.Prelude.{◌≡◌, ℕ, take, IfOk};
 ghost use Rattle.semaphore_core.specs.Core.{run, IsDone};
 ghost use Rattle.semaphore_core.specs.Told.{told};

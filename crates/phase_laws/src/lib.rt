@@ -1,4 +1,5 @@
-//! The laws of every run of a job, from the theory of interleavings.
+//! The laws of every run of a job, from the theory of interleavings: each state is what its counts tell, no load finds
+//! another round than its own, some sequence is enabled until all is done, and then each actuator has its values.
 //!
 //! A well-formed program is a system of sequences that share semaphores, buffers and media; this crate
 //! shows how it is synchronized, and that the core's runs are those of the theory. Its laws are the
@@ -97,6 +98,8 @@ pub fn jobs_are_supplied()
 pub fn job_has_laws(job: &Job)
     ensures { HasLaws job.now }
 {
+    // `jobs_have_laws` asks for a program that is well formed and for a valid graph: the clauses of these two calls say
+    // that a job keeps both.
     let _ = job.program();
     let _ = job.flat().vertices();
 }
@@ -106,6 +109,8 @@ pub fn job_has_laws(job: &Job)
 pub fn rows_of_job_are_taken(job: &Job)
     ensures { (list : List ℕ) → IsDone job.now (run job.now list) → AllTaken job.now (run job.now list).rows }
 {
+    // `rows_are_taken` asks for a program that is well formed and for a valid graph: the clauses of these two calls say
+    // that a job keeps both.
     let _ = job.program();
     let _ = job.flat().vertices();
 }

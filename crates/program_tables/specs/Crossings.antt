@@ -5,7 +5,15 @@ use Rattle.program_tables.specs.declared.mark_table.Mark.{Mark}
 use Rattle.executive_program.specs.declared.program.Program.{Program}
 use Rattle.executive_program.specs.Instructions.{turn}
 use Rattle.executive_program.specs.MicroSteps.{transfers}
-use Rattle.executive_program.specs.Places.{buffer_in, communication_at, is_receive, is_send, receives_at, sends_at, sequence_where}
+use Rattle.executive_program.specs.Places.{
+  buffer_in,
+  communication_at,
+  is_receive,
+  is_send,
+  receives_at,
+  sends_at,
+  sequence_where,
+}
 use Rattle.program_tables.specs.declared.crossings.Crossing.{Crossing}
 
 -- the first of these places whose sequence passes, or n

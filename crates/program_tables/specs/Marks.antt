@@ -9,7 +9,15 @@ use Rattle.executive_program.specs.declared.program.Program.{Program}
 use Rattle.executive_program.specs.Instructions.{reads, writes}
 use Rattle.executive_program.specs.Places.{calls, signals_empty, signals_full, takes_empty, takes_full}
 use Rattle.program_tables.specs.declared.roles.Role.{Role}
-use Rattle.program_tables.specs.declared.roles.Role.TheVariants.{Called, Written, Read, EmptyTaken, FullSignalled, FullTaken, EmptySignalled}
+use Rattle.program_tables.specs.declared.roles.Role.TheVariants.{
+  Called,
+  Written,
+  Read,
+  EmptyTaken,
+  FullSignalled,
+  FullTaken,
+  EmptySignalled,
+}
 
 -- the numbers that an instruction names in this role
 abbrev pub named : Role → Instr → List ℕ

@@ -1,5 +1,24 @@
--- Which sequences read a buffer that they do not write, found in the places at which it is read; and the tables of pairs.
-use Rattle.std.specs.Prelude.{◌≡◌, ℕ, ◌<◌, Bool, true, ◌&&◌, not, cond, nat_eq, List, [], ◌∷◌, map, length, Option, Some, None}
+-- Which sequences read a buffer that they do not write, found in the places at which it is read; and the tables of
+-- pairs.
+use Rattle.std.specs.Prelude.{
+  ◌≡◌,
+  ℕ,
+  ◌<◌,
+  Bool,
+  true,
+  ◌&&◌,
+  not,
+  cond,
+  nat_eq,
+  List,
+  [],
+  ◌∷◌,
+  map,
+  length,
+  Option,
+  Some,
+  None,
+}
 use Rattle.std.specs.List.{list_any}
 use Rattle.program_tables.specs.declared.mark_table.Mark.{Mark}
 use Rattle.program_tables.specs.MarkRows.{row}
@@ -17,11 +36,14 @@ is_new (Some t) s = not (nat_eq t s)
 abbrev pub reading : ℕ → ℕ → Reading
 reading b s = record { buffer = b; sequence = s }
 
--- of these reads of buffer b, in the order of sequences, each sequence once that is not the last one and does not write it
+-- of these reads of buffer b, in the order of sequences, each sequence once that is not the last one and does not
+-- write it
 abbrev pub readings_in : ℕ → List Mark → Option ℕ → List Mark → List Reading
 readings_in b writes last [] = []
 readings_in b writes last (m ∷ ms) =
-    cond (is_new last m.sequence && not (list_any (λ w. nat_eq w.sequence m.sequence) writes)) (reading b m.sequence ∷ readings_in b writes (Some m.sequence) ms) (readings_in b writes (Some m.sequence) ms)
+    cond (is_new last m.sequence && not (list_any (λ w. nat_eq w.sequence m.sequence) writes))
+    (reading b m.sequence ∷ readings_in b writes (Some m.sequence) ms)
+    (readings_in b writes (Some m.sequence) ms)
 
 abbrev pub reading_of : Reader → Reading
 reading_of r = reading r.buffer r.sequence

@@ -1,4 +1,5 @@
-//! Buffers are written once, touched on their own operator alone, and deep only where another sequence reads them.
+//! The check of buffers by tables: each is written once, touched on its own operator alone, and deep only where
+//! another sequence reads it.
 ghost use Rattle.std.specs.Prelude.{◌≡◌, ℕ, ◌<◌, ◌&&◌, nat_eq, nat_lt, length, slice_get};
 ghost use Rattle.std.specs.List.{list_all, list_any};
 ghost use Rattle.buffer_check.specs.Buffers.{are_buffers, has_places, is_buffer, is_buffer_at, is_near, is_operator, is_written_first, is_written_once, writes_at};
@@ -13,6 +14,7 @@ use crate::queries::{Write, write_of};
 use executive_program::{Instr, Program};
 use program_walks::{depth_of, is_entry, operator_of, turn_of};
 
+/// Whether the write of a buffer is there.
 fn is_written(list: &[Instr], buffer: usize, write: Write) -> bool
     ensures { result ≡ writes_at buffer write.port (slice_get list.now write.at) }
 {
@@ -28,6 +30,7 @@ fn is_written(list: &[Instr], buffer: usize, write: Write) -> bool
     }
 }
 
+/// Whether all these writes of a buffer are this one.
 fn are_one(writes: &[Mark], write: Write) -> bool
     ensures { result ≡ list_all (λ m. nat_eq m.sequence write.writer && nat_eq m.at write.at &&
         nat_eq m.port write.port) writes.now }
@@ -45,6 +48,7 @@ fn is_written_once(program: &Program, buffer: usize, writes: &[Mark], write: Wri
     are_one(writes, write)
 }
 
+/// Whether a buffer is there and belongs to an operator.
 fn is_on_operator(program: &Program, buffer: usize, operator: u32) -> bool
     ensures { result ≡ is_operator (slice_get program.now.buffers buffer) operator }
 {
@@ -54,12 +58,14 @@ fn is_on_operator(program: &Program, buffer: usize, operator: u32) -> bool
     }
 }
 
+/// Whether a place is on the operator of a buffer.
 fn is_mark_near(program: &Program, buffer: usize, mark: Mark) -> bool
     ensures { result ≡ is_operator (slice_get program.now.buffers buffer) (operator program.now mark.sequence) }
 {
     is_on_operator(program, buffer, operator_of(program, mark.sequence))
 }
 
+/// Whether these places are on the operator of a buffer.
 fn are_near(program: &Program, buffer: usize, marks: &[Mark]) -> bool
     ensures { result ≡ list_all (λ m. is_operator (slice_get program.now.buffers buffer)
         (operator program.now m.sequence)) marks.now }
@@ -69,6 +75,7 @@ fn are_near(program: &Program, buffer: usize, marks: &[Mark]) -> bool
         .all(|mark| is_mark_near(program, buffer, *mark))
 }
 
+/// Whether the places at which a buffer is written, and those at which it is read, are on its operator.
 fn both_near(program: &Program, buffer: usize, writes: &[Mark], reads: &[Mark]) -> bool
     ensures { result ≡ (list_all (λ m. is_operator (slice_get program.now.buffers buffer)
         (operator program.now m.sequence)) writes.now &&
@@ -87,6 +94,7 @@ fn is_near(program: &Program, buffer: usize, writes: &[Mark], reads: &[Mark]) ->
     both_near(program, buffer, writes, reads)
 }
 
+/// Whether those of these reads that are in the writer's loop stand after the write.
 fn are_after(reads: &[Mark], write: Write) -> bool
     ensures { result ≡ list_all (λ m. implies (nat_eq m.sequence write.writer) (nat_lt write.at m.at)) reads.now }
 {
@@ -110,6 +118,7 @@ pub fn is_in(writes: &[Mark], sequence: usize) -> bool
     writes.iter().any(|mark| mark.sequence == sequence)
 }
 
+/// Whether each sequence that reads a buffer writes it as well.
 fn are_own(writes: &[Mark], reads: &[Mark]) -> bool
     ensures { result ≡ list_all (λ r. list_any (λ w. nat_eq w.sequence r.sequence) writes.now) reads.now }
 {
@@ -135,6 +144,7 @@ fn has_places(program: &Program, buffer: usize, writes: &[Mark], reads: &[Mark])
     1 <= depth && depth <= 4 && (depth == 1 || is_guarded(program, buffer, writes, reads))
 }
 
+/// Whether a buffer is right, where this is its write.
 fn is_right_at(
     program: &Program,
     buffer: usize,
@@ -153,6 +163,8 @@ fn is_right_at(
         && has_places(program, buffer, writes, reads)
 }
 
+/// Whether a buffer is written once, touched on its own operator alone, written before it is read where one sequence
+/// does both, and has as many places as it may have.
 fn is_right(program: &Program, buffer: usize, writes: &[Mark], reads: &[Mark]) -> bool
     requires writes { writes.now ≡ marks_of program.now Written buffer }
     requires reads { reads.now ≡ marks_of program.now Read buffer }

@@ -1,4 +1,4 @@
-//! The communications of each sequence, and the communicators of each medium.
+//! The communications of each sequence, and the communicators of each medium, for the table of transfers.
 ghost use Rattle.std.specs.Prelude.{◌≡◌, ℕ, ◌<◌, length, slice_get, slice_index, IfOk};
 ghost use Rattle.executive_program.specs.Instructions.{communications, number_or, turn};
 ghost use Rattle.executive_program.specs.Places.{communication_at};
@@ -11,6 +11,7 @@ use program_walks::{is_communication, turn_of};
 use std::alloc::Global;
 use syn_base::{Items, OutOfMemory};
 
+/// For each place of a loop, how many communications stand before it.
 fn numbers_in(alloc: Global, list: &[Instr]) -> Result<Vec<usize>, OutOfMemory>
     ensures { IfOk result (λ row. row.items ≡ numbers_from 0 list.now) }
 {
@@ -25,6 +26,7 @@ fn numbers_in(alloc: Global, list: &[Instr]) -> Result<Vec<usize>, OutOfMemory>
     Ok(row)
 }
 
+/// The places of the communications of a loop.
 fn places_in(alloc: Global, list: &[Instr]) -> Result<Vec<usize>, OutOfMemory>
     ensures { IfOk result (λ row. row.items ≡ places_from 0 list.now) }
 {
@@ -115,6 +117,7 @@ fn entry_or(row: &[usize], at: usize, beyond: usize) -> usize
     }
 }
 
+/// The communicators of a program, each by the number of its medium.
 fn all_communicators(alloc: Global, program: &Program) -> Result<Vec<Mark>, OutOfMemory>
     ensures { IfOk result (λ marks. marks.items ≡ communicators_from 0 program.now.seqs) }
 {

@@ -1,4 +1,4 @@
-//! The transfers of each medium.
+//! The table of transfers, by medium.
 ghost use Rattle.std.specs.Prelude.{◌≡◌, ℕ, ◌<◌, length, slice_get, IfOk};
 ghost use Rattle.executive_program.specs.Places.{buffer_in, is_receive, is_send};
 ghost use Rattle.program_tables.specs.MarkRows.{row};
@@ -24,18 +24,21 @@ pub struct Crossing {
     pub received: u32,
 }
 
+/// Whether a send stands at a place.
 fn is_send(list: &[Instr], at: usize) -> bool
     ensures { result ≡ is_send (slice_get list.now at) }
 {
     matches!(list.get(at), Some(Instr::Send { .. }))
 }
 
+/// Whether a receive stands at a place.
 fn is_receive(list: &[Instr], at: usize) -> bool
     ensures { result ≡ is_receive (slice_get list.now at) }
 {
     matches!(list.get(at), Some(Instr::Recv { .. }))
 }
 
+/// The buffer of the send or the receive at a place, 0 where there is none.
 fn buffer_in(list: &[Instr], at: usize) -> u32
     ensures { result ≡ buffer_in (slice_get list.now at) }
 {
@@ -46,6 +49,7 @@ fn buffer_in(list: &[Instr], at: usize) -> u32
     }
 }
 
+/// Whether a communication of a sequence, by its number, is a send.
 fn sends_in(program: &Program, places: &[Items<usize>], sequence: usize, number: usize) -> bool
     requires { places.now ≡ places_of program.now }
     ensures { result ≡ sends_in program.now number sequence }
@@ -56,6 +60,7 @@ fn sends_in(program: &Program, places: &[Items<usize>], sequence: usize, number:
     )
 }
 
+/// Whether a communication of a sequence, by its number, is a receive.
 fn receives_in(program: &Program, places: &[Items<usize>], sequence: usize, number: usize) -> bool
     requires { places.now ≡ places_of program.now }
     ensures { result ≡ receives_in program.now number sequence }
@@ -102,6 +107,7 @@ fn receiver_among(
     program.seqs.as_slice().len()
 }
 
+/// The transfer of a number, between these two sequences.
 fn crossing_by(
     program: &Program,
     places: &[Items<usize>],
@@ -124,6 +130,7 @@ fn crossing_by(
     }
 }
 
+/// The transfer of a number on a medium, whose communicators are these.
 fn make_crossing(
     program: &Program,
     places: &[Items<usize>],
@@ -140,6 +147,7 @@ fn make_crossing(
     crossing_by(program, places, number, sender, receiver)
 }
 
+/// The transfers of a medium in order.
 fn crossings_on(
     alloc: Global,
     program: &Program,

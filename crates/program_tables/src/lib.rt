@@ -1,8 +1,9 @@
-//! Tables over a program, and the checks that read them, each in time in proportion to the program.
+//! Tables of where a program names its operations, buffers and pairs of semaphores, and of its transfers, with the
+//! checks that read them, each in time proportional to the program.
 //!
-//! `MarkTable` tells, for each number below a count, all places that name it. Made of the places of a program
+//! `MarkTable` has, for each number below a count, all places that name it. Made of the places of a program
 //! (`find_marks`) it says where each operation, buffer and pair of semaphores is named. `find_crossings` and its
-//! neighbours tell the communications of each sequence and the communicators of each medium. Over these tables
+//! neighbours find the communications of each sequence and the communicators of each medium. Over these tables
 //! `are_buffers`, `guards` and `are_opened` are the exact checks of buffers, pairs of semaphores and prologues.
 //! `macro_check` asks them of programs of any origin; `buffer_check` has the same checks without memory.
 #![tactic(auto)]

@@ -1,4 +1,4 @@
-//! Places by the number that they name.
+//! The table of places, by the number that they name.
 ghost use Rattle.std.specs.Prelude.{◌≡◌, ℕ, ◌<◌, map, nat_eq, replicate, IfOk, OnOk, []};
 ghost use Rattle.std.specs.List.{filter};
 ghost use Rattle.program_tables.specs.MarkRows.{added, row};

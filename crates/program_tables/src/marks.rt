@@ -9,6 +9,7 @@ use executive_program::{Instr, Program};
 use std::alloc::Global;
 use syn_base::OutOfMemory;
 
+/// Adds the place of an instruction for each number that it names.
 fn push_named(
     out: &mut Vec<Mark>,
     numbers: &[u32],
@@ -28,6 +29,7 @@ fn push_named(
     Ok(())
 }
 
+/// Adds the places of a loop at which its instructions name numbers in a role.
 fn push_loop(
     out: &mut Vec<Mark>,
     role: Role,
@@ -42,6 +44,7 @@ fn push_loop(
     Ok(())
 }
 
+/// The places at which the loops of a program name numbers in a role, by sequence and then by place.
 fn all_marks(alloc: Global, program: &Program, role: Role) -> Result<Vec<Mark>, OutOfMemory>
     ensures { IfOk result (λ marks. marks.items ≡ marks_from role 0 program.now.seqs) }
 {

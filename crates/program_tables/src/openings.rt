@@ -1,4 +1,4 @@
-//! The prologues signal the empty semaphores as often as their buffers have places.
+//! The check of prologues: they signal the empty semaphores as often as their buffers have places.
 ghost use Rattle.std.specs.Prelude.{◌≡◌, ◌+◌, ◌<◌, true, false, length, replicate, IfOk};
 ghost use Rattle.std.specs.List.{list_all};
 ghost use Rattle.executive_program.specs.Instructions.{prologue, readers};
@@ -23,13 +23,14 @@ fn prologue_of(program: &Program, sequence: usize) -> &[Instr]
     }
 }
 
+/// Whether all these instructions signal the empty semaphore of a pair.
 fn are_signals(list: &[Instr], pair: usize) -> bool
     ensures { result ≡ list_all (signals_empty pair) list.now }
 {
     list.iter().all(|instr| signals_empty(instr, pair))
 }
 
-/// Whether a list begins with as many signals of the empty semaphore of a pair.
+/// Whether a list begins with this many signals of the empty semaphore of a pair.
 fn opens_next(list: &[Instr], count: usize, pair: usize) -> bool
     ensures { result ≡ opens_next pair count list.now }
 {
@@ -57,6 +58,7 @@ fn pass(program: &Program, pair: usize, reading: Reading, passed: &mut [usize]) 
     true
 }
 
+/// Passes over the signals of all pairs in the prologues of their readers, if they are there.
 fn pass_all(program: &Program, found: &[Reading], passed: &mut [usize]) -> bool
     requires before { IsPassed program.now 0 passed.old }
     requires here { found.now ≡ readings program.now }
@@ -71,6 +73,7 @@ fn pass_all(program: &Program, found: &[Reading], passed: &mut [usize]) -> bool
     true
 }
 
+/// Whether all of the prologue of a sequence was passed.
 fn is_at_end(program: &Program, passed: &[usize], sequence: usize) -> bool
     ensures { result ≡ is_at_end program.now passed.now sequence }
 {
@@ -81,12 +84,14 @@ fn is_at_end(program: &Program, passed: &[usize], sequence: usize) -> bool
     count == prologue_of(program, sequence).len()
 }
 
+/// Whether all of each prologue was passed.
 fn are_at_end(program: &Program, passed: &[usize]) -> bool
     ensures { result ≡ all_below (is_at_end program.now passed.now) (length program.now.seqs) }
 {
     (0..program.seqs.as_slice().len()).all(|sequence| is_at_end(program, passed, sequence))
 }
 
+/// The counts before anything was passed: as many zeros.
 fn no_counts(alloc: Global, count: usize) -> Result<Vec<usize>, OutOfMemory>
     ensures { IfOk result (λ passed. passed.items ≡ replicate count 0) }
 {

@@ -1,4 +1,4 @@
-//! Each pair of semaphores guards its buffer for its reader.
+//! The check of pairs of semaphores by tables: each guards its buffer for its reader.
 ghost use Rattle.std.specs.Prelude.{◌≡◌, ◌<◌, ◌&&◌, nat_eq, nat_lt, length, slice_get, IfOk};
 ghost use Rattle.std.specs.List.{list_all};
 ghost use Rattle.buffer_check.specs.Pairs.{has_operator, is_read_between, is_written_between};
@@ -44,6 +44,7 @@ pub fn find_pairs(alloc: Global, program: &Program) -> Result<PairTables, OutOfM
     })
 }
 
+/// Whether a pair and a buffer are there and belong to the same operator.
 fn has_operator(program: &Program, pair: usize, buffer: usize) -> bool
     ensures { result ≡ has_operator (slice_get program.now.pairs pair) (operator_of program.now buffer) }
 {
@@ -56,6 +57,8 @@ fn has_operator(program: &Program, pair: usize, buffer: usize) -> bool
     }
 }
 
+/// Whether the writer alone takes the empty semaphore and signals the full one, each at one place, and writes between
+/// them.
 fn is_written_within(takes: &[Mark], signals: &[Mark], write: Write) -> bool
     ensures { result ≡ (lone write.writer takes.now && lone write.writer signals.now &&
         nat_lt (first_at takes.now) write.at && nat_lt write.at (first_at signals.now)) }
@@ -97,6 +100,7 @@ fn is_written_right(
     is_written_between(program, tables, pair, write_of(program, buffer, writes))
 }
 
+/// Whether those of these reads that are in a sequence stand between two places.
 fn are_between(reads: &[Mark], sequence: usize, after: usize, before: usize) -> bool
     ensures { result ≡ list_all (λ m. implies (nat_eq m.sequence sequence) (nat_lt after m.at &&
         nat_lt m.at before)) reads.now }
@@ -104,6 +108,8 @@ fn are_between(reads: &[Mark], sequence: usize, after: usize, before: usize) -> 
     reads.iter().all(|mark| mark.sequence != sequence || (after < mark.at && mark.at < before))
 }
 
+/// Whether the reader alone takes the full semaphore and signals the empty one, each at one place, and reads between
+/// them.
 fn is_read_within(takes: &[Mark], signals: &[Mark], sequence: usize, reads: &[Mark]) -> bool
     ensures { result ≡ (lone sequence takes.now && lone sequence signals.now &&
         list_all (λ m. implies (nat_eq m.sequence sequence) (nat_lt (first_at takes.now) m.at &&

@@ -1,5 +1,5 @@
-//! What the places that name a number tell: where an operation is called, where a buffer is written, and
-//! whether one instruction alone names it.
+//! Questions to the places that name a number: where an operation is called, where a buffer is written, and whether
+//! one instruction alone names it.
 ghost use Rattle.std.specs.Prelude.{◌≡◌, ◌&&◌, nat_eq};
 ghost use Rattle.std.specs.List.{list_all, position_or_len};
 ghost use Rattle.executive_program.specs.Instructions.{turn};

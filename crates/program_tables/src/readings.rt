@@ -1,4 +1,4 @@
-//! Which sequences read each buffer and do not write it: the pairs of semaphores that there are to be.
+//! The readings of buffers by sequences that do not write them: one pair of semaphores is to be there for each.
 ghost use Rattle.std.specs.Prelude.{◌≡◌, ℕ, ◌<◌, ◌++◌, length, None, IfOk, OnOk};
 ghost use Rattle.program_tables.specs.MarkRows.{row};
 ghost use Rattle.program_tables.specs.declared.roles.Role.TheVariants.{Read, Written};
@@ -18,6 +18,7 @@ pub struct Reading {
     pub sequence: usize,
 }
 
+/// Whether a sequence is not the one that was looked at last.
 fn is_new(last: Option<usize>, sequence: usize) -> bool
     ensures { result ≡ is_new last sequence }
 {
@@ -27,6 +28,7 @@ fn is_new(last: Option<usize>, sequence: usize) -> bool
     }
 }
 
+/// Adds a buffer with each sequence that reads it and does not write it.
 fn push_readings(
     out: &mut Vec<Reading>,
     buffer: usize,

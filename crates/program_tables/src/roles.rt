@@ -1,4 +1,4 @@
-//! What instructions name: operations, buffers and pairs of semaphores.
+//! The roles in which an instruction names operations, buffers and pairs of semaphores.
 ghost use Rattle.std.specs.Prelude.{◌≡◌};
 ghost use Rattle.program_tables.specs.Marks.{named};
 
@@ -24,6 +24,7 @@ pub enum Role {
     EmptySignalled,
 }
 
+/// The operation that an instruction calls.
 fn called(instr: &Instr) -> &[u32]
     ensures { result.now ≡ named Role.Called instr.now }
 {
@@ -33,6 +34,7 @@ fn called(instr: &Instr) -> &[u32]
     }
 }
 
+/// The buffers that an instruction writes.
 fn written(instr: &Instr) -> &[u32]
     ensures { result.now ≡ named Role.Written instr.now }
 {
@@ -43,6 +45,7 @@ fn written(instr: &Instr) -> &[u32]
     }
 }
 
+/// The buffers that an instruction reads.
 fn read(instr: &Instr) -> &[u32]
     ensures { result.now ≡ named Role.Read instr.now }
 {
@@ -53,6 +56,7 @@ fn read(instr: &Instr) -> &[u32]
     }
 }
 
+/// The pair of whose empty semaphore an instruction waits for a signal.
 fn empty_taken(instr: &Instr) -> &[u32]
     ensures { result.now ≡ named Role.EmptyTaken instr.now }
 {
@@ -62,6 +66,7 @@ fn empty_taken(instr: &Instr) -> &[u32]
     }
 }
 
+/// The pair whose full semaphore an instruction signals.
 fn full_signalled(instr: &Instr) -> &[u32]
     ensures { result.now ≡ named Role.FullSignalled instr.now }
 {
@@ -71,6 +76,7 @@ fn full_signalled(instr: &Instr) -> &[u32]
     }
 }
 
+/// The pair of whose full semaphore an instruction waits for a signal.
 fn full_taken(instr: &Instr) -> &[u32]
     ensures { result.now ≡ named Role.FullTaken instr.now }
 {
@@ -80,6 +86,7 @@ fn full_taken(instr: &Instr) -> &[u32]
     }
 }
 
+/// The pair whose empty semaphore an instruction signals.
 fn empty_signalled(instr: &Instr) -> &[u32]
     ensures { result.now ≡ named Role.EmptySignalled instr.now }
 {

@@ -23,4 +23,5 @@ passes test (Some x) = test x
 module _ (p : Program) where
   -- such an instruction stands at place a of s, and nowhere else
   abbrev pub is_only : (Instr → Bool) → ℕ → ℕ → Bool
-  is_only test s a = passes test (slice_get (turn p s) a) && every p (λ t b y. implies (test y) (nat_eq t s && nat_eq b a))
+  is_only test s a =
+      passes test (slice_get (turn p s) a) && every p (λ t b y. implies (test y) (nat_eq t s && nat_eq b a))

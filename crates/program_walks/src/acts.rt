@@ -1,4 +1,4 @@
-//! What instructions do on the semaphores of a pair, and where.
+//! The instructions that act on the semaphores of a pair, and the only one that does so.
 ghost use Rattle.std.specs.Prelude.{◌≡◌, ◌&&◌, nat_eq, slice_get};
 ghost use Rattle.std.specs.List.{position_or_len};
 ghost use Rattle.program_walks.specs.Walks.{all_at, every, implies};
@@ -30,6 +30,7 @@ pub struct Stand {
     pub at: usize,
 }
 
+/// Whether an instruction does this on a pair, or calls the operation of that number.
 fn is_act(instr: &Instr, act: Act, pair: usize) -> bool
     ensures { result ≡ is_act act pair instr.now }
 {
@@ -54,6 +55,7 @@ pub fn first_act(list: &[Instr], act: Act, pair: usize) -> usize
     list.len()
 }
 
+/// Whether the instruction at a place does this on a pair; false where the list ends before.
 fn is_act_at(list: &[Instr], at: usize, act: Act, pair: usize) -> bool
     ensures { result ≡ passes (is_act act pair) (slice_get list.now at) }
 {
@@ -63,6 +65,7 @@ fn is_act_at(list: &[Instr], at: usize, act: Act, pair: usize) -> bool
     }
 }
 
+/// Whether none of these instructions of a sequence does this on a pair, apart from the one that stands there.
 fn no_other_in(list: &[Instr], sequence: usize, act: Act, pair: usize, stand: Stand) -> bool
     ensures { result ≡ all_at (λ b y. implies (is_act act pair y)
         (nat_eq sequence stand.sequence && nat_eq b stand.at)) 0 list.now }
@@ -76,6 +79,7 @@ fn no_other_in(list: &[Instr], sequence: usize, act: Act, pair: usize, stand: St
     true
 }
 
+/// Whether no instruction of a loop does this on a pair, apart from the one that stands there.
 fn no_other(program: &Program, act: Act, pair: usize, stand: Stand) -> bool
     ensures { result ≡ every program.now (λ t b y. implies (is_act act pair y)
         (nat_eq t stand.sequence && nat_eq b stand.at)) }

@@ -1,4 +1,4 @@
-//! What an instruction is, and what it reads and writes.
+//! The kind of an instruction, and the buffers that it reads and writes.
 ghost use Rattle.std.specs.Prelude.{◌≡◌, nat_eq};
 ghost use Rattle.std.specs.List.{list_any, count_by};
 ghost use Rattle.executive_program.specs.Instructions.{is_communication, reads, writes};

@@ -1,6 +1,7 @@
-//! Walks over programs: what an instruction is, reads and writes, where the instructions stand that write a
-//! buffer, call an operation or act on a pair of semaphores, and their places in a serial order. None takes
-//! memory. `buffer_check`, `value_check` and `order_check` are made of them.
+//! Walks over a program, without memory: what an instruction is, reads and writes, and where instructions stand that
+//! write a buffer, call an operation or act on a pair of semaphores.
+//!
+//! They also find places in a serial order. The checks of programs are made of them.
 #![tactic(auto)]
 
 mod acts;

@@ -1,4 +1,4 @@
-//! The parts of a program, by the number of the sequence and of the buffer.
+//! The parts of a program, by the number of the sequence or of the buffer.
 ghost use Rattle.std.specs.Prelude.{◌≡◌};
 ghost use Rattle.executive_program.specs.Instructions.{depth_of, len_of, medium, operator, turn};
 

@@ -1,4 +1,4 @@
-//! Places in a serial order.
+//! The places of instructions in a serial order.
 ghost use Rattle.std.specs.Prelude.{◌≡◌, nat_eq};
 ghost use Rattle.std.specs.List.{count_by};
 ghost use Rattle.executive_program.specs.WellFormed.{place_in};

@@ -1,4 +1,4 @@
-//! Where things stand in a program: an instruction is named by its sequence and its place in its loop.
+//! Searches over a program: an instruction is named by its sequence and its place in its loop.
 ghost use Rattle.std.specs.Prelude.{◌≡◌, nat_eq, slice_get};
 ghost use Rattle.std.specs.List.{list_any, position_or_len};
 ghost use Rattle.executive_program.specs.Instructions.{is_communication, reads, waits_for, writes};
@@ -151,6 +151,7 @@ pub fn is_entry(list: &[u32], place: usize, number: usize) -> bool
     }
 }
 
+/// Whether one of these instructions reads a buffer.
 fn is_read(list: &[Instr], buffer: usize) -> bool
     ensures { result ≡ list_any (reads buffer) list.now }
 {

@@ -20,20 +20,22 @@ use Rattle.factorisation_laws.specs.Lines.{outer_of, in_line_order}
 use Rattle.inlining_laws.specs.Flat.{runs}
 use Rattle.operation_table.specs.Table.{Condition, Row, row, port, explode_rows}
 
--- What a line feeds, where the body has the ports `inner` and the repetition the ports `own`. A join line feeds nothing.
+-- What a line feeds, where the body has the ports `inner` and the repetition the ports `own`. A join line feeds
+-- nothing.
 abbrev pub feeds_by : Ports → Ports → Frontier → List Feed
 feeds_by inner own (Fork p x) = feed.Fork p (number_of own.ins p) (len_of inner.ins x) ∷ []
 feeds_by inner own (Diffuse p x) = feed.Diffuse (number_of own.ins p) ∷ []
 feeds_by inner own (Iterate p x y q) = feed.Iterate (number_of own.ins p) (number_of inner.outs y) ∷ []
 feeds_by inner own (Join y q) = []
 
--- the lines of a text that feed the body, in order
+-- The lines of a text that feed the body, in order.
 abbrev pub text_feeds : Ports → Ports → List FrontierLine → List Feed
 text_feeds inner own lines = flat_map (λ l. feeds_by inner own l.frontier) lines
 
 -- The explode of a fork line: it has an output for each copy, of the length of the inner input.
 abbrev pub explodes_by : Path → List Condition → Bytes → ℕ → Ports → Frontier → List Row
-explodes_by p cs d copies inner (Fork q x) = row (port p q) d cs (replicate copies (len_of inner.ins x)) (runs explode) ∷ []
+explodes_by p cs d copies inner (Fork q x) =
+    row (port p q) d cs (replicate copies (len_of inner.ins x)) (runs explode) ∷ []
 explodes_by p cs d copies inner (Diffuse q x) = []
 explodes_by p cs d copies inner (Iterate q x y z) = []
 explodes_by p cs d copies inner (Join y z) = []
@@ -49,14 +51,16 @@ pub record IsOfText (ds : List Def) (name : Bytes) (copies : ℕ) (feeds : List 
   pub defined : definition ds name ≡ Some (record { name = name; line = line; body = Repeat copies body lines })
   pub in_order : in_line_order feeds ≡ text_feeds (ports_of ds body) (ports_of ds name) lines
   pub numbered : map outer_of (in_line_order feeds) ≡ range_with_len 0 (length (in_line_order feeds))
-  pub explodes : (p : Path) (cs : List Condition) → explode_rows p cs name copies (in_line_order feeds) ≡ text_explodes p cs name copies (ports_of ds body) lines
+  pub explodes : (p : Path) (cs : List Condition) →
+      explode_rows p cs name copies (in_line_order feeds) ≡
+      text_explodes p cs name copies (ports_of ds body) lines
 
 abbrev pub IsKindOfText : List Def → Bytes → Kind → Type 0
 IsKindOfText ds name (repeat copies feeds gives) = IsOfText ds name copies feeds
 IsKindOfText ds name _ = Unit {0}
 
 abbrev mutual
-  -- each repetition in this vertex, itself among them
+  -- Each repetition in this vertex, itself among them.
   pub IsVertexOfText : List Def → Vertex → Type 0
   IsVertexOfText ds (vertex l us) = IsKindOfText ds l.definition l.kind × AreVerticesOfText ds us
 

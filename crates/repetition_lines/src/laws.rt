@@ -1,4 +1,4 @@
-//! The law of the lines of repetitions, the contract of a function that does nothing.
+//! The law of the lines of repetitions, the contract of a function that does nothing and is not called.
 ghost use Rattle.repetition_lines.specs.TextLines.{LinesStandInTextOrder};
 
 /// In the tree of accepted definitions each repetition is one of a definition `repeat`, and its lines by

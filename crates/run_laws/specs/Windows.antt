@@ -31,11 +31,15 @@ window_text names acts s = text_from s names (window s (reactions_from (length a
 
 -- The lines of the windows, one after another, are those of the run.
 abbrev pub WindowsTellTheRun : Type 0
-WindowsTellTheRun = (names : List (List ℕ)) (acts : List Values) → flat_map (window_text names acts) (starts (length acts)) ≡ output_text names acts
+WindowsTellTheRun =
+    (names : List (List ℕ)) (acts : List Values) →
+    flat_map (window_text names acts) (starts (length acts)) ≡ output_text names acts
 
 -- No window begins after the last reaction, and each but the last is full.
 abbrev pub WindowsAreFull : Type 0
-WindowsAreFull = (n w : ℕ) → w < windows_in n → (w * window_bound < n) × (w + 1 < windows_in n → reactions_from n (w * window_bound) ≡ window_bound)
+WindowsAreFull =
+    (n w : ℕ) → w < windows_in n → (w * window_bound < n) ×
+    (w + 1 < windows_in n → reactions_from n (w * window_bound) ≡ window_bound)
 
 -- No window has more than 256 reactions, and none ends after the last.
 abbrev pub WindowsAreShort : Type 0

@@ -1,7 +1,8 @@
-//! A run in windows: the first reaction of each window, the jobs and the lines of the windows, and what
-//! they leave of what is driven, each law the contract of a function that does nothing. That the windows
-//! make the run is a law of `phase_laws`. The plans of the commands that run jobs stand on this crate, and
-//! so does the loop that runs and writes windows.
+//! The laws of a run in windows: the first reaction of each window, the jobs and the lines of the windows, and what
+//! they leave of what is driven.
+//!
+//! Each law is the contract of a function that does nothing. That the windows make the run is a law of `phase_laws`.
+//! The plans of the commands that run jobs stand on this crate, and so does the loop that runs and writes windows.
 #![tactic(auto)]
 
 ghost use Rattle.run_laws.specs.Drives.{LastIsKept, NumbersRise};

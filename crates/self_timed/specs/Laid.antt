@@ -162,18 +162,18 @@ pub record IsHeld (vertices : List Vertex) (c : Copy) : Type 0 where
   pub port : c.source.port < length it.outs
   pub operator : c.operator < 16
 
-pub record IsCarried (vertices : List Vertex) (t : Transfer) : Type 0 where
-  pub from : IsHeld vertices (copy t.from t.source)
-  pub to : IsHeld vertices (copy t.to t.source)
+pub record IsCarried (vertices : List Vertex) (transfer : Transfer) : Type 0 where
+  pub from : IsHeld vertices (copy transfer.from transfer.source)
+  pub to : IsHeld vertices (copy transfer.to transfer.source)
 
-pub record IsPlaced (vertices : List Vertex) (d : Decision) : Type 0 where
+pub record IsPlaced (vertices : List Vertex) (decision : Decision) : Type 0 where
   pub it : Vertex
-  pub there : slice_get vertices d.op ≡ Some it
+  pub there : slice_get vertices decision.op ≡ Some it
   pub outs : length it.outs ≤ 64
-  pub operator : d.operator < 16
-  pub guards : All (λ (g : Guard). IsHeld vertices (copy d.operator g.source)) it.guards
-  pub inputs : All (λ x. IsHeld vertices (copy d.operator x)) it.ins
+  pub operator : decision.operator < 16
+  pub guards : All (λ (g : Guard). IsHeld vertices (copy decision.operator g.source)) it.guards
+  pub inputs : All (λ x. IsHeld vertices (copy decision.operator x)) it.ins
 
-pub record IsDecided (vertices : List Vertex) (d : Decision) : Type 0 where
-  pub carried : All (IsCarried vertices) d.transfers
-  pub placed : IsPlaced vertices d
+pub record IsDecided (vertices : List Vertex) (decision : Decision) : Type 0 where
+  pub carried : All (IsCarried vertices) decision.transfers
+  pub placed : IsPlaced vertices decision

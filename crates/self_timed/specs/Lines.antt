@@ -25,11 +25,11 @@ noted e (Operator o) date = record { operators = slice_set e.operators o date; m
 noted e (Medium m) date = record { operators = e.operators; media = slice_set e.media m date }
 
 -- each table has 16 entries
-pub record AreTables (e : Ends) : Type 0 where
-  pub operators : length e.operators ≡ 16
-  pub media : length e.media ≡ 16
+pub record AreTables (ends : Ends) : Type 0 where
+  pub operators : length ends.operators ≡ 16
+  pub media : length ends.media ≡ 16
 
 -- nothing has ended so far
-pub record AreStarted (e : Ends) : Type 0 where
-  pub tables : AreTables e
-  pub none : (l : Line) → last_in e l ≡ 0
+pub record AreStarted (ends : Ends) : Type 0 where
+  pub tables : AreTables ends
+  pub none : (l : Line) → last_in ends l ≡ 0

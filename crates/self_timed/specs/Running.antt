@@ -97,10 +97,10 @@ module _ (p : Plan) (depth : ℕ) (past : List (List Span)) (ticks : List ℕ) (
   FitsReaction = FitSteps (freed_in p depth past) ticks p.steps.items (at_start p ends)
 
 -- entries and lines are there
-pub record IsSized (entries : ℕ) (st : Step) : Type 0 where
-  pub entry : st.entry < entries
-  pub line : IsLine st.line
-  pub sources : All (λ e. e < entries) st.sources
+pub record IsSized (entries : ℕ) (step : Step) : Type 0 where
+  pub entry : step.entry < entries
+  pub line : IsLine step.line
+  pub sources : All (λ e. e < entries) step.sources
 
 abbrev pub AreSized : ℕ → List Step → Type 0
 AreSized entries steps = All (IsSized entries) steps

@@ -43,10 +43,10 @@ abbrev pub HaveEntries : ℕ → List (List ℕ) → Type 0
 HaveEntries entries ticks = All (λ (row : List ℕ). length row ≡ entries) ticks
 
 -- valid for some durations, none of which is above 1,000,000,000
-pub record IsValidForSome (g : Graph) (a : Architecture) (s : Schedule) : Type 0 where
+pub record IsValidForSome (graph : Graph) (archi : Architecture) (schedule : Schedule) : Type 0 where
   pub durations : Table
   pub rows : All (IsRow durations.operators) durations.rows
-  pub valid : IsTrue (is_valid g a (entry_in durations) s)
+  pub valid : IsTrue (is_valid graph archi (entry_in durations) schedule)
 
 -- What is told of a schedule, by the depth of buffers and the ticks of each reaction.
 module _ (depth : ℕ) (g : Graph) (s : Schedule) (ticks : List (List ℕ)) where

@@ -1,5 +1,7 @@
 //! The plan of a reaction: what must precede each act, found once for all reactions.
 ghost use Rattle.std.specs.Prelude.{◌≡◌, ◌<◌, ◌≤◌, ◌++◌, All, IfOk, OnErr, OnOk, length};
+ghost use Rattle.syn_base.specs.Limits.{bound_of};
+ghost use Rattle.syn_base.specs.declared.limits.LimitKind.TheVariants.{Operators, Ports};
 ghost use Rattle.schedule.specs.Acts.{carry, copy, run};
 ghost use Rattle.self_timed.specs.Laid.{Follows, HasFewOutputs, HasPlace, HasRow, HasShape, HaveGuardPlaces, HavePlaces, IsCarried, IsDecided, IsPlaced, after, empty_makers, guard_makers, input_makers, laid_out, maker_in, makers_of, place, started, with_decision, with_note, with_outputs, with_step, with_transfers};
 
@@ -9,6 +11,9 @@ use schedule::{Decision, Transfer};
 use std::alloc::Global;
 use std::marker::Model;
 use syn_base::{Items, OutOfMemory};
+
+/// The most operators.
+const MOST_OPERATORS: usize = 16;
 
 /// An act as far as dates go: its entry, its line, and the entries of the acts that make what it reads.
 #[derive(Drop)]
@@ -231,7 +236,7 @@ impl<'a> Layout<'a> {
     /// The operation has made its outputs on the operator. It takes no memory.
     fn note_outputs(&mut self, op: u32, operator: u32, outs: &[u32])
         requires row { HasRow self.old.makers op (length outs.now) }
-        requires few { (operator < 16) × (length outs.now ≤ 64) }
+        requires few { (operator < bound_of Operators) × (length outs.now ≤ bound_of Ports) }
         ensures { self.new ≡ with_outputs self.old op operator outs.now }
     {
         let mut port = 0;
@@ -246,7 +251,7 @@ impl<'a> Layout<'a> {
 fn place(source: Source, operator: u32) -> usize
     ensures { result ≡ place (copy operator source) }
 {
-    source.port as usize * 16 + operator as usize
+    source.port as usize * MOST_OPERATORS + operator as usize
 }
 
 /// A row for each operation.
@@ -256,7 +261,7 @@ fn no_makers(alloc: Global, vertices: &[Vertex]) -> Result<Vec<Items<usize>>, Ou
 {
     let mut rows = Vec::with_capacity(alloc, vertices.len())?;
     for vertex in vertices {
-        let places = vertex.outs.as_slice().len() * 16;
+        let places = vertex.outs.as_slice().len() * MOST_OPERATORS;
         rows.push(Items::new(vec![in alloc; 0; places]?))?;
     }
     Ok(rows)

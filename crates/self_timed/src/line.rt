@@ -1,5 +1,7 @@
 //! The lines of acts, and when the last act in each has ended, as `reaction` goes on.
 ghost use Rattle.std.specs.Prelude.{◌≡◌, ℕ, length, slice_index_or};
+ghost use Rattle.syn_base.specs.Limits.{bound_of};
+ghost use Rattle.syn_base.specs.declared.limits.LimitKind.TheVariants.{Operators};
 ghost use Rattle.self_timed.specs.Lines.{AreStarted, IsLine, last_in, noted};
 
 /// Where an act stands in line: at the operator on which an operation runs, or at the medium over which
@@ -10,12 +12,15 @@ pub(crate) enum Line {
     Medium(u32),
 }
 
+/// The last end on each operator, or over each medium.
+type LastEnds = [u64; 16];
+
 /// When the last act so far has ended on each operator and over each medium, by number; 0 where there
 /// was none.
 #[derive(Drop)]
 pub(crate) struct Ends {
-    operators: [u64; 16],
-    media: [u64; 16],
+    operators: LastEnds,
+    media: LastEnds,
 }
 
 impl Ends {
@@ -53,8 +58,8 @@ impl Ends {
 }
 
 /// The last ends of operators or media before anything has ended.
-fn no_dates() -> [u64; 16]
-    ensures size { length result ≡ 16 }
+fn no_dates() -> LastEnds
+    ensures size { length result ≡ bound_of Operators }
     ensures none { (i : ℕ) → slice_index_or result i 0 ≡ 0 }
 {
     [0; 16]

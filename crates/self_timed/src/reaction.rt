@@ -26,7 +26,7 @@ pub(crate) fn next_reaction(
     ensures { IfOk result (λ row. running ends.new row.items ≡
         reaction_after plan.now depth past.now ticks.now ends.old) }
 {
-    let freed = freed(alloc, plan, depth, past)?;
+    let freed = freed_dates(alloc, plan, depth, past)?;
     let mut row = no_spans(alloc, plan.entries)?;
     run(
         plan.steps.as_slice(),
@@ -40,7 +40,7 @@ pub(crate) fn next_reaction(
 
 /// For each entry, when the last act has ended that reads what the entry made as many reactions ago as
 /// buffers have places; 0 in the first reactions, and where no act reads it.
-fn freed(
+fn freed_dates(
     alloc: Global,
     plan: &Plan,
     depth: usize,

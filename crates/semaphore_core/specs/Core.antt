@@ -1,5 +1,33 @@
 -- The state of a run as plain data, one micro-step of it, and runs.
-use Rattle.std.specs.Prelude.{◌≡◌, ℕ, ◌+◌, ◌-◌, ◌*◌, ◌%◌, ◌<◌, Bool, true, false, cond, nat_eq, nat_le, nat_lt, List, [], ◌∷◌, ◌++◌, map, length, Option, Some, None, slice_index_or, slice_set, replicate, ℤ}
+use Rattle.std.specs.Prelude.{
+  ◌≡◌,
+  ℕ,
+  ◌+◌,
+  ◌-◌,
+  ◌*◌,
+  ◌%◌,
+  ◌<◌,
+  Bool,
+  true,
+  false,
+  cond,
+  nat_eq,
+  nat_le,
+  nat_lt,
+  List,
+  [],
+  ◌∷◌,
+  ◌++◌,
+  map,
+  length,
+  Option,
+  Some,
+  None,
+  slice_index_or,
+  slice_set,
+  replicate,
+  ℤ,
+}
 use Rattle.consistent_cuts.specs.Sites.{step_at, reaction_at}
 use Rattle.level_meaning.specs.Level.{Values, element_at, zeros}
 use Rattle.executive_program.specs.declared.program.Program.{Program}
@@ -8,7 +36,16 @@ use Rattle.executive_program.specs.declared.steps.Place.TheVariants.{Buffer, Wir
 use Rattle.executive_program.specs.declared.steps.OnLoad.{OnLoad}
 use Rattle.executive_program.specs.declared.steps.OnStore.{OnStore}
 use Rattle.executive_program.specs.declared.steps.MicroStep.{MicroStep}
-use Rattle.executive_program.specs.declared.steps.MicroStep.TheVariants.{Take, See, Lower, Signal, Await, Advance, Load, Store}
+use Rattle.executive_program.specs.declared.steps.MicroStep.TheVariants.{
+  Take,
+  See,
+  Lower,
+  Signal,
+  Await,
+  Advance,
+  Load,
+  Store,
+}
 use Rattle.executive_program.specs.Blocks.{blocks}
 use Rattle.executive_program.specs.Instructions.{len_of, depth_of}
 use Rattle.executive_program.specs.MicroSteps.{wire_len}
@@ -90,7 +127,8 @@ module _ (j : JobData) where
 
   -- the next micro-step of sequence s
   abbrev pub next : Core → ℕ → Option MicroStep
-  next z s = cond (nat_lt s (length j.program.seqs)) (cond (nat_lt (count z s) (full s)) (step_at (steps j.program s) (count z s)) None) None
+  next z s = cond (nat_lt s (length j.program.seqs))
+      (cond (nat_lt (count z s) (full s)) (step_at (steps j.program s) (count z s)) None) None
 
   -- what belongs to sequence s
   abbrev pub own : Core → ℕ → Own
@@ -108,7 +146,8 @@ module _ (j : JobData) where
   element_of z x k = element_at (slice_index_or z.elements (home_of j.program x) []) (slot_of j.program x k)
 
   abbrev pub with_element : Core → Place → ℕ → ℤ → List (List ℤ)
-  with_element z x k v = slice_set z.elements (home_of j.program x) (slice_set (slice_index_or z.elements (home_of j.program x) []) (slot_of j.program x k) v)
+  with_element z x k v = slice_set z.elements (home_of j.program x)
+      (slice_set (slice_index_or z.elements (home_of j.program x) []) (slot_of j.program x k) v)
 
   -- sequence s has this of its own now, and made one more micro-step
   abbrev pub with_own : Core → ℕ → List (List ℤ) → Own → Core
@@ -126,16 +165,26 @@ module _ (j : JobData) where
   load_by z s x then k = with_own z s z.elements (absorb_by j.graph j.sensors then k (own z s) (element_of z x k))
 
   abbrev pub store_by : Core → ℕ → Place → OnStore → ℕ → Core
-  store_by z s x what k = with_own z s (with_element z x k (emit_by j.graph j.sensors what k (own z s))) (after_by j.graph j.sensors what k (own z s))
+  store_by z s x what k = with_own z s (with_element z x k (emit_by j.graph j.sensors what k (own z s)))
+      (after_by j.graph j.sensors what k (own z s))
 
   -- this micro-step of sequence s, in reaction k, is made
   abbrev pub done_in : Core → ℕ → ℕ → MicroStep → Core
   done_in z s k (Take x) = record z { counts = counted z s; semaphores = slice_set z.semaphores x 0 }
   done_in z s k (See x) = record z { counts = counted z s }
-  done_in z s k (Lower x) = record z { counts = counted z s; semaphores = slice_set z.semaphores x (slice_index_or z.semaphores x 0 - 1) }
-  done_in z s k (Signal x) = record z { counts = counted z s; semaphores = slice_set z.semaphores x (slice_index_or z.semaphores x 0 + 1) }
+  done_in z s k (Lower x) = record z {
+    counts = counted z s;
+    semaphores = slice_set z.semaphores x (slice_index_or z.semaphores x 0 - 1);
+  }
+  done_in z s k (Signal x) = record z {
+    counts = counted z s;
+    semaphores = slice_set z.semaphores x (slice_index_or z.semaphores x 0 + 1);
+  }
   done_in z s k (Await m i n exact) = record z { counts = counted z s }
-  done_in z s k (Advance m) = record z { counts = counted z s; turns = slice_set z.turns m (slice_index_or z.turns m 0 + 1) }
+  done_in z s k (Advance m) = record z {
+    counts = counted z s;
+    turns = slice_set z.turns m (slice_index_or z.turns m 0 + 1);
+  }
   done_in z s k (Load x then) = load_by z s x then k
   done_in z s k (Store x what) = store_by z s x what k
 

@@ -1,5 +1,21 @@
 -- The desk of an operation: what it reads and what it gives.
-use Rattle.std.specs.Prelude.{◌≡◌, ℕ, ◌++◌, List, map, take, drop, length, Option, None, Some, Bool, false, slice_get, ℤ}
+use Rattle.std.specs.Prelude.{
+  ◌≡◌,
+  ℕ,
+  ◌++◌,
+  List,
+  map,
+  take,
+  drop,
+  length,
+  Option,
+  None,
+  Some,
+  Bool,
+  false,
+  slice_get,
+  ℤ,
+}
 use Rattle.level_meaning.specs.Level.{Values}
 use Rattle.flat_graph.specs.declared.vertex.Vertex.{Vertex}
 use Rattle.flat_graph.specs.Graph.{Graph}
@@ -11,6 +27,7 @@ pub record DeskData : Type 0 where
   -- the inputs' vectors, and then those of the guards' sources
   pub read : Values
   pub outs : Values
+  -- how many guards and inputs it has, and the number of the delay of which the operation is a half
   pub guards : ℕ
   pub inputs : ℕ
   pub delay : Option ℕ
@@ -22,7 +39,7 @@ load_lens d = drop d.inputs (map length d.read) ++ take d.inputs (map length d.r
 abbrev pub loaded_in : DeskData → List ℤ → Values
 loaded_in d row = vectors_from row 0 (load_lens d)
 
--- what of a desk stays the same
+-- what of a desk stays the same: the lengths of what it reads and gives, and the numbers
 pub record DeskLens : Type 0 where
   pub reads : List ℕ
   pub gives : List ℕ
@@ -31,7 +48,13 @@ pub record DeskLens : Type 0 where
   pub delay : Option ℕ
 
 abbrev pub lens_of_desk : DeskData → DeskLens
-lens_of_desk d = record { reads = map length d.read; gives = map length d.outs; guards = d.guards; inputs = d.inputs; delay = d.delay }
+lens_of_desk d = record {
+  reads = map length d.read;
+  gives = map length d.outs;
+  guards = d.guards;
+  inputs = d.inputs;
+  delay = d.delay;
+}
 
 -- it is the desk of operation v, which is x
 pub record IsDesk (g : Graph) (v : ℕ) (x : Vertex) (d : DeskLens) : Type 0 where

@@ -1,5 +1,27 @@
--- What a state holds beside the state of a run: the micro-steps of its program, laid out, and the room of its registers.
-use Rattle.std.specs.Prelude.{◌≡◌, ℕ, ◌+◌, ◌<◌, ◌≤◌, ◌^◌, cond, true, max, nat_lt, sum, List, [], ◌∷◌, length, Option, Some, None, slice_get, slice_index_or}
+-- What a state holds beside the state of a run: the micro-steps of
+-- its program, laid out, and the room of its registers.
+use Rattle.std.specs.Prelude.{
+  ◌≡◌,
+  ℕ,
+  ◌+◌,
+  ◌<◌,
+  ◌≤◌,
+  ◌^◌,
+  cond,
+  true,
+  max,
+  nat_lt,
+  sum,
+  List,
+  [],
+  ◌∷◌,
+  length,
+  Option,
+  Some,
+  None,
+  slice_get,
+  slice_index_or,
+}
 use Rattle.interleavings.specs.Owners.{sum_below}
 use Rattle.executive_program.specs.declared.steps.OnLoad.{OnLoad}
 use Rattle.executive_program.specs.declared.steps.OnLoad.TheVariants.{Gather, Carry as CarryIn, Compute as ComputeIn}
@@ -29,15 +51,21 @@ use Rattle.semaphore_core.specs.declared.answer.StepAnswer.TheVariants.{Stepped,
 pub record AreReady (j : JobData) (k : Kept) : Type 0 where
   pub valid : is_flat j.graph ≡ true
   pub desks_there : length k.desks ≡ length j.graph.vertices
-  pub desk : (v : ℕ) (x : Vertex) (d : DeskLens) → slice_get j.graph.vertices v ≡ Some x → slice_get k.desks v ≡ Some d → IsDesk j.graph v x d
-  pub cells_fit : (v : ℕ) (x : Vertex) (c : ℕ) → slice_get j.graph.vertices v ≡ Some x → delay_of j.graph v x ≡ Some c → (c < length k.cells) × (length (vector_at k.cells c) ≡ cell_len j.graph v)
-  pub no_cell : (v : ℕ) (x : Vertex) → slice_get j.graph.vertices v ≡ Some x → delay_of j.graph v x ≡ None → cell_len j.graph v ≡ 0
+  pub desk : (v : ℕ) (x : Vertex) (d : DeskLens) → slice_get j.graph.vertices v ≡ Some x →
+      slice_get k.desks v ≡ Some d → IsDesk j.graph v x d
+  pub cells_fit : (v : ℕ) (x : Vertex) (c : ℕ) → slice_get j.graph.vertices v ≡ Some x →
+      delay_of j.graph v x ≡ Some c → (c < length k.cells) × (length (vector_at k.cells c) ≡ cell_len j.graph v)
+  pub no_cell : (v : ℕ) (x : Vertex) → slice_get j.graph.vertices v ≡ Some x → delay_of j.graph v x ≡ None →
+      cell_len j.graph v ≡ 0
   pub rows_there : length k.rows ≡ reactions j
-  pub sensor_fits : (v : ℕ) (x : Vertex) (i : ℕ) → slice_get j.graph.vertices v ≡ Some x → x.kind ≡ Sensor i → (i < length j.lens) × (slice_index_or j.lens i 0 ≡ seen_len j.graph v)
+  pub sensor_fits : (v : ℕ) (x : Vertex) (i : ℕ) → slice_get j.graph.vertices v ≡ Some x → x.kind ≡ Sensor i →
+      (i < length j.lens) × (slice_index_or j.lens i 0 ≡ seen_len j.graph v)
 
--- Where operation v is an actuator, its rows are laid out in their length, among rows of these lengths. Rows may be laid out for some operations alone.
+-- Where operation v is an actuator, its rows are laid out in their length, among
+-- rows of these lengths. Rows may be laid out for some operations alone.
 abbrev pub HasRow : JobData → List ℕ → ℕ → Type 0
-HasRow j lens v = (x : Vertex) (a : ℕ) → slice_get j.graph.vertices v ≡ Some x → x.kind ≡ Actuator a → (a < length lens) × (slice_index_or lens a 0 ≡ slice_index_or (lens_of j.graph.vertices x.ins) 0 0)
+HasRow j lens v = (x : Vertex) (a : ℕ) → slice_get j.graph.vertices v ≡ Some x → x.kind ≡ Actuator a →
+    (a < length lens) × (slice_index_or lens a 0 ≡ slice_index_or (lens_of j.graph.vertices x.ins) 0 0)
 
 -- the operation that a load or a store computes has its rows
 abbrev pub LoadHasRow : JobData → List ℕ → OnLoad → Type 0
@@ -62,7 +90,8 @@ pub record Held : Type 0 where
 abbrev pub kept_of : Held → Kept
 kept_of h = record { cells = h.core.cells; rows = h.core.rows; lens = h.lens; desks = h.desks }
 
--- The highest number of a register that a micro-step uses; a computation may fill as many as the operation has output elements.
+-- The highest number of a register that a micro-step uses; a computation
+-- may fill as many as the operation has output elements.
 module _ (g : Graph) where
   abbrev pub outputs_len : ℕ → ℕ
   outputs_len v = sum (out_lens g v)

@@ -17,9 +17,17 @@ use Rattle.semaphore_core.specs.Job.{JobData, reactions, output_elements, total_
 
 -- the job of these parts
 abbrev pub job_of : Program → Graph → Architecture → Reactions → Values → JobData
-job_of p g a rows opening = record { program = p; graph = g; media = length a.media; sensors = rows.reactions; lens = rows.lens; opening = opening }
+job_of p g a rows opening = record {
+  program = p;
+  graph = g;
+  media = length a.media;
+  sensors = rows.reactions;
+  lens = rows.lens;
+  opening = opening;
+}
 
--- A program that is well formed for the flat graph and the architecture, rows of the graph's sensors in at most 10,000 reactions, and a vector for each delay, of its length.
+-- A program that is well formed for the flat graph and the architecture, rows of the graph's
+-- sensors in at most 10,000 reactions, and a vector for each delay, of its length.
 pub record FitTogether (a : Architecture) (j : JobData) : Type 0 where
   pub media : j.media ≡ length a.media
   pub formed : IsWellFormed j.program j.graph (sequences a) j.media
@@ -29,9 +37,11 @@ pub record FitTogether (a : Architecture) (j : JobData) : Type 0 where
 
 -- this quantity above its bound, or else what comes then
 abbrev pub above : LimitKind → ℕ → Option LimitFault → Option LimitFault
-above which count next = cond (nat_lt (bound_of which) count) (Some (record { which = which; count = count; bound = bound_of which })) next
+above which count next = cond (nat_lt (bound_of which) count)
+    (Some (record { which = which; count = count; bound = bound_of which })) next
 
--- The limit that refuses this many reactions of a program: the elements that the actuators take, then the micro-steps in all. A number that the count's type does not hold is its last value.
+-- The limit that refuses this many reactions of a program: the elements that the actuators take,
+-- then the micro-steps in all. A number that the count's type does not hold is its last value.
 abbrev pub limit_in : Program → Graph → ℕ → Option LimitFault
 limit_in p g n = above Output (output_elements g n) (above Total (min (total_steps p n) (2 ^ 128 - 1)) None)
 

@@ -1,4 +1,5 @@
--- A job: a well-formed program with the sensors' rows and the delays' opening values, as a system of interleaved sequences.
+-- A job: a well-formed program with the sensors' rows and the
+-- delays' opening values, as a system of interleaved sequences.
 use Rattle.std.specs.Prelude.{ℕ, ◌+◌, ◌-◌, ◌*◌, cond, nat_lt, List, [], ◌∷◌, ◌++◌, map, length, replicate}
 use Rattle.std.specs.List.{sum_by}
 use Rattle.consistent_cuts.specs.Sites.{reaction_at, step_at}
@@ -33,7 +34,8 @@ pub record JobData : Type 0 where
 abbrev pub reactions : JobData → ℕ
 reactions j = length j.sensors
 
--- Elements are numbered by buffer, and then by medium. An element lies in the places of its buffer, or once in its wire.
+-- Elements are numbered by buffer, and then by medium. An element
+-- lies in the places of its buffer, or once in its wire.
 module _ (p : Program) (media : ℕ) where
   abbrev pub buffer_at : ℕ → ℕ
   buffer_at y = block_at (len_of p) (length p.buffers) y
@@ -43,7 +45,8 @@ module _ (p : Program) (media : ℕ) where
 
   -- its number in its buffer or wire
   abbrev pub number_at : ℕ → ℕ
-  number_at y = cond (nat_lt y (buffer_elements p)) (y - sum_below (len_of p) (buffer_at y)) (y - buffer_elements p - sum_below (wire_len p) (wire_at y))
+  number_at y = cond (nat_lt y (buffer_elements p)) (y - sum_below (len_of p) (buffer_at y))
+      (y - buffer_elements p - sum_below (wire_len p) (wire_at y))
 
   abbrev pub depth_at : ℕ → ℕ
   depth_at y = cond (nat_lt y (buffer_elements p)) (depth_of p (buffer_at y)) 1
@@ -75,7 +78,8 @@ system j = record {
   period = period_at j.program j.media;
   depth = depth_at j.program j.media;
   start = λ s. record { registers = []; cells = j.opening; rows = zero_rows j };
-  absorb = λ s n c z. absorb_at j.graph j.sensors (step_at (steps j.program s) n) (reaction_at (code j.program s) n) c z;
+  absorb = λ s n c z. absorb_at j.graph j.sensors (step_at (steps j.program s) n)
+      (reaction_at (code j.program s) n) c z;
   emit = λ s n c. emit_at j.graph j.sensors (step_at (steps j.program s) n) (reaction_at (code j.program s) n) c;
   after = λ s n c. after_at j.graph j.sensors (step_at (steps j.program s) n) (reaction_at (code j.program s) n) c;
 }
@@ -89,5 +93,15 @@ total_steps p n = all_prologues p + n * all_turns p
 
 -- a job is stored as the tuple of its parts
 abbrev pub job_code : Coded Program → Coded Graph → Coded JobData
-job_code program graph = code_by (Program × (Graph × (ℕ × (List Values × (List ℕ × Values))))) (coded× program (coded× graph (coded× coded_ℕ (coded× (coded_list (coded_list (coded_list coded_ℤ))) (coded× (coded_list coded_ℕ) (coded_list (coded_list coded_ℤ)))))))
-    (λ j. (j.program, (j.graph, (j.media, (j.sensors, (j.lens, j.opening)))))) (λ p. record { program = p.0; graph = p.1.0; media = p.1.1.0; sensors = p.1.1.1.0; lens = p.1.1.1.1.0; opening = p.1.1.1.1.1 }) (λ _. refl)
+job_code program graph = code_by (Program × (Graph × (ℕ × (List Values × (List ℕ × Values)))))
+    (coded× program (coded× graph (coded× coded_ℕ (coded× (coded_list (coded_list (coded_list coded_ℤ)))
+    (coded× (coded_list coded_ℕ) (coded_list (coded_list coded_ℤ)))))))
+    (λ j. (j.program, (j.graph, (j.media, (j.sensors, (j.lens, j.opening))))))
+    (λ p. record {
+      program = p.0;
+      graph = p.1.0;
+      media = p.1.1.0;
+      sensors = p.1.1.1.0;
+      lens = p.1.1.1.1.0;
+      opening = p.1.1.1.1.1;
+    }) (λ _. refl)

@@ -1,4 +1,5 @@
--- The laws of every run of a job, for phase_laws to prove: what it is, that it is fresh, that it can go on, and what one more step does.
+-- The laws of every run of a job, for phase_laws to prove: what it is,
+-- that it is fresh, that it can go on, and what one more step does.
 use Rattle.std.specs.Prelude.{◌≡◌, ℕ, ◌+◌, ◌<◌, true, List, length, slice_index_or, slice_set}
 use Rattle.interleavings.specs.Fresh.{IsFresh}
 use Rattle.semaphore_core.specs.Job.{JobData, system}
@@ -24,7 +25,8 @@ module _ (j : JobData) where
   abbrev pub one_more : List ℕ → ℕ → List ℕ
   one_more counts s = slice_set counts s (slice_index_or counts s 0 + 1)
 
-  -- From reached counts, one more micro-step of a sequence that is enabled in what they tell: its counts are reached, and tell that step.
+  -- From reached counts, one more micro-step of a sequence that is enabled in
+  -- what they tell: its counts are reached, and tell that step.
   pub record GoesOn (counts : List ℕ) (s : ℕ) : Type 0 where
     pub reached : AreReached j (one_more counts s)
     pub tells : told j (one_more counts s) ≡ step j (told j counts) s

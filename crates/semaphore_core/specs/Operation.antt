@@ -1,5 +1,25 @@
 -- One operation of the flat graph, as the core makes it: from what was loaded to what is stored, kept and taken.
-use Rattle.std.specs.Prelude.{◌≡◌, ℕ, ◌+◌, ◌<◌, List, [], ◌∷◌, ◌++◌, map, take, drop, replicate, length, Option, Some, None, slice_index_or, slice_set, ℤ}
+use Rattle.std.specs.Prelude.{
+  ◌≡◌,
+  ℕ,
+  ◌+◌,
+  ◌<◌,
+  List,
+  [],
+  ◌∷◌,
+  ◌++◌,
+  map,
+  take,
+  drop,
+  replicate,
+  length,
+  Option,
+  Some,
+  None,
+  slice_index_or,
+  slice_set,
+  ℤ,
+}
 use Rattle.std.specs.List.{range_with_len}
 use Rattle.level_meaning.specs.Level.{Vector, Values, element_at, vector_at}
 use Rattle.flat_graph.specs.declared.vertex.Vertex.{Vertex}
@@ -57,18 +77,22 @@ module _ (g : Graph) where
   abbrev pub delay_of : ℕ → Vertex → Option ℕ
   delay_of v x = delay_by g.vertices v x.kind x.twin
 
-  -- the outputs of operation v from the values of its sources, the delays' cells and the sensors' vectors of the reaction
+  -- the outputs of operation v from the values of its sources, the
+  -- delays' cells and the sensors' vectors of the reaction
   abbrev pub outputs_of : ℕ → Vertex → Values → Values → Values → Values
-  outputs_of v x vs cells row = fired g.bodies x (cell_at cells (delay_of v x)) (sensed x.kind row) (conditions_in x vs) (inputs_in x vs)
+  outputs_of v x vs cells row = fired g.bodies x (cell_at cells (delay_of v x)) (sensed x.kind row)
+      (conditions_in x vs) (inputs_in x vs)
 
   -- the cells afterwards: a set half that is active stores its input
   abbrev pub cells_left : ℕ → Vertex → Values → Values → Values
-  cells_left v x vs cells = with_cell cells (delay_of v x) (kept x (cell_at cells (delay_of v x)) (conditions_in x vs) (inputs_in x vs))
+  cells_left v x vs cells = with_cell cells (delay_of v x)
+      (kept x (cell_at cells (delay_of v x)) (conditions_in x vs) (inputs_in x vs))
 
   abbrev pub rows_left : Vertex → ℕ → Values → List Values → List Values
   rows_left x k vs rows = rows_by x.kind k (vector_at (inputs_in x vs) 0) rows
 
--- The vectors of this many ports are read from a row, from `at` on; the other ports are as they were, and the lengths too.
+-- The vectors of this many ports are read from a row, from `at` on;
+-- the other ports are as they were, and the lengths too.
 pub record ReadsPorts (row : List ℤ) (at first count : ℕ) (old new : Values) : Type 0 where
   pub read : take count (drop first new) ≡ vectors_from row at (take count (drop first (map length old)))
   pub before : take first new ≡ take first old

@@ -1,4 +1,5 @@
--- What the sequences of a state or of a driver have of their own, and what the loads and stores of one of them leave of it.
+-- What the sequences of a state or of a driver have of their own,
+-- and what the loads and stores of one of them leave of it.
 use Rattle.std.specs.Prelude.{ℕ, List, [], slice_index_or, slice_set, ℤ}
 use Rattle.level_meaning.specs.Level.{Values}
 use Rattle.executive_program.specs.declared.steps.OnLoad.{OnLoad}

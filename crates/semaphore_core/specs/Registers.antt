@@ -1,5 +1,21 @@
 -- What loads and stores do with a sequence's registers, the delays' cells and the actuators' rows.
-use Rattle.std.specs.Prelude.{ℕ, take, Bool, cond, List, [], ◌∷◌, ◌++◌, Option, Some, None, slice_get, slice_index_or, ℤ, pos}
+use Rattle.std.specs.Prelude.{
+  ℕ,
+  take,
+  Bool,
+  cond,
+  List,
+  [],
+  ◌∷◌,
+  ◌++◌,
+  Option,
+  Some,
+  None,
+  slice_get,
+  slice_index_or,
+  ℤ,
+  pos,
+}
 use Rattle.level_meaning.specs.Level.{Values, element_at, all_joined}
 use Rattle.flat_graph.specs.declared.vertex.Vertex.{Vertex}
 use Rattle.flat_graph.specs.Graph.{Graph}

@@ -1,5 +1,29 @@
 -- What counts tell: the state as a function of the micro-steps that each sequence has made.
-use Rattle.std.specs.Prelude.{ℕ, suc, ◌+◌, ◌-◌, ◌*◌, ◌/◌, ◌%◌, cond, nat_eq, nat_lt, List, [], ◌∷◌, ◌++◌, map, take, length, Option, Some, None, slice_get, slice_index_or, ℤ}
+use Rattle.std.specs.Prelude.{
+  ℕ,
+  suc,
+  ◌+◌,
+  ◌-◌,
+  ◌*◌,
+  ◌/◌,
+  ◌%◌,
+  cond,
+  nat_eq,
+  nat_lt,
+  List,
+  [],
+  ◌∷◌,
+  ◌++◌,
+  map,
+  take,
+  length,
+  Option,
+  Some,
+  None,
+  slice_get,
+  slice_index_or,
+  ℤ,
+}
 use Rattle.std.specs.List.{range_with_len}
 use Rattle.consistent_cuts.specs.Sites.{place_at, reaction_at}
 use Rattle.interleavings.specs.System.{is_take, is_signal, advances, stores, total, latest}
@@ -14,7 +38,18 @@ use Rattle.executive_program.specs.declared.program.Instr.{Instr}
 use Rattle.executive_program.specs.declared.program.Instr.TheVariants.{Call, Send, Recv}
 use Rattle.executive_program.specs.Blocks.{block_at}
 use Rattle.executive_program.specs.Instructions.{turn, len_of, depth_of}
-use Rattle.executive_program.specs.MicroSteps.{code, size, begins, sent, transfers, uses, element_of, wire_of, buffer_elements, wire_len}
+use Rattle.executive_program.specs.MicroSteps.{
+  code,
+  size,
+  begins,
+  sent,
+  transfers,
+  uses,
+  element_of,
+  wire_of,
+  buffer_elements,
+  wire_len,
+}
 use Rattle.executive_program.specs.Places.{calling, carried}
 use Rattle.semaphore_core.specs.Registers.{Own}
 use Rattle.executive_program.specs.declared.program.Program.{Program}
@@ -44,7 +79,9 @@ module _ (j : JobData) where
 
   -- element `number` of the wire of medium m in round t, of which there are `period` in a reaction
   abbrev pub wire_value : ℕ → ℕ → ℕ → ℕ → ℤ
-  wire_value m number period t = element_at (sent_value (sent j.program m (block_at (uses j.program m number) (transfers j.program m) (t % period))) (t / period)) number
+  wire_value m number period t =
+      element_at (sent_value (sent j.program m (block_at (uses j.program m number) (transfers j.program m)
+      (t % period))) (t / period)) number
 
   -- the value of element y in round t: of a buffer in reaction t, of a wire in the t-th transfer that uses it
   abbrev pub stored_value : ℕ → ℕ → ℤ
@@ -58,13 +95,15 @@ module _ (j : JobData) where
 
   abbrev pub registers_in : ℕ → Option Instr → ℕ → List ℤ
   registers_in k (Some (Call v ins outs)) r = cond (nat_eq r 0) [] (cond (nat_lt r (elements_in j.program ins))
-      (take r (all_joined (map (λ b. buffer_value b k) ins))) (all_joined (flat_outputs j.graph j.sensors j.opening v k)))
+      (take r (all_joined (map (λ b. buffer_value b k) ins)))
+      (all_joined (flat_outputs j.graph j.sensors j.opening v k)))
   registers_in k (Some (Send b o)) r = copied b k r
   registers_in k (Some (Recv b o)) r = copied b k r
   registers_in k _ r = []
 
   abbrev pub registers_after : ℕ → ℕ → List ℤ
-  registers_after s n = registers_in (reaction_at (code j.program s) n) (slice_get (turn j.program s) (index_at j.program s n)) (offset_at j.program s n)
+  registers_after s n = registers_in (reaction_at (code j.program s) n)
+      (slice_get (turn j.program s) (index_at j.program s n)) (offset_at j.program s n)
 
   -- how often sequence s passed the place l of its loop in its first n micro-steps
   abbrev pub made : ℕ → ℕ → ℕ → ℕ
@@ -72,7 +111,8 @@ module _ (j : JobData) where
 
   -- the place in the loop of its sequence at which operation v has loaded all
   abbrev pub last_load : ℕ → ℕ
-  last_load v = begins j.program (calling j.program v).sequence (calling j.program v).at + (elements_in j.program (calling j.program v).ins - 1)
+  last_load v = begins j.program (calling j.program v).sequence (calling j.program v).at +
+      (elements_in j.program (calling j.program v).ins - 1)
 
   -- The cells and the rows, where operation v was computed `done v` times.
   module _ (done : ℕ → ℕ) where
@@ -104,7 +144,8 @@ module _ (j : JobData) where
     abbrev pub rows_by : List Values
     rows_by = map (rows_from j.graph.vertices 0) (range_with_len 0 (reactions j))
 
-  -- how often operation v was computed when its sequence has made n micro-steps; for the sequence s alone, 0 where another computes it
+  -- how often operation v was computed when its sequence has made n
+  -- micro-steps; for the sequence s alone, 0 where another computes it
   abbrev pub done_in : (ℕ → ℕ) → ℕ → ℕ
   done_in c v = made (calling j.program v).sequence (last_load v) (c (calling j.program v).sequence)
 
@@ -113,14 +154,20 @@ module _ (j : JobData) where
 
   -- what belongs to sequence s after n of its micro-steps; the cells and rows of other sequences stay as at the opening
   abbrev pub own_after : ℕ → ℕ → Own
-  own_after s n = record { registers = registers_after s n; cells = cells_by (done_by s n); rows = rows_by (done_by s n) }
+  own_after s n = record {
+    registers = registers_after s n;
+    cells = cells_by (done_by s n);
+    rows = rows_by (done_by s n);
+  }
 
   -- element y at its place q: the value of the last of its rounds there whose store was made
   abbrev pub element_told : (ℕ → ℕ) → ℕ → ℕ → ℤ
-  element_told c y q = latest (system j) (stored_value y) (depth_at j.program j.media y) (total (system j) (stores y) c) q
+  element_told c y q = latest (system j) (stored_value y) (depth_at j.program j.media y)
+      (total (system j) (stores y) c) q
 
   abbrev pub buffer_told : (ℕ → ℕ) → ℕ → List ℤ
-  buffer_told c b = map (λ i. element_told c (element_of j.program b (i % len_of j.program b)) (i / len_of j.program b)) (range_with_len 0 (depth_of j.program b * len_of j.program b))
+  buffer_told c b = map (λ i. element_told c (element_of j.program b (i % len_of j.program b))
+      (i / len_of j.program b)) (range_with_len 0 (depth_of j.program b * len_of j.program b))
 
   abbrev pub wire_told : (ℕ → ℕ) → ℕ → List ℤ
   wire_told c m = map (λ i. element_told c (wire_of j.program m i) 0) (range_with_len 0 (wire_len j.program m))
@@ -128,9 +175,11 @@ module _ (j : JobData) where
   abbrev pub told_by : (ℕ → ℕ) → List ℕ → Core
   told_by c counts = record {
     counts = counts;
-    semaphores = map (λ x. total (system j) (is_signal x) c - total (system j) (is_take x) c) (range_with_len 0 (2 * length j.program.pairs));
+    semaphores = map (λ x. total (system j) (is_signal x) c - total (system j) (is_take x) c)
+        (range_with_len 0 (2 * length j.program.pairs));
     turns = map (λ m. total (system j) (advances m) c) (range_with_len 0 j.media);
-    elements = map (buffer_told c) (range_with_len 0 (length j.program.buffers)) ++ map (wire_told c) (range_with_len 0 j.media);
+    elements = map (buffer_told c) (range_with_len 0 (length j.program.buffers)) ++
+        map (wire_told c) (range_with_len 0 j.media);
     registers = map (λ s. registers_after s (c s)) (range_with_len 0 (length j.program.seqs));
     cells = cells_by (done_in c);
     rows = rows_by (done_in c);

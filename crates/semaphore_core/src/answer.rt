@@ -1,6 +1,6 @@
-//! What a step of a sequence answers.
+//! What a try of a sequence in a state came to.
 
-/// What a step of a sequence answers.
+/// What a try of a sequence came to.
 #[derive(Clone, Copy, Debug, PartialEq, Eq)]
 pub enum StepAnswer {
     /// Its next micro-step was enabled, and is made.

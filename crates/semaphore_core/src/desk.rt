@@ -1,4 +1,4 @@
-//! The desk of an operation, on which it is computed.
+//! The desk of an operation: what it reads and what it gives, in room that was taken before.
 ghost use Rattle.std.specs.Prelude.{◌≡◌, ◌+◌, ◌<◌, ◌≤◌, length, map, take, drop, sum, IfOk};
 ghost use Rattle.flat_graph.specs.Fire.{fired_at, kept_at, cell_len, seen_len, out_lens, read_lens};
 ghost use Rattle.level_meaning.specs.Level.{vector_at, all_joined};
@@ -27,7 +27,13 @@ impl Model for Desk {
 
     ghost Value = { DeskData };
 
-    ghost view = { λ s. record { read = s.read; outs = s.outs; guards = s.guards; inputs = s.inputs; delay = s.delay } };
+    ghost view = { λ s. record {
+      read = s.read;
+      outs = s.outs;
+      guards = s.guards;
+      inputs = s.inputs;
+      delay = s.delay;
+    } };
 }
 
 impl Desk {

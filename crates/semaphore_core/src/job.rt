@@ -126,6 +126,7 @@ impl<'a> Job<'a> {
     pub fn sequences(&self) -> u32
         ensures { result ≡ length self.now.program.seqs }
     {
+        // The clause of `operators` is that the architecture is valid: it bounds operators and media, so the cast fits.
         let _ = self.archi.operators();
         self.program.seqs.as_slice().len() as u32
     }

@@ -1,4 +1,4 @@
-//! A desk for each operation, when a state is opened.
+//! Desks as they are laid out when a state is opened: one for each operation.
 ghost use Rattle.std.specs.Prelude.{◌≡◌, ◌+◌, ◌^◌, ◌<◌, ◌++◌, ◌≤◌, cond, map, length, slice_get, Some, IfOk, OnOk, IsTrue};
 ghost use Rattle.flat_graph.specs.Meaning.{delay_number};
 ghost use Rattle.semaphore_core.specs.Operation.{delay_by};
@@ -12,6 +12,7 @@ use flat_graph::{Flat, Kind, Vertex};
 use std::alloc::Global;
 use syn_base::{OutOfMemory, to_u32};
 
+/// Whether operation `k` is the get half of a delay.
 fn is_get_at(vertices: &[Vertex], k: u32) -> bool
     ensures { result ≡ is_get_at vertices.now k }
 {
@@ -21,6 +22,7 @@ fn is_get_at(vertices: &[Vertex], k: u32) -> bool
     }
 }
 
+/// One more, where there is one.
 fn counted(number: u32, more: bool) -> u32
     requires { number + 1 < 2 ^ 32 }
     ensures value { result ≡ cond more (number + 1) number }
@@ -54,6 +56,7 @@ fn delay_of(vertices: &[Vertex], v: u32, x: &Vertex) -> Option<u32>
     }
 }
 
+/// Appends these lengths.
 fn push_all(list: &[u32], lens: &mut Vec<u32>) -> Result<(), OutOfMemory>
     ensures { OnOk result (lens.new.items ≡ lens.old.items ++ list.now) }
 {

@@ -67,7 +67,7 @@ pub fn copy_of(alloc: Global, lists: &[Items<i64>]) -> Result<Vec<Vec<i64>>, Out
     Ok(all)
 }
 
-/// The initial value of a delay, where the operation is its get half.
+/// Appends the initial value of a delay, where the operation is its get half.
 fn push_initial(alloc: Global, kind: &Kind, all: &mut Vec<Items<i64>>) -> Result<(), OutOfMemory>
     ensures { OnOk result (all.new.items ≡ all.old.items ++ initial_cell kind.now) }
 {
@@ -89,7 +89,7 @@ pub fn opening_of(alloc: Global, flat: &Flat) -> Result<Items<Items<i64>>, OutOf
     Ok(Items::new(all))
 }
 
-/// The lengths of some sources.
+/// Appends the lengths of some sources.
 pub fn push_lens(flat: &Flat, sources: &[Source], lens: &mut Vec<u32>) -> Result<(), OutOfMemory>
     ensures { OnOk result (lens.new.items ≡ lens.old.items ++ lens_of flat.now.vertices sources.now) }
 {
@@ -99,7 +99,7 @@ pub fn push_lens(flat: &Flat, sources: &[Source], lens: &mut Vec<u32>) -> Result
     Ok(())
 }
 
-/// The length of the vector that an operation takes, where it is an actuator.
+/// Appends the length of the vector that an operation takes, where it is an actuator.
 fn push_actuator(flat: &Flat, x: &Vertex, lens: &mut Vec<u32>) -> Result<(), OutOfMemory>
     ensures { OnOk result (lens.new.items ≡ lens.old.items ++ actuator_len flat.now x.now x.now.kind) }
 {
@@ -120,7 +120,7 @@ pub fn actuator_lens(alloc: Global, flat: &Flat) -> Result<Items<u32>, OutOfMemo
     Ok(Items::new(lens))
 }
 
-/// This many lengths of 0.
+/// Appends this many lengths of 0.
 fn push_empty(count: usize, lens: &mut Vec<u32>) -> Result<(), OutOfMemory>
     ensures { OnOk result (lens.new.items ≡ lens.old.items ++ replicate count 0) }
 {
@@ -130,7 +130,7 @@ fn push_empty(count: usize, lens: &mut Vec<u32>) -> Result<(), OutOfMemory>
     Ok(())
 }
 
-/// The lengths of some sources, or this many lengths of 0.
+/// Appends the lengths of some sources, or as many lengths of 0.
 fn push_lens_if(
     flat: &Flat,
     sources: &[Source],
@@ -147,7 +147,7 @@ fn push_lens_if(
     }
 }
 
-/// The length of the row of an operation, where it is an actuator: 0 where its rows are not laid out.
+/// Appends the length of the row of an operation, where it is an actuator: 0 where its rows are not laid out.
 fn push_row_len(flat: &Flat, x: &Vertex, mine: bool, lens: &mut Vec<u32>) -> Result<(), OutOfMemory>
     ensures { OnOk result (lens.new.items ≡ lens.old.items ++
         map (λ l. cond mine l 0) (actuator_len flat.now x.now x.now.kind)) }
@@ -158,6 +158,7 @@ fn push_row_len(flat: &Flat, x: &Vertex, mine: bool, lens: &mut Vec<u32>) -> Res
     }
 }
 
+/// Whether the operation of this number is one of those whose rows are laid out.
 fn is_mine(mine: &[bool], vertex: usize) -> bool
     ensures { result ≡ slice_index_or mine.now vertex false }
 {
@@ -181,7 +182,7 @@ pub fn row_lens(alloc: Global, flat: &Flat, mine: &[bool]) -> Result<Items<u32>,
     Ok(Items::new(lens))
 }
 
-/// The length of the vector that an operation gives, where it is a sensor.
+/// Appends the length of the vector that an operation gives, where it is a sensor.
 fn push_sensor(x: &Vertex, lens: &mut Vec<u32>) -> Result<(), OutOfMemory>
     ensures { OnOk result (lens.new.items ≡ lens.old.items ++ sensor_len x.now.kind x.now.outs) }
 {
@@ -202,8 +203,8 @@ pub fn sensor_lens(alloc: Global, flat: &Flat) -> Result<Items<u32>, OutOfMemory
     Ok(Items::new(lens))
 }
 
-/// Rows of zeros: vectors of these lengths in each of this many reactions. A row that memory cannot
-/// hold is answered as want of it.
+/// Rows of zeros: vectors of these lengths in each of this many reactions. Where no memory can hold a row, it
+/// returns want of memory.
 pub fn zero_rows(alloc: Global, lens: &[u32], reactions: usize) -> Result<ActRows, OutOfMemory>
     ensures { IfOk result (λ s. s ≡ record { lens = lens.now; reactions = replicate reactions (map zeros lens.now) }) }
 {

@@ -1,4 +1,4 @@
-//! What operations keep and take: the delays' cells and the actuators' rows.
+//! The operations of a job, computed on their desks: what they keep and take, for `OwnParts`.
 ghost use Rattle.std.specs.Prelude.{◌≡◌, ℕ, true, ◌<◌, length, map, slice_get, slice_index_or, Some, None, [], IfOk, false, replicate};
 ghost use Rattle.level_meaning.specs.Level.{zeros};
 ghost use Rattle.semaphore_core.specs.AtOpening.{lens_for};
@@ -59,6 +59,8 @@ pub fn put_row(rows: &mut ActRows, reaction: usize, actuator: usize, vector: &[i
     requires len { length vector.now ≡ slice_index_or rows.old.lens actuator 0 }
     ensures { rows.new ≡ record rows.old { reactions = with_vector rows.old.reactions reaction actuator vector.now } }
 {
+    // The clause of `vector` is that the vector that stands there has the length of its actuator, so that all of it is
+    // replaced.
     let _len = rows.vector(reaction, actuator).len();
     for j in 0..vector.len() {
         rows.set(reaction, actuator, j, vector[j]);
@@ -164,7 +166,12 @@ impl Model for Operations {
 
     ghost Value = { Kept };
 
-    ghost view = { λ s. record { cells = map (λ c. c.items) s.cells.items; rows = s.rows.reactions; lens = s.rows.lens; desks = map lens_of_desk s.desks.items } };
+    ghost view = { λ s. record {
+      cells = map (λ c. c.items) s.cells.items;
+      rows = s.rows.reactions;
+      lens = s.rows.lens;
+      desks = map lens_of_desk s.desks.items;
+    } };
 }
 
 impl Operations {
@@ -190,7 +197,8 @@ impl Operations {
             (λ v. slice_index_or mine.now v false) 0 job.now.graph.vertices) }
         ensures rows { IfOk result (λ k. k.rows ≡ replicate (length job.now.sensors) (map zeros k.lens)) }
         ensures ready { IfOk result (λ k. AreReady job.now k) }
-        ensures laid_out { IfOk result (λ k. (v : ℕ) → slice_index_or mine.now v false ≡ true → HasRow job.now k.lens v) }
+        ensures laid_out { IfOk result (λ k. (v : ℕ) →
+            slice_index_or mine.now v false ≡ true → HasRow job.now k.lens v) }
     {
         let lens = row_lens(alloc, job.flat(), mine)?;
         Ok(Operations {

@@ -1,4 +1,4 @@
-//! What an operation reads, from the registers, and what it gives, into them.
+//! Registers read into the vectors of ports, for `Desk::read`.
 ghost use Rattle.std.specs.Prelude.{◌≡◌, ◌+◌, ◌^◌, ◌<◌, ◌≤◌, length, map, take, drop, sum, slice_set};
 ghost use Rattle.level_meaning.specs.Level.{vector_at};
 ghost use Rattle.semaphore_core.specs.Operation.{vector_in, ReadsPorts};

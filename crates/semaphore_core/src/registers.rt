@@ -1,4 +1,4 @@
-//! What a sequence's current instruction has loaded or computed.
+//! The registers of a sequence: what its current instruction has loaded or computed.
 ghost use Rattle.std.specs.Prelude.{◌≡◌, ◌+◌, ◌<◌, ◌≤◌, ◌++◌, ◌∷◌, [], take, length, cond, pos, slice_index_or, IfOk, vec_len, map, sum};
 ghost use Rattle.level_meaning.specs.Level.{all_joined};
 ghost use Rattle.semaphore_core.specs.Registers.{gathered};

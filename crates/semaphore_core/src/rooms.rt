@@ -1,4 +1,4 @@
-//! How many registers the micro-steps of a sequence need.
+//! Room for registers: how many the micro-steps of a sequence need, laid out for each sequence.
 ghost use Rattle.std.specs.Prelude.{◌≡◌, ◌+◌, ◌<◌, max, sum, IfOk};
 ghost use Rattle.semaphore_core.specs.Held.{outputs_len, top_load, top_store, top, highest};
 ghost use Rattle.semaphore_core.specs.AtOpening.{empty_registers, all_registers};
@@ -79,7 +79,7 @@ pub fn highest(flat: &Flat, list: &[MicroStep]) -> u128
     most
 }
 
-/// A number that `usize` holds; another is answered as want of memory.
+/// A number as a length. One that no memory could hold is want of memory.
 pub fn addressable(number: u128) -> Result<usize, OutOfMemory>
     ensures { IfOk result (λ n. n ≡ number) }
 {

@@ -1,4 +1,4 @@
-//! The state of a run, and one micro-step of it.
+//! The state of a run, and the calls that step it.
 ghost use Rattle.std.specs.Prelude.{◌≡◌, ℕ, ◌+◌, ◌*◌, ◌%◌, ◌^◌, ◌<◌, length, slice_index_or, slice_set, Some, IfOk};
 ghost use Rattle.semaphore_core.specs.Core.{count, counted, done_in, next, reaction, step, run_from, enabled_in, is_enabled, load_by, store_by, home_of, slot_of, opening};
 ghost use Rattle.semaphore_core.specs.Held.{AreReady, HasRow, IsOpened, FitsWord, NeedsReaction, answer, kept_of, top, top_load, top_store};
@@ -138,7 +138,8 @@ impl State {
         requires rows { (v : ℕ) → HasRow job.now self.old.lens v }
         requires reaction { reaction < length job.now.sensors }
         requires counted { (seq < length self.old.core.counts) × (count self.old.core seq + 1 < 2 ^ 64) }
-        requires room { (seq < length self.old.rooms) × (top_load job.now.graph then < slice_index_or self.old.rooms seq 0) }
+        requires room { (seq < length self.old.rooms) ×
+            (top_load job.now.graph then < slice_index_or self.old.rooms seq 0) }
         ensures { self.new ≡ record self.old { core = load_by job.now self.old.core seq place then reaction } }
     {
         let program = job.program();

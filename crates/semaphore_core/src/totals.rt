@@ -1,5 +1,5 @@
-//! The two numbers that bound a job: elements that its actuators take, and micro-steps in all. Nothing
-//! is laid out to count them.
+//! The two numbers that bound a job, for `Job::new` and `run_limit`: elements that its actuators take, and micro-steps
+//! in all. Nothing is laid out to count them.
 ghost use Rattle.std.specs.Prelude.{◌≡◌, ◌-◌, ◌*◌, ◌^◌, ◌<◌, ◌≤◌, length, min, None, Some, IfOk, IfErr};
 ghost use Rattle.archi_graph.specs.Sequences.{sequences};
 ghost use Rattle.executive_program.specs.WellFormed.{IsWellFormed};

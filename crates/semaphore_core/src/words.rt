@@ -1,4 +1,4 @@
-//! Words and elements that are shared among sequences.
+//! Words and elements that sequences share, and the next micro-step of a sequence.
 ghost use Rattle.std.specs.Prelude.{◌≡◌, ◌+◌, ◌-◌, ◌*◌, ◌/◌, ◌<◌, slice_index_or, slice_set, pos};
 ghost use Rattle.consistent_cuts.specs.Sites.{reaction_at};
 ghost use Rattle.semaphore_core.specs.Core.{turn_reached};
@@ -35,6 +35,7 @@ pub fn element_in(lists: &[Items<i64>], list: usize, at: usize) -> i64
     }
 }
 
+/// An element of a list, 0 for one that is not there.
 fn item(items: &Items<i64>, at: usize) -> i64
     ensures { result ≡ slice_index_or items.now at (pos 0) }
 {
@@ -51,6 +52,7 @@ pub fn put_element(lists: &mut [Items<i64>], list: usize, at: usize, value: i64)
     }
 }
 
+/// Puts an element in a list, if its place is there.
 fn put_item(items: &mut Items<i64>, at: usize, value: i64)
     ensures { items.new ≡ slice_set items.old at value }
 {

@@ -1,5 +1,24 @@
 -- The semaphore lines round the instructions of a loop, by the instructions' places.
-use Rattle.std.specs.Prelude.{◌≡◌, ℕ, suc, ◌<◌, ◌&&◌, Bool, false, nat_eq, List, [], ◌∷◌, ◌++◌, map, replicate, Option, Some, None, slice_get}
+use Rattle.std.specs.Prelude.{
+  ◌≡◌,
+  ℕ,
+  suc,
+  ◌<◌,
+  ◌&&◌,
+  Bool,
+  false,
+  nat_eq,
+  List,
+  [],
+  ◌∷◌,
+  ◌++◌,
+  map,
+  replicate,
+  Option,
+  Some,
+  None,
+  slice_get,
+}
 use Rattle.std.specs.List.{flat_map}
 use Rattle.std.specs.Global.{Vec}
 use Rattle.executive_program.specs.declared.program.Instr.{Instr}
@@ -66,20 +85,26 @@ all_between around a (x ∷ xs) = between around a x ++ all_between around (suc 
 
 -- what a sequence does first: each pair of which it is the reader is opened once for each place
 abbrev pub opening_with : ℕ → ℕ → List Pair → List Instr
-opening_with depth s pairs = flat_map (λ q. replicate depth (Pre0 q)) (numbers_where (λ (p : Pair). nat_eq p.reader s) 0 pairs)
+opening_with depth s pairs = flat_map (λ q. replicate depth (Pre0 q))
+    (numbers_where (λ (p : Pair). nat_eq p.reader s) 0 pairs)
 
 -- an instruction between the lines of the pairs that have their moments there
 abbrev pub lines_with : List Pair → ℕ → ℕ → Instr → List Instr
 lines_with pairs s a instr =
     (map Suc1 (numbers_where (is_then FirstRead s a) 0 pairs) ++ map Suc0 (numbers_where (is_then Write s a) 0 pairs))
-    ++ (instr ∷ (map Pre0 (numbers_where (is_then LastRead s a) 0 pairs) ++ map Pre1 (numbers_where (is_then Write s a) 0 pairs)))
+    ++ (instr ∷ (map Pre0 (numbers_where (is_then LastRead s a) 0 pairs) ++
+    map Pre1 (numbers_where (is_then Write s a) 0 pairs)))
 
 abbrev pub loop_with : List Pair → ℕ → ℕ → List Instr → List Instr
 loop_with pairs s a [] = []
 loop_with pairs s a (x ∷ xs) = lines_with pairs s a x ++ loop_with pairs s (suc a) xs
 
 abbrev pub code_with : ℕ → List Pair → ℕ → SeqCode → SeqCode
-code_with depth pairs s q = record { seq = q.seq; prologue = opening_with depth s pairs; turn = loop_with pairs s 0 q.turn }
+code_with depth pairs s q = record {
+  seq = q.seq;
+  prologue = opening_with depth s pairs;
+  turn = loop_with pairs s 0 q.turn;
+}
 
 -- these sequences, of which the first has number s
 abbrev pub codes_with : ℕ → List Pair → ℕ → List SeqCode → List SeqCode

@@ -18,4 +18,5 @@ pub record Makes (vertices : List Vertex) (old new : Made) (copies : List Copy) 
 -- what was made comes, with what is left, to the whole
 pub record ComesTo (vertices : List Vertex) (old new : Made) (left whole : List Copy) : Type 0 where
   pub buffers : new.buffers.items ++ map (buffer_of vertices) left ≡ old.buffers.items ++ map (buffer_of vertices) whole
-  pub places : new.places.items ++ map (place (length vertices)) left ≡ old.places.items ++ map (place (length vertices)) whole
+  pub places : new.places.items ++ map (place (length vertices)) left ≡
+      old.places.items ++ map (place (length vertices)) whole

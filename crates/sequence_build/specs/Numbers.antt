@@ -1,14 +1,33 @@
--- A table of the numbers of copies. Each operation has at most 64 outputs, and there are at most 2,048 operations and 16 operators.
-use Rattle.std.specs.Prelude.{◌≡◌, ℕ, ◌+◌, ◌*◌, ◌<◌, Bool, ◌&&◌, cond, nat_lt, nat_le, List, Some, slice_get, slice_index_or}
+-- A table of the numbers of copies. Each operation has at most 64
+-- outputs, and there are at most 2,048 operations and 16 operators.
+use Rattle.std.specs.Prelude.{
+  ◌≡◌,
+  ℕ,
+  ◌+◌,
+  ◌*◌,
+  ◌<◌,
+  Bool,
+  ◌&&◌,
+  cond,
+  nat_lt,
+  nat_le,
+  List,
+  Some,
+  slice_get,
+  slice_index_or,
+}
 use Rattle.schedule.specs.Acts.{Copy}
 
 -- among this many operations, the copy has a place of its own
 abbrev pub covers : ℕ → Copy → Bool
-covers operations c = nat_le operations 2048 && (nat_lt c.source.vertex operations && (nat_lt c.source.port 64 && nat_lt c.operator 16))
+covers operations c = nat_le operations 2048 &&
+    (nat_lt c.source.vertex operations && (nat_lt c.source.port 64 && nat_lt c.operator 16))
 
--- the copy's place, and one beyond all places where it has none: the first outputs of all operations come before the second ones
+-- the copy's place, and one beyond all places where it has none: the
+-- first outputs of all operations come before the second ones
 abbrev pub place : ℕ → Copy → ℕ
-place operations c = cond (covers operations c) ((c.source.port * operations + c.source.vertex) * 16 + c.operator) 2097152
+place operations c = cond (covers operations c)
+    ((c.source.port * operations + c.source.vertex) * 16 + c.operator) 2097152
 
 -- what the table says of a copy, and this number where it says nothing
 abbrev pub number_in : ℕ → List ℕ → ℕ → Copy → ℕ

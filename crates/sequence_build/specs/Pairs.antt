@@ -1,5 +1,20 @@
 -- The pairs of semaphores with the places of what they guard.
-use Rattle.std.specs.Prelude.{ℕ, Bool, false, cond, nat_eq, List, [], ◌∷◌, length, Option, Some, None, slice_get, slice_set}
+use Rattle.std.specs.Prelude.{
+  ℕ,
+  Bool,
+  false,
+  cond,
+  nat_eq,
+  List,
+  [],
+  ◌∷◌,
+  length,
+  Option,
+  Some,
+  None,
+  slice_get,
+  slice_set,
+}
 use Rattle.std.specs.Global.{Vec}
 use Rattle.executive_program.specs.declared.program.Buffer.{Buffer}
 use Rattle.executive_program.specs.Blocks.{blocks}
@@ -19,7 +34,8 @@ is_in (Some w) s = nat_eq w.sequence s
 abbrev pub pairs_with : ℕ → Option Place → List Use → List Pair
 pairs_with b w [] = []
 pairs_with b w (u ∷ us) =
-    cond (is_in w u.sequence) (pairs_with b w us) (record { buffer = b; reader = u.sequence; first = u.first; last = u.last; write = w } ∷ pairs_with b w us)
+    cond (is_in w u.sequence) (pairs_with b w us)
+    (record { buffer = b; reader = u.sequence; first = u.first; last = u.last; write = w } ∷ pairs_with b w us)
 
 -- those of the first n buffers
 abbrev pub pairs_below : List (Vec Use) → List (Option Place) → ℕ → List Pair

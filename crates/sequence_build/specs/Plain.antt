@@ -30,7 +30,8 @@ module _ (vertices : List Vertex) (sequences : List Seq) (number : Copy → ℕ)
       ∷ step (sequence_of sequences t.to (Some t.medium)) (Recv (number (copy t.to t.source)) t.from)
       ∷ waits_from t 0 sequences
   steps_of (run d) =
-      step (sequence_of sequences d.operator None) (Call d.op (map number (read_by vertices (run d))) (map number (made_by vertices (run d)))) ∷ []
+      step (sequence_of sequences d.operator None)
+      (Call d.op (map number (read_by vertices (run d))) (map number (made_by vertices (run d)))) ∷ []
 
 -- the elements of a list that may not be there
 abbrev pub elements : {A : Type 0} → Option (Vec A) → List A
@@ -51,7 +52,8 @@ HasLoops loops steps = (s : ℕ) → s < length loops → loop_at loops s ≡ pr
 
 -- what was added comes, with what is left, to the whole
 abbrev pub ComesTo : List (Vec Instr) → List (Vec Instr) → List Step → List Step → Type 0
-ComesTo old new left whole = (s : ℕ) → s < length old → loop_at new s ++ projection left s ≡ loop_at old s ++ projection whole s
+ComesTo old new left whole = (s : ℕ) → s < length old →
+    loop_at new s ++ projection left s ≡ loop_at old s ++ projection whole s
 
 -- what the acts of a site add
 abbrev pub numbering : Site → Copy → ℕ

@@ -1,5 +1,25 @@
--- Who reads and writes each buffer: the sequences that read it, with the places in their loops of the first and the last read, and the place of the write.
-use Rattle.std.specs.Prelude.{ℕ, suc, ◌-◌, Bool, false, cond, nat_eq, List, [], ◌∷◌, ◌++◌, length, Option, Some, None, slice_get, slice_index_or, slice_set}
+-- Who reads and writes each buffer: the sequences that read it, with the places in
+-- their loops of the first and the last read, and the place of the write.
+use Rattle.std.specs.Prelude.{
+  ℕ,
+  suc,
+  ◌-◌,
+  Bool,
+  false,
+  cond,
+  nat_eq,
+  List,
+  [],
+  ◌∷◌,
+  ◌++◌,
+  length,
+  Option,
+  Some,
+  None,
+  slice_get,
+  slice_index_or,
+  slice_set,
+}
 use Rattle.std.specs.Global.{Vec}
 use Rattle.executive_program.specs.declared.program.Instr.{Instr}
 use Rattle.executive_program.specs.declared.program.SeqCode.{SeqCode}

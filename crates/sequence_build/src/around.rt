@@ -1,4 +1,4 @@
-//! The semaphore lines round the instructions of a loop.
+//! The semaphore lines round the instructions of a loop, put there for `build`.
 ghost use Rattle.std.specs.Prelude.{◌≡◌, ℕ, ◌<◌, ◌++◌, ◌∷◌, [], cond, map, OnOk, IfOk, replicate, vec_len};
 ghost use Rattle.executive_program.specs.declared.program.Instr.TheVariants.{Pre0};
 ghost use Rattle.sequence_build.specs.Around.{Gathers, Surrounds, all_between, between, code_with, codes_with, is_at, line_of, lines_after, lines_before, list_at, loop_with, moment_of, opening_with};
@@ -64,6 +64,7 @@ fn moment_of(moment: Moment, pair: Pair) -> Option<Place>
     }
 }
 
+/// Appends the number of a pair.
 fn push_number(list: &mut Vec<u32>, number: u32) -> Result<(), OutOfMemory>
     ensures { OnOk result (list.new.items ≡ list.old.items ++ number ∷ []) }
 {

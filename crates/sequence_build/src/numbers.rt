@@ -5,6 +5,7 @@ ghost use Rattle.std.specs.List.{position_or_len};
 use std::alloc::Global;
 use syn_base::{OutOfMemory, to_u32};
 
+/// A table of this size, in which each entry is this number.
 fn table_of(alloc: Global, size: usize, number: u32) -> Result<Vec<u32>, OutOfMemory>
     ensures { IfOk result (λ t. t.items ≡ replicate size number) }
 {

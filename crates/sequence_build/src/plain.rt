@@ -1,4 +1,4 @@
-//! The program of a schedule without semaphores.
+//! The program of a schedule without semaphores: the first stage of `build`.
 ghost use Rattle.std.specs.Prelude.{◌≡◌, IfOk, length, map, vec_len};
 ghost use Rattle.std.specs.List.{flat_map};
 ghost use Rattle.schedule.specs.Acts.{acts, made_by};

@@ -1,4 +1,4 @@
-//! The program of a schedule.
+//! `build`: the program of a schedule, stage by stage.
 ghost use Rattle.std.specs.Prelude.{◌≡◌, None, IfOk, IfErr};
 ghost use Rattle.executive_program.specs.Sizes.{pair_depths};
 ghost use Rattle.sequence_build.specs.Answers.{IsProgram, IsRefusal, IsValid};
@@ -135,6 +135,7 @@ pub fn build(
     ensures ok { IfOk result (IsProgram flat.now archi.now schedule.now) }
     ensures err { IfErr result (IsRefusal flat.now archi.now schedule.now) }
 {
+    // The clause of `vertices` is that a flat graph is valid, which the law of built programs asks for.
     let _ = flat.vertices();
     let media = to_u32(archi.media().len())?;
     let plain = plain_program(alloc, flat, archi, schedule)?;

@@ -68,6 +68,7 @@ fn is_other(transfer: Transfer, seq: Seq) -> bool
     }
 }
 
+/// Whether both are communicators of one medium, or neither is a communicator.
 fn is_same_medium(medium: Option<u32>, other: Option<u32>) -> bool
     ensures { result ≡ same_medium medium other }
 {
@@ -78,6 +79,7 @@ fn is_same_medium(medium: Option<u32>, other: Option<u32>) -> bool
     }
 }
 
+/// Whether both are one sequence of the architecture.
 fn is_same(seq: Seq, other: Seq) -> bool
     ensures { result ≡ same_seq seq other }
 {
@@ -139,7 +141,8 @@ impl<'a> Site<'a> {
     /// The waits for a transfer in the other communicators of its medium.
     fn wait_all(&self, loops: &mut Vec<Vec<Instr>>, transfer: Transfer) -> Result<(), OutOfMemory>
         ensures many { vec_len loops.new ≡ vec_len loops.old }
-        ensures adds { OnOk result (Adds loops.old.items loops.new.items (waits_from transfer 0 self.now.sequences.now)) }
+        ensures adds { OnOk result (Adds loops.old.items loops.new.items
+            (waits_from transfer 0 self.now.sequences.now)) }
     {
         for (place, seq) in self.sequences.iter().enumerate() {
             if is_other(transfer, *seq) {
@@ -175,6 +178,7 @@ impl<'a> Site<'a> {
         Ok(())
     }
 
+    /// Transfers in succession.
     fn carry_all(
         &self,
         loops: &mut Vec<Vec<Instr>>,
@@ -224,7 +228,8 @@ impl<'a> Site<'a> {
 
     /// The buffers that the run of an operation reads.
     fn ins(&self, alloc: Global, decision: &Decision) -> Result<Items<u32>, OutOfMemory>
-        ensures { IfOk result (λ ins. ins ≡ map (numbering self.now) (read_by self.now.vertices.now (run decision.now))) }
+        ensures { IfOk result (λ ins. ins ≡
+            map (numbering self.now) (read_by self.now.vertices.now (run decision.now))) }
     {
         let mut ins = Vec::new(alloc);
         let op = decision.op;
@@ -256,7 +261,8 @@ impl<'a> Site<'a> {
 
     /// The buffers that the run of an operation writes.
     fn outs(&self, alloc: Global, decision: &Decision) -> Result<Items<u32>, OutOfMemory>
-        ensures { IfOk result (λ outs. outs ≡ map (numbering self.now) (made_by self.now.vertices.now (run decision.now))) }
+        ensures { IfOk result (λ outs. outs ≡
+            map (numbering self.now) (made_by self.now.vertices.now (run decision.now))) }
     {
         let mut outs = Vec::new(alloc);
         self.give_all(&mut outs, decision, outs_of(self.vertices, decision.op))?;
@@ -307,7 +313,8 @@ impl<'a> Site<'a> {
         decisions: &[Decision],
     ) -> Result<Vec<Vec<Instr>>, OutOfMemory>
         ensures many { IfOk result (λ loops. vec_len loops ≡ length self.now.sequences.now) }
-        ensures each { IfOk result (λ loops. HasLoops loops.items (flat_map (steps_at self.now) (acts_of decisions.now))) }
+        ensures each { IfOk result (λ loops. HasLoops loops.items
+            (flat_map (steps_at self.now) (acts_of decisions.now))) }
     {
         let mut loops = empty_loops(alloc, self.sequences.len())?;
         for decision in decisions {

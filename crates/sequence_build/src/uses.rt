@@ -1,4 +1,4 @@
-//! Who reads and writes each buffer of a program without semaphores.
+//! Uses of buffers: who reads and writes each in a program without semaphores.
 ghost use Rattle.std.specs.Prelude.{◌≡◌, ℕ, ◌<◌, [], cond, nat_eq, None, Some, OnOk, IfOk, length, vec_len};
 ghost use Rattle.std.specs.List.{list_any};
 ghost use Rattle.executive_program.specs.Instructions.{reads, writes};

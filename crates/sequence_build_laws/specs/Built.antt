@@ -1,5 +1,22 @@
--- The program of a schedule: the projections of its serial order, with prologues. A buffer that a pair guards has several places where the architecture says so.
-use Rattle.std.specs.Prelude.{ℕ, suc, Bool, cond, nat_eq, IsTrue, List, [], ◌∷◌, map, length, Option, Some, None, slice_get}
+-- The program of a schedule: the projections of its serial order, with prologues. A
+-- buffer that a pair guards has several places where the architecture says so.
+use Rattle.std.specs.Prelude.{
+  ℕ,
+  suc,
+  Bool,
+  cond,
+  nat_eq,
+  IsTrue,
+  List,
+  [],
+  ◌∷◌,
+  map,
+  length,
+  Option,
+  Some,
+  None,
+  slice_get,
+}
 use Rattle.std.specs.List.{flat_map, list_any}
 use Rattle.flat_graph.specs.Graph.{Graph}
 use Rattle.flat_graph.specs.Valid.{is_flat}
@@ -47,7 +64,8 @@ module _ (depth : ℕ) (g : Graph) (a : Architecture) (s : Schedule) where
     seqs = codes prologue (projection (serial g a s)) 0 (sequences a);
   }
 
--- the program of the schedule: a buffer that a pair guards has as many places as the architecture says, and any other one
+-- the program of the schedule: a buffer that a pair guards has as
+-- many places as the architecture says, and any other one
 abbrev pub program_of : Graph → Architecture → Schedule → Program
 program_of g a s = program_with a.depth g a s
 
@@ -57,6 +75,6 @@ order_of g a s = map (λ (x : Step). x.sequence) (serial g a s)
 
 -- the program of a schedule that is valid for some durations is well formed by its serial order
 abbrev pub BuiltAreWellFormed : Type 0
-BuiltAreWellFormed = (g : Graph) (a : Architecture) (ticks : ℕ → ℕ → Option ℕ) (s : Schedule)
-    → IsTrue (is_flat g) → IsTrue (is_archi a.operators a.media) → IsTrue (is_depth a.depth) → IsTrue (is_valid g a ticks s)
-    → IsOrder (program_of g a s) g (sequences a) (length a.media) (order_of g a s)
+BuiltAreWellFormed = (g : Graph) (a : Architecture) (ticks : ℕ → ℕ → Option ℕ) (s : Schedule) → IsTrue (is_flat g) →
+    IsTrue (is_archi a.operators a.media) → IsTrue (is_depth a.depth) → IsTrue (is_valid g a ticks s) →
+    IsOrder (program_of g a s) g (sequences a) (length a.media) (order_of g a s)

@@ -1,5 +1,24 @@
--- Semaphores round the instructions of a program, sequence by sequence: of a sequence's lines, only its own instructions and the pairs matter.
-use Rattle.std.specs.Prelude.{◌≡◌, ℕ, suc, Bool, ◌&&◌, not, cond, nat_eq, List, [], ◌∷◌, ◌++◌, map, Option, Some, None, slice_get}
+-- Semaphores round the instructions of a program, sequence by sequence: of a
+-- sequence's lines, only its own instructions and the pairs matter.
+use Rattle.std.specs.Prelude.{
+  ◌≡◌,
+  ℕ,
+  suc,
+  Bool,
+  ◌&&◌,
+  not,
+  cond,
+  nat_eq,
+  List,
+  [],
+  ◌∷◌,
+  ◌++◌,
+  map,
+  Option,
+  Some,
+  None,
+  slice_get,
+}
 use Rattle.std.specs.List.{flat_map, list_any}
 use Rattle.executive_program.specs.declared.program.Instr.{Instr}
 use Rattle.executive_program.specs.declared.program.Instr.TheVariants.{Suc0, Suc1, Pre0, Pre1}
@@ -34,7 +53,9 @@ module _ (pairs : List Reader) (s : ℕ) where
   -- an instruction between its semaphore lines
   abbrev pub lines_at : Standing Instr → List Instr
   lines_at v =
-      map Suc1 (pairs_where pairs (is_first v)) ++ (map Suc0 (pairs_where pairs (fills v)) ++ (v.it ∷ (map Pre0 (pairs_where pairs (is_last v)) ++ map Pre1 (pairs_where pairs (fills v)))))
+      map Suc1 (pairs_where pairs (is_first v)) ++
+      (map Suc0 (pairs_where pairs (fills v)) ++
+      (v.it ∷ (map Pre0 (pairs_where pairs (is_last v)) ++ map Pre1 (pairs_where pairs (fills v)))))
 
   abbrev pub guarded_loop : List Instr → List Instr
   guarded_loop xs = flat_map lines_at (in_turn xs)
@@ -45,13 +66,19 @@ module _ (pairs : List Reader) (s : ℕ) where
 
 abbrev pub guarded_codes : ℕ → List Reader → ℕ → List SeqCode → List SeqCode
 guarded_codes depth pairs s [] = []
-guarded_codes depth pairs s (q ∷ qs) = record { seq = q.seq; prologue = opening pairs s depth; turn = guarded_loop pairs s q.turn } ∷ guarded_codes depth pairs (suc s) qs
+guarded_codes depth pairs s (q ∷ qs) =
+    record { seq = q.seq; prologue = opening pairs s depth; turn = guarded_loop pairs s q.turn } ∷
+    guarded_codes depth pairs (suc s) qs
 
 -- the buffers of pairs have this many places, and the others one
 abbrev pub guarded_buffers : ℕ → List Reader → ℕ → List Buffer → List Buffer
 guarded_buffers depth pairs b [] = []
 guarded_buffers depth pairs b (x ∷ xs) =
-    record { operator = x.operator; len = x.len; depth = cond (list_any (λ (r : Reader). nat_eq r.buffer b) pairs) depth 1 } ∷ guarded_buffers depth pairs (suc b) xs
+    record {
+      operator = x.operator;
+      len = x.len;
+      depth = cond (list_any (λ (r : Reader). nat_eq r.buffer b) pairs) depth 1;
+    } ∷ guarded_buffers depth pairs (suc b) xs
 
 abbrev pub operator_in : Option Buffer → ℕ
 operator_in None = 0
@@ -67,4 +94,5 @@ guarded depth p = record {
 
 -- the program of a schedule is its plain program with semaphores
 abbrev pub BuiltAreGuarded : Type 0
-BuiltAreGuarded = (g : Graph) (a : Architecture) (s : Schedule) → program_of g a s ≡ guarded a.depth (plain_program g a s)
+BuiltAreGuarded = (g : Graph) (a : Architecture) (s : Schedule) →
+    program_of g a s ≡ guarded a.depth (plain_program g a s)

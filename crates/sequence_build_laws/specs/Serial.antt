@@ -1,5 +1,24 @@
--- The serial order of one reaction: the instructions of the acts of a schedule, each between the semaphore lines of its block.
-use Rattle.std.specs.Prelude.{ℕ, suc, Bool, true, false, ◌&&◌, not, cond, nat_eq, List, [], ◌∷◌, ◌++◌, map, Option, Some, None}
+-- The serial order of one reaction: the instructions of the acts of
+-- a schedule, each between the semaphore lines of its block.
+use Rattle.std.specs.Prelude.{
+  ℕ,
+  suc,
+  Bool,
+  true,
+  false,
+  ◌&&◌,
+  not,
+  cond,
+  nat_eq,
+  List,
+  [],
+  ◌∷◌,
+  ◌++◌,
+  map,
+  Option,
+  Some,
+  None,
+}
 use Rattle.std.specs.List.{flat_map, list_any, filter, position_or_len}
 use Rattle.flat_graph.specs.Graph.{Graph, len_of}
 use Rattle.archi_graph.specs.declared.medium.Seq.{Seq}
@@ -45,7 +64,8 @@ same_seq q r = nat_eq q.operator r.operator && same_medium q.medium r.medium
 -- the code of these sequences, of which the first has number s, with these prologues and these loops
 abbrev pub codes : (ℕ → List Instr) → (ℕ → List Instr) → ℕ → List Seq → List SeqCode
 codes prologue turn s [] = []
-codes prologue turn s (q ∷ qs) = record { seq = q; prologue = prologue s; turn = turn s } ∷ codes prologue turn (suc s) qs
+codes prologue turn s (q ∷ qs) =
+    record { seq = q; prologue = prologue s; turn = turn s } ∷ codes prologue turn (suc s) qs
 
 -- a communicator of the transfer's medium, at an operator that is neither its sender nor its receiver
 abbrev pub is_other : Transfer → Seq → Bool
@@ -65,16 +85,21 @@ reads_last v r = reads_for r v.it && not (list_any (reads_for r) v.after)
 abbrev pub is_filled : Standing Step → Reader → Bool
 is_filled v r = writes r.buffer v.it.instr
 
--- Of these pairs, each with a buffer and its reading sequence: those that pass, and the semaphore lines round an instruction.
+-- Of these pairs, each with a buffer and its reading sequence: those
+-- that pass, and the semaphore lines round an instruction.
 module _ (pairs : List Reader) where
   abbrev pub pairs_where : (Reader → Bool) → List ℕ
   pairs_where test = numbers_where test 0 pairs
 
-  -- Directly before an instruction the full semaphores of what its sequence reads there first are taken, and the empty ones of what is written;
-  -- directly after it the empty ones of what its sequence reads there last are signalled, and the full ones of what was written.
+  -- Directly before an instruction the full semaphores of what its sequence
+  -- reads there first are taken, and the empty ones of what is written;
+  -- directly after it the empty ones of what its sequence reads there
+  -- last are signalled, and the full ones of what was written.
   abbrev pub block : Standing Step → List Instr
   block v =
-      map Suc1 (pairs_where (reads_first v)) ++ (map Suc0 (pairs_where (is_filled v)) ++ (v.it.instr ∷ (map Pre0 (pairs_where (reads_last v)) ++ map Pre1 (pairs_where (is_filled v)))))
+      map Suc1 (pairs_where (reads_first v)) ++
+      (map Suc0 (pairs_where (is_filled v)) ++
+      (v.it.instr ∷ (map Pre0 (pairs_where (reads_last v)) ++ map Pre1 (pairs_where (is_filled v)))))
 
   abbrev pub steps_at : Standing Step → List Step
   steps_at v = map (step v.it.sequence) (block v)
@@ -90,13 +115,17 @@ module _ (g : Graph) (a : Architecture) (s : Schedule) where
   abbrev pub number_of : Seq → ℕ
   number_of q = position_or_len (same_seq q) (sequences a)
 
-  -- A transfer is sent, received, and waited for in the other communicators of its medium, by number. An operation is called.
+  -- A transfer is sent, received, and waited for in the other
+  -- communicators of its medium, by number. An operation is called.
   abbrev pub steps_of : Act → List Step
   steps_of (carry t) =
-      step (number_of (record { operator = t.from; medium = Some t.medium })) (Send (buffer_for (copy t.from t.source)) t.to)
-      ∷ step (number_of (record { operator = t.to; medium = Some t.medium })) (Recv (buffer_for (copy t.to t.source)) t.from)
+      step (number_of (record { operator = t.from; medium = Some t.medium }))
+      (Send (buffer_for (copy t.from t.source)) t.to)
+      ∷ step (number_of (record { operator = t.to; medium = Some t.medium }))
+      (Recv (buffer_for (copy t.to t.source)) t.from)
       ∷ map (λ q. step q (Sync t.from t.to)) (numbers_where (is_other t) 0 (sequences a))
-  steps_of (run d) = step (number_of (record { operator = d.operator; medium = None })) (Call d.op (map buffer_for (read_by g.vertices (run d))) (map buffer_for (made_by g.vertices (run d)))) ∷ []
+  steps_of (run d) = step (number_of (record { operator = d.operator; medium = None }))
+      (Call d.op (map buffer_for (read_by g.vertices (run d))) (map buffer_for (made_by g.vertices (run d)))) ∷ []
 
   -- the order without semaphores
   abbrev pub plain_steps : List Step
@@ -107,9 +136,14 @@ module _ (g : Graph) (a : Architecture) (s : Schedule) where
   buffer depth c = record { operator = c.operator; len = len_of g.vertices c.source; depth = depth }
 
   abbrev pub plain_program : Program
-  plain_program = record { buffers = map (buffer 1) copies; pairs = []; seqs = codes (λ _. []) (projection plain_steps) 0 (sequences a) }
+  plain_program = record {
+    buffers = map (buffer 1) copies;
+    pairs = [];
+    seqs = codes (λ _. []) (projection plain_steps) 0 (sequences a);
+  }
 
-  -- the pairs of semaphores: each buffer with each sequence that reads it and does not write it, by buffer and then by sequence
+  -- the pairs of semaphores: each buffer with each sequence that reads
+  -- it and does not write it, by buffer and then by sequence
   abbrev pub pairs : List Reader
   pairs = readers plain_program
 

@@ -1,8 +1,9 @@
-//! What the program of a schedule is: the serial order of one reaction, the sequences that it is
-//! divided into, the semaphores round the buffers, and the law that the program of a valid schedule
-//! is well formed. `built_are_well_formed` names the law, which whoever runs the program cites.
-//! `built_are_guarded` says that the program is made in two stages: first the instructions of each
-//! sequence, and then, sequence by sequence, the semaphores round them.
+//! What the program of a schedule is, and the law that the program of a valid schedule is well formed.
+//!
+//! The definition goes from the serial order of one reaction to the sequences that it is divided into, and to the
+//! semaphores round the buffers. `built_are_well_formed` is the law, which whoever runs the program cites.
+//! `built_are_guarded` says that the program may be made in two stages, as `sequence_build` makes it: first the
+//! instructions of each sequence, and then, sequence by sequence, the semaphores round them.
 #![tactic(auto)]
 
 ghost use Rattle.sequence_build_laws.specs.Built.{BuiltAreWellFormed};

@@ -17,6 +17,8 @@ fn words_of(rt: &HostRuntime) -> io::Result<Vec<String>> {
     }
 }
 
+/// Carries out the command of the words and ends with the number of its status. Where there is not enough memory for
+/// the words themselves, the line of that status is written here.
 fn main(rt: HostRuntime) -> ExitCode {
     let mut shelf = FileShelf::new(&rt);
     let mut out = StdSink::new(&rt);

@@ -1,5 +1,6 @@
--- Reading an architecture, part by part.
-use Rattle.std.proofs.Common.{◌≡◌, Result, Ok, Err, subst}
+-- Compiling a tree for the architecture of a text, part by part.
+use Rattle.std.proofs.Common.{◌≡◌, ◌∙◌, length, Result, Ok, Err, subst, sym}
+use Rattle.std.specs.Prelude.{IfOk}
 use Rattle.syn_base.specs.Bytes.{Bytes}
 use Rattle.outside.specs.Shelf.{Held}
 use Rattle.algo_tree.specs.Tree.{Vertex}
@@ -8,7 +9,9 @@ use Rattle.archi_defs.specs.declared.text.ArchiText.{ArchiText}
 use Rattle.archi_defs.specs.declared.fault.ArchiError.{ArchiError}
 use Rattle.archi_defs.specs.declared.fault.ArchiError.TheVariants as error
 use Rattle.archi_reader.specs.Given as reader
+use Rattle.durations.specs.Accepted.{AcceptedAreDurations}
 use Rattle.durations.specs.Given as durations
+use Rattle.durations.specs.Lines.{AreDurations}
 use Rattle.durations.specs.Table.{Table, durations_of}
 use Rattle.flat_graph.specs.Graph.{Graph}
 use Rattle.flat_laws.specs.FlatOf.{flat_of}
@@ -19,8 +22,9 @@ use Rattle.command_plan.proofs.Makes.{after_err, after_ok, memory}
 use Rattle.command_status.specs.Status.{Refusal, ending_of, of_architecture, status_of_architecture}
 use Rattle.top_plans.specs.Given.{Given}
 use Rattle.top_plans.specs.Plans.{Made, architecture_plan}
-use Rattle.syndex_program.specs.Reads.{IsArchitecture, IsArchitectureRefused, MakesArchitecture, ReadsArchitecture, described, describes_none, lasts_none}
-use Rattle.syndex_program.specs.declared.architecture.Architecture.{Architecture}
+use Rattle.syndex_program.specs.Compiles.{FindsDurations, IsCompilation, IsCompilationRefused, MakesCompilation, described, describes_none, lasts_none}
+use Rattle.syndex_program.specs.Reads.{ReadsCompilation}
+use Rattle.syndex_program.specs.declared.compile.Compilation.{Compilation}
 
 module _ {X : Type 0} (held : Held) (answer : Result X ArchiError) (next : X → Made) where
   -- a text or its durations are refused
@@ -36,39 +40,55 @@ module _ (main : Vertex) (text : Bytes) (next : Described → Table → Made) wh
   abbrev behind : Made
   behind = after of_architecture (description_of text) durations_behind
 
-  is_refused : (held : Held) (e : ArchiError) → IsArchitectureRefused main text e → Makes held held behind (Err (ending_of (status_of_architecture e)))
+  is_refused : (held : Held) (e : ArchiError) → IsCompilationRefused main text e → Makes held held behind (Err (ending_of (status_of_architecture e)))
   is_refused held e (describes_none is) = by_error held (description_of text) durations_behind e is
   is_refused held e (lasts_none d says is) =
       after_ok held held of_architecture (description_of text) durations_behind (Err (ending_of (status_of_architecture e))) d says
       (by_error held (durations_of (flat_of main) d) (next d) e is)
 
-  pub refused_so : (held : Held) (e : ArchiError) → MakesArchitecture main text (Err e) → Makes held held behind (Err (ending_of (status_of_architecture e)))
+  pub refused_so : (held : Held) (e : ArchiError) → MakesCompilation main text (Err e) → Makes held held behind (Err (ending_of (status_of_architecture e)))
   refused_so held (error.Refused fault) h = is_refused held (error.Refused fault) h
   refused_so held (error.Limit fault) h = is_refused held (error.Limit fault) h
   refused_so held error.OutOfMemory h = memory held behind
 
-  pub described_so : (old new : Held) (architecture : Architecture) (made : Result Given (Ending Refusal)) → IsArchitecture main text architecture
-      → Makes old new (next (described architecture.text) architecture.durations) made → Makes old new behind made
-  described_so old new architecture made is m =
-      let d = described architecture.text in
+  pub described_so : (old new : Held) (compilation : Compilation) (made : Result Given (Ending Refusal)) → IsCompilation main text architecture
+      → Makes old new (next (described compilation.text) compilation.durations) made → Makes old new behind made
+  described_so old new compilation made is m =
+      let d = described compilation.text in
       after_ok old new of_architecture (description_of text) durations_behind made d is.says
-      (after_ok old new of_architecture (durations_of (flat_of main) d) (next d) made architecture.durations is.lasts m)
+      (after_ok old new of_architecture (durations_of (flat_of main) d) (next d) made compilation.durations is.lasts m)
 
--- an architecture was read, and then the plan went on with it
-pub went_on : (main : Vertex) (name : Bytes) (a b c : Held) (architecture : Architecture) (next : Described → Table → Made) (made : Result Given (Ending Refusal))
-    → ReadsArchitecture main name a b (Ok architecture) → Makes b c (next (described architecture.text) architecture.durations) made → Makes a c (architecture_plan name main next) made
-went_on main name a b c architecture next made (text, read, is) m = was_read b text read (described_so main text next b c architecture made is m)
+-- a compilation was made from a file, and then the plan went on with it
+pub went_on : (main : Vertex) (name : Bytes) (a b c : Held) (compilation : Compilation) (next : Described → Table → Made) (made : Result Given (Ending Refusal))
+    → ReadsCompilation main name a b (Ok compilation) → Makes b c (next (described compilation.text) compilation.durations) made → Makes a c (architecture_plan name main next) made
+went_on main name a b c compilation next made (text, read, is) m = was_read b text read (described_so main text next b c compilation made is m)
 
 -- a text is refused
-pub by_text : (main : Vertex) (text : Bytes) (e : ArchiError) → reader.Fails e (description_of text) → MakesArchitecture main text (Err e)
+pub by_text : (main : Vertex) (text : Bytes) (e : ArchiError) → reader.Fails e (description_of text) → MakesCompilation main text (Err e)
 by_text main text (error.Refused fault) h = describes_none h
 by_text main text (error.Limit fault) h = describes_none h
 by_text main text error.OutOfMemory h = tt
 
 -- an operation has no duration
 pub by_durations : (main : Vertex) (text : Bytes) (t : ArchiText) (g : Graph) (e : ArchiError) → description_of text ≡ Ok (described t) → g ≡ flat_of main
-    → durations.Gives (Err e) (durations_of g (described t)) → MakesArchitecture main text (Err e)
+    → durations.Gives (Err e) (durations_of g (described t)) → MakesCompilation main text (Err e)
 by_durations main text t g (error.Refused fault) says same h =
     lasts_none (described t) says (subst (λ (f : Graph). durations_of f (described t) ≡ Err (error.Refused fault)) same h)
 by_durations main text t g (error.Limit fault) says same h = absurd h
 by_durations main text t g error.OutOfMemory says same h = tt
+
+-- the text of an architecture is accepted, so its durations are for operators
+pub are_known : AcceptedAreDurations → (text : Bytes) (r : Result ArchiText ArchiError) → reader.Gives r (description_of text)
+    → IfOk r (λ t. AreDurations (length t.archi.operators) t.lines)
+are_known law text (Ok t) says = law text (described t) says
+are_known law text (Err e) says = tt
+
+-- the durations were found for an accepted text and the flat graph, or refused
+pub compiled_so : (main : Vertex) (text : Bytes) (t : ArchiText) (g : Graph) (r : Result Compilation ArchiError) → description_of text ≡ Ok (described t)
+    → g ≡ flat_of main → FindsDurations g t r → MakesCompilation main text r
+compiled_so main text t g (Ok compilation) says same (flat, described_text, lasts) = record {
+  says = subst (λ (u : ArchiText). description_of text ≡ Ok (described u)) (sym described_text) says;
+  flattens = flat ∙ same;
+  lasts = subst (λ (f : Graph). durations_of f (described compilation.text) ≡ Ok compilation.durations) same (subst (λ (u : ArchiText). durations_of g (described u) ≡ Ok compilation.durations) (sym described_text) lasts);
+}
+compiled_so main text t g (Err e) says same h = by_durations main text t g e says same h

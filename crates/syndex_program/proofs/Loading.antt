@@ -18,9 +18,10 @@ use Rattle.command_status.specs.Status.{Refusal, ending_of, status_of_algorithm,
 use Rattle.top_plans.specs.Given.{Given, Execution}
 use Rattle.top_plans.specs.Plans.{Made, architecture_in, table_in}
 use Rattle.syndex_program.specs.Executes.{rest_plan, texts_plan}
-use Rattle.syndex_program.specs.Reads.{IsAlgorithm, IsArchitecture, MakesAlgorithm, MakesArchitecture, MakesTable, described}
-use Rattle.syndex_program.specs.declared.algorithm.Algorithm.{Algorithm}
-use Rattle.syndex_program.specs.declared.architecture.Architecture.{Architecture}
+use Rattle.syndex_program.specs.Compiles.{IsAlgorithm, IsCompilation, MakesAlgorithm, MakesCompilation, described}
+use Rattle.syndex_program.specs.Reads.{MakesTable}
+use Rattle.syndex_program.specs.declared.compile.Algorithm.{Algorithm}
+use Rattle.syndex_program.specs.declared.compile.Compilation.{Compilation}
 use Rattle.syndex_program.proofs.Steps as steps
 use Rattle.syndex_program.proofs.Architectures as architectures
 
@@ -35,25 +36,25 @@ module _ (next : Execution → Given) (held : Held) (a h s : Bytes) where
   algorithm_refused e m = steps.refused_so a behind_algorithm held e m
 
   module _ (algorithm : Algorithm) (is : IsAlgorithm a algorithm) where
-    pub architecture_refused : (e : ArchiError) → MakesArchitecture algorithm.tree h (Err e) → Makes held held (texts_plan next a h s) (Err (ending_of (status_of_architecture e)))
-    architecture_refused e m =
+    pub compilation_refused : (e : ArchiError) → MakesCompilation algorithm.tree h (Err e) → Makes held held (texts_plan next a h s) (Err (ending_of (status_of_architecture e)))
+    compilation_refused e m =
         steps.resolved_so a behind_algorithm held held algorithm (Err (ending_of (status_of_architecture e))) is
         (architectures.refused_so algorithm.tree h (behind_table algorithm.tree) held e m)
 
-    module _ (architecture : Architecture) (says : IsArchitecture algorithm.tree h architecture) where
+    module _ (compilation : Compilation) (says : IsCompilation algorithm.tree h compilation) where
       -- both texts were accepted, and then the plan went on with the table
-      both_so : (made : Result Given (Ending Refusal)) → Makes held held (behind_table algorithm.tree (described architecture.text) architecture.durations) made → Makes held held (texts_plan next a h s) made
+      both_so : (made : Result Given (Ending Refusal)) → Makes held held (behind_table algorithm.tree (described compilation.text) compilation.durations) made → Makes held held (texts_plan next a h s) made
       both_so made m =
           steps.resolved_so a behind_algorithm held held algorithm made is
-          (architectures.described_so algorithm.tree h (behind_table algorithm.tree) held held architecture made says m)
+          (architectures.described_so algorithm.tree h (behind_table algorithm.tree) held held compilation made says m)
 
       pub table_refused : (e : SensorError) → MakesTable algorithm.tree s (Err e) → Makes held held (texts_plan next a h s) (Err (ending_of (status_of_sensors e)))
       table_refused e m =
           both_so (Err (ending_of (status_of_sensors e)))
-          (steps.table_refused held (rows_of algorithm.tree (records default_config (strip_bom s))) (λ (rows : Reactions). rest_plan next algorithm.tree architecture.text.archi architecture.durations rows) e m)
+          (steps.table_refused held (rows_of algorithm.tree (records default_config (strip_bom s))) (λ (rows : Reactions). rest_plan next algorithm.tree compilation.text.archi compilation.durations rows) e m)
 
       pub rows_so : (rows : Reactions) (made : Result Given (Ending Refusal)) → MakesTable algorithm.tree s (Ok rows)
-          → Makes held held (rest_plan next algorithm.tree architecture.text.archi architecture.durations rows) made → Makes held held (texts_plan next a h s) made
+          → Makes held held (rest_plan next algorithm.tree compilation.text.archi compilation.durations rows) made → Makes held held (texts_plan next a h s) made
       rows_so rows made m go =
           both_so made
-          (steps.rows_so algorithm.tree s held held rows (λ (rs : Reactions). rest_plan next algorithm.tree architecture.text.archi architecture.durations rs) made m.0 go)
+          (steps.rows_so algorithm.tree s held held rows (λ (rs : Reactions). rest_plan next algorithm.tree compilation.text.archi compilation.durations rs) made m.0 go)

@@ -1,18 +1,22 @@
 -- What the two calls answer, from what was carried out.
-use Rattle.std.proofs.Common.{◌≡◌, Option, Some, None, Err, inl, inr, refl, sym, subst}
+use Rattle.std.proofs.Common.{◌≡◌, Option, Some, None, Err, inl, inr, refl}
 use Rattle.outside.specs.Shelf.{Held}
 use Rattle.outside.specs.Sink.{Sunk}
-use Rattle.command_plan.specs.Ending.{Ending, no_memory, refused}
+use Rattle.command_plan.specs.Ending.{no_memory, refused}
 use Rattle.command_plan.specs.Run.{refuses}
 use Rattle.command_plan.proofs.Makes.{memory}
-use Rattle.command_status.specs.Status.{Refusal, ending_of, usage}
+use Rattle.command_status.specs.Status.{ending_of, usage}
 use Rattle.command_status.specs.declared.status.Status.{Status}
 use Rattle.command_words.specs.Command.{Command, check, sim, flat, chart, code, run, load, exec, dates}
+use Rattle.command_words.specs.View.{job_view, plain_view}
+use Rattle.command_words.specs.declared.commands.JobCommand.{JobCommand}
+use Rattle.command_words.specs.declared.commands.JobCommand.TheVariants.{Run, Load, Exec}
+use Rattle.command_words.specs.declared.commands.PlainCommand.{PlainCommand}
+use Rattle.command_words.specs.declared.commands.PlainCommand.TheVariants.{Check, Sim, Flat, Chart, Code, Dates}
 use Rattle.word_rule.specs.Driven.{Driven}
-use Rattle.top_plans.specs.Names.{IsPlain}
+use Rattle.top_plans.specs.Names.{IsPlain, RunsJobs}
 use Rattle.top_plans.specs.Plans.{plan_of}
-use Rattle.top_plans.specs.Replies.{CommandsReply, LeavesJobs, PlainCommandsReply, PlainReplies, Replies}
-use Rattle.syndex_program.specs.Jobs.{RunsIn}
+use Rattle.top_plans.specs.Replies.{CommandsReply, PlainCommandsReply, PlainReplies, Replies}
 use Rattle.syndex_program.specs.Plainly.{IsRunOrPlain, ending_in}
 
 module _ (law : PlainCommandsReply) (held held' : Held) (sunk sunk' err : Sunk) where
@@ -46,20 +50,20 @@ module _ (law : PlainCommandsReply) (held : Held) (sunk err : Sunk) where
 pub wants : CommandsReply → (o : Option Command) (held : Held) (sunk : Sunk) (driven : Driven) → Replies o held held sunk sunk driven driven no_memory
 wants law o held sunk driven = law o held held sunk sunk driven driven no_memory (Err no_memory, memory held (plan_of o), (refl, refl, refl))
 
--- the words are of a command that runs jobs, and nothing was read or written
-pub left_so : (o : Option Command) (held held' : Held) (sunk sunk' : Sunk) → LeavesJobs o held held' sunk sunk' → RunsIn o × (held' ≡ held) × (sunk' ≡ sunk)
-left_so None held held' sunk sunk' h = absurd h
-left_so (Some command) held held' sunk sunk' h = h
+-- words that are no command: nothing was read, written or driven
+pub unknown : CommandsReply → (held : Held) (sunk : Sunk) (driven : Driven) → Replies None held held sunk sunk driven driven (refused usage)
+unknown law held sunk driven = law None held held sunk sunk driven driven (refused usage) (Err (refused usage), refuses (inl refl, λ file name. refl), (refl, refl, refl))
 
-module _ (law : CommandsReply) (o : Option Command) (held held' : Held) (sunk sunk' err err' : Sunk) (driven : Driven) where
-  wanted_so : (ending : Ending Refusal) → (ending ≡ no_memory) × LeavesJobs o held held' sunk sunk' → Replies o held held' sunk sunk' driven driven ending
-  wanted_so ending h =
-      let left = left_so o held held' sunk sunk' h.1 in
-      subst (λ (e : Ending Refusal). Replies o held held' sunk sunk' driven driven e) (sym h.0)
-      (subst (λ (x : Held). Replies o held x sunk sunk' driven driven no_memory) (sym left.1)
-      (subst (λ (x : Sunk). Replies o held held sunk x driven driven no_memory) (sym left.2) (wants law o held sunk driven)))
+-- which commands run jobs, by their types
+pub job_runs : (job : JobCommand) → RunsJobs (job_view job)
+job_runs (Run a h s workers) = tt
+job_runs (Load n) = tt
+job_runs (Exec a h c s workers) = tt
 
-  -- what the plain call answers is what the top call does
-  pub replied : (ending : Ending Refusal) → PlainReplies o held held' sunk sunk' err err' (Some ending) → Replies o held held' sunk sunk' driven driven ending
-  replied ending (inl h) = h.1.replies driven
-  replied ending (inr h) = wanted_so ending h
+pub plain_runs_none : (plain : PlainCommand) → ¬ RunsJobs (plain_view plain)
+plain_runs_none (Check a h) x = x
+plain_runs_none (Sim a s) x = x
+plain_runs_none (Flat a) x = x
+plain_runs_none (Chart a h) x = x
+plain_runs_none (Code a h) x = x
+plain_runs_none (Dates a h g n) x = x

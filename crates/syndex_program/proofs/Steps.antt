@@ -23,8 +23,9 @@ use Rattle.command_plan.proofs.Makes.{after_err, after_ok, memory}
 use Rattle.command_status.specs.Status.{Refusal, above, ending_of, of_algorithm, of_sensors, status_of_algorithm, status_of_sensors}
 use Rattle.top_plans.specs.Given.{Given}
 use Rattle.top_plans.specs.Plans.{Made, algorithm_plan, table_in, table_plan, unless}
-use Rattle.syndex_program.specs.Reads.{IsAlgorithm, IsRefused, MakesAlgorithm, ReadsAlgorithm, ReadsTable, resolves_none, says_none}
-use Rattle.syndex_program.specs.declared.algorithm.Algorithm.{Algorithm}
+use Rattle.syndex_program.specs.Compiles.{IsAlgorithm, IsRefused, MakesAlgorithm, resolves_none, says_none}
+use Rattle.syndex_program.specs.Reads.{ReadsAlgorithm, ReadsTable}
+use Rattle.syndex_program.specs.declared.compile.Algorithm.{Algorithm}
 
 module _ {X : Type 0} (held : Held) (answer : Result X AlgoError) (next : X → Made) where
   -- an algorithm's text or its definitions are refused

@@ -1,3 +1,4 @@
+pub mod Compiles
 pub mod Reads
 pub mod Builds
 pub mod Executes
@@ -7,6 +8,5 @@ pub mod Left
 pub mod Sums
 pub mod Unread
 pub mod Plainly
-pub mod Jobs
 pub mod Dates
 pub mod Counts

@@ -14,11 +14,6 @@ use Rattle.top_plans.specs.Plans.{plan_for}
 use Rattle.top_plans.specs.Replies.{PlainReplies}
 use Rattle.syndex_program.specs.Reads.{text_in}
 
--- a command that runs jobs is left as it is; what any other one makes is what its plan says
-abbrev pub MakesOrLeaves : {A : Type 0} → Command → Held → Held → Option (Result (Vec ℕ A) Status) → Type 0
-MakesOrLeaves command held held' None = RunsJobs command × (held' ≡ held)
-MakesOrLeaves command held held' (Some made) = ¬ RunsJobs command × Makes held held' (plan_for command) (text_in made)
-
 -- a command that runs jobs is left as it is; the plan of any other one was carried out, whatever is driven
 abbrev pub IsRunOrPlain : Command → Held → Held → Sunk → Sunk → Option Status → Type 0
 IsRunOrPlain command held held' sunk sunk' None = RunsJobs command × (held' ≡ held) × (sunk' ≡ sunk)

@@ -1,10 +1,9 @@
-//! A program that is executed on an architecture over rows, within all limits.
-ghost use Rattle.std.specs.Prelude.{◌≡◌, ◌≤◌, IfOk, Ok, length};
+//! What the commands `run`, `load` and `exec` execute: a program on an architecture over rows, within all limits.
+ghost use Rattle.std.specs.Prelude.{◌≡◌, ◌≤◌, IfOk, length};
 ghost use Rattle.accepted_laws.specs.Flat.{HasFlat};
 ghost use Rattle.algo_tree.specs.Ends.{sensor_lengths};
 ghost use Rattle.archi_graph.specs.Sequences.{sequences};
 ghost use Rattle.command_plan.specs.Run.{Makes};
-ghost use Rattle.durations.specs.Table.{durations_of};
 ghost use Rattle.executive_program.specs.WellFormed.{IsWellFormed};
 ghost use Rattle.flat_laws.specs.FlatOf.{flat_of};
 ghost use Rattle.outside.specs.Shelf.{Held, Stays};
@@ -12,12 +11,12 @@ ghost use Rattle.top_plans.specs.Given.{Given, Execution as Executed};
 ghost use Rattle.top_plans.specs.Loads.{load_algorithm, load_architecture, load_table};
 ghost use Rattle.top_plans.specs.Plans.{execution, execution_plan};
 ghost use Rattle.syndex_program.specs.Executes.{IsExecuted, files_plan, made_of, rest_plan, texts_plan};
-ghost use Rattle.syndex_program.specs.Reads.{described};
+ghost use Rattle.syndex_program.specs.Compiles.{HasDurations};
 
-use crate::algorithm::{Algorithm, algorithm_of, read_algorithm};
-use crate::architecture::{Architecture, architecture_of, read_architecture};
-use crate::program::built;
-use crate::table::{read_table, table_of};
+use crate::compile::{
+    Algorithm, Compilation, compile_to_durations, compile_to_program, parse_algorithm,
+};
+use crate::files::{parse_table, read_algorithm, read_architecture, read_table};
 use accepted_laws::accepted_have_flat;
 use algo_tree::Tree;
 use archi_defs::ArchiText;
@@ -71,9 +70,9 @@ pub fn read_execution<S: Shelf>(
 {
     accepted_have_flat();
     let algorithm = read_algorithm(alloc, shelf, algorithm)?;
-    let architecture = read_architecture(alloc, shelf, architecture, &algorithm.tree)?;
+    let compilation = read_architecture(alloc, shelf, architecture, &algorithm.tree)?;
     let rows = read_table(alloc, shelf, sensors, &algorithm.tree)?;
-    within_limits(alloc, algorithm, architecture, rows)
+    compile_execution(alloc, algorithm, compilation, rows)
 }
 
 /// What the texts of load `n` say is to be executed, or the first refusal.
@@ -87,36 +86,36 @@ pub fn load_execution(alloc: Global, n: u32) -> Result<Execution, Status>
 {
     let (algorithm, architecture, table) = load_texts(alloc, n)?;
     accepted_have_flat();
-    let algorithm = algorithm_of(alloc, &algorithm)?;
-    let architecture = architecture_of(alloc, &architecture, &algorithm.tree)?;
-    let rows = table_of(alloc, &table, &algorithm.tree)?;
-    within_limits(alloc, algorithm, architecture, rows)
+    let algorithm = parse_algorithm(alloc, &algorithm)?;
+    let compilation = compile_to_durations(alloc, &architecture, &algorithm.tree)?;
+    let rows = parse_table(alloc, &table, &algorithm.tree)?;
+    compile_execution(alloc, algorithm, compilation, rows)
 }
 
 /// The program of the schedule over these rows, or the first limit that refuses it.
-fn within_limits(
+fn compile_execution(
     alloc: Global,
     algorithm: Algorithm,
-    architecture: Architecture,
+    compilation: Compilation,
     rows: SensorRows,
 ) -> Result<Execution, Status>
-    requires flat { architecture.flat ≡ flat_of algorithm.tree }
-    requires lasts { durations_of architecture.flat (described architecture.text) ≡ Ok architecture.durations }
+    requires flat { compilation.flat ≡ flat_of algorithm.tree }
+    requires lasts { HasDurations compilation }
     requires has { HasFlat algorithm.tree }
     requires lens { rows.lens ≡ sensor_lengths algorithm.tree }
     requires few { length rows.reactions ≤ 10000 }
     ensures makes { (next : Executed → Given) (held : Held) →
-        Makes held held (rest_plan next algorithm.tree architecture.text.archi
-        architecture.durations rows) (made_of next result) }
+        Makes held held (rest_plan next algorithm.tree compilation.text.archi
+        compilation.durations rows) (made_of next result) }
     ensures executed { IfOk result IsExecuted }
 {
-    let program = built(alloc, &architecture)?;
-    let (flat, text) = architecture.into_parts();
-    limited(algorithm, flat, text, program, rows)
+    let program = compile_to_program(alloc, &compilation)?;
+    let (flat, text) = compilation.into_parts();
+    execution_of(algorithm, flat, text, program, rows)
 }
 
 /// The execution of these parts, or the first limit that refuses it.
-pub fn limited(
+pub fn execution_of(
     algorithm: Algorithm,
     flat: Flat,
     text: ArchiText,

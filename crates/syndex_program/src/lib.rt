@@ -1,4 +1,5 @@
-//! The commands from bytes to bytes, and the top call.
+//! The commands from bytes to bytes, and the top call: `syndex` carries out the command of the words, and
+//! `plain_command` only those that run no job, without a thread.
 #![tactic(auto)]
 
 ghost use Rattle.std.specs.Prelude.{◌≡◌, map, IfSome};
@@ -8,36 +9,25 @@ ghost use Rattle.command_status.specs.Status.{ending_of};
 ghost use Rattle.command_words.specs.Command.{command_of};
 ghost use Rattle.outside.specs.Shelf.{Stays};
 ghost use Rattle.top_plans.specs.Replies.{PlainReplies, Replies};
-ghost use Rattle.syndex_program.specs.Plainly.{ending_in};
+ghost use Rattle.syndex_program.specs.Plainly.{RepliesOrLeaves, ending_in};
 ghost use Rattle.syndex_program.specs.Unread.{LeavesUnread};
 
+use crate::commands::{carry_out, carry_out_plain};
 use command_status::say;
+use command_words::command_of;
 use job_windows::Drive;
 use outside::{Gate, Shelf, Sink};
 use std::alloc::Global;
 use std::sync::Wait;
 use std::thread::Threads;
-use top_plans::commands_reply;
+use top_plans::{commands_reply, plain_commands_reply};
 use word_table::Driven;
 
-mod algorithm;
-mod architecture;
-mod chart;
-mod check;
-mod code;
-mod dates;
-mod exec;
+mod commands;
+mod compile;
 mod execution;
 mod files;
-mod flat;
-mod jobs;
 mod lines;
-mod load;
-mod plain;
-mod program;
-mod run;
-mod sim;
-mod table;
 mod windows;
 
 pub use command_status::Status;
@@ -60,8 +50,8 @@ pub fn plain_command<S: Shelf, K: Sink, E: Sink>(
     ensures stays { Stays (S.held shelf.old) (S.held shelf.new) }
     ensures unread { LeavesUnread (command_of (map string_bytes words.now)) (S.held shelf.old) (S.held shelf.new) }
 {
-    match plain::status_of(alloc, words, shelf, out) {
-        Some(status) => Some(told(err, status)),
+    match plain_ending(alloc, words, shelf, out) {
+        Some(status) => Some(report(err, status)),
         None => None,
     }
 }
@@ -86,21 +76,56 @@ pub fn syndex<R: Threads + Wait + Sync, S: Shelf, K: Sink, E: Sink, G: Gate>(
     ensures stays { Stays (S.held shelf.old) (S.held shelf.new) }
     ensures unread { LeavesUnread (command_of (map string_bytes words.now)) (S.held shelf.old) (S.held shelf.new) }
 {
+    let drive = Drive { rt, gate };
+    let status = ending(alloc, words, shelf, out, &drive, driven);
+    report(err, status)
+}
+
+/// How the command of the words ended; None for one that runs jobs.
+fn plain_ending<S: Shelf, K: Sink>(
+    alloc: Global,
+    words: &[String],
+    shelf: &mut S,
+    out: &mut K,
+) -> Option<Status>
+    ensures replies { RepliesOrLeaves (command_of (map string_bytes words.now)) (S.held shelf.old)
+        (S.held shelf.new) (K.sunk out.old) (K.sunk out.new) result }
+    ensures stays { Stays (S.held shelf.old) (S.held shelf.new) }
+    ensures unread { LeavesUnread (command_of (map string_bytes words.now)) (S.held shelf.old) (S.held shelf.new) }
+{
+    plain_commands_reply();
+    match command_of(alloc, words) {
+        Ok(Some(command)) => carry_out_plain(alloc, &command, shelf, out),
+        Ok(None) => Some(Status::Usage),
+        Err(_) => Some(Status::OutOfMemory),
+    }
+}
+
+/// How the command of the words ended, whichever it is.
+fn ending<R: Threads + Wait + Sync, S: Shelf, K: Sink, G: Gate>(
+    alloc: Global,
+    words: &[String],
+    shelf: &mut S,
+    out: &mut K,
+    drive: &Drive<R, G>,
+    driven: &mut Driven,
+) -> Status
+    ensures replies { Replies (command_of (map string_bytes words.now)) (S.held shelf.old)
+        (S.held shelf.new) (K.sunk out.old) (K.sunk out.new) driven.old driven.new
+        (ending_of result) }
+    ensures stays { Stays (S.held shelf.old) (S.held shelf.new) }
+    ensures unread { LeavesUnread (command_of (map string_bytes words.now)) (S.held shelf.old) (S.held shelf.new) }
+{
     commands_reply();
-    match plain_command(alloc, words, shelf, out, err) {
-        Some(status) => status,
-        None => {
-            let drive = Drive { rt, gate };
-            told(
-                err,
-                jobs::status_of(alloc, words, shelf, out, &drive, driven),
-            )
-        }
+    match command_of(alloc, words) {
+        Ok(Some(command)) => carry_out(alloc, &command, shelf, out, drive, driven),
+        Ok(None) => Status::Usage,
+        Err(_) => Status::OutOfMemory,
     }
 }
 
 /// Writes the line of a status to the error stream.
-fn told<E: Sink>(err: &mut E, status: Status) -> Status
+fn report<E: Sink>(err: &mut E, status: Status) -> Status
     ensures same { result ≡ status }
     ensures line { Said (line_of status) (E.sunk err.old) (E.sunk err.new) }
 {

@@ -1,15 +1,18 @@
-//! The windows of an execution, each with its lines, and the loop that runs and writes them.
-ghost use Rattle.std.specs.Prelude.{◌≡◌};
+//! The lines that an execution writes, window by window, for the commands `run` and `exec`.
+ghost use Rattle.std.specs.Prelude.{◌≡◌, IfOk};
 ghost use Rattle.algo_tree.specs.Ends.{actuator_lengths};
 ghost use Rattle.command_plan.specs.Run.{Performs};
 ghost use Rattle.command_status.specs.Status.{Refusal, ending_of as status_ending};
 ghost use Rattle.phase_laws.specs.Ended.{all_acts};
 ghost use Rattle.semaphore_core.specs.Job.{actuator_lens};
 ghost use Rattle.word_rule.specs.Driven.{driven_by};
-ghost use Rattle.top_plans.specs.Given.{acts_of};
+ghost use Rattle.top_plans.specs.Given.{acts_of, window_stages};
+ghost use Rattle.syndex_program.specs.Executes.{IsExecuted, executed};
 ghost use Rattle.syndex_program.specs.Left.{stages_left};
 ghost use Rattle.syndex_program.specs.Stopped.{GoesOn, ending_of};
 
+use crate::execution::Execution;
+use crate::windows::windows_of;
 use act_text::acts_text_from;
 use algo_tree::Tree;
 use command_status::Status;
@@ -63,10 +66,26 @@ impl<'a> Lines<'a> {
     }
 }
 
+/// All windows of an execution with their lines, to be run by this many workers, or by one for each sequence.
+pub fn lines_of<'a>(
+    alloc: Global,
+    execution: &'a Execution,
+    workers: Option<u32>,
+) -> Result<Lines<'a>, OutOfMemory>
+    requires { IsExecuted execution.now }
+    ensures { IfOk result (λ lines. stages_left lines.tree.now lines.windows ≡ window_stages (executed execution.now)) }
+{
+    let windows = windows_of(alloc, execution, workers)?;
+    Ok(Lines {
+        tree: &execution.tree,
+        windows,
+    })
+}
+
 /// Runs all windows that are left in order, and appends the lines of each once it has been run. It stops at
 /// the first window whose lines could not be made or were not all written; those of the windows before
 /// that one were appended.
-pub fn write_windows<R: Threads + Wait + Sync, K: Sink, G: Gate>(
+pub fn write_lines<R: Threads + Wait + Sync, K: Sink, G: Gate>(
     alloc: Global,
     lines: &mut Lines,
     out: &mut K,
@@ -89,7 +108,7 @@ pub fn write_windows<R: Threads + Wait + Sync, K: Sink, G: Gate>(
     }
 }
 
-/// How a command ends whose windows went so.
+/// The status of a command whose lines were written or stopped so.
 pub fn status_of(answer: Result<(), Stopped>) -> Status
     ensures { status_ending result ≡ ending_of answer }
 {

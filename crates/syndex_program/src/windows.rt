@@ -1,31 +1,12 @@
-//! The windows of an execution.
-
+//! The windows in which an execution is run, for its lines and for the command `load`.
 ghost use Rattle.std.specs.Prelude.{◌≡◌, ◌≤◌, IfOk};
-ghost use Rattle.top_plans.specs.Given.{one_job, window_stages};
+ghost use Rattle.top_plans.specs.Given.{one_job};
 ghost use Rattle.syndex_program.specs.Executes.{IsExecuted, executed};
-ghost use Rattle.syndex_program.specs.Left.{stages_left};
 
 use crate::execution::Execution;
-use crate::lines::Lines;
 use job_windows::JobWindows;
 use std::alloc::Global;
 use syn_base::OutOfMemory;
-
-/// All windows of an execution with their lines, to be run by this many workers, or by one for each sequence.
-pub fn lines_of<'a>(
-    alloc: Global,
-    execution: &'a Execution,
-    workers: Option<u32>,
-) -> Result<Lines<'a>, OutOfMemory>
-    requires { IsExecuted execution.now }
-    ensures { IfOk result (λ lines. stages_left lines.tree.now lines.windows ≡ window_stages (executed execution.now)) }
-{
-    let windows = windows_of(alloc, execution, workers)?;
-    Ok(Lines {
-        tree: &execution.tree,
-        windows,
-    })
-}
 
 /// All windows of an execution, to be run by this many workers, or by one for each sequence.
 pub fn windows_of<'a>(

@@ -1,5 +1,22 @@
 -- What makes the call of an operation right, as tests.
-use Rattle.std.specs.Prelude.{ℕ, ◌+◌, Bool, true, false, ◌&&◌, nat_eq, nat_lt, List, length, drop, Option, Some, None, is_none, slice_get}
+use Rattle.std.specs.Prelude.{
+  ℕ,
+  ◌+◌,
+  Bool,
+  true,
+  false,
+  ◌&&◌,
+  nat_eq,
+  nat_lt,
+  List,
+  length,
+  drop,
+  Option,
+  Some,
+  None,
+  is_none,
+  slice_get,
+}
 use Rattle.std.specs.List.{position_or_len}
 use Rattle.flat_graph.specs.declared.vertex.Guard.{Guard}
 use Rattle.flat_graph.specs.declared.vertex.Kind.{Kind}
@@ -28,7 +45,8 @@ module _ (p : Program) where
   -- the buffer carries output k of operation v, whose length is n
   abbrev pub gives_at : ℕ → ℕ → ℕ → Option ℕ → Bool
   gives_at v k n None = false
-  gives_at v k n (Some b) = same_source (carried p b) (record { vertex = v; port = k }) && has_len (slice_get p.buffers b) n
+  gives_at v k n (Some b) =
+      same_source (carried p b) (record { vertex = v; port = k }) && has_len (slice_get p.buffers b) n
 
   abbrev pub gives : ℕ → List ℕ → List ℕ → Bool
   gives v outs lens = nat_eq (length outs) (length lens) && all_at (λ k n. gives_at v k n (slice_get outs k)) 0 lens
@@ -45,7 +63,9 @@ module _ (p : Program) (vertices : List Vertex) where
   -- the buffer carries this source, in its length
   abbrev pub carries : Source → Option ℕ → Bool
   carries x None = false
-  carries x (Some b) = nat_lt b (length p.buffers) && same_source (carried p b) x && has_output (slice_get vertices x.vertex) x.port (len_of p b)
+  carries x (Some b) =
+      nat_lt b (length p.buffers) && same_source (carried p b) x &&
+      has_output (slice_get vertices x.vertex) x.port (len_of p b)
 
   abbrev pub carry_guards : List ℕ → List Guard → Bool
   carry_guards ins guards = all_at (λ k d. carries d.source (slice_get ins k)) 0 guards
@@ -55,11 +75,14 @@ module _ (p : Program) (vertices : List Vertex) where
 
   -- the buffers carry the guards' sources and then the inputs
   abbrev pub takes : List ℕ → List Guard → List Source → Bool
-  takes ins guards sources = nat_eq (length ins) (length guards + length sources) && carry_guards ins guards && carry_inputs (drop (length guards) ins) sources
+  takes ins guards sources =
+      nat_eq (length ins) (length guards + length sources) && carry_guards ins guards &&
+      carry_inputs (drop (length guards) ins) sources
 
   abbrev pub is_called_at : ℕ → Vertex → ℕ → ℕ → Bool
   is_called_at v x s a =
-      is_only p (calls v) s a && is_none (medium p s) && takes (ins_in (slice_get (turn p s) a)) x.guards x.ins && gives p v (outs_in (slice_get (turn p s) a)) x.outs && is_before_twin p s a x.kind x.twin
+      is_only p (calls v) s a && is_none (medium p s) && takes (ins_in (slice_get (turn p s) a)) x.guards x.ins &&
+      gives p v (outs_in (slice_get (turn p s) a)) x.outs && is_before_twin p s a x.kind x.twin
 
   abbrev pub is_called : ℕ → Vertex → Bool
   is_called v x = is_called_at v x (caller_of p v) (called_at p v)

@@ -50,7 +50,8 @@ module _ (p : Program) where
 
   -- the received buffer carries what the sent one does
   abbrev pub is_kept : ℕ → ℕ → Bool
-  is_kept m t = same_source (carried p (buffer_at p (receiver_of p m t) t)) (carried p (buffer_at p (sender_of p m t) t))
+  is_kept m t =
+      same_source (carried p (buffer_at p (receiver_of p m t) t)) (carried p (buffer_at p (sender_of p m t) t))
 
   abbrev pub are_kept : ℕ → Bool
   are_kept media = all_below (λ m. all_below (λ t. is_kept m t) (transfers p m)) media

@@ -59,18 +59,25 @@ module _ (p : Program) where
 
     -- instruction a of the loop of s waits for the transfer, if it is there
     abbrev pub waits_at : ℕ → ℕ → ℕ → ℕ → List Instr → ℕ → Bool
-    waits_at t sender receiver s list a = is_wait (operator p sender) (operator p receiver) (is_later t receiver s a) (slice_get list a)
+    waits_at t sender receiver s list a =
+        is_wait (operator p sender) (operator p receiver) (is_later t receiver s a) (slice_get list a)
 
     -- communication t of another communicator of the medium waits for the transfer
     abbrev pub waits : ℕ → ℕ → ℕ → ℕ → ℕ → SeqCode → Bool
-    waits m t sender receiver s q = implies (is_other m sender receiver s q.seq.medium) (waits_at t sender receiver s q.turn (communication_at q.turn t))
+    waits m t sender receiver s q =
+        implies (is_other m sender receiver s q.seq.medium)
+        (waits_at t sender receiver s q.turn (communication_at q.turn t))
 
     -- the receive stands before the next send
     abbrev pub is_before_next : ℕ → ℕ → ℕ → Bool
-    is_before_next m t receiver = implies (nat_lt (t + 1) (transfers p m)) (nat_lt (place_of receiver t) (place_of (sender_of m (t + 1)) (t + 1)))
+    is_before_next m t receiver =
+        implies (nat_lt (t + 1) (transfers p m)) (nat_lt (place_of receiver t) (place_of (sender_of m (t + 1)) (t + 1)))
 
     abbrev pub is_transfer_between : ℕ → ℕ → ℕ → ℕ → Bool
-    is_transfer_between m t s r = is_sent m t s r && is_received m t s r && all_at (waits m t s r) 0 p.seqs && nat_lt (place_of s t) (place_of r t) && is_before_next m t r && nat_eq (len_of p (buffer_at r t)) (len_of p (buffer_at s t))
+    is_transfer_between m t s r =
+        is_sent m t s r && is_received m t s r && all_at (waits m t s r) 0 p.seqs &&
+        nat_lt (place_of s t) (place_of r t) && is_before_next m t r &&
+        nat_eq (len_of p (buffer_at r t)) (len_of p (buffer_at s t))
 
     abbrev pub is_transfer : ℕ → ℕ → Bool
     is_transfer m t = is_transfer_between m t (sender_of m t) (receiver_of m t)

@@ -1,4 +1,4 @@
-//! Each operation is called once, on what carries its inputs, into what carries its outputs.
+//! The check of calls: each operation is called once, on what carries its inputs, into what carries its outputs.
 ghost use Rattle.std.specs.Prelude.{◌≡◌, ◌+◌, ◌≤◌, ◌&&◌, Some, drop, length, nat_eq, nat_lt, slice_get};
 ghost use Rattle.executive_program.specs.Instructions.{turn};
 ghost use Rattle.executive_program.specs.Places.{caller_of, carried, ins_in, outs_in};
@@ -23,6 +23,7 @@ pub fn has_output(vertices: &[Vertex], source: Source, len: u32) -> bool
     }
 }
 
+/// Whether the source that a buffer carries is this one.
 fn is_source(program: &Program, buffer: u32, source: Source) -> bool
     ensures { result ≡ same_source (carried program.now buffer) source }
 {
@@ -30,6 +31,7 @@ fn is_source(program: &Program, buffer: u32, source: Source) -> bool
     carried.vertex == source.vertex && carried.port == source.port as usize
 }
 
+/// Whether a buffer is there and carries a source, in its length.
 fn is_carried(program: &Program, vertices: &[Vertex], source: Source, buffer: u32) -> bool
     ensures { result ≡ carries program.now vertices.now source (Some buffer) }
 {
@@ -38,6 +40,7 @@ fn is_carried(program: &Program, vertices: &[Vertex], source: Source, buffer: u3
         && has_output(vertices, source, len_of(program, buffer as usize))
 }
 
+/// Whether the buffer at a place of a list carries a source; false where the list ends before.
 fn carries(program: &Program, vertices: &[Vertex], source: &Source, list: &[u32], at: usize) -> bool
     ensures { result ≡ carries program.now vertices.now source.now (slice_get list.now at) }
 {
@@ -47,6 +50,7 @@ fn carries(program: &Program, vertices: &[Vertex], source: &Source, list: &[u32]
     }
 }
 
+/// Whether the first of these buffers carry the sources of the guards, in order.
 fn carry_guards(program: &Program, vertices: &[Vertex], ins: &[u32], guards: &[Guard]) -> bool
     ensures { result ≡ carry_guards program.now vertices.now ins.now guards.now }
 {
@@ -58,6 +62,7 @@ fn carry_guards(program: &Program, vertices: &[Vertex], ins: &[u32], guards: &[G
     true
 }
 
+/// Whether the first of these buffers carry these sources, in order.
 fn carry_inputs(program: &Program, vertices: &[Vertex], ins: &[u32], sources: &[Source]) -> bool
     ensures { result ≡ carry_inputs program.now vertices.now ins.now sources.now }
 {
@@ -69,12 +74,14 @@ fn carry_inputs(program: &Program, vertices: &[Vertex], ins: &[u32], sources: &[
     true
 }
 
+/// Whether there are as many buffers as guards and sources together.
 fn has_as_many(ins: &[u32], guards: &[Guard], sources: &[Source]) -> bool
     ensures { result ≡ nat_eq (length ins.now) (length guards.now + length sources.now) }
 {
     ins.len() as u128 == guards.len() as u128 + sources.len() as u128
 }
 
+/// Whether the buffers after those of the guards carry the inputs of an operation.
 fn carry_after(program: &Program, vertices: &[Vertex], ins: &[u32], x: &Vertex) -> bool
     requires { length x.now.guards ≤ length ins.now }
     ensures { result ≡ carry_inputs program.now vertices.now (drop (length x.now.guards) ins.now) x.now.ins }
@@ -83,6 +90,7 @@ fn carry_after(program: &Program, vertices: &[Vertex], ins: &[u32], x: &Vertex) 
     carry_inputs(program, vertices, &ins[first..], x.ins.as_slice())
 }
 
+/// Whether these buffers carry what an operation takes: the sources of its guards, then its inputs, and no more.
 fn takes(program: &Program, vertices: &[Vertex], ins: &[u32], x: &Vertex) -> bool
     ensures { result ≡ takes program.now vertices.now ins.now x.now.guards x.now.ins }
 {
@@ -101,6 +109,7 @@ pub fn has_len(program: &Program, buffer: u32, len: u32) -> bool
     }
 }
 
+/// Whether a buffer carries this output of an operation.
 fn is_output(program: &Program, operation: usize, port: usize, buffer: u32) -> bool
     ensures { result ≡ same_source (carried program.now buffer) (record { vertex = operation; port = port }) }
 {
@@ -108,6 +117,7 @@ fn is_output(program: &Program, operation: usize, port: usize, buffer: u32) -> b
     carried.vertex as usize == operation && carried.port == port
 }
 
+/// Whether the buffer of an output carries it and has its length; false where there is none.
 fn gives_at(program: &Program, operation: usize, port: usize, len: u32, outs: &[u32]) -> bool
     ensures { result ≡ gives_at program.now operation port len (slice_get outs.now port) }
 {
@@ -119,6 +129,7 @@ fn gives_at(program: &Program, operation: usize, port: usize, len: u32, outs: &[
     }
 }
 
+/// Whether the first of these buffers carry the outputs of an operation, whose lengths are given.
 fn give_all(program: &Program, operation: usize, outs: &[u32], lens: &[u32]) -> bool
     ensures { result ≡ all_at (λ k n. gives_at program.now operation k n (slice_get outs.now k)) 0 lens.now }
 {
@@ -130,6 +141,7 @@ fn give_all(program: &Program, operation: usize, outs: &[u32], lens: &[u32]) -> 
     true
 }
 
+/// Whether these buffers carry the outputs of an operation, and no more.
 fn gives(program: &Program, operation: usize, outs: &[u32], lens: &[u32]) -> bool
     ensures { result ≡ gives program.now operation outs.now lens.now }
 {
@@ -143,6 +155,7 @@ fn called_at(program: &Program, operation: usize) -> usize
     first_call(turn_of(program, caller_of(program, operation)), operation)
 }
 
+/// Whether a place stands before the call of the other half of a delay, in the same sequence.
 fn is_before(program: &Program, stand: Stand, twin: usize) -> bool
     ensures { result ≡ (nat_eq stand.sequence (caller_of program.now twin) &&
         nat_lt stand.at (called_at program.now twin)) }
@@ -150,6 +163,7 @@ fn is_before(program: &Program, stand: Stand, twin: usize) -> bool
     stand.sequence == caller_of(program, twin) && stand.at < called_at(program, twin)
 }
 
+/// Whether a call, if it is that of the get half of a delay, stands before that of its set half in the same sequence.
 fn is_before_twin(program: &Program, stand: Stand, kind: &Kind, twin: Option<u32>) -> bool
     ensures { result ≡ is_before_twin program.now stand.sequence stand.at kind.now twin }
 {
@@ -182,6 +196,7 @@ pub fn outs_of(list: &[Instr], at: usize) -> &[u32]
     }
 }
 
+/// Whether the call at a place takes what an operation asks for.
 fn takes_at(program: &Program, vertices: &[Vertex], stand: Stand, x: &Vertex) -> bool
     ensures { result ≡ takes program.now vertices.now
         (ins_in (slice_get (turn program.now stand.sequence) stand.at)) x.now.guards x.now.ins }
@@ -194,6 +209,7 @@ fn takes_at(program: &Program, vertices: &[Vertex], stand: Stand, x: &Vertex) ->
     )
 }
 
+/// Whether the call at a place gives the outputs of an operation.
 fn gives_from(program: &Program, operation: usize, stand: Stand, x: &Vertex) -> bool
     ensures { result ≡ gives program.now operation
         (outs_in (slice_get (turn program.now stand.sequence) stand.at)) x.now.outs }
@@ -206,6 +222,8 @@ fn gives_from(program: &Program, operation: usize, stand: Stand, x: &Vertex) -> 
     )
 }
 
+/// Whether an operation is called there and nowhere else, in a computation sequence, and takes and gives what it is
+/// to, a get half before its set half.
 fn is_called_at(
     program: &Program,
     vertices: &[Vertex],
@@ -222,6 +240,7 @@ fn is_called_at(
         && is_before_twin(program, stand, &x.kind, x.twin)
 }
 
+/// Whether an operation is called once and in the right way.
 fn is_called(program: &Program, vertices: &[Vertex], operation: usize, x: &Vertex) -> bool
     ensures { result ≡ is_called program.now vertices.now operation x.now }
 {

@@ -1,4 +1,4 @@
-//! What buffers carry: an output of an operation, over any number of transfers.
+//! The source that a buffer carries: an output of an operation, over any number of transfers.
 ghost use Rattle.std.specs.Prelude.{◌≡◌, count_by, slice_get, take};
 ghost use Rattle.executive_program.specs.Instructions.{communications, is_communication, medium, turn};
 ghost use Rattle.executive_program.specs.MicroSteps.{sent, sent_in, transfers};
@@ -46,6 +46,7 @@ fn sent_in(list: &[Instr], number: usize) -> Option<u32>
     None
 }
 
+/// The buffer that an instruction sends, if it is a send.
 fn sent_by(instr: &Instr) -> Option<u32>
     ensures { result ≡ sent_by_one instr.now }
 {
@@ -70,6 +71,7 @@ fn sent(program: &Program, medium: usize, number: usize) -> Option<u32>
     None
 }
 
+/// The buffer that a transfer sends, none where there is no medium.
 fn sent_on(program: &Program, medium: Option<u32>, number: usize) -> Option<u32>
     ensures { result ≡ sent_on program.now medium number }
 {
@@ -79,6 +81,7 @@ fn sent_on(program: &Program, medium: Option<u32>, number: usize) -> Option<u32>
     }
 }
 
+/// The origin of a buffer that receives what is sent.
 fn received(sent: Option<u32>) -> Origin
     ensures { result ≡ received sent }
 {
@@ -88,6 +91,7 @@ fn received(sent: Option<u32>) -> Origin
     }
 }
 
+/// How many of the instructions before a place are communications.
 fn count_before(list: &[Instr], at: usize) -> usize
     ensures { result ≡ count_by is_communication (take at list.now) }
 {
@@ -97,12 +101,14 @@ fn count_before(list: &[Instr], at: usize) -> usize
         .count()
 }
 
+/// The number of the communication at a place of a sequence.
 fn communications(program: &Program, sequence: usize, at: usize) -> usize
     ensures { result ≡ communications program.now sequence at }
 {
     count_before(turn_of(program, sequence), at)
 }
 
+/// The origin of what the receive at a place of a sequence writes.
 fn received_at(program: &Program, sequence: usize, at: usize) -> Origin
     ensures { result ≡ received (sent_on program.now (medium program.now sequence)
         (communications program.now sequence at)) }
@@ -114,6 +120,7 @@ fn received_at(program: &Program, sequence: usize, at: usize) -> Origin
     ))
 }
 
+/// The origin of what the instruction at a place writes as output `port`.
 fn origin_of(program: &Program, sequence: usize, at: usize, port: usize) -> Origin
     ensures { result ≡ origin_of program.now sequence at port (slice_get (turn program.now sequence) at) }
 {
@@ -127,6 +134,7 @@ fn origin_of(program: &Program, sequence: usize, at: usize, port: usize) -> Orig
     }
 }
 
+/// The origin of what a buffer holds, where the instruction at a place writes it.
 fn origin_at(program: &Program, buffer: usize, sequence: usize, at: usize) -> Origin
     ensures { result ≡ origin_at program.now buffer sequence at }
 {
@@ -134,6 +142,7 @@ fn origin_at(program: &Program, buffer: usize, sequence: usize, at: usize) -> Or
     origin_of(program, sequence, at, port)
 }
 
+/// The origin of what a buffer holds.
 fn comes_from(program: &Program, buffer: usize) -> Origin
     ensures { result ≡ origin program.now buffer }
 {
@@ -161,6 +170,7 @@ pub fn carried_by(program: &Program, buffer: usize) -> Carried
     Carried { vertex: 0, port: 0 }
 }
 
+/// Whether two buffers carry the same source.
 fn is_same(program: &Program, one: usize, other: usize) -> bool
     ensures { result ≡ same_source (carried program.now one) (carried program.now other) }
 {
@@ -169,6 +179,7 @@ fn is_same(program: &Program, one: usize, other: usize) -> bool
     one.vertex == other.vertex && one.port == other.port
 }
 
+/// Whether the received buffer of a transfer carries what the sent one does.
 fn is_kept(program: &Program, crossing: Crossing) -> bool
     ensures { result ≡ is_kept program.now crossing.medium crossing.number }
 {
@@ -177,6 +188,7 @@ fn is_kept(program: &Program, crossing: Crossing) -> bool
     is_same(program, received, sent)
 }
 
+/// Whether this holds of each transfer of a medium.
 fn are_kept_on(program: &Program, medium: usize) -> bool
     ensures { result ≡ all_below (λ t. is_kept program.now medium t) (transfers program.now medium) }
 {

@@ -1,4 +1,4 @@
-//! What a well-formed program asks of calls and transfers, as exact checks.
+//! The checks with what they say of a well-formed program, which callers of the crate ask for.
 ghost use Rattle.std.specs.Prelude.{◌≡◌, ℕ, ◌<◌, Some, slice_get, true};
 ghost use Rattle.executive_program.specs.MicroSteps.{transfers};
 ghost use Rattle.executive_program.specs.Places.{carried, places, transfer};

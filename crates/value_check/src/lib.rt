@@ -1,7 +1,8 @@
-//! Exact checks of the values of a program, each a part of what makes the program well formed by a serial order:
-//! each operation is called once on what carries its sources (`operations_are_called`), each transfer has its
-//! send, its receive and its waits in order (`transfers_are_right`), and receives what is sent
-//! (`transfers_keep_sources`). None takes memory. `order_check` asks them.
+//! Exact checks of the calls and transfers of a program, and of the values that they move, without memory.
+//!
+//! Each is a part of what makes the program well formed by a serial order: each operation is called once on what
+//! carries its sources (`operations_are_called`), each transfer has its send, its receive and its waits in order
+//! (`transfers_are_right`), and receives what is sent (`transfers_keep_sources`). `order_check` asks them.
 #![tactic(auto)]
 
 mod calling;

@@ -1,4 +1,4 @@
-//! Each transfer has its send, its receive, and the waits of the other communicators, in this order.
+//! The check of transfers: each has its send, its receive, and the waits of the other communicators, in this order.
 ghost use Rattle.std.specs.Prelude.{◌≡◌, ◌+◌, ◌&&◌, nat_eq, nat_lt, slice_get};
 ghost use Rattle.executive_program.specs.Instructions.{len_of, medium, operator, turn};
 ghost use Rattle.executive_program.specs.MicroSteps.{is_on, transfers};
@@ -26,18 +26,21 @@ struct Ends {
     receiver: usize,
 }
 
+/// Whether a send stands at a place.
 fn is_send(list: &[Instr], at: usize) -> bool
     ensures { result ≡ is_send (slice_get list.now at) }
 {
     matches!(list.get(at), Some(Instr::Send { .. }))
 }
 
+/// Whether a receive stands at a place.
 fn is_receive(list: &[Instr], at: usize) -> bool
     ensures { result ≡ is_receive (slice_get list.now at) }
 {
     matches!(list.get(at), Some(Instr::Recv { .. }))
 }
 
+/// Whether a sequence sends in a transfer.
 fn sends_at(program: &Program, crossing: Crossing, code: &SeqCode) -> bool
     ensures { result ≡ sends_at program.now crossing.medium crossing.number code.now }
 {
@@ -46,6 +49,7 @@ fn sends_at(program: &Program, crossing: Crossing, code: &SeqCode) -> bool
         && is_send(turn, communication_at(turn, crossing.number))
 }
 
+/// Whether a sequence receives in a transfer.
 fn receives_at(program: &Program, crossing: Crossing, code: &SeqCode) -> bool
     ensures { result ≡ receives_at program.now crossing.medium crossing.number code.now }
 {
@@ -80,6 +84,7 @@ pub fn receiver_of(program: &Program, crossing: Crossing) -> usize
     seqs.len()
 }
 
+/// The buffer of the send or the receive at a place, 0 where there is none.
 fn buffer_in(list: &[Instr], at: usize) -> u32
     ensures { result ≡ buffer_in (slice_get list.now at) }
 {
@@ -130,6 +135,7 @@ pub fn is_wait(list: &[Instr], at: usize, sender: u32, receiver: u32, holds: boo
     }
 }
 
+/// The place in the order of a communication of a sequence.
 fn place_of(program: &Program, order: &[u32], sequence: usize, number: usize) -> usize
     ensures { result ≡ place_of program.now order.now sequence number }
 {
@@ -140,12 +146,15 @@ fn place_of(program: &Program, order: &[u32], sequence: usize, number: usize) ->
     )
 }
 
+/// Whether an instruction stands after the receive of a transfer, in the order.
 fn is_later(program: &Program, order: &[u32], number: usize, receiver: usize, stand: Stand) -> bool
     ensures { result ≡ is_later program.now order.now number receiver stand.sequence stand.at }
 {
     place_of(program, order, receiver, number) < place_in(order, stand.sequence, stand.at)
 }
 
+/// Whether a wait for a transfer between the operators of its ends stands at a place, and this holds; true where the
+/// list ends before.
 fn waits_for_ends(program: &Program, ends: Ends, list: &[Instr], at: usize, holds: bool) -> bool
     ensures { result ≡ is_wait (operator program.now ends.sender)
         (operator program.now ends.receiver) holds (slice_get list.now at) }
@@ -159,6 +168,7 @@ fn waits_for_ends(program: &Program, ends: Ends, list: &[Instr], at: usize, hold
     )
 }
 
+/// Whether the instruction at a place, if there is one, waits for a transfer, after its receive.
 fn waits_at(
     program: &Program,
     order: &[u32],
@@ -174,6 +184,7 @@ fn waits_at(
     waits_for_ends(program, ends, list, stand.at, later)
 }
 
+/// Whether the communication of a transfer's number, if there is one, waits for the transfer, after its receive.
 fn waits_in(
     program: &Program,
     order: &[u32],
@@ -189,12 +200,14 @@ fn waits_in(
     waits_at(program, order, number, ends, list, Stand { sequence, at })
 }
 
+/// Whether a sequence is a communicator of the medium and no end of the transfer.
 fn is_other(medium: usize, ends: Ends, sequence: usize, found: Option<u32>) -> bool
     ensures { result ≡ is_other medium ends.sender ends.receiver sequence found }
 {
     is_on(medium, found) && sequence != ends.sender && sequence != ends.receiver
 }
 
+/// Whether a sequence waits for a transfer, if it is to.
 fn waits(
     program: &Program,
     order: &[u32],
@@ -217,6 +230,7 @@ fn waits(
         )
 }
 
+/// Whether all other communicators of the medium wait for a transfer.
 fn all_wait(program: &Program, order: &[u32], crossing: Crossing, ends: Ends) -> bool
     ensures { result ≡ all_at (waits program.now order.now crossing.medium crossing.number
         ends.sender ends.receiver) 0 program.now.seqs }
@@ -229,6 +243,7 @@ fn all_wait(program: &Program, order: &[u32], crossing: Crossing, ends: Ends) ->
     true
 }
 
+/// Whether a transfer has its send: in a communicator of its medium, to the operator that receives.
 fn is_sent(program: &Program, crossing: Crossing, ends: Ends) -> bool
     ensures { result ≡ is_sent program.now crossing.medium crossing.number ends.sender ends.receiver }
 {
@@ -241,6 +256,7 @@ fn is_sent(program: &Program, crossing: Crossing, ends: Ends) -> bool
         )
 }
 
+/// Whether a communication of a sequence is a send to an operator.
 fn is_sent_to(program: &Program, number: usize, sender: usize, operator: u32) -> bool
     ensures { result ≡ is_send_to operator (slice_get (turn program.now sender) (stands_at program.now sender number)) }
 {
@@ -248,6 +264,7 @@ fn is_sent_to(program: &Program, number: usize, sender: usize, operator: u32) ->
     is_send_to(turn, communication_at(turn, number), operator)
 }
 
+/// Whether a transfer has its receive: in a communicator of its medium, from the operator that sends.
 fn is_received(program: &Program, crossing: Crossing, ends: Ends) -> bool
     ensures { result ≡ is_received program.now crossing.medium crossing.number ends.sender ends.receiver }
 {
@@ -260,6 +277,7 @@ fn is_received(program: &Program, crossing: Crossing, ends: Ends) -> bool
         )
 }
 
+/// Whether a communication of a sequence is a receive from an operator.
 fn is_got_from(program: &Program, number: usize, receiver: usize, operator: u32) -> bool
     ensures { result ≡ is_receive_from operator
         (slice_get (turn program.now receiver) (stands_at program.now receiver number)) }
@@ -268,6 +286,7 @@ fn is_got_from(program: &Program, number: usize, receiver: usize, operator: u32)
     is_receive_from(turn, communication_at(turn, number), operator)
 }
 
+/// Whether the send of a transfer stands before its receive, in the order.
 fn is_in_order(program: &Program, order: &[u32], number: usize, ends: Ends) -> bool
     ensures { result ≡ nat_lt (place_of program.now order.now ends.sender number)
         (place_of program.now order.now ends.receiver number) }
@@ -275,6 +294,7 @@ fn is_in_order(program: &Program, order: &[u32], number: usize, ends: Ends) -> b
     place_of(program, order, ends.sender, number) < place_of(program, order, ends.receiver, number)
 }
 
+/// Whether a place of the order is before the send of a transfer.
 fn is_before(program: &Program, order: &[u32], next: Crossing, received: usize) -> bool
     ensures { result ≡ nat_lt received (place_of program.now order.now
         (sender_of program.now next.medium next.number) next.number) }
@@ -282,6 +302,7 @@ fn is_before(program: &Program, order: &[u32], next: Crossing, received: usize) 
     received < place_of(program, order, sender_of(program, next), next.number)
 }
 
+/// Whether the receive of a transfer stands before the next send of the medium, in the order.
 fn is_before_next(program: &Program, order: &[u32], crossing: Crossing, receiver: usize) -> bool
     ensures { result ≡ is_before_next program.now order.now crossing.medium crossing.number receiver }
 {
@@ -302,6 +323,7 @@ fn is_before_next(program: &Program, order: &[u32], crossing: Crossing, receiver
         )
 }
 
+/// Whether the buffer that is received is as long as the one that is sent.
 fn is_as_long(program: &Program, number: usize, ends: Ends) -> bool
     ensures { result ≡ nat_eq (len_of program.now (buffer_at program.now ends.receiver number))
         (len_of program.now (buffer_at program.now ends.sender number)) }
@@ -311,6 +333,7 @@ fn is_as_long(program: &Program, number: usize, ends: Ends) -> bool
     len_of(program, received) == len_of(program, sent)
 }
 
+/// Whether a transfer is right between two sequences.
 fn is_transfer_between(program: &Program, order: &[u32], crossing: Crossing, ends: Ends) -> bool
     ensures { result ≡ is_transfer_between program.now order.now crossing.medium crossing.number
         ends.sender ends.receiver }
@@ -323,6 +346,7 @@ fn is_transfer_between(program: &Program, order: &[u32], crossing: Crossing, end
         && is_as_long(program, crossing.number, ends)
 }
 
+/// Whether a transfer is right.
 fn is_transfer(program: &Program, order: &[u32], crossing: Crossing) -> bool
     ensures { result ≡ is_transfer program.now order.now crossing.medium crossing.number }
 {
@@ -331,6 +355,7 @@ fn is_transfer(program: &Program, order: &[u32], crossing: Crossing) -> bool
     is_transfer_between(program, order, crossing, Ends { sender, receiver })
 }
 
+/// Whether the transfers of a medium are right.
 fn are_transfers_on(program: &Program, order: &[u32], medium: usize) -> bool
     ensures { result ≡ all_below (λ t. is_transfer program.now order.now medium t) (transfers program.now medium) }
 {

@@ -5,7 +5,8 @@ use Rattle.semaphore_core.specs.Told.{told}
 use Rattle.phase_laws.specs.Ended.{full_counts}
 use Rattle.word_rule.specs.Words.{words_of}
 
--- the micro-steps made on all of them, up to the last value of the number, and the counts and the words of the one that was closed last
+-- the micro-steps made on all of them, up to the last value of the number,
+-- and the counts and the words of the one that was closed last
 pub record Driven : Type 0 where
   pub number : ℕ
   pub counts : List ℕ
@@ -21,7 +22,11 @@ last_number = 18446744073709551615
 
 -- after a table of the job was closed at these counts
 abbrev pub closed : JobData → List ℕ → Driven → Driven
-closed j counts d = record { number = min (d.number + sum counts) last_number; counts = counts; words = words_of (told j counts) }
+closed j counts d = record {
+  number = min (d.number + sum counts) last_number;
+  counts = counts;
+  words = words_of (told j counts);
+}
 
 -- after the job was run to its end
 abbrev pub driven_by : JobData → Driven → Driven

@@ -1,9 +1,37 @@
 -- What the steps on a table need of a job: the laws of its runs, and where its micro-steps stand.
-use Rattle.std.specs.Prelude.{◌≡◌, ℕ, ◌+◌, ◌*◌, ◌<◌, ◌≤◌, ◌^◌, Bool, true, nat_eq, nat_le, List, map, length, Some, slice_get, slice_index_or, ℤ}
+use Rattle.std.specs.Prelude.{
+  ◌≡◌,
+  ℕ,
+  ◌+◌,
+  ◌*◌,
+  ◌<◌,
+  ◌≤◌,
+  ◌^◌,
+  Bool,
+  true,
+  nat_eq,
+  nat_le,
+  List,
+  map,
+  length,
+  Some,
+  slice_get,
+  slice_index_or,
+  ℤ,
+}
 use Rattle.consistent_cuts.specs.Sites.{step_at, reaction_at}
 use Rattle.executive_program.specs.declared.steps.Place.{Place}
 use Rattle.executive_program.specs.declared.steps.MicroStep.{MicroStep}
-use Rattle.executive_program.specs.declared.steps.MicroStep.TheVariants.{Take, See, Lower, Signal, Await, Advance, Load, Store}
+use Rattle.executive_program.specs.declared.steps.MicroStep.TheVariants.{
+  Take,
+  See,
+  Lower,
+  Signal,
+  Await,
+  Advance,
+  Load,
+  Store,
+}
 use Rattle.semaphore_core.specs.Job.{JobData, system}
 use Rattle.executive_program.specs.declared.steps.OnLoad.{OnLoad}
 use Rattle.executive_program.specs.declared.steps.OnStore.{OnStore}
@@ -42,7 +70,8 @@ module _ (j : JobData) where
 
   -- what a micro-step names is there
   abbrev pub IsHere : Place → Type 0
-  IsHere x = (k : ℕ) → (home_of j.program x < length (element_lens j)) × (slot_of j.program x k < slice_index_or (element_lens j) (home_of j.program x) 0)
+  IsHere x = (k : ℕ) → (home_of j.program x < length (element_lens j)) ×
+      (slot_of j.program x k < slice_index_or (element_lens j) (home_of j.program x) 0)
 
   abbrev pub IsThere : MicroStep → Type 0
   IsThere (Take x) = x < 2 * length j.program.pairs
@@ -67,7 +96,8 @@ module _ (j : JobData) where
     pub room : (list : List ℕ) → HasRoom (run j list)
     pub there : (s n : ℕ) (m : MicroStep) → step_at (steps j.program s) n ≡ Some m → IsThere m
 
--- Whether the word that micro-step m of reaction k touches enables it where it is n: a take, a see and a wait look at it.
+-- Whether the word that micro-step m of reaction k touches enables
+-- it where it is n: a take, a see and a wait look at it.
 abbrev pub enables : ℕ → MicroStep → ℕ → Bool
 enables k (Take x) n = nat_eq n 1
 enables k (See x) n = nat_le 1 n
@@ -111,8 +141,9 @@ pub record StandsAt (j : JobData) (v : View) (s r : ℕ) (m : MicroStep) : Type 
 -- The value that a store of s stores in reaction r, whatever counts of the other sequences the view agrees with.
 abbrev pub Stores : View → ℕ → ℕ → MicroStep → ℤ → Type 0
 Stores Spent s r m value = ⊥
-Stores (Holds k) s r m value = (x : Place) × (what : OnStore) × (m ≡ Store x what)
-    × ((counts : List ℕ) → Agree k counts → emit_by k.job.graph k.job.sensors what r (own k.job (told k.job counts) s) ≡ value)
+Stores (Holds k) s r m value = (x : Place) × (what : OnStore) × (m ≡ Store x what) ×
+    ((counts : List ℕ) → Agree k counts →
+    emit_by k.job.graph k.job.sensors what r (own k.job (told k.job counts) s) ≡ value)
 
 -- every job on a valid graph runs on words
 abbrev pub JobsRunOnWords : Type 0

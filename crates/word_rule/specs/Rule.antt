@@ -1,4 +1,5 @@
--- The rule on the table: the counts of all views together are reached, and every word is the one that these counts tell.
+-- The rule on the table: the counts of all views together are
+-- reached, and every word is the one that these counts tell.
 use Rattle.std.specs.Prelude.{◌≡◌, ℕ, ◌<◌, Bool, cond, List, length, Some, slice_index_or}
 use mathlib.Core.Option.{some}
 use lib.ListN.{get_elem?}
@@ -69,7 +70,8 @@ Raises s z me found new = (new ≡ (after (λ k. stepped k s) me.0, me.1)) × In
 abbrev pub Loads : ℕ → Step (Unit {0}) → Me (Unit {0}) View → ℕ → Me (Unit {0}) View → Type 0
 Loads s z me found new = (new ≡ (after (λ k. stepped k s) me.0, me.1)) × FindsBy me.0 z.word found
 
--- A look at a word, which lets s go on where `enables` holds of what was found: the look is recorded, and there the count of s rose.
+-- A look at a word, which lets s go on where `enables` holds of what was
+-- found: the look is recorded, and there the count of s rose.
 abbrev pub look_of : ℕ → (ℕ → Bool) → ℕ → ℕ → Knowledge → Knowledge
 look_of s enables word found k = looked (cond (enables found) (stepped k s) k) word found
 

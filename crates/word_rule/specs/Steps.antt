@@ -9,7 +9,8 @@ use Rattle.word_rule.specs.Rule.{look_of}
 use Rattle.word_rule.specs.Given.{StandsAt, enables}
 use Rattle.word_rule.specs.Table.{TableData, SeatData}
 
--- The seat is one of the table, and `next` is the next micro-step of a sequence that it drives, with the word that this touches.
+-- The seat is one of the table, and `next` is the next micro-step of
+-- a sequence that it drives, with the word that this touches.
 pub record CanStep (t : TableData) (s : SeatData) (next : Next) : Type 0 where
   pub seated : s.table ≡ t.table
   pub stands : StandsAt t.key s.view next.seq next.reaction next.step
@@ -21,9 +22,12 @@ moved s next = record s { view = after (λ k. stepped k next.seq) s.view }
 
 -- a look at the word has found this: it is recorded, and where it enables the micro-step that is made
 abbrev pub looked_at : SeatData → Next → ℕ → SeatData
-looked_at s next found = record s { view = after (look_of next.seq (enables next.reaction next.step) next.word found) s.view }
+looked_at s next found = record s {
+  view = after (look_of next.seq (enables next.reaction next.step) next.word found) s.view;
+}
 
--- a seat is split: what stays, and the new seat for the sequences whose number leaves g when it is divided by the number of groups
+-- a seat is split: what stays, and the new seat for the sequences
+-- whose number leaves g when it is divided by the number of groups
 abbrev pub kept_by : ℕ → ℕ → SeatData → SeatData
 kept_by groups g s = record s { view = left_of (λ i. nat_eq (i % groups) g) s.view }
 

@@ -22,14 +22,18 @@ pub record SeatData : Type 0 where
 
 -- A code of each, from one of the job.
 abbrev pub table_code : Coded JobData → Coded TableData
-table_code job = code_by (TableId × JobData) (coded× table_id_coded job) (λ t. (t.table, t.key)) (λ p. record { table = p.0; key = p.1 }) (λ _. refl)
+table_code job = code_by (TableId × JobData) (coded× table_id_coded job) (λ t. (t.table, t.key))
+    (λ p. record { table = p.0; key = p.1 }) (λ _. refl)
 
 abbrev pub count_code : Coded Count
-count_code = code_by (ℕ × ℕ) (coded× coded_ℕ coded_ℕ) (λ c. (c.seq, c.made)) (λ p. record { seq = p.0; made = p.1 }) (λ _. refl)
+count_code = code_by (ℕ × ℕ) (coded× coded_ℕ coded_ℕ) (λ c. (c.seq, c.made)) (λ p. record { seq = p.0; made = p.1 })
+    (λ _. refl)
 
 abbrev pub knowledge_code : Coded JobData → Coded Knowledge
-knowledge_code job = code_by (JobData × (List Count × (ℕ × (ℕ × ℕ)))) (coded× job (coded× (coded_list count_code) (coded× coded_ℕ (coded× coded_ℕ coded_ℕ))))
-    (λ k. (k.job, (k.driven, (k.looks, (k.word, k.found))))) (λ p. record { job = p.0; driven = p.1.0; looks = p.1.1.0; word = p.1.1.1.0; found = p.1.1.1.1 }) (λ _. refl)
+knowledge_code job = code_by (JobData × (List Count × (ℕ × (ℕ × ℕ))))
+    (coded× job (coded× (coded_list count_code) (coded× coded_ℕ (coded× coded_ℕ coded_ℕ))))
+    (λ k. (k.job, (k.driven, (k.looks, (k.word, k.found)))))
+    (λ p. record { job = p.0; driven = p.1.0; looks = p.1.1.0; word = p.1.1.1.0; found = p.1.1.1.1 }) (λ _. refl)
 
 abbrev pub either_of : View → Unit {0} ⊎ Knowledge
 either_of Spent = inl tt
@@ -44,5 +48,7 @@ view_of-either_of Spent = refl
 view_of-either_of (Holds k) = refl
 
 abbrev pub seat_code : Coded JobData → Coded SeatData
-seat_code job = code_by (TableId × View) (coded× table_id_coded (code_by (Unit {0} ⊎ Knowledge) (coded⊎ coded_unit (knowledge_code job)) either_of view_of view_of-either_of))
+seat_code job = code_by (TableId × View)
+    (coded× table_id_coded (code_by (Unit {0} ⊎ Knowledge)
+    (coded⊎ coded_unit (knowledge_code job)) either_of view_of view_of-either_of))
     (λ s. (s.table, s.view)) (λ p. record { table = p.0; view = p.1 }) (λ _. refl)

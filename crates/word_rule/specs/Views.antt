@@ -1,5 +1,25 @@
 -- What a seat knows: the sequences that it drives with their counts, and its last look.
-use Rattle.std.specs.Prelude.{◌≡◌, ℕ, zero, suc, ◌+◌, Bool, not, cond, nat_eq, List, [], ◌∷◌, ◌++◌, map, filter, length, Option, Some, None}
+use Rattle.std.specs.Prelude.{
+  ◌≡◌,
+  ℕ,
+  zero,
+  suc,
+  ◌+◌,
+  Bool,
+  not,
+  cond,
+  nat_eq,
+  List,
+  [],
+  ◌∷◌,
+  ◌++◌,
+  map,
+  filter,
+  length,
+  Option,
+  Some,
+  None,
+}
 use Rattle.semaphore_core.specs.Job.{JobData}
 use Rattle.word_rule.specs.declared.view.Count.{Count}
 use Rattle.word_rule.specs.declared.view.Knowledge.{Knowledge}
@@ -51,7 +71,13 @@ picked test xs = filter (λ x. test x.seq) xs
 -- of a view that is cut in two: what stays, and what the new seat gets
 abbrev pub left_of : (ℕ → Bool) → View → View
 left_of test Spent = Spent
-left_of test (Holds k) = Holds record { job = k.job; driven = picked (λ s. not (test s)) k.driven; looks = k.looks; word = k.word; found = k.found }
+left_of test (Holds k) = Holds record {
+  job = k.job;
+  driven = picked (λ s. not (test s)) k.driven;
+  looks = k.looks;
+  word = k.word;
+  found = k.found;
+}
 
 abbrev pub right_of : (ℕ → Bool) → View → View
 right_of test Spent = Spent
@@ -59,6 +85,12 @@ right_of test (Holds k) = Holds record { job = k.job; driven = picked test k.dri
 
 -- a view takes in what another one drives
 abbrev pub joined : View → View → View
-joined (Holds k) (Holds l) = Holds record { job = k.job; driven = k.driven ++ l.driven; looks = k.looks + l.looks; word = k.word; found = k.found }
+joined (Holds k) (Holds l) = Holds record {
+  job = k.job;
+  driven = k.driven ++ l.driven;
+  looks = k.looks + l.looks;
+  word = k.word;
+  found = k.found;
+}
 joined (Holds k) Spent = Holds k
 joined Spent w = w

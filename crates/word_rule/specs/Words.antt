@@ -4,7 +4,16 @@ use Rattle.std.specs.Int.{w64, cast_unsigned, cast_signed}
 use Rattle.level_meaning.specs.Level.{all_joined}
 use Rattle.executive_program.specs.declared.steps.Place.{Place}
 use Rattle.executive_program.specs.declared.steps.MicroStep.{MicroStep}
-use Rattle.executive_program.specs.declared.steps.MicroStep.TheVariants.{Take, See, Lower, Signal, Await, Advance, Load, Store}
+use Rattle.executive_program.specs.declared.steps.MicroStep.TheVariants.{
+  Take,
+  See,
+  Lower,
+  Signal,
+  Await,
+  Advance,
+  Load,
+  Store,
+}
 use Rattle.semaphore_core.specs.Job.{JobData}
 use Rattle.semaphore_core.specs.Core.{Core, opening, home_of, slot_of}
 use Rattle.semaphore_core.specs.Elements.{element_in}
@@ -20,7 +29,8 @@ IsExact x = cast_signed w64 (word_of x) ≡ x
 abbrev pub AreExact : List (List ℤ) → Type 0
 AreExact elements = (h q : ℕ) → IsExact (element_in elements h q)
 
--- The empty and the full semaphore of each pair, the turn of each medium, the elements of the buffers by buffer, place and number, and those of the wires.
+-- The empty and the full semaphore of each pair, the turn of each medium, the
+-- elements of the buffers by buffer, place and number, and those of the wires.
 abbrev pub words_of : Core → List ℕ
 words_of z = z.semaphores ++ (z.turns ++ map word_of (all_joined z.elements))
 

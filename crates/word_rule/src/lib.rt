@@ -5,7 +5,7 @@
 //! counts of all views together are reached, and that every word is the one that these counts tell.
 //! `WordTable::open` makes a table with a first seat, `split` and `join` share the sequences out among seats,
 //! and `take`, `wait`, `look`, `add`, `lower`, `load` and `store` each make one micro-step by one atomic step;
-//! `close` gives the words at the end. `jobs_run_on_words` says that every job keeps what this asks for.
+//! `close` leaves the words at the end. `jobs_run_on_words` says that every job keeps what this asks for.
 //! `word_table` drives jobs by these steps.
 #![tactic(auto)]
 
@@ -33,6 +33,8 @@ pub fn jobs_run_on_words()
 pub fn job_runs_on_words(job: &Job)
     ensures { RunsOnWords job.now }
 {
+    // The clause of `program` is that a job keeps what it was made of, that of `vertices` that a flat graph is valid:
+    // this is all that the law of all jobs asks for.
     let _ = job.program();
     let _ = job.flat().vertices();
 }

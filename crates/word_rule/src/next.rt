@@ -1,4 +1,4 @@
-//! Where a sequence stands.
+//! The next micro-step of a sequence, for the steps of the table.
 use executive_program::MicroStep;
 
 /// The next micro-step of a sequence, the reaction of that, and the word that it touches.

@@ -1,4 +1,4 @@
-//! The rule on the table, and what each step tells.
+//! The rule that the table keeps, and what each play of it tells.
 ghost use Rattle.std.specs.Prelude.{ℕ, Bool, true};
 ghost use Rattle.word_rule.specs.Rule.{Tells, Raises, Loads, Looks};
 ghost use Rattle.word_rule.specs.Views.{first_view, left_of, right_of, joined};

@@ -1,4 +1,5 @@
-//! The steps of a seat, each on one word for one sequence.
+//! The steps of a seat, each on one word for one sequence. A step is made by a play of the table, whose ghost
+//! members `N` says at the call: the sequence, what its word has to be, or which sequences are split off.
 ghost use Rattle.std.specs.Prelude.{◌≡◌, ◌⊎◌, ◌%◌, nat_eq};
 ghost use Rattle.word_rule.specs.Given.{IsTake, Waits, AddsOne, IsLower, IsLoad, Stores, enables};
 ghost use Rattle.word_rule.specs.Rule.{FindsBy, InTold};
@@ -11,6 +12,7 @@ use executive_program::MicroStep;
 use std::marker::Brand;
 
 impl<'a> WordTable<'a> {
+    /// `take`, where `N` names the sequence and what its word has to be.
     fn take_by<N: Named>(&self, seat: &mut WordSeat<'a>, next: Next) -> u64
         requires named { (N.seq ≡ next.seq) × (N.enables ≡ enables next.reaction next.step) }
         requires can { CanStep self.now seat.old next }
@@ -22,7 +24,7 @@ impl<'a> WordTable<'a> {
         table.compare_exchange::<Looking<N>>(&mut seat.seat, next.word, 1, 0)
     }
 
-    /// Takes a semaphore where it is 1, and gives what was found.
+    /// Takes a semaphore where it is 1, and returns what was found.
     pub fn take(&self, seat: &mut WordSeat<'a>, next: Next) -> u64
         requires can { CanStep self.now seat.old next }
         requires kind { IsTake next.step }
@@ -32,6 +34,7 @@ impl<'a> WordTable<'a> {
         self.take_by::<Brand>(seat, next)
     }
 
+    /// `wait`, where `N` names the sequence and what its word has to be.
     fn wait_by<N: Named>(&self, seat: &mut WordSeat<'a>, next: Next) -> u64
         requires named { (N.seq ≡ next.seq) × (N.enables ≡ enables next.reaction next.step) }
         requires can { CanStep self.now seat.old next }
@@ -43,7 +46,7 @@ impl<'a> WordTable<'a> {
         table.load::<Looking<N>>(&mut seat.seat, next.word)
     }
 
-    /// Looks whether a semaphore of several places is at least 1, or at a turn, and gives what was found.
+    /// Looks whether a semaphore of several places is at least 1, or at a turn, and returns what was found.
     pub fn wait(&self, seat: &mut WordSeat<'a>, next: Next) -> u64
         requires can { CanStep self.now seat.old next }
         requires kind { Waits next.step }
@@ -53,7 +56,7 @@ impl<'a> WordTable<'a> {
         self.wait_by::<Brand>(seat, next)
     }
 
-    /// Takes a semaphore where it is 1, or looks at a word, and gives what was found.
+    /// Takes a semaphore where it is 1, or looks at a word, and returns what was found.
     pub fn look(&self, seat: &mut WordSeat<'a>, next: Next) -> u64
         requires can { CanStep self.now seat.old next }
         requires kind { IsTake next.step ⊎ Waits next.step }
@@ -66,6 +69,7 @@ impl<'a> WordTable<'a> {
         }
     }
 
+    /// `add`, where `N` names the sequence.
     fn add_by<N: Named>(&self, seat: &mut WordSeat<'a>, next: Next)
         requires named { N.seq ≡ next.seq }
         requires can { CanStep self.now seat.old next }
@@ -87,6 +91,7 @@ impl<'a> WordTable<'a> {
         self.add_by::<Brand>(seat, next);
     }
 
+    /// `lower`, where `N` names the sequence.
     fn lower_by<N: Named>(&self, seat: &mut WordSeat<'a>, next: Next)
         requires named { N.seq ≡ next.seq }
         requires can { CanStep self.now seat.old next }
@@ -98,7 +103,7 @@ impl<'a> WordTable<'a> {
         table.fetch_sub::<Raising<N>>(&mut seat.seat, next.word, 1);
     }
 
-    /// Takes from a semaphore that was seen.
+    /// Lowers a semaphore of several places by one, after it was seen.
     pub fn lower(&self, seat: &mut WordSeat<'a>, next: Next)
         requires can { CanStep self.now seat.old next }
         requires kind { IsLower next.step }
@@ -108,6 +113,7 @@ impl<'a> WordTable<'a> {
         self.lower_by::<Brand>(seat, next);
     }
 
+    /// `load`, where `N` names the sequence.
     fn load_by<N: Named>(&self, seat: &mut WordSeat<'a>, next: Next) -> u64
         requires named { N.seq ≡ next.seq }
         requires can { CanStep self.now seat.old next }
@@ -119,7 +125,7 @@ impl<'a> WordTable<'a> {
         table.load::<Loading<N>>(&mut seat.seat, next.word)
     }
 
-    /// Loads an element, and gives its word.
+    /// Loads an element, and returns its word.
     pub fn load(&self, seat: &mut WordSeat<'a>, next: Next) -> u64
         requires can { CanStep self.now seat.old next }
         requires kind { IsLoad next.step }
@@ -129,6 +135,7 @@ impl<'a> WordTable<'a> {
         self.load_by::<Brand>(seat, next)
     }
 
+    /// `store`, where `N` names the sequence.
     fn store_by<N: Named>(&self, seat: &mut WordSeat<'a>, next: Next, value: i64)
         requires named { N.seq ≡ next.seq }
         requires can { CanStep self.now seat.old next }
@@ -150,6 +157,7 @@ impl<'a> WordTable<'a> {
         self.store_by::<Brand>(seat, next, value);
     }
 
+    /// `split`, where `N` says which sequences are split off.
     fn split_by<N: Picking>(&self, seat: &mut WordSeat<'a>, groups: u32, group: u32) -> WordSeat<'a>
         requires named { N.test ≡ (λ s. nat_eq (s % groups) group) }
         requires seat { seat.old.table ≡ self.now.table }

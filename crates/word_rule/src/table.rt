@@ -32,14 +32,17 @@ impl<'a> Model for WordTable<'a> {
 
     ghost Value = { TableData };
 
-    ghost coded = { table_code (job_code (Prim.hlevel codes) (graph_code (Prim.hlevel codes) (expr_code (Prim.hlevel codes)))) };
+    ghost coded = { table_code (job_code (Prim.hlevel codes)
+        (graph_code (Prim.hlevel codes) (expr_code (Prim.hlevel codes)))) };
 
     ghost use Rattle.word_rule.specs.Words.{table_len};
     ghost use Rattle.word_rule.specs.Given.{RunsOnWords};
 
     ghost view = { λ t. record { table = t.table.shared.table_id; key = t.table.shared.key } };
 
-    ghost invariant = { λ t. RunsOnWords t.table.shared.key × (t.table.shared.table_id.words ≡ table_len t.table.shared.key) × (t.table.shared.table_id.slots ≡ 0) };
+    ghost invariant = { λ t. RunsOnWords t.table.shared.key
+        × (t.table.shared.table_id.words ≡ table_len t.table.shared.key)
+        × (t.table.shared.table_id.slots ≡ 0) };
 }
 
 /// A seat of a table: the sequences that it drives, how many micro-steps each has made, and its last look.
@@ -58,7 +61,8 @@ impl<'a> Model for WordSeat<'a> {
 
     ghost Value = { SeatData };
 
-    ghost coded = { seat_code (job_code (Prim.hlevel codes) (graph_code (Prim.hlevel codes) (expr_code (Prim.hlevel codes)))) };
+    ghost coded = { seat_code (job_code (Prim.hlevel codes)
+        (graph_code (Prim.hlevel codes) (expr_code (Prim.hlevel codes)))) };
 
     ghost view = { λ s. record { table = s.seat.table_id; view = s.seat.me.0 } };
 

@@ -31,7 +31,8 @@ pub record HasNext (d : DriverData) (s r : ℕ) (m : MicroStep) : Type 0 where
   pub next : step_at (steps d.fabric.job.program s) (slice_index_or d.counts s 0) ≡ Some m
   pub in_reaction : reaction_at (steps d.fabric.job.program s) (slice_index_or d.counts s 0) ≡ r
 
--- The micro-step was made: the count of s rose by one, and no other. It was enabled in what some reached counts tell that agree with the driver's; where it looks at its word, that look is recorded, and what was found enabled it.
+-- The micro-step was made: the count of s rose by one, and no other. It was enabled in what some reached counts tell
+-- that agree with the driver's; where it looks at its word, that look is recorded, and what was found enabled it.
 pub record Steps (old new : DriverData) (s r : ℕ) (m : MicroStep) : Type 0 where
   pub enabled : InSome old (λ z. enabled_in z r m ≡ true)
   pub counts : new.counts ≡ one_more old.fabric.job old.counts s
@@ -39,11 +40,14 @@ pub record Steps (old new : DriverData) (s r : ℕ) (m : MicroStep) : Type 0 whe
   pub on : enables r m found ≡ true
   pub look : new.look ≡ cond (is_recorded m) (next_look old.look (word_at old.fabric.job r m) found) old.look
 
--- It was not made: one look more is recorded, at the word that it needs, and what was found there does not enable it. All else is as it was. What was found stood there in what some reached counts tell that agree with the driver's.
+-- It was not made: one look more is recorded, at the word that it needs, and what
+-- was found there does not enable it. All else is as it was. What was found stood
+-- there in what some reached counts tell that agree with the driver's.
 pub record Misses (old new : DriverData) (r : ℕ) (m : MicroStep) : Type 0 where
   pub found : ℕ
   pub off : enables r m found ≡ false
-  pub stood : InSome old (λ z. (found ≡ slice_index_or (table_of z) (word_at old.fabric.job r m) 0) × (enabled_in z r m ≡ false))
+  pub stood : InSome old (λ z. (found ≡ slice_index_or (table_of z) (word_at old.fabric.job r m) 0) ×
+      (enabled_in z r m ≡ false))
   pub driver : new ≡ record old { look = next_look old.look (word_at old.fabric.job r m) found }
 
 -- Finished exactly at the full count, since the two other answers come below it.

@@ -1,5 +1,22 @@
 -- A fabric and its drivers, as contracts see them.
-use Rattle.std.specs.Prelude.{◌≡◌, ℕ, ◌<◌, ◌%◌, List, [], length, map, Option, Some, None, refl, replicate, slice_get, slice_index_or, ℤ}
+use Rattle.std.specs.Prelude.{
+  ◌≡◌,
+  ℕ,
+  ◌<◌,
+  ◌%◌,
+  List,
+  [],
+  length,
+  map,
+  Option,
+  Some,
+  None,
+  refl,
+  replicate,
+  slice_get,
+  slice_index_or,
+  ℤ,
+}
 use Rattle.std.specs.Coded.{Coded, code_by, coded×, coded_ℕ, coded_ℤ, coded_list}
 use Rattle.std.specs.List.{range_with_len}
 use Rattle.level_meaning.specs.Level.{Values, vector_at}
@@ -31,23 +48,36 @@ pub record DriverData : Type 0 where
   -- how many micro-steps each of its sequences has made
   pub counts : List ℕ
   pub look : Look
-  -- what its sequences have of their own: the registers by sequence, the delays' cells, and the actuators' rows by reaction
+  -- what its sequences have of their own: the registers by sequence, the
+  -- delays' cells, and the actuators' rows by reaction
   pub registers : List (List ℤ)
   pub cells : Values
   pub rows : List Values
 
 -- A code of each, from one of the job.
 abbrev pub fabric_code : Coded JobData → Coded FabricData
-fabric_code job = code_by (TableId × (JobData × ℕ)) (coded× table_id_coded (coded× job coded_ℕ)) (λ f. (f.table, (f.job, f.groups))) (λ p. record { table = p.0; job = p.1.0; groups = p.1.1 }) (λ _. refl)
+fabric_code job = code_by (TableId × (JobData × ℕ)) (coded× table_id_coded (coded× job coded_ℕ))
+    (λ f. (f.table, (f.job, f.groups))) (λ p. record { table = p.0; job = p.1.0; groups = p.1.1 }) (λ _. refl)
 
 abbrev pub look_code : Coded Look
-look_code = code_by (ℕ × (ℕ × ℕ)) (coded× coded_ℕ (coded× coded_ℕ coded_ℕ)) (λ l. (l.number, (l.word, l.found))) (λ p. record { number = p.0; word = p.1.0; found = p.1.1 }) (λ _. refl)
+look_code = code_by (ℕ × (ℕ × ℕ)) (coded× coded_ℕ (coded× coded_ℕ coded_ℕ)) (λ l. (l.number, (l.word, l.found)))
+    (λ p. record { number = p.0; word = p.1.0; found = p.1.1 }) (λ _. refl)
 
 abbrev pub driver_code : Coded JobData → Coded DriverData
 driver_code job = code_by (FabricData × (ℕ × (List ℕ × (Look × (List (List ℤ) × (Values × List Values))))))
-    (coded× (fabric_code job) (coded× coded_ℕ (coded× (coded_list coded_ℕ) (coded× look_code (coded× (coded_list (coded_list coded_ℤ)) (coded× (coded_list (coded_list coded_ℤ)) (coded_list (coded_list (coded_list coded_ℤ)))))))))
+    (coded× (fabric_code job) (coded× coded_ℕ (coded× (coded_list coded_ℕ)
+    (coded× look_code (coded× (coded_list (coded_list coded_ℤ))
+    (coded× (coded_list (coded_list coded_ℤ)) (coded_list (coded_list (coded_list coded_ℤ)))))))))
     (λ d. (d.fabric, (d.group, (d.counts, (d.look, (d.registers, (d.cells, d.rows)))))))
-    (λ p. record { fabric = p.0; group = p.1.0; counts = p.1.1.0; look = p.1.1.1.0; registers = p.1.1.1.1.0; cells = p.1.1.1.1.1.0; rows = p.1.1.1.1.1.1 }) (λ _. refl)
+    (λ p. record {
+      fabric = p.0;
+      group = p.1.0;
+      counts = p.1.1.0;
+      look = p.1.1.1.0;
+      registers = p.1.1.1.1.0;
+      cells = p.1.1.1.1.1.0;
+      rows = p.1.1.1.1.1.1;
+    }) (λ _. refl)
 
 -- the driver drives sequence s
 pub record Drives (d : DriverData) (s : ℕ) : Type 0 where
@@ -63,13 +93,15 @@ pub record AgreeWith (d : DriverData) (counts : List ℕ) : Type 0 where
 abbrev pub InSome : DriverData → (Core → Type 0) → Type 0
 InSome d P = (counts : List ℕ) × AreReached d.fabric.job counts × AgreeWith d counts × P (told d.fabric.job counts)
 
--- In a state the sequences that the driver drives, with the delays and the actuators that are called in them, have the driver's registers, cells and rows.
+-- In a state the sequences that the driver drives, with the delays and the actuators
+-- that are called in them, have the driver's registers, cells and rows.
 pub record HasOwnOf (d : DriverData) (z : Core) : Type 0 where
   pub registers : (s : ℕ) → Drives d s → slice_index_or d.registers s [] ≡ slice_index_or z.registers s []
-  pub cells : (v k : ℕ) (x : Vertex) → slice_get d.fabric.job.graph.vertices v ≡ Some x → delay_of d.fabric.job.graph v x ≡ Some k → Drives d (caller d.fabric.job v)
-      → vector_at d.cells k ≡ vector_at z.cells k
-  pub rows : (v a k : ℕ) (x : Vertex) → slice_get d.fabric.job.graph.vertices v ≡ Some x → x.kind ≡ Actuator a → Drives d (caller d.fabric.job v)
-      → row_at d.rows k a ≡ row_at z.rows k a
+  pub cells : (v k : ℕ) (x : Vertex) → slice_get d.fabric.job.graph.vertices v ≡ Some x →
+      delay_of d.fabric.job.graph v x ≡ Some k → Drives d (caller d.fabric.job v) →
+      vector_at d.cells k ≡ vector_at z.cells k
+  pub rows : (v a k : ℕ) (x : Vertex) → slice_get d.fabric.job.graph.vertices v ≡ Some x → x.kind ≡ Actuator a →
+      Drives d (caller d.fabric.job v) → row_at d.rows k a ≡ row_at z.rows k a
 
 -- its registers, cells and rows are those that any counts tell that are its own on the sequences that it drives
 abbrev pub IsTold : DriverData → Type 0
@@ -102,4 +134,5 @@ count_by (Some d) s = slice_index_or d.counts s 0
 
 -- the counts of all sequences, each by its driver
 abbrev pub counts_of : FabricData → List DriverData → List ℕ
-counts_of f drivers = map (λ s. count_by (slice_get drivers (s % f.groups)) s) (range_with_len 0 (length f.job.program.seqs))
+counts_of f drivers = map (λ s. count_by (slice_get drivers (s % f.groups)) s)
+    (range_with_len 0 (length f.job.program.seqs))

@@ -1,5 +1,20 @@
 -- The end of a fabric, driver by driver from the last group on.
-use Rattle.std.specs.Prelude.{◌≡◌, ℕ, ◌+◌, ◌<◌, ◌≤◌, ◌%◌, Option, Some, None, List, [], length, slice_get, slice_index_or}
+use Rattle.std.specs.Prelude.{
+  ◌≡◌,
+  ℕ,
+  ◌+◌,
+  ◌<◌,
+  ◌≤◌,
+  ◌%◌,
+  Option,
+  Some,
+  None,
+  List,
+  [],
+  length,
+  slice_get,
+  slice_index_or,
+}
 use Rattle.atomic_table.specs.Seated.{TableId}
 use Rattle.syn_base.specs.Rows.{Reactions}
 use Rattle.level_meaning.specs.Level.{Values, vector_at}
@@ -29,7 +44,8 @@ pub record TakesCounts (old new others : List ℕ) (groups group : ℕ) : Type 0
 -- the cells of a group's delays are the others' now
 pub record TakesCells (old new others : Values) (owners : List ℕ) (groups group : ℕ) : Type 0 where
   pub many : length new ≡ length old
-  pub here : (d s : ℕ) → d < length old → slice_get owners d ≡ Some s → s % groups ≡ group → vector_at new d ≡ vector_at others d
+  pub here : (d s : ℕ) → d < length old → slice_get owners d ≡ Some s → s % groups ≡ group →
+      vector_at new d ≡ vector_at others d
   pub else : (d s : ℕ) → slice_get owners d ≡ Some s → (s % groups ≡ group → ⊥) → vector_at new d ≡ vector_at old d
 
 -- rows have as many vectors as there are lengths
@@ -49,8 +65,10 @@ pub record TakesRows (j : JobData) (old new others : Reactions) (callers : List 
   pub lens : new.lens ≡ old.lens
   pub many : length new.reactions ≡ length old.reactions
   pub wide : AreWide new
-  pub here : (v a k : ℕ) (x : Vertex) → slice_get j.graph.vertices v ≡ Some x → x.kind ≡ Actuator a → slice_index_or callers v 0 % groups ≡ group → row_at new.reactions k a ≡ row_at others.reactions k a
-  pub else : (v a k : ℕ) (x : Vertex) → slice_get j.graph.vertices v ≡ Some x → x.kind ≡ Actuator a → (slice_index_or callers v 0 % groups ≡ group → ⊥) → row_at new.reactions k a ≡ row_at old.reactions k a
+  pub here : (v a k : ℕ) (x : Vertex) → slice_get j.graph.vertices v ≡ Some x → x.kind ≡ Actuator a →
+      slice_index_or callers v 0 % groups ≡ group → row_at new.reactions k a ≡ row_at others.reactions k a
+  pub else : (v a k : ℕ) (x : Vertex) → slice_get j.graph.vertices v ≡ Some x → x.kind ≡ Actuator a →
+      (slice_index_or callers v 0 % groups ≡ group → ⊥) → row_at new.reactions k a ≡ row_at old.reactions k a
 
 -- the share is one of the job whose remains these are
 pub record FitsTo (d : Share) (r : Remains) : Type 0 where
@@ -66,7 +84,8 @@ pub record FitsTo (d : Share) (r : Remains) : Type 0 where
 pub record Gathers (d : Share) (old new : Remains) : Type 0 where
   pub counts : TakesCounts old.counts.items new.counts.items d.counts.items d.groups d.group
   pub cells : TakesCells old.cells.items new.cells.items d.own.kept.cells old.cell_owners.items d.groups d.group
-  pub rows : TakesRows d.job.now old.rows new.rows (record { lens = d.own.kept.lens; reactions = d.own.kept.rows }) old.callers.items d.groups d.group
+  pub rows : TakesRows d.job.now old.rows new.rows (record { lens = d.own.kept.lens; reactions = d.own.kept.rows })
+      old.callers.items d.groups d.group
   pub words : new.words ≡ old.words
   pub callers : new.callers ≡ old.callers
   pub owners : new.cell_owners ≡ old.cell_owners
@@ -82,11 +101,14 @@ pub record IsGathered (j : JobData) (groups m : ℕ) (counts : List ℕ) (r : Re
   pub callers_there : length r.callers.items ≡ length j.graph.vertices
   pub callers : (v : ℕ) → v < length j.graph.vertices → slice_index_or r.callers.items v 0 ≡ caller j v
   pub cell_owners : r.cell_owners.items ≡ owners r.callers.items j.graph.vertices
-  pub made : (s : ℕ) → s < length j.program.seqs → m ≤ s % groups → slice_index_or r.counts.items s 0 ≡ slice_index_or counts s 0
-  pub cells : (v d : ℕ) (x : Vertex) → slice_get j.graph.vertices v ≡ Some x → delay_of j.graph v x ≡ Some d → m ≤ caller j v % groups
-      → vector_at r.cells.items d ≡ vector_at (own_after j (caller j v) (slice_index_or counts (caller j v) 0)).cells d
-  pub rows : (v a k : ℕ) (x : Vertex) → slice_get j.graph.vertices v ≡ Some x → x.kind ≡ Actuator a → m ≤ caller j v % groups
-      → row_at r.rows.reactions k a ≡ row_at (own_after j (caller j v) (slice_index_or counts (caller j v) 0)).rows k a
+  pub made : (s : ℕ) → s < length j.program.seqs → m ≤ s % groups →
+      slice_index_or r.counts.items s 0 ≡ slice_index_or counts s 0
+  pub cells : (v d : ℕ) (x : Vertex) → slice_get j.graph.vertices v ≡ Some x → delay_of j.graph v x ≡ Some d →
+      m ≤ caller j v % groups → vector_at r.cells.items d ≡
+      vector_at (own_after j (caller j v) (slice_index_or counts (caller j v) 0)).cells d
+  pub rows : (v a k : ℕ) (x : Vertex) → slice_get j.graph.vertices v ≡ Some x → x.kind ≡ Actuator a →
+      m ≤ caller j v % groups → row_at r.rows.reactions k a ≡
+      row_at (own_after j (caller j v) (slice_index_or counts (caller j v) 0)).rows k a
 
 -- the view drives the sequences of the groups from m on, with these counts, and no other
 pub record HoldsFrom (j : JobData) (groups m : ℕ) (v : View) (counts : List ℕ) : Type 0 where

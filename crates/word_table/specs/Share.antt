@@ -1,5 +1,25 @@
 -- What fabrics and drivers keep in their fields.
-use Rattle.std.specs.Prelude.{◌≡◌, ℕ, ◌+◌, ◌<◌, ◌≤◌, ◌%◌, ◌^◌, Bool, true, false, List, [], map, length, Some, slice_get, slice_index_or, slice_set, ℤ}
+use Rattle.std.specs.Prelude.{
+  ◌≡◌,
+  ℕ,
+  ◌+◌,
+  ◌<◌,
+  ◌≤◌,
+  ◌%◌,
+  ◌^◌,
+  Bool,
+  true,
+  false,
+  List,
+  [],
+  map,
+  length,
+  Some,
+  slice_get,
+  slice_index_or,
+  slice_set,
+  ℤ,
+}
 use Rattle.level_meaning.specs.Level.{Values, vector_at}
 use Rattle.flat_graph.specs.declared.vertex.Vertex.{Vertex}
 use Rattle.flat_graph.specs.declared.vertex.Kind.TheVariants.{Actuator}
@@ -29,15 +49,19 @@ use Rattle.word_table.specs.Driver.{FabricData, Look, DriverData}
 use Rattle.word_table.specs.Owners.{owners}
 
 module _ (j : JobData) where
-  -- The registers of each sequence that is driven, and the cells and rows of the operations that it calls, are those after as many micro-steps.
+  -- The registers of each sequence that is driven, and the cells and rows of
+  -- the operations that it calls, are those after as many micro-steps.
   pub record HasOwn (k : Knowledge) (registers : List (List ℤ)) (cells : Values) (rows : List Values) : Type 0 where
     pub cells_there : length cells ≡ length j.opening
     pub rows_there : map length rows ≡ map length (zero_rows j)
-    pub own_registers : (s n : ℕ) → count_in k.driven s ≡ Some n → slice_index_or registers s [] ≡ (own_after j s n).registers
-    pub own_cells : (s n v d : ℕ) (x : Vertex) → count_in k.driven s ≡ Some n → slice_get j.graph.vertices v ≡ Some x → delay_of j.graph v x ≡ Some d → caller j v ≡ s
-        → vector_at cells d ≡ vector_at (own_after j s n).cells d
-    pub own_rows : (s n v a i : ℕ) (x : Vertex) → count_in k.driven s ≡ Some n → slice_get j.graph.vertices v ≡ Some x → x.kind ≡ Actuator a → caller j v ≡ s
-        → row_at rows i a ≡ row_at (own_after j s n).rows i a
+    pub own_registers : (s n : ℕ) → count_in k.driven s ≡ Some n →
+        slice_index_or registers s [] ≡ (own_after j s n).registers
+    pub own_cells : (s n v d : ℕ) (x : Vertex) → count_in k.driven s ≡ Some n →
+        slice_get j.graph.vertices v ≡ Some x → delay_of j.graph v x ≡ Some d → caller j v ≡ s →
+        vector_at cells d ≡ vector_at (own_after j s n).cells d
+    pub own_rows : (s n v a i : ℕ) (x : Vertex) → count_in k.driven s ≡ Some n →
+        slice_get j.graph.vertices v ≡ Some x → x.kind ≡ Actuator a → caller j v ≡ s →
+        row_at rows i a ≡ row_at (own_after j s n).rows i a
 
   -- some reached counts agree with those of the sequences that are driven
   pub record Reaches (k : Knowledge) : Type 0 where
@@ -73,7 +97,8 @@ pub record IsDriver (j : JobData) (table : TableId) (k : Knowledge) (d : Share) 
 abbrev pub IsShare : Share → Type 0
 IsShare d = (k : Knowledge) × IsDriver d.job.now d.seat.table k d
 
--- What is laid out for the end: room for the counts and the words, the opening cells and rows of zeros, and the sequence that calls each operation and each delay.
+-- What is laid out for the end: room for the counts and the words, the opening cells and
+-- rows of zeros, and the sequence that calls each operation and each delay.
 pub record AreLaid (j : JobData) (r : Remains) : Type 0 where
   pub counts_there : length r.counts.items ≡ length j.program.seqs
   pub words_there : length r.words.items + 1 ≡ table_len j
@@ -126,7 +151,8 @@ pub record SameDriver (old new : Share) : Type 0 where
   pub groups : new.groups ≡ old.groups
   pub group : new.group ≡ old.group
 
--- Of a driver of the fabric: sequence s is driven, and m is its next micro-step, in reaction r, which touches this word.
+-- Of a driver of the fabric: sequence s is driven, and m is its
+-- next micro-step, in reaction r, which touches this word.
 pub record CanMake (f : Woven) (d : Share) (next : Next) : Type 0 where
   pub knowledge : Knowledge
   pub count : ℕ

@@ -30,12 +30,15 @@ pub record IsNewView (j : JobData) (k : Knowledge) : Type 0 where
 -- Driver number g of this many: it drives the sequences whose number leaves g, and none has made a micro-step.
 abbrev pub DrivesGroup : JobData → ℕ → ℕ → View → Type 0
 DrivesGroup j groups g Spent = ⊥
-DrivesGroup j groups g (Holds k) = IsNewView j k × ((s : ℕ) → s < length j.program.seqs → s % groups ≡ g → count_in k.driven s ≡ Some 0) × ((s n : ℕ) → count_in k.driven s ≡ Some n → s % groups ≡ g)
+DrivesGroup j groups g (Holds k) = IsNewView j k ×
+    ((s : ℕ) → s < length j.program.seqs → s % groups ≡ g → count_in k.driven s ≡ Some 0) ×
+    ((s n : ℕ) → count_in k.driven s ≡ Some n → s % groups ≡ g)
 
 -- what is left for the groups from g on
 abbrev pub IsLeft : JobData → ℕ → ℕ → View → Type 0
 IsLeft j groups g Spent = ⊥
-IsLeft j groups g (Holds k) = IsNewView j k × ((s : ℕ) → s < length j.program.seqs → g ≤ s % groups → count_in k.driven s ≡ Some 0)
+IsLeft j groups g (Holds k) = IsNewView j k ×
+    ((s : ℕ) → s < length j.program.seqs → g ≤ s % groups → count_in k.driven s ≡ Some 0)
 
 -- a driver of group g of this fabric with this seat
 pub record IsGroup (f : Woven) (seat : SeatData) (g : ℕ) (d : Share) : Type 0 where

@@ -1,6 +1,6 @@
-//! What a try of a sequence answers.
+//! What a try of a sequence on a fabric came to.
 
-/// What a try of a sequence answers.
+/// What a try of a sequence came to.
 #[derive(Clone, Copy, Debug, PartialEq, Eq)]
 pub enum MicroAnswer {
     /// Its next micro-step is made.

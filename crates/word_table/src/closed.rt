@@ -1,4 +1,4 @@
-//! What is left of a fabric that was closed.
+//! What a closed fabric leaves to its caller: rows and cells.
 ghost use Rattle.std.specs.Prelude.{◌≡◌};
 
 use std::marker::Model;

@@ -1,4 +1,4 @@
-//! The end of a fabric.
+//! The end of a fabric, for `Fabric::close`: what its drivers have of their own is gathered.
 ghost use Rattle.std.specs.Prelude.{◌≡◌, ◌<◌, ◌+◌, ◌%◌, ℕ, length, map, min, slice_index_or, sum};
 ghost use Rattle.std.specs.Option.{ForSome};
 ghost use Rattle.semaphore_core.specs.Held.{HasRow};
@@ -80,7 +80,8 @@ fn take_rows(
     requires wide { AreWide rows.old }
     requires callers { length callers.now ≡ length job.now.graph.vertices }
     requires laid { (v : ℕ) → HasRow job.now rows.old.lens v }
-    requires others_laid { (v : ℕ) → slice_index_or callers.now v 0 % groups ≡ group → HasRow job.now others.now.lens v }
+    requires others_laid { (v : ℕ) → slice_index_or callers.now v 0 % groups ≡ group →
+        HasRow job.now others.now.lens v }
     ensures { TakesRows job.now rows.old rows.new others.now callers.now groups group }
 {
     let vertices = job.flat().vertices();

@@ -1,4 +1,4 @@
-//! What is kept of the tables that were closed.
+//! What is kept of closed tables, over all windows of a run.
 ghost use Rattle.std.specs.Prelude.{◌≡◌};
 ghost use Rattle.word_rule.specs.Driven.{new_driven};
 

@@ -26,7 +26,8 @@ impl<'a> Model for Fabric<'a> {
 
     ghost Value = { FabricData };
 
-    ghost coded = { fabric_code (job_code (Prim.hlevel codes) (graph_code (Prim.hlevel codes) (expr_code (Prim.hlevel codes)))) };
+    ghost coded = { fabric_code (job_code (Prim.hlevel codes)
+        (graph_code (Prim.hlevel codes) (expr_code (Prim.hlevel codes)))) };
 
     ghost use Rattle.word_table.specs.Share.{IsWoven, woven_view};
 
@@ -52,7 +53,8 @@ impl<'a> Model for Driver<'a> {
 
     ghost Value = { DriverData };
 
-    ghost coded = { driver_code (job_code (Prim.hlevel codes) (graph_code (Prim.hlevel codes) (expr_code (Prim.hlevel codes)))) };
+    ghost coded = { driver_code (job_code (Prim.hlevel codes)
+        (graph_code (Prim.hlevel codes) (expr_code (Prim.hlevel codes)))) };
 
     ghost use Rattle.word_table.specs.Share.{IsShare, share_view};
 

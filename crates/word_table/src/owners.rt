@@ -1,4 +1,4 @@
-//! Which sequence calls each operation, and which of them a driver has.
+//! Owners of operations and delays: which sequence calls each, and which of them a driver has.
 ghost use Rattle.std.specs.Prelude.{◌≡◌, ◌<◌, ◌%◌, ℕ, cond, length, map, slice_index_or, slice_set, IfOk, nat_eq};
 ghost use Rattle.std.specs.List.{list_any};
 ghost use Rattle.executive_program.specs.Places.{calls, caller_of};

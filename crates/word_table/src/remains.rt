@@ -1,4 +1,4 @@
-//! What is left of a fabric when it is closed.
+//! Room for the end of a fabric, laid out with it.
 use syn_base::{ActRows, Items};
 
 /// What is laid out for the end of a fabric, so that closing it takes no memory.

@@ -1,4 +1,4 @@
-//! A fabric and its drivers, when they are made.
+//! The making of a fabric with its drivers.
 ghost use Rattle.std.specs.Prelude.{◌≡◌, ℕ, ◌<◌, ◌≤◌, ◌+◌, ◌^◌, length, map, slice_index_or, IfOk};
 ghost use Rattle.semaphore_core.specs.Job.{actuator_lens, zero_rows};
 ghost use Rattle.word_rule.specs.Views.{first_view};

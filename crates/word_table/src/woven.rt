@@ -88,7 +88,7 @@ impl<'a> Woven<'a> {
         count_up(&mut share.counts, next.seq);
     }
 
-    /// Takes from a semaphore that was seen.
+    /// Lowers a semaphore of several places by one, after it was seen.
     fn lower(&self, share: &mut Share<'a>, next: Next)
         requires woven { IsWoven self.now }
         requires can { CanMake self.now share.old next }
@@ -208,8 +208,8 @@ impl<'a> Woven<'a> {
         requires of { IsOf self.now share.now }
         requires there { seq < length self.now.job.now.program.seqs }
         requires drives { seq % share.now.groups ≡ share.now.group }
-        ensures next { IfSome result (λ n. (n ≡ slice_index_or (share_view share.now).counts seq
-            0) × (n < full share.now.job.now seq)) }
+        ensures next { IfSome result (λ n. (n ≡ slice_index_or (share_view share.now).counts seq 0) ×
+            (n < full share.now.job.now seq)) }
         ensures none { IfNone result (slice_index_or (share_view share.now).counts seq 0 ≡ full share.now.job.now seq) }
     {
         let count = share.counts[seq as usize];

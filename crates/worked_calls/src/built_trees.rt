@@ -1,4 +1,5 @@
-//! A function, a delay and two actuators; and repetitions of repetitions of nothing.
+//! Built trees: a function, a delay and two actuators; and repetitions of repetitions of nothing (`sync_meaning`,
+//! `act_text`).
 ghost use Rattle.std.specs.Prelude.{◌≡◌, IfOk};
 ghost use Rattle.algo_tree.specs.Ends.{sensor_lengths};
 ghost use Rattle.algo_tree.specs.View.{view};
@@ -15,6 +16,7 @@ use syn_base::{Items, Op, SensorRows};
 use sync_meaning::simulate;
 use tree_check::is_tree;
 
+/// The element at this place of the first input.
 fn element(alloc: Global, at: i64) -> Result<Expr, Fail> {
     Ok(Expr::Elem(0, Box::new(alloc, Expr::Lit(at))?))
 }

@@ -1,4 +1,4 @@
-//! What is no flat graph and no architecture, each beside what is one.
+//! Graphs: what is no flat graph and no architecture, each beside what is one (`flat_graph`, `archi_graph`).
 
 use archi_graph::{Medium, is_archi};
 use flat_graph::{Kind, Source, Vertex, is_flat};
@@ -6,6 +6,7 @@ use std::alloc::Global;
 use std::test::Fail;
 use syn_base::{Items, Name};
 
+/// An operation without guards and without a twin.
 fn operation(
     alloc: Global,
     name: &[u8],
@@ -58,6 +59,7 @@ fn an_operation_does_not_read_itself(rt: HostRuntime) -> Result<(), Fail> {
     Ok(())
 }
 
+/// Operators of these names.
 pub fn operators(alloc: Global, names: &[&[u8]]) -> Result<Vec<Name>, Fail> {
     let mut operators = Vec::new(alloc);
     for name in names {

@@ -1,8 +1,8 @@
-//! Calls by themselves: what no transcript of the program shows of numbers, words, bodies, references, loads,
-//! shelves, trees, flat graphs, schedules and the passes of flattening.
+//! Tests of calls by themselves, where no transcript of the program shows what they return: of numbers, words,
+//! bodies, references, loads, shelves, trees, flat graphs, schedules and the passes of flattening.
 //!
-//! What they return is compared with values that were worked by hand. There is nothing here but tests, which
-//! stand apart from the crates that they call, so that those are proved once.
+//! What they return is compared with values that were worked by hand. The crate has tests alone, which stand apart
+//! from the crates that they call, so that those are proved once.
 #![tactic(auto)]
 
 #[cfg(test)]

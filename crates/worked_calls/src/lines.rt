@@ -1,4 +1,4 @@
-//! The words of a line.
+//! Lines: the words of one (`text_lines`).
 use std::test::Fail;
 use text_lines::Words;
 

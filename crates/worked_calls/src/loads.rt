@@ -1,4 +1,4 @@
-//! The texts of load 1: their lengths, and lines of them worked by hand.
+//! Loads: the texts of load 1, their lengths, and lines of them worked by hand (`load_texts`).
 use load_texts::load_texts;
 use std::test::Fail;
 

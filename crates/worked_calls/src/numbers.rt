@@ -1,4 +1,4 @@
-//! Texts of integers, and why others are none.
+//! Numbers: texts of integers, and why others are none (`syn_base`).
 use syn_base::{NumFault, read_int};
 
 #[test]

@@ -1,4 +1,4 @@
-//! The vertices of which trees are made.
+//! Parts of trees that are made by hand: their vertices. `refused` and `built_trees` call it.
 
 use algo_tree::{Kind, Vertex};
 use body_lang::{Body, Expr};
@@ -7,6 +7,7 @@ use std::alloc::Global;
 use std::test::Fail;
 use syn_base::Items;
 
+/// A vertex of this name without guards.
 pub fn vertex(
     alloc: Global,
     name: &[u8],

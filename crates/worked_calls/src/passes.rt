@@ -1,4 +1,4 @@
-//! Each pass by itself.
+//! Passes of flattening, each by itself, over trees of texts (`factorisation`, `conditioning`, `hierarchy`).
 ghost use Rattle.std.specs.Prelude.{◌≡◌, ◌≤◌, IfOk, length, sum};
 ghost use Rattle.pass_laws.specs.NoRepeat.{HasNoRepeat};
 

@@ -1,4 +1,4 @@
-//! Long chains of references: the answer takes time in proportion to the links, where some vertex reaches itself too.
+//! References: long chains of them, whose depths are found in time in proportion to the links (`reference_graph`).
 use reference_graph::{Depths, are_inside, depths_of};
 use std::alloc::Global;
 use std::process::Abort;

@@ -1,4 +1,4 @@
-//! Vertices that are no tree, each beside one that is.
+//! Refused trees: vertices that are none, each beside some that are one (`tree_check`).
 
 use crate::parts::{delay, function, graph, leaf, vertex};
 use algo_tree::{Kind, Vertex};
@@ -15,6 +15,7 @@ fn are_a_tree(alloc: Global, inner: Vec<Vertex>) -> Result<bool, Fail> {
     Ok(is_tree(alloc, &main)?)
 }
 
+/// A sensor of length 1.
 fn sensor(alloc: Global, name: &[u8], number: u32) -> Result<Vertex, Fail> {
     leaf(alloc, name, Kind::Sensor(number), &[], &[1])
 }

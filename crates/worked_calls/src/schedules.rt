@@ -1,4 +1,4 @@
-//! What is no valid schedule, beside what is one.
+//! Schedules: what is none, beside what is one (`schedule`), and the halves of a delay (`durations`).
 ghost use Rattle.std.specs.Prelude.{IfOk, length};
 ghost use Rattle.durations.specs.Lines.{AreDurations};
 

@@ -1,4 +1,4 @@
-//! A body that is used twice.
+//! Shares of a body, which is used twice (`body_lang`).
 use body_lang::{Body, Expr, Ins, has_ports_below, value};
 use std::test::Fail;
 

@@ -1,4 +1,4 @@
-//! Whole reads and writes over shelves and sinks in memory, as far as the program tells nothing of them.
+//! Shelves and sinks in memory: whole reads and writes, as far as the program shows nothing of them (`outside`).
 use outside::{
     File, Gate, GateFree, ReadAnswer, ShelfMem, ShelfSure, SinkSure, read_whole, write_whole,
 };

@@ -1,4 +1,4 @@
-//! The worked texts, and the trees that they say.
+//! Texts of algorithms, and the trees that they say. `passes` calls it.
 ghost use Rattle.std.specs.Prelude.{◌≤◌, IfOk, length};
 ghost use Rattle.operation_paths.specs.Bounded.{HasBounds};
 ghost use Rattle.operation_paths.specs.Named.{HasNames};

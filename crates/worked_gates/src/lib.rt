@@ -29,6 +29,7 @@ pub struct Meeting {
 }
 
 impl Meeting {
+    /// A gate at which no sequence has been asked for a step.
     pub fn new() -> Meeting {
         Meeting {
             marks: [AtomicU64::new(0), AtomicU64::new(0)],
@@ -67,6 +68,7 @@ pub struct Counting {
 }
 
 impl Counting {
+    /// A gate that has counted no step.
     pub fn new() -> Counting {
         Counting {
             asked: [
@@ -116,6 +118,7 @@ pub struct Holding {
 }
 
 impl Holding {
+    /// A gate that holds sequence 1 and has been asked for no step.
     pub fn new() -> Holding {
         Holding {
             first: AtomicU64::new(0),

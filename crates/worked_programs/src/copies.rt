@@ -240,6 +240,7 @@ fn texts() -> Texts<'static> {
     }
 }
 
+/// Runs a job of the program over its one reaction, and compares what the actuators took.
 fn run_job<R: Abort + Threads + Wait + Sync>(
     rt: &R,
     alloc: Global,
@@ -257,6 +258,7 @@ fn run_job<R: Abort + Threads + Wait + Sync>(
     Ok(())
 }
 
+/// Runs what was read of the program.
 fn run<R: Abort + Threads + Wait + Sync>(
     rt: &R,
     alloc: Global,
@@ -267,6 +269,7 @@ fn run<R: Abort + Threads + Wait + Sync>(
     run_job(rt, alloc, &job, by)
 }
 
+/// Runs what was read of the program by one driver alone, by one worker and by four.
 fn run_by_all<R: Abort + Threads + Wait + Sync>(
     rt: &R,
     alloc: Global,

@@ -131,12 +131,14 @@ fn texts() -> Texts<'static> {
     }
 }
 
+/// The last communicator, which begins with a wait for the first transfer, can make no step at first.
 fn wait_at_first(rt: &impl Abort, alloc: Global, job: &Job) -> Result<(), Fail> {
     let mut state = State::new(alloc, job)?;
     wait(rt, job, &mut state, 7);
     Ok(())
 }
 
+/// As `wait_at_first`, on what was read of the program.
 fn run(rt: &impl Abort, alloc: Global, worked: &Worked) -> Result<(), Fail> {
     let job = worked.job(rt, alloc)?;
     wait_at_first(rt, alloc, &job)

@@ -1,5 +1,6 @@
-//! Worked programs on the core, from texts: their runs by threads and without, step by step and to the end. The
-//! crate has tests alone, so that the crates below are proved once.
+//! Tests of worked programs on the core, from texts: their runs by threads and without, step by step and to the end.
+//!
+//! The crate has tests alone, so that the crates below are proved once.
 #![tactic(auto)]
 
 #[cfg(test)]

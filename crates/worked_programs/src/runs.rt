@@ -1,4 +1,4 @@
-//! A job run to its end by threads, and by one driver alone: its rows, counts and words are the same whoever
+//! The runs of a job to its end by threads, and by one driver alone: its rows, counts and words are the same whoever
 //! drives, a sequence that waits at the gate holds no other worker up, and the gate is asked once for each step.
 use crate::texts::Worked;
 use crate::two_operators::{TAKEN, expect, texts};

@@ -1,4 +1,5 @@
-//! What a program runs on, made from texts: the flat graph of an algorithm, an architecture, macro-code and rows.
+//! The texts of a program and what it runs on: the flat graph of an algorithm, an architecture, macro-code and rows.
+//! The programs here are read by it.
 ghost use Rattle.std.specs.Prelude.{◌≡◌, ◌≤◌, IfOk, length, sum};
 ghost use Rattle.flat_graph.specs.Laws.{sensor_lens};
 ghost use Rattle.operation_paths.specs.Bounded.{HasBounds};

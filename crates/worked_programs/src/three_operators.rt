@@ -318,6 +318,7 @@ fn lead_ahead<'a>(rt: &impl Abort, fabric: &Fabric<'a>, driver: &mut Driver<'a>,
     try_all(rt, fabric, driver, 0, 1, MicroAnswer::NotYet);
 }
 
+/// As `lead_ahead`, by the only driver of these.
 fn lead_first<'a>(rt: &impl Abort, fabric: &Fabric<'a>, drivers: &mut Vec<Driver<'a>>, ahead: Ahead)
     requires { AreDrivers fabric.now drivers.old.items }
 {
@@ -325,22 +326,26 @@ fn lead_first<'a>(rt: &impl Abort, fabric: &Fabric<'a>, drivers: &mut Vec<Driver
     lead_ahead(rt, fabric, &mut drivers[0], ahead);
 }
 
+/// As `run_ahead`, on a table of words that one driver drives.
 fn run_ahead_on_words(rt: &impl Abort, alloc: Global, job: &Job, ahead: Ahead) -> Result<(), Fail> {
     let (fabric, mut drivers) = weave(alloc, job, 1)?;
     lead_first(rt, &fabric, &mut drivers, ahead);
     Ok(())
 }
 
+/// As `run_ahead`, without words and on words.
 fn run_job(rt: &impl Abort, alloc: Global, job: &Job, ahead: Ahead) -> Result<(), Fail> {
     run_ahead(rt, alloc, job, ahead)?;
     run_ahead_on_words(rt, alloc, job, ahead)
 }
 
+/// As `run_job`, on what was read of a program.
 fn run_worked(rt: &impl Abort, alloc: Global, worked: &Worked, ahead: Ahead) -> Result<(), Fail> {
     let job = worked.job(rt, alloc)?;
     run_job(rt, alloc, &job, ahead)
 }
 
+/// As `run_job`, on the program of these texts.
 fn run(rt: &impl Abort, alloc: Global, texts: &Texts, ahead: Ahead) -> Result<(), Fail> {
     let worked = Worked::read(rt, alloc, texts)?;
     run_worked(rt, alloc, &worked, ahead)

@@ -207,6 +207,7 @@ fn greatest_list(rt: &impl Abort, alloc: Global, job: &Job) -> Result<Vec<u32>, 
     Ok(list)
 }
 
+/// Runs a job to its end, the greatest enabled sequence first, after which none is enabled.
 fn the_greatest_first(rt: &impl Abort, alloc: Global, job: &Job, steps: u64) -> Result<(), Fail> {
     assert_eq!(rt; steps_in_all(job), steps);
     let list = greatest_list(rt, alloc, job)?;
@@ -216,6 +217,7 @@ fn the_greatest_first(rt: &impl Abort, alloc: Global, job: &Job, steps: u64) -> 
     Ok(())
 }
 
+/// Runs a job on tables of words, by one driver, by two, three and four, and by 80.
 fn in_groups(rt: &impl Abort, alloc: Global, job: &Job, end: &End) -> Result<(), Fail> {
     for groups in [1, 2, 3, 4, 80] {
         let closed = drive(rt, alloc, job, groups, end)?;
@@ -224,11 +226,13 @@ fn in_groups(rt: &impl Abort, alloc: Global, job: &Job, end: &End) -> Result<(),
     Ok(())
 }
 
+/// Runs a job without words and on words.
 fn run_job(rt: &impl Abort, alloc: Global, job: &Job, steps: u64, end: &End) -> Result<(), Fail> {
     the_greatest_first(rt, alloc, job, steps)?;
     in_groups(rt, alloc, job, end)
 }
 
+/// As `run_job`, on what was read of a program.
 fn run_worked(
     rt: &impl Abort,
     alloc: Global,

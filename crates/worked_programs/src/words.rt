@@ -1,4 +1,5 @@
-//! A job on a table of words: the same rows, counts and words, however many drivers there are.
+//! The drive of a job on a table of words: the same rows, counts and words, however many drivers there are.
+//! `two_operators` calls it.
 ghost use Rattle.std.specs.Prelude.{◌≡◌};
 ghost use Rattle.word_table.specs.Driver.{AreDrivers};
 

@@ -1,4 +1,4 @@
-//! One call of the program, and what the transcript has of it.
+//! The call of the program, and what the transcript has of it. `player` makes it.
 
 use crate::conditions::{Conditions, Sweep};
 use crate::cuts::call_cuts;

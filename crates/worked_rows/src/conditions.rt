@@ -1,4 +1,4 @@
-//! What holds for the next call.
+//! The conditions that hold for the next call. `player` collects them, and `call` keeps to them.
 
 use crate::script::{Condition, GateKind};
 use outside::SinkMem;
@@ -16,6 +16,7 @@ pub struct SinkSays {
 }
 
 impl SinkSays {
+    /// A sink that fails at no call, takes all that it is given at once, and has room for it.
     fn new(alloc: Global) -> SinkSays {
         SinkSays {
             fails: Vec::new(alloc),

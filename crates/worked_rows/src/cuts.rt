@@ -1,6 +1,6 @@
-//! A call for each length to which one of its files is cut.
+//! The cuts of a file: a call for each length to which it is cut. `call` makes them.
 //!
-//! Where the answers of several lengths are equal, one line tells them: the least and the greatest of these
+//! Where the answers of several lengths are equal, one line has them: the least and the greatest of these
 //! lengths, the status after `= `, and the line of standard error. Under it stands the output, where there is any.
 
 use crate::answer::{Answer, Span};

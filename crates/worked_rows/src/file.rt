@@ -1,4 +1,4 @@
-//! The files that a script writes.
+//! The files that a script writes. `player` writes them, and `call` and `cuts` read them.
 //!
 //! In a text `\r`, `\t` and `\\` are a carriage return, a tab and a backslash, `\xHH` is the byte of
 //! these two digits, and a text that ends with `\c` is followed by no line feed.

@@ -1,4 +1,4 @@
-//! What the gate of a call has seen.
+//! The gate of a call, and what it has seen. `call` asks for it.
 
 use crate::call::{Outside, answered};
 use crate::script::GateKind;
@@ -58,6 +58,7 @@ pub fn answered_at<R: AllocGlobal + Threads + Wait + Sync>(
     }
 }
 
+/// As `answered_at`, with a gate at which sequences 0 and 1 wait for each other.
 fn answered_at_meeting<R: AllocGlobal + Threads + Wait + Sync>(
     rt: &R,
     words: &[String],
@@ -69,6 +70,7 @@ fn answered_at_meeting<R: AllocGlobal + Threads + Wait + Sync>(
     (number, Seen::Meeting { both, given_up })
 }
 
+/// As `answered_at`, with a gate that counts steps.
 fn answered_at_counting<R: AllocGlobal + Threads + Wait + Sync>(
     rt: &R,
     words: &[String],
@@ -80,6 +82,7 @@ fn answered_at_counting<R: AllocGlobal + Threads + Wait + Sync>(
     (number, Seen::Counting { asked, out_of_turn })
 }
 
+/// As `answered_at`, with a gate that holds sequence 1.
 fn answered_at_holding<R: AllocGlobal + Threads + Wait + Sync>(
     rt: &R,
     words: &[String],

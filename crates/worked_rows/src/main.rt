@@ -26,6 +26,7 @@ use player::Player;
 use std::io;
 use std::io::{BufRead, BufReader};
 
+/// Plays the lines of standard input, one after another.
 fn main(rt: HostRuntime) -> io::Result<()> {
     let mut player = Player::new(rt.alloc());
     let script = BufReader::new(rt.alloc(), rt.reader())?;

@@ -1,4 +1,4 @@
-//! A script that is being played.
+//! The player of a script, which `main` gives its lines.
 
 use crate::call::call;
 use crate::conditions::Conditions;

@@ -1,4 +1,4 @@
-//! The lines of a script.
+//! The lines of a script, and what each asks for. `player` reads them.
 
 /// What a line of a script asks for. NAME is a word; TEXT is the rest of the line, with the escapes
 /// of `file`.
@@ -61,23 +61,24 @@ pub enum Condition<'a> {
     ErrFails(u64),
     /// `err takes N`: a call on the error stream takes at most N bytes.
     ErrTakes(usize),
-    /// `count calls`: the numbers of calls on the shelf and on the output are told.
+    /// `count calls`: the numbers of calls on the shelf and on the output are written.
     Count,
-    /// `tell driven`: the number of micro-steps that were driven is told, with the counts of the last table.
+    /// `tell driven`: the number of micro-steps that were driven is written, with the counts of the last table.
     Driven,
-    /// `tell words`: the words of the last table are told.
+    /// `tell words`: the words of the last table are written.
     Words,
-    /// `tell sum`: the sum of all values in the output is told in the place of the output.
+    /// `tell sum`: the sum of all values in the output is written in the place of the output.
     Sum,
-    /// `gate KIND`, with `meeting`, `counting` or `holding`: this gate is asked before each step, and what it has seen is told.
+    /// `gate KIND`, with `meeting`, `counting` or `holding`: this gate is asked before each step, and what it
+    /// has seen is written.
     Gate(GateKind),
     /// `output NAME`: where the output is what this file holds, its name stands in the transcript.
     Output(&'a str),
     /// `has NAME`: where the lines of this file are among those of the output, in the same order, `(has NAME)`
     /// stands in the transcript.
     Has(&'a str),
-    /// `cuts NAME`: the call is made once for each length of this file, from 0 up to the whole, with the file cut there.
-    /// `cuts` has what then stands in the transcript. Nothing is held back, and nothing else is told.
+    /// `cuts NAME`: the call is made once for each length of this file, from 0 up to the whole, with the file
+    /// cut there. `cuts` has what then stands in the transcript. Nothing is held back, and nothing else is written.
     Cuts(&'a str),
     /// `spoilt NAME`: the call is made once for each length of this file, and for each of five bytes at each of its
     /// places. `spoilt` has what then stands in the transcript, and nothing else is told.

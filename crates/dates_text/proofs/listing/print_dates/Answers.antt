@@ -3,7 +3,7 @@ use Rattle.schedule.specs.declared.decision.Decision.{Decision}
 use Rattle.schedule.specs.Acts.{acts_of}
 use Rattle.syn_base.specs.Bytes.{Bytes}
 use Rattle.dates_text.specs.Listing.{Dated, dated_text}
-use Rattle.dates_text.specs.Printed.{EachFits, entry_span, told}
+use Rattle.dates_text.specs.Printed.{EachFits, entry_span, dates_up_to}
 use Rattle.dates_text.proofs.Entered.{told_is}
 use Rattle.dates_text.proofs.Fitting.{each_fits}
 use Rattle.dates_text.proofs.listing.print_dates.Goals as goal
@@ -22,6 +22,6 @@ returns-clause-text c =
     let out = c.args.out.now.items in
     c.in_ok-extend_from_slice.ensures.items
     ∙ ap (λ (l : Bytes). out ++ l) (c.deref.ensures.value ∙ c.in_ok-append_dates.ensures
-    ∙ ap (λ (l : Bytes). l ++ dated_text g a (told reactions (length g.vertices) (acts_of c.as_slice.result.now) (length reactions))) c.new-text.ensures.items
-    ∙ ap (λ (ds : List Decision). dated_text g a (told reactions (length g.vertices) (acts_of ds) (length reactions))) c.as_slice.ensures
+    ∙ ap (λ (l : Bytes). l ++ dated_text g a (dates_up_to reactions (length g.vertices) (acts_of c.as_slice.result.now) (length reactions))) c.new-text.ensures.items
+    ∙ ap (λ (ds : List Decision). dated_text g a (dates_up_to reactions (length g.vertices) (acts_of ds) (length reactions))) c.as_slice.ensures
     ∙ ap (λ (ds : List Dated). dated_text g a ds) (told_is g s reactions (entry_span g s reactions) (length reactions) (λ k l i x e. refl)))

@@ -12,7 +12,8 @@ use Rattle.load_texts.specs.Table.{table_text}
 use Rattle.command_plan.proofs.Makes.{memory}
 use Rattle.top_plans.specs.Loads.{load_algorithm, load_architecture, load_table}
 use Rattle.syndex_program.specs.Executes.{made_of, texts_plan}
-use Rattle.syndex_program.specs.Reads.{MakesAlgorithm, MakesArchitecture, MakesTable, described}
+use Rattle.syndex_program.specs.Compiles.{MakesAlgorithm, MakesCompilation, described}
+use Rattle.syndex_program.specs.Reads.{MakesTable}
 use Rattle.syndex_program.proofs.Loading as loading
 use Rattle.syndex_program.proofs.Loads.{short_algorithm, short_architecture}
 use Rattle.syndex_program.proofs.Tables.{few_rows}
@@ -31,31 +32,31 @@ table_is : (n : ℕ) → table_text n ≡ load_table n
 unfolding load_table
 table_is n = refl
 
-pub algorithm_of-requires : goal.algorithm_of-requires
-algorithm_of-requires c = subst (λ (t : Bytes). length t ≤ file_bound) (sym (c.deref.ensures.value ∙ c.in_ok-algorithm.ensures.algorithm)) (short_algorithm c.args.n)
+pub parse_algorithm-requires : goal.parse_algorithm-requires
+parse_algorithm-requires c = subst (λ (t : Bytes). length t ≤ file_bound) (sym (c.deref.ensures.value ∙ c.in_ok-algorithm.ensures.algorithm)) (short_algorithm c.args.n)
 
-pub architecture_of-requires-clause-short : goal.architecture_of-requires-clause-short
-architecture_of-requires-clause-short c = subst (λ (t : Bytes). length t ≤ file_bound) (sym (c.deref-2.ensures.value ∙ c.in_ok-algorithm.ensures.architecture)) short_architecture
+pub compile_to_durations-requires-clause-short : goal.compile_to_durations-requires-clause-short
+compile_to_durations-requires-clause-short c = subst (λ (t : Bytes). length t ≤ file_bound) (sym (c.deref-2.ensures.value ∙ c.in_ok-algorithm.ensures.architecture)) short_architecture
 
-pub within_limits-requires-clause-flat : goal.within_limits-requires-clause-flat
-within_limits-requires-clause-flat c = c.in_ok-architecture.ensures.flattens
+pub compile_execution-requires-clause-flat : goal.compile_execution-requires-clause-flat
+compile_execution-requires-clause-flat c = c.in_ok-compilation.ensures.flattens
 
-pub within_limits-requires-clause-lasts : goal.within_limits-requires-clause-lasts
-within_limits-requires-clause-lasts c =
-    let given = c.in_ok-architecture.architecture in
-    let is = c.in_ok-architecture.ensures in
+pub compile_execution-requires-clause-lasts : goal.compile_execution-requires-clause-lasts
+compile_execution-requires-clause-lasts c =
+    let given = c.in_ok-compilation.compilation in
+    let is = c.in_ok-compilation.ensures in
     subst (λ (f : Graph). durations_of f (described given.text) ≡ Ok given.durations) (sym is.flattens) is.lasts
 
-pub within_limits-requires-clause-has : goal.within_limits-requires-clause-has
-within_limits-requires-clause-has c =
+pub compile_execution-requires-clause-has : goal.compile_execution-requires-clause-has
+compile_execution-requires-clause-has c =
     let is = c.in_ok-algorithm-2.ensures in
     c.accepted_have_flat.ensures c.deref.result.now c.in_ok-algorithm-2.algorithm.defs c.in_ok-algorithm-2.algorithm.tree is.says is.resolves
 
-pub within_limits-requires-clause-lens : goal.within_limits-requires-clause-lens
-within_limits-requires-clause-lens c = c.in_ok-rows.ensures.1
+pub compile_execution-requires-clause-lens : goal.compile_execution-requires-clause-lens
+compile_execution-requires-clause-lens c = c.in_ok-rows.ensures.1
 
-pub within_limits-requires-clause-few : goal.within_limits-requires-clause-few
-within_limits-requires-clause-few c = few_rows c.in_ok-algorithm-2.algorithm.tree (records default_config (strip_bom c.deref-3.result.now)) c.in_ok-rows.rows c.in_ok-rows.ensures.0
+pub compile_execution-requires-clause-few : goal.compile_execution-requires-clause-few
+compile_execution-requires-clause-few c = few_rows c.in_ok-algorithm-2.algorithm.tree (records default_config (strip_bom c.deref-3.result.now)) c.in_ok-rows.rows c.in_ok-rows.ensures.0
 
 pub returns-in_err-algorithm-clause-makes : goal.returns-in_err-algorithm-clause-makes
 returns-in_err-algorithm-clause-makes c =
@@ -69,32 +70,32 @@ returns-in_err-algorithm-2-clause-makes c =
     let m = subst (λ (t : Bytes). MakesAlgorithm t (Err e)) (c.deref.ensures.value ∙ (c.in_ok-algorithm.ensures.algorithm ∙ algorithm_is c.args.n)) c.in_err-algorithm-2.ensures in
     rw (p.1, p.2) (λ next held. loading.algorithm_refused next held (load_algorithm c.args.n) load_architecture (load_table c.args.n) e m)
 
-pub returns-in_err-architecture-clause-makes : goal.returns-in_err-architecture-clause-makes
-returns-in_err-architecture-clause-makes c =
-    let e = c.in_err-architecture.field-0.0 in
+pub returns-in_err-compilation-clause-makes : goal.returns-in_err-compilation-clause-makes
+returns-in_err-compilation-clause-makes c =
+    let e = c.in_err-compilation.field-0.0 in
     let algorithm = c.in_ok-algorithm-2.algorithm in
-    let p = err_from_is_err_and c.from_residual-in_err-architecture.result c.from_residual-in_err-architecture.ensures.1 in
+    let p = err_from_is_err_and c.from_residual-in_err-compilation.result c.from_residual-in_err-compilation.ensures.1 in
     let is = subst (λ (t : Bytes). MakesAlgorithm t (Ok algorithm)) (c.deref.ensures.value ∙ (c.in_ok-algorithm.ensures.algorithm ∙ algorithm_is c.args.n)) c.in_ok-algorithm-2.ensures in
-    let m = subst (λ (t : Bytes). MakesArchitecture algorithm.tree t (Err e)) (c.deref-2.ensures.value ∙ (c.in_ok-algorithm.ensures.architecture ∙ architecture_is)) c.in_err-architecture.ensures in
-    rw (p.1, p.2) (λ next held. loading.architecture_refused next held (load_algorithm c.args.n) load_architecture (load_table c.args.n) algorithm is e m)
+    let m = subst (λ (t : Bytes). MakesCompilation algorithm.tree t (Err e)) (c.deref-2.ensures.value ∙ (c.in_ok-algorithm.ensures.architecture ∙ architecture_is)) c.in_err-compilation.ensures in
+    rw (p.1, p.2) (λ next held. loading.compilation_refused next held (load_algorithm c.args.n) load_architecture (load_table c.args.n) algorithm is e m)
 
 pub returns-in_err-rows-clause-makes : goal.returns-in_err-rows-clause-makes
 returns-in_err-rows-clause-makes c =
     let e = c.in_err-rows.field-0.0 in
     let algorithm = c.in_ok-algorithm-2.algorithm in
-    let architecture = c.in_ok-architecture.architecture in
+    let architecture = c.in_ok-compilation.compilation in
     let p = err_from_is_err_and c.from_residual-in_err-rows.result c.from_residual-in_err-rows.ensures.1 in
     let is = subst (λ (t : Bytes). MakesAlgorithm t (Ok algorithm)) (c.deref.ensures.value ∙ (c.in_ok-algorithm.ensures.algorithm ∙ algorithm_is c.args.n)) c.in_ok-algorithm-2.ensures in
-    let says = subst (λ (t : Bytes). MakesArchitecture algorithm.tree t (Ok architecture)) (c.deref-2.ensures.value ∙ (c.in_ok-algorithm.ensures.architecture ∙ architecture_is)) c.in_ok-architecture.ensures in
+    let says = subst (λ (t : Bytes). MakesCompilation algorithm.tree t (Ok architecture)) (c.deref-2.ensures.value ∙ (c.in_ok-algorithm.ensures.architecture ∙ architecture_is)) c.in_ok-compilation.ensures in
     let m = subst (λ (t : Bytes). MakesTable algorithm.tree t (Err e)) (c.deref-3.ensures.value ∙ (c.in_ok-algorithm.ensures.table ∙ table_is c.args.n)) c.in_err-rows.ensures in
     rw (p.1, p.2) (λ next held. loading.table_refused next held (load_algorithm c.args.n) load_architecture (load_table c.args.n) algorithm is architecture says e m)
 
 pub returns-clause-makes : goal.returns-clause-makes
 returns-clause-makes c = λ next held.
     let algorithm = c.in_ok-algorithm-2.algorithm in
-    let architecture = c.in_ok-architecture.architecture in
+    let architecture = c.in_ok-compilation.compilation in
     let rows = c.in_ok-rows.rows in
     let is = subst (λ (t : Bytes). MakesAlgorithm t (Ok algorithm)) (c.deref.ensures.value ∙ (c.in_ok-algorithm.ensures.algorithm ∙ algorithm_is c.args.n)) c.in_ok-algorithm-2.ensures in
-    let says = subst (λ (t : Bytes). MakesArchitecture algorithm.tree t (Ok architecture)) (c.deref-2.ensures.value ∙ (c.in_ok-algorithm.ensures.architecture ∙ architecture_is)) c.in_ok-architecture.ensures in
+    let says = subst (λ (t : Bytes). MakesCompilation algorithm.tree t (Ok architecture)) (c.deref-2.ensures.value ∙ (c.in_ok-algorithm.ensures.architecture ∙ architecture_is)) c.in_ok-compilation.ensures in
     let m = subst (λ (t : Bytes). MakesTable algorithm.tree t (Ok rows)) (c.deref-3.ensures.value ∙ (c.in_ok-algorithm.ensures.table ∙ table_is c.args.n)) c.in_ok-rows.ensures in
-    loading.rows_so next held (load_algorithm c.args.n) load_architecture (load_table c.args.n) algorithm is architecture says rows (made_of next c.within_limits.result) m (c.within_limits.ensures.makes next held)
+    loading.rows_so next held (load_algorithm c.args.n) load_architecture (load_table c.args.n) algorithm is architecture says rows (made_of next c.compile_execution.result) m (c.compile_execution.ensures.makes next held)

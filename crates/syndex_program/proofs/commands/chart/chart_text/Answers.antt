@@ -1,0 +1,60 @@
+use Rattle.std.proofs.Common.{◌≡◌, ◌∙◌, ap, subst, sym}
+use Rattle.std.specs.Prelude.{Ok, Err}
+use Rattle.std.proofs.lemmas.Result.{err_from_is_err_and}
+use Rattle.syn_base.specs.Bytes.{Bytes}
+use Rattle.algo_defs.specs.declared.definition.Defs.{Defs}
+use Rattle.algo_tree.specs.Tree.{Vertex}
+use Rattle.archi_defs.specs.Text.{Described}
+use Rattle.durations.specs.Table.{Table, durations_of}
+use Rattle.flat_graph.specs.Graph.{Graph}
+use Rattle.flat_laws.specs.FlatOf.{flat_of}
+use Rattle.command_plan.specs.Plan.{give}
+use Rattle.command_plan.proofs.Makes.{gave, memory}
+use Rattle.command_status.specs.Status.{ending_of}
+use Rattle.top_plans.specs.Given.{written}
+use Rattle.top_plans.specs.Plans.{architecture_plan, chart_of}
+use Rattle.syndex_program.specs.Compiles.{described}
+use Rattle.syndex_program.proofs.Architectures as architecture
+use Rattle.syndex_program.proofs.Steps.{went_on}
+use Rattle.syndex_program.proofs.commands.chart.chart_text.Goals as goal
+
+pub print_schedule-requires : goal.print_schedule-requires
+print_schedule-requires g c =
+    let given = c.in_ok-compilation.compilation in
+    let is = c.in_ok-compilation.ensures.reads.2 in
+    subst (λ (f : Graph). durations_of f (described given.text) ≡ Ok given.durations) (sym is.flattens) is.lasts
+
+pub returns-in_err-compilation-clause-makes : goal.returns-in_err-compilation-clause-makes
+returns-in_err-compilation-clause-makes g c =
+    let H = g.S.Shelf.held in
+    let p = err_from_is_err_and c.from_residual-in_err-compilation.result c.from_residual-in_err-compilation.ensures.1 in
+    rw (p.1, p.2) (
+    went_on c.args.algorithm.now (H c.args.shelf.now) (H c.read_algorithm.new.shelf) (H c.read_architecture.new.shelf) c.in_ok-algorithm.algorithm
+    (λ (defs : Defs) (main : Vertex). architecture_plan c.args.architecture.now main (λ (d : Described) (t : Table). give (written (chart_of (flat_of main) d t)))) (Err (ending_of c.in_err-compilation.field-0.0))
+    c.in_ok-algorithm.ensures.reads (c.in_err-compilation.ensures.reads _)
+    )
+
+pub returns-in_err-print_schedule-clause-makes : goal.returns-in_err-print_schedule-clause-makes
+returns-in_err-print_schedule-clause-makes g c =
+    let H = g.S.Shelf.held in
+    let p = err_from_is_err_and c.from_residual-in_err-print_schedule.result c.from_residual-in_err-print_schedule.ensures.1 in
+    rw (p.1, p.2) (
+    went_on c.args.algorithm.now (H c.args.shelf.now) (H c.read_algorithm.new.shelf) (H c.read_architecture.new.shelf) c.in_ok-algorithm.algorithm
+    (λ (defs : Defs) (main : Vertex). architecture_plan c.args.architecture.now main (λ (d : Described) (t : Table). give (written (chart_of (flat_of main) d t)))) _ c.in_ok-algorithm.ensures.reads
+    (architecture.went_on c.in_ok-algorithm.algorithm.tree c.args.architecture.now (H c.read_algorithm.new.shelf) (H c.read_architecture.new.shelf) (H c.read_architecture.new.shelf) c.in_ok-compilation.compilation
+    (λ (d : Described) (t : Table). give (written (chart_of (flat_of c.in_ok-algorithm.algorithm.tree) d t))) _ c.in_ok-compilation.ensures.reads
+    (memory (H c.read_architecture.new.shelf) _))
+    )
+
+pub returns-clause-makes : goal.returns-clause-makes
+returns-clause-makes g c =
+    let H = g.S.Shelf.held in
+    let algorithm = c.in_ok-algorithm.algorithm in
+    let given = c.in_ok-compilation.compilation in
+    let is = c.in_ok-compilation.ensures.reads.2 in
+    let d = described given.text in
+    went_on c.args.algorithm.now (H c.args.shelf.now) (H c.read_algorithm.new.shelf) (H c.read_architecture.new.shelf) algorithm
+    (λ (defs : Defs) (main : Vertex). architecture_plan c.args.architecture.now main (λ (d : Described) (t : Table). give (written (chart_of (flat_of main) d t)))) _ c.in_ok-algorithm.ensures.reads
+    (architecture.went_on algorithm.tree c.args.architecture.now (H c.read_algorithm.new.shelf) (H c.read_architecture.new.shelf) (H c.read_architecture.new.shelf) given
+    (λ (d : Described) (t : Table). give (written (chart_of (flat_of algorithm.tree) d t))) _ c.in_ok-compilation.ensures.reads
+    (gave (H c.read_architecture.new.shelf) _ _ (ap (λ (x : Bytes). Ok (written x)) (c.in_ok-print_schedule.ensures ∙ ap (λ (f : Graph). chart_of f d given.durations) is.flattens))))

@@ -1,0 +1,12 @@
+use Rattle.std.proofs.Common.{◌∙◌, ◌++◌, ap}
+use Rattle.syn_base.specs.Bytes.{Bytes}
+use Rattle.schedule.specs.declared.decision.Schedule.{Schedule}
+use Rattle.timing_chart.specs.Chart as timing
+use Rattle.syndex_program.proofs.commands.chart.print_schedule.Goals as goal
+
+pub returns : goal.returns
+returns c =
+    let given = c.args.compilation.now in
+    let a = given.text.archi in
+    c.in_ok-print_chart.ensures.text ∙ ap (λ (t : Bytes). t ++ timing.chart given.flat a c.in_ok-schedule.schedule) c.new-text.ensures.items
+    ∙ ap (λ (s : Schedule). timing.chart given.flat a s) c.in_ok-schedule.ensures.run

@@ -1,0 +1,46 @@
+use Rattle.std.proofs.Common.{◌≡◌, subst, sym}
+use Rattle.std.specs.Prelude.{Ok, Err}
+use Rattle.std.proofs.lemmas.Result.{err_from_is_err_and}
+use Rattle.algo_defs.specs.declared.definition.Defs.{Defs}
+use Rattle.algo_tree.specs.Tree.{Vertex}
+use Rattle.archi_defs.specs.Text.{Described}
+use Rattle.durations.specs.Table.{Table, durations_of}
+use Rattle.flat_graph.specs.Graph.{Graph}
+use Rattle.flat_laws.specs.FlatOf.{flat_of}
+use Rattle.command_plan.specs.Run.{Makes}
+use Rattle.command_status.specs.Status.{ending_of}
+use Rattle.top_plans.specs.Plans.{architecture_plan, macro_plan}
+use Rattle.syndex_program.specs.Compiles.{described}
+use Rattle.syndex_program.specs.Reads.{text_in}
+use Rattle.syndex_program.proofs.Architectures as architecture
+use Rattle.syndex_program.proofs.Steps.{went_on}
+use Rattle.syndex_program.proofs.commands.code.code_text.Goals as goal
+
+pub compile_code-requires : goal.compile_code-requires
+compile_code-requires g c =
+    let given = c.in_ok-compilation.compilation in
+    let is = c.in_ok-compilation.ensures.reads.2 in
+    subst (λ (f : Graph). durations_of f (described given.text) ≡ Ok given.durations) (sym is.flattens) is.lasts
+
+pub returns-in_err-compilation-clause-makes : goal.returns-in_err-compilation-clause-makes
+returns-in_err-compilation-clause-makes g c =
+    let H = g.S.Shelf.held in
+    let p = err_from_is_err_and c.from_residual-in_err-compilation.result c.from_residual-in_err-compilation.ensures.1 in
+    rw (p.1, p.2) (
+    went_on c.args.algorithm.now (H c.args.shelf.now) (H c.read_algorithm.new.shelf) (H c.read_architecture.new.shelf) c.in_ok-algorithm.algorithm
+    (λ (defs : Defs) (main : Vertex). architecture_plan c.args.architecture.now main (λ (d : Described) (t : Table). macro_plan (flat_of main) d.archi t)) (Err (ending_of c.in_err-compilation.field-0.0))
+    c.in_ok-algorithm.ensures.reads (c.in_err-compilation.ensures.reads _)
+    )
+
+pub returns-clause-makes : goal.returns-clause-makes
+returns-clause-makes g c =
+    let H = g.S.Shelf.held in
+    let held = H c.read_architecture.new.shelf in
+    let algorithm = c.in_ok-algorithm.algorithm in
+    let given = c.in_ok-compilation.compilation in
+    let made = text_in c.compile_code.result in
+    went_on c.args.algorithm.now (H c.args.shelf.now) (H c.read_algorithm.new.shelf) held algorithm
+    (λ (defs : Defs) (main : Vertex). architecture_plan c.args.architecture.now main (λ (d : Described) (t : Table). macro_plan (flat_of main) d.archi t)) made c.in_ok-algorithm.ensures.reads
+    (architecture.went_on algorithm.tree c.args.architecture.now (H c.read_algorithm.new.shelf) held held given
+    (λ (d : Described) (t : Table). macro_plan (flat_of algorithm.tree) d.archi t) made c.in_ok-compilation.ensures.reads
+    (subst (λ (f : Graph). Makes held held (macro_plan f given.text.archi given.durations) made) c.in_ok-compilation.ensures.reads.2.flattens (c.compile_code.ensures held)))

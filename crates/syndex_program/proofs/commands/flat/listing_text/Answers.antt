@@ -1,0 +1,29 @@
+use Rattle.std.proofs.Common.{ap}
+use Rattle.std.specs.Prelude.{Ok}
+use Rattle.std.proofs.lemmas.Result.{err_from_is_err_and}
+use Rattle.syn_base.specs.Bytes.{Bytes}
+use Rattle.algo_defs.specs.declared.definition.Defs.{Defs}
+use Rattle.algo_tree.specs.Tree.{Vertex}
+use Rattle.command_plan.specs.Plan.{give}
+use Rattle.command_plan.proofs.Makes.{gave, memory}
+use Rattle.flat_laws.specs.FlatOf.{flat_of}
+use Rattle.flat_text.specs.Listing.{listing}
+use Rattle.syndex_program.proofs.Steps.{went_on}
+use Rattle.top_plans.specs.Given.{written}
+use Rattle.syndex_program.proofs.commands.flat.listing_text.Goals as goal
+
+pub returns-in_err-print_listing-clause-makes : goal.returns-in_err-print_listing-clause-makes
+returns-in_err-print_listing-clause-makes g c =
+    let H = g.S.Shelf.held in
+    let p = err_from_is_err_and c.from_residual-in_err-print_listing.result c.from_residual-in_err-print_listing.ensures.1 in
+    rw (p.1, p.2) (
+    went_on c.args.algorithm.now (H c.args.shelf.now) (H c.read_algorithm.new.shelf) (H c.read_algorithm.new.shelf) c.in_ok-algorithm.algorithm
+    (λ (defs : Defs) (main : Vertex). give (written (listing (flat_of main)))) _ c.in_ok-algorithm.ensures.reads (memory (H c.read_algorithm.new.shelf) _)
+    )
+
+pub returns-clause-makes : goal.returns-clause-makes
+returns-clause-makes g c =
+    let H = g.S.Shelf.held in
+    went_on c.args.algorithm.now (H c.args.shelf.now) (H c.read_algorithm.new.shelf) (H c.read_algorithm.new.shelf) c.in_ok-algorithm.algorithm
+    (λ (defs : Defs) (main : Vertex). give (written (listing (flat_of main)))) _ c.in_ok-algorithm.ensures.reads
+    (gave (H c.read_algorithm.new.shelf) _ _ (ap (λ (x : Bytes). Ok (written x)) c.in_ok-print_listing.ensures))

@@ -1,0 +1,9 @@
+use Rattle.std.proofs.Common.{◌≡◌, ◌+ℤ◌, drop, []}
+use Rattle.std.specs.Prelude.{slice_index_or}
+use Rattle.level_meaning.specs.Level.{all_joined}
+use Rattle.syn_base.specs.Arithmetic.{wrapped}
+use Rattle.body_lang.specs.Expr.{total}
+use Rattle.syndex_program.proofs.commands.load.with_row.Given as goal
+
+abbrev pub invariant-loop-actuator : goal.invariant-loop-actuator
+invariant-loop-actuator l = wrapped (l.sum +ℤ total (all_joined (drop l.actuator (slice_index_or l.rows.reactions l.k [])))) ≡ wrapped (l.start +ℤ total (all_joined (slice_index_or l.rows.reactions l.k [])))

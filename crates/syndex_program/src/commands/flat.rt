@@ -1,0 +1,44 @@
+//! The command `flat A`: the listing of a flat graph. `commands` calls `listing_text`.
+ghost use Rattle.std.specs.Prelude.{◌≡◌, IfOk};
+ghost use Rattle.command_plan.specs.Run.{Makes};
+ghost use Rattle.flat_laws.specs.FlatOf.{flat_of};
+ghost use Rattle.flat_text.specs.Listing.{listing};
+ghost use Rattle.outside.specs.Shelf.{Stays};
+ghost use Rattle.operation_paths.specs.Bounded.{HasBounds};
+ghost use Rattle.operation_paths.specs.Named.{HasNames};
+ghost use Rattle.syndex_program.specs.Reads.{text_in};
+ghost use Rattle.top_plans.specs.Plans.{flat_plan};
+
+use crate::compile::flatten_tree;
+use crate::files::read_algorithm;
+use algo_tree::Tree;
+use command_status::Status;
+use flat_text::print_flat;
+use outside::Shelf;
+use std::alloc::Global;
+use syn_base::OutOfMemory;
+
+/// The listing of an algorithm's flat graph, or why there is none.
+pub fn listing_text<S: Shelf>(
+    alloc: Global,
+    shelf: &mut S,
+    algorithm: &str,
+) -> Result<Vec<u8>, Status>
+    ensures stays { Stays (S.held shelf.old) (S.held shelf.new) }
+    ensures makes { Makes (S.held shelf.old) (S.held shelf.new) (flat_plan algorithm.now) (text_in result) }
+{
+    let algorithm = read_algorithm(alloc, shelf, algorithm)?;
+    Ok(print_listing(alloc, &algorithm.tree)?)
+}
+
+/// The listing of the flat graph of a tree.
+fn print_listing(alloc: Global, tree: &Tree) -> Result<Vec<u8>, OutOfMemory>
+    requires names { HasNames tree.now }
+    requires bounds { HasBounds tree.now }
+    ensures { IfOk result (λ text. text.items ≡ listing (flat_of tree.now)) }
+{
+    let flat = flatten_tree(alloc, tree)?;
+    let mut text = Vec::new(alloc);
+    print_flat(alloc, &flat, &mut text)?;
+    Ok(text)
+}

@@ -1,0 +1,80 @@
+//! The command `sim A S`: what the actuators take by the synchronous meaning. `commands` calls `sim_text`.
+ghost use Rattle.std.specs.Prelude.{◌≡◌, ◌*◌, sum, IfOk};
+ghost use Rattle.algo_tree.specs.Ends.{sensor_lengths, actuator_lengths};
+ghost use Rattle.command_plan.specs.Run.{Makes};
+ghost use Rattle.outside.specs.Shelf.{Held, Stays};
+ghost use Rattle.syndex_program.specs.Reads.{text_in};
+ghost use Rattle.top_plans.specs.Given.{output_of};
+ghost use Rattle.top_plans.specs.Plans.{excess, rows_plan, sim_plan};
+
+use crate::files::{read_algorithm, read_table};
+use act_text::acts_text;
+use algo_tree::Tree;
+use command_status::Status;
+use outside::Shelf;
+use std::alloc::Global;
+use syn_base::{LimitFault, LimitKind, OutOfMemory, SensorRows, Shape};
+use sync_meaning::simulate;
+
+/// The text of what the actuators take, or why there is none.
+pub fn sim_text<S: Shelf>(
+    alloc: Global,
+    shelf: &mut S,
+    algorithm: &str,
+    sensors: &str,
+) -> Result<Vec<u8>, Status>
+    ensures stays { Stays (S.held shelf.old) (S.held shelf.new) }
+    ensures makes { Makes (S.held shelf.old) (S.held shelf.new) (sim_plan algorithm.now sensors.now) (text_in result) }
+{
+    let algorithm = read_algorithm(alloc, shelf, algorithm)?;
+    let rows = read_table(alloc, shelf, sensors, &algorithm.tree)?;
+    text_over(alloc, &algorithm.tree, &rows)
+}
+
+/// The text of what the actuators take over these rows, where it is within its bound.
+fn text_over(alloc: Global, tree: &Tree, rows: &SensorRows) -> Result<Vec<u8>, Status>
+    requires { rows.now.lens ≡ sensor_lengths tree.now }
+    ensures { (held : Held) → Makes held held (rows_plan tree.now rows.now) (text_in result) }
+{
+    let width = output_width(alloc, tree)?;
+    match excess(rows.count(), width) {
+        Some(limit) => Err(Status::Limit(limit)),
+        None => Ok(print_acts(alloc, tree, rows)?),
+    }
+}
+
+/// How many elements the actuators take in a reaction.
+fn output_width(alloc: Global, tree: &Tree) -> Result<usize, OutOfMemory>
+    ensures { IfOk result (λ width. width ≡ sum (actuator_lengths tree.now)) }
+{
+    let lens = tree.actuator_lens(alloc)?;
+    let shape = Shape::new(alloc, &lens)?;
+    Ok(shape.width())
+}
+
+/// Whether this many reactions of this many elements are more than an output may have.
+fn excess(reactions: usize, width: usize) -> Option<LimitFault>
+    ensures { result ≡ excess (reactions * width) }
+{
+    let count = reactions as u128 * width as u128;
+    let which = LimitKind::Output;
+    let bound = which.bound();
+    if count > bound {
+        Some(LimitFault {
+            which,
+            count,
+            bound,
+        })
+    } else {
+        None
+    }
+}
+
+/// The text of what the actuators take over these rows.
+pub fn print_acts(alloc: Global, tree: &Tree, rows: &SensorRows) -> Result<Vec<u8>, OutOfMemory>
+    requires { rows.now.lens ≡ sensor_lengths tree.now }
+    ensures { IfOk result (λ text. text.items ≡ output_of tree.now rows.now.reactions) }
+{
+    let acts = simulate(alloc, tree, rows)?;
+    acts_text(alloc, tree, &acts)
+}
