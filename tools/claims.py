@@ -62,7 +62,7 @@ def in_order(listing, text):
     rows = {re.search(r"`(\w+)`", it)[1]: it for it in found}
     if not found or len(rows) < len(found) or not set(rows) <= set(listing.rows):
         return None
-    # The rooms go from the first heading to the one behind the last row.
+    # The rooms go from the first heading to the one after the last row.
     first, last = text.index("\n## ") + 1, text.index(found[-1])
     rest = text.find("\n## ", last)
     made = []

@@ -157,7 +157,7 @@ def tokens(line, rows):
             crate, file = None, False
         token, before = found[1], found.end()
         is_crate = token in rows
-        # Names stand with a crate where the first of them is a `File.name` right behind it.
+        # Names stand with a crate where the first of them is a `File.name` right after it.
         file = not is_crate and (file or crate is not None and between == " " and bool(FILE_NAME.fullmatch(token)))
         yield token, crate if file else None
         crate = token if is_crate else crate
