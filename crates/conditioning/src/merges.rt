@@ -104,7 +104,7 @@ pub fn merge_outputs(alloc: Global, cases: u32, outputs: usize) -> Result<Vec<So
     ensures { IfOk result (λ ss. ss.items ≡ merge_sources cases outputs) }
 {
     let mut all = Vec::new(alloc);
-    for output in 0..number(outputs)? {
+    for output in 0..to_u32(outputs)? {
         let Some(vertex) = cases.checked_add(output) else {
             return Err(OutOfMemory);
         };
