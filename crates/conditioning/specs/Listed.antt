@@ -4,14 +4,16 @@ use Rattle.level_meaning.specs.declared.source.Guard.{Guard}
 use Rattle.algo_tree.specs.Tree.{Vertex}
 use Rattle.conditioning_laws.specs.Guarded.{guard_for, merge_of, guarded}
 
--- The cases from case i on.
+-- The cases from this case on.
 abbrev pub cases_listed : List Guard → ℕ → List ℤ → ℕ → List Vertex → List Vertex
-cases_listed gs m values i [] = []
-cases_listed gs m values i (u ∷ us) =
-    guarded (gs ++ guard_for m values i ∷ []) m u ∷ cases_listed gs m values (suc i) us
+cases_listed gs condition values case [] = []
+cases_listed gs condition values case (u ∷ us) =
+    guarded (gs ++ guard_for condition values case ∷ []) condition u ∷
+    cases_listed gs condition values (suc case) us
 
--- The merges from that of output q on.
+-- The merges from that of this output on.
 abbrev pub merges_listed : List ℕ → List Guard → ℕ → List ℤ → ℕ → List ℕ → ℕ → List (List ℕ) → List Vertex
-merges_listed d gs m values k outs q [] = []
-merges_listed d gs m values k outs q (name ∷ names) =
-    merge_of d gs m values k q name (slice_index_or outs q 0) ∷ merges_listed d gs m values k outs (suc q) names
+merges_listed definition gs condition values cases outs output [] = []
+merges_listed definition gs condition values cases outs output (name ∷ names) =
+    merge_of definition gs condition values cases output name (slice_index_or outs output 0) ∷
+    merges_listed definition gs condition values cases outs (suc output) names

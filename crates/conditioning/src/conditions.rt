@@ -9,7 +9,7 @@ use std::alloc::Global;
 use syn_base::{OutOfMemory, to_u32};
 
 /// A source of a level, where `before` further inputs stand before the level's own.
-fn shifted(before: u32, source: Source) -> Result<Source, OutOfMemory>
+fn shift_source(before: u32, source: Source) -> Result<Source, OutOfMemory>
     ensures { IfOk result (λ s. s ≡ shift before source) }
 {
     match source {
@@ -22,7 +22,7 @@ fn shifted(before: u32, source: Source) -> Result<Source, OutOfMemory>
 }
 
 /// These sources, where `before` further inputs stand before a level's own.
-pub fn shifted_sources(
+pub fn shift_sources(
     alloc: Global,
     before: u32,
     sources: &[Source],
@@ -31,13 +31,13 @@ pub fn shifted_sources(
 {
     let mut all = Vec::new(alloc);
     for source in sources {
-        all.push(shifted(before, *source)?)?;
+        all.push(shift_source(before, *source)?)?;
     }
     Ok(all)
 }
 
 /// The inputs of a graph under guards: the guards' sources, and after them its own sources.
-pub fn handed(
+pub fn graph_inputs(
     alloc: Global,
     guards: &[Guard],
     before: u32,
@@ -47,7 +47,7 @@ pub fn handed(
 {
     let mut all = sources_of(alloc, guards)?;
     for source in sources {
-        all.push(shifted(before, *source)?)?;
+        all.push(shift_source(before, *source)?)?;
     }
     Ok(all)
 }
@@ -97,7 +97,7 @@ pub fn guards_under(
 {
     let mut all = copy_guards(alloc, guards)?.into_vec();
     for guard in own {
-        let source = shifted(before, guard.source)?;
+        let source = shift_source(before, guard.source)?;
         all.push(guard_on(alloc, source, guard)?)?;
     }
     Ok(all)

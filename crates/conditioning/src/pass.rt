@@ -10,7 +10,7 @@ ghost use Rattle.conditioning_laws.specs.Guarded.{guard as guarded_tree, guarded
 ghost use Rattle.conditioning_laws.specs.NoCase.{HasNoCase};
 ghost use Rattle.conditioning.specs.Listed.{cases_listed};
 
-use crate::conditions::{guards_of_case, own_guards, shifted_sources};
+use crate::conditions::{guards_of_case, own_guards, shift_sources};
 use crate::merges::{Switched, add_merges, merge_outputs};
 use crate::vertices::{as_graph, as_operation};
 use algo_tree::{Kind, Tree, Vertex};
@@ -85,7 +85,7 @@ fn guard_graph(
 {
     let own = own_guards(alloc, guards)?;
     let handed = to_u32(guards.len())?;
-    let outputs = shifted_sources(alloc, handed, outputs)?;
+    let outputs = shift_sources(alloc, handed, outputs)?;
     let inner = guard_each(alloc, own.as_slice(), handed, &vertex.inner)?;
     as_graph(alloc, guards, before, vertex, outputs, inner)
 }

@@ -4,7 +4,7 @@ ghost use Rattle.algo_tree.specs.declared.vertex.Vertex.{out-Vertex};
 ghost use Rattle.algo_tree.specs.View.{kind_view, label_view, view, vertices_view};
 ghost use Rattle.conditioning_laws.specs.Guarded.{graph_under, operation_under};
 
-use crate::conditions::{guards_under, handed, shifted_sources};
+use crate::conditions::{graph_inputs, guards_under, shift_sources};
 use algo_tree::{Kind, Vertex, copy_bytes, copy_kind, copy_lens, copy_names, copy_part};
 use level_meaning::{Guard, Part, Source};
 use std::alloc::Global;
@@ -50,7 +50,7 @@ pub fn as_operation(
     ensures { IfOk result (λ u. view u ≡ operation_under guards.now before
         (label_view (out-Vertex vertex.now)) (kind_view (out-Vertex vertex.now).kind)) }
 {
-    let ins = shifted_sources(alloc, before, vertex.ins.as_slice())?;
+    let ins = shift_sources(alloc, before, vertex.ins.as_slice())?;
     let guards = guards_under(alloc, guards, before, vertex.guards.as_slice())?;
     let kept = kept_of(alloc, vertex)?;
     let kind = copy_kind(alloc, &vertex.kind)?;
@@ -79,7 +79,7 @@ pub fn as_graph(
     ensures { IfOk result (λ u. view u ≡ graph_under guards.now before
         (label_view (out-Vertex vertex.now)) outputs.items (vertices_view inner.items)) }
 {
-    let ins = handed(alloc, guards, before, vertex.ins.as_slice())?;
+    let ins = graph_inputs(alloc, guards, before, vertex.ins.as_slice())?;
     let kept = kept_of(alloc, vertex)?;
     Ok(Vertex {
         part: kept.part,

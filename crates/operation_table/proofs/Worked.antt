@@ -14,7 +14,7 @@ use Rattle.factorisation_laws.proofs.Worked.{of, alone}
 use Rattle.inlining_laws.specs.Flat.{runs, gets, sets}
 use Rattle.flat_laws.specs.FlatOf.{flat_of}
 use Rattle.operation_table.specs.Table.{Condition, Row, stage_row, row, table}
-use Rattle.operation_table.specs.Listed.{listed}
+use Rattle.operation_table.specs.Listed.{flat_rows}
 
 abbrev only : Vertex → Vertices
 only u = and_vertex u no_vertices
@@ -99,7 +99,7 @@ rows : table main ≡
 rows = refl
 
 -- what the three passes make of it has these operations
-flattened : listed (flat_of main) ≡ table main
+flattened : flat_rows (flat_of main) ≡ table main
 flattened = refl
 
 -- names as texts
@@ -143,7 +143,7 @@ deep_rows : table deep_main ≡
     ++ (row (Named (codes "r") ∷ Port (codes "y") ∷ []) (codes "R") [] (2 ∷ []) (runs implode) ∷ []))))
 deep_rows = refl
 
-deep_flattened : listed (flat_of deep_main) ≡ table deep_main
+deep_flattened : flat_rows (flat_of deep_main) ≡ table deep_main
 deep_flattened = refl
 
 stage_names : map (λ (r : Row). r.name) (halves (Named (codes "d") ∷ [])) ≡ codes "d:get" ∷ codes "d:set" ∷ (codes "d:get." ++ decimal 1) ∷ (codes "d:set." ++ decimal 1) ∷ []

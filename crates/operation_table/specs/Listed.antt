@@ -20,10 +20,10 @@ vertex_row bodies x = record {
   task = task_of bodies x.kind;
 }
 
-abbrev pub listed : Graph → List Row
-listed g = map (vertex_row g.bodies) g.vertices
+abbrev pub flat_rows : Graph → List Row
+flat_rows g = map (vertex_row g.bodies) g.vertices
 
 -- The flat graph has the operations of the tree and no others, in order: with these names, definitions, kinds and
 -- lengths of outputs, and each with a guard for each case around it, outer first, and no other guard.
 abbrev pub HasOperations : tree.Vertex → Graph → Type 0
-HasOperations main g = listed g ≡ table main
+HasOperations main g = flat_rows g ≡ table main

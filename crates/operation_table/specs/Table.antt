@@ -54,58 +54,69 @@ pub record Row : Type 0 where
 -- An operation is named by its path, and the halves of a stage of a delay beside that by `:get` and `:set`, with the
 -- number of the stage after it if that is not 0.
 abbrev pub stage_row : Path → ℕ → List ℕ → List Condition → List ℕ → Task → Row
-stage_row p i d cs outs task = record {
-  name = path_text p ++ half_text task i;
-  definition = d;
-  conditions = cs;
+stage_row path stage definition conditions outs task = record {
+  name = path_text path ++ half_text task stage;
+  definition = definition;
+  conditions = conditions;
   outs = outs;
   task = task;
 }
 
 abbrev pub row : Path → List ℕ → List Condition → List ℕ → Task → Row
-row p d cs outs task = stage_row p 0 d cs outs task
+row path definition conditions outs task = stage_row path 0 definition conditions outs task
 
--- The stages of a delay from stage i on, one for each group of initial values.
+-- The stages of a delay from this stage on, one for each group of initial values.
 abbrev pub delay_rows : Path → List Condition → List ℕ → List ℕ → ℕ → List Vector → List Row
-delay_rows p cs d outs i [] = []
-delay_rows p cs d outs i (v ∷ vs) =
-    stage_row p i d cs outs (gets v) ∷ stage_row p i d cs [] sets ∷ delay_rows p cs d outs (suc i) vs
+delay_rows path conditions definition outs stage [] = []
+delay_rows path conditions definition outs stage (v ∷ vs) =
+    stage_row path stage definition conditions outs (gets v) ∷
+    stage_row path stage definition conditions [] sets ∷
+    delay_rows path conditions definition outs (suc stage) vs
 
 -- The unit that flattening makes for a port.
 abbrev pub port : Path → List ℕ → Path
-port p name = p ++ Port name ∷ []
+port path name = path ++ Port name ∷ []
 
 abbrev pub explode_rows : Path → List Condition → List ℕ → ℕ → List Feed → List Row
-explode_rows p cs d n [] = []
-explode_rows p cs d n (Fork name k len ∷ fs) =
-    row (port p name) d cs (replicate n len) (runs explode) ∷ explode_rows p cs d n fs
-explode_rows p cs d n (Diffuse k ∷ fs) = explode_rows p cs d n fs
-explode_rows p cs d n (Iterate k y ∷ fs) = explode_rows p cs d n fs
+explode_rows path conditions definition count [] = []
+explode_rows path conditions definition count (Fork name input len ∷ fs) =
+    row (port path name) definition conditions (replicate count len) (runs explode) ∷
+    explode_rows path conditions definition count fs
+explode_rows path conditions definition count (Diffuse input ∷ fs) =
+    explode_rows path conditions definition count fs
+explode_rows path conditions definition count (Iterate input output ∷ fs) =
+    explode_rows path conditions definition count fs
 
--- The first of these lines tells of output j.
+-- The first of these lines is that of the output of this number.
 abbrev pub implode_rows : Path → List Condition → List ℕ → List ℕ → ℕ → List Give → List Row
-implode_rows p cs d outs j [] = []
-implode_rows p cs d outs j (Join name y ∷ gs) =
-    row (port p name) d cs (slice_index_or outs j 0 ∷ []) (runs implode) ∷ implode_rows p cs d outs (suc j) gs
-implode_rows p cs d outs j (Last y ∷ gs) = implode_rows p cs d outs (suc j) gs
+implode_rows path conditions definition outs number [] = []
+implode_rows path conditions definition outs number (Join name output ∷ gs) =
+    row (port path name) definition conditions (slice_index_or outs number 0 ∷ []) (runs implode) ∷
+    implode_rows path conditions definition outs (suc number) gs
+implode_rows path conditions definition outs number (Last output ∷ gs) =
+    implode_rows path conditions definition outs (suc number) gs
 
--- The first of these names is that of output q.
+-- The first of these names is that of this output.
 abbrev pub merge_rows : Path → List Condition → List ℕ → List ℤ → List ℕ → ℕ → List (List ℕ) → List Row
-merge_rows p cs d values outs q [] = []
-merge_rows p cs d values outs q (name ∷ names) =
-    row (port p name) d cs (slice_index_or outs q 0 ∷ []) (runs (merge values)) ∷
-    merge_rows p cs d values outs (suc q) names
+merge_rows path conditions definition values outs output [] = []
+merge_rows path conditions definition values outs output (name ∷ names) =
+    row (port path name) definition conditions (slice_index_or outs output 0 ∷ []) (runs (merge values)) ∷
+    merge_rows path conditions definition values outs (suc output) names
 
 -- A unit of this path, under these conditions, of this definition, with these lengths of outputs and of this kind;
 -- from the operations of its vertices, of its cases, which have these values, and of each copy.
 abbrev pub rows_by : Path → List Condition → List ℕ → List ℕ → Kind → List Row →
     (List ℤ → List Row) → (ℕ → List Row) → List Row
-rows_by p cs d outs (graph sources) inner cases copy = inner
-rows_by p cs d outs (switch values names) inner cases copy = cases values ++ merge_rows p cs d values outs 0 names
-rows_by p cs d outs (repeat n feeds gives) inner cases copy =
-    explode_rows p cs d n (in_line_order feeds) ++ (flat_map copy (numbers_below n) ++ implode_rows p cs d outs 0 gives)
-rows_by p cs d outs (delay vs) inner cases copy = delay_rows p cs d outs 0 vs
-rows_by p cs d outs k inner cases copy = row p d cs outs (runs k) ∷ []
+rows_by path conditions definition outs (graph sources) inner cases copy = inner
+rows_by path conditions definition outs (switch values names) inner cases copy =
+    cases values ++ merge_rows path conditions definition values outs 0 names
+rows_by path conditions definition outs (repeat count feeds gives) inner cases copy =
+    explode_rows path conditions definition count (in_line_order feeds) ++
+    (flat_map copy (numbers_below count) ++ implode_rows path conditions definition outs 0 gives)
+rows_by path conditions definition outs (delay vs) inner cases copy =
+    delay_rows path conditions definition outs 0 vs
+rows_by path conditions definition outs kind inner cases copy =
+    row path definition conditions outs (runs kind) ∷ []
 
 abbrev pub condition_of : Guard → Condition
 condition_of g = record { values = g.values; case = g.case }
@@ -115,33 +126,36 @@ abbrev pub conditions_of : Label → List Condition
 conditions_of l = map condition_of l.guards
 
 abbrev pub inside : Path → Part → Path
-inside p part = p ++ part ∷ []
+inside path part = path ++ part ∷ []
 
 abbrev mutual
   -- A unit of this path, under these conditions.
   pub unit_rows : Path → List Condition → Vertex → List Row
-  unit_rows p cs (vertex l us) =
-      rows_by p cs l.definition l.outs l.kind (graph_rows p cs us) (λ values. case_rows p cs values 0 us)
-      (λ i. copy_rows (inside p (Numbered i)) cs us)
+  unit_rows path conditions (vertex l us) =
+      rows_by path conditions l.definition l.outs l.kind
+      (graph_rows path conditions us)
+      (λ values. case_rows path conditions values 0 us)
+      (λ number. copy_rows (inside path (Numbered number)) conditions us)
 
   -- The vertices of a graph of this path.
   pub graph_rows : Path → List Condition → Vertices → List Row
-  graph_rows p cs no_vertices = []
-  graph_rows p cs (and_vertex u us) =
-      unit_rows (inside p (label_of u).part) (cs ++ conditions_of (label_of u)) u ++ graph_rows p cs us
+  graph_rows path conditions no_vertices = []
+  graph_rows path conditions (and_vertex u us) =
+      unit_rows (inside path (label_of u).part) (conditions ++ conditions_of (label_of u)) u ++
+      graph_rows path conditions us
 
-  -- The cases, from case c on, of a switch of this path.
+  -- The cases, from this case on, of a switch of this path.
   pub case_rows : Path → List Condition → List ℤ → ℕ → Vertices → List Row
-  case_rows p cs values c no_vertices = []
-  case_rows p cs values c (and_vertex u us) =
-      unit_rows (inside p (label_of u).part)
-      ((cs ++ record { values = values; case = c } ∷ []) ++ conditions_of (label_of u)) u ++
-      case_rows p cs values (suc c) us
+  case_rows path conditions values case no_vertices = []
+  case_rows path conditions values case (and_vertex u us) =
+      unit_rows (inside path (label_of u).part)
+      ((conditions ++ record { values = values; case = case } ∷ []) ++ conditions_of (label_of u)) u ++
+      case_rows path conditions values (suc case) us
 
   -- The one body of a repetition, as a copy of this path.
   pub copy_rows : Path → List Condition → Vertices → List Row
-  copy_rows p cs no_vertices = []
-  copy_rows p cs (and_vertex u us) = unit_rows p cs u
+  copy_rows path conditions no_vertices = []
+  copy_rows path conditions (and_vertex u us) = unit_rows path conditions u
 
 -- The operations of an algorithm in order; the number of one is its place.
 abbrev pub table : Vertex → List Row

@@ -14,7 +14,7 @@ use Rattle.syn_base.specs.Bytes.{Bytes}
 use Rattle.algo_rules.specs.Resolved.{refusal, tree_of}
 use Rattle.flat_laws.specs.FlatOf.{flat_of}
 use Rattle.operation_table.specs.Table.{Row, table}
-use Rattle.operation_table.specs.Listed.{listed}
+use Rattle.operation_table.specs.Listed.{flat_rows}
 
 abbrev one : Bytes → Port
 one x = record { name = x; len = 1 }
@@ -54,5 +54,5 @@ names : map (λ (r : Row). r.name) (table (tree_of definitions)) ≡
     codes "s" ∷ codes "t" ∷ codes "r:q" ∷ codes "r:p" ∷ (codes "r" ++ (codes "." ++ decimal 0 ++ []) ++ []) ∷ (codes "r" ++ (codes "." ++ decimal 1 ++ []) ++ []) ∷ codes "r:z" ∷ codes "a" ∷ []
 names = refl
 
-flattened : listed (flat_of (tree_of definitions)) ≡ table (tree_of definitions)
+flattened : flat_rows (flat_of (tree_of definitions)) ≡ table (tree_of definitions)
 flattened = refl

@@ -34,14 +34,15 @@ text_feeds inner own lines = flat_map (λ l. feeds_by inner own l.frontier) line
 
 -- The explode of a fork line: it has an output for each copy, of the length of the inner input.
 abbrev pub explodes_by : Path → List Condition → Bytes → ℕ → Ports → Frontier → List Row
-explodes_by p cs d copies inner (Fork q x) =
-    row (port p q) d cs (replicate copies (len_of inner.ins x)) (runs explode) ∷ []
-explodes_by p cs d copies inner (Diffuse q x) = []
-explodes_by p cs d copies inner (Iterate q x y z) = []
-explodes_by p cs d copies inner (Join y z) = []
+explodes_by path conditions definition copies inner (Fork name x) =
+    row (port path name) definition conditions (replicate copies (len_of inner.ins x)) (runs explode) ∷ []
+explodes_by path conditions definition copies inner (Diffuse name x) = []
+explodes_by path conditions definition copies inner (Iterate name x y z) = []
+explodes_by path conditions definition copies inner (Join y z) = []
 
 abbrev pub text_explodes : Path → List Condition → Bytes → ℕ → Ports → List FrontierLine → List Row
-text_explodes p cs d copies inner lines = flat_map (λ l. explodes_by p cs d copies inner l.frontier) lines
+text_explodes path conditions definition copies inner lines =
+    flat_map (λ l. explodes_by path conditions definition copies inner l.frontier) lines
 
 -- The repetition of these copies and feeds is that of the definition of this name.
 pub record IsOfText (ds : List Def) (name : Bytes) (copies : ℕ) (feeds : List Feed) : Type 0 where
