@@ -1,3 +1,5 @@
 pub mod Stands
 pub mod Definitions
 pub mod Tables
+pub mod Told
+mod WorkedMarks

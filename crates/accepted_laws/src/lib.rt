@@ -7,6 +7,7 @@
 
 ghost use Rattle.accepted_laws.specs.Accepted.{AcceptedHaveFlat, TablesFit};
 ghost use Rattle.accepted_laws.specs.Flat.{FlatOfStands, FlatTakesTheSame, TreesHaveFlat};
+ghost use Rattle.accepted_laws.specs.Told.{AcceptedDoAsTold};
 
 /// The flat graph that is defined for a tree stands for the tree's flat list.
 pub fn flat_of_stands()
@@ -27,6 +28,12 @@ pub fn flat_takes_the_same()
 /// The definitions of an accepted text make a tree whose flat graph is valid and means the same.
 pub fn accepted_have_flat()
     ensures { AcceptedHaveFlat }
+{}
+
+/// The tree that the definitions of an accepted text mean has the sensors and actuators of the tree to which they
+/// resolve, and its actuators take in each reaction what the meaning with the text's marks says.
+pub fn accepted_do_as_told()
+    ensures { AcceptedDoAsTold }
 {}
 
 /// The rows of an accepted table have the vectors of the algorithm's sensors.

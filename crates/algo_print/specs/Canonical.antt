@@ -1,4 +1,5 @@
--- The canonical text of definitions: the one form of each line, words separated by one space, no empty lines and no comments.
+-- The canonical text of definitions: the one form of each line, words separated by one space, no empty lines and no
+-- comments.
 use Rattle.std.specs.Prelude.{ℕ, ◌==◌, if◌then◌else◌, List, [], ◌∷◌, ◌++◌, map, All, Option, Some, None, codes, ℤ, pos}
 use Rattle.std.specs.Fmt.{signed_decimal}
 use Rattle.body_lang.specs.declared.expression.Port.{Port}
@@ -6,7 +7,16 @@ use Rattle.body_text.specs.Canonical.{canonical, IsRead}
 use Rattle.algo_defs.specs.declared.definition.Def.{Def}
 use Rattle.algo_defs.specs.declared.definition.Defs.{Defs}
 use Rattle.algo_defs.specs.declared.definition.Body.{Body}
-use Rattle.algo_defs.specs.declared.definition.Body.TheVariants.{Sensor, Actuator, Constant, Delay, Function, Graph, Switch, Repeat}
+use Rattle.algo_defs.specs.declared.definition.Body.TheVariants.{
+  Sensor,
+  Actuator,
+  Constant,
+  Delay,
+  Function,
+  Graph,
+  Switch,
+  Repeat,
+}
 use Rattle.algo_defs.specs.declared.definition.Output.{Output}
 use Rattle.algo_defs.specs.declared.definition.Reference.{Reference}
 use Rattle.algo_defs.specs.declared.definition.End.{End}
@@ -43,7 +53,8 @@ port_words key p = key ∷ p.name ∷ count p.len ∷ []
 
 -- the output of a function with these inputs
 abbrev pub output_words : List Port → Output → List Bytes
-output_words ins o = codes "out" ∷ o.port.name ∷ count o.port.len ∷ codes "=" ∷ canonical (map (λ p. p.name) ins) o.formula ∷ []
+output_words ins o =
+    codes "out" ∷ o.port.name ∷ count o.port.len ∷ codes "=" ∷ canonical (map (λ p. p.name) ins) o.formula ∷ []
 
 -- a mark, where there is one
 abbrev pub mark_words : Option ℕ → List Bytes
@@ -92,27 +103,34 @@ abbrev pub function_lines : List Port → List Output → List (List Bytes)
 function_lines ins outs = map (port_words (codes "in")) ins ++ map (output_words ins) outs
 
 abbrev pub graph_lines : List Port → List Port → List Reference → List Edge → List (List Bytes)
-graph_lines ins outs references edges = map (port_words (codes "in")) ins ++ (map (port_words (codes "out")) outs ++ (map reference_words references ++ map edge_words edges))
+graph_lines ins outs references edges =
+    map (port_words (codes "in")) ins ++ (map (port_words (codes "out")) outs
+    ++ (map reference_words references ++ map edge_words edges))
 
 -- the lines of a switch between its first and the one with `otherwise`
 abbrev pub switch_lines : Bytes → List Port → List Port → List Case → List (List Bytes)
-switch_lines on ins outs cases = (codes "on" ∷ on ∷ []) ∷ (map (port_words (codes "in")) ins ++ (map (port_words (codes "out")) outs ++ map case_words cases))
+switch_lines on ins outs cases =
+    (codes "on" ∷ on ∷ [])
+    ∷ (map (port_words (codes "in")) ins ++ (map (port_words (codes "out")) outs ++ map case_words cases))
 
 -- the last lines of a switch
 abbrev pub otherwise_lines : Bytes → List (List Bytes)
 otherwise_lines def = (codes "otherwise" ∷ def ∷ []) ∷ end_words ∷ []
 
 abbrev pub whole_switch : Bytes → Bytes → List Port → List Port → List Case → Bytes → List (List Bytes)
-whole_switch name on ins outs cases otherwise = (codes "switch" ∷ name ∷ []) ∷ (switch_lines on ins outs cases ++ otherwise_lines otherwise)
+whole_switch name on ins outs cases otherwise =
+    (codes "switch" ∷ name ∷ []) ∷ (switch_lines on ins outs cases ++ otherwise_lines otherwise)
 
 abbrev pub whole_function : Bytes → List Port → List Output → List (List Bytes)
 whole_function name ins outs = (codes "function" ∷ name ∷ []) ∷ (function_lines ins outs ++ end_words ∷ [])
 
 abbrev pub whole_graph : Bytes → List Port → List Port → List Reference → List Edge → List (List Bytes)
-whole_graph name ins outs references edges = (codes "graph" ∷ name ∷ []) ∷ (graph_lines ins outs references edges ++ end_words ∷ [])
+whole_graph name ins outs references edges =
+    (codes "graph" ∷ name ∷ []) ∷ (graph_lines ins outs references edges ++ end_words ∷ [])
 
 abbrev pub whole_repeat : Bytes → ℕ → Bytes → List FrontierLine → List (List Bytes)
-whole_repeat name copies def lines = (codes "repeat" ∷ name ∷ count copies ∷ def ∷ []) ∷ (map frontier_words lines ++ end_words ∷ [])
+whole_repeat name copies def lines =
+    (codes "repeat" ∷ name ∷ count copies ∷ def ∷ []) ∷ (map frontier_words lines ++ end_words ∷ [])
 
 -- the lines of a definition of this name in a text of this version
 abbrev pub body_lines : ℕ → Bytes → Body → List (List Bytes)

@@ -1,5 +1,21 @@
 -- Where definitions stand in a list of them, and their ports in a table beside it.
-use Rattle.std.specs.Prelude.{◌≡◌, ℕ, ◌<◌, List, [], ◌∷◌, length, Option, Some, None, Result, Ok, Err, slice_get, slice_index_or}
+use Rattle.std.specs.Prelude.{
+  ◌≡◌,
+  ℕ,
+  ◌<◌,
+  List,
+  [],
+  ◌∷◌,
+  length,
+  Option,
+  Some,
+  None,
+  Result,
+  Ok,
+  Err,
+  slice_get,
+  slice_index_or,
+}
 use Rattle.algo_defs.specs.declared.definition.Def.{Def}
 use Rattle.algo_defs.specs.declared.fault.AlgoError.{AlgoError}
 use Rattle.algo_defs.specs.declared.fault.AlgoError.TheVariants.{Refused, Limit, OutOfMemory}
@@ -22,7 +38,8 @@ ArePlaced ds table [] (p ∷ ps) = ⊥
 ArePlaced ds table (w ∷ ws) [] = ⊥
 ArePlaced ds table (w ∷ ws) (p ∷ ps) = IsPlaced ds table w p × ArePlaced ds table ws ps
 
--- What a check answered is the fault that there is, or that there is none. Want of memory may come in place of anything.
+-- What a check answered is the fault that there is, or that there is none. Want of memory may come in place of
+-- anything.
 abbrev pub Checks : {A : Type 0} → Result A AlgoError → Option AlgoError → Type 0
 Checks (Ok done) expected = expected ≡ None
 Checks (Err (Refused f)) expected = expected ≡ Some (Refused f)

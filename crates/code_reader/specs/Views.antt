@@ -1,5 +1,24 @@
 -- What contracts see of the values that the reader handles.
-use Rattle.std.specs.Prelude.{◌≡◌, ◌<◌, ℕ, Bool, true, false, ◌||◌, List, [], ◌∷◌, length, map, Option, Some, None, Result, Ok, Err}
+use Rattle.std.specs.Prelude.{
+  ◌≡◌,
+  ◌<◌,
+  ℕ,
+  Bool,
+  true,
+  false,
+  ◌||◌,
+  List,
+  [],
+  ◌∷◌,
+  length,
+  map,
+  Option,
+  Some,
+  None,
+  Result,
+  Ok,
+  Err,
+}
 use Rattle.std.specs.List.{list_any}
 use Rattle.std.specs.Global.{Vec}
 use Rattle.std.specs.Borrow.{Bor}
@@ -124,10 +143,12 @@ HasNumbers (Err (Limit f)) asked = ⊥
 
 -- an operation, as its line has it
 abbrev pub call_in : List Bytes → ℕ → List ℕ → Operation → Result Instr CodeError
-call_in operations line here o = call_of operations line here o.name.now (arguments_of o.ins.now) (arguments_of o.outs.now)
+call_in operations line here o =
+    call_of operations line here o.name.now (arguments_of o.ins.now) (arguments_of o.outs.now)
 
 abbrev pub operation_line : List Bytes → Reading → ℕ → Operation → Result Reading CodeError
-operation_line operations r line o = call_line operations r line o.name.now (arguments_of o.ins.now) (arguments_of o.outs.now)
+operation_line operations r line o =
+    call_line operations r line o.name.now (arguments_of o.ins.now) (arguments_of o.outs.now)
 
 abbrev pub declaration_view : declared_declaration.Declaration → Declaration
 declaration_view d = record { number = d.number; len = d.len; depth = d.depth }

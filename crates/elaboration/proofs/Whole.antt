@@ -39,6 +39,8 @@ module _ (ds : List Def) (read : AreWellRead ds) (have : HavePeriods ds) where
           marks = marks;
           resolves = r;
           marked = m;
+          may = stand.may;
+          made_is = refl;
           meaning = periods-keep marks resolved s.tree stand.may.stand;
           tree = tree-made marks resolved s.tree stand.may.stand few;
           named = names-keep marks resolved stand.may.stand stand.named s.named;

@@ -11,6 +11,8 @@ use Rattle.operation_paths.specs.Bounded.{HasBounds}
 use Rattle.operation_paths.specs.Named.{HasNames}
 use Rattle.multi_period.specs.declared.mark.Mark.{Mark}
 use Rattle.multi_period.specs.Laws.{DoesAsMarked}
+use Rattle.multi_period.specs.Marks.{MayHaveMarks}
+use Rattle.multi_period.specs.Periods.{periods}
 use Rattle.period_marks.specs.Marking.{marking_of}
 use Rattle.elaboration.specs.Elaborated.{elaboration_of}
 
@@ -21,6 +23,8 @@ pub record IsElaborated (ds : List Def) (made : Vertex) : Type 0 where
   pub marks : List Mark
   pub resolves : resolution_of ds ≡ Ok resolved
   pub marked : marking_of ds ≡ Ok marks
+  pub may : MayHaveMarks marks resolved
+  pub made_is : made ≡ periods marks resolved
   pub meaning : DoesAsMarked marks resolved made
   pub tree : IsTree made
   pub named : HasNames made

@@ -51,7 +51,7 @@ module _ (main : Vertex) (text : Bytes) (next : Described → Table → Made) wh
   refused_so held (error.Limit fault) h = is_refused held (error.Limit fault) h
   refused_so held error.OutOfMemory h = memory held behind
 
-  pub described_so : (old new : Held) (compilation : Compilation) (made : Result Given (Ending Refusal)) → IsCompilation main text architecture
+  pub described_so : (old new : Held) (compilation : Compilation) (made : Result Given (Ending Refusal)) → IsCompilation main text compilation
       → Makes old new (next (described compilation.text) compilation.durations) made → Makes old new behind made
   described_so old new compilation made is m =
       let d = described compilation.text in

@@ -3,6 +3,7 @@ use Rattle.std.proofs.Common.{◌≡◌, ℕ, Bool, true, false, length, Option,
 use Rattle.std.specs.Prelude.{◌⊎◌, if◌then◌else◌, nat_lt, option_and_then}
 use Rattle.syn_base.specs.Bytes.{Bytes}
 use Rattle.outside.specs.Shelf.{Held, file_bound}
+use Rattle.outside.specs.declared.file.File.{File}
 use Rattle.outside.specs.Sink.{Sunk}
 use Rattle.command_plan.specs.Plan.{Plan, give, refuse, read, outcome, ReadsOnly, GivesOnly}
 use Rattle.command_plan.specs.Ending.{Ending, done, unwritten}
@@ -15,16 +16,20 @@ use Rattle.top_plans.specs.Given.{Given, written, printed, executed, summed, sta
 use Rattle.top_plans.specs.Plans.{plan_for, plan_of}
 use Rattle.top_plans.proofs.Walk.{Leaf, walk}
 
+-- whatever the texts are
+abbrev pub Any : Bytes → Bytes → Type 0
+Any name bytes = Unit {0}
+
 -- each file is read under the name that the words give it
 pub reads_only : (command : Option Command) → ReadsOnly (names_of command) (plan_of command)
 reads_only None = tt
-reads_only (Some command) = walk (ReadsOnly (names_for command)) (λ r n. tt) command (λ file name next e h. (e, h)) (λ a l. tt)
+reads_only (Some command) = walk Any (ReadsOnly (names_for command)) (λ r n. tt) command (λ file name next e h. (e, λ bytes. h bytes tt)) (λ a l. tt)
 
 -- all that a command may give is a leaf of it
-pub gives_leaves : (P : Given → Type 0) (command : Command) → ((a : Given) → Leaf command a → P a) → GivesOnly P (plan_for command)
-gives_leaves P command h = walk (GivesOnly P) (λ r n. tt) command (λ file name next e k. k) h
+pub gives_leaves : (P : Given → Type 0) (command : Command) → ((a : Given) → Leaf Any command a → P a) → GivesOnly P (plan_for command)
+gives_leaves P command h = walk Any (GivesOnly P) (λ r n. tt) command (λ file name next e k. λ bytes. k bytes tt) h
 
-once_leaf : (command : Command) (a : Given) → ¬ RunsJobs command → Leaf command a → IsOnce stages a × RunsNone stages a
+once_leaf : (command : Command) (a : Given) → ¬ RunsJobs command → Leaf Any command a → IsOnce stages a × RunsNone stages a
 once_leaf command (written t) p l = (omega arith, refl)
 once_leaf (run a h s w) (printed t e) p l = absurd (p tt)
 once_leaf (load n) (summed e t) p l = absurd (p tt)
@@ -64,7 +69,7 @@ pub keeps_plain : (command : Option Command) → IsPlain command → (held held'
 keeps_plain command p held held' sunk sunk' driven driven' ending answers = answers.once (gives_once command p)
 
 -- a load is written by one call too
-load_leaf : (n : ℕ) (a : Given) → Leaf (load n) a → IsOnce stages a
+load_leaf : (n : ℕ) (a : Given) → Leaf Any (load n) a → IsOnce stages a
 load_leaf n (written t) l = absurd l
 load_leaf n (printed t e) l = absurd l
 load_leaf n (executed e) l = absurd l
@@ -89,17 +94,33 @@ module _ {R A : Type 0} where
   none_given : (a : A) → None ≡ made a → ⊥
   none_given a e = cc
 
--- what a plan gives where the files are told is something that it may give
-pub told_gives : {R A : Type 0} (P : A → Type 0) (told : Bytes → Option Bytes) (plan : Plan R A) (a : A) → GivesOnly P plan → outcome told plan ≡ Some (Ok a) → P a
-told_gives P told (give b) a h e = subst P (same_given b a e) h
-told_gives P told (refuse r) a h e = absurd (not_given r a e)
-told_gives {R = R} {A = A} P told (read file name long next) a h e = by (told name) e (λ b q. told_gives P told (next b) a (h b) q)
-  where
-    deeper : (b : Bytes) (t : Bool) → (if t then Some (Err long) else outcome told (next b)) ≡ Some (Ok a) → (outcome told (next b) ≡ Some (Ok a) → P a) → P a
-    deeper b true q r = absurd (not_given long a q)
-    deeper b false q r = r q
+-- the text under a name is told
+abbrev pub IsTold : (Bytes → Option Bytes) → Bytes → Bytes → Type 0
+IsTold told name bytes = told name ≡ Some bytes
 
-    by : (o : Option Bytes) → option_and_then (λ bytes. if nat_lt file_bound (length bytes) then Some (Err long) else outcome told (next bytes)) o ≡ Some (Ok a)
-        → ((b : Bytes) → outcome told (next b) ≡ Some (Ok a) → P a) → P a
-    by None q r = absurd (none_given a q)
-    by (Some b) q r = deeper b (nat_lt file_bound (length b)) q (r b)
+-- what a plan gives, where the files are told, has this
+abbrev Tells : (Given → Type 0) → (Bytes → Option Bytes) → Plan Refusal Given → Type 0
+Tells P told plan = (a : Given) → outcome told plan ≡ Some (Ok a) → P a
+
+-- a plan that reads a file goes on with the text that is told
+read_told : (P : Given → Type 0) (told : Bytes → Option Bytes) (file : File) (name : Bytes) (long : Refusal)
+    (next : Bytes → Plan Refusal Given) → ((bytes : Bytes) → IsTold told name bytes → Tells P told (next bytes))
+    → Tells P told (read file name long next)
+read_told P told file name long next h a e = by (told name) refl e
+  where
+    deeper : (b : Bytes) (t : Bool) → told name ≡ Some b → (if t then Some (Err long) else outcome told (next b)) ≡ Some (Ok a) → P a
+    deeper b true s q = absurd (not_given long a q)
+    deeper b false s q = h b s a q
+
+    by : (o : Option Bytes) → told name ≡ o
+        → option_and_then (λ bytes. if nat_lt file_bound (length bytes) then Some (Err long) else outcome told (next bytes)) o ≡ Some (Ok a) → P a
+    by None s q = absurd (none_given a q)
+    by (Some b) s q = deeper b (nat_lt file_bound (length b)) s q
+
+-- what a command gives where the files are told is a leaf over the texts that are told
+pub told_gives : (P : Given → Type 0) (told : Bytes → Option Bytes) (command : Command)
+    → ((g : Given) → Leaf (IsTold told) command g → P g) → Tells P told (plan_for command)
+told_gives P told command leaf =
+    walk (IsTold told) (Tells P told) (λ r n a e. absurd (not_given r a e)) command
+    (λ file name next is h. read_told P told file name _ next h)
+    (λ g l a e. subst P (same_given g a e) (leaf g l))

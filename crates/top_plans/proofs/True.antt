@@ -6,6 +6,10 @@ use Rattle.std.proofs.lemmas.List.{map-append}
 use Rattle.std.proofs.lemmas.List.FromFn.{map-range_with_len_more}
 use Rattle.level_meaning.specs.Level.{Values, vector_at, zeros, numbers_below}
 use Rattle.algo_tree.specs.Meaning.{act_row}
+use Rattle.multi_period.specs.Meaning.{act_row_at}
+use Rattle.csv.specs.Reading.{default_config, records, strip_bom}
+use Rattle.syn_base.specs.Bytes.{Bytes}
+use Rattle.act_text.specs.Text.{output_text}
 use Rattle.archi_graph.specs.Archi.{Architecture as Archi}
 use Rattle.archi_graph.specs.Sequences.{sequences}
 use Rattle.durations.specs.Table.{entry_in}
@@ -26,6 +30,7 @@ use Rattle.accepted_laws.specs.Flat.{HasFlat}
 use Rattle.accepted_laws.proofs.Definitions.{accepted_have_flat}
 use Rattle.archi_reader.proofs.Accepted.{described_are}
 use Rattle.accepted_laws.proofs.Tables.{tables_fit}
+use Rattle.accepted_laws.proofs.Told.{accepted_do_as_told}
 use Rattle.check_laws.specs.Tests.{Cause, cause}
 use Rattle.check_laws.proofs.Whole.{no_cause_is_well_formed}
 use Rattle.check_cause.specs.declared.cause.CheckCause.{CheckCause}
@@ -33,10 +38,10 @@ use Rattle.command_words.specs.Command.{Command, check, sim, flat, chart, code, 
 use Rattle.top_plans.specs.Given.{Given, written, printed, executed, summed, Execution, one_job}
 use Rattle.top_plans.specs.Plans.{plan_for, schedule_of}
 use Rattle.top_plans.specs.Checks.{told}
-use Rattle.top_plans.specs.Meaning.{RunsTrue, MakesTrue, AcceptedRunTrue}
+use Rattle.top_plans.specs.Meaning.{RunsTrue, RunsAsTold, IsAlgorithmOf, SimulatesTrue, MakesTrue, AcceptedRunTrue}
 use Rattle.top_plans.proofs.Schedules.{schedules_are_valid}
-use Rattle.top_plans.proofs.Walk.{Comes, built, checked, IsAccepted, Leaf}
-use Rattle.top_plans.proofs.Commands.{gives_leaves, told_gives}
+use Rattle.top_plans.proofs.Walk.{Comes, built, checked, IsAccepted, IsSimulated, Leaf}
+use Rattle.top_plans.proofs.Commands.{IsTold, told_gives}
 
 same_numbers : {A : Type 0} (f : ℕ → A) (n : ℕ) → map f (range_with_len 0 n) ≡ map f (numbers_below n)
 same_numbers f zero = refl
@@ -92,46 +97,88 @@ module _ (e : Execution) (a : IsAccepted e) where
 
 -- by the laws of runs and of windows
 module _ (runs_end : RunsEnd) (runs_take_rows : RunsTakeRows) (windows_make : WindowsMakeTheRun) where
-  runs_true : (e : Execution) → IsAccepted e → RunsTrue e
-  runs_true e a = let s = supplied e a in let given = has e a in record {
-    limit = a.limit;
-    laws = have_laws (one_job e) s;
-    rows = λ list v n k x is q l. runs_take_rows (one_job e) s list v n k x is q l
-        ∙ ap (λ (w : Values). cond (nat_lt k (done_in (one_job e) (count (run (one_job e) list)) v)) (vector_at w n) (zeros (slice_index_or (lens_of (flat_of e.main).vertices x.ins) 0 0))) (given.taken e.rows.reactions k);
-    ended = λ list d. (runs_end (one_job e) s list d).rows ∙ same_numbers (flat_act_row (flat_of e.main) e.rows.reactions (initial_cells (flat_of e.main).vertices)) (length e.rows.reactions)
-        ∙ same_map (flat_act_row (flat_of e.main) e.rows.reactions (initial_cells (flat_of e.main).vertices)) (act_row e.main e.rows.reactions) (given.taken e.rows.reactions) (numbers_below (length e.rows.reactions));
-    windows = λ from count l. windows_make (one_job e) s from count l;
-  }
+  runs_true : (e : Execution) (a : IsAccepted e) → RunsTrue a.text e
+  runs_true e a =
+      let s = supplied e a in
+      let given = has e a in
+      let told = accepted_do_as_told a.text a.defs e.main a.says a.resolves in
+      let marks = told.0.marks in
+      let main = told.0.main in
+      let rows = e.rows.reactions in
+      let flat_row = flat_act_row (flat_of e.main) rows (initial_cells (flat_of e.main).vertices) in
+      let takes = λ (k : ℕ). given.taken rows k ∙ told.1.takes rows k in
+      let acts = same_map (act_row e.main rows) (act_row_at marks main rows) (told.1.takes rows) (numbers_below (length rows)) in
+      record {
+        algorithm = told.0;
+        made = told.1;
+        limit = a.limit;
+        laws = have_laws (one_job e) s;
+        rows = λ list v n k x is q l. runs_take_rows (one_job e) s list v n k x is q l
+            ∙ ap (λ (w : Values). cond (nat_lt k (done_in (one_job e) (count (run (one_job e) list)) v)) (vector_at w n) (zeros (slice_index_or (lens_of (flat_of e.main).vertices x.ins) 0 0))) (takes k);
+        ended = λ list d. (runs_end (one_job e) s list d).rows ∙ same_numbers flat_row (length rows)
+            ∙ same_map flat_row (act_row_at marks main rows) takes (numbers_below (length rows));
+        acts = acts;
+        lines = λ i. output_text (told.1.names i) (acts i);
+        windows = λ from count l. windows_make (one_job e) s from count l;
+      }
 
-  true_leaf : (command : Command) (g : Given) → Leaf command g → MakesTrue g
-  true_leaf command (written t) l = tt
-  true_leaf (runs a h s w) (printed t e) l = runs_true e l
-  true_leaf (load n) (summed e t) l = runs_true e l
-  true_leaf (exec a h c s w) (executed e) l = runs_true e l
-  true_leaf (check a h) (printed t e) l = absurd l
-  true_leaf (check a h) (executed e) l = absurd l
-  true_leaf (check a h) (summed e t) l = absurd l
-  true_leaf (sim a h) (printed t e) l = absurd l
-  true_leaf (sim a h) (executed e) l = absurd l
-  true_leaf (sim a h) (summed e t) l = absurd l
-  true_leaf (flat a) (printed t e) l = absurd l
-  true_leaf (flat a) (executed e) l = absurd l
-  true_leaf (flat a) (summed e t) l = absurd l
-  true_leaf (chart a h) (printed t e) l = absurd l
-  true_leaf (chart a h) (executed e) l = absurd l
-  true_leaf (chart a h) (summed e t) l = absurd l
-  true_leaf (code a h) (printed t e) l = absurd l
-  true_leaf (code a h) (executed e) l = absurd l
-  true_leaf (code a h) (summed e t) l = absurd l
-  true_leaf (dates a h r n) (printed t e) l = absurd l
-  true_leaf (dates a h r n) (executed e) l = absurd l
-  true_leaf (dates a h r n) (summed e t) l = absurd l
-  true_leaf (runs a h s w) (executed e) l = absurd l
-  true_leaf (runs a h s w) (summed e t) l = absurd l
-  true_leaf (load n) (printed t e) l = absurd l
-  true_leaf (load n) (executed e) l = absurd l
-  true_leaf (exec a h c s w) (printed t e) l = absurd l
-  true_leaf (exec a h c s w) (summed e t) l = absurd l
+  -- a simulation of texts that are told
+  simulates : (told : Bytes → Option Bytes) (a s output : Bytes) → IsSimulated (IsTold told) a s output → SimulatesTrue told a s output
+  simulates told a s output is =
+      let by = accepted_do_as_told is.text is.defs is.main is.says is.resolves in
+      let rows = is.rows.reactions in
+      record {
+        text = is.text;
+        table = is.table;
+        rows = is.rows;
+        algorithm = by.0;
+        text_told = is.text_told;
+        table_told = is.table_told;
+        reads = sym (by.1.tables (records default_config (strip_bom is.table))) ∙ is.tells;
+        lines = is.lines ∙ (λ i. output_text (by.1.names i)
+            (same_map (act_row is.main rows) (act_row_at by.0.marks by.0.main rows) (by.1.takes rows) (numbers_below (length rows)) i));
+      }
+
+  runs_as : (told : Bytes → Option Bytes) (command : Command) (e : Execution) (a : IsAccepted e) → IsAlgorithmOf told command a.text → RunsAsTold told command e
+  runs_as told command e a is = record { text = a.text; is_told = is; runs = runs_true e a }
+
+  true_leaf : (told : Bytes → Option Bytes) (command : Command) (g : Given) → Leaf (IsTold told) command g → MakesTrue told (Some command) g
+  true_leaf told (sim a s) (written t) l = simulates told a s t l
+  true_leaf told (check a h) (written t) l = tt
+  true_leaf told (flat a) (written t) l = tt
+  true_leaf told (chart a h) (written t) l = tt
+  true_leaf told (code a h) (written t) l = tt
+  true_leaf told (dates a h r n) (written t) l = tt
+  true_leaf told (runs a h s w) (written t) l = absurd l
+  true_leaf told (load n) (written t) l = absurd l
+  true_leaf told (exec a h c s w) (written t) l = absurd l
+  true_leaf told (runs a h s w) (printed t e) l = runs_as told (runs a h s w) e l.0 l.1
+  true_leaf told (load n) (summed e t) l = runs_as told (load n) e l.0 l.1
+  true_leaf told (exec a h c s w) (executed e) l = runs_as told (exec a h c s w) e l.0 l.1
+  true_leaf told (check a h) (printed t e) l = absurd l
+  true_leaf told (check a h) (executed e) l = absurd l
+  true_leaf told (check a h) (summed e t) l = absurd l
+  true_leaf told (sim a h) (printed t e) l = absurd l
+  true_leaf told (sim a h) (executed e) l = absurd l
+  true_leaf told (sim a h) (summed e t) l = absurd l
+  true_leaf told (flat a) (printed t e) l = absurd l
+  true_leaf told (flat a) (executed e) l = absurd l
+  true_leaf told (flat a) (summed e t) l = absurd l
+  true_leaf told (chart a h) (printed t e) l = absurd l
+  true_leaf told (chart a h) (executed e) l = absurd l
+  true_leaf told (chart a h) (summed e t) l = absurd l
+  true_leaf told (code a h) (printed t e) l = absurd l
+  true_leaf told (code a h) (executed e) l = absurd l
+  true_leaf told (code a h) (summed e t) l = absurd l
+  true_leaf told (dates a h r n) (printed t e) l = absurd l
+  true_leaf told (dates a h r n) (executed e) l = absurd l
+  true_leaf told (dates a h r n) (summed e t) l = absurd l
+  true_leaf told (runs a h s w) (executed e) l = absurd l
+  true_leaf told (runs a h s w) (summed e t) l = absurd l
+  true_leaf told (load n) (printed t e) l = absurd l
+  true_leaf told (load n) (executed e) l = absurd l
+  true_leaf told (exec a h c s w) (printed t e) l = absurd l
+  true_leaf told (exec a h c s w) (summed e t) l = absurd l
 
   pub accepted_true : AcceptedRunTrue
-  accepted_true command told g e = told_gives MakesTrue told (plan_for command) g (gives_leaves MakesTrue command (true_leaf command)) e
+  accepted_true command told g e = told_gives (MakesTrue told (Some command)) told command (true_leaf told command) g e

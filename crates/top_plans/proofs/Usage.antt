@@ -20,7 +20,7 @@ use Rattle.top_plans.specs.Meaning.{MakesTrue, AcceptedRunTrue}
 use Rattle.top_plans.specs.Replies.{CommandsReply, PlainCommandsReply, LoadsKeep, IsMade, DoneRuns}
 use Rattle.top_plans.proofs.Written.{windows_write, windows_run}
 use Rattle.top_plans.proofs.Walk.{walk}
-use Rattle.top_plans.proofs.Commands.{reads_only, keeps_plain, load_gives_once}
+use Rattle.top_plans.proofs.Commands.{Any, reads_only, keeps_plain, load_gives_once}
 
 -- no refusal of the plan is this one
 abbrev Never : {R A : Type 0} → R → Plan R A → Type 0
@@ -57,7 +57,7 @@ module _ {R A : Type 0} where
   never_made u old new (read file name long next) made n (was_read between bytes is m) e = never_made u between new (next bytes) made (n.1 bytes) m e
 
 never : (command : Command) → Never usage (plan_for command)
-never command = walk (Never usage) (λ r n. n) command (λ file name next e h. ((λ q. cc), h)) (λ a l. tt)
+never command = walk Any (Never usage) (λ r n. n) command (λ file name next e h. ((λ q. cc), λ bytes. h bytes tt)) (λ a l. tt)
 
 not_usage : (command : Command) (held held' : Held) (sunk sunk' : Sunk) (d d' : Driven) (ending : Ending Refusal)
     → Ran driven_by stages (plan_for command) held held' sunk sunk' d d' ending → ending ≡ refused usage → ⊥
@@ -76,7 +76,7 @@ usage_of : (command : Option Command) (held held' : Held) (sunk sunk' : Sunk) (d
 usage_of None held held' sunk sunk' d d' ending r e = refl
 usage_of (Some command) held held' sunk sunk' d d' ending r e = absurd (not_usage command held held' sunk sunk' d d' ending r e)
 
-true_of : AcceptedRunTrue → (command : Option Command) (told : Bytes → Option Bytes) (a : Given) → outcome told (plan_of command) ≡ Some (Ok a) → MakesTrue a
+true_of : AcceptedRunTrue → (command : Option Command) (told : Bytes → Option Bytes) (a : Given) → outcome told (plan_of command) ≡ Some (Ok a) → MakesTrue told command a
 true_of true_runs None told a e = absurd (let q = e in cc)
 true_of true_runs (Some command) told a e = true_runs command told a e
 

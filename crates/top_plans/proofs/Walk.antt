@@ -1,5 +1,5 @@
 -- Along the plan of a command: whatever refusals have, and reads where what follows has it, and what is given.
-use Rattle.std.proofs.Common.{◌≡◌, ℕ, List, length, Option, Some, None, Result, Ok, Err, refl}
+use Rattle.std.proofs.Common.{◌≡◌, ℕ, List, length, Option, Some, None, Result, Ok, Err, refl, sym, subst}
 use Rattle.csv.specs.Reading.{default_config, records, strip_bom}
 use Rattle.syn_base.specs.Bytes.{Bytes}
 use Rattle.outside.specs.declared.file.File.{File}
@@ -38,7 +38,7 @@ use Rattle.command_plan.specs.Plan.{give, refuse, after}
 use Rattle.command_status.specs.Status.{Refusal, above, failed_check, of_algorithm, of_architecture, of_code, of_durations, of_sensors, usage}
 use Rattle.command_words.specs.Command.{Command, check, sim, flat, chart, code, run, load, exec, dates}
 use Rattle.top_plans.specs.Names.{names_for}
-use Rattle.top_plans.specs.Given.{Given, written, printed, executed, summed, Execution, one_job}
+use Rattle.top_plans.specs.Given.{Given, written, printed, executed, summed, Execution, one_job, output_of}
 use Rattle.top_plans.specs.Plans.{Made, read_file, unless, unless_lacking, algorithm_in, described_in, architecture_in, table_in, code_in, durations_in, program_plan, program_by, schedule_of, rows_plan, excess, execution, execution_plan, head, summary, load_plan, plan_for}
 use Rattle.top_plans.specs.Loads.{load_algorithm, load_architecture, load_table}
 use Rattle.top_plans.specs.Checks.{lacking}
@@ -63,18 +63,32 @@ pub record IsAccepted (e : Execution) : Type 0 where
   pub tells : rows_of e.main table ≡ Ok e.rows
   pub limit : limit_of (one_job e) ≡ None
 
--- what a command may come to give
-abbrev pub Leaf : Command → Given → Type 0
-Leaf (check a h) (written t) = Unit {0}
-Leaf (sim a s) (written t) = Unit {0}
-Leaf (flat a) (written t) = Unit {0}
-Leaf (chart a h) (written t) = Unit {0}
-Leaf (code a h) (written t) = Unit {0}
-Leaf (run a h s workers) (printed t e) = IsAccepted e
-Leaf (load n) (summed e t) = IsAccepted e
-Leaf (exec a h c s workers) (executed e) = IsAccepted e
-Leaf (dates a h g n) (written t) = Unit {0}
-Leaf _ _ = ⊥
+-- what a simulation comes to write, of texts that are told
+pub record IsSimulated (Told : Bytes → Bytes → Type 0) (a s output : Bytes) : Type 0 where
+  pub text : Bytes
+  pub text_told : Told a text
+  pub defs : Defs
+  pub main : Vertex
+  pub says : definitions_of text ≡ Ok defs
+  pub resolves : elaboration_of defs ≡ Ok main
+  pub table : Bytes
+  pub table_told : Told s table
+  pub rows : Reactions
+  pub tells : rows_of main (records default_config (strip_bom table)) ≡ Ok rows
+  pub lines : output ≡ output_of main rows.reactions
+
+-- what a command may come to give, where each text that was read is told under the name of its file
+abbrev pub Leaf : (Bytes → Bytes → Type 0) → Command → Given → Type 0
+Leaf Told (check a h) (written t) = Unit {0}
+Leaf Told (sim a s) (written t) = IsSimulated Told a s t
+Leaf Told (flat a) (written t) = Unit {0}
+Leaf Told (chart a h) (written t) = Unit {0}
+Leaf Told (code a h) (written t) = Unit {0}
+Leaf Told (run a h s workers) (printed t e) = (is : IsAccepted e) × Told a is.text
+Leaf Told (load n) (summed e t) = (is : IsAccepted e) × (is.text ≡ load_algorithm n)
+Leaf Told (exec a h c s workers) (executed e) = (is : IsAccepted e) × Told a is.text
+Leaf Told (dates a h g n) (written t) = Unit {0}
+Leaf Told _ _ = ⊥
 
 -- no part refuses as words that are no command
 algorithm_not : (e : AlgoError) → ¬ (of_algorithm e ≡ usage)
@@ -102,8 +116,8 @@ durations_not (actual.Refused fault) q = cc
 durations_not (actual.Limit fault) q = cc
 durations_not actual.OutOfMemory q = cc
 
--- a property of plans that refusals have
-module _ (Q : Made → Type 0) (refused : (r : Refusal) → ¬ (r ≡ usage) → Q (refuse r)) where
+-- a property of plans that refusals have, and that reads have where what follows has it for each text that is told
+module _ (Told : Bytes → Bytes → Type 0) (Q : Made → Type 0) (refused : (r : Refusal) → ¬ (r ≡ usage) → Q (refuse r)) where
   after_so : {X E : Type 0} (refusal : E → Refusal) → ((e : E) → ¬ (refusal e ≡ usage)) → (answer : Result X E) (next : X → Made) → ((x : X) → answer ≡ Ok x → Q (next x)) → Q (after refusal answer next)
   after_so refusal not_usage (Ok x) next h = h x refl
   after_so refusal not_usage (Err e) next h = refused (refusal e) (not_usage e)
@@ -123,8 +137,8 @@ module _ (Q : Made → Type 0) (refused : (r : Refusal) → ¬ (r ≡ usage) →
   table_so : (main : Vertex) (table : Bytes) (next : Reactions → Made) → ((rows : Reactions) → rows_of main (records default_config (strip_bom table)) ≡ Ok rows → Q (next rows)) → Q (table_in main table next)
   table_so main table next h = after_so of_sensors sensors_not (rows_of main (records default_config (strip_bom table))) next h
 
-  rows_so : (main : Vertex) (rows : Reactions) → ((t : Bytes) → Q (give (written t))) → Q (rows_plan main rows)
-  rows_so main rows h = unless_within (excess _) _ (λ n. h _)
+  rows_so : (main : Vertex) (rows : Reactions) → Q (give (written (output_of main rows.reactions))) → Q (rows_plan main rows)
+  rows_so main rows h = unless_within (excess _) _ (λ n. h)
 
   program_so : (g : Graph) (a : Archi) (t : Table) (next : Program → Made) → Q (next (program_by g a t)) → Q (program_plan g a t next)
   program_so g a t next h = unless_within (program_limit (program_by g a t) (length a.media)) (next (program_by g a t)) (λ n. h)
@@ -145,7 +159,7 @@ module _ (Q : Made → Type 0) (refused : (r : Refusal) → ¬ (r ≡ usage) →
   -- an execution of the program that the pressure run gives
   execution_so : (text : Bytes) (defs : Defs) (main : Vertex) (lines : Bytes) (d : Described) (t : Table) (table : Bytes) (rows : Reactions) (what : Execution → Given)
       → definitions_of text ≡ Ok defs → elaboration_of defs ≡ Ok main → description_of lines ≡ Ok d → durations_of (flat_of main) d ≡ Ok t → rows_of main (records default_config (strip_bom table)) ≡ Ok rows
-      → ((e : Execution) → IsAccepted e → Q (give (what e))) → Q (program_plan (flat_of main) d.archi t (λ p. execution_plan (execution main d.archi p rows) what))
+      → ((e : Execution) (is : IsAccepted e) → is.text ≡ text → Q (give (what e))) → Q (program_plan (flat_of main) d.archi t (λ p. execution_plan (execution main d.archi p rows) what))
   execution_so text defs main lines d t table rows what says resolves describes lasts tells h =
       let e = execution main d.archi (program_by (flat_of main) d.archi t) rows in
       program_so (flat_of main) d.archi t (λ p. execution_plan (execution main d.archi p rows) what) (unless_within (limit_of (one_job e)) (give (what e)) (λ n. h e (record {
@@ -161,12 +175,12 @@ module _ (Q : Made → Type 0) (refused : (r : Refusal) → ¬ (r ≡ usage) →
         table = records default_config (strip_bom table);
         tells = tells;
         limit = n;
-      })))
+      }) refl))
 
   -- an execution of a program that was checked
   checked_so : (text : Bytes) (defs : Defs) (main : Vertex) (lines : Bytes) (d : Described) (p : Program) (table : Bytes) (rows : Reactions)
       → definitions_of text ≡ Ok defs → elaboration_of defs ≡ Ok main → description_of lines ≡ Ok d → lacking (flat_of main) d.archi p ≡ None → rows_of main (records default_config (strip_bom table)) ≡ Ok rows
-      → ((e : Execution) → IsAccepted e → Q (give (executed e))) → Q (execution_plan (execution main d.archi p rows) executed)
+      → ((e : Execution) (is : IsAccepted e) → is.text ≡ text → Q (give (executed e))) → Q (execution_plan (execution main d.archi p rows) executed)
   checked_so text defs main lines d p table rows says resolves describes whole tells h =
       let e = execution main d.archi p rows in
       unless_within (limit_of (one_job e)) (give (executed e)) (λ n. h e (record {
@@ -182,32 +196,56 @@ module _ (Q : Made → Type 0) (refused : (r : Refusal) → ¬ (r ≡ usage) →
         table = records default_config (strip_bom table);
         tells = tells;
         limit = n;
-      }))
+      }) refl)
 
   -- a load, whatever its texts are
-  load_so : (a h s : Bytes) → ((e : Execution) → IsAccepted e → Q (give (summed e (summary e)))) → Q (load_plan a h s)
+  load_so : (a h s : Bytes) → ((e : Execution) (is : IsAccepted e) → is.text ≡ a → Q (give (summed e (summary e))))
+      → Q (load_plan a h s)
   load_so a h s gives = algorithm_so a _ (λ defs main p q. architecture_so h main _ (λ d t u v. table_so main s _ (λ rows r.
       execution_so a defs main h d t s rows (λ e. summed e (summary e)) p q u v r gives)))
 
   abbrev Reads : (File → Option Bytes) → Type 0
-  Reads names = (file : File) (name : Bytes) (next : Bytes → Made) → names file ≡ Some name → ((bytes : Bytes) → Q (next bytes)) → Q (read_file file name next)
+  Reads names = (file : File) (name : Bytes) (next : Bytes → Made) → names file ≡ Some name
+      → ((bytes : Bytes) → Told name bytes → Q (next bytes)) → Q (read_file file name next)
 
   -- the plan of each command
-  pub walk : (command : Command) → Reads (names_for command) → ((g : Given) → Leaf command g → Q (give g)) → Q (plan_for command)
-  walk (check a None) reads gives = reads Algorithm a _ refl (λ text. algorithm_so text _ (λ defs main p q. gives _ tt))
-  walk (check a (Some h)) reads gives = reads Algorithm a _ refl (λ text. algorithm_so text _ (λ defs main p q. reads Architecture h _ refl (λ lines. architecture_so lines main _ (λ d t u v. gives _ tt))))
-  walk (sim a s) reads gives = reads Algorithm a _ refl (λ text. algorithm_so text _ (λ defs main p q. reads Sensors s _ refl (λ table. table_so main table _ (λ rows r. rows_so main rows (λ t. gives (written t) tt)))))
-  walk (flat a) reads gives = reads Algorithm a _ refl (λ text. algorithm_so text _ (λ defs main p q. gives _ tt))
-  walk (chart a h) reads gives = reads Algorithm a _ refl (λ text. algorithm_so text _ (λ defs main p q. reads Architecture h _ refl (λ lines. architecture_so lines main _ (λ d t u v. gives _ tt))))
-  walk (code a h) reads gives = reads Algorithm a _ refl (λ text. algorithm_so text _ (λ defs main p q. reads Architecture h _ refl (λ lines. architecture_so lines main _ (λ d t u v.
+  pub walk : (command : Command) → Reads (names_for command) → ((g : Given) → Leaf Told command g → Q (give g)) → Q (plan_for command)
+  walk (check a None) reads gives = reads Algorithm a _ refl (λ text at. algorithm_so text _ (λ defs main p q. gives _ tt))
+  walk (check a (Some h)) reads gives = reads Algorithm a _ refl (λ text at. algorithm_so text _ (λ defs main p q.
+      reads Architecture h _ refl (λ lines to. architecture_so lines main _ (λ d t u v. gives _ tt))))
+  walk (sim a s) reads gives = reads Algorithm a _ refl (λ text at. algorithm_so text _ (λ defs main p q.
+      reads Sensors s _ refl (λ table on. table_so main table _ (λ rows r. rows_so main rows (gives (written (output_of main rows.reactions)) (record {
+        text = text;
+        text_told = at;
+        defs = defs;
+        main = main;
+        says = p;
+        resolves = q;
+        table = table;
+        table_told = on;
+        rows = rows;
+        tells = r;
+        lines = refl;
+      }))))))
+  walk (flat a) reads gives = reads Algorithm a _ refl (λ text at. algorithm_so text _ (λ defs main p q. gives _ tt))
+  walk (chart a h) reads gives = reads Algorithm a _ refl (λ text at. algorithm_so text _ (λ defs main p q.
+      reads Architecture h _ refl (λ lines to. architecture_so lines main _ (λ d t u v. gives _ tt))))
+  walk (code a h) reads gives = reads Algorithm a _ refl (λ text at. algorithm_so text _ (λ defs main p q.
+      reads Architecture h _ refl (λ lines to. architecture_so lines main _ (λ d t u v.
       program_so (flat_of main) d.archi t (λ p. give (written (macro_code p (flat_of main) d.archi))) (gives _ tt)))))
-  walk (run a h s workers) reads gives = reads Algorithm a _ refl (λ text. algorithm_so text _ (λ defs main p q. reads Architecture h _ refl (λ lines. architecture_so lines main _ (λ d t u v.
-      reads Sensors s _ refl (λ table. table_so main table _ (λ rows r.
-      execution_so text defs main lines d t table rows (λ e. printed (head e) e) p q u v r (λ e is. gives (printed (head e) e) is)))))))
-  walk (load n) reads gives = load_so (load_algorithm n) load_architecture (load_table n) (λ e is. gives (summed e (summary e)) is)
-  walk (exec a h c s workers) reads gives = reads Algorithm a _ refl (λ text. algorithm_so text _ (λ defs main p q. reads Architecture h _ refl (λ lines. described_so lines _ (λ d u.
-      reads Code c _ refl (λ macros. code_so macros (flat_of main) d.archi _ (λ program whole. reads Sensors s _ refl (λ table. table_so main table _ (λ rows r.
-      checked_so text defs main lines d program table rows p q u whole r (λ e is. gives (executed e) is)))))))))
-  walk (dates a h g n) reads gives = reads Algorithm a _ refl (λ text. algorithm_so text _ (λ defs main p q. reads Architecture h _ refl (λ lines. architecture_so lines main _ (λ d t u v.
-      reads Durations g _ refl (λ real. durations_so real (flat_of main) d.archi t _ (λ ticks.
+  walk (run a h s workers) reads gives = reads Algorithm a _ refl (λ text at. algorithm_so text _ (λ defs main p q.
+      reads Architecture h _ refl (λ lines to. architecture_so lines main _ (λ d t u v.
+      reads Sensors s _ refl (λ table on. table_so main table _ (λ rows r.
+      execution_so text defs main lines d t table rows (λ e. printed (head e) e) p q u v r
+      (λ e is same. gives (printed (head e) e) (is, subst (λ x. Told a x) (sym same) at))))))))
+  walk (load n) reads gives = load_so (load_algorithm n) load_architecture (load_table n) (λ e is same. gives (summed e (summary e)) (is, same))
+  walk (exec a h c s workers) reads gives = reads Algorithm a _ refl (λ text at. algorithm_so text _ (λ defs main p q.
+      reads Architecture h _ refl (λ lines to. described_so lines _ (λ d u.
+      reads Code c _ refl (λ macros by. code_so macros (flat_of main) d.archi _ (λ program whole.
+      reads Sensors s _ refl (λ table on. table_so main table _ (λ rows r.
+      checked_so text defs main lines d program table rows p q u whole r
+      (λ e is same. gives (executed e) (is, subst (λ x. Told a x) (sym same) at))))))))))
+  walk (dates a h g n) reads gives = reads Algorithm a _ refl (λ text at. algorithm_so text _ (λ defs main p q.
+      reads Architecture h _ refl (λ lines to. architecture_so lines main _ (λ d t u v.
+      reads Durations g _ refl (λ real by. durations_so real (flat_of main) d.archi t _ (λ ticks.
       program_so (flat_of main) d.archi t (λ p. give (written (dates_text (flat_of main) d.archi (schedule_of (flat_of main) d.archi t) ticks n))) (gives _ tt)))))))

@@ -5,10 +5,28 @@ use Rattle.archi_graph.specs.Archi.{Architecture}
 use Rattle.archi_graph.specs.Sequences.{sequences}
 use Rattle.executive_program.specs.declared.program.Program.{Program}
 use Rattle.check_cause.specs.declared.cause.CheckCause.{CheckCause}
-use Rattle.check_cause.specs.declared.cause.CheckCause.TheVariants.{Sequences, Calls, Transfers, Buffers, Pairs, Prologue, Stuck}
+use Rattle.check_cause.specs.declared.cause.CheckCause.TheVariants.{
+  Sequences,
+  Calls,
+  Transfers,
+  Buffers,
+  Pairs,
+  Prologue,
+  Stuck,
+}
 use Rattle.check_cause.specs.declared.cause.Stop.{Stop}
 use Rattle.check_laws.specs.Run.{Place}
-use Rattle.check_laws.specs.Tests.{Cause, cause, sequences_differ, calls_wrong, transfers_wrong, buffers_wrong, pairs_wrong, prologue_wrong, stuck_at}
+use Rattle.check_laws.specs.Tests.{
+  Cause,
+  cause,
+  sequences_differ,
+  calls_wrong,
+  transfers_wrong,
+  buffers_wrong,
+  pairs_wrong,
+  prologue_wrong,
+  stuck_at,
+}
 
 abbrev pub stop_of : Place → Stop
 stop_of y = record { sequence = y.sequence; at = y.at }

@@ -35,8 +35,8 @@ acts_of main rows = map (act_row main rows) (numbers_below (length rows))
 abbrev pub output_of : Vertex → List Values → Bytes
 output_of main rows = output_text (actuator_names main) (acts_of main rows)
 
--- What is to be made: a text by itself; a text, and after it what a program that is executed gives; what it gives alone; or a text for
--- which a program is executed.
+-- What is to be made: a text by itself; a text, and after it what a program that is executed gives; what it gives
+-- alone; or a text for which a program is executed.
 pub data Given : Type 0 where
   written : Bytes → Given
   printed : Bytes → Execution → Given

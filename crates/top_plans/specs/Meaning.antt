@@ -1,8 +1,29 @@
 -- What executions write, run and are.
-use Rattle.std.specs.Prelude.{◌≡◌, ℕ, ◌+◌, ◌≤◌, ◌<◌, cond, nat_lt, List, ◌++◌, length, Option, Some, None, Ok, slice_get, slice_index_or}
+use Rattle.std.specs.Prelude.{
+  ◌≡◌,
+  ℕ,
+  ◌+◌,
+  ◌≤◌,
+  ◌<◌,
+  cond,
+  nat_lt,
+  List,
+  ◌++◌,
+  length,
+  Option,
+  Some,
+  None,
+  Ok,
+  slice_get,
+  slice_index_or,
+}
+use Rattle.csv.specs.Reading.{default_config, records, strip_bom}
 use Rattle.syn_base.specs.Bytes.{Bytes}
+use Rattle.syn_base.specs.Rows.{Reactions}
 use Rattle.level_meaning.specs.Level.{vector_at, zeros}
-use Rattle.algo_tree.specs.Meaning.{act_row}
+use Rattle.multi_period.specs.Meaning.{act_row_at}
+use Rattle.sensor_table.specs.SensorTable.{rows_of}
+use Rattle.accepted_laws.specs.Told.{Algorithm, DoesAsTold, taken, lines_taken}
 use Rattle.flat_graph.specs.declared.vertex.Vertex as flat
 use Rattle.flat_graph.specs.declared.vertex.Kind.TheVariants.{Actuator}
 use Rattle.flat_graph.specs.Graph.{lens_of}
@@ -16,41 +37,119 @@ use Rattle.phase_laws.specs.Windows.{IsWindow}
 use Rattle.command_plan.specs.Plan.{outcome}
 use Rattle.command_plan.specs.Stage.{text_of, jobs_of}
 use Rattle.run_laws.specs.Windows.{window_jobs}
-use Rattle.top_plans.specs.Given.{Given, written, printed, executed, summed, Execution, one_job, acts_of, output_of, stages}
-use Rattle.command_words.specs.Command.{Command}
+use Rattle.top_plans.specs.Given.{
+  Given,
+  written,
+  printed,
+  executed,
+  summed,
+  Execution,
+  one_job,
+  acts_of,
+  output_of,
+  stages,
+}
+use Rattle.command_words.specs.Command.{
+  Command,
+  check,
+  sim,
+  flat as flattening,
+  chart,
+  code,
+  run as running,
+  load,
+  exec,
+  dates,
+}
+use Rattle.top_plans.specs.Loads.{load_algorithm}
 use Rattle.top_plans.specs.Plans.{plan_for}
 
 -- the text that is written in windows is the whole output
 abbrev pub WindowsWriteTheOutput : Type 0
-WindowsWriteTheOutput = (text : Bytes) (e : Execution) → (text_of (stages (printed text e)) ≡ text ++ output_of e.main e.rows.reactions)
-    × (text_of (stages (executed e)) ≡ output_of e.main e.rows.reactions) × (text_of (stages (summed e text)) ≡ text)
+WindowsWriteTheOutput =
+    (text : Bytes) (e : Execution) →
+    (text_of (stages (printed text e)) ≡ text ++ output_of e.main e.rows.reactions) ×
+    (text_of (stages (executed e)) ≡ output_of e.main e.rows.reactions) ×
+    (text_of (stages (summed e text)) ≡ text)
 
 -- and the jobs that are run are the windows of the one job
 abbrev pub WindowsAreRun : Type 0
-WindowsAreRun = (text : Bytes) (e : Execution) → (jobs_of (stages (printed text e)) ≡ window_jobs (one_job e))
-    × (jobs_of (stages (executed e)) ≡ window_jobs (one_job e)) × (jobs_of (stages (summed e text)) ≡ window_jobs (one_job e))
+WindowsAreRun =
+    (text : Bytes) (e : Execution) →
+    (jobs_of (stages (printed text e)) ≡ window_jobs (one_job e)) ×
+    (jobs_of (stages (executed e)) ≡ window_jobs (one_job e)) ×
+    (jobs_of (stages (summed e text)) ≡ window_jobs (one_job e))
 
--- The runs of an execution, in every interleaving of its one job over all rows.
-pub record RunsTrue (e : Execution) : Type 0 where
+-- The runs of an execution of the algorithm of a text, in every interleaving of its one job over all rows.
+pub record RunsTrue (text : Bytes) (e : Execution) : Type 0 where
+  -- the algorithm of the text, and that the tree that is executed does what it says
+  pub algorithm : Algorithm text
+  pub made : DoesAsTold algorithm.marks algorithm.main e.main
   -- no limit is met
   pub limit : limit_of (one_job e) ≡ None
-  -- each state is what its counts tell, no load finds an element of another round than its own, and until all is done some sequence is enabled
+  -- each state is what its counts tell, no load finds an element of another round than its own, and until all is done
+  -- some sequence is enabled
   pub laws : HasLaws (one_job e)
-  -- row k of an actuator is what the algorithm's takes in reaction k where it was taken, and zeros elsewhere
-  pub rows : (list : List ℕ) (v a k : ℕ) (x : flat.Vertex) → slice_get (flat_of e.main).vertices v ≡ Some x → x.kind ≡ Actuator a → k < length e.rows.reactions
+  -- row k of an actuator is what the text's takes in reaction k where it was taken, and zeros elsewhere
+  pub rows : (list : List ℕ) (v a k : ℕ) (x : flat.Vertex) → slice_get (flat_of e.main).vertices v ≡ Some x →
+      x.kind ≡ Actuator a → k < length e.rows.reactions
       → row_at (run (one_job e) list).rows k a
-      ≡ cond (nat_lt k (done_in (one_job e) (count (run (one_job e) list)) v)) (vector_at (act_row e.main e.rows.reactions k) a) (zeros (slice_index_or (lens_of (flat_of e.main).vertices x.ins) 0 0))
+      ≡ cond (nat_lt k (done_in (one_job e) (count (run (one_job e) list)) v))
+      (vector_at (act_row_at algorithm.marks algorithm.main e.rows.reactions k) a)
+      (zeros (slice_index_or (lens_of (flat_of e.main).vertices x.ins) 0 0))
   -- when all is done, all are taken
-  pub ended : (list : List ℕ) → IsDone (one_job e) (run (one_job e) list) → (run (one_job e) list).rows ≡ acts_of e.main e.rows.reactions
+  pub ended : (list : List ℕ) → IsDone (one_job e) (run (one_job e) list) →
+      (run (one_job e) list).rows ≡ taken algorithm.marks algorithm.main e.rows.reactions
+  -- these are what is put out, in lines with the names of the text's actuators
+  pub acts : acts_of e.main e.rows.reactions ≡ taken algorithm.marks algorithm.main e.rows.reactions
+  pub lines : output_of e.main e.rows.reactions ≡ lines_taken algorithm.marks algorithm.main e.rows.reactions
   -- it may be done in windows
   pub windows : (from count : ℕ) → from + count ≤ length e.rows.reactions → IsWindow (one_job e) from count
 
-abbrev pub MakesTrue : Given → Type 0
-MakesTrue (written text) = Unit {0}
-MakesTrue (printed text e) = RunsTrue e
-MakesTrue (executed e) = RunsTrue e
-MakesTrue (summed e text) = RunsTrue e
+-- the text of a command's algorithm, where files are told: that of a load is made
+abbrev pub IsAlgorithmOf : (Bytes → Option Bytes) → Command → Bytes → Type 0
+IsAlgorithmOf told (check a h) text = told a ≡ Some text
+IsAlgorithmOf told (sim a s) text = told a ≡ Some text
+IsAlgorithmOf told (flattening a) text = told a ≡ Some text
+IsAlgorithmOf told (chart a h) text = told a ≡ Some text
+IsAlgorithmOf told (code a h) text = told a ≡ Some text
+IsAlgorithmOf told (running a h s workers) text = told a ≡ Some text
+IsAlgorithmOf told (load n) text = text ≡ load_algorithm n
+IsAlgorithmOf told (exec a h c s workers) text = told a ≡ Some text
+IsAlgorithmOf told (dates a h g n) text = told a ≡ Some text
+
+-- an execution is one of the text of the command's algorithm
+pub record RunsAsTold (told : Bytes → Option Bytes) (command : Command) (e : Execution) : Type 0 where
+  pub text : Bytes
+  pub is_told : IsAlgorithmOf told command text
+  pub runs : RunsTrue text e
+
+-- What a simulation writes: what the actuators of the text take over the rows that the table says for its sensors.
+pub record SimulatesTrue (told : Bytes → Option Bytes) (a s output : Bytes) : Type 0 where
+  pub text : Bytes
+  pub table : Bytes
+  pub rows : Reactions
+  pub algorithm : Algorithm text
+  pub text_told : told a ≡ Some text
+  pub table_told : told s ≡ Some table
+  pub reads : rows_of algorithm.main (records default_config (strip_bom table)) ≡ Ok rows
+  pub lines : output ≡ lines_taken algorithm.marks algorithm.main rows.reactions
+
+-- a simulation writes what is true; of other texts that are written by themselves nothing more is said
+abbrev pub WritesTrue : (Bytes → Option Bytes) → Command → Bytes → Type 0
+WritesTrue told (sim a s) text = SimulatesTrue told a s text
+WritesTrue told _ text = Unit {0}
+
+-- what a command makes; words that are no command make nothing
+abbrev pub MakesTrue : (Bytes → Option Bytes) → Option Command → Given → Type 0
+MakesTrue told None given = ⊥
+MakesTrue told (Some command) (written text) = WritesTrue told command text
+MakesTrue told (Some command) (printed text e) = RunsAsTold told command e
+MakesTrue told (Some command) (executed e) = RunsAsTold told command e
+MakesTrue told (Some command) (summed e text) = RunsAsTold told command e
 
 -- Whatever a command comes to make of files that are told runs true.
 abbrev pub AcceptedRunTrue : Type 0
-AcceptedRunTrue = (command : Command) (told : Bytes → Option Bytes) (given : Given) → outcome told (plan_for command) ≡ Some (Ok given) → MakesTrue given
+AcceptedRunTrue =
+    (command : Command) (told : Bytes → Option Bytes) (given : Given) →
+    outcome told (plan_for command) ≡ Some (Ok given) → MakesTrue told (Some command) given

@@ -1,5 +1,21 @@
 -- The plan of each command: which files it reads, in which order it is refused, and what it makes.
-use Rattle.std.specs.Prelude.{◌*◌, ◌++◌, ℕ, ℤ, nat_lt, List, [], ◌∷◌, length, sum, if◌then◌else◌, Option, Some, None, codes}
+use Rattle.std.specs.Prelude.{
+  ◌*◌,
+  ◌++◌,
+  ℕ,
+  ℤ,
+  nat_lt,
+  List,
+  [],
+  ◌∷◌,
+  length,
+  sum,
+  if◌then◌else◌,
+  Option,
+  Some,
+  None,
+  codes,
+}
 use Rattle.std.specs.Fmt.{decimal, signed_decimal}
 use Rattle.std.specs.List.{flat_map}
 use Rattle.csv.specs.Reading.{default_config, records, strip_bom}
@@ -46,7 +62,17 @@ use Rattle.actual_durations.specs.Actual.{actual_of}
 use Rattle.dates_text.specs.Listing.{dates_text}
 use Rattle.sensor_table.specs.SensorTable.{rows_of}
 use Rattle.command_plan.specs.Plan.{Plan, give, refuse, read, after}
-use Rattle.command_status.specs.Status.{Refusal, above, failed_check, of_algorithm, of_architecture, of_code, of_durations, of_sensors, usage}
+use Rattle.command_status.specs.Status.{
+  Refusal,
+  above,
+  failed_check,
+  of_algorithm,
+  of_architecture,
+  of_code,
+  of_durations,
+  of_sensors,
+  usage,
+}
 use Rattle.command_words.specs.Command.{Command, check, sim, flat, chart, code, run, load, exec, dates}
 use Rattle.top_plans.specs.Given.{Given, written, printed, executed, summed, Execution, one_job, acts_of, output_of}
 use Rattle.top_plans.specs.Loads.{load_algorithm, load_architecture, load_table}
@@ -66,7 +92,8 @@ unless None next = next
 
 -- what a text says of an algorithm, and then what its definitions resolve to
 abbrev pub algorithm_in : Bytes → (Defs → Vertex → Made) → Made
-algorithm_in text next = after of_algorithm (definitions_of text) (λ defs. after of_algorithm (elaboration_of defs) (next defs))
+algorithm_in text next =
+    after of_algorithm (definitions_of text) (λ defs. after of_algorithm (elaboration_of defs) (next defs))
 
 -- what a text says of an architecture
 abbrev pub described_in : Bytes → (Described → Made) → Made
@@ -97,7 +124,8 @@ both_texts defs d = canonical_text defs ++ (codes "\n" ++ architecture.canonical
 -- the canonical text of the algorithm, and that of an architecture beside it
 abbrev pub check_plan : Bytes → Option Bytes → Made
 check_plan a None = algorithm_plan a (λ defs main. give (written (canonical_text defs)))
-check_plan a (Some h) = algorithm_plan a (λ defs main. architecture_plan h main (λ d t. give (written (both_texts defs d))))
+check_plan a (Some h) =
+    algorithm_plan a (λ defs main. architecture_plan h main (λ d t. give (written (both_texts defs d))))
 
 -- the listing of the flat graph
 abbrev pub flat_plan : Bytes → Made
@@ -105,11 +133,15 @@ flat_plan a = algorithm_plan a (λ defs main. give (written (listing (flat_of ma
 
 -- more elements than an output may have
 abbrev pub excess : ℕ → Option LimitFault
-excess count = if nat_lt (bound_of Output) count then Some (record { which = Output; count = count; bound = bound_of Output }) else None
+excess count =
+    if nat_lt (bound_of Output) count
+    then Some (record { which = Output; count = count; bound = bound_of Output }) else None
 
 -- what the actuators take, where it is within its bound
 abbrev pub rows_plan : Vertex → Reactions → Made
-rows_plan main rows = unless (excess (length rows.reactions * sum (actuator_lengths main))) (give (written (output_of main rows.reactions)))
+rows_plan main rows =
+    unless (excess (length rows.reactions * sum (actuator_lengths main)))
+    (give (written (output_of main rows.reactions)))
 
 abbrev pub sim_plan : Bytes → Bytes → Made
 sim_plan a s = algorithm_plan a (λ defs main. table_plan main s (rows_plan main))
@@ -122,7 +154,8 @@ abbrev pub chart_of : Graph → Described → Table → Bytes
 chart_of g d t = timing.chart g d.archi (schedule_of g d.archi t)
 
 abbrev pub chart_plan : Bytes → Bytes → Made
-chart_plan a h = algorithm_plan a (λ defs main. architecture_plan h main (λ d t. give (written (chart_of (flat_of main) d t))))
+chart_plan a h =
+    algorithm_plan a (λ defs main. architecture_plan h main (λ d t. give (written (chart_of (flat_of main) d t))))
 
 -- the program of that schedule, within its limits
 abbrev pub program_by : Graph → Archi → Table → Program
@@ -151,8 +184,12 @@ head e = macro_code e.program (flat_of e.main) e.architecture ++ codes "\n"
 
 -- The rows come before the limits of the program, and these before the limits of the run.
 abbrev pub run_plan : Bytes → Bytes → Bytes → Made
-run_plan a h s = algorithm_plan a (λ defs main. architecture_plan h main (λ d t. table_plan main s (λ rows.
-    program_plan (flat_of main) d.archi t (λ p. execution_plan (execution main d.archi p rows) (λ e. printed (head e) e)))))
+run_plan a h s =
+    algorithm_plan a (λ defs main.
+    architecture_plan h main (λ d t.
+    table_plan main s (λ rows.
+    program_plan (flat_of main) d.archi t (λ p.
+    execution_plan (execution main d.archi p rows) (λ e. printed (head e) e)))))
 
 -- the sum of all that is put out, brought back modulo 2^64
 abbrev pub sum_of : List Values → ℤ
@@ -176,10 +213,15 @@ unless_lacking None next = next
 abbrev pub code_in : Bytes → Graph → Archi → (Program → Made) → Made
 code_in text g a next = after of_code (program_in text g a) (λ p. unless_lacking (lacking g a p) (next p))
 
--- Durations of the architecture are passed over. The code and its check come before the rows, and these before the limits of the run.
+-- Durations of the architecture are passed over. The code and its check come before the rows, and these before the
+-- limits of the run.
 abbrev pub exec_plan : Bytes → Bytes → Bytes → Bytes → Made
-exec_plan a h c s = algorithm_plan a (λ defs main. read_file Architecture h (λ lines. described_in lines (λ d. read_file Code c (λ text.
-    code_in text (flat_of main) d.archi (λ p. table_plan main s (λ rows. execution_plan (execution main d.archi p rows) executed))))))
+exec_plan a h c s =
+    algorithm_plan a (λ defs main.
+    read_file Architecture h (λ lines. described_in lines (λ d.
+    read_file Code c (λ text. code_in text (flat_of main) d.archi (λ p.
+    table_plan main s (λ rows.
+    execution_plan (execution main d.archi p rows) executed))))))
 
 -- how long operations and transfers of the schedule really last, by a text
 abbrev pub durations_in : Bytes → Graph → Archi → Table → (List ℕ → Made) → Made
@@ -187,13 +229,21 @@ durations_in text g a t next = after of_durations (actual_of g a t (schedule_of 
 
 -- The durations that really occur come before the limits of the program.
 abbrev pub dates_plan : Bytes → Bytes → Bytes → ℕ → Made
-dates_plan a h g n = algorithm_plan a (λ defs main. architecture_plan h main (λ d t. read_file Durations g (λ text. durations_in text (flat_of main) d.archi t (λ ticks.
-    program_plan (flat_of main) d.archi t (λ p. give (written (dates_text (flat_of main) d.archi (schedule_of (flat_of main) d.archi t) ticks n)))))))
+dates_plan a h g n =
+    algorithm_plan a (λ defs main.
+    architecture_plan h main (λ d t.
+    read_file Durations g (λ text. durations_in text (flat_of main) d.archi t (λ ticks.
+    program_plan (flat_of main) d.archi t (λ p.
+    give (written (dates_text (flat_of main) d.archi (schedule_of (flat_of main) d.archi t) ticks n)))))))
 
 -- The texts of an algorithm, an architecture and a table are carried out as they stand; no file is read.
 abbrev pub load_plan : (a h s : Bytes) → Made
-load_plan a h s = algorithm_in a (λ defs main. architecture_in h main (λ d t. table_in main s (λ rows.
-    program_plan (flat_of main) d.archi t (λ p. execution_plan (execution main d.archi p rows) (λ e. summed e (summary e))))))
+load_plan a h s =
+    algorithm_in a (λ defs main.
+    architecture_in h main (λ d t.
+    table_in main s (λ rows.
+    program_plan (flat_of main) d.archi t (λ p.
+    execution_plan (execution main d.archi p rows) (λ e. summed e (summary e))))))
 
 abbrev pub plan_for : Command → Made
 plan_for (check a h) = check_plan a h

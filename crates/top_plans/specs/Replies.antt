@@ -18,18 +18,25 @@ use Rattle.top_plans.specs.Given.{Given, written, printed, executed, summed, Exe
 use Rattle.top_plans.specs.Plans.{plan_of}
 use Rattle.top_plans.specs.Meaning.{MakesTrue}
 
--- The ending is that of the plan which the words ask for, it is Usage only for words that are no command, and what all that is accepted makes runs true.
-pub record Replies (command : Option Command) (held held' : Held) (sunk sunk' : Sunk) (driven driven' : Driven) (ending : Ending Refusal) : Type 0 where
-  pub answers : Answers driven_by stages (plan_of command) (names_of command) held held' sunk sunk' driven driven' ending
+-- The ending is that of the plan which the words ask for, it is Usage only for words that are no command, and what
+-- all that is accepted makes runs true.
+pub record Replies (command : Option Command) (held held' : Held) (sunk sunk' : Sunk) (driven driven' : Driven)
+    (ending : Ending Refusal) : Type 0 where
+  pub answers : Answers driven_by stages (plan_of command) (names_of command)
+      held held' sunk sunk' driven driven' ending
   pub usage : ending ≡ refused usage → command ≡ None
-  pub true_runs : (a : Given) → outcome held.told (plan_of command) ≡ Some (Ok a) → MakesTrue a
+  pub true_runs : (a : Given) → outcome held.told (plan_of command) ≡ Some (Ok a) → MakesTrue held.told command a
 
--- The same of a call that drives nothing: whatever is driven stays, and nothing is appended with any ending but done and a fault of the output.
-pub record RepliesPlainly (command : Option Command) (held held' : Held) (sunk sunk' : Sunk) (ending : Ending Refusal) : Type 0 where
+-- The same of a call that drives nothing: whatever is driven stays, and nothing is appended with any ending but done
+-- and a fault of the output.
+pub record RepliesPlainly (command : Option Command) (held held' : Held) (sunk sunk' : Sunk)
+    (ending : Ending Refusal) : Type 0 where
   pub replies : (driven : Driven) → Replies command held held' sunk sunk' driven driven ending
-  pub done_means : ending ≡ done → (o : Result Given Refusal) → outcome held.told (plan_of command) ≡ Some o → IsOkAnd o (λ a. Appends sunk sunk' (text_of (stages a)))
+  pub done_means : ending ≡ done → (o : Result Given Refusal) → outcome held.told (plan_of command) ≡ Some o →
+      IsOkAnd o (λ a. Appends sunk sunk' (text_of (stages a)))
   pub unwritten_means : ending ≡ unwritten → Rose sunk.faults sunk'.faults
-      × ((o : Result Given Refusal) → outcome held.told (plan_of command) ≡ Some o → IsOkAnd o (λ a. AppendsPrefix sunk sunk' (text_of (stages a))))
+      × ((o : Result Given Refusal) → outcome held.told (plan_of command) ≡ Some o →
+      IsOkAnd o (λ a. AppendsPrefix sunk sunk' (text_of (stages a))))
   pub nothing : (ending ≡ done) ⊎ (ending ≡ unwritten) ⊎ (sunk' ≡ sunk)
 
 -- A command that runs jobs is left as it is: nothing was read, and nothing written.
@@ -37,26 +44,35 @@ abbrev pub LeavesJobs : Option Command → Held → Held → Sunk → Sunk → T
 LeavesJobs None held held' sunk sunk' = ⊥
 LeavesJobs (Some command) held held' sunk sunk' = RunsJobs command × (held' ≡ held) × (sunk' ≡ sunk)
 
--- The call without threads answers none exactly for commands that run jobs, and says nothing then. Want of memory may come for any words, before anything is read.
-abbrev pub PlainReplies : Option Command → Held → Held → Sunk → Sunk → (err err' : Sunk) → Option (Ending Refusal) → Type 0
+-- The call without threads answers none exactly for commands that run jobs, and says nothing then. Want of memory may
+-- come for any words, before anything is read.
+abbrev pub PlainReplies : Option Command → Held → Held → Sunk → Sunk → (err err' : Sunk) →
+    Option (Ending Refusal) → Type 0
 PlainReplies command held held' sunk sunk' err err' None = LeavesJobs command held held' sunk sunk' × (err' ≡ err)
 PlainReplies command held held' sunk sunk' err err' (Some ending) =
-    (IsPlain command × RepliesPlainly command held held' sunk sunk' ending) ⊎ ((ending ≡ no_memory) × LeavesJobs command held held' sunk sunk')
+    (IsPlain command × RepliesPlainly command held held' sunk sunk' ending) ⊎
+    ((ending ≡ no_memory) × LeavesJobs command held held' sunk sunk')
 
 -- What was carried out of the plan of the words replies.
 abbrev pub CommandsReply : Type 0
-CommandsReply = (command : Option Command) (held held' : Held) (sunk sunk' : Sunk) (driven driven' : Driven) (ending : Ending Refusal)
-    → Ran driven_by stages (plan_of command) held held' sunk sunk' driven driven' ending → Replies command held held' sunk sunk' driven driven' ending
+CommandsReply =
+    (command : Option Command) (held held' : Held) (sunk sunk' : Sunk) (driven driven' : Driven)
+    (ending : Ending Refusal) →
+    Ran driven_by stages (plan_of command) held held' sunk sunk' driven driven' ending →
+    Replies command held held' sunk sunk' driven driven' ending
 
 -- What a call without threads carried out of the plan of words that run no job, whatever is driven, replies plainly.
 abbrev pub PlainCommandsReply : Type 0
-PlainCommandsReply = (command : Option Command) → IsPlain command → (held held' : Held) (sunk sunk' : Sunk) (ending : Ending Refusal)
-    → ((driven : Driven) → Ran driven_by stages (plan_of command) held held' sunk sunk' driven driven ending) → RepliesPlainly command held held' sunk sunk' ending
+PlainCommandsReply =
+    (command : Option Command) → IsPlain command → (held held' : Held) (sunk sunk' : Sunk) (ending : Ending Refusal) →
+    ((driven : Driven) → Ran driven_by stages (plan_of command) held held' sunk sunk' driven driven ending) →
+    RepliesPlainly command held held' sunk sunk' ending
 
 -- A load is written by one call, so that nothing is appended with any ending but done and a fault of the output.
 abbrev pub LoadsKeep : Type 0
 LoadsKeep = (n : ℕ) (held held' : Held) (sunk sunk' : Sunk) (driven driven' : Driven) (ending : Ending Refusal)
-    → Replies (Some (load n)) held held' sunk sunk' driven driven' ending → (ending ≡ done) ⊎ (ending ≡ unwritten) ⊎ (sunk' ≡ sunk)
+    → Replies (Some (load n)) held held' sunk sunk' driven driven' ending →
+    (ending ≡ done) ⊎ (ending ≡ unwritten) ⊎ (sunk' ≡ sunk)
 
 -- this text was appended, and the windows of the one job were run, one after another
 pub record HasRun (text : Bytes) (e : Execution) (sunk sunk' : Sunk) (driven driven' : Driven) : Type 0 where
@@ -66,11 +82,13 @@ pub record HasRun (text : Bytes) (e : Execution) (sunk sunk' : Sunk) (driven dri
 -- what was to be made is made
 abbrev pub IsMade : Given → Sunk → Sunk → Driven → Driven → Type 0
 IsMade (written text) sunk sunk' driven driven' = Appends sunk sunk' text × (driven' ≡ driven)
-IsMade (printed text e) sunk sunk' driven driven' = HasRun (text ++ output_of e.main e.rows.reactions) e sunk sunk' driven driven'
+IsMade (printed text e) sunk sunk' driven driven' =
+    HasRun (text ++ output_of e.main e.rows.reactions) e sunk sunk' driven driven'
 IsMade (executed e) sunk sunk' driven driven' = HasRun (output_of e.main e.rows.reactions) e sunk sunk' driven driven'
 IsMade (summed e text) sunk sunk' driven driven' = HasRun text e sunk sunk' driven driven'
 
 -- Done of any command: what was to be made of the files that are told is made.
 abbrev pub DoneRuns : Type 0
 DoneRuns = (command : Option Command) (held held' : Held) (sunk sunk' : Sunk) (driven driven' : Driven) (given : Given)
-    → Replies command held held' sunk sunk' driven driven' done → outcome held.told (plan_of command) ≡ Some (Ok given) → IsMade given sunk sunk' driven driven'
+    → Replies command held held' sunk sunk' driven driven' done →
+    outcome held.told (plan_of command) ≡ Some (Ok given) → IsMade given sunk sunk' driven driven'

@@ -7,8 +7,8 @@ use Rattle.command_words.specs.Command.{command_of}
 use Rattle.top_plans.specs.Replies.{Replies}
 use Rattle.syndex_program.proofs.syndex.Goals as goal
 
-pub ending-requires : goal.ending-requires
-ending-requires g c = (c.type_bounds.sync-R, record { shared = c.type_bounds.sync-G.shared })
+pub ending-status-requires : goal.ending-status-requires
+ending-status-requires g c = (c.type_bounds.sync-R, record { shared = c.type_bounds.sync-G.shared })
 
 pub returns-clause-replies : goal.returns-clause-replies
 returns-clause-replies g c =

@@ -11,10 +11,10 @@ use Rattle.top_plans.specs.Given.{written}
 use Rattle.syndex_program.proofs.Steps.{went_on}
 use Rattle.syndex_program.proofs.commands.check.check_text.Goals as goal
 
-pub returns-in_err-printed-clause-makes : goal.returns-in_err-printed-clause-makes
-returns-in_err-printed-clause-makes g c =
+pub returns-in_err-print_definitions-clause-makes : goal.returns-in_err-print_definitions-clause-makes
+returns-in_err-print_definitions-clause-makes g c =
     let H = g.S.Shelf.held in
-    let p = err_from_is_err_and c.from_residual-in_err-printed.result c.from_residual-in_err-printed.ensures.1 in
+    let p = err_from_is_err_and c.from_residual-in_err-print_definitions.result c.from_residual-in_err-print_definitions.ensures.1 in
     rw (p.1, p.2) (
     went_on c.args.algorithm.now (H c.args.shelf.now) (H c.read_algorithm.new.shelf) (H c.read_algorithm.new.shelf) c.in_ok-algorithm.algorithm
     (λ (defs : Defs) (main : Vertex). give (written (canonical_text defs))) _ c.in_ok-algorithm.ensures.reads (memory (H c.read_algorithm.new.shelf) _)
@@ -25,4 +25,4 @@ returns-clause-makes g c =
     let H = g.S.Shelf.held in
     went_on c.args.algorithm.now (H c.args.shelf.now) (H c.read_algorithm.new.shelf) (H c.read_algorithm.new.shelf) c.in_ok-algorithm.algorithm
     (λ (defs : Defs) (main : Vertex). give (written (canonical_text defs))) _ c.in_ok-algorithm.ensures.reads
-    (gave (H c.read_algorithm.new.shelf) _ _ (ap (λ (x : Bytes). Ok (written x)) c.in_ok-printed.ensures))
+    (gave (H c.read_algorithm.new.shelf) _ _ (ap (λ (x : Bytes). Ok (written x)) c.in_ok-print_definitions.ensures))
