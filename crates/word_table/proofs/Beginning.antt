@@ -9,10 +9,13 @@ use Rattle.flat_graph.specs.declared.vertex.Kind.TheVariants.{Actuator}
 use Rattle.flat_graph.specs.Graph.{Graph, lens_of}
 use Rattle.executive_program.specs.declared.expand.SeqSteps.{SeqSteps}
 use Rattle.executive_program.specs.Expanded.{AreSteps, expanded}
-use Rattle.semaphore_core.specs.AtOpening.{room_of, lens_for, AreAtOpening}
-use Rattle.semaphore_core.specs.Registers.{Own}
+use Rattle.operation_desks.specs.Rooms.{room_of}
+use Rattle.operation_desks.specs.RowLens.{lens_for}
+use Rattle.semaphore_core.specs.AtOpening.{AreAtOpening}
+use Rattle.operation_desks.specs.Registers.{Own}
 use Rattle.semaphore_core.specs.Held.{HasRow}
-use Rattle.semaphore_core.specs.Job.{JobData, zero_rows, actuator_len, actuator_lens, reactions}
+use Rattle.semaphore_core.specs.Job.{JobData, zero_rows, reactions}
+use Rattle.operation_desks.specs.RowLens.{actuator_len, actuator_lens}
 use Rattle.semaphore_core.specs.Core.{opening}
 use Rattle.semaphore_core.specs.Told.{own_after}
 use Rattle.semaphore_core.proofs.Numbered.{actuator_at}

@@ -13,10 +13,11 @@ use Rattle.interleavings.specs.System.{State}
 use Rattle.executive_program.specs.declared.program.SeqCode.{SeqCode}
 use Rattle.executive_program.specs.declared.program.Instr.{Instr}
 use Rattle.executive_program.specs.Instructions.{turn_of}
-use Rattle.semaphore_core.specs.Job.{JobData, system, zero_rows, actuator_lens, reactions}
+use Rattle.semaphore_core.specs.Job.{JobData, system, zero_rows, reactions}
+use Rattle.operation_desks.specs.RowLens.{actuator_lens}
 use Rattle.semaphore_core.specs.Core.{Core}
-use Rattle.semaphore_core.specs.Operation.{delay_of}
-use Rattle.semaphore_core.specs.Registers.{Own}
+use Rattle.operation_desks.specs.Operation.{delay_of}
+use Rattle.operation_desks.specs.Registers.{Own}
 use Rattle.semaphore_core.specs.Told.{told, stored_value, own_after}
 use Rattle.phase_laws.specs.Agrees.{IsFormed, Agrees, caller, row_at}
 use Rattle.phase_laws.proofs.AgreeTells.{agreement_tells}

@@ -15,9 +15,10 @@ use Rattle.executive_program.specs.declared.steps.MicroStep.TheVariants.{Take, S
 use Rattle.executive_program.specs.Steps.{steps}
 use Rattle.semaphore_core.specs.Job.{JobData, reactions}
 use Rattle.semaphore_core.specs.Core.{Core, full, own, element_of, enabled_in, turn_reached}
-use Rattle.semaphore_core.specs.Registers.{emit_by}
+use Rattle.operation_desks.specs.Registers.{emit_by}
 use Rattle.semaphore_core.specs.Parts.{own_at, absorbed, left, with_load, with_store, value_stored}
-use Rattle.semaphore_core.specs.Held.{NeedsReaction, Fits, LoadHasRow, StoreHasRow}
+use Rattle.semaphore_core.specs.Held.{NeedsReaction, LoadHasRow, StoreHasRow}
+use Rattle.operation_desks.specs.Rooms.{Fits}
 use Rattle.semaphore_core.specs.Told.{told}
 use Rattle.semaphore_core.proofs.Ready.{absorb_ready, after_ready}
 use Rattle.semaphore_core.proofs.Standing.{fits_at, needs_at, next_at}

@@ -20,9 +20,10 @@ use Rattle.syn_base.specs.Rows.{Reactions}
 use Rattle.level_meaning.specs.Level.{Values, vector_at}
 use Rattle.flat_graph.specs.declared.vertex.Vertex.{Vertex}
 use Rattle.flat_graph.specs.declared.vertex.Kind.TheVariants.{Actuator}
-use Rattle.semaphore_core.specs.Job.{JobData, reactions, actuator_lens}
+use Rattle.semaphore_core.specs.Job.{JobData, reactions}
+use Rattle.operation_desks.specs.RowLens.{actuator_lens}
 use Rattle.semaphore_core.specs.Held.{HasRow}
-use Rattle.semaphore_core.specs.Operation.{delay_of}
+use Rattle.operation_desks.specs.Operation.{delay_of}
 use Rattle.semaphore_core.specs.Told.{own_after}
 use Rattle.phase_laws.specs.Agrees.{caller, row_at}
 use Rattle.word_rule.specs.declared.view.View.{View}

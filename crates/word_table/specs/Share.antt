@@ -27,10 +27,12 @@ use Rattle.atomic_table.specs.Seated.{TableId}
 use Rattle.consistent_cuts.specs.Sites.{step_at, reaction_at}
 use Rattle.executive_program.specs.Expanded.{AreSteps}
 use Rattle.executive_program.specs.Steps.{steps}
-use Rattle.semaphore_core.specs.Job.{JobData, zero_rows, actuator_lens}
+use Rattle.semaphore_core.specs.Job.{JobData, zero_rows}
+use Rattle.operation_desks.specs.RowLens.{actuator_lens}
 use Rattle.semaphore_core.specs.Core.{full, AreReached}
-use Rattle.semaphore_core.specs.Held.{AreReady, HasRow, Fits}
-use Rattle.semaphore_core.specs.Operation.{delay_of}
+use Rattle.semaphore_core.specs.Held.{AreReady, HasRow}
+use Rattle.operation_desks.specs.Rooms.{Fits}
+use Rattle.operation_desks.specs.Operation.{delay_of}
 use Rattle.semaphore_core.specs.Told.{own_after}
 use Rattle.phase_laws.specs.Agrees.{caller, row_at}
 use Rattle.word_rule.specs.declared.next.Next.{Next}

@@ -1,6 +1,7 @@
 //! The making of a fabric with its drivers.
 ghost use Rattle.std.specs.Prelude.{◌≡◌, ℕ, ◌<◌, ◌≤◌, ◌+◌, ◌^◌, length, map, slice_index_or, IfOk};
-ghost use Rattle.semaphore_core.specs.Job.{actuator_lens, zero_rows};
+ghost use Rattle.operation_desks.specs.RowLens.{actuator_lens};
+ghost use Rattle.semaphore_core.specs.Job.{zero_rows};
 ghost use Rattle.word_rule.specs.Views.{first_view};
 ghost use Rattle.word_rule.specs.Given.{RunsOnWords};
 ghost use Rattle.word_rule.specs.Words.{element_lens, elements_start, table_len, turn_word};
