@@ -33,7 +33,7 @@ use Rattle.word_rule.specs.declared.view.Knowledge.{Knowledge}
 use Rattle.word_rule.specs.Views.{count_in, raised}
 use Rattle.word_rule.specs.Rule.{AreTold}
 use Rattle.word_rule.specs.Given.{RunsOnWords}
-use Rattle.word_table.specs.Share.{HasOwn}
+use Rattle.word_table.specs.Parts.{HasOwn}
 use Rattle.word_rule.proofs.Views.{raised-same, raised-other}
 use Rattle.word_rule.proofs.Further.{shaped, tells}
 

@@ -45,8 +45,8 @@ use Rattle.word_rule.specs.Steps.{looked_at}
 use Rattle.word_rule.specs.Views.{count_in}
 use Rattle.word_rule.specs.Words.{table_len, word_at, turn_word, elements_start, element_lens}
 use Rattle.word_table.specs.declared.remains.Remains.{Remains}
-use Rattle.word_table.specs.declared.share.Share.{Share}
-use Rattle.word_table.specs.declared.woven.Woven.{Woven}
+use Rattle.word_table.specs.declared.driver_parts.DriverParts.{DriverParts}
+use Rattle.word_table.specs.declared.fabric_parts.FabricParts.{FabricParts}
 use Rattle.word_table.specs.Driver.{FabricData, Look, DriverData}
 use Rattle.word_table.specs.Owners.{owners}
 
@@ -71,8 +71,8 @@ module _ (j : JobData) where
     pub reached : AreReached j counts
     pub agree : (s n : ℕ) → count_in k.driven s ≡ Some n → slice_index_or counts s 0 ≡ n
 
--- It is the share of a driver of the job, on this table, and its seat holds this.
-pub record IsDriver (j : JobData) (table : TableId) (k : Knowledge) (d : Share) : Type 0 where
+-- It is a driver of the job, on this table, and its seat holds this.
+pub record IsDriver (j : JobData) (table : TableId) (k : Knowledge) (d : DriverParts) : Type 0 where
   pub of_table : d.seat.table ≡ table
   pub of_job : d.job.now ≡ j
   pub holds : d.seat.view ≡ Holds k
@@ -95,9 +95,9 @@ pub record IsDriver (j : JobData) (table : TableId) (k : Knowledge) (d : Share) 
   pub in_turn : (s l : ℕ) → Fits j.graph (slice_index_or d.own.rooms s 0) (slice_get (steps j.program s).turn l)
   pub own : HasOwn j k d.own.registers d.own.kept.cells d.own.kept.rows
 
--- the share of a driver of its own job, on the table of its seat
-abbrev pub IsShare : Share → Type 0
-IsShare d = (k : Knowledge) × IsDriver d.job.now d.seat.table k d
+-- what a driver keeps is that of a driver of its own job, on the table of its seat
+abbrev pub AreDriverParts : DriverParts → Type 0
+AreDriverParts d = (k : Knowledge) × IsDriver d.job.now d.seat.table k d
 
 -- What is laid out for the end: room for the counts and the words, the opening cells and
 -- rows of zeros, and the sequence that calls each operation and each delay.
@@ -112,7 +112,7 @@ pub record AreLaid (j : JobData) (r : Remains) : Type 0 where
   pub cell_owners : r.cell_owners.items ≡ owners r.callers.items j.graph.vertices
 
 -- The table is one of the job, its micro-steps are laid out, and so is what the end needs.
-pub record IsWoven (f : Woven) : Type 0 where
+pub record AreFabricParts (f : FabricParts) : Type 0 where
   pub runs : RunsOnWords f.job.now
   pub key : f.table.key ≡ f.job.now
   pub some : 0 < f.groups
@@ -123,16 +123,16 @@ pub record IsWoven (f : Woven) : Type 0 where
   pub words_few : table_len f.job.now < 2 ^ 64
   pub laid : AreLaid f.job.now f.remains
 
--- how both are seen
+-- how contracts see the last look, the fabric and the driver
 abbrev pub last_look : View → Look
 last_look Spent = record { number = 0; word = 0; found = 0 }
 last_look (Holds k) = record { number = k.looks; word = k.word; found = k.found }
 
-abbrev pub woven_view : Woven → FabricData
-woven_view f = record { table = f.table.table; job = f.job.now; groups = f.groups }
+abbrev pub fabric_view : FabricParts → FabricData
+fabric_view f = record { table = f.table.table; job = f.job.now; groups = f.groups }
 
-abbrev pub share_view : Share → DriverData
-share_view d = record {
+abbrev pub driver_view : DriverParts → DriverData
+driver_view d = record {
   fabric = record { table = d.seat.table; job = d.job.now; groups = d.groups };
   group = d.group;
   counts = d.counts.items;
@@ -142,12 +142,12 @@ share_view d = record {
   rows = d.own.kept.rows;
 }
 
--- It is the share of a driver of the fabric.
-abbrev pub IsOf : Woven → Share → Type 0
+-- It is a driver of the fabric.
+abbrev pub IsOf : FabricParts → DriverParts → Type 0
 IsOf f d = (k : Knowledge) × IsDriver f.job.now f.table.table k d
 
 -- the job, the table and the group are the same
-pub record SameDriver (old new : Share) : Type 0 where
+pub record SameDriver (old new : DriverParts) : Type 0 where
   pub table : new.seat.table ≡ old.seat.table
   pub job : new.job.now ≡ old.job.now
   pub groups : new.groups ≡ old.groups
@@ -155,7 +155,7 @@ pub record SameDriver (old new : Share) : Type 0 where
 
 -- Of a driver of the fabric: sequence s is driven, and m is its
 -- next micro-step, in reaction r, which touches this word.
-pub record CanMake (f : Woven) (d : Share) (next : Next) : Type 0 where
+pub record CanMake (f : FabricParts) (d : DriverParts) (next : Next) : Type 0 where
   pub knowledge : Knowledge
   pub count : ℕ
   pub driver : IsDriver f.job.now f.table.table knowledge d
@@ -166,11 +166,11 @@ pub record CanMake (f : Woven) (d : Share) (next : Next) : Type 0 where
   pub word_is : next.word ≡ word_at f.job.now next.reaction next.step
 
 -- one micro-step more of s is counted
-abbrev pub CountsOneMore : Share → Share → ℕ → Type 0
+abbrev pub CountsOneMore : DriverParts → DriverParts → ℕ → Type 0
 CountsOneMore old new s = new.counts.items ≡ slice_set old.counts.items s (slice_index_or old.counts.items s 0 + 1)
 
 -- What a look leads to: it is recorded, and where what was found enables the micro-step one more is counted.
-pub record Looked (old new : Share) (next : Next) (ready : Bool) : Type 0 where
+pub record Looked (old new : DriverParts) (next : Next) (ready : Bool) : Type 0 where
   pub found : ℕ
   pub is : ready ≡ enables next.reaction next.step found
   pub finds : FindsBy old.seat.view next.word found

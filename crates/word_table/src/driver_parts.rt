@@ -1,12 +1,12 @@
-//! The share of a driver: its seat on the table, and what its sequences have of their own.
+//! What a driver keeps: its seat on the table, the counts of its sequences, and what these have of their own.
 ghost use Rattle.std.specs.Prelude.{◌≡◌, ◌<◌, ◌+◌, ◌^◌, length, slice_index_or, slice_set};
 
 use semaphore_core::{Job, OwnParts};
 use word_rule::WordSeat;
 
-/// The fields of a driver.
+/// What a `Driver` keeps, for the steps of `FabricParts`, whose contracts speak of the single fields.
 #[derive(Drop)]
-pub struct Share<'a> {
+pub struct DriverParts<'a> {
     pub seat: WordSeat<'a>,
     pub job: &'a Job<'a>,
     /// It drives the sequences whose number leaves `group` when it is divided by `groups`.

@@ -1,6 +1,6 @@
 use Rattle.std.proofs.Common.{ℕ, length, replicate, ap, arith, ◌∙◌}
 use Rattle.std.proofs.lemmas.List.{length-replicate}
-use Rattle.word_table.proofs.weaving.opened.Goals as goal
+use Rattle.word_table.proofs.weaving.open_table.Goals as goal
 
 pub open-requires-clause-zeros : goal.open-requires-clause-zeros
 open-requires-clause-zeros c = c.as_slice.ensures.value ∙ c.in_ok-words.ensures ∙ ap (λ (n : ℕ). replicate {A = ℕ} n 0) c.requires.len

@@ -1,10 +1,10 @@
 use Rattle.std.proofs.Common.{refl, subst}
 use Rattle.executive_program.specs.declared.program.Program.{Program}
 use Rattle.executive_program.specs.Expanded.{AreSteps}
-use Rattle.word_table.proofs.weaving.woven_of.Goals as goal
+use Rattle.word_table.proofs.weaving.fabric_of.Goals as goal
 
-pub returns-clause-woven : goal.returns-clause-woven
-returns-clause-woven c = (
+pub returns-clause-fabric : goal.returns-clause-fabric
+returns-clause-fabric c = (
   record {
     runs = c.job_runs_on_words.ensures;
     key = c.in_ok-table.ensures.key;
