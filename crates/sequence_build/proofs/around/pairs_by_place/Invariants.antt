@@ -1,7 +1,7 @@
 use Rattle.std.proofs.Common.{◌≡◌, ℕ, ◌<◌, ◌++◌, drop, vec_len}
 use Rattle.sequence_build_laws.specs.Serial.{numbers_where}
 use Rattle.sequence_build.specs.Around.{is_then, list_at}
-use Rattle.sequence_build.proofs.around.gathered.Given as goal
+use Rattle.sequence_build.proofs.around.pairs_by_place.Given as goal
 
 -- what is left makes the whole
 abbrev pub invariant-loop-pair_number : goal.invariant-loop-pair_number
