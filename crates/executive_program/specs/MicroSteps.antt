@@ -159,17 +159,20 @@ module _ (p : Program) where
   abbrev pub receive_at : ℕ → ℕ → ℕ → ℕ → List Micro
   receive_at m t b j = load (wire_of m j) (access m j t) ∷ store (element_of b j) 0 ∷ []
 
-  -- the micro-steps of an instruction on medium m, where t communications of the sequence stand before it in the loop
+  -- The micro-steps of an instruction on medium m, where as many communications of the loop stand before it. Each
+  -- transfer is two halves of the medium's turn, and a communication waits for its own, or for the end of both.
   abbrev pub micros_of : ℕ → ℕ → Instr → List Micro
-  micros_of m t (Suc0 q) = takes (pair_depth p q) (2 * q)
-  micros_of m t (Suc1 q) = takes (pair_depth p q) (2 * q + 1)
-  micros_of m t (Pre0 q) = signal (2 * q) ∷ []
-  micros_of m t (Pre1 q) = signal (2 * q + 1) ∷ []
-  micros_of m t (Call v ins outs) = blocks (loads_at ins) (length ins) ++ blocks (stores_at outs) (length outs)
-  micros_of m t (Send b q) = await m (2 * t) true ∷ (blocks (send_at m t b) (len_of p b) ++ advance m (2 * t) ∷ [])
-  micros_of m t (Recv b q) = await m (2 * t + 1) true ∷
-      (blocks (receive_at m t b) (len_of p b) ++ advance m (2 * t + 1) ∷ [])
-  micros_of m t (Sync q r) = await m (2 * t + 2) false ∷ []
+  micros_of m before (Suc0 pair) = takes (pair_depth p pair) (2 * pair)
+  micros_of m before (Suc1 pair) = takes (pair_depth p pair) (2 * pair + 1)
+  micros_of m before (Pre0 pair) = signal (2 * pair) ∷ []
+  micros_of m before (Pre1 pair) = signal (2 * pair + 1) ∷ []
+  micros_of m before (Call vertex ins outs) =
+      blocks (loads_at ins) (length ins) ++ blocks (stores_at outs) (length outs)
+  micros_of m before (Send buffer to) = await m (2 * before) true ∷
+      (blocks (send_at m before buffer) (len_of p buffer) ++ advance m (2 * before) ∷ [])
+  micros_of m before (Recv buffer from) = await m (2 * before + 1) true ∷
+      (blocks (receive_at m before buffer) (len_of p buffer) ++ advance m (2 * before + 1) ∷ [])
+  micros_of m before (Sync from to) = await m (2 * before + 2) false ∷ []
 
   abbrev pub micros_in : ℕ → ℕ → Option Instr → List Micro
   micros_in m t None = []

@@ -81,7 +81,7 @@ fn unmark_all_writes(marks: &mut [bool], list: &[Instr])
 }
 
 /// Of each buffer, whether a sequence reads it and does not write it.
-fn waiting(alloc: Global, code: &SeqCode, buffers: usize) -> Result<Vec<bool>, OutOfMemory>
+fn mark_waiting(alloc: Global, code: &SeqCode, buffers: usize) -> Result<Vec<bool>, OutOfMemory>
     ensures many { IfOk result (λ marks. length marks.items ≡ buffers) }
     ensures each { IfOk result (λ marks. (b : ℕ) → b < buffers →
         slice_index_or marks.items b false ≡ waits_for b code.now) }
@@ -93,7 +93,7 @@ fn waiting(alloc: Global, code: &SeqCode, buffers: usize) -> Result<Vec<bool>, O
 }
 
 /// One more where there is a mark.
-fn raised(count: u64, mark: bool) -> u64
+fn count_mark(count: u64, mark: bool) -> u64
     requires { count + 1 < 2 ^ 64 }
     ensures { result ≡ count + cond mark 1 0 }
 {
@@ -109,7 +109,7 @@ fn add_marks(counts: &mut [u64], marks: &[bool])
         cond (slice_index_or marks.now b false) 1 0 }
 {
     for b in 0..counts.len() {
-        counts[b] = raised(counts[b], marks[b]);
+        counts[b] = count_mark(counts[b], marks[b]);
     }
 }
 
@@ -122,7 +122,7 @@ fn reader_counts(alloc: Global, program: &Program) -> Result<Vec<u64>, OutOfMemo
     let buffers = program.buffers.as_slice().len();
     let mut counts = vec![in alloc; 0; buffers]?;
     for code in program.seqs.as_slice() {
-        let marks = waiting(alloc, code, buffers)?;
+        let marks = mark_waiting(alloc, code, buffers)?;
         add_marks(&mut counts, marks.as_slice());
     }
     Ok(counts)

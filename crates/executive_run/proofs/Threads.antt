@@ -21,8 +21,8 @@ use Rattle.word_rule.proofs.table.WordSeat.TheSendSync as seat
 use Rattle.word_rule.specs.contracts.table.WordSeat as WordSeat
 use Rattle.word_rule.specs.contracts.table.WordSeat.TheInside as AsWordSeat
 use Rattle.word_rule.proofs.table.WordTable.TheSendSync as table
-use Rattle.word_table.specs.contracts.share.Share as Share
-use Rattle.word_table.specs.contracts.woven.Woven as Woven
+use Rattle.word_table.specs.contracts.driver_parts.DriverParts as DriverParts
+use Rattle.word_table.specs.contracts.fabric_parts.FabricParts as FabricParts
 use Rattle.word_table.specs.contracts.fabric.Driver as Driver
 use Rattle.word_table.specs.contracts.fabric.Driver.TheInside as AsDriver
 use Rattle.word_table.specs.contracts.fabric.Fabric as Fabric
@@ -40,17 +40,17 @@ Flat-sync = search (sendable, std.crosses, vertex.the_sync, Body-sync) depth 40
 Job-sync : (a : NamedLft) → IsSync (Job.the_row a)
 Job-sync a = search (sendable, std.crosses, program.the_sync, sensors.the_sync, items.the_sync, Flat-sync) depth 40
 
-Share-send : (a : NamedLft) → IsSend (Share.the_row a)
-Share-send a = search (sendable, std.crosses, seat.the_send, own.the_send, Job-sync) depth 40
+DriverParts-send : (a : NamedLft) → IsSend (DriverParts.the_row a)
+DriverParts-send a = search (sendable, std.crosses, seat.the_send, own.the_send, Job-sync) depth 40
 
-Woven-sync : (a : NamedLft) → IsSync (Woven.the_row a)
-Woven-sync a = search (sendable, std.crosses, table.the_sync, steps.the_sync, Job-sync) depth 40
+FabricParts-sync : (a : NamedLft) → IsSync (FabricParts.the_row a)
+FabricParts-sync a = search (sendable, std.crosses, table.the_sync, steps.the_sync, Job-sync) depth 40
 
 pub Driver-send : (a : NamedLft) → IsSend (Driver.the_row a)
-Driver-send a = view_send (AsDriver.the_row a) _ _ _ _ (declared_send (AsDriver.the_type a) (Share-send a, tt))
+Driver-send a = view_send (AsDriver.the_row a) _ _ _ _ (declared_send (AsDriver.the_type a) (DriverParts-send a, tt))
 
 pub Fabric-sync : (a : NamedLft) → IsSync (Fabric.the_row a)
-Fabric-sync a = view_sync (AsFabric.the_row a) _ _ _ _ (declared_sync (AsFabric.the_type a) (Woven-sync a, tt))
+Fabric-sync a = view_sync (AsFabric.the_row a) _ _ _ _ (declared_sync (AsFabric.the_type a) (FabricParts-sync a, tt))
 
 -- Whoever reads a seat through a reference has a part of what it owns, which names no thread.
 Seat-sync : (S V : RattleType) → IsSend S → IsSync (TableSeat.the_row S V)
@@ -59,11 +59,11 @@ Seat-sync S V s = record { shared = λ d b o κ q. whole-keyless _ _ (table_seat
 WordSeat-sync : (a : NamedLft) → IsSync (WordSeat.the_row a)
 WordSeat-sync a = view_sync (AsWordSeat.the_row a) _ _ _ _ (declared_sync (AsWordSeat.the_type a) (search (sendable, Seat-sync) depth 20, tt))
 
-Share-sync : (a : NamedLft) → IsSync (Share.the_row a)
-Share-sync a = search (sendable, std.crosses, WordSeat-sync, own.the_sync, Job-sync) depth 40
+DriverParts-sync : (a : NamedLft) → IsSync (DriverParts.the_row a)
+DriverParts-sync a = search (sendable, std.crosses, WordSeat-sync, own.the_sync, Job-sync) depth 40
 
 Driver-sync : (a : NamedLft) → IsSync (Driver.the_row a)
-Driver-sync a = view_sync (AsDriver.the_row a) _ _ _ _ (declared_sync (AsDriver.the_type a) (Share-sync a, tt))
+Driver-sync a = view_sync (AsDriver.the_row a) _ _ _ _ (declared_sync (AsDriver.the_type a) (DriverParts-sync a, tt))
 
 Group-send : (a : NamedLft) → IsSend (Group.the_row a)
 Group-send a = declared_send (Group.the_type a) (Driver-send a, (search (sendable, std.crosses) depth 20, tt))

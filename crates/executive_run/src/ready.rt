@@ -55,8 +55,8 @@ pub fn prepare<'a>(alloc: Global, job: &'a Job<'a>, workers: u32) -> Result<Read
     let places = Vec::with_capacity(alloc, workers as usize)?;
     let done = Vec::with_capacity(alloc, workers as usize)?;
     let drivers = Vec::with_capacity(alloc, workers as usize)?;
-    let (fabric, woven) = weave(alloc, job, workers)?;
-    let groups = groups_of(alloc, &fabric, woven)?;
+    let (fabric, fresh) = weave(alloc, job, workers)?;
+    let groups = groups_of(alloc, &fabric, fresh)?;
     Ok(Ready {
         job,
         fabric,

@@ -13,7 +13,7 @@ use Rattle.flat_graph.specs.Meaning.{is_get, delay_number}
 use Rattle.flat_graph.proofs.Facts.{vertex_valid, twin_of}
 use Rattle.archi_graph.specs.declared.medium.Seq.{Seq}
 use Rattle.executive_program.specs.declared.program.Program.{Program}
-use Rattle.semaphore_core.specs.Operation.{delay_by, delay_of}
+use Rattle.operation_desks.specs.Operation.{delay_by, delay_of}
 use Rattle.executive_program.specs.Places.{calling}
 use Rattle.executive_program.specs.WellFormed.{IsOrder}
 

@@ -8,7 +8,7 @@ use Rattle.interleavings.specs.Laws.{Discipline, IsDisciplined}
 use Rattle.interleavings.proofs.Synchronized.{have_laws}
 use Rattle.executive_program.specs.declared.steps.MicroStep.{MicroStep}
 use Rattle.executive_program.specs.declared.steps.MicroStep.TheVariants.{Take, See, Lower, Signal, Await, Advance, Load, Store}
-use Rattle.semaphore_core.specs.Registers.{Own}
+use Rattle.operation_desks.specs.Registers.{Own}
 use Rattle.semaphore_core.specs.Job.{JobData, system}
 use Rattle.flat_graph.specs.Valid.{is_flat}
 use Rattle.archi_graph.specs.Sequences.{sequences}

@@ -12,8 +12,8 @@ use Rattle.executive_program.specs.declared.steps.OnLoad.{OnLoad}
 use Rattle.executive_program.specs.declared.steps.OnLoad.TheVariants.{Gather, Carry as CarryIn, Compute as ComputeIn}
 use Rattle.executive_program.specs.declared.steps.OnStore.{OnStore}
 use Rattle.executive_program.specs.declared.steps.OnStore.TheVariants.{Give, Carry as CarryOut, Compute as ComputeOut}
-use Rattle.semaphore_core.specs.Operation.{vectors_from, lens_in, conditions_in, inputs_in, delay_of, cell_at, with_cell, rows_by}
-use Rattle.semaphore_core.specs.Registers.{Own, with_registers, kept, gathered, compute_by, compute, absorb_by, emit_by, after_by}
+use Rattle.operation_desks.specs.Operation.{vectors_from, lens_in, conditions_in, inputs_in, delay_of, cell_at, with_cell, rows_by}
+use Rattle.operation_desks.specs.Registers.{Own, with_registers, kept, gathered, compute_by, compute, absorb_by, emit_by, after_by}
 use Rattle.semaphore_core.specs.Job.{JobData, zero_rows}
 use Rattle.phase_laws.specs.Agrees.{IsFormed, caller, row_at, LoadsHere, StoresHere}
 use Rattle.phase_laws.proofs.AgreeLists.{set_same, set_in_same, set_in_lens, get_in_there}

@@ -18,8 +18,8 @@ use Rattle.executive_program.specs.declared.steps.MicroStep.{MicroStep}
 use Rattle.executive_program.specs.declared.steps.MicroStep.TheVariants.{Take, See, Lower, Signal, Await, Advance, Load, Store}
 use Rattle.executive_program.specs.Instructions.{len_of, depth_of, HasPlaces}
 use Rattle.executive_program.specs.MicroSteps.{code, transfers, wire_len}
-use Rattle.semaphore_core.specs.Operation.{delay_of}
-use Rattle.semaphore_core.specs.Registers.{Own, absorb_by, emit_by, after_by, absorb_at, emit_at, after_at}
+use Rattle.operation_desks.specs.Operation.{delay_of}
+use Rattle.operation_desks.specs.Registers.{Own, absorb_by, emit_by, after_by, absorb_at, emit_at, after_at}
 use Rattle.executive_program.specs.Steps.{steps}
 use Rattle.semaphore_core.specs.Job.{JobData, reactions, zero_rows, system}
 use Rattle.semaphore_core.specs.Core.{Core, home_of, slot_of, turn_reached, opening, count, counted, reaction, full, next, own, enabled_by, is_enabled, element_of, with_own, done_by, step, run_from, run}

@@ -15,9 +15,10 @@ use Rattle.flat_graph.specs.Meaning.{is_get, delay_number, initial_cell, initial
 use Rattle.flat_graph.proofs.Facts.{vertex_valid, fits_of}
 use Rattle.executive_program.specs.Instructions.{len_of, depth_of}
 use Rattle.executive_program.specs.MicroSteps.{wire_len}
-use Rattle.semaphore_core.specs.Operation.{delay_by, delay_of}
-use Rattle.semaphore_core.specs.Registers.{Own}
-use Rattle.semaphore_core.specs.Job.{JobData, reactions, zero_rows, actuator_len, actuator_lens}
+use Rattle.operation_desks.specs.Operation.{delay_by, delay_of}
+use Rattle.operation_desks.specs.Registers.{Own}
+use Rattle.semaphore_core.specs.Job.{JobData, reactions, zero_rows}
+use Rattle.operation_desks.specs.RowLens.{actuator_len, actuator_lens}
 use Rattle.semaphore_core.specs.Core.{Core}
 use Rattle.phase_laws.specs.Agrees.{IsFormed, Agrees}
 use Rattle.phase_laws.proofs.AgreeLists.{same_length, same_lengths}

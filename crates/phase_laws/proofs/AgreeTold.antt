@@ -18,8 +18,9 @@ use Rattle.flat_graph.specs.Valid.{actuators_from, kinds_of}
 use Rattle.flat_graph.specs.Meaning.{is_get, delay_number, initial_cell, initial_cells, flat_act, cells_after}
 use Rattle.executive_program.specs.Instructions.{len_of, depth_of}
 use Rattle.executive_program.specs.MicroSteps.{element_of, wire_of, wire_len}
-use Rattle.semaphore_core.specs.Operation.{delay_of}
-use Rattle.semaphore_core.specs.Job.{JobData, reactions, zero_rows, actuator_len, actuator_lens, system}
+use Rattle.operation_desks.specs.Operation.{delay_of}
+use Rattle.semaphore_core.specs.Job.{JobData, reactions, zero_rows, system}
+use Rattle.operation_desks.specs.RowLens.{actuator_len, actuator_lens}
 use Rattle.semaphore_core.specs.Told.{stored_value, registers_after, made, last_load, cell_by, cells_from, cells_by, row_by, row_of, rows_from, rows_by, done_in, done_by, own_after, element_told, buffer_told, wire_told, told}
 use Rattle.phase_laws.specs.Agrees.{IsFormed, Agrees, caller, row_at}
 use Rattle.phase_laws.proofs.AgreeLists.{same_length, length_at}

@@ -13,7 +13,7 @@ use Rattle.executive_program.specs.declared.program.Instr.{Instr}
 use Rattle.executive_program.specs.declared.program.Instr.TheVariants.{Suc0, Suc1, Pre0, Pre1, Call, Send, Recv, Sync}
 use Rattle.executive_program.specs.Instructions.{len_of}
 use Rattle.executive_program.specs.Steps.{len_at, elements_in}
-use Rattle.semaphore_core.specs.Registers.{Own, gathered, compute, compute_by}
+use Rattle.operation_desks.specs.Registers.{Own, gathered, compute, compute_by}
 use Rattle.semaphore_core.specs.Job.{JobData, reactions}
 use Rattle.semaphore_core.specs.Told.{registers_in, buffer_value}
 use Rattle.phase_laws.specs.Values.{IsSupplied}

@@ -14,7 +14,7 @@ use Rattle.flat_graph.specs.Fire.{fired, kept, stored, guards_hold, kind_outputs
 use Rattle.flat_graph.specs.Meaning.{sensed, delay_number, cell_of, value_in, conditions, inputs, reads, cells_after, flat_outputs}
 use Rattle.flat_graph.proofs.Settled.{fixed_point}
 use Rattle.flat_graph.proofs.Fired.{is_kept, first_reads, last_reads}
-use Rattle.semaphore_core.specs.Operation.{conditions_in, inputs_in, vectors_from, lens_in, delay_of, delay_by, cell_at, with_cell, rows_by, outputs_of, cells_left, rows_left}
+use Rattle.operation_desks.specs.Operation.{conditions_in, inputs_in, vectors_from, lens_in, delay_of, delay_by, cell_at, with_cell, rows_by, outputs_of, cells_left, rows_left}
 use Rattle.semaphore_core.specs.Job.{JobData, reactions}
 use Rattle.semaphore_core.specs.Told.{source_value, buffer_value}
 use Rattle.phase_laws.specs.Values.{IsSupplied}

@@ -9,7 +9,7 @@ use Rattle.interleavings.specs.Owners.{sum_below}
 use Rattle.level_meaning.specs.Level.{Vector, Values, element_at, vector_at, all_joined}
 use Rattle.executive_program.specs.declared.program.Program.{Program}
 use Rattle.executive_program.specs.Instructions.{len_of}
-use Rattle.semaphore_core.specs.Operation.{vector_in, vectors_from}
+use Rattle.operation_desks.specs.Operation.{vector_in, vectors_from}
 use Rattle.executive_program.specs.Steps.{len_by, len_at, elements_in}
 use Rattle.phase_laws.proofs.Blocks.{get-append_past, get-append_within}
 

@@ -19,7 +19,7 @@ use Rattle.flat_graph.proofs.Sizes.{keeps_lengths}
 use Rattle.flat_graph.proofs.KindLens.{length-vector_at}
 use Rattle.executive_program.specs.declared.program.Buffer.{Buffer}
 use Rattle.executive_program.specs.Instructions.{len_of, len_in}
-use Rattle.semaphore_core.specs.Operation.{lens_in}
+use Rattle.operation_desks.specs.Operation.{lens_in}
 use Rattle.executive_program.specs.Places.{places, carried}
 use Rattle.executive_program.specs.WellFormed.{HasLength, CarryInOrder, CarryOutputs, len_is}
 use Rattle.semaphore_core.specs.Job.{JobData, reactions}

@@ -14,10 +14,10 @@ use Rattle.executive_program.specs.declared.program.Instr.{Instr}
 use Rattle.executive_program.specs.declared.program.Instr.TheVariants.{Call}
 use Rattle.executive_program.specs.Instructions.{turn, len_of}
 use Rattle.executive_program.specs.MicroSteps.{code, size, begins}
-use Rattle.semaphore_core.specs.Operation.{vectors_from, lens_in, inputs_in}
+use Rattle.operation_desks.specs.Operation.{vectors_from, lens_in, inputs_in}
 use Rattle.executive_program.specs.Places.{calling, places, carried, ins_in, outs_in}
 use Rattle.executive_program.specs.Steps.{len_at, elements_in, on_load, on_store}
-use Rattle.semaphore_core.specs.Registers.{Own, with_registers, kept, gathered, compute, compute_by, absorb_by, emit_by, after_by}
+use Rattle.operation_desks.specs.Registers.{Own, with_registers, kept, gathered, compute, compute_by, absorb_by, emit_by, after_by}
 use Rattle.semaphore_core.specs.Job.{JobData, reactions}
 use Rattle.semaphore_core.specs.Told.{index_at, registers_in, buffer_value, own_after}
 use Rattle.executive_program.specs.WellFormed.{Stands, IsCalled}

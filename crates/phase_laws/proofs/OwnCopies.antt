@@ -10,7 +10,7 @@ use Rattle.executive_program.specs.declared.program.Instr.TheVariants.{Call, Sen
 use Rattle.executive_program.specs.Blocks.{blocks}
 use Rattle.executive_program.specs.Instructions.{len_of, communications}
 use Rattle.executive_program.specs.MicroSteps.{code, size, element_of, wire_of, access, send_at, receive_at}
-use Rattle.semaphore_core.specs.Registers.{with_registers}
+use Rattle.operation_desks.specs.Registers.{with_registers}
 use Rattle.semaphore_core.specs.Job.{JobData}
 use Rattle.semaphore_core.specs.Told.{registers_in, copied, buffer_value, own_after}
 use Rattle.phase_laws.specs.Values.{IsSupplied}

@@ -16,7 +16,8 @@ use Rattle.flat_graph.specs.Valid.{is_flat, fits, actuators_from, kinds_of}
 use Rattle.flat_graph.specs.Meaning.{inputs, value_in, taken, taken_by, cells_after, flat_act}
 use Rattle.flat_graph.proofs.Facts.{vertex_valid, fits_of}
 use Rattle.flat_graph.proofs.KindLens.{one_is}
-use Rattle.semaphore_core.specs.Job.{JobData, reactions, actuator_len, actuator_lens, zero_rows}
+use Rattle.semaphore_core.specs.Job.{JobData, reactions, zero_rows}
+use Rattle.operation_desks.specs.RowLens.{actuator_len, actuator_lens}
 use Rattle.semaphore_core.specs.Told.{row_by, row_of, rows_from, rows_by}
 
 numbered : (g : Graph) → is_flat g ≡ true → actuators_from 0 (kinds_of g.vertices) ≡ true

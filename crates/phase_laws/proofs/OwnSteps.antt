@@ -15,7 +15,7 @@ use Rattle.executive_program.specs.declared.program.Instr.{Instr}
 use Rattle.executive_program.specs.declared.program.Instr.TheVariants.{Call}
 use Rattle.executive_program.specs.Instructions.{turn}
 use Rattle.executive_program.specs.MicroSteps.{code, size, begins}
-use Rattle.semaphore_core.specs.Operation.{vectors_from, lens_in, delay_by, delay_of, cell_at, with_cell, rows_by as rows_with, cells_left, rows_left, conditions_in, inputs_in}
+use Rattle.operation_desks.specs.Operation.{vectors_from, lens_in, delay_by, delay_of, cell_at, with_cell, rows_by as rows_with, cells_left, rows_left, conditions_in, inputs_in}
 use Rattle.executive_program.specs.Places.{calling}
 use Rattle.executive_program.specs.Steps.{elements_in}
 use Rattle.semaphore_core.specs.Job.{JobData, reactions}

@@ -24,7 +24,7 @@ use Rattle.executive_program.specs.Instructions.{is_communication, turn, medium,
 use Rattle.executive_program.specs.MicroSteps.{code, transfers, transfer_len, len_sent, loads_at, stores_at}
 use Rattle.executive_program.specs.Places.{places, transfer, calling}
 use Rattle.executive_program.specs.Steps.{steps, steps_of, call_steps, on_load, on_store, len_at, elements_in}
-use Rattle.semaphore_core.specs.Registers.{Own, absorb_at, emit_at, after_at}
+use Rattle.operation_desks.specs.Registers.{Own, absorb_at, emit_at, after_at}
 use Rattle.semaphore_core.specs.Job.{JobData, reactions, system}
 use Rattle.semaphore_core.specs.Told.{index_at, source_value, buffer_value, stored_value, registers_in, made, last_load, done_by, own_after}
 use Rattle.executive_program.specs.WellFormed.{Stands, ReadsAt, WritesAt}

@@ -1,7 +1,7 @@
 -- Well-formed programs are synchronized and ordered.
 use Rattle.std.specs.Prelude.{ℕ, List}
 use Rattle.archi_graph.specs.declared.medium.Seq.{Seq}
-use Rattle.semaphore_core.specs.Registers.{Own}
+use Rattle.operation_desks.specs.Registers.{Own}
 use Rattle.executive_program.specs.Places.{places, carried}
 use Rattle.executive_program.specs.WellFormed.{IsOrder}
 use Rattle.semaphore_core.specs.Job.{JobData, reactions, system}

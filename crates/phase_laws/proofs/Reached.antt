@@ -8,7 +8,7 @@ use Rattle.interleavings.specs.System.{Micro}
 use Rattle.interleavings.specs.Laws as laws_of_theory
 use Rattle.executive_program.specs.declared.steps.MicroStep.{MicroStep}
 use Rattle.executive_program.specs.declared.steps.MicroStep.TheVariants.{Take, See, Lower, Signal, Await, Advance, Load, Store}
-use Rattle.semaphore_core.specs.Registers.{Own}
+use Rattle.operation_desks.specs.Registers.{Own}
 use Rattle.semaphore_core.specs.Job.{JobData, system}
 use Rattle.semaphore_core.specs.Core.{next, full, AreReached}
 use Rattle.semaphore_core.specs.Told.{told, stored_value, own_after}

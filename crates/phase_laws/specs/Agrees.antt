@@ -31,8 +31,8 @@ use Rattle.executive_program.specs.declared.steps.MicroStep.TheVariants.{
 use Rattle.executive_program.specs.Instructions.{len_of, depth_of}
 use Rattle.executive_program.specs.MicroSteps.{code, transfers, element_of, wire_of, wire_len}
 use Rattle.executive_program.specs.Places.{calling}
-use Rattle.semaphore_core.specs.Operation.{delay_of}
-use Rattle.semaphore_core.specs.Registers.{Own}
+use Rattle.operation_desks.specs.Operation.{delay_of}
+use Rattle.operation_desks.specs.Registers.{Own}
 use Rattle.executive_program.specs.Steps.{steps}
 use Rattle.semaphore_core.specs.Job.{JobData, zero_rows, system}
 use Rattle.executive_program.specs.WellFormed.{IsWellFormed}

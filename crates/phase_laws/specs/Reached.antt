@@ -8,7 +8,7 @@ use Rattle.interleavings.specs.System.{stores, total, round_number}
 use Rattle.executive_program.specs.declared.steps.Place.{Place}
 use Rattle.executive_program.specs.declared.steps.MicroStep.{MicroStep}
 use Rattle.executive_program.specs.declared.steps.MicroStep.TheVariants.{Lower, Load, Store}
-use Rattle.semaphore_core.specs.Operation.{delay_of}
+use Rattle.operation_desks.specs.Operation.{delay_of}
 use Rattle.semaphore_core.specs.Job.{JobData, system}
 use Rattle.semaphore_core.specs.Core.{Core, full, next, reaction, element_of, AreReached}
 use Rattle.semaphore_core.specs.Held.{made}

@@ -11,7 +11,8 @@ use Rattle.flat_graph.specs.Order.{is_acyclic}
 use Rattle.flat_graph.specs.Valid.{is_flat, is_vertex, all_from, are_named_apart, sensors_from, actuators_from, kinds_of}
 use Rattle.executive_program.specs.declared.program.Program.{Program}
 use Rattle.executive_program.specs.Steps.{all_prologues, all_turns}
-use Rattle.semaphore_core.specs.Job.{actuator_len, actuator_lens, total_steps}
+use Rattle.operation_desks.specs.RowLens.{actuator_len, actuator_lens}
+use Rattle.semaphore_core.specs.Job.{total_steps}
 use Rattle.semaphore_core.specs.Totals.{taken_by, CountsLooks}
 use Rattle.executive_program.specs.Sizes.{plain_prologues, plain_turns, deep_pairs}
 use Rattle.executive_program.specs.WellFormed.{IsWellFormed}

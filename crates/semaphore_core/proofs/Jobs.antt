@@ -18,9 +18,10 @@ use Rattle.executive_program.specs.declared.steps.MicroStep.{MicroStep}
 use Rattle.executive_program.specs.Instructions.{number_or, prologue_of}
 use Rattle.executive_program.specs.Places.{opening_of}
 use Rattle.executive_program.specs.Steps.{steps, steps_by, steps_in_list}
-use Rattle.semaphore_core.specs.Operation.{delay_of}
-use Rattle.semaphore_core.specs.AtOpening.{AreDesks}
-use Rattle.semaphore_core.specs.Job.{JobData, reactions, total_steps, actuator_lens}
+use Rattle.operation_desks.specs.Operation.{delay_of}
+use Rattle.operation_desks.specs.Desk.{AreDesks}
+use Rattle.semaphore_core.specs.Job.{JobData, reactions, total_steps}
+use Rattle.operation_desks.specs.RowLens.{actuator_lens}
 use Rattle.semaphore_core.specs.IsJob.{IsJob}
 use Rattle.semaphore_core.specs.Parts.{Kept}
 use Rattle.semaphore_core.specs.Held.{AreReady, HasRow, NeedsReaction}

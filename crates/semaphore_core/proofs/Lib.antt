@@ -7,13 +7,8 @@ pub mod Prologues
 pub mod Limits
 pub mod Some
 pub mod Jobs
-pub mod MoreDesks
-pub mod ZeroRows
 pub mod OpenStates
-pub mod ReadVectors
 pub mod RowVectors
-pub mod Desks
-pub mod DelayNumbers
 pub mod Operate
 pub mod Ready
 pub mod Runs
@@ -21,4 +16,3 @@ pub mod Counting
 pub mod FewSequences
 pub mod RowFive
 mod RowNine
-pub mod Appending

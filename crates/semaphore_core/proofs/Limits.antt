@@ -11,7 +11,8 @@ use Rattle.syn_base.specs.Limits.{bound_of}
 use Rattle.flat_graph.specs.Graph.{Graph}
 use Rattle.executive_program.specs.declared.program.Program.{Program}
 use Rattle.executive_program.specs.Steps.{all_turns}
-use Rattle.semaphore_core.specs.Job.{actuator_lens, output_elements, total_steps}
+use Rattle.operation_desks.specs.RowLens.{actuator_lens}
+use Rattle.semaphore_core.specs.Job.{output_elements, total_steps}
 use Rattle.semaphore_core.specs.IsJob.{above, limit_in, FewerMeetNone}
 
 pub above_none : (which : LimitKind) (count : ℕ) (next : Option LimitFault) → above which count next ≡ None → (count ≤ bound_of which) × (next ≡ None)

@@ -12,8 +12,8 @@ use Rattle.flat_graph.specs.Meaning.{is_get, delay_number, initial_cell, initial
 use Rattle.flat_graph.specs.Fire.{kind_cell_len}
 use Rattle.flat_graph.proofs.Facts.{vertex_valid, fits_of, twin_of, sensors_numbered}
 use Rattle.flat_graph.proofs.KindLens.{one_is, only_is}
-use Rattle.semaphore_core.specs.Operation.{delay_by, delay_of}
-use Rattle.semaphore_core.specs.Job.{actuator_len, actuator_lens}
+use Rattle.operation_desks.specs.Operation.{delay_by, delay_of}
+use Rattle.operation_desks.specs.RowLens.{actuator_len, actuator_lens}
 use Rattle.flat_graph.specs.Laws.{sensor_len, sensor_lens}
 
 -- entry i of a list that is numbered from n on is there, and has this value

@@ -12,14 +12,16 @@ use Rattle.executive_program.specs.declared.steps.MicroStep.{MicroStep}
 use Rattle.executive_program.specs.declared.expand.SeqSteps.{SeqSteps}
 use Rattle.executive_program.specs.Expanded.{expanded, AreSteps}
 use Rattle.executive_program.specs.Steps.{steps, steps_by}
-use Rattle.semaphore_core.specs.RegisterFile.{RegisterFile}
-use Rattle.semaphore_core.specs.Desk.{DeskLens}
+use Rattle.operation_desks.specs.RegisterFile.{RegisterFile}
+use Rattle.operation_desks.specs.Desk.{DeskLens}
 use Rattle.semaphore_core.specs.Job.{JobData}
 use Rattle.semaphore_core.specs.IsJob.{IsJob}
 use Rattle.semaphore_core.specs.Core.{Core, opening}
-use Rattle.semaphore_core.specs.Held.{Held, IsOpened, AreReady, HasRow, Fits, highest}
+use Rattle.semaphore_core.specs.Held.{Held, IsOpened, AreReady, HasRow}
+use Rattle.operation_desks.specs.Rooms.{Fits, highest}
 use Rattle.semaphore_core.specs.Parts.{Kept, Parts}
-use Rattle.semaphore_core.specs.AtOpening.{room_of, all_registers, AreAtOpening}
+use Rattle.operation_desks.specs.Rooms.{room_of, all_registers}
+use Rattle.semaphore_core.specs.AtOpening.{AreAtOpening}
 use Rattle.semaphore_core.proofs.Viewing.{values_of, rooms_of, parts_of}
 use Rattle.semaphore_core.proofs.Jobs.{has_places, few_steps, prologue_bare}
 

@@ -13,7 +13,8 @@ use Rattle.executive_program.specs.Expanded.{next_in}
 use Rattle.executive_program.specs.Steps.{steps}
 use Rattle.semaphore_core.specs.Job.{JobData, reactions, total_steps}
 use Rattle.semaphore_core.specs.Core.{Core, count, counted, full, next, reaction, done_in, own, element_of, IsReached}
-use Rattle.semaphore_core.specs.Held.{Held, IsOpened, AreReady, Fits, FitsWord, NeedsReaction, made, answer, kept_of}
+use Rattle.semaphore_core.specs.Held.{Held, IsOpened, AreReady, FitsWord, NeedsReaction, made, answer, kept_of}
+use Rattle.operation_desks.specs.Rooms.{Fits}
 use Rattle.semaphore_core.specs.declared.answer.StepAnswer.TheVariants.{Finished}
 use Rattle.semaphore_core.proofs.Ready.{absorb_ready, after_ready}
 use Rattle.semaphore_core.proofs.Standing.{next_at, laid_out, not_past, fits_at, needs_at, none_left}

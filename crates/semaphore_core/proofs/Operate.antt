@@ -15,10 +15,10 @@ use Rattle.flat_graph.specs.Valid.{is_flat, fits}
 use Rattle.flat_graph.proofs.Facts.{vertex_valid, fits_of}
 use Rattle.flat_graph.proofs.KindLens.{kind_lens, length-zeros, length-vector_at, HasSeen, HasCell as HasKindCell}
 use Rattle.flat_graph.proofs.ReadLens.{out_lens_is, seen_len_is, cell_len_is, read_count}
-use Rattle.semaphore_core.specs.Operation.{vectors_from, conditions_in, inputs_in, lens_in, HasCell, cell_at, rows_by, delay_of}
-use Rattle.semaphore_core.specs.Desk.{DeskData, IsDesk, lens_of_desk, load_lens, loaded_in}
+use Rattle.operation_desks.specs.Operation.{vectors_from, conditions_in, inputs_in, lens_in, HasCell, cell_at, rows_by, delay_of}
+use Rattle.operation_desks.specs.Desk.{DeskData, IsDesk, lens_of_desk, load_lens, loaded_in}
 use Rattle.semaphore_core.specs.Rows.{TakesRow}
-use Rattle.semaphore_core.proofs.ReadVectors.{length-vector_in}
+use Rattle.operation_desks.proofs.ReadVectors.{length-vector_in}
 
 pub vectors_lens : (row : List ℤ) (at : ℕ) (ns : List ℕ) → map length (vectors_from row at ns) ≡ ns
 vectors_lens row at [] = refl

@@ -12,8 +12,8 @@ use Rattle.executive_program.specs.declared.steps.OnLoad.{OnLoad}
 use Rattle.executive_program.specs.declared.steps.OnLoad.TheVariants.{Gather, Carry as CarryIn, Compute as ComputeIn}
 use Rattle.executive_program.specs.declared.steps.OnStore.{OnStore}
 use Rattle.executive_program.specs.declared.steps.OnStore.TheVariants.{Give, Carry as CarryOut, Compute as ComputeOut}
-use Rattle.semaphore_core.specs.Operation.{vectors_from, lens_in, conditions_in, inputs_in, delay_of, HasCell, cell_at, with_cell, rows_by}
-use Rattle.semaphore_core.specs.Registers.{Own, compute_by, absorb_by, after_by, gathered, with_registers}
+use Rattle.operation_desks.specs.Operation.{vectors_from, lens_in, conditions_in, inputs_in, delay_of, HasCell, cell_at, with_cell, rows_by}
+use Rattle.operation_desks.specs.Registers.{Own, compute_by, absorb_by, after_by, gathered, with_registers}
 use Rattle.semaphore_core.specs.Job.{JobData}
 use Rattle.semaphore_core.specs.Parts.{Kept, with_kept}
 use Rattle.semaphore_core.specs.Held.{AreReady, HasRow, LoadHasRow, StoreHasRow}

@@ -1,17 +1,16 @@
 -- Rows that are laid out for some operations alone.
-use Rattle.std.proofs.Common.{◌≡◌, ℕ, zero, suc, ◌+◌, ◌<◌, Bool, true, cond, ◌==◌, List, [], ◌∷◌, ◌++◌, map, drop, length, append_assoc, Some, refl, sym, ap, subst, arith, ◌∙◌, zero-add}
+use Rattle.std.proofs.Common.{◌≡◌, ℕ, zero, suc, ◌+◌, ◌<◌, Bool, true, cond, ◌==◌, List, [], ◌∷◌, ◌++◌, map, length, Some, refl, sym, ap, subst, arith, ◌∙◌, zero-add}
 use Rattle.std.specs.Prelude.{slice_get, slice_index_or}
 use Rattle.std.proofs.lemmas.Bool.{and_parts, eqb-true}
-use Rattle.std.proofs.lemmas.List.{drop_more}
-use Rattle.std.proofs.lemmas.Option.{slice_get_within, get_or_from_slice_get}
 use Rattle.flat_graph.specs.declared.vertex.Kind.{Kind}
 use Rattle.flat_graph.specs.declared.vertex.Kind.TheVariants.{Sensor, Actuator, Function, Constant, Get, Set, Explode, Implode, Merge}
 use Rattle.flat_graph.specs.declared.vertex.Vertex.{Vertex}
 use Rattle.flat_graph.specs.Graph.{Graph, lens_of}
 use Rattle.flat_graph.specs.Order.{is_acyclic}
 use Rattle.flat_graph.specs.Valid.{is_flat, actuators_from, kinds_of}
-use Rattle.semaphore_core.specs.Job.{JobData, actuator_len}
-use Rattle.semaphore_core.specs.AtOpening.{lens_for}
+use Rattle.semaphore_core.specs.Job.{JobData}
+use Rattle.operation_desks.specs.RowLens.{actuator_len}
+use Rattle.operation_desks.specs.RowLens.{lens_for}
 use Rattle.semaphore_core.specs.Held.{HasRow}
 use Rattle.semaphore_core.proofs.Numbered.{Stands, behind, stands_first, AllFit, all_fit, actuator_one}
 
@@ -57,15 +56,3 @@ rows_for j valid mine lens e v m x a is k = subst (λ (l : List ℕ). (a < lengt
   where
     numbered : actuators_from 0 (kinds_of j.graph.vertices) ≡ true
     numbered = (and_parts _ (actuators_from 0 (kinds_of j.graph.vertices)) (and_parts _ (is_acyclic j.graph.vertices) valid).0).1
-
--- one more operation
-pub lens_more : (g : Graph) (mine : ℕ → Bool) (vs : List Vertex) (k : ℕ) (x : Vertex) (b : Bool) (lens new all : List ℕ) → slice_get vs k ≡ Some x → b ≡ mine k → new ≡ lens ++ map (λ (l : ℕ). cond b l 0) (actuator_len g x x.kind)
-    → lens ++ lens_for g mine k (drop k vs) ≡ all → new ++ lens_for g mine (k + 1) (drop (k + 1) vs) ≡ all
-lens_more g mine vs k x b lens new all is on n e =
-    ap (λ (l : List ℕ). l ++ lens_for g mine (k + 1) (drop (k + 1) vs)) n
-    ∙ append_assoc lens (map (λ (l : ℕ). cond b l 0) (actuator_len g x x.kind)) (lens_for g mine (k + 1) (drop (k + 1) vs))
-    ∙ ap (λ (c : Bool). lens ++ (map (λ (l : ℕ). cond c l 0) (actuator_len g x x.kind) ++ lens_for g mine (k + 1) (drop (k + 1) vs))) on
-    ∙ ap (λ (xs : List Vertex). lens ++ lens_for g mine k xs) (sym dropped) ∙ e
-  where
-    dropped : drop k vs ≡ x ∷ drop (k + 1) vs
-    dropped = drop_more vs k x (slice_get_within vs k x is) ∙ ap (λ (y : Vertex). y ∷ drop (k + 1) vs) (get_or_from_slice_get vs k x x is)

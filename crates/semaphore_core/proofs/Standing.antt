@@ -16,7 +16,8 @@ use Rattle.executive_program.specs.Expanded.{expanded, AreSteps, code_of, next_i
 use Rattle.executive_program.specs.Steps.{steps, steps_by}
 use Rattle.semaphore_core.specs.Job.{JobData, reactions}
 use Rattle.semaphore_core.specs.Core.{full}
-use Rattle.semaphore_core.specs.Held.{Fits, NeedsReaction}
+use Rattle.operation_desks.specs.Rooms.{Fits}
+use Rattle.semaphore_core.specs.Held.{NeedsReaction}
 
 -- the micro-steps that were laid out for s are those of the program
 pub code_at : (j : JobData) (list : List SeqSteps) → AreSteps j.program list → (s : ℕ) → s < length j.program.seqs → (x : SeqSteps) → x ≡ get_or list s x → steps j.program s ≡ code_of x

@@ -10,8 +10,8 @@ use Rattle.executive_program.specs.declared.steps.OnLoad.{OnLoad}
 use Rattle.executive_program.specs.declared.steps.OnStore.{OnStore}
 use Rattle.executive_program.specs.declared.expand.SeqSteps.{SeqSteps}
 use Rattle.executive_program.specs.declared.program.Program.{Program}
-use Rattle.semaphore_core.specs.RegisterFile.{RegisterFile}
-use Rattle.semaphore_core.specs.Registers.{Own}
+use Rattle.operation_desks.specs.RegisterFile.{RegisterFile}
+use Rattle.operation_desks.specs.Registers.{Own}
 use Rattle.semaphore_core.specs.Elements.{element_in, with_element_in}
 use Rattle.semaphore_core.specs.Job.{JobData}
 use Rattle.semaphore_core.specs.Parts.{Kept, Parts, own_of, own_at, with_values, with_kept, with_own, with_load, with_store, value_stored}

@@ -50,7 +50,7 @@ use Rattle.executive_program.specs.Blocks.{blocks}
 use Rattle.executive_program.specs.Instructions.{len_of, depth_of}
 use Rattle.executive_program.specs.MicroSteps.{wire_len}
 use Rattle.executive_program.specs.Steps.{steps}
-use Rattle.semaphore_core.specs.Registers.{Own, absorb_by, emit_by, after_by}
+use Rattle.operation_desks.specs.Registers.{Own, absorb_by, emit_by, after_by}
 use Rattle.semaphore_core.specs.Job.{JobData, reactions, zero_rows}
 
 pub record Core : Type 0 where

@@ -9,14 +9,9 @@ use Rattle.std.specs.Prelude.{
   ◌^◌,
   cond,
   true,
-  max,
   nat_lt,
-  sum,
   List,
-  [],
-  ◌∷◌,
   length,
-  Option,
   Some,
   None,
   slice_get,
@@ -35,10 +30,11 @@ use Rattle.level_meaning.specs.Level.{vector_at}
 use Rattle.flat_graph.specs.declared.vertex.Vertex.{Vertex}
 use Rattle.flat_graph.specs.declared.vertex.Kind.TheVariants.{Actuator, Sensor}
 use Rattle.flat_graph.specs.Valid.{is_flat}
-use Rattle.semaphore_core.specs.Operation.{delay_of}
-use Rattle.flat_graph.specs.Graph.{Graph, lens_of}
-use Rattle.flat_graph.specs.Fire.{out_lens, cell_len, seen_len}
-use Rattle.semaphore_core.specs.Desk.{DeskLens, IsDesk}
+use Rattle.operation_desks.specs.Operation.{delay_of}
+use Rattle.flat_graph.specs.Graph.{lens_of}
+use Rattle.flat_graph.specs.Fire.{cell_len, seen_len}
+use Rattle.operation_desks.specs.Desk.{DeskLens, IsDesk}
+use Rattle.operation_desks.specs.Rooms.{Fits}
 use Rattle.semaphore_core.specs.Parts.{Kept}
 use Rattle.executive_program.specs.Steps.{steps}
 use Rattle.executive_program.specs.Instructions.{HasPlaces}
@@ -89,35 +85,6 @@ pub record Held : Type 0 where
 
 abbrev pub kept_of : Held → Kept
 kept_of h = record { cells = h.core.cells; rows = h.core.rows; lens = h.lens; desks = h.desks }
-
--- The highest number of a register that a micro-step uses; a computation
--- may fill as many as the operation has output elements.
-module _ (g : Graph) where
-  abbrev pub outputs_len : ℕ → ℕ
-  outputs_len v = sum (out_lens g v)
-
-  abbrev pub top_load : OnLoad → ℕ
-  top_load CarryIn = 0
-  top_load (Gather r) = r
-  top_load (ComputeIn v r more) = max r (outputs_len v)
-
-  abbrev pub top_store : OnStore → ℕ
-  top_store (ComputeOut v more) = outputs_len v
-  top_store _ = 0
-
-  abbrev pub top : MicroStep → ℕ
-  top (Load x then) = top_load then
-  top (Store x what) = top_store what
-  top _ = 0
-
-  abbrev pub highest : List MicroStep → ℕ
-  highest [] = 0
-  highest (m ∷ ms) = max (top m) (highest ms)
-
-  -- this many registers are enough for the micro-step
-  abbrev pub Fits : ℕ → Option MicroStep → Type 0
-  Fits room None = Unit {0}
-  Fits room (Some m) = top m < room
 
 -- how many micro-steps all sequences together have made
 abbrev pub made : Core → ℕ

@@ -1,6 +1,6 @@
 -- A job: a well-formed program with the sensors' rows and the
 -- delays' opening values, as a system of interleaved sequences.
-use Rattle.std.specs.Prelude.{ℕ, ◌+◌, ◌-◌, ◌*◌, cond, nat_lt, List, [], ◌∷◌, ◌++◌, map, length, replicate}
+use Rattle.std.specs.Prelude.{ℕ, ◌+◌, ◌-◌, ◌*◌, cond, nat_lt, List, [], map, length, replicate}
 use Rattle.std.specs.List.{sum_by}
 use Rattle.consistent_cuts.specs.Sites.{reaction_at, step_at}
 use Rattle.interleavings.specs.System.{System}
@@ -8,15 +8,12 @@ use Rattle.interleavings.specs.Owners.{sum_below}
 use Rattle.std.specs.Coded.{Coded, code_by, coded×, coded_list, coded_ℕ, coded_ℤ}
 use Rattle.std.specs.Prelude.{refl}
 use Rattle.level_meaning.specs.Level.{Values, zeros}
-use Rattle.flat_graph.specs.declared.vertex.Vertex.{Vertex}
-use Rattle.flat_graph.specs.declared.vertex.Kind.{Kind}
-use Rattle.flat_graph.specs.declared.vertex.Kind.TheVariants.{Actuator}
-use Rattle.flat_graph.specs.Graph.{Graph, lens_of}
+use Rattle.flat_graph.specs.Graph.{Graph}
 use Rattle.executive_program.specs.declared.program.Program.{Program}
 use Rattle.executive_program.specs.Blocks.{block_at}
 use Rattle.executive_program.specs.Instructions.{len_of, depth_of}
 use Rattle.executive_program.specs.MicroSteps.{code, transfers, access, wire_len, buffer_elements}
-use Rattle.semaphore_core.specs.Registers.{Own, absorb_at, emit_at, after_at}
+use Rattle.operation_desks.specs.Registers.{Own, absorb_at, emit_at, after_at}
 use Rattle.executive_program.specs.Steps.{steps, all_prologues, all_turns}
 
 pub record JobData : Type 0 where
@@ -54,15 +51,6 @@ module _ (p : Program) (media : ℕ) where
   -- how often it is stored in a reaction
   abbrev pub period_at : ℕ → ℕ
   period_at y = cond (nat_lt y (buffer_elements p)) 1 (access p (wire_at y) (number_at y) (transfers p (wire_at y)))
-
--- the lengths of the vectors that the actuators take, in order
-abbrev pub actuator_len : Graph → Vertex → Kind → List ℕ
-actuator_len g x (Actuator i) = lens_of g.vertices x.ins
-actuator_len g x _ = []
-
-abbrev pub actuator_lens : Graph → List Vertex → List ℕ
-actuator_lens g [] = []
-actuator_lens g (x ∷ xs) = actuator_len g x x.kind ++ actuator_lens g xs
 
 -- the actuators' rows before any is taken
 abbrev pub zero_rows : JobData → List Values

@@ -1,9 +1,5 @@
 pub mod Elements
-pub mod Operation
-pub mod Desk
 pub mod Rows
-pub mod RegisterFile
-pub mod Registers
 pub mod Job
 pub mod Parts
 pub mod IsJob

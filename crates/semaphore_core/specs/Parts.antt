@@ -1,12 +1,14 @@
 -- What the sequences of a state or of a driver have of their own,
 -- and what the loads and stores of one of them leave of it.
-use Rattle.std.specs.Prelude.{ℕ, List, [], slice_index_or, slice_set, ℤ}
+use Rattle.std.specs.Prelude.{ℕ, List, [], Some, slice_index_or, slice_set, ℤ}
 use Rattle.level_meaning.specs.Level.{Values}
+use Rattle.flat_graph.specs.declared.vertex.Vertex.{Vertex}
+use Rattle.syn_base.specs.Rows.{Reactions}
 use Rattle.executive_program.specs.declared.steps.OnLoad.{OnLoad}
 use Rattle.executive_program.specs.declared.steps.OnStore.{OnStore}
-use Rattle.semaphore_core.specs.Desk.{DeskLens}
-use Rattle.semaphore_core.specs.RegisterFile.{RegisterFile}
-use Rattle.semaphore_core.specs.Registers.{Own, compute, absorb_by, emit_by, after_by}
+use Rattle.operation_desks.specs.Desk.{DeskLens}
+use Rattle.operation_desks.specs.RegisterFile.{RegisterFile}
+use Rattle.operation_desks.specs.Registers.{Own, compute, compute_by, absorb_by, emit_by, after_by}
 use Rattle.semaphore_core.specs.Job.{JobData}
 
 -- the delays' cells, the actuators' rows with the lengths of their vectors, and the operations' desks
@@ -23,9 +25,13 @@ pub record Parts : Type 0 where
   -- of the operations that the sequences call
   pub kept : Kept
 
--- what one sequence has of its own: the one with these registers, and sequence s
+-- what one sequence has of its own: the one with these registers, beside what operations keep, or beside these cells
+-- and rows; and sequence s
 abbrev pub own_of : RegisterFile → Kept → Own
 own_of r k = record { registers = r.values; cells = k.cells; rows = k.rows }
+
+abbrev pub own_with : RegisterFile → Values → Reactions → Own
+own_with r cells rows = record { registers = r.values; cells = cells; rows = rows.reactions }
 
 abbrev pub own_at : Parts → ℕ → Own
 own_at p s = record { registers = slice_index_or p.registers s []; cells = p.kept.cells; rows = p.kept.rows }
@@ -42,9 +48,13 @@ abbrev pub with_own : Parts → ℕ → Own → Parts
 with_own p s c = record { registers = slice_set p.registers s c.registers; rooms = p.rooms; kept = with_kept p.kept c }
 
 module _ (j : JobData) where
-  -- what a sequence has of its own after operation v was computed in reaction k, and after a load of element z
+  -- What a sequence has of its own after operation v was computed in reaction k; where it is known that this is x; and
+  -- after a load of element z.
   abbrev pub computed : ℕ → ℕ → Own → Own
   computed v k c = compute j.graph j.sensors v k c.registers c
+
+  abbrev pub computed_by : ℕ → Vertex → ℕ → Own → Own
+  computed_by v x k c = compute_by j.graph j.sensors v k c.registers c (Some x)
 
   abbrev pub absorbed : OnLoad → ℕ → Own → ℤ → Own
   absorbed then k c z = absorb_by j.graph j.sensors then k c z

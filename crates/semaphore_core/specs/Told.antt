@@ -51,7 +51,7 @@ use Rattle.executive_program.specs.MicroSteps.{
   wire_len,
 }
 use Rattle.executive_program.specs.Places.{calling, carried}
-use Rattle.semaphore_core.specs.Registers.{Own}
+use Rattle.operation_desks.specs.Registers.{Own}
 use Rattle.executive_program.specs.declared.program.Program.{Program}
 use Rattle.executive_program.specs.Steps.{elements_in}
 use Rattle.semaphore_core.specs.Job.{JobData, reactions, buffer_at, wire_at, number_at, depth_at, period_at, system}

@@ -5,7 +5,7 @@ use Rattle.flat_graph.specs.declared.vertex.Vertex.{Vertex}
 use Rattle.flat_graph.specs.Graph.{Graph}
 use Rattle.executive_program.specs.declared.program.Program.{Program}
 use Rattle.executive_program.specs.Sizes.{prologue_looks, turn_looks, deep_pairs}
-use Rattle.semaphore_core.specs.Job.{actuator_len}
+use Rattle.operation_desks.specs.RowLens.{actuator_len}
 
 -- how many elements an operation takes, where it is an actuator
 abbrev pub taken_by : Graph → Vertex → ℕ

@@ -1,28 +1,26 @@
 //! The operations of a job, computed on their desks: what they keep and take, for `OwnParts`.
 ghost use Rattle.std.specs.Prelude.{◌≡◌, ℕ, true, ◌<◌, length, map, slice_get, slice_index_or, Some, None, [], IfOk, false, replicate};
 ghost use Rattle.level_meaning.specs.Level.{zeros};
-ghost use Rattle.semaphore_core.specs.AtOpening.{lens_for};
+ghost use Rattle.operation_desks.specs.RowLens.{lens_for};
 ghost use Rattle.level_meaning.specs.Level.{vector_at};
 ghost use Rattle.flat_graph.specs.declared.vertex.Kind.TheVariants.{Actuator, Sensor};
 ghost use Rattle.flat_graph.specs.Graph.{lens_of};
 ghost use Rattle.flat_graph.specs.Valid.{is_flat};
 ghost use Rattle.flat_graph.specs.Fire.{fired_at, kept_at, cell_len, seen_len, out_lens, read_lens};
-ghost use Rattle.semaphore_core.specs.Operation.{cell_at, with_cell, rows_by, HasCell, delay_of};
-ghost use Rattle.semaphore_core.specs.Desk.{IsDesk, lens_of_desk};
-ghost use Rattle.semaphore_core.specs.Job.{actuator_lens, zero_rows};
+ghost use Rattle.operation_desks.specs.Operation.{cell_at, with_cell, rows_by, HasCell, delay_of};
+ghost use Rattle.operation_desks.specs.Desk.{IsDesk, lens_of_desk};
+ghost use Rattle.operation_desks.specs.RowLens.{actuator_lens};
+ghost use Rattle.semaphore_core.specs.Job.{zero_rows};
 ghost use Rattle.semaphore_core.specs.IsJob.{IsJob};
-ghost use Rattle.semaphore_core.specs.Registers.{compute_by};
 ghost use Rattle.semaphore_core.specs.Rows.{with_vector, TakesRow};
-ghost use Rattle.semaphore_core.specs.Held.{AreReady, HasRow, LoadHasRow, StoreHasRow, outputs_len, top_load, top_store};
-ghost use Rattle.semaphore_core.specs.Parts.{own_of, computed, absorbed, emitted, left, with_values, with_kept};
+ghost use Rattle.semaphore_core.specs.Held.{AreReady, HasRow, LoadHasRow, StoreHasRow};
+ghost use Rattle.operation_desks.specs.Rooms.{outputs_len, top_load, top_store};
+ghost use Rattle.semaphore_core.specs.Parts.{own_of, own_with, computed, computed_by, absorbed, emitted, left, with_values, with_kept};
 
-use crate::desk::Desk;
 use crate::job::Job;
-use crate::laying::desks_of;
-use crate::opening::{actuator_lens, copy_of, row_lens, zero_rows};
-use crate::registers::Registers;
 use executive_program::{OnLoad, OnStore};
 use flat_graph::{Flat, Kind, Vertex};
+use operation_desks::{Desk, Registers, actuator_lens, copy_of, desks_of, row_lens, zero_rows};
 use std::alloc::Global;
 use std::marker::Model;
 use syn_base::{ActRows, OutOfMemory};
@@ -106,30 +104,12 @@ fn operate(
         slice_index_or (lens_of job.now.graph.vertices x.now.ins) 0 0) }
     requires reaction { (reaction < length job.now.sensors) × (reaction < length rows.old.reactions) }
     requires room { outputs_len job.now.graph vertex < registers.old.room }
-    ensures registers { registers.new ≡ record registers.old {
-      values = (compute_by job.now.graph job.now.sensors vertex reaction registers.old.values
-          (record {
-            registers = registers.old.values;
-            cells = map (λ c. c.items) cells.old.items;
-            rows = rows.old.reactions;
-          }) (Some x.now)).registers;
-    } }
-    ensures cells { map (λ c. c.items) cells.new.items ≡
-        (compute_by job.now.graph job.now.sensors vertex reaction registers.old.values
-        (record {
-          registers = registers.old.values;
-          cells = map (λ c. c.items) cells.old.items;
-          rows = rows.old.reactions;
-        }) (Some x.now)).cells }
-    ensures rows { rows.new ≡ record rows.old {
-      reactions =
-          (compute_by job.now.graph job.now.sensors vertex reaction registers.old.values
-          (record {
-            registers = registers.old.values;
-            cells = map (λ c. c.items) cells.old.items;
-            rows = rows.old.reactions;
-          }) (Some x.now)).rows;
-    } }
+    ensures registers { let own = own_with registers.old (map (λ c. c.items) cells.old.items) rows.old in
+        registers.new ≡ with_values registers.old (computed_by job.now vertex x.now reaction own) }
+    ensures cells { let own = own_with registers.old (map (λ c. c.items) cells.old.items) rows.old in
+        map (λ c. c.items) cells.new.items ≡ (computed_by job.now vertex x.now reaction own).cells }
+    ensures rows { let own = own_with registers.old (map (λ c. c.items) cells.old.items) rows.old in
+        rows.new ≡ record rows.old { reactions = (computed_by job.now vertex x.now reaction own).rows } }
     ensures desk { lens_of_desk desk.new ≡ lens_of_desk desk.old }
 {
     desk.read(registers);
@@ -162,7 +142,7 @@ pub struct Operations {
 impl Model for Operations {
     ghost use Rattle.std.specs.Prelude.{map};
     ghost use Rattle.semaphore_core.specs.Parts.{Kept};
-    ghost use Rattle.semaphore_core.specs.Desk.{lens_of_desk};
+    ghost use Rattle.operation_desks.specs.Desk.{lens_of_desk};
 
     ghost Value = { Kept };
 

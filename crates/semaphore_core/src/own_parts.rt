@@ -1,16 +1,18 @@
 //! What sequences have of their own: their registers, and the cells, rows and desks of their operations.
 ghost use Rattle.std.specs.Prelude.{◌≡◌, ℕ, ◌<◌, true, false, length, map, replicate, slice_index_or, IfOk};
 ghost use Rattle.level_meaning.specs.Level.{zeros};
-ghost use Rattle.semaphore_core.specs.Job.{actuator_lens, zero_rows};
-ghost use Rattle.semaphore_core.specs.AtOpening.{AreAtOpening, lens_for};
-ghost use Rattle.semaphore_core.specs.Held.{AreReady, HasRow, LoadHasRow, StoreHasRow, top_load, top_store};
+ghost use Rattle.operation_desks.specs.RowLens.{actuator_lens};
+ghost use Rattle.semaphore_core.specs.Job.{zero_rows};
+ghost use Rattle.semaphore_core.specs.AtOpening.{AreAtOpening};
+ghost use Rattle.operation_desks.specs.RowLens.{lens_for};
+ghost use Rattle.semaphore_core.specs.Held.{AreReady, HasRow, LoadHasRow, StoreHasRow};
+ghost use Rattle.operation_desks.specs.Rooms.{top_load, top_store};
 ghost use Rattle.semaphore_core.specs.Parts.{with_load, with_store, value_stored};
 
 use crate::job::Job;
 use crate::operations::Operations;
-use crate::registers::Registers;
-use crate::rooms::all_registers;
 use executive_program::{OnLoad, OnStore, SeqSteps};
+use operation_desks::{Registers, all_registers};
 use std::alloc::Global;
 use std::marker::Model;
 use syn_base::{ActRows, OutOfMemory};

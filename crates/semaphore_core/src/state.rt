@@ -1,14 +1,15 @@
 //! The state of a run, and the calls that step it.
 ghost use Rattle.std.specs.Prelude.{◌≡◌, ℕ, ◌+◌, ◌*◌, ◌%◌, ◌^◌, ◌<◌, length, slice_index_or, slice_set, Some, IfOk};
 ghost use Rattle.semaphore_core.specs.Core.{count, counted, done_in, next, reaction, step, run_from, enabled_in, is_enabled, load_by, store_by, home_of, slot_of, opening};
-ghost use Rattle.semaphore_core.specs.Held.{AreReady, HasRow, IsOpened, FitsWord, NeedsReaction, answer, kept_of, top, top_load, top_store};
+ghost use Rattle.semaphore_core.specs.Held.{AreReady, HasRow, IsOpened, FitsWord, NeedsReaction, answer, kept_of};
+ghost use Rattle.operation_desks.specs.Rooms.{top, top_load, top_store};
 ghost use Rattle.executive_program.specs.Instructions.{HasPlaces, depth_of};
 
 use crate::answer::StepAnswer;
 use crate::job::Job;
-use crate::opening::{words_of, zero_elements};
 use crate::own_parts::OwnParts;
 use crate::words;
+use crate::words::{words_of, zero_elements};
 use executive_program::{
     MicroStep, OnLoad, OnStore, Place, Program, SeqSteps, buffer_depth, buffer_len, micro_steps_of,
 };

@@ -117,7 +117,6 @@ pub fn run_limit(
     ensures limit { IfErr result (λ fault. limit_in program.now flat.now (length rows.now.reactions) ≡ Some fault) }
 {
     let reactions = rows.count();
-    let _ = archi.media();
     match limit_fault(program, flat, reactions) {
         Some(fault) => Err(fault),
         None => Ok(total_steps(program, reactions) as u64),

@@ -1,12 +1,14 @@
 //! Words and elements that sequences share, and the next micro-step of a sequence.
-ghost use Rattle.std.specs.Prelude.{◌≡◌, ◌+◌, ◌-◌, ◌*◌, ◌/◌, ◌<◌, slice_index_or, slice_set, pos};
+ghost use Rattle.std.specs.Prelude.{◌≡◌, ◌+◌, ◌-◌, ◌*◌, ◌/◌, ◌<◌, ◌++◌, replicate, slice_index_or, slice_set, pos, IfOk};
 ghost use Rattle.consistent_cuts.specs.Sites.{reaction_at};
-ghost use Rattle.semaphore_core.specs.Core.{turn_reached};
+ghost use Rattle.semaphore_core.specs.Core.{buffer_zeros, turn_reached, wire_zeros};
 ghost use Rattle.semaphore_core.specs.Elements.{element_in, with_element_in};
 ghost use Rattle.executive_program.specs.Expanded.{code_of, next_in};
 
-use executive_program::{MicroStep, SeqSteps};
-use syn_base::Items;
+use executive_program::{MicroStep, Program, SeqSteps, wire_len};
+use operation_desks::{addressable, zeros};
+use std::alloc::Global;
+use syn_base::{Items, OutOfMemory};
 
 /// The word at a place, 0 for one that is not there.
 pub fn word_at(words: &[u64], at: usize) -> u64
@@ -99,4 +101,38 @@ pub fn reaction_at(steps: &SeqSteps, count: u64) -> u64
         return 0;
     }
     count.saturating_sub(front) / period
+}
+
+/// As many words, each of them this one.
+pub fn words_of(alloc: Global, word: u64, len: usize) -> Result<Vec<u64>, OutOfMemory>
+    ensures { IfOk result (λ s. s.items ≡ replicate len word) }
+{
+    Ok(vec![in alloc; word; len]?)
+}
+
+/// The elements of all buffers, all zeros.
+fn zero_buffers(alloc: Global, program: &Program) -> Result<Vec<Items<i64>>, OutOfMemory>
+    ensures { IfOk result (λ s. s.items ≡ buffer_zeros program.now) }
+{
+    let mut all = Vec::new(alloc);
+    for buffer in program.buffers.as_slice() {
+        let len = buffer.depth as u128 * buffer.len as u128;
+        all.push(zeros(alloc, addressable(len)?)?)?;
+    }
+    Ok(all)
+}
+
+/// The elements of all buffers and then of all wires, all zeros.
+pub fn zero_elements(
+    alloc: Global,
+    program: &Program,
+    media: u32,
+) -> Result<Vec<Items<i64>>, OutOfMemory>
+    ensures { IfOk result (λ s. s.items ≡ buffer_zeros program.now ++ wire_zeros program.now media) }
+{
+    let mut all = zero_buffers(alloc, program)?;
+    for medium in 0..media {
+        all.push(zeros(alloc, wire_len(program, medium) as usize)?)?;
+    }
+    Ok(all)
 }

@@ -105,7 +105,7 @@ fn no_lists(alloc: Global, count: usize) -> Result<Vec<Vec<u32>>, OutOfMemory>
 }
 
 /// The pairs that have this moment at each of the first `count` places of a sequence.
-fn gathered(
+fn pairs_by_place(
     alloc: Global,
     moment: Moment,
     sequence: u32,
@@ -136,9 +136,9 @@ fn around_of(
     ensures { IfOk result (λ x. Surrounds sequence count pairs.now x) }
 {
     Ok(Around {
-        firsts: gathered(alloc, Moment::FirstRead, sequence, count, pairs)?,
-        lasts: gathered(alloc, Moment::LastRead, sequence, count, pairs)?,
-        writes: gathered(alloc, Moment::Write, sequence, count, pairs)?,
+        firsts: pairs_by_place(alloc, Moment::FirstRead, sequence, count, pairs)?,
+        lasts: pairs_by_place(alloc, Moment::LastRead, sequence, count, pairs)?,
+        writes: pairs_by_place(alloc, Moment::Write, sequence, count, pairs)?,
     })
 }
 

@@ -4,7 +4,7 @@ ghost use Rattle.algo_tree.specs.Ends.{actuator_lengths};
 ghost use Rattle.command_plan.specs.Run.{Performs};
 ghost use Rattle.command_status.specs.Status.{Refusal, ending_of as status_ending};
 ghost use Rattle.phase_laws.specs.Ended.{all_acts};
-ghost use Rattle.semaphore_core.specs.Job.{actuator_lens};
+ghost use Rattle.operation_desks.specs.RowLens.{actuator_lens};
 ghost use Rattle.word_rule.specs.Driven.{driven_by};
 ghost use Rattle.top_plans.specs.Given.{acts_of, window_stages};
 ghost use Rattle.syndex_program.specs.Executes.{IsExecuted, executed};

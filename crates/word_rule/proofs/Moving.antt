@@ -6,7 +6,7 @@ use Rattle.executive_program.specs.declared.steps.MicroStep.{MicroStep}
 use Rattle.executive_program.specs.declared.steps.MicroStep.TheVariants.{Take, See, Lower, Signal, Await, Advance, Load, Store}
 use Rattle.semaphore_core.specs.Job.{JobData}
 use Rattle.semaphore_core.specs.Core.{Core, enabled_in, done_in, home_of, slot_of, own}
-use Rattle.semaphore_core.specs.Registers.{emit_by}
+use Rattle.operation_desks.specs.Registers.{emit_by}
 use Rattle.semaphore_core.specs.Told.{told}
 use Rattle.word_rule.specs.declared.view.Knowledge.{Knowledge}
 use Rattle.word_rule.specs.declared.view.View.{View}

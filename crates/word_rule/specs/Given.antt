@@ -35,7 +35,7 @@ use Rattle.executive_program.specs.declared.steps.MicroStep.TheVariants.{
 use Rattle.semaphore_core.specs.Job.{JobData, system}
 use Rattle.executive_program.specs.declared.steps.OnLoad.{OnLoad}
 use Rattle.executive_program.specs.declared.steps.OnStore.{OnStore}
-use Rattle.semaphore_core.specs.Registers.{emit_by}
+use Rattle.operation_desks.specs.Registers.{emit_by}
 use Rattle.semaphore_core.specs.Told.{told, stored_value, own_after}
 use Rattle.interleavings.specs.Sound.{AreValues}
 use Rattle.phase_laws.specs.Agrees.{IsFormed}

@@ -9,10 +9,13 @@ use Rattle.flat_graph.specs.declared.vertex.Kind.TheVariants.{Actuator}
 use Rattle.flat_graph.specs.Graph.{Graph, lens_of}
 use Rattle.executive_program.specs.declared.expand.SeqSteps.{SeqSteps}
 use Rattle.executive_program.specs.Expanded.{AreSteps, expanded}
-use Rattle.semaphore_core.specs.AtOpening.{room_of, lens_for, AreAtOpening}
-use Rattle.semaphore_core.specs.Registers.{Own}
+use Rattle.operation_desks.specs.Rooms.{room_of}
+use Rattle.operation_desks.specs.RowLens.{lens_for}
+use Rattle.semaphore_core.specs.AtOpening.{AreAtOpening}
+use Rattle.operation_desks.specs.Registers.{Own}
 use Rattle.semaphore_core.specs.Held.{HasRow}
-use Rattle.semaphore_core.specs.Job.{JobData, zero_rows, actuator_len, actuator_lens, reactions}
+use Rattle.semaphore_core.specs.Job.{JobData, zero_rows, reactions}
+use Rattle.operation_desks.specs.RowLens.{actuator_len, actuator_lens}
 use Rattle.semaphore_core.specs.Core.{opening}
 use Rattle.semaphore_core.specs.Told.{own_after}
 use Rattle.semaphore_core.proofs.Numbered.{actuator_at}
@@ -23,8 +26,8 @@ use Rattle.word_rule.specs.declared.view.View.{View}
 use Rattle.word_rule.specs.declared.view.View.TheVariants.{Spent, Holds}
 use Rattle.word_rule.specs.Views.{count_in}
 use Rattle.word_rule.specs.Given.{RunsOnWords}
-use Rattle.word_table.specs.declared.share.Share.{Share}
-use Rattle.word_table.specs.Share.{HasOwn, IsDriver, IsShare, last_look, share_view}
+use Rattle.word_table.specs.declared.driver_parts.DriverParts.{DriverParts}
+use Rattle.word_table.specs.Parts.{HasOwn, IsDriver, AreDriverParts, last_look, driver_view}
 use Rattle.word_table.specs.Driver.{IsNew}
 use Rattle.word_table.specs.Weaving.{IsNewView, DrivesGroup}
 
@@ -55,7 +58,7 @@ zero_row (suc n) lens zero a m l e = get_or-map zeros lens a 0 [] l ∙ ap zeros
 zero_row (suc n) lens (suc k) a m l e = zero_row n lens k a m l e
 
 module _ (j : JobData) (g : RunsOnWords j) (code : List SeqSteps) (are : AreSteps j.program code) (callers : List ℕ) (called : (v : ℕ) → v < length j.graph.vertices → get_or callers v 0 ≡ caller j v) (callers_there : length callers ≡ length j.graph.vertices)
-    (k : Knowledge) (d : Share) (job : d.job.now ≡ j) (new : IsNewView j k) (drives : (s : ℕ) → s < length j.program.seqs → s % d.groups ≡ d.group → count_in k.driven s ≡ Some 0) (only : (s n : ℕ) → count_in k.driven s ≡ Some n → s % d.groups ≡ d.group)
+    (k : Knowledge) (d : DriverParts) (job : d.job.now ≡ j) (new : IsNewView j k) (drives : (s : ℕ) → s < length j.program.seqs → s % d.groups ≡ d.group → count_in k.driven s ≡ Some 0) (only : (s n : ℕ) → count_in k.driven s ≡ Some n → s % d.groups ≡ d.group)
     (holds : d.seat.view ≡ Holds k) (mine : List Bool) (mine_is : mine ≡ map (λ s. nat_eq (s % d.groups) d.group) callers)
     (counts : d.counts.items ≡ replicate (length j.program.seqs) 0) (at : AreAtOpening j code d.own) (lens : d.own.kept.lens ≡ lens_for j.graph (λ v. get_or mine v false) 0 j.graph.vertices)
     (rows : d.own.kept.rows ≡ replicate (reactions j) (map zeros d.own.kept.lens)) (laid : (v : ℕ) → get_or mine v false ≡ true → HasRow j d.own.kept.lens v) where
@@ -114,16 +117,16 @@ module _ (j : JobData) (g : RunsOnWords j) (code : List SeqSteps) (are : AreStep
     own = own_first;
   }
 
--- the share of a driver of its group
+-- a driver of its group
 pub begins_by : (j : JobData) → RunsOnWords j → (code : List SeqSteps) → AreSteps j.program code → (callers : List ℕ) → ((v : ℕ) → v < length j.graph.vertices → get_or callers v 0 ≡ caller j v) → length callers ≡ length j.graph.vertices
-    → (d : Share) → d.job.now ≡ j → DrivesGroup j d.groups d.group d.seat.view → (mine : List Bool) → mine ≡ map (λ s. nat_eq (s % d.groups) d.group) callers
+    → (d : DriverParts) → d.job.now ≡ j → DrivesGroup j d.groups d.group d.seat.view → (mine : List Bool) → mine ≡ map (λ s. nat_eq (s % d.groups) d.group) callers
     → d.counts.items ≡ replicate (length j.program.seqs) 0 → AreAtOpening j code d.own
     → d.own.kept.lens ≡ lens_for j.graph (λ v. get_or mine v false) 0 j.graph.vertices
     → d.own.kept.rows ≡ replicate (reactions j) (map zeros d.own.kept.lens) → ((v : ℕ) → get_or mine v false ≡ true → HasRow j d.own.kept.lens v)
-    → IsShare d × IsNew (share_view d)
+    → AreDriverParts d × IsNew (driver_view d)
 begins_by j g code are callers called there d job new mine mine_is counts at lens rows laid = by d.seat.view refl new
   where
-    by : (v : View) → d.seat.view ≡ v → DrivesGroup j d.groups d.group v → IsShare d × IsNew (share_view d)
+    by : (v : View) → d.seat.view ≡ v → DrivesGroup j d.groups d.group v → AreDriverParts d × IsNew (driver_view d)
     by Spent e n = absurd n
     by (Holds k) e n = (
       (k, subst (λ (i : JobData). IsDriver i d.seat.table k d) (sym job) (begins j g code are callers called there k d job n.0 n.1 n.2 e mine mine_is counts at lens rows laid)),

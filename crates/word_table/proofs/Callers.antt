@@ -8,7 +8,7 @@ use Rattle.flat_graph.specs.declared.vertex.Kind.TheVariants.{Sensor, Actuator, 
 use Rattle.flat_graph.specs.declared.vertex.Vertex.{Vertex}
 use Rattle.flat_graph.specs.Meaning.{is_get, delay_number}
 use Rattle.semaphore_core.specs.Job.{JobData}
-use Rattle.semaphore_core.specs.Operation.{delay_of}
+use Rattle.operation_desks.specs.Operation.{delay_of}
 use Rattle.phase_laws.specs.Agrees.{IsFormed, caller}
 use Rattle.phase_laws.proofs.AgreeDelays.{GetHalf, get_half}
 use Rattle.word_table.specs.Owners.{owners}

@@ -7,12 +7,11 @@ use Rattle.std.proofs.lemmas.Nat.{mod_below}
 use Rattle.std.proofs.lemmas.Option.{slice_get_within}
 use Rattle.atomic_table.specs.Seated.{TableId}
 use Rattle.flat_graph.specs.Graph.{lens_of}
-use Rattle.semaphore_core.specs.Job.{JobData, reactions}
+use Rattle.semaphore_core.specs.Job.{JobData}
 use Rattle.semaphore_core.specs.Core.{full}
 use Rattle.semaphore_core.specs.Held.{HasRow}
 use Rattle.semaphore_core.specs.Told.{told}
 use Rattle.semaphore_core.proofs.Numbered.{actuator_at}
-use Rattle.phase_laws.specs.Agrees.{caller}
 use Rattle.phase_laws.specs.Ended.{FullIsEnded, full_counts}
 use Rattle.word_rule.specs.declared.view.Knowledge.{Knowledge}
 use Rattle.word_rule.specs.declared.view.View.{View}
@@ -24,11 +23,11 @@ use Rattle.word_rule.specs.Views.{count_in, joined}
 use Rattle.word_rule.proofs.Ending.{same_lists}
 use Rattle.word_rule.proofs.Splitting.{both_back, both_left, both_right}
 use Rattle.word_table.specs.declared.remains.Remains.{Remains}
-use Rattle.word_table.specs.declared.share.Share.{Share}
+use Rattle.word_table.specs.declared.driver_parts.DriverParts.{DriverParts}
 use Rattle.word_table.specs.Driver.{FabricData, DriverData, AreDrivers, AreFinished, count_by, counts_of}
 use Rattle.word_table.specs.Closed.{ClosedData, IsClosedAt, IsAtEnd}
-use Rattle.word_table.specs.Ends.{FitsTo, IsGathered, HoldsFrom, SeatHolds, seat_with}
-use Rattle.word_table.specs.Share.{IsDriver, IsShare}
+use Rattle.word_table.specs.Ends.{AreOfJob, FitsTo, IsGathered, HoldsFrom, SeatHolds, seat_with}
+use Rattle.word_table.specs.Parts.{IsDriver, AreDriverParts}
 
 -- the count of a sequence is its driver's
 pub counts_at : (f : FabricData) (ds : List DriverData) (s : ℕ) (d : DriverData) → s < length f.job.program.seqs → slice_get ds (s % f.groups) ≡ Some d → get_or (counts_of f ds) s 0 ≡ get_or d.counts s 0
@@ -63,21 +62,16 @@ ends_whole law j g counts c e i = let h = law j g.supplied in record {
   cells = i.cells ∙ ap (λ (cs : List ℕ). (told j cs).cells) e ∙ h.cells;
 }
 
--- what is gathered so far fits to a share
-pub fits_to : (j : JobData) (groups m : ℕ) (counts : List ℕ) (r : Remains) (d : Share) → RunsOnWords j → d.job.now ≡ j → IsGathered j groups m counts r → FitsTo d r
+-- what is gathered so far fits to a driver
+pub fits_to : (j : JobData) (groups m : ℕ) (counts : List ℕ) (r : Remains) (d : DriverParts) → RunsOnWords j → d.job.now ≡ j → IsGathered j groups m counts r → FitsTo d r
 fits_to j groups m counts r d g e h = record {
-  counts_there = h.counts_there ∙ ap (λ (i : JobData). length i.program.seqs) (sym e);
-  cells_there = h.cells_there ∙ ap (λ (i : JobData). length i.opening) (sym e);
-  rows_there = h.rows_there ∙ ap reactions (sym e);
+  of_job = subst (λ (i : JobData). AreOfJob i r) (sym e) h.of_job;
   laid = subst (λ (i : JobData). (v : ℕ) → HasRow i r.rows.lens v) (sym e) (λ v x a is k. let q = actuator_at j.graph g.formed.valid v a x is k in
       subst (λ (l : List ℕ). (a < length l) × (get_or l a 0 ≡ get_or (lens_of j.graph.vertices x.ins) 0 0)) (sym h.lens) q);
-  wide = h.wide;
-  callers_there = h.callers_there ∙ ap (λ (i : JobData). length i.graph.vertices) (sym e);
-  callers = subst (λ (i : JobData). (v : ℕ) → v < length i.graph.vertices → get_or r.callers.items v 0 ≡ caller i v) (sym e) h.callers;
 }
 
 -- the view of a driver's seat
-pub holds_group : (j : JobData) (k : Knowledge) (d : Share) (t : TableId) (counts : List ℕ) → IsDriver j t k d → ((s : ℕ) → s < length j.program.seqs → s % d.groups ≡ d.group → get_or counts s 0 ≡ get_or d.counts.items s 0)
+pub holds_group : (j : JobData) (k : Knowledge) (d : DriverParts) (t : TableId) (counts : List ℕ) → IsDriver j t k d → ((s : ℕ) → s < length j.program.seqs → s % d.groups ≡ d.group → get_or counts s 0 ≡ get_or d.counts.items s 0)
     → (s : ℕ) → s < length j.program.seqs → s % d.groups ≡ d.group → count_in k.driven s ≡ Some (get_or counts s 0)
 holds_group j k d t counts i agree s l q = let r = i.all s l q in r.1 ∙ ap (λ (n : ℕ). Some n) (sym (i.counted s r.0 r.1) ∙ sym (agree s l q))
 
@@ -123,5 +117,5 @@ pub seat_all : (j : JobData) (table : TableId) (groups : ℕ) (counts : List ℕ
 seat_all j table groups counts s many h = record { long = many; each = λ i l. h.1.inside i l (omega arith) }
 
 -- the rows of the actuators of a driver's group are laid out
-pub own_laid : (d : Share) (r : Remains) → IsShare d → FitsTo d r → (v : ℕ) → get_or r.callers.items v 0 % d.groups ≡ d.group → HasRow d.job.now d.own.kept.lens v
-own_laid d r (k, i) f v q x a is e = i.rows_laid v (ap (λ (s : ℕ). s % d.groups) (sym (f.callers v (slice_get_within d.job.now.graph.vertices v x is))) ∙ q) x a is e
+pub own_laid : (d : DriverParts) (r : Remains) → AreDriverParts d → FitsTo d r → (v : ℕ) → get_or r.callers.items v 0 % d.groups ≡ d.group → HasRow d.job.now d.own.kept.lens v
+own_laid d r (k, i) f v q x a is e = i.rows_laid v (ap (λ (s : ℕ). s % d.groups) (sym (f.of_job.callers v (slice_get_within d.job.now.graph.vertices v x is))) ∙ q) x a is e

@@ -1,4 +1,4 @@
--- The share of a driver stays one with each of its steps.
+-- A driver stays one with each of its steps.
 use Rattle.std.proofs.Common.{◌≡◌, ℕ, ◌+◌, ◌%◌, ◌<◌, ◌^◌, ◌⊎◌, inl, inr, ⊎_elim, Bool, true, false, cond, List, length, get_or, set, Some, refl, sym, ap, subst, arith, ◌∙◌, length-set, get_or-set_same, get_or-set_other}
 use Rattle.std.proofs.lemmas.Bool.{cases_eq}
 use Rattle.std.proofs.lemmas.Option.{same_Some}
@@ -28,11 +28,11 @@ use Rattle.word_rule.specs.Given.{RunsOnWords, enables, IsTake, Waits, AddsOne, 
 use Rattle.word_rule.specs.Words.{word_at}
 use Rattle.word_rule.proofs.Views.{raised-same, raised-other}
 use Rattle.word_rule.proofs.Further.{shaped, goes}
-use Rattle.word_table.specs.declared.share.Share.{Share}
-use Rattle.word_table.specs.declared.woven.Woven.{Woven}
+use Rattle.word_table.specs.declared.driver_parts.DriverParts.{DriverParts}
+use Rattle.word_table.specs.declared.fabric_parts.FabricParts.{FabricParts}
 use Rattle.word_table.specs.Answers.{is_recorded, next_look, Steps}
 use Rattle.word_table.specs.Driver.{InSome}
-use Rattle.word_table.specs.Share.{HasOwn, Reaches, IsDriver, IsWoven, IsOf, SameDriver, CanMake, CountsOneMore, last_look, share_view}
+use Rattle.word_table.specs.Parts.{HasOwn, Reaches, IsDriver, AreFabricParts, IsOf, SameDriver, CanMake, CountsOneMore, last_look, driver_view}
 use Rattle.word_table.proofs.Own.{IsQuiet, after_quiet}
 
 -- which sequence it is, and its count, after one more micro-step of s
@@ -62,7 +62,7 @@ reaches_on j g k l counts c agree s n r m mine here more next in_reaction on dri
     inside = let a = (shaped j g counts c).counts in omega (arith, a, here)
 
 -- the same sequences, counts and values, whatever else the seat knows now
-pub unmoved : (j : JobData) (t : TableId) (k l : Knowledge) (d : Share) (seat : SeatData) → IsDriver j t k d → seat.table ≡ d.seat.table → seat.view ≡ Holds l → l.job ≡ k.job → l.driven ≡ k.driven → IsDriver j t l (record d { seat = seat })
+pub unmoved : (j : JobData) (t : TableId) (k l : Knowledge) (d : DriverParts) (seat : SeatData) → IsDriver j t k d → seat.table ≡ d.seat.table → seat.view ≡ Holds l → l.job ≡ k.job → l.driven ≡ k.driven → IsDriver j t l (record d { seat = seat })
 unmoved j t k l d seat i of_table holds job driven = record {
   of_table = of_table ∙ i.of_table;
   of_job = i.of_job;
@@ -94,7 +94,7 @@ unmoved j t k l d seat i of_table holds job driven = record {
     was s n c = subst (λ xs. count_in xs s ≡ Some n) driven c
 
 -- one micro-step more of s
-pub moved_on : (j : JobData) (t : TableId) (k l : Knowledge) (d e : Share) (s n : ℕ) → IsDriver j t k d → SameDriver d e → e.seat.view ≡ Holds l → l.job ≡ k.job → l.driven ≡ raised k.driven s
+pub moved_on : (j : JobData) (t : TableId) (k l : Knowledge) (d e : DriverParts) (s n : ℕ) → IsDriver j t k d → SameDriver d e → e.seat.view ≡ Holds l → l.job ≡ k.job → l.driven ≡ raised k.driven s
     → count_in k.driven s ≡ Some n → n < full j s → CountsOneMore d e s → length e.own.registers ≡ length d.own.registers → e.own.rooms ≡ d.own.rooms
     → Reaches j l → AreReady j e.own.kept → e.own.kept.lens ≡ d.own.kept.lens → HasOwn j l e.own.registers e.own.kept.cells e.own.kept.rows → IsDriver j t l e
 moved_on j t k l d e s n i same holds job driven mine more counts registers rooms reaches ready lens own = record {
@@ -129,9 +129,9 @@ moved_on j t k l d e s n i same holds job driven mine more counts registers room
     at h m e = which k.driven s n h m mine (subst (λ xs. count_in xs h ≡ Some m) driven e)
 
 -- what some reached counts tell that agree with the driver's
-pub some_at : (d : Share) (j : JobData) → d.job.now ≡ j → (P : Core → Type 0) (counts : List ℕ) → AreReached j counts → length counts ≡ length j.program.seqs
-    → ((s : ℕ) → s < length j.program.seqs → s % d.groups ≡ d.group → get_or counts s 0 ≡ get_or d.counts.items s 0) → P (told j counts) → InSome (share_view d) P
-some_at d j e P counts = subst (λ (i : JobData). AreReached i counts → length counts ≡ length i.program.seqs → ((s : ℕ) → s < length i.program.seqs → s % d.groups ≡ d.group → get_or counts s 0 ≡ get_or d.counts.items s 0) → P (told i counts) → InSome (share_view d) P) e
+pub some_at : (d : DriverParts) (j : JobData) → d.job.now ≡ j → (P : Core → Type 0) (counts : List ℕ) → AreReached j counts → length counts ≡ length j.program.seqs
+    → ((s : ℕ) → s < length j.program.seqs → s % d.groups ≡ d.group → get_or counts s 0 ≡ get_or d.counts.items s 0) → P (told j counts) → InSome (driver_view d) P
+some_at d j e P counts = subst (λ (i : JobData). AreReached i counts → length counts ≡ length i.program.seqs → ((s : ℕ) → s < length i.program.seqs → s % d.groups ≡ d.group → get_or counts s 0 ≡ get_or d.counts.items s 0) → P (told i counts) → InSome (driver_view d) P) e
     (λ r l a p. (counts, r, record { many = l; agree = λ s q. a s q.there q.grouped }, p))
 
 waits_quietly : (m : MicroStep) → Waits m → IsQuiet m
@@ -178,7 +178,7 @@ pub same_look : (v : View) (s : ℕ) → last_look (after (λ k. stepped k s) v)
 same_look Spent s = refl
 same_look (Holds k) s = refl
 
-module _ (f : Woven) (d : Share) (next : Next) (is : IsWoven f) (c : CanMake f d next) where
+module _ (f : FabricParts) (d : DriverParts) (next : Next) (is : AreFabricParts f) (c : CanMake f d next) where
   abbrev pub J : JobData
   J = f.job.now
 
@@ -203,7 +203,7 @@ module _ (f : Woven) (d : Share) (next : Next) (is : IsWoven f) (c : CanMake f d
   pub own_counts : (counts : List ℕ) → ((s n : ℕ) → count_in K.driven s ≡ Some n → get_or counts s 0 ≡ n) → (s : ℕ) → s < length J.program.seqs → s % d.groups ≡ d.group → get_or counts s 0 ≡ get_or d.counts.items s 0
   own_counts counts agree s l q = let r = c.driver.all s l q in agree s r.0 r.1 ∙ sym (c.driver.counted s r.0 r.1)
 
-  pub in_some : (P : Core → Type 0) (counts : List ℕ) → AreTold J counts → ((s n : ℕ) → count_in K.driven s ≡ Some n → get_or counts s 0 ≡ n) → P (told J counts) → InSome (share_view d) P
+  pub in_some : (P : Core → Type 0) (counts : List ℕ) → AreTold J counts → ((s n : ℕ) → count_in K.driven s ≡ Some n → get_or counts s 0 ≡ n) → P (told J counts) → InSome (driver_view d) P
   in_some P counts t agree p = some_at d J c.driver.of_job P counts t.reached (shaped J is.runs counts t).counts (own_counts counts agree) p
 
   -- the private part after a micro-step that changes none of it
@@ -214,7 +214,7 @@ module _ (f : Woven) (d : Share) (next : Next) (is : IsWoven f) (c : CanMake f d
   reaches_next counts t agree on l driven = reaches_on J is.runs K l counts t agree next.seq c.count next.reaction next.step c.drives here c.more c.next_step c.in_reaction on driven
 
   -- after a micro-step that looks at no word
-  module _ (e : Share) (same : SameDriver d e) (seat : e.seat.view ≡ after (λ k. stepped k next.seq) d.seat.view) (counts : CountsOneMore d e next.seq) (free : IsFree next.step) (told_by : InTold d.seat.view (λ z. Unit {0})) where
+  module _ (e : DriverParts) (same : SameDriver d e) (seat : e.seat.view ≡ after (λ k. stepped k next.seq) d.seat.view) (counts : CountsOneMore d e next.seq) (free : IsFree next.step) (told_by : InTold d.seat.view (λ z. Unit {0})) where
     abbrev pub L : Knowledge
     L = stepped K next.seq
 
@@ -236,7 +236,7 @@ module _ (f : Woven) (d : Share) (next : Next) (is : IsWoven f) (c : CanMake f d
     pub quiet_driver : IsQuiet next.step → e.own ≡ d.own → IsOf f e
     quiet_driver q own = free_driver (ap (λ o. length o.registers) own) (ap (λ o. o.rooms) own) (rw own c.driver.ready) (ap (λ o. o.kept.lens) own) (rw own (quiet_own L refl q))
 
-    pub free_steps : Steps (share_view d) (share_view e) next.seq next.reaction next.step
+    pub free_steps : Steps (driver_view d) (driver_view e) next.seq next.reaction next.step
     free_steps = record {
       enabled = in_some (λ z. enabled_in z next.reaction next.step ≡ true) T.0 (agreed T.0 T.1) T.1.agree (free.always (told J T.0) next.reaction);
       counts = counts;

@@ -13,10 +13,11 @@ use Rattle.interleavings.specs.System.{State}
 use Rattle.executive_program.specs.declared.program.SeqCode.{SeqCode}
 use Rattle.executive_program.specs.declared.program.Instr.{Instr}
 use Rattle.executive_program.specs.Instructions.{turn_of}
-use Rattle.semaphore_core.specs.Job.{JobData, system, zero_rows, actuator_lens, reactions}
+use Rattle.semaphore_core.specs.Job.{JobData, system, zero_rows, reactions}
+use Rattle.operation_desks.specs.RowLens.{actuator_lens}
 use Rattle.semaphore_core.specs.Core.{Core}
-use Rattle.semaphore_core.specs.Operation.{delay_of}
-use Rattle.semaphore_core.specs.Registers.{Own}
+use Rattle.operation_desks.specs.Operation.{delay_of}
+use Rattle.operation_desks.specs.Registers.{Own}
 use Rattle.semaphore_core.specs.Told.{told, stored_value, own_after}
 use Rattle.phase_laws.specs.Agrees.{IsFormed, Agrees, caller, row_at}
 use Rattle.phase_laws.proofs.AgreeTells.{agreement_tells}
@@ -26,10 +27,10 @@ use Rattle.word_rule.specs.Given.{RunsOnWords}
 use Rattle.word_rule.specs.Views.{count_in}
 use Rattle.word_rule.proofs.Ending.{same_lists}
 use Rattle.word_table.specs.declared.remains.Remains.{Remains}
-use Rattle.word_table.specs.declared.share.Share.{Share}
+use Rattle.word_table.specs.declared.driver_parts.DriverParts.{DriverParts}
 use Rattle.word_table.specs.Ends.{Gathers, IsGathered, TakesRows}
 use Rattle.word_table.specs.Owners.{owners}
-use Rattle.word_table.specs.Share.{AreLaid, IsDriver}
+use Rattle.word_table.specs.Parts.{AreLaid, IsDriver}
 use Rattle.word_table.proofs.Callers.{cell_owner}
 
 -- the sequence that calls an operation is one of the program
@@ -63,14 +64,16 @@ zeros_wide j k l = at (reactions j) k (let e = length-replicate (reactions j) (m
 -- nothing is gathered yet
 pub none_gathered : (j : JobData) (groups : ℕ) (counts : List ℕ) (r : Remains) → 0 < groups → AreLaid j r → IsGathered j groups groups counts r
 none_gathered j groups counts r some l = record {
-  counts_there = l.counts_there;
+  of_job = record {
+    counts_there = l.counts_there;
+    cells_there = ap (length {A = List ℤ}) l.cells;
+    rows_there = ap (length {A = Values}) l.rows ∙ length-replicate (reactions j) (map zeros (actuator_lens j.graph j.graph.vertices));
+    wide = λ k q. ap (λ (rows : List Values). length (get_or rows k [])) l.rows ∙ zeros_wide j k (let e = ap (length {A = Values}) l.rows in omega (arith, e, q)) ∙ ap (length {A = ℕ}) (sym l.lens);
+    callers_there = l.callers_there;
+    callers = l.callers;
+  };
   words_there = l.words_there;
-  cells_there = ap (length {A = List ℤ}) l.cells;
   lens = l.lens;
-  rows_there = ap (length {A = Values}) l.rows ∙ length-replicate (reactions j) (map zeros (actuator_lens j.graph j.graph.vertices));
-  wide = λ k q. ap (λ (rows : List Values). length (get_or rows k [])) l.rows ∙ zeros_wide j k (let e = ap (length {A = Values}) l.rows in omega (arith, e, q)) ∙ ap (length {A = ℕ}) (sym l.lens);
-  callers_there = l.callers_there;
-  callers = l.callers;
   cell_owners = l.cell_owners;
   made = λ s q h. absurd (let m = mod_below s groups some in omega (arith, m, h));
   cells = λ v d x is e h. absurd (let m = mod_below (caller j v) groups some in omega (arith, m, h));
@@ -78,7 +81,7 @@ none_gathered j groups counts r some l = record {
 }
 
 -- one group more
-module _ (j : JobData) (g : RunsOnWords j) (groups m : ℕ) (counts : List ℕ) (old new : Remains) (d : Share) (k : Knowledge) (i : IsDriver j d.seat.table k d) (gs : d.groups ≡ groups) (gm : d.group ≡ m)
+module _ (j : JobData) (g : RunsOnWords j) (groups m : ℕ) (counts : List ℕ) (old new : Remains) (d : DriverParts) (k : Knowledge) (i : IsDriver j d.seat.table k d) (gs : d.groups ≡ groups) (gm : d.group ≡ m)
     (r : IsGathered j groups (m + 1) counts old) (t : Gathers d old new) (agree : (s : ℕ) → s < length j.program.seqs → s % groups ≡ m → get_or counts s 0 ≡ get_or d.counts.items s 0) where
   -- is it of this group, or of a later one
   which : (s : ℕ) → m ≤ s % groups → (s % groups ≡ m) ⊎ (m + 1 ≤ s % groups)
@@ -95,17 +98,17 @@ module _ (j : JobData) (g : RunsOnWords j) (groups m : ℕ) (counts : List ℕ) 
   own_count s l q = let c = i.all s l (to_own s q) in (c.0, c.1, sym (agree s l q ∙ i.counted s c.0 c.1))
 
   called : (v : ℕ) (x : Vertex) → slice_get j.graph.vertices v ≡ Some x → get_or old.callers.items v 0 ≡ caller j v
-  called v x is = r.callers v (slice_get_within j.graph.vertices v x is)
+  called v x is = r.of_job.callers v (slice_get_within j.graph.vertices v x is)
 
   owned : (v d' : ℕ) (x : Vertex) → slice_get j.graph.vertices v ≡ Some x → delay_of j.graph v x ≡ Some d' → slice_get old.cell_owners.items d' ≡ Some (caller j v)
-  owned v d' x is e = ap (λ (l : List ℕ). slice_get l d') r.cell_owners ∙ cell_owner j g.formed old.callers.items r.callers_there r.callers v d' x is e
+  owned v d' x is e = ap (λ (l : List ℕ). slice_get l d') r.cell_owners ∙ cell_owner j g.formed old.callers.items r.of_job.callers_there r.of_job.callers v d' x is e
 
   cell_now : (v d' : ℕ) (x : Vertex) → slice_get j.graph.vertices v ≡ Some x → delay_of j.graph v x ≡ Some d' → (caller j v % groups ≡ m) ⊎ (m + 1 ≤ caller j v % groups)
       → vector_at new.cells.items d' ≡ vector_at (own_after j (caller j v) (get_or counts (caller j v) 0)).cells d'
   cell_now v d' x is e (inl q) = let c = own_count (caller j v) (caller_there j g.formed v x is) q in
-      t.cells.here d' (caller j v) (let a = (i.ready.cells_fit v x d' is e).0 in let b = i.own.cells_there in let w = r.cells_there in omega (arith, a, b, w)) (owned v d' x is e) (to_own (caller j v) q)
+      t.cells.here d' (caller j v) (let a = (i.ready.cells_fit v x d' is e).0 in let b = i.own.cells_there in let w = r.of_job.cells_there in omega (arith, a, b, w)) (owned v d' x is e) (to_own (caller j v) q)
       ∙ i.own.own_cells (caller j v) c.0 v d' x c.1 is e refl ∙ ap (λ (n : ℕ). vector_at (own_after j (caller j v) n).cells d') c.2
-  cell_now v d' x is e (inr h) = t.cells.else d' (caller j v) (owned v d' x is e) (not_own (caller j v) h) ∙ r.cells v d' x is e h
+  cell_now v d' x is e (inr h) = t.cells.elsewhere d' (caller j v) (owned v d' x is e) (not_own (caller j v) h) ∙ r.cells v d' x is e h
 
   row_now : (v a n : ℕ) (x : Vertex) → slice_get j.graph.vertices v ≡ Some x → x.kind ≡ Actuator a → (caller j v % groups ≡ m) ⊎ (m + 1 ≤ caller j v % groups)
       → row_at new.rows.reactions n a ≡ row_at (own_after j (caller j v) (get_or counts (caller j v) 0)).rows n a
@@ -115,25 +118,27 @@ module _ (j : JobData) (g : RunsOnWords j) (groups m : ℕ) (counts : List ℕ) 
     where
       rows : TakesRows j old.rows new.rows (record { lens = d.own.kept.lens; reactions = d.own.kept.rows }) old.callers.items d.groups d.group
       rows = subst (λ (j' : JobData). TakesRows j' old.rows new.rows (record { lens = d.own.kept.lens; reactions = d.own.kept.rows }) old.callers.items d.groups d.group) i.of_job t.rows
-  row_now v a n x is e (inr h) = rows.else v a n x is e (λ q. not_own (caller j v) h (ap (λ (s : ℕ). s % d.groups) (sym (called v x is)) ∙ q)) ∙ r.rows v a n x is e h
+  row_now v a n x is e (inr h) = rows.elsewhere v a n x is e (λ q. not_own (caller j v) h (ap (λ (s : ℕ). s % d.groups) (sym (called v x is)) ∙ q)) ∙ r.rows v a n x is e h
     where
       rows : TakesRows j old.rows new.rows (record { lens = d.own.kept.lens; reactions = d.own.kept.rows }) old.callers.items d.groups d.group
       rows = subst (λ (j' : JobData). TakesRows j' old.rows new.rows (record { lens = d.own.kept.lens; reactions = d.own.kept.rows }) old.callers.items d.groups d.group) i.of_job t.rows
 
   pub gathered_more : IsGathered j groups m counts new
   gathered_more = record {
-    counts_there = t.counts.many ∙ r.counts_there;
+    of_job = record {
+      counts_there = t.counts.many ∙ r.of_job.counts_there;
+      cells_there = t.cells.many ∙ r.of_job.cells_there;
+      rows_there = t.rows.many ∙ r.of_job.rows_there;
+      wide = t.rows.wide;
+      callers_there = ap (λ w. length w.items) t.callers ∙ r.of_job.callers_there;
+      callers = λ v l. ap (λ w. get_or w.items v 0) t.callers ∙ r.of_job.callers v l;
+    };
     words_there = ap (λ w. length w.items + 1) t.words ∙ r.words_there;
-    cells_there = t.cells.many ∙ r.cells_there;
     lens = t.rows.lens ∙ r.lens;
-    rows_there = t.rows.many ∙ r.rows_there;
-    wide = t.rows.wide;
-    callers_there = ap (λ w. length w.items) t.callers ∙ r.callers_there;
-    callers = λ v l. ap (λ w. get_or w.items v 0) t.callers ∙ r.callers v l;
     cell_owners = ap (λ w. w.items) t.owners ∙ r.cell_owners ∙ ap (λ w. owners w.items j.graph.vertices) (sym t.callers);
     made = λ s l h. ⊎_elim
-        (λ q. t.counts.here s (let a = r.counts_there in omega (arith, a, l)) (to_own s q) ∙ sym (agree s l q))
-        (λ q. t.counts.else s (not_own s q) ∙ r.made s l q) (which s h);
+        (λ q. t.counts.here s (let a = r.of_job.counts_there in omega (arith, a, l)) (to_own s q) ∙ sym (agree s l q))
+        (λ q. t.counts.elsewhere s (not_own s q) ∙ r.made s l q) (which s h);
     cells = λ v d' x is e h. cell_now v d' x is e (which (caller j v) h);
     rows = λ v a n x is e h. row_now v a n x is e (which (caller j v) h);
   }
@@ -168,8 +173,8 @@ module _ (j : JobData) (g : RunsOnWords j) (groups : ℕ) (counts : List ℕ) (m
     turns_there = a.turns_there;
     elements_there = a.elements_there;
     registers_there = a.registers_there;
-    cells_there = h.cells_there;
-    rows_there = widths r.rows.reactions (reactions j) (length (actuator_lens j.graph j.graph.vertices)) h.rows_there (λ k l. h.wide k l ∙ ap (length {A = ℕ}) h.lens)
+    cells_there = h.of_job.cells_there;
+    rows_there = widths r.rows.reactions (reactions j) (length (actuator_lens j.graph j.graph.vertices)) h.of_job.rows_there (λ k l. h.of_job.wide k l ∙ ap (length {A = ℕ}) h.lens)
         ∙ ap (replicate (reactions j)) (sym (length-map (actuator_lens j.graph j.graph.vertices) zeros)) ∙ sym (same_widths (reactions j) (map zeros (actuator_lens j.graph j.graph.vertices)));
     own_cells_there = a.own_cells_there;
     own_rows_there = a.own_rows_there;
@@ -185,4 +190,4 @@ module _ (j : JobData) (g : RunsOnWords j) (groups : ℕ) (counts : List ℕ) (m
   rows_told = ap (λ (z : Core). z.rows) same
 
   pub counts_are : r.counts.items ≡ counts
-  counts_are = same_lists r.counts.items counts (h.counts_there ∙ sym many) (λ s l. h.made s (let e = h.counts_there in omega (arith, e, l)) (omega arith))
+  counts_are = same_lists r.counts.items counts (h.of_job.counts_there ∙ sym many) (λ s l. h.made s (let e = h.of_job.counts_there in omega (arith, e, l)) (omega arith))

@@ -10,24 +10,24 @@ use Rattle.word_rule.specs.Steps.{HoldsCounts}
 use Rattle.word_rule.specs.Table.{SeatData}
 use Rattle.word_rule.specs.Words.{words_of}
 use Rattle.word_table.specs.declared.remains.Remains.{Remains}
-use Rattle.word_table.specs.declared.woven.Woven.{Woven}
+use Rattle.word_table.specs.declared.fabric_parts.FabricParts.{FabricParts}
 use Rattle.word_table.specs.Closed.{ClosedData, IsClosedAt, IsAtEnd}
 use Rattle.word_table.specs.Driver.{FabricData, DriverData, AreDrivers, AreFinished, counts_of}
 use Rattle.word_table.specs.Ends.{IsGathered, SeatHolds}
-use Rattle.word_table.specs.Share.{IsWoven, woven_view}
+use Rattle.word_table.specs.Parts.{AreFabricParts, fabric_view}
 use Rattle.word_table.proofs.Closings.{counts_many, finished_counts, ends_whole, seat_all}
 use Rattle.word_table.proofs.Ends.{cells_told, rows_told, counts_are}
 
-module _ (w : Woven) (is : IsWoven w) (ds : List DriverData) (r : Remains) (g : IsGathered w.job.now w.groups 0 (counts_of (woven_view w) ds) r) (key : JobData) (key_is : key ≡ w.job.now) (xs : List ℕ) (xs_are : xs ≡ r.counts.items) where
-  counts_whole : r.counts.items ≡ counts_of (woven_view w) ds
-  counts_whole = counts_are w.job.now is.runs w.groups (counts_of (woven_view w) ds) (counts_many (woven_view w) ds) r g
+module _ (w : FabricParts) (is : AreFabricParts w) (ds : List DriverData) (r : Remains) (g : IsGathered w.job.now w.groups 0 (counts_of (fabric_view w) ds) r) (key : JobData) (key_is : key ≡ w.job.now) (xs : List ℕ) (xs_are : xs ≡ r.counts.items) where
+  counts_whole : r.counts.items ≡ counts_of (fabric_view w) ds
+  counts_whole = counts_are w.job.now is.runs w.groups (counts_of (fabric_view w) ds) (counts_many (fabric_view w) ds) r g
 
   -- the seat drives every sequence
-  pub seat_whole : (s : SeatData) → SeatHolds w.job.now w.table.table w.groups 0 (Some s) (counts_of (woven_view w) ds) → HoldsCounts key s.view xs
+  pub seat_whole : (s : SeatData) → SeatHolds w.job.now w.table.table w.groups 0 (Some s) (counts_of (fabric_view w) ds) → HoldsCounts key s.view xs
   seat_whole s h = subst (λ (j : JobData). HoldsCounts j s.view xs) (sym key_is)
-      (subst (HoldsCounts w.job.now s.view) (sym (xs_are ∙ counts_whole)) (seat_all w.job.now w.table.table w.groups (counts_of (woven_view w) ds) s (counts_many (woven_view w) ds) h))
+      (subst (HoldsCounts w.job.now s.view) (sym (xs_are ∙ counts_whole)) (seat_all w.job.now w.table.table w.groups (counts_of (fabric_view w) ds) s (counts_many (fabric_view w) ds) h))
 
-  module _ (f : FabricData) (view_is : woven_view w ≡ f) where
+  module _ (f : FabricData) (view_is : fabric_view w ≡ f) where
     counts_now : r.counts.items ≡ counts_of f ds
     counts_now = counts_whole ∙ ap (λ (v : FabricData). counts_of v ds) view_is
 
@@ -46,8 +46,8 @@ module _ (w : Woven) (is : IsWoven w) (ds : List DriverData) (r : Remains) (g : 
     closed_whole cells c h = subst (λ (v : FabricData). IsClosedAt v.job (counts_of v ds) (record { rows = r.rows; cells = cells })) view_is (record {
       reached = subst (AreReached w.job.now) (xs_are ∙ counts_whole) (subst (λ (j : JobData). AreReached j xs) key_is h);
       lens = g.lens;
-      rows = rows_told w.job.now is.runs w.groups (counts_of (woven_view w) ds) (counts_many (woven_view w) ds) r g;
-      cells = c ∙ cells_told w.job.now is.runs w.groups (counts_of (woven_view w) ds) (counts_many (woven_view w) ds) r g;
+      rows = rows_told w.job.now is.runs w.groups (counts_of (fabric_view w) ds) (counts_many (fabric_view w) ds) r g;
+      cells = c ∙ cells_told w.job.now is.runs w.groups (counts_of (fabric_view w) ds) (counts_many (fabric_view w) ds) r g;
     })
 
     pub ended_whole : FullIsEnded → AreDrivers f ds → (old new : Driven) (c : ClosedData) → new ≡ closed f.job (counts_of f ds) old → IsClosedAt f.job (counts_of f ds) c → AreFinished ds → (new ≡ driven_by f.job old) × IsAtEnd f.job c

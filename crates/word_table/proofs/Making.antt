@@ -15,9 +15,10 @@ use Rattle.executive_program.specs.declared.steps.MicroStep.TheVariants.{Take, S
 use Rattle.executive_program.specs.Steps.{steps}
 use Rattle.semaphore_core.specs.Job.{JobData, reactions}
 use Rattle.semaphore_core.specs.Core.{Core, full, own, element_of, enabled_in, turn_reached}
-use Rattle.semaphore_core.specs.Registers.{emit_by}
+use Rattle.operation_desks.specs.Registers.{emit_by}
 use Rattle.semaphore_core.specs.Parts.{own_at, absorbed, left, with_load, with_store, value_stored}
-use Rattle.semaphore_core.specs.Held.{NeedsReaction, Fits, LoadHasRow, StoreHasRow}
+use Rattle.semaphore_core.specs.Held.{NeedsReaction, LoadHasRow, StoreHasRow}
+use Rattle.operation_desks.specs.Rooms.{Fits}
 use Rattle.semaphore_core.specs.Told.{told}
 use Rattle.semaphore_core.proofs.Ready.{absorb_ready, after_ready}
 use Rattle.semaphore_core.proofs.Standing.{fits_at, needs_at, next_at}
@@ -34,14 +35,14 @@ use Rattle.word_rule.specs.Steps.{CanStep, looked_at}
 use Rattle.word_rule.proofs.Shapes.{element_get, semaphore_get, turn_get}
 use Rattle.word_rule.proofs.Allowed.{look_job, look_on, look_off}
 use Rattle.word_rule.proofs.Further.{shaped}
-use Rattle.word_table.specs.declared.share.Share.{Share}
-use Rattle.word_table.specs.declared.woven.Woven.{Woven}
+use Rattle.word_table.specs.declared.driver_parts.DriverParts.{DriverParts}
+use Rattle.word_table.specs.declared.fabric_parts.FabricParts.{FabricParts}
 use Rattle.word_table.specs.Answers.{is_recorded, next_look, Steps, Misses}
-use Rattle.word_table.specs.Share.{IsWoven, IsOf, SameDriver, CanMake, CountsOneMore, Looked, last_look, share_view}
+use Rattle.word_table.specs.Parts.{AreFabricParts, IsOf, SameDriver, CanMake, CountsOneMore, Looked, last_look, driver_view}
 use Rattle.word_table.proofs.Own.{after_load, after_store, emits, loads_here, stores_here}
 use Rattle.word_table.proofs.Drivers.{here, agreed, in_some, reaches_next, quiet_own, unmoved, moved_on, looks_quietly, loads_freely, stores_freely, free_driver}
 
-module _ (f : Woven) (d : Share) (next : Next) (is : IsWoven f) (c : CanMake f d next) where
+module _ (f : FabricParts) (d : DriverParts) (next : Next) (is : AreFabricParts f) (c : CanMake f d next) where
   abbrev S : ℕ
   S = next.seq
 
@@ -140,7 +141,7 @@ module _ (f : Woven) (d : Share) (next : Next) (is : IsWoven f) (c : CanMake f d
     found_is = ap (cast_signed w64) (stood found finds ∙ ap (λ (m : MicroStep). get_or (table_of (told Jo (has found finds).counts)) (word_at Jo R m) 0) e
         ∙ element_get Jo (told Jo (has found finds).counts) (shaped Jo is.runs (has found finds).counts (its_counts found finds)) x R (subst (IsThere Jo) e inside)) ∙ (its_counts found finds).exact _ _
 
-  module _ (v : Share) (same : SameDriver d v) (seat : v.seat.view ≡ after (λ k. stepped k next.seq) d.seat.view) (counts : CountsOneMore d v next.seq) where
+  module _ (v : DriverParts) (same : SameDriver d v) (seat : v.seat.view ≡ after (λ k. stepped k next.seq) d.seat.view) (counts : CountsOneMore d v next.seq) where
     pub loaded_driver : (x : Place) (then : OnLoad) → next.step ≡ Load x then → (found : ℕ) → FindsBy d.seat.view next.word found → (value : ℤ) → value ≡ cast_signed w64 found
         → v.own ≡ with_load f.job.now d.own next.seq next.reaction then value → IsOf f v
     loaded_driver x then e found finds value q b =
@@ -190,7 +191,7 @@ recorded (Store x what) (inl k) = absurd cc
 recorded (Store x what) (inr k) = absurd k
 
 -- A look of a driver.
-module _ (f : Woven) (d : Share) (next : Next) (is : IsWoven f) (c : CanMake f d next) (kind : IsTake next.step ⊎ Waits next.step) where
+module _ (f : FabricParts) (d : DriverParts) (next : Next) (is : AreFabricParts f) (c : CanMake f d next) (kind : IsTake next.step ⊎ Waits next.step) where
   abbrev E : ℕ → Bool
   E = enables next.reaction next.step
 
@@ -218,7 +219,7 @@ module _ (f : Woven) (d : Share) (next : Next) (is : IsWoven f) (c : CanMake f d
   look_at_word seat found e = look_is seat found e ∙ ap (λ (w : ℕ). next_look (last_look d.seat.view) w found) (c.word_is ∙ ap (λ (j : JobData). word_at j next.reaction next.step) (sym c.driver.of_job))
 
   -- where it enables the micro-step, that is made
-  module _ (e : Share) (same : SameDriver d e) (l : Looked d e next true) where
+  module _ (e : DriverParts) (same : SameDriver d e) (l : Looked d e next true) where
     on : enables next.reaction next.step l.found ≡ true
     on = sym l.is
 
@@ -236,7 +237,7 @@ module _ (f : Woven) (d : Share) (next : Next) (is : IsWoven f) (c : CanMake f d
           (rw own (quiet_own f d next is c (Seen l.found) (look_on c.knowledge next.seq E next.word l.found on) q)),
     )
 
-    pub made_steps : Steps (share_view d) (share_view e) next.seq next.reaction next.step
+    pub made_steps : Steps (driver_view d) (driver_view e) next.seq next.reaction next.step
     made_steps = let h = has f d next is c l.found l.finds in let t = its_counts f d next is c l.found l.finds in record {
       enabled = in_some f d next is c (λ z. enabled_in z next.reaction next.step ≡ true) h.counts t h.agree.agree (test_is l.found l.finds ∙ on);
       counts = l.made refl;
@@ -246,7 +247,7 @@ module _ (f : Woven) (d : Share) (next : Next) (is : IsWoven f) (c : CanMake f d
     }
 
   -- and else only the look is recorded
-  module _ (e : Share) (l : Looked d e next false) where
+  module _ (e : DriverParts) (l : Looked d e next false) where
     off : enables next.reaction next.step l.found ≡ false
     off = sym l.is
 
@@ -257,11 +258,11 @@ module _ (f : Woven) (d : Share) (next : Next) (is : IsWoven f) (c : CanMake f d
           (look_job c.knowledge next.seq E next.word l.found) (look_off c.knowledge next.seq E next.word l.found off),
     )
 
-    pub missed : Misses (share_view d) (share_view e) next.reaction next.step
+    pub missed : Misses (driver_view d) (driver_view e) next.reaction next.step
     missed = let h = has f d next is c l.found l.finds in let t = its_counts f d next is c l.found l.finds in record {
       found = l.found;
       off = off;
       stood = in_some f d next is c (λ z. (l.found ≡ get_or (table_of z) (word_at d.job.now next.reaction next.step) 0) × (enabled_in z next.reaction next.step ≡ false)) h.counts t h.agree.agree
           ((stood f d next is c l.found l.finds ∙ ap (λ (j : JobData). get_or (table_of (told f.job.now h.counts)) (word_at j next.reaction next.step) 0) (sym c.driver.of_job)), test_is l.found l.finds ∙ off);
-      driver = ap share_view (l.missed refl) ∙ ap (λ k. record (share_view d) { look = k }) (look_at_word (looked_at d.seat next l.found).view l.found refl);
+      driver = ap driver_view (l.missed refl) ∙ ap (λ k. record (driver_view d) { look = k }) (look_at_word (looked_at d.seat next l.found).view l.found refl);
     }

@@ -19,8 +19,8 @@ use Rattle.executive_program.specs.declared.steps.MicroStep.TheVariants.{Take, S
 use Rattle.semaphore_core.specs.Job.{JobData, zero_rows, system}
 use Rattle.executive_program.specs.MicroSteps.{code}
 use Rattle.executive_program.specs.Steps.{steps}
-use Rattle.semaphore_core.specs.Operation.{delay_of}
-use Rattle.semaphore_core.specs.Registers.{Own, absorb_by, emit_by, after_by, after_at}
+use Rattle.operation_desks.specs.Operation.{delay_of}
+use Rattle.operation_desks.specs.Registers.{Own, absorb_by, emit_by, after_by, after_at}
 use Rattle.semaphore_core.specs.Core.{Core, full, own, element_of, done_in}
 use Rattle.semaphore_core.specs.Told.{told, own_after, stored_value}
 use Rattle.semaphore_core.specs.Laws.{one_more}
@@ -33,7 +33,7 @@ use Rattle.word_rule.specs.declared.view.Knowledge.{Knowledge}
 use Rattle.word_rule.specs.Views.{count_in, raised}
 use Rattle.word_rule.specs.Rule.{AreTold}
 use Rattle.word_rule.specs.Given.{RunsOnWords}
-use Rattle.word_table.specs.Share.{HasOwn}
+use Rattle.word_table.specs.Parts.{HasOwn}
 use Rattle.word_rule.proofs.Views.{raised-same, raised-other}
 use Rattle.word_rule.proofs.Further.{shaped, tells}
 

@@ -12,17 +12,17 @@ use Rattle.word_rule.specs.declared.next.Next.{Next}
 use Rattle.word_rule.specs.Given.{IsThere}
 use Rattle.word_rule.specs.Views.{count_in}
 use Rattle.word_rule.specs.Words.{word_at}
-use Rattle.word_table.specs.declared.share.Share.{Share}
-use Rattle.word_table.specs.declared.woven.Woven.{Woven}
+use Rattle.word_table.specs.declared.driver_parts.DriverParts.{DriverParts}
+use Rattle.word_table.specs.declared.fabric_parts.FabricParts.{FabricParts}
 use Rattle.word_table.specs.Answers.{HasNext}
-use Rattle.word_table.specs.Share.{IsDriver, IsWoven, IsOf, CanMake, share_view}
+use Rattle.word_table.specs.Parts.{IsDriver, AreFabricParts, IsOf, CanMake, driver_view}
 
 any_default : {A : Type 0} (xs : List A) (i : ℕ) (d e : A) → i < length xs → get_or xs i d ≡ get_or xs i e
 any_default [] i d e h = absurd (omega arith)
 any_default (x ∷ xs) zero d e h = refl
 any_default (x ∷ xs) (suc i) d e h = any_default xs i d e (omega arith)
 
-module _ (f : Woven) (d : Share) (s : ℕ) (is : IsWoven f) (o : IsOf f d) (there : s < length f.job.now.program.seqs) (drives : s % d.groups ≡ d.group) (code : SeqSteps) (code_is : code ≡ get_or f.steps.items s code)
+module _ (f : FabricParts) (d : DriverParts) (s : ℕ) (is : AreFabricParts f) (o : IsOf f d) (there : s < length f.job.now.program.seqs) (drives : s % d.groups ≡ d.group) (code : SeqSteps) (code_is : code ≡ get_or f.steps.items s code)
     (n : ℕ) (n_at : n ≡ get_or d.counts.items s n) (N : ℕ) (reactions_are : N ≡ length f.job.now.sensors) where
   abbrev J : JobData
   J = f.job.now
@@ -77,7 +77,7 @@ module _ (f : Woven) (d : Share) (s : ℕ) (is : IsWoven f) (o : IsOf f d) (ther
       can_make word w = record { knowledge = o.0; count = count; driver = driver; drives = driven; more = not_past J s count m (next_here ∙ e); next_step = stands_at J s count m (next_here ∙ e); in_reaction = reaction_is; word_is = w }
 
 -- s has a next micro-step, as contracts see it
-pub has_next : (f : Woven) (d : Share) (next : Next) → CanMake f d next → HasNext (share_view d) next.seq next.reaction next.step
+pub has_next : (f : FabricParts) (d : DriverParts) (next : Next) → CanMake f d next → HasNext (driver_view d) next.seq next.reaction next.step
 has_next f d next c = record {
   more = let q = counted in let w = ap (λ (j : JobData). full j next.seq) job in let l = c.more in omega (arith, q, w, l);
   next = (λ i. step_at (steps (job i).program next.seq) (counted i)) ∙ c.next_step;

@@ -3,13 +3,13 @@ use Rattle.std.proofs.Common.{◌≡◌, ℕ, zero, suc, ◌+◌, ◌*◌, ◌<�
 use Rattle.std.proofs.lemmas.List.{append-nil, drop_more, at_drop_all}
 use Rattle.executive_program.specs.declared.steps.Place.{Place}
 use Rattle.semaphore_core.specs.Core.{home_of, slot_of, opening}
-use Rattle.word_table.specs.declared.woven.Woven.{Woven}
+use Rattle.word_table.specs.declared.fabric_parts.FabricParts.{FabricParts}
 use Rattle.flat_graph.proofs.KindLens.{sum-cons}
 use Rattle.semaphore_core.specs.Job.{JobData}
 use Rattle.word_rule.specs.Words.{element_word, elements_start, element_lens, table_len}
 use Rattle.word_table.specs.Weaving.{starts_from, end_from}
 use Rattle.word_rule.specs.Given.{IsHere}
-use Rattle.word_table.specs.Share.{IsWoven}
+use Rattle.word_table.specs.Parts.{AreFabricParts}
 
 pub same_default : (xs : List ℕ) (i d e : ℕ) → i < length xs → get_or xs i d ≡ get_or xs i e
 same_default [] i d e h = absurd (omega arith)
@@ -17,7 +17,7 @@ same_default (x ∷ xs) zero d e h = refl
 same_default (x ∷ xs) (suc i) d e h = same_default xs i d e (omega arith)
 
 -- the word of an element is where its list begins, and its place there
-pub start_is : (f : Woven) → IsWoven f → (x : Place) (home slot start k : ℕ) → home ≡ home_of f.job.now.program x → slot ≡ slot_of f.job.now.program x k → IsHere f.job.now x
+pub start_is : (f : FabricParts) → AreFabricParts f → (x : Place) (home slot start k : ℕ) → home ≡ home_of f.job.now.program x → slot ≡ slot_of f.job.now.program x k → IsHere f.job.now x
     → start ≡ get_or f.starts.items home start → start + slot ≡ element_word f.job.now x k
 start_is f is x home slot start k h s here e = let t = is.starts_there in let i = (here k).0 in
     let l : home < length f.starts.items = omega (arith, h, t, i) in

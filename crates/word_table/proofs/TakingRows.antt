@@ -30,7 +30,7 @@ module _ (j : JobData) (old others : Reactions) (callers : List ℕ) (groups gro
 
   pub one_taken : is_flat j.graph ≡ true → (v a : ℕ) (y : Vertex) → slice_get j.graph.vertices v ≡ Some y → y.kind ≡ Actuator a → get_or callers v 0 % groups ≡ group
       → (rows new : Reactions) → TakesRow rows new others a → AreTaken v rows → AreTaken (v + 1) new
-  one_taken valid v a y stands kind grouped rows new t i = (t.lens ∙ i.0, t.many ∙ i.1, t.wide, λ u b k x l e q g. here u b k x l e q g (cases_eq b a), λ u b k x e q n. t.else k b (other u b x e q n) ∙ i.4 u b k x e q n)
+  one_taken valid v a y stands kind grouped rows new t i = (t.lens ∙ i.0, t.many ∙ i.1, t.wide, λ u b k x l e q g. here u b k x l e q g (cases_eq b a), λ u b k x e q n. t.elsewhere k b (other u b x e q n) ∙ i.4 u b k x e q n)
     where
       -- an operation after the other, but not this one
       before : (u b : ℕ) (x : Vertex) → u < v + 1 → slice_get j.graph.vertices u ≡ Some x → x.kind ≡ Actuator b → (b ≡ a → ⊥) → (u < v) ⊎ (u ≡ v) → u < v
@@ -39,7 +39,7 @@ module _ (j : JobData) (old others : Reactions) (callers : List ℕ) (groups gro
 
       here : (u b k : ℕ) (x : Vertex) → u < v + 1 → slice_get j.graph.vertices u ≡ Some x → x.kind ≡ Actuator b → get_or callers u 0 % groups ≡ group → (b ≡ a) ⊎ (b ≡ a → ⊥) → row_at new.reactions k b ≡ row_at others.reactions k b
       here u b k x l e q g (inl h) = subst (λ (c : ℕ). row_at new.reactions k c ≡ row_at others.reactions k c) (sym h) (t.here k)
-      here u b k x l e q g (inr n) = t.else k b n ∙ i.3 u b k x (before u b x l e q n (⊎_elim (λ h. inr h) (λ h. inl (omega (arith, h, l))) (cases_eq u v))) e q g
+      here u b k x l e q g (inr n) = t.elsewhere k b n ∙ i.3 u b k x (before u b x l e q n (⊎_elim (λ h. inr h) (λ h. inl (omega (arith, h, l))) (cases_eq u v))) e q g
 
       other : (u b : ℕ) (x : Vertex) → slice_get j.graph.vertices u ≡ Some x → x.kind ≡ Actuator b → (get_or callers u 0 % groups ≡ group → ⊥) → b ≡ a → ⊥
       other u b x e q n h = n (ap (λ (w : ℕ). get_or callers w 0 % groups) (same_actuator j.graph valid u v a x y e stands (q ∙ ap Actuator h) kind) ∙ grouped)
@@ -57,5 +57,5 @@ module _ (j : JobData) (old others : Reactions) (callers : List ℕ) (groups gro
     many = i.1;
     wide = i.2;
     here = λ u a k x e q g. i.3 u a k x (let w = slice_get_within j.graph.vertices u x e in omega (arith, w, l)) e q g;
-    else = i.4;
+    elsewhere = i.4;
   }

@@ -13,15 +13,15 @@ use Rattle.word_rule.specs.Words.{word_at, table_of}
 use Rattle.word_rule.proofs.Ending.{same_lists}
 use Rattle.word_table.specs.declared.answer.MicroAnswer.{MicroAnswer}
 use Rattle.word_table.specs.declared.answer.MicroAnswer.TheVariants.{Stepped, NotYet, Finished}
-use Rattle.word_table.specs.declared.share.Share.{Share}
-use Rattle.word_table.specs.declared.woven.Woven.{Woven}
+use Rattle.word_table.specs.declared.driver_parts.DriverParts.{DriverParts}
+use Rattle.word_table.specs.declared.fabric_parts.FabricParts.{FabricParts}
 use Rattle.word_table.specs.Answers.{Answers, AnswersAlone, HasNext, answer_by, answer_in}
 use Rattle.word_table.specs.Driver.{FabricData, DriverData, Drives, AgreeWith, InSome, IsTold}
-use Rattle.word_table.specs.Share.{IsDriver, IsShare, IsWoven, IsOf, Reaches, share_view, woven_view}
+use Rattle.word_table.specs.Parts.{IsDriver, AreDriverParts, AreFabricParts, IsOf, Reaches, driver_view, fabric_view}
 use Rattle.word_table.proofs.Own.{told_is, IsOwnOf}
 
 -- the registers, cells and rows of a driver
-pub is_told : (d : Share) → IsShare d → RunsOnWords d.job.now → IsTold (share_view d)
+pub is_told : (d : DriverParts) → AreDriverParts d → RunsOnWords d.job.now → IsTold (driver_view d)
 is_told d (k, i) g counts a = record {
   registers = λ s q. let r = i.all s q.there q.grouped in own.same_registers s r.0 r.1;
   cells = λ v n x is e q. let r = i.all (caller d.job.now v) q.there q.grouped in own.same_cells (caller d.job.now v) r.0 v n x r.1 is e refl;
@@ -32,15 +32,15 @@ is_told d (k, i) g counts a = record {
     own = told_is d.job.now g.formed g.values k d.own.registers d.own.kept.cells d.own.kept.rows i.there i.own counts a.many
         (λ s n c. a.agree s (record { there = i.there s n c; grouped = i.only s n c }) ∙ i.counted s n c)
 
--- a driver of a fabric, and its own share
-pub own_share : (f : Woven) (d : Share) → IsOf f d → IsShare d
-own_share f d (k, i) = (k, subst (λ (j : JobData). IsDriver j d.seat.table k d) (sym i.of_job) (subst (λ (t : TableId). IsDriver f.job.now t k d) (sym i.of_table) i))
+-- a driver of a fabric is one of its own job
+pub own_driver : (f : FabricParts) (d : DriverParts) → IsOf f d → AreDriverParts d
+own_driver f d (k, i) = (k, subst (λ (j : JobData). IsDriver j d.seat.table k d) (sym i.of_job) (subst (λ (t : TableId). IsDriver f.job.now t k d) (sym i.of_table) i))
 
-pub of_views : (f : Woven) (d : Share) → (share_view d).fabric ≡ woven_view f → IsShare d → IsOf f d
+pub of_views : (f : FabricParts) (d : DriverParts) → (driver_view d).fabric ≡ fabric_view f → AreDriverParts d → IsOf f d
 of_views f d e (k, i) = (k, subst (λ (t : TableId). IsDriver f.job.now t k d) (ap (λ (w : FabricData). w.table) e) (subst (λ (j : JobData). IsDriver j d.seat.table k d) (ap (λ (w : FabricData). w.job) e) i))
 
-pub told_of : (f : Woven) (d : Share) → IsWoven f → IsOf f d → IsTold (share_view d)
-told_of f d is o = is_told d (own_share f d o) (subst RunsOnWords (sym o.1.of_job) is.runs)
+pub told_of : (f : FabricParts) (d : DriverParts) → AreFabricParts f → IsOf f d → IsTold (driver_view d)
+told_of f d is o = is_told d (own_driver f d o) (subst RunsOnWords (sym o.1.of_job) is.runs)
 
 -- A driver that drives every sequence.
 module _ (d : DriverData) (many : length d.counts ≡ length d.fabric.job.program.seqs) (all : (s : ℕ) → s < length d.fabric.job.program.seqs → Drives d s) where
@@ -77,7 +77,7 @@ module _ (d : DriverData) (many : length d.counts ≡ length d.fabric.job.progra
   alone new s NotYet l was now (r, m, h, st) = record { was_reached = was; is_reached = now; is = step_answer s r m false l h (known (λ z. (st.found ≡ get_or (table_of z) (word_at J r m) 0) × (enabled_in z r m ≡ false)) st.stood).1 }
 
 -- its counts are reached
-pub counts_reached : (j : JobData) → RunsOnWords j → (d : Share) (k : Knowledge) → IsDriver j d.seat.table k d → ((s : ℕ) → s < length j.program.seqs → s % d.groups ≡ d.group) → AreReached j d.counts.items
+pub counts_reached : (j : JobData) → RunsOnWords j → (d : DriverParts) (k : Knowledge) → IsDriver j d.seat.table k d → ((s : ℕ) → s < length j.program.seqs → s % d.groups ≡ d.group) → AreReached j d.counts.items
 counts_reached j g d k i all = subst (AreReached j) same r.reached
   where
     r : Reaches j k
@@ -91,12 +91,12 @@ counts_reached j g d k i all = subst (AreReached j) same r.reached
         (λ s l. let c = i.all s (let q = many in omega (arith, l, q)) (all s (let q = many in omega (arith, l, q))) in r.agree s c.0 c.1 ∙ sym (i.counted s c.0 c.1))
 
 -- A driver of the one group of a fabric.
-pub alone_answers : (f : Woven) (d e : Share) (s : ℕ) (answer : MicroAnswer) → IsWoven f → IsOf f d → IsOf f e → d.groups ≡ 1 → s % d.groups ≡ d.group → e.groups ≡ d.groups → e.group ≡ d.group → s < length f.job.now.program.seqs
-    → Answers (share_view d) (share_view e) s answer → AnswersAlone (share_view d) (share_view e) s answer
-alone_answers f d e s answer is od oe one mine gs g l a = alone (share_view d) many (λ t q. record { there = q; grouped = every t }) e' s answer there was now a
+pub alone_answers : (f : FabricParts) (d e : DriverParts) (s : ℕ) (answer : MicroAnswer) → AreFabricParts f → IsOf f d → IsOf f e → d.groups ≡ 1 → s % d.groups ≡ d.group → e.groups ≡ d.groups → e.group ≡ d.group → s < length f.job.now.program.seqs
+    → Answers (driver_view d) (driver_view e) s answer → AnswersAlone (driver_view d) (driver_view e) s answer
+alone_answers f d e s answer is od oe one mine gs g l a = alone (driver_view d) many (λ t q. record { there = q; grouped = every t }) e' s answer there was now a
   where
     e' : DriverData
-    e' = share_view e
+    e' = driver_view e
 
     job : d.job.now ≡ f.job.now
     job = od.1.of_job

@@ -2,7 +2,8 @@
 use Rattle.std.specs.Prelude.{◌≡◌, ℕ, List}
 use Rattle.syn_base.specs.Rows.{Reactions}
 use Rattle.level_meaning.specs.Level.{Values}
-use Rattle.semaphore_core.specs.Job.{JobData, actuator_lens}
+use Rattle.semaphore_core.specs.Job.{JobData}
+use Rattle.operation_desks.specs.RowLens.{actuator_lens}
 use Rattle.semaphore_core.specs.Core.{AreReached}
 use Rattle.semaphore_core.specs.Told.{told}
 use Rattle.phase_laws.specs.Ended.{last_cells, all_acts}

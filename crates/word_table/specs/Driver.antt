@@ -23,7 +23,7 @@ use Rattle.level_meaning.specs.Level.{Values, vector_at}
 use Rattle.flat_graph.specs.declared.vertex.Vertex.{Vertex}
 use Rattle.flat_graph.specs.declared.vertex.Kind.TheVariants.{Actuator}
 use Rattle.atomic_table.specs.Seated.{TableId, table_id_coded}
-use Rattle.semaphore_core.specs.Operation.{delay_of}
+use Rattle.operation_desks.specs.Operation.{delay_of}
 use Rattle.semaphore_core.specs.Job.{JobData}
 use Rattle.semaphore_core.specs.Core.{Core, full, AreReached}
 use Rattle.semaphore_core.specs.Told.{told}

@@ -20,9 +20,10 @@ use Rattle.syn_base.specs.Rows.{Reactions}
 use Rattle.level_meaning.specs.Level.{Values, vector_at}
 use Rattle.flat_graph.specs.declared.vertex.Vertex.{Vertex}
 use Rattle.flat_graph.specs.declared.vertex.Kind.TheVariants.{Actuator}
-use Rattle.semaphore_core.specs.Job.{JobData, reactions, actuator_lens}
+use Rattle.semaphore_core.specs.Job.{JobData, reactions}
+use Rattle.operation_desks.specs.RowLens.{actuator_lens}
 use Rattle.semaphore_core.specs.Held.{HasRow}
-use Rattle.semaphore_core.specs.Operation.{delay_of}
+use Rattle.operation_desks.specs.Operation.{delay_of}
 use Rattle.semaphore_core.specs.Told.{own_after}
 use Rattle.phase_laws.specs.Agrees.{caller, row_at}
 use Rattle.word_rule.specs.declared.view.View.{View}
@@ -31,57 +32,62 @@ use Rattle.word_rule.specs.Steps.{with_seat}
 use Rattle.word_rule.specs.Views.{count_by}
 use Rattle.word_rule.specs.Words.{table_len}
 use Rattle.word_table.specs.declared.remains.Remains.{Remains}
-use Rattle.word_table.specs.declared.share.Share.{Share}
-use Rattle.word_table.specs.declared.woven.Woven.{Woven}
+use Rattle.word_table.specs.declared.driver_parts.DriverParts.{DriverParts}
+use Rattle.word_table.specs.declared.fabric_parts.FabricParts.{FabricParts}
 use Rattle.word_table.specs.Owners.{owners}
 
--- the counts of a group's sequences are the others' now
+-- After the counts of others were taken over for a group: those of its sequences are theirs, and all else is as it was.
 pub record TakesCounts (old new others : List ℕ) (groups group : ℕ) : Type 0 where
   pub many : length new ≡ length old
   pub here : (s : ℕ) → s < length old → s % groups ≡ group → slice_index_or new s 0 ≡ slice_index_or others s 0
-  pub else : (s : ℕ) → (s % groups ≡ group → ⊥) → slice_index_or new s 0 ≡ slice_index_or old s 0
+  pub elsewhere : (s : ℕ) → (s % groups ≡ group → ⊥) → slice_index_or new s 0 ≡ slice_index_or old s 0
 
--- the cells of a group's delays are the others' now
+-- likewise the cells of a group's delays
 pub record TakesCells (old new others : Values) (owners : List ℕ) (groups group : ℕ) : Type 0 where
   pub many : length new ≡ length old
   pub here : (d s : ℕ) → d < length old → slice_get owners d ≡ Some s → s % groups ≡ group →
       vector_at new d ≡ vector_at others d
-  pub else : (d s : ℕ) → slice_get owners d ≡ Some s → (s % groups ≡ group → ⊥) → vector_at new d ≡ vector_at old d
+  pub elsewhere : (d s : ℕ) → slice_get owners d ≡ Some s → (s % groups ≡ group → ⊥) → vector_at new d ≡ vector_at old d
 
 -- rows have as many vectors as there are lengths
 abbrev pub AreWide : Reactions → Type 0
 AreWide r = (k : ℕ) → k < length r.reactions → length (slice_index_or r.reactions k []) ≡ length r.lens
 
--- the rows of one actuator are the others' now
+-- likewise the rows of one actuator
 pub record TakesRow (old new others : Reactions) (a : ℕ) : Type 0 where
   pub lens : new.lens ≡ old.lens
   pub many : length new.reactions ≡ length old.reactions
   pub wide : AreWide new
   pub here : (k : ℕ) → row_at new.reactions k a ≡ row_at others.reactions k a
-  pub else : (k b : ℕ) → (b ≡ a → ⊥) → row_at new.reactions k b ≡ row_at old.reactions k b
+  pub elsewhere : (k b : ℕ) → (b ≡ a → ⊥) → row_at new.reactions k b ≡ row_at old.reactions k b
 
--- the rows of a group's actuators are the others' now
+-- likewise the rows of a group's actuators
 pub record TakesRows (j : JobData) (old new others : Reactions) (callers : List ℕ) (groups group : ℕ) : Type 0 where
   pub lens : new.lens ≡ old.lens
   pub many : length new.reactions ≡ length old.reactions
   pub wide : AreWide new
   pub here : (v a k : ℕ) (x : Vertex) → slice_get j.graph.vertices v ≡ Some x → x.kind ≡ Actuator a →
       slice_index_or callers v 0 % groups ≡ group → row_at new.reactions k a ≡ row_at others.reactions k a
-  pub else : (v a k : ℕ) (x : Vertex) → slice_get j.graph.vertices v ≡ Some x → x.kind ≡ Actuator a →
+  pub elsewhere : (v a k : ℕ) (x : Vertex) → slice_get j.graph.vertices v ≡ Some x → x.kind ≡ Actuator a →
       (slice_index_or callers v 0 % groups ≡ group → ⊥) → row_at new.reactions k a ≡ row_at old.reactions k a
 
--- the share is one of the job whose remains these are
-pub record FitsTo (d : Share) (r : Remains) : Type 0 where
-  pub counts_there : length r.counts.items ≡ length d.job.now.program.seqs
-  pub cells_there : length r.cells.items ≡ length d.job.now.opening
-  pub rows_there : length r.rows.reactions ≡ reactions d.job.now
-  pub laid : (v : ℕ) → HasRow d.job.now r.rows.lens v
+-- Remains are of a job: they have a count for each sequence, a cell for each delay, rows for each reaction, and the
+-- sequence that calls each operation.
+pub record AreOfJob (j : JobData) (r : Remains) : Type 0 where
+  pub counts_there : length r.counts.items ≡ length j.program.seqs
+  pub cells_there : length r.cells.items ≡ length j.opening
+  pub rows_there : length r.rows.reactions ≡ reactions j
   pub wide : AreWide r.rows
-  pub callers_there : length r.callers.items ≡ length d.job.now.graph.vertices
-  pub callers : (v : ℕ) → v < length d.job.now.graph.vertices → slice_index_or r.callers.items v 0 ≡ caller d.job.now v
+  pub callers_there : length r.callers.items ≡ length j.graph.vertices
+  pub callers : (v : ℕ) → v < length j.graph.vertices → slice_index_or r.callers.items v 0 ≡ caller j v
 
--- what the share has of its own is taken over
-pub record Gathers (d : Share) (old new : Remains) : Type 0 where
+-- the driver is one of the job whose remains these are, and rows are laid out for all actuators
+pub record FitsTo (d : DriverParts) (r : Remains) : Type 0 where
+  pub of_job : AreOfJob d.job.now r
+  pub laid : (v : ℕ) → HasRow d.job.now r.rows.lens v
+
+-- what the driver has of its own is taken over
+pub record Gathers (d : DriverParts) (old new : Remains) : Type 0 where
   pub counts : TakesCounts old.counts.items new.counts.items d.counts.items d.groups d.group
   pub cells : TakesCells old.cells.items new.cells.items d.own.kept.cells old.cell_owners.items d.groups d.group
   pub rows : TakesRows d.job.now old.rows new.rows (record { lens = d.own.kept.lens; reactions = d.own.kept.rows })
@@ -92,14 +98,9 @@ pub record Gathers (d : Share) (old new : Remains) : Type 0 where
 
 -- All that belongs to the groups from m on is gathered: their counts, and the cells and rows after as many micro-steps.
 pub record IsGathered (j : JobData) (groups m : ℕ) (counts : List ℕ) (r : Remains) : Type 0 where
-  pub counts_there : length r.counts.items ≡ length j.program.seqs
+  pub of_job : AreOfJob j r
   pub words_there : length r.words.items + 1 ≡ table_len j
-  pub cells_there : length r.cells.items ≡ length j.opening
   pub lens : r.rows.lens ≡ actuator_lens j.graph j.graph.vertices
-  pub rows_there : length r.rows.reactions ≡ reactions j
-  pub wide : AreWide r.rows
-  pub callers_there : length r.callers.items ≡ length j.graph.vertices
-  pub callers : (v : ℕ) → v < length j.graph.vertices → slice_index_or r.callers.items v 0 ≡ caller j v
   pub cell_owners : r.cell_owners.items ≡ owners r.callers.items j.graph.vertices
   pub made : (s : ℕ) → s < length j.program.seqs → m ≤ s % groups →
       slice_index_or r.counts.items s 0 ≡ slice_index_or counts s 0
@@ -126,7 +127,7 @@ seat_with None other = other
 seat_with (Some s) other = with_seat s other
 
 -- the table, the job and the groups are the same
-pub record IsSameFabric (old new : Woven) : Type 0 where
+pub record IsSameFabric (old new : FabricParts) : Type 0 where
   pub table : new.table ≡ old.table
   pub job : new.job ≡ old.job
   pub groups : new.groups ≡ old.groups

@@ -2,6 +2,6 @@ pub mod Driver
 pub mod Answers
 pub mod Closed
 pub mod Owners
-pub mod Share
+pub mod Parts
 pub mod Weaving
 pub mod Ends

@@ -6,10 +6,10 @@ use Rattle.word_rule.specs.declared.view.View.{View}
 use Rattle.word_rule.specs.declared.view.View.TheVariants.{Spent, Holds}
 use Rattle.word_rule.specs.Table.{SeatData}
 use Rattle.word_rule.specs.Views.{count_in}
-use Rattle.word_table.specs.declared.share.Share.{Share}
-use Rattle.word_table.specs.declared.woven.Woven.{Woven}
+use Rattle.word_table.specs.declared.driver_parts.DriverParts.{DriverParts}
+use Rattle.word_table.specs.declared.fabric_parts.FabricParts.{FabricParts}
 use Rattle.word_table.specs.Driver.{FabricData, DriverData, IsNew}
-use Rattle.word_table.specs.Share.{IsShare, share_view}
+use Rattle.word_table.specs.Parts.{AreDriverParts, driver_view}
 
 -- where these lists begin one after another, the first at this word, and where the last one ends
 abbrev pub starts_from : ℕ → List (List ℤ) → List ℕ
@@ -41,13 +41,13 @@ IsLeft j groups g (Holds k) = IsNewView j k ×
     ((s : ℕ) → s < length j.program.seqs → g ≤ s % groups → count_in k.driven s ≡ Some 0)
 
 -- a driver of group g of this fabric with this seat
-pub record IsGroup (f : Woven) (seat : SeatData) (g : ℕ) (d : Share) : Type 0 where
-  pub share : IsShare d
+pub record IsGroup (f : FabricParts) (seat : SeatData) (g : ℕ) (d : DriverParts) : Type 0 where
+  pub driver : AreDriverParts d
   pub seated : d.seat ≡ seat
   pub job : d.job.now ≡ f.job.now
   pub groups : d.groups ≡ f.groups
   pub group : d.group ≡ g
-  pub new : IsNew (share_view d)
+  pub new : IsNew (driver_view d)
 
 -- as contracts see it
 pub record IsFirst (f : FabricData) (g : ℕ) (d : DriverData) : Type 0 where

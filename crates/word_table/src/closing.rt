@@ -6,14 +6,14 @@ ghost use Rattle.word_rule.specs.Driven.{closed, last_number};
 ghost use Rattle.word_table.specs.Closed.{IsClosedAt, EndsWhole};
 ghost use Rattle.word_table.specs.Driver.{AreDrivers, counts_of};
 ghost use Rattle.word_table.specs.Ends.{AreWide, FitsTo, Gathers, IsGathered, IsSameFabric, SeatHolds, TakesCells, TakesCounts, TakesRow, TakesRows, seat_with};
-ghost use Rattle.word_table.specs.Share.{IsShare, IsWoven, woven_view};
+ghost use Rattle.word_table.specs.Parts.{AreDriverParts, AreFabricParts, fabric_view};
 
 use crate::closed::Closed;
 use crate::driven::Driven;
+use crate::driver_parts::DriverParts;
 use crate::fabric::{Driver, Fabric};
+use crate::fabric_parts::FabricParts;
 use crate::remains::Remains;
-use crate::share::Share;
-use crate::woven::Woven;
 use flat_graph::Kind;
 use phase_laws::full_is_ended;
 use semaphore_core::{Job, put_row};
@@ -95,20 +95,20 @@ fn take_rows(
 }
 
 /// What a driver has of its own is taken over, and its seat is handed back.
-fn gather<'a>(remains: &mut Remains, share: Share<'a>) -> WordSeat<'a>
-    requires share { IsShare share × (share.group < share.groups) }
-    requires fits { FitsTo share remains.old }
-    ensures gathers { Gathers share.entry remains.old remains.new }
-    ensures seat { result ≡ share.entry.seat }
+fn gather<'a>(remains: &mut Remains, driver: DriverParts<'a>) -> WordSeat<'a>
+    requires driver { AreDriverParts driver × (driver.group < driver.groups) }
+    requires fits { FitsTo driver remains.old }
+    ensures gathers { Gathers driver.entry remains.old remains.new }
+    ensures seat { result ≡ driver.entry.seat }
 {
-    let Share {
+    let DriverParts {
         seat,
         job,
         groups,
         group,
         counts,
         own,
-    } = share;
+    } = driver;
     take_counts(&mut remains.counts, counts.as_slice(), groups, group);
     let (cells, rows) = own.into_parts();
     take_cells(
@@ -130,7 +130,7 @@ fn gather<'a>(remains: &mut Remains, share: Share<'a>) -> WordSeat<'a>
 }
 
 /// A seat that takes over what another one drives, if there is another.
-fn joined<'a>(
+fn join_seats<'a>(
     table: &WordTable<'a>,
     seat: Option<WordSeat<'a>>,
     other: WordSeat<'a>,
@@ -149,25 +149,28 @@ fn joined<'a>(
 }
 
 /// What all drivers have of their own is gathered, and their seats are made one.
-fn gather_all<'a>(woven: &mut Woven<'a>, mut drivers: Vec<Driver<'a>>) -> Option<WordSeat<'a>>
-    requires woven { IsWoven woven.old }
-    requires drivers { AreDrivers (woven_view woven.old) drivers.items }
-    ensures same { IsSameFabric woven.old woven.new }
-    ensures gathered { IsGathered woven.old.job.now woven.old.groups 0
-        (counts_of (woven_view woven.old) drivers.entry.items) woven.new.remains }
-    ensures seat { SeatHolds woven.old.job.now woven.old.table.table woven.old.groups 0 result
-        (counts_of (woven_view woven.old) drivers.entry.items) }
+fn gather_all<'a>(
+    fabric: &mut FabricParts<'a>,
+    mut drivers: Vec<Driver<'a>>,
+) -> Option<WordSeat<'a>>
+    requires fabric { AreFabricParts fabric.old }
+    requires drivers { AreDrivers (fabric_view fabric.old) drivers.items }
+    ensures same { IsSameFabric fabric.old fabric.new }
+    ensures gathered { IsGathered fabric.old.job.now fabric.old.groups 0
+        (counts_of (fabric_view fabric.old) drivers.entry.items) fabric.new.remains }
+    ensures seat { SeatHolds fabric.old.job.now fabric.old.table.table fabric.old.groups 0 result
+        (counts_of (fabric_view fabric.old) drivers.entry.items) }
 {
     let mut seat = None;
     while let Some(driver) = drivers.pop() {
-        let mine = gather(&mut woven.remains, driver.share);
-        seat = Some(joined(&woven.table, seat, mine));
+        let mine = gather(&mut fabric.remains, driver.parts);
+        seat = Some(join_seats(&fabric.table, seat, mine));
     }
     seat
 }
 
 /// The sum of a number and these counts, up to the last value of its type.
-fn raised(number: u64, counts: &[u64]) -> u64
+fn add_counts(number: u64, counts: &[u64]) -> u64
     ensures { result ≡ min (number + sum counts.now) last_number }
 {
     let mut number = number;
@@ -188,9 +191,9 @@ impl<'a> Fabric<'a> {
         ensures ended { EndsWhole self.entry drivers.entry.items driven.old driven.new result }
     {
         full_is_ended();
-        let mut woven = self.woven;
-        let seat = gather_all(&mut woven, drivers);
-        let Woven { table, remains, .. } = woven;
+        let mut fabric = self.parts;
+        let seat = gather_all(&mut fabric, drivers);
+        let FabricParts { table, remains, .. } = fabric;
         let Remains {
             counts,
             mut words,
@@ -200,7 +203,7 @@ impl<'a> Fabric<'a> {
         } = remains;
         let Some(seat) = seat else { unreachable!() };
         table.close(seat, counts.as_slice(), &mut words);
-        driven.number = raised(driven.number, counts.as_slice());
+        driven.number = add_counts(driven.number, counts.as_slice());
         driven.counts = counts;
         driven.words = words;
         Closed {

@@ -1,12 +1,12 @@
-//! A fabric and its drivers, kept whole.
+//! A fabric and its drivers, kept whole: what callers see of `FabricParts` and `DriverParts`.
 ghost use Rattle.std.specs.Prelude.{◌≡◌, ◌<◌, ◌%◌, IfNone, IfSome, length, slice_index_or};
 ghost use Rattle.semaphore_core.specs.Core.{full};
 ghost use Rattle.word_table.specs.Answers.{Answers, AnswersAlone};
 ghost use Rattle.word_table.specs.Driver.{IsTold};
 
 use crate::answer::MicroAnswer;
-use crate::share::Share;
-use crate::woven::Woven;
+use crate::driver_parts::DriverParts;
+use crate::fabric_parts::FabricParts;
 use std::marker::Model;
 use word_rule::job_runs_on_words;
 
@@ -14,7 +14,7 @@ use word_rule::job_runs_on_words;
 /// groups in which the sequences are driven.
 #[derive(Drop)]
 pub struct Fabric<'a> {
-    pub(crate) woven: Woven<'a>,
+    pub(crate) parts: FabricParts<'a>,
 }
 
 impl<'a> Model for Fabric<'a> {
@@ -29,11 +29,11 @@ impl<'a> Model for Fabric<'a> {
     ghost coded = { fabric_code (job_code (Prim.hlevel codes)
         (graph_code (Prim.hlevel codes) (expr_code (Prim.hlevel codes)))) };
 
-    ghost use Rattle.word_table.specs.Share.{IsWoven, woven_view};
+    ghost use Rattle.word_table.specs.Parts.{AreFabricParts, fabric_view};
 
-    ghost view = { λ f. woven_view f.woven };
+    ghost view = { λ f. fabric_view f.parts };
 
-    ghost invariant = { λ f. IsWoven f.woven };
+    ghost invariant = { λ f. AreFabricParts f.parts };
 }
 
 /// The driver of a group of sequences of a fabric. Contracts see the fabric and the group, the micro-steps
@@ -41,7 +41,7 @@ impl<'a> Model for Fabric<'a> {
 /// have of their own.
 #[derive(Drop)]
 pub struct Driver<'a> {
-    pub(crate) share: Share<'a>,
+    pub(crate) parts: DriverParts<'a>,
 }
 
 impl<'a> Model for Driver<'a> {
@@ -56,11 +56,11 @@ impl<'a> Model for Driver<'a> {
     ghost coded = { driver_code (job_code (Prim.hlevel codes)
         (graph_code (Prim.hlevel codes) (expr_code (Prim.hlevel codes)))) };
 
-    ghost use Rattle.word_table.specs.Share.{IsShare, share_view};
+    ghost use Rattle.word_table.specs.Parts.{AreDriverParts, driver_view};
 
-    ghost view = { λ d. share_view d.share };
+    ghost view = { λ d. driver_view d.parts };
 
-    ghost invariant = { λ d. IsShare d.share };
+    ghost invariant = { λ d. AreDriverParts d.parts };
 }
 
 impl<'a> Fabric<'a> {
@@ -68,14 +68,14 @@ impl<'a> Fabric<'a> {
     pub fn groups(&self) -> u32
         ensures { result ≡ self.now.groups }
     {
-        self.woven.groups
+        self.parts.groups
     }
 
     /// The number of sequences. It takes no memory.
     pub fn sequences(&self) -> u32
         ensures { result ≡ length self.now.job.program.seqs }
     {
-        self.woven.job.sequences()
+        self.parts.job.sequences()
     }
 
     /// The number of the next micro-step of a sequence of a driver of this fabric, counted from 0, where it has
@@ -87,7 +87,7 @@ impl<'a> Fabric<'a> {
         ensures next { IfSome result (λ n. (n ≡ slice_index_or driver.now.counts seq 0) × (n < full self.now.job seq)) }
         ensures none { IfNone result (slice_index_or driver.now.counts seq 0 ≡ full self.now.job seq) }
     {
-        self.woven.next_step(&driver.share, seq)
+        self.parts.next_step(&driver.parts, seq)
     }
 
     /// Tries a sequence of a driver of this fabric: makes its next micro-step by one atomic step, where the
@@ -104,7 +104,7 @@ impl<'a> Fabric<'a> {
         // A driver of every sequence knows all counts.
         ensures alone { self.now.groups ≡ 1 → AnswersAlone driver.old driver.new seq result }
     {
-        self.woven.try_micro(&mut driver.share, seq)
+        self.parts.try_micro(&mut driver.parts, seq)
     }
 }
 
@@ -114,13 +114,13 @@ impl<'a> Driver<'a> {
     pub fn group(&self) -> u32
         ensures { result ≡ self.now.group }
     {
-        self.share.group
+        self.parts.group
     }
 
     /// That its registers, cells and rows are what any counts tell that agree with its own. It does nothing.
     pub fn is_told(&self)
         ensures { IsTold self.now }
     {
-        job_runs_on_words(self.share.job);
+        job_runs_on_words(self.parts.job);
     }
 }

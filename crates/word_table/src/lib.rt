@@ -11,12 +11,12 @@ mod answer;
 mod closed;
 mod closing;
 mod driven;
+mod driver_parts;
 mod fabric;
+mod fabric_parts;
 mod owners;
 mod remains;
-mod share;
 mod weaving;
-mod woven;
 
 pub use answer::MicroAnswer;
 pub use closed::Closed;

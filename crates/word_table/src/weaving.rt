@@ -1,18 +1,19 @@
 //! The making of a fabric with its drivers.
 ghost use Rattle.std.specs.Prelude.{◌≡◌, ℕ, ◌<◌, ◌≤◌, ◌+◌, ◌^◌, length, map, slice_index_or, IfOk};
-ghost use Rattle.semaphore_core.specs.Job.{actuator_lens, zero_rows};
+ghost use Rattle.operation_desks.specs.RowLens.{actuator_lens};
+ghost use Rattle.semaphore_core.specs.Job.{zero_rows};
 ghost use Rattle.word_rule.specs.Views.{first_view};
 ghost use Rattle.word_rule.specs.Given.{RunsOnWords};
 ghost use Rattle.word_rule.specs.Words.{element_lens, elements_start, table_len, turn_word};
 ghost use Rattle.word_table.specs.Driver.{AreDrivers, AreNew};
-ghost use Rattle.word_table.specs.Share.{AreLaid, IsWoven, woven_view};
+ghost use Rattle.word_table.specs.Parts.{AreLaid, AreFabricParts, fabric_view};
 ghost use Rattle.word_table.specs.Weaving.{DrivesGroup, IsLeft, IsGroup, IsFirst, AreFirst, starts_from, end_from};
 
+use crate::driver_parts::DriverParts;
 use crate::fabric::{Driver, Fabric};
+use crate::fabric_parts::FabricParts;
 use crate::owners::{called_in, callers_of, cell_owners};
 use crate::remains::Remains;
-use crate::share::Share;
-use crate::woven::Woven;
 use executive_program::micro_steps_of;
 use semaphore_core::{Job, OwnParts, cells_and_rows, words_of, zero_elements};
 use std::alloc::Global;
@@ -110,7 +111,7 @@ fn layout_of(alloc: Global, job: &Job) -> Result<Layout, OutOfMemory>
 }
 
 /// The table of a job, which has this many words, and a seat for all of its sequences.
-fn opened<'a>(
+fn open_table<'a>(
     alloc: Global,
     job: &'a Job<'a>,
     len: usize,
@@ -127,21 +128,21 @@ fn opened<'a>(
 }
 
 /// The table of a job with its micro-steps laid out, and a seat for all of its sequences.
-fn woven_of<'a>(
+fn fabric_of<'a>(
     alloc: Global,
     job: &'a Job<'a>,
     groups: u32,
-) -> Result<(Woven<'a>, WordSeat<'a>), OutOfMemory>
+) -> Result<(FabricParts<'a>, WordSeat<'a>), OutOfMemory>
     requires { 0 < groups }
-    ensures woven { IfOk result (λ t. IsWoven t.0 × (t.0.job.now ≡ job.now) × (t.0.groups ≡ groups)) }
+    ensures fabric { IfOk result (λ t. AreFabricParts t.0 × (t.0.job.now ≡ job.now) × (t.0.groups ≡ groups)) }
     ensures seat { IfOk result (λ t. t.1 ≡ record { table = t.0.table.table; view = first_view job.now }) }
 {
     job_runs_on_words(job);
     let Layout { turns, starts, len } = layout_of(alloc, job)?;
     let steps = micro_steps_of(alloc, job.program())?;
     let remains = remains_of(alloc, job, len)?;
-    let (table, seat) = opened(alloc, job, len)?;
-    let woven = Woven {
+    let (table, seat) = open_table(alloc, job, len)?;
+    let fabric = FabricParts {
         table,
         job,
         groups,
@@ -150,29 +151,34 @@ fn woven_of<'a>(
         starts,
         remains,
     };
-    Ok((woven, seat))
+    Ok((fabric, seat))
 }
 
 /// A driver of a group with this seat, whose sequences have made no micro-step.
 fn driver_of<'a>(
     alloc: Global,
-    woven: &Woven<'a>,
+    fabric: &FabricParts<'a>,
     seat: WordSeat<'a>,
     group: u32,
-) -> Result<Share<'a>, OutOfMemory>
-    requires woven { IsWoven woven.now }
-    requires view { DrivesGroup woven.now.job.now woven.now.groups group seat.view }
-    ensures { IfOk result (λ d. IsGroup woven.now seat.entry group d) }
+) -> Result<DriverParts<'a>, OutOfMemory>
+    requires fabric { AreFabricParts fabric.now }
+    requires view { DrivesGroup fabric.now.job.now fabric.now.groups group seat.view }
+    ensures { IfOk result (λ d. IsGroup fabric.now seat.entry group d) }
 {
-    let job = woven.job;
-    let called = called_in(alloc, woven.remains.callers.as_slice(), woven.groups, group)?;
+    let job = fabric.job;
+    let called = called_in(
+        alloc,
+        fabric.remains.callers.as_slice(),
+        fabric.groups,
+        group,
+    )?;
     let sequences = job.program().seqs.as_slice().len();
     let counts = words_of(alloc, 0, sequences)?;
-    let own = OwnParts::for_some(alloc, job, woven.steps.as_slice(), called.as_slice())?;
-    Ok(Share {
+    let own = OwnParts::for_some(alloc, job, fabric.steps.as_slice(), called.as_slice())?;
+    Ok(DriverParts {
         seat,
         job,
-        groups: woven.groups,
+        groups: fabric.groups,
         group,
         counts,
         own,
@@ -182,35 +188,35 @@ fn driver_of<'a>(
 /// The driver of a group, whose sequences are split off from those that are left.
 fn group_of<'a>(
     alloc: Global,
-    woven: &Woven<'a>,
+    fabric: &FabricParts<'a>,
     seat: &mut WordSeat<'a>,
     group: u32,
 ) -> Result<Driver<'a>, OutOfMemory>
-    requires woven { IsWoven woven.now }
-    requires seat { seat.old.table ≡ woven.now.table.table }
-    requires left { IsLeft woven.now.job.now woven.now.groups group seat.old.view }
-    ensures driver { IfOk result (λ d. IsFirst (woven_view woven.now) group d) }
+    requires fabric { AreFabricParts fabric.now }
+    requires seat { seat.old.table ≡ fabric.now.table.table }
+    requires left { IsLeft fabric.now.job.now fabric.now.groups group seat.old.view }
+    ensures driver { IfOk result (λ d. IsFirst (fabric_view fabric.now) group d) }
     ensures seat { seat.new.table ≡ seat.old.table }
-    ensures left { IsLeft woven.now.job.now woven.now.groups (group + 1) seat.new.view }
+    ensures left { IsLeft fabric.now.job.now fabric.now.groups (group + 1) seat.new.view }
 {
-    let mine = woven.table.split(seat, woven.groups, group);
-    let share = driver_of(alloc, woven, mine, group)?;
-    Ok(Driver { share })
+    let mine = fabric.table.split(seat, fabric.groups, group);
+    let parts = driver_of(alloc, fabric, mine, group)?;
+    Ok(Driver { parts })
 }
 
 /// A driver for each group of sequences.
 fn drivers_of<'a>(
     alloc: Global,
-    woven: &Woven<'a>,
+    fabric: &FabricParts<'a>,
     seat: &mut WordSeat<'a>,
 ) -> Result<Vec<Driver<'a>>, OutOfMemory>
-    requires woven { IsWoven woven.now }
-    requires seat { seat.old ≡ record { table = woven.now.table.table; view = first_view woven.now.job.now } }
-    ensures { IfOk result (λ ds. AreFirst (woven_view woven.now) 0 ds.items × (length ds.items ≡ woven.now.groups)) }
+    requires fabric { AreFabricParts fabric.now }
+    requires seat { seat.old ≡ record { table = fabric.now.table.table; view = first_view fabric.now.job.now } }
+    ensures { IfOk result (λ ds. AreFirst (fabric_view fabric.now) 0 ds.items × (length ds.items ≡ fabric.now.groups)) }
 {
     let mut drivers = Vec::new(alloc);
-    for group in 0..woven.groups {
-        drivers.push(group_of(alloc, woven, seat, group)?)?;
+    for group in 0..fabric.groups {
+        drivers.push(group_of(alloc, fabric, seat, group)?)?;
     }
     Ok(drivers)
 }
@@ -228,7 +234,7 @@ pub fn weave<'a>(
     ensures drivers { IfOk result (λ t. AreDrivers t.0 t.1.items) }
     ensures new { IfOk result (λ t. AreNew t.1.items) }
 {
-    let (woven, mut seat) = woven_of(alloc, job, groups)?;
-    let drivers = drivers_of(alloc, &woven, &mut seat)?;
-    Ok((Fabric { woven }, drivers))
+    let (fabric, mut seat) = fabric_of(alloc, job, groups)?;
+    let drivers = drivers_of(alloc, &fabric, &mut seat)?;
+    Ok((Fabric { parts: fabric }, drivers))
 }

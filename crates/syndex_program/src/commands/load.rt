@@ -3,7 +3,7 @@ ghost use Rattle.std.specs.Prelude.{◌≡◌, ◌≤◌, ◌<◌, ◌+ℤ◌, [
 ghost use Rattle.level_meaning.specs.Level.{all_joined};
 ghost use Rattle.body_lang.specs.Expr.{total};
 ghost use Rattle.syn_base.specs.Arithmetic.{wrapped};
-ghost use Rattle.semaphore_core.specs.Job.{actuator_lens};
+ghost use Rattle.operation_desks.specs.RowLens.{actuator_lens};
 ghost use Rattle.phase_laws.specs.Ended.{all_acts};
 ghost use Rattle.command_plan.specs.Run.{Ends, Performs};
 ghost use Rattle.command_status.specs.Status.{ending_of};

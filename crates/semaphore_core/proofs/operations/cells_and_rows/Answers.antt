@@ -3,7 +3,7 @@ use Rattle.std.proofs.Common.{◌≡◌, ◌∙◌, ap, map, replicate}
 use Rattle.syn_base.specs.Rows.{Reactions}
 use Rattle.level_meaning.specs.Level.{zeros}
 use Rattle.flat_graph.specs.Graph.{Graph}
-use Rattle.semaphore_core.specs.Job.{actuator_lens}
+use Rattle.operation_desks.specs.RowLens.{actuator_lens}
 use Rattle.semaphore_core.proofs.operations.cells_and_rows.Goals as goal
 
 pub returns-clause-lens : goal.returns-clause-lens

@@ -8,7 +8,7 @@ use Rattle.flat_graph.specs.Meaning.{sensed}
 use Rattle.flat_graph.specs.Valid.{is_flat}
 use Rattle.flat_graph.specs.Fire.{seen_len}
 use Rattle.flat_graph.specs.Graph.{Graph}
-use Rattle.semaphore_core.specs.Operation.{rows_by}
+use Rattle.operation_desks.specs.Operation.{rows_by}
 use Rattle.semaphore_core.specs.Job.{JobData}
 use Rattle.semaphore_core.specs.Rows.{TakesRow}
 use Rattle.semaphore_core.proofs.RowVectors.{cells_of}

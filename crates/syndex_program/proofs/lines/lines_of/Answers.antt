@@ -1,7 +1,7 @@
 use Rattle.std.proofs.Common.{◌≡◌, ◌∙◌, ap, subst, sym}
 use Rattle.algo_tree.specs.Ends.{actuator_lengths}
 use Rattle.phase_laws.specs.Ended.{all_acts}
-use Rattle.semaphore_core.specs.Job.{actuator_lens}
+use Rattle.operation_desks.specs.RowLens.{actuator_lens}
 use Rattle.job_windows.specs.Windowed.{WindowsData}
 use Rattle.top_plans.specs.Given.{acts_of}
 use Rattle.syndex_program.specs.Executes.{executed}

@@ -7,12 +7,12 @@ use Rattle.word_table.proofs.Closings.{own_laid}
 use Rattle.word_table.proofs.closing.gather.Goals as goal
 
 pub take_rows-requires-clause-others_laid : goal.take_rows-requires-clause-others_laid
-take_rows-requires-clause-others_laid c v q = let s = c.args.share in let r = c.args.remains.now in
+take_rows-requires-clause-others_laid c v q = let s = c.args.driver in let r = c.args.remains.now in
     subst (λ (o : Reactions). HasRow s.job.now o.lens v) (sym c.into_parts-cells.ensures.rows)
-    (own_laid s r c.requires.share.0 c.requires.fits v (ap (λ (l : List ℕ). get_or l v 0 % s.groups) (sym c.as_slice-3.ensures.value) ∙ q))
+    (own_laid s r c.requires.driver.0 c.requires.fits v (ap (λ (l : List ℕ). get_or l v 0 % s.groups) (sym c.as_slice-3.ensures.value) ∙ q))
 
 pub returns-clause-gathers : goal.returns-clause-gathers
-returns-clause-gathers c = let s = c.args.share in let r = c.args.remains.now in let o = c.into_parts-cells.ensures in record {
+returns-clause-gathers c = let s = c.args.driver in let r = c.args.remains.now in let o = c.into_parts-cells.ensures in record {
   counts = subst (λ (l : List ℕ). TakesCounts r.counts.items c.take_counts.new.counts.items l s.groups s.group) c.as_slice.ensures.value c.take_counts.ensures;
   cells = subst (λ (l : List ℕ). TakesCells r.cells.items c.take_cells.new.cells.items s.own.kept.cells l s.groups s.group) c.as_slice-2.ensures.value
       (subst (λ (v : Values). TakesCells r.cells.items c.take_cells.new.cells.items v c.as_slice-2.result.now s.groups s.group) o.cells c.take_cells.ensures);

@@ -10,8 +10,8 @@ use Rattle.syn_base.specs.Rows.{Reactions}
 use Rattle.flat_graph.specs.declared.vertex.Vertex.{Vertex}
 use Rattle.flat_graph.specs.Graph.{Graph}
 use Rattle.flat_graph.proofs.ReadLens.{vertex_there}
-use Rattle.semaphore_core.specs.Desk.{DeskLens, lens_of_desk}
-use Rattle.semaphore_core.specs.Registers.{compute_by}
+use Rattle.operation_desks.specs.Desk.{DeskLens, lens_of_desk}
+use Rattle.operation_desks.specs.Registers.{compute_by}
 use Rattle.semaphore_core.specs.Parts.{Kept, own_of, with_kept, with_values}
 use Rattle.semaphore_core.specs.Held.{AreReady, HasRow}
 use Rattle.semaphore_core.proofs.Operate.{is_there}

@@ -6,9 +6,10 @@ use Rattle.syn_base.specs.Rows.{Reactions}
 use Rattle.level_meaning.specs.Level.{Values, zeros}
 use Rattle.flat_graph.specs.Graph.{Graph}
 use Rattle.flat_graph.specs.Valid.{is_flat}
-use Rattle.semaphore_core.specs.Desk.{lens_of_desk}
+use Rattle.operation_desks.specs.Desk.{lens_of_desk}
 use Rattle.semaphore_core.specs.Job.{reactions}
-use Rattle.semaphore_core.specs.AtOpening.{AreDesks, lens_for}
+use Rattle.operation_desks.specs.Desk.{AreDesks}
+use Rattle.operation_desks.specs.RowLens.{lens_for}
 use Rattle.semaphore_core.proofs.Jobs.{opening_ready}
 use Rattle.semaphore_core.proofs.Some.{rows_for}
 use Rattle.semaphore_core.proofs.operations.Operations.for_some.Goals as goal

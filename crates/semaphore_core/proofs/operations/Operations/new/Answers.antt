@@ -5,9 +5,10 @@ use Rattle.std.proofs.lemmas.List.{length-replicate}
 use Rattle.level_meaning.specs.Level.{Values, zeros}
 use Rattle.flat_graph.specs.Graph.{Graph}
 use Rattle.flat_graph.specs.Valid.{is_flat}
-use Rattle.semaphore_core.specs.Desk.{lens_of_desk}
-use Rattle.semaphore_core.specs.Job.{actuator_lens, reactions}
-use Rattle.semaphore_core.specs.AtOpening.{AreDesks}
+use Rattle.operation_desks.specs.Desk.{lens_of_desk}
+use Rattle.operation_desks.specs.RowLens.{actuator_lens}
+use Rattle.semaphore_core.specs.Job.{reactions}
+use Rattle.operation_desks.specs.Desk.{AreDesks}
 use Rattle.semaphore_core.proofs.Jobs.{opening_ready, rows_laid_out}
 use Rattle.semaphore_core.proofs.operations.Operations.new.Goals as goal
 

@@ -2,8 +2,8 @@
 use Rattle.std.proofs.Common.{◌<◌, ap, sym, subst, arith, length, ◌∙◌, w64, ℤ}
 use Rattle.std.proofs.lemmas.List.{length-map}
 use Rattle.std.proofs.lemmas.Int.{to_z-of_z}
-use Rattle.semaphore_core.specs.RegisterFile.{RegisterFile}
-use Rattle.semaphore_core.specs.Registers.{Own}
+use Rattle.operation_desks.specs.RegisterFile.{RegisterFile}
+use Rattle.operation_desks.specs.Registers.{Own}
 use Rattle.semaphore_core.specs.Parts.{Parts, own_of, with_values, with_kept, absorbed}
 use Rattle.semaphore_core.specs.Held.{AreReady, LoadHasRow}
 use Rattle.semaphore_core.proofs.Viewing.{changed}

@@ -1,8 +1,8 @@
 -- The registers of the sequence, and what the operations keep, are those after the store.
 use Rattle.std.proofs.Common.{◌<◌, ap, sym, subst, arith, length}
 use Rattle.std.proofs.lemmas.List.{length-map}
-use Rattle.semaphore_core.specs.RegisterFile.{RegisterFile}
-use Rattle.semaphore_core.specs.Registers.{Own}
+use Rattle.operation_desks.specs.RegisterFile.{RegisterFile}
+use Rattle.operation_desks.specs.Registers.{Own}
 use Rattle.semaphore_core.specs.Parts.{Parts, left}
 use Rattle.semaphore_core.specs.Held.{AreReady, StoreHasRow}
 use Rattle.semaphore_core.proofs.Viewing.{changed}

@@ -9,7 +9,8 @@ use Rattle.flat_graph.specs.Meaning.{flat_act_row}
 use Rattle.phase_laws.specs.Ended.{all_acts}
 use Rattle.phase_laws.specs.Windows.{window}
 use Rattle.run_laws.specs.Windows.{window_bound, reactions_from}
-use Rattle.semaphore_core.specs.Job.{JobData, actuator_lens, reactions}
+use Rattle.semaphore_core.specs.Job.{JobData, reactions}
+use Rattle.operation_desks.specs.RowLens.{actuator_lens}
 use Rattle.syn_base.specs.Arithmetic.{wrapped}
 use Rattle.syn_base.specs.Rows.{Reactions}
 use Rattle.job_windows.specs.Windowed.{WindowsData, first_of}

@@ -12,7 +12,8 @@ use Rattle.level_meaning.specs.Level.{Values}
 use Rattle.command_plan.specs.Stage.{after_jobs, RunsSome}
 use Rattle.phase_laws.specs.Ended.{all_acts}
 use Rattle.run_laws.specs.Windows.{window_jobs}
-use Rattle.semaphore_core.specs.Job.{JobData, actuator_lens}
+use Rattle.semaphore_core.specs.Job.{JobData}
+use Rattle.operation_desks.specs.RowLens.{actuator_lens}
 use Rattle.syn_base.specs.Arithmetic.{wrapped}
 use Rattle.word_rule.specs.Driven.{Driven, driven_by}
 use Rattle.job_windows.specs.Windowed.{WindowsData}

@@ -4,4 +4,4 @@ use Rattle.word_table.proofs.Told.{is_told}
 use Rattle.word_table.proofs.fabric.Driver.is_told.Goals as goal
 
 pub returns : goal.returns
-returns c = subst IsTold c.self.view_is (is_told c.self.inside.share c.self.invariant c.job_runs_on_words.ensures)
+returns c = subst IsTold c.self.view_is (is_told c.self.inside.parts c.self.invariant c.job_runs_on_words.ensures)

@@ -1,0 +1,15 @@
+-- One more operation.
+use Rattle.std.proofs.Common.{◌<◌, List, refl, get_or, length, ap, subst, ◌∙◌}
+use Rattle.flat_graph.specs.declared.vertex.Vertex.{Vertex}
+use Rattle.flat_graph.specs.Laws.{sensor_len, sensor_lens}
+use Rattle.operation_desks.proofs.Appending.{appended}
+use Rattle.operation_desks.proofs.opening.sensor_lens.Goals as goal
+
+pub loop-x-preserved : goal.loop-x-preserved
+loop-x-preserved c =
+    let vs = c.args.flat.now.vertices in
+    let k = c.loop-x.x-index in
+    let x = c.x-item.result in
+    let same = c.vertices-x-items.ensures.same in
+    appended (λ (y : Vertex). sensor_len y.kind y.outs) sensor_lens (λ y ys. refl) vs k x c.loop-x.lens.items c.push_sensor.new.lens.items (sensor_lens vs)
+    (subst (λ (l : List Vertex). k < length l) same c.loop-x-test.true) (c.x-item.is ∙ ap (λ (l : List Vertex). get_or l k x) same) c.in_ok-push_sensor.ensures c.loop-x.invariant

@@ -1,0 +1,79 @@
+-- The desk of an operation: what it reads and what it gives.
+use Rattle.std.specs.Prelude.{
+  ◌≡◌,
+  ℕ,
+  ◌++◌,
+  List,
+  map,
+  take,
+  drop,
+  length,
+  Option,
+  None,
+  Some,
+  Bool,
+  false,
+  slice_get,
+  ℤ,
+}
+use Rattle.level_meaning.specs.Level.{Values}
+use Rattle.flat_graph.specs.declared.vertex.Vertex.{Vertex}
+use Rattle.flat_graph.specs.Graph.{Graph}
+use Rattle.flat_graph.specs.Fire.{read_lens, out_lens}
+use Rattle.flat_graph.specs.Meaning.{is_get}
+use Rattle.operation_desks.specs.Operation.{vectors_from, delay_of}
+
+pub record DeskData : Type 0 where
+  -- the inputs' vectors, and then those of the guards' sources
+  pub read : Values
+  pub outs : Values
+  -- how many guards and inputs it has, and the number of the delay of which the operation is a half
+  pub guards : ℕ
+  pub inputs : ℕ
+  pub delay : Option ℕ
+
+-- the lengths in the order in which they are loaded: the guards' sources first
+abbrev pub load_lens : DeskData → List ℕ
+load_lens d = drop d.inputs (map length d.read) ++ take d.inputs (map length d.read)
+
+abbrev pub loaded_in : DeskData → List ℤ → Values
+loaded_in d row = vectors_from row 0 (load_lens d)
+
+-- what of a desk stays the same: the lengths of what it reads and gives, and the numbers
+pub record DeskLens : Type 0 where
+  pub reads : List ℕ
+  pub gives : List ℕ
+  pub guards : ℕ
+  pub inputs : ℕ
+  pub delay : Option ℕ
+
+abbrev pub lens_of_desk : DeskData → DeskLens
+lens_of_desk d = record {
+  reads = map length d.read;
+  gives = map length d.outs;
+  guards = d.guards;
+  inputs = d.inputs;
+  delay = d.delay;
+}
+
+-- it is the desk of operation v, which is x
+pub record IsDesk (g : Graph) (v : ℕ) (x : Vertex) (d : DeskLens) : Type 0 where
+  pub reads : d.reads ≡ read_lens g v
+  pub gives : d.gives ≡ out_lens g v
+  pub guards : d.guards ≡ length x.guards
+  pub inputs : d.inputs ≡ length x.ins
+  pub delay : d.delay ≡ delay_of g v x
+
+abbrev pub is_get_by : Option Vertex → Bool
+is_get_by None = false
+is_get_by (Some x) = is_get x.kind
+
+-- operation k is the get half of a delay
+abbrev pub is_get_at : List Vertex → ℕ → Bool
+is_get_at xs k = is_get_by (slice_get xs k)
+
+-- these are the desks of the first n operations
+pub record AreDesks (g : Graph) (n : ℕ) (desks : List DeskLens) : Type 0 where
+  pub there : length desks ≡ n
+  pub each : (v : ℕ) (x : Vertex) (d : DeskLens) → slice_get g.vertices v ≡ Some x → slice_get desks v ≡ Some d →
+      IsDesk g v x d

@@ -1,0 +1,103 @@
+//! Desks as `semaphore_core` lays them out when it opens a state: one for each operation.
+ghost use Rattle.std.specs.Prelude.{◌≡◌, ◌+◌, ◌^◌, ◌<◌, ◌++◌, ◌≤◌, cond, map, length, slice_get, Some, IfOk, OnOk, IsTrue};
+ghost use Rattle.flat_graph.specs.Meaning.{delay_number};
+ghost use Rattle.operation_desks.specs.Operation.{delay_by};
+ghost use Rattle.flat_graph.specs.Valid.{is_flat};
+ghost use Rattle.operation_desks.specs.Desk.{is_get_at, IsDesk, lens_of_desk};
+ghost use Rattle.operation_desks.specs.Desk.{AreDesks};
+
+use crate::desk::Desk;
+use crate::opening::push_lens;
+use flat_graph::{Flat, Kind, Vertex};
+use std::alloc::Global;
+use syn_base::{OutOfMemory, to_u32};
+
+/// Whether operation `k` is the get half of a delay.
+fn is_get_at(vertices: &[Vertex], k: u32) -> bool
+    ensures { result ≡ is_get_at vertices.now k }
+{
+    match vertices.get(k as usize) {
+        Some(x) => matches!(&x.kind, Kind::Get(_)),
+        None => false,
+    }
+}
+
+/// One more, where there is one.
+fn count_if(number: u32, more: bool) -> u32
+    requires { number + 1 < 2 ^ 32 }
+    ensures value { result ≡ cond more (number + 1) number }
+    ensures few { result ≤ number + 1 }
+{
+    if more { number + 1 } else { number }
+}
+
+/// How many get halves stand before operation `v`.
+fn delay_number(vertices: &[Vertex], v: u32) -> u32
+    ensures { result ≡ delay_number vertices.now v }
+{
+    let mut number = 0;
+    for k in 0..v {
+        number = count_if(number, is_get_at(vertices, k));
+    }
+    number
+}
+
+/// The number of the delay of which operation `v` is a half.
+fn delay_of(vertices: &[Vertex], v: u32, x: &Vertex) -> Option<u32>
+    ensures { result ≡ delay_by vertices.now v x.now.kind x.now.twin }
+{
+    match &x.kind {
+        Kind::Get(_) => Some(delay_number(vertices, v)),
+        Kind::Set => match x.twin {
+            Some(twin) => Some(delay_number(vertices, twin)),
+            None => None,
+        },
+        _ => None,
+    }
+}
+
+/// Appends these lengths.
+fn push_all(list: &[u32], lens: &mut Vec<u32>) -> Result<(), OutOfMemory>
+    ensures { OnOk result (lens.new.items ≡ lens.old.items ++ list.now) }
+{
+    for len in list {
+        lens.push(*len)?;
+    }
+    Ok(())
+}
+
+/// The desk of operation `v`.
+pub fn desk_of(alloc: Global, flat: &Flat, v: u32, x: &Vertex) -> Result<Desk, OutOfMemory>
+    requires { slice_get flat.now.vertices v ≡ Some x.now }
+    ensures { IfOk result (λ d. IsDesk flat.now v x.now (lens_of_desk d)) }
+{
+    let guards = to_u32(x.guards.as_slice().len())?;
+    let inputs = to_u32(x.ins.as_slice().len())?;
+    let mut lens = Vec::new(alloc);
+    push_lens(flat, x.ins.as_slice(), &mut lens)?;
+    let ones = vec![in alloc; 1; x.guards.as_slice().len()]?;
+    push_all(ones.as_slice(), &mut lens)?;
+    let delay = delay_of(flat.vertices(), v, x);
+    Desk::new(
+        alloc,
+        lens.as_slice(),
+        x.outs.as_slice(),
+        guards,
+        inputs,
+        delay,
+    )
+}
+
+/// The desks of all operations.
+pub fn desks_of(alloc: Global, flat: &Flat) -> Result<Vec<Desk>, OutOfMemory>
+    ensures desks { IfOk result (λ s. AreDesks flat.now (length flat.now.vertices) (map lens_of_desk s.items)) }
+    ensures valid { IsTrue (is_flat flat.now) }
+{
+    let vertices = flat.vertices();
+    let count = to_u32(vertices.len())?;
+    let mut desks = Vec::new(alloc);
+    for v in 0..count {
+        desks.push(desk_of(alloc, flat, v, &vertices[v as usize])?)?;
+    }
+    Ok(desks)
+}

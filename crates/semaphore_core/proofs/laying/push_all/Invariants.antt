@@ -1,5 +1,0 @@
-use Rattle.std.proofs.Common.{◌≡◌, ◌++◌, take}
-use Rattle.semaphore_core.proofs.laying.push_all.Given as goal
-
-abbrev pub invariant-loop-len : goal.invariant-loop-len
-invariant-loop-len l = l.lens.items ≡ l.initial.lens.items ++ take l.len-index l.list

@@ -1,5 +1,0 @@
-use Rattle.std.proofs.Common.{◌≡◌, take, map}
-use Rattle.semaphore_core.proofs.opening.copy_of.Given as goal
-
-abbrev pub invariant-loop-list : goal.invariant-loop-list
-invariant-loop-list l = map (λ c. c.items) l.all.items ≡ take l.list-index l.lists

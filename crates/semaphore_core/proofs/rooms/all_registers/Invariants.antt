@@ -1,6 +1,0 @@
-use Rattle.std.proofs.Common.{◌≡◌, take}
-use Rattle.semaphore_core.specs.AtOpening.{all_registers}
-use Rattle.semaphore_core.proofs.rooms.all_registers.Given as goal
-
-abbrev pub invariant-loop-one : goal.invariant-loop-one
-invariant-loop-one l = l.all.items ≡ all_registers l.flat (take l.one-index l.steps)

@@ -1,5 +1,0 @@
-use Rattle.std.proofs.Common.{◌≡◌, ◌≤◌, ◌*◌, ◌^◌, sum, take}
-use Rattle.semaphore_core.proofs.rooms.sum_of.Given as goal
-
-abbrev pub invariant-loop-len : goal.invariant-loop-len
-invariant-loop-len l = (l.total ≡ sum (take l.len-index l.lens)) × (l.total ≤ l.len-index * 2 ^ 32)
