@@ -14,6 +14,7 @@ use Rattle.executive_program.specs.Blocks.{block_at}
 use Rattle.executive_program.specs.Instructions.{len_of, depth_of}
 use Rattle.executive_program.specs.MicroSteps.{code, transfers, access, wire_len, buffer_elements}
 use Rattle.operation_desks.specs.Registers.{Own, absorb_at, emit_at, after_at}
+use Rattle.operation_desks.specs.RowLens.{actuator_lens}
 use Rattle.executive_program.specs.Steps.{steps, all_prologues, all_turns}
 
 pub record JobData : Type 0 where
