@@ -2,7 +2,7 @@ use Rattle.std.proofs.Common.{◌≡◌, drop}
 use Rattle.archi_graph.specs.Sequences.{communicators}
 use Rattle.program_walks.specs.Walks.{passed}
 use Rattle.order_check.specs.Sequenced.{is_sequence}
-use Rattle.order_check.proofs.sequencing.behind_communicators.Given as goal
+use Rattle.order_check.proofs.sequencing.after_communicators.Given as goal
 
 -- the media that are left decide
 abbrev pub invariant-loop-number : goal.invariant-loop-number

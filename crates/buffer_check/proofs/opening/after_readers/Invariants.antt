@@ -2,7 +2,7 @@ use Rattle.std.proofs.Common.{◌≡◌, drop}
 use Rattle.executive_program.specs.Instructions.{readers_from}
 use Rattle.program_walks.specs.Walks.{passed}
 use Rattle.buffer_check.specs.Opened.{opens}
-use Rattle.buffer_check.proofs.opening.behind_readers.Given as goal
+use Rattle.buffer_check.proofs.opening.after_readers.Given as goal
 
 -- the sequences that are left decide
 abbrev pub invariant-loop-sequence : goal.invariant-loop-sequence
