@@ -1,5 +1,22 @@
 -- Where the numbers of declarations stand.
-use Rattle.std.specs.Prelude.{◌≡◌, ℕ, ◌<◌, Bool, true, false, nat_le, ◌||◌, List, length, Option, Some, None, is_some, slice_index_or, slice_set}
+use Rattle.std.specs.Prelude.{
+  ◌≡◌,
+  ℕ,
+  ◌<◌,
+  Bool,
+  true,
+  false,
+  nat_le,
+  ◌||◌,
+  List,
+  length,
+  Option,
+  Some,
+  None,
+  is_some,
+  slice_index_or,
+  slice_set,
+}
 use Rattle.code_text.specs.declared.numbered.Numbered.{Numbered}
 use Rattle.code_text.specs.Text.{misnumbered, place_of}
 use Rattle.code_reader.specs.declared.places.Places.{Places}
@@ -16,5 +33,7 @@ IsPlaced (Wrong line) ds = misnumbered ds ≡ Some line
 
 -- a number took its place, or it is too great or has one
 abbrev pub TakesPlace : Bool → List (Option ℕ) → ℕ → ℕ → List (Option ℕ) → Type 0
-TakesPlace true old number place new = (number < length old) × ((slice_index_or old number None ≡ None) × (new ≡ slice_set old number (Some place)))
-TakesPlace false old number place new = (new ≡ old) × ((nat_le (length old) number || is_some (slice_index_or old number None)) ≡ true)
+TakesPlace true old number place new =
+    (number < length old) × ((slice_index_or old number None ≡ None) × (new ≡ slice_set old number (Some place)))
+TakesPlace false old number place new =
+    (new ≡ old) × ((nat_le (length old) number || is_some (slice_index_or old number None)) ≡ true)

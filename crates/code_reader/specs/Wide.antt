@@ -15,6 +15,7 @@ program_of w = record { buffers = map sized w.sizes.items; pairs = w.owners.item
 -- a quantity is within its bound, or how far it is above it
 abbrev pub IsBounded : {T : Type 0} → Result T CodeError → LimitKind → ℕ → Type 0
 IsBounded (Ok _) which exact = nat_lt (bound_of which) exact ≡ false
-IsBounded (Err (Limit f)) which exact = (nat_lt (bound_of which) exact ≡ true) × (f ≡ record { which = which; count = exact; bound = bound_of which })
+IsBounded (Err (Limit f)) which exact =
+    (nat_lt (bound_of which) exact ≡ true) × (f ≡ record { which = which; count = exact; bound = bound_of which })
 IsBounded (Err OutOfMemory) which exact = Unit {0}
 IsBounded (Err (Refused f)) which exact = ⊥
