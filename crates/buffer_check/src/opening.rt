@@ -64,7 +64,7 @@ fn all_signal(program: &Program, pair: usize, reading: Reading) -> bool
 }
 
 /// The number after the pairs of a buffer, of which the first is `first`, if each is there and opened.
-fn behind_readers(program: &Program, first: usize, buffer: usize) -> Option<usize>
+fn after_readers(program: &Program, first: usize, buffer: usize) -> Option<usize>
     ensures { result ≡ passed (opens program.now) first (readers_from 0 program.now.seqs buffer) }
 {
     let mut pair = first;
@@ -87,7 +87,7 @@ fn count_opened(program: &Program) -> Option<usize>
 {
     let mut pair = 0;
     for buffer in 0..program.buffers.as_slice().len() {
-        pair = behind_readers(program, pair, buffer)?;
+        pair = after_readers(program, pair, buffer)?;
     }
     Some(pair)
 }

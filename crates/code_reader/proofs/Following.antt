@@ -6,7 +6,7 @@ use Rattle.code_text.specs.declared.fault.CodeError.{CodeError}
 use Rattle.code_text.specs.declared.fault.CodeError.TheVariants.{Refused, Limit, OutOfMemory}
 use Rattle.syn_base.specs.Bytes.{Bytes}
 use Rattle.code_text.specs.Text.{Reading, and_then, next_line, rest_of}
-use Rattle.code_reader.specs.Given.{Fails}
+use Rattle.code_text.specs.Given.{Fails}
 
 module _ (operations : List Bytes) (a : Architecture) where
   abbrev behind : ℕ → List Bytes → Result Reading CodeError → Result Program CodeError

@@ -1,11 +1,6 @@
-pub mod Clean
-pub mod Cuts
-pub mod Each
+pub mod Appending
 pub mod Following
 pub mod Found
-pub mod LineWords
-pub mod Lists
-pub mod Naming
+pub mod NextLine
 pub mod Placing
 pub mod Wholes
-pub mod Appending

@@ -8,7 +8,7 @@ use Rattle.code_text.specs.declared.numbered.Numbered.{Numbered}
 use Rattle.code_text.specs.declared.numbered.Size.{Size}
 use Rattle.code_text.specs.declared.fault.CodeError.{CodeError}
 use Rattle.code_text.specs.Text.{at_place, limited, no_size, place_of, sized}
-use Rattle.code_reader.specs.Given.{Gives}
+use Rattle.code_text.specs.Given.{Gives}
 use Rattle.code_reader.specs.Placed.{ArePlaced}
 use Rattle.code_reader.proofs.Placing.{all_placed}
 

@@ -2,7 +2,8 @@
 use Rattle.std.specs.Prelude.{map}
 use Rattle.code_text.specs.Text.{Reading}
 use Rattle.code_reader.specs.declared.reader.Reader.{Reader}
-use Rattle.code_reader.specs.Views.{code_of, instr_of}
+use Rattle.code_reader.specs.Views.{code_of}
+use Rattle.code_lines.specs.Views.{instr_of}
 
 abbrev pub reading : Reader → Reading
 reading r = record {

@@ -1,14 +1,16 @@
-//! How many words the table of a program has, counted in wide numbers.
+//! The count of the words that the table of a program takes, before its numbers are known to be small.
 ghost use Rattle.std.specs.Prelude.{◌≡◌, ◌-◌, ◌*◌, ◌^◌, map, min};
 ghost use Rattle.std.specs.List.{sum_by};
 ghost use Rattle.interleavings.specs.Owners.{sum_below};
 ghost use Rattle.executive_program.specs.Instructions.{len_of};
 ghost use Rattle.executive_program.specs.MicroSteps.{longest_sent, sent_len};
 ghost use Rattle.code_text.specs.Text.{longest_in, wire_len, words};
-ghost use Rattle.code_reader.specs.Views.{code_of, instr_of};
+ghost use Rattle.code_reader.specs.Views.{code_of};
+ghost use Rattle.code_lines.specs.Views.{instr_of};
 ghost use Rattle.code_reader.specs.Wide.{program_of};
 
-use crate::written::{Written, WrittenCode};
+use crate::written::WrittenCode;
+use code_lines::Written;
 use code_text::Size;
 
 /// A program in wide numbers: its buffers and the operators of its pairs by number, and its sequences.

@@ -1,21 +1,20 @@
-//! The lines of a text, one after the other.
+//! The reading of a text, line by line, which callers of the crate ask for.
 ghost use Rattle.std.specs.Prelude.{◌≤◌, ◌∷◌, [], length};
 ghost use Rattle.syn_base.specs.Limits.{most_in_text};
 ghost use Rattle.text_lines.specs.Text.{lines_of};
 ghost use Rattle.code_text.specs.Text.{line_of, macro_line, named_line, next_line, placed_line, program_in, rest_of, start, words_line};
-ghost use Rattle.code_reader.specs.Given.{Gives, Steps};
-ghost use Rattle.code_reader.specs.Views.{form_view, operation_line};
+ghost use Rattle.code_text.specs.Given.{Gives, Steps};
+ghost use Rattle.code_lines.specs.Views.{form_view};
+ghost use Rattle.code_reader.specs.Views.{operation_line};
 ghost use Rattle.code_reader.specs.Read.{reading};
 
-use crate::arguments::Arguments;
-use crate::fault::{bad_line, unknown_macro};
-use crate::form::{Form, op_form, word_form};
-use crate::instruction::{Operation, read_call};
-use crate::known::Known;
 use crate::macros::find_macro;
 use crate::reader::Reader;
-use crate::word::{LineWords, clean_code, words};
 use archi_graph::Archi;
+use code_lines::{
+    Arguments, Form, Known, LineWords, Operation, bad_line, clean_code, op_form, read_call,
+    unknown_macro, word_form, words,
+};
 use code_text::CodeError;
 use executive_program::Program;
 use flat_graph::Flat;
@@ -172,7 +171,7 @@ impl Reader {
 
 /// The program of a text of macro-code, or its first refusal. In the order of its lines Refused with the line and
 /// the cause; then Refused for the first line that declares a number of a buffer or of a pair that is too great or
-/// stands before; then Limit, on words or else on micro-steps. OutOfMemory may come in place of any answer.
+/// stands before; then Limit, on words or else on micro-steps. OutOfMemory may come in place of any other result.
 ///
 /// The text may be any, also one that no program here has printed. It takes time in proportion to the text.
 pub fn read_code(
@@ -188,6 +187,7 @@ pub fn read_code(
     read_lines(alloc, bytes, &known)
 }
 
+/// The program of a text, or its first refusal, where the names are known.
 fn read_lines(alloc: Global, bytes: &[u8], known: &Known) -> Result<Program, CodeError>
     requires { length (lines_of bytes.now) ≤ most_in_text }
     ensures { Gives result

@@ -1,4 +1,4 @@
-//! The macros by their names.
+//! The macro of a name, with which a line begins.
 ghost use Rattle.std.specs.Prelude.{◌≡◌, IfSome, Some, bytes_eq, map, slice_get};
 ghost use Rattle.macro_code.specs.Macros.{word_of};
 ghost use Rattle.code_text.specs.Forms.{macro_of, macros};
@@ -41,6 +41,7 @@ fn find_among(name: &[u8], tried: &[Macro]) -> Option<Macro>
     None
 }
 
+/// Whether a macro has this name.
 fn is_name_of(name: &[u8], found: Macro) -> bool
     ensures { result ≡ bytes_eq name.now (word_of found) }
 {

@@ -1,4 +1,4 @@
-//! Where the numbers from 0 on are declared.
+//! The places at which the numbers from 0 on are declared.
 ghost use Rattle.std.specs.Prelude.{◌≡◌, ℕ, None, IfOk, length, slice_index_or};
 ghost use Rattle.code_reader.specs.Placed.{IsPlaced, TakesPlace};
 

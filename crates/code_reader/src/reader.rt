@@ -1,27 +1,26 @@
-//! What was read of a text, and how each kind of line changes it.
-ghost use Rattle.std.specs.Prelude.{◌≡◌, Ok, []};
-ghost use Rattle.code_text.specs.Text.{alloc_line, awaits_more, code_here, end_loop_line, end_main_line, end_thread_line, is_opening, loop_line, main_line, may_stand, pair_line, processor_line, semaphores_line, spawn_line, start, starts_more, sync_line, takes_instr, thread_line, transfer_line, wait_line, with_instr};
+//! The state of reading: what was read so far, and how the line of each macro changes it.
+ghost use Rattle.std.specs.Prelude.{◌≡◌, ◌++◌, Ok, OnOk, [], map};
+ghost use Rattle.code_text.specs.Text.{alloc_line, awaits_more, code_here, end_loop_line, end_main_line, end_thread_line, is_opening, loop_line, main_line, may_stand, numbered, pair_line, processor_line, semaphores_line, spawn_line, start, starts_more, sync_line, takes_instr, thread_line, transfer_line, wait_line, with_instr};
 ghost use Rattle.executive_program.specs.declared.program.Instr.TheVariants as instr;
-ghost use Rattle.code_reader.specs.Given.{Steps};
-ghost use Rattle.code_reader.specs.Views.{code_of, instr_of};
+ghost use Rattle.code_text.specs.Given.{Steps};
+ghost use Rattle.code_reader.specs.Views.{code_of};
+ghost use Rattle.code_lines.specs.Views.{instr_of};
 ghost use Rattle.code_reader.specs.Read.{reading};
 
-use crate::arguments::Arguments;
-use crate::declared::{add_pairs, read_buffer_line, read_pairs};
-use crate::fault::bad_argument;
-use crate::instruction::{read_pair, read_sync, read_transfer};
-use crate::known::Known;
-use crate::numbers::{Numbers, numbers_of};
 use crate::stage::{
     is_declared, is_ended, is_named, is_outside, is_prologue, is_threaded, is_turn,
 };
-use crate::written::{Written, WrittenCode};
+use crate::written::WrittenCode;
 use archi_graph::Seq;
+use code_lines::{
+    Arguments, Known, Numbers, Written, bad_argument, numbers_of, read_buffer_line, read_pair,
+    read_pairs, read_sync, read_transfer,
+};
 use code_text::{CodeError, Numbered, Size, Stage};
 use macro_code::Macro;
 use std::alloc::Global;
 use std::mem;
-use syn_base::Items;
+use syn_base::{Items, OutOfMemory};
 
 /// What was read so far.
 #[derive(Drop)]
@@ -436,4 +435,27 @@ impl Reader {
             to: ends.to,
         })
     }
+}
+
+/// Adds pairs that are declared at a line, and their operator.
+pub fn add_pairs(
+    pairs: &mut Vec<Numbered>,
+    owners: &mut Vec<u32>,
+    line: u32,
+    operator: u32,
+    numbers: &[u64],
+) -> Result<(), OutOfMemory>
+    ensures pairs { OnOk result
+        (pairs.new.items ≡ pairs.old.items ++ map (numbered line) numbers.now) }
+    ensures owners { OnOk result
+        (owners.new.items ≡ owners.old.items ++ map (λ _. operator) numbers.now) }
+{
+    for number in numbers {
+        pairs.push(Numbered {
+            number: *number,
+            line,
+        })?;
+        owners.push(operator)?;
+    }
+    Ok(())
 }

@@ -1,4 +1,4 @@
-//! The stages of a processor's text.
+//! The tests of the stage of a processor's text, for the macros that may stand there.
 ghost use Rattle.std.specs.Prelude.{◌≡◌};
 ghost use Rattle.code_text.specs.Text.{is_declared, is_ended, is_named, is_outside, is_prologue, is_threaded, is_turn};
 

@@ -1,25 +1,26 @@
-//! What holds of a text as a whole.
+//! The program of a text whose lines were all read, and its limits.
 ghost use Rattle.std.specs.Prelude.{◌≡◌, ℕ, ◌-◌, ◌^◌, IfOk, length, map, min};
 ghost use Rattle.code_text.specs.Text.{at_place, counted, first_misnumbered, limited, no_size, sized, whole, within_steps};
 ghost use Rattle.code_text.specs.Text as text;
+ghost use Rattle.code_text.specs.declared.fault.CodeError.TheVariants.{Limit};
+ghost use Rattle.syn_base.specs.Limits.{bound_of};
 ghost use Rattle.syn_base.specs.declared.limits.LimitKind.TheVariants.{MicroSteps};
 ghost use Rattle.executive_program.specs.Steps.{all_turns};
-ghost use Rattle.code_reader.specs.Given.{Gives, Has};
+ghost use Rattle.code_text.specs.Given.{Gives, Has};
 ghost use Rattle.code_reader.specs.Placed.{ArePlaced, IsPlaced};
 ghost use Rattle.code_reader.specs.Read.{reading};
 ghost use Rattle.code_reader.specs.Wide.{IsBounded, program_of};
 
 use crate::counts::{WideProgram, words};
-use crate::fault::{above, bad_argument, bad_line};
-use crate::known::Known;
 use crate::places::{Places, places_of};
 use crate::reader::Reader;
 use crate::stage::is_outside;
 use crate::written::{narrow, narrow_codes};
+use code_lines::{Known, bad_argument, bad_line};
 use code_text::{CodeError, Size};
 use executive_program::{Buffer, Program, pair_depths, turn_micros};
 use std::alloc::Global;
-use syn_base::{Items, LimitKind, OutOfMemory};
+use syn_base::{Items, LimitFault, LimitKind, OutOfMemory};
 
 /// The sizes of buffers by number.
 fn sizes_in_order(
@@ -36,6 +37,7 @@ fn sizes_in_order(
     Ok(ordered)
 }
 
+/// The size of the buffer that is declared at a place, and one without elements where there is none.
 fn size_at(sizes: &[Size], place: Option<usize>) -> Size
     ensures { result ≡ at_place sizes.now no_size place }
 {
@@ -64,6 +66,7 @@ fn owners_in_order(
     Ok(ordered)
 }
 
+/// The operator of the pair that is declared at a place, 0 where there is none.
 fn owner_at(owners: &[u32], place: Option<usize>) -> u32
     ensures { result ≡ at_place owners.now 0 place }
 {
@@ -73,6 +76,7 @@ fn owner_at(owners: &[u32], place: Option<usize>) -> u32
     }
 }
 
+/// The buffers of these sizes.
 fn narrow_buffers(alloc: Global, sizes: &[Size]) -> Result<Items<Buffer>, CodeError>
     ensures { Has result (map sized sizes.now) }
 {
@@ -87,6 +91,7 @@ fn narrow_buffers(alloc: Global, sizes: &[Size]) -> Result<Items<Buffer>, CodeEr
     Ok(Items::new(buffers))
 }
 
+/// The program of a wide one.
 fn narrow_program(alloc: Global, wide: &WideProgram) -> Result<Program, CodeError>
     ensures { Has result (program_of wide.now) }
 {
@@ -97,6 +102,17 @@ fn narrow_program(alloc: Global, wide: &WideProgram) -> Result<Program, CodeErro
         buffers,
         pairs: Items::new(pairs),
         seqs,
+    })
+}
+
+/// A quantity above its bound.
+fn above(which: LimitKind, count: u128) -> CodeError
+    ensures { result ≡ Limit (record { which = which; count = count; bound = bound_of which }) }
+{
+    CodeError::Limit(LimitFault {
+        which,
+        count,
+        bound: which.bound(),
     })
 }
 
@@ -132,7 +148,7 @@ fn within_steps(alloc: Global, program: Program) -> Result<Program, CodeError>
 }
 
 /// The program, where its words on this many media and its micro-steps are within their bounds.
-fn limited(alloc: Global, media: u32, wide: &WideProgram) -> Result<Program, CodeError>
+fn program_in_limits(alloc: Global, media: u32, wide: &WideProgram) -> Result<Program, CodeError>
     ensures { Gives result (limited media (program_of wide.now)) }
 {
     check_bound(LimitKind::Words, words(wide, media))?;
@@ -142,7 +158,7 @@ fn limited(alloc: Global, media: u32, wide: &WideProgram) -> Result<Program, Cod
 
 impl Reader {
     /// The program, where buffers and pairs have these places.
-    fn numbered(
+    fn program_at_places(
         &self,
         known: &Known,
         pairs: &[Option<usize>],
@@ -159,10 +175,17 @@ impl Reader {
             owners: owners_in_order(self.alloc, pairs, self.owners.as_slice())?,
             seqs: self.seqs.as_slice(),
         };
-        limited(self.alloc, known.media(), &wide)
+        program_in_limits(self.alloc, known.media(), &wide)
     }
 
-    fn counted(&self, known: &Known, pairs: &Places, buffers: &Places) -> Result<Program, CodeError>
+    /// The program, where buffers and pairs have the numbers from 0 on; else the first line that declares a wrong one
+    /// is refused.
+    fn program_if_numbered(
+        &self,
+        known: &Known,
+        pairs: &Places,
+        buffers: &Places,
+    ) -> Result<Program, CodeError>
         requires pairs { IsPlaced pairs.now self.now.pairs.items }
         requires buffers { IsPlaced buffers.now self.now.buffers.items }
         ensures { Gives result
@@ -170,7 +193,7 @@ impl Reader {
     {
         match (pairs, buffers) {
             (Places::Each(pairs), Places::Each(buffers)) => {
-                self.numbered(known, pairs.as_slice(), buffers.as_slice())
+                self.program_at_places(known, pairs.as_slice(), buffers.as_slice())
             }
             (Places::Wrong(line), Places::Each(_)) => Err(bad_argument(*line)),
             (Places::Each(_), Places::Wrong(line)) => Err(bad_argument(*line)),
@@ -187,6 +210,6 @@ impl Reader {
         }
         let pairs = places_of(self.alloc, self.pairs.as_slice())?;
         let buffers = places_of(self.alloc, self.buffers.as_slice())?;
-        self.counted(known, &pairs, &buffers)
+        self.program_if_numbered(known, &pairs, &buffers)
     }
 }

@@ -1,39 +1,15 @@
-//! Code as a text has it: its numbers of buffers and pairs may be wider than those of a program.
+//! Sequences as a text has them, whose numbers may be wide, and those of a program, whose numbers are not.
 ghost use Rattle.std.specs.Prelude.{map};
-ghost use Rattle.code_reader.specs.Given.{Has};
-ghost use Rattle.code_reader.specs.Views.{code_of, instr_of};
+ghost use Rattle.code_text.specs.Given.{Has};
+ghost use Rattle.code_reader.specs.Views.{code_of};
+ghost use Rattle.code_lines.specs.Views.{instr_of};
 
 use archi_graph::Seq;
+use code_lines::Written;
 use code_text::CodeError;
 use executive_program::{Instr, SeqCode};
 use std::alloc::Global;
 use syn_base::Items;
-
-/// An instruction.
-#[derive(Drop)]
-pub enum Written {
-    Suc0(u64),
-    Suc1(u64),
-    Pre0(u64),
-    Pre1(u64),
-    Call {
-        vertex: u32,
-        ins: Items<u64>,
-        outs: Items<u64>,
-    },
-    Send {
-        buffer: u64,
-        to: u32,
-    },
-    Recv {
-        buffer: u64,
-        from: u32,
-    },
-    Sync {
-        from: u32,
-        to: u32,
-    },
-}
 
 /// The code of a sequence.
 #[derive(Drop)]
@@ -55,6 +31,7 @@ pub fn narrow(number: u64) -> Result<u32, CodeError>
     }
 }
 
+/// The numbers of a program.
 fn narrow_all(alloc: Global, numbers: &[u64]) -> Result<Items<u32>, CodeError>
     ensures { Has result numbers.now }
 {
@@ -92,6 +69,7 @@ fn narrow_instr(alloc: Global, written: &Written) -> Result<Instr, CodeError>
     }
 }
 
+/// The call of an operation in a program.
 fn narrow_call(alloc: Global, vertex: u32, ins: &[u64], outs: &[u64]) -> Result<Instr, CodeError>
     ensures { Has result (Instr.Call vertex ins.now outs.now) }
 {
@@ -100,6 +78,7 @@ fn narrow_call(alloc: Global, vertex: u32, ins: &[u64], outs: &[u64]) -> Result<
     Ok(Instr::Call { vertex, ins, outs })
 }
 
+/// The instructions of a program.
 fn narrow_body(alloc: Global, body: &[Written]) -> Result<Items<Instr>, CodeError>
     ensures { Has result (map instr_of body.now) }
 {
@@ -110,6 +89,7 @@ fn narrow_body(alloc: Global, body: &[Written]) -> Result<Items<Instr>, CodeErro
     Ok(Items::new(instrs))
 }
 
+/// The code of a sequence of a program.
 fn narrow_code(alloc: Global, code: &WrittenCode) -> Result<SeqCode, CodeError>
     ensures { Has result (code_of code.now) }
 {

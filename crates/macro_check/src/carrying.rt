@@ -71,7 +71,11 @@ fn origin(program: &Program, tables: &Tables, buffer: usize, writes: &[Mark]) ->
 }
 
 /// For each buffer where what it holds comes from, one step back.
-fn origins(alloc: Global, program: &Program, tables: &Tables) -> Result<Vec<Origin>, OutOfMemory>
+fn find_origins(
+    alloc: Global,
+    program: &Program,
+    tables: &Tables,
+) -> Result<Vec<Origin>, OutOfMemory>
     requires tables { AreTables program.now tables.now }
     requires transferred { AreTransferred program.now tables.now.media }
     ensures { IfOk result (λ all. all.items ≡ follow_all program.now 1) }
@@ -104,7 +108,11 @@ pub fn origin_in(others: &[Origin], buffer: usize) -> Origin
 }
 
 /// From each of these, this way further.
-fn joined(alloc: Global, first: &[Origin], others: &[Origin]) -> Result<Vec<Origin>, OutOfMemory>
+fn further_each(
+    alloc: Global,
+    first: &[Origin],
+    others: &[Origin],
+) -> Result<Vec<Origin>, OutOfMemory>
     ensures { IfOk result (λ all. all.items ≡ map (further_in others.now) first.now) }
 {
     let mut all = Vec::new(alloc);
@@ -115,7 +123,7 @@ fn joined(alloc: Global, first: &[Origin], others: &[Origin]) -> Result<Vec<Orig
 }
 
 /// What is met within this many steps from each buffer.
-fn followed(
+fn follow_all(
     alloc: Global,
     program: &Program,
     origins: &[Origin],
@@ -129,12 +137,12 @@ fn followed(
     if hops == 1 {
         return Ok(Vec::from_slice(alloc, origins)?);
     }
-    let half = followed(alloc, program, origins, hops / 2)?;
-    let even = joined(alloc, half.as_slice(), half.as_slice())?;
+    let half = follow_all(alloc, program, origins, hops / 2)?;
+    let even = further_each(alloc, half.as_slice(), half.as_slice())?;
     if hops % 2 == 0 {
         return Ok(even);
     }
-    joined(alloc, origins, even.as_slice())
+    further_each(alloc, origins, even.as_slice())
 }
 
 /// What is met from each buffer within as many steps as there are buffers.
@@ -148,10 +156,10 @@ pub fn find_sources(
     requires low { (b c : ℕ) → origin program.now b ≡ Received c → c < length program.now.buffers }
     ensures { IfOk result (λ all. all.items ≡ follow_all program.now (length program.now.buffers)) }
 {
-    let all = origins(alloc, program, tables)?;
+    let all = find_origins(alloc, program, tables)?;
     let count = program.buffers.as_slice().len();
     if count == 0 {
         return Ok(all);
     }
-    followed(alloc, program, all.as_slice(), count)
+    follow_all(alloc, program, all.as_slice(), count)
 }

@@ -43,7 +43,7 @@ fn is_sequence(seqs: &[SeqCode], number: usize, operator: usize, medium: Option<
 }
 
 /// The number after an operator's communicators, if they are the sequences from `first` on.
-fn behind_communicators(
+fn after_communicators(
     seqs: &[SeqCode],
     first: usize,
     operator: usize,
@@ -64,7 +64,7 @@ fn behind_communicators(
 }
 
 /// The number after an operator's sequences, if they are the sequences from `first` on.
-fn behind_sequences(
+fn after_sequences(
     seqs: &[SeqCode],
     first: usize,
     operator: usize,
@@ -75,7 +75,7 @@ fn behind_sequences(
     if !is_sequence(seqs, first, operator, None) {
         return None;
     }
-    behind_communicators(seqs, first + 1, operator, media)
+    after_communicators(seqs, first + 1, operator, media)
 }
 
 /// Whether these are the sequences of this many operators at these media, in order.
@@ -84,8 +84,8 @@ pub fn are_sequences(seqs: &[SeqCode], operators: usize, media: &[Medium]) -> bo
 {
     let mut next = 0;
     for operator in 0..operators {
-        match behind_sequences(seqs, next, operator, media) {
-            Some(behind) => next = behind,
+        match after_sequences(seqs, next, operator, media) {
+            Some(after) => next = after,
             None => return false,
         }
     }

@@ -25,7 +25,7 @@ pub enum Role {
 }
 
 /// The operation that an instruction calls.
-fn called(instr: &Instr) -> &[u32]
+fn operation_called(instr: &Instr) -> &[u32]
     ensures { result.now ≡ named Role.Called instr.now }
 {
     match instr {
@@ -35,7 +35,7 @@ fn called(instr: &Instr) -> &[u32]
 }
 
 /// The buffers that an instruction writes.
-fn written(instr: &Instr) -> &[u32]
+fn buffers_written(instr: &Instr) -> &[u32]
     ensures { result.now ≡ named Role.Written instr.now }
 {
     match instr {
@@ -46,7 +46,7 @@ fn written(instr: &Instr) -> &[u32]
 }
 
 /// The buffers that an instruction reads.
-fn read(instr: &Instr) -> &[u32]
+fn buffers_read(instr: &Instr) -> &[u32]
     ensures { result.now ≡ named Role.Read instr.now }
 {
     match instr {
@@ -101,9 +101,9 @@ pub fn numbers_named(role: Role, instr: &Instr) -> &[u32]
     ensures { result.now ≡ named role instr.now }
 {
     match role {
-        Role::Called => called(instr),
-        Role::Written => written(instr),
-        Role::Read => read(instr),
+        Role::Called => operation_called(instr),
+        Role::Written => buffers_written(instr),
+        Role::Read => buffers_read(instr),
         Role::EmptyTaken => empty_taken(instr),
         Role::FullSignalled => full_signalled(instr),
         Role::FullTaken => full_taken(instr),

@@ -82,7 +82,7 @@ fn sent_on(program: &Program, medium: Option<u32>, number: usize) -> Option<u32>
 }
 
 /// The origin of a buffer that receives what is sent.
-fn received(sent: Option<u32>) -> Origin
+fn origin_received(sent: Option<u32>) -> Origin
     ensures { result ≡ received sent }
 {
     match sent {
@@ -113,7 +113,7 @@ fn received_at(program: &Program, sequence: usize, at: usize) -> Origin
     ensures { result ≡ received (sent_on program.now (medium program.now sequence)
         (communications program.now sequence at)) }
 {
-    received(sent_on(
+    origin_received(sent_on(
         program,
         medium_of(program, sequence),
         communications(program, sequence, at),

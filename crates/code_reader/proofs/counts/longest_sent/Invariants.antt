@@ -1,6 +1,6 @@
 use Rattle.std.proofs.Common.{◌≡◌, max, map, drop}
 use Rattle.executive_program.specs.MicroSteps.{longest_sent}
-use Rattle.code_reader.specs.Views.{instr_of}
+use Rattle.code_lines.specs.Views.{instr_of}
 use Rattle.code_reader.specs.Wide.{program_of}
 use Rattle.code_reader.proofs.counts.longest_sent.Given as goal
 

@@ -1,5 +1,5 @@
 use Rattle.std.proofs.Common.{◌≡◌, map, take}
-use Rattle.code_reader.specs.Views.{instr_of}
+use Rattle.code_lines.specs.Views.{instr_of}
 use Rattle.code_reader.proofs.written.narrow_body.Given as goal
 
 abbrev pub invariant-loop-written : goal.invariant-loop-written

@@ -9,4 +9,4 @@ returns-then-count-eq0 c =
     c.in_ok-all.ensures ∙ nothing c.args.program.now 1 (length c.args.program.now.buffers) (let n = ap length c.as_slice-count.ensures in let z = c.if-count-eq0.true in let e : length c.args.program.now.buffers ≡ 0 = omega arith in e)
 
 pub returns : goal.returns
-returns c = if_ok c.followed.result _ _ (λ all h. h ∙ ap (follow_all c.args.program.now) (ap length c.as_slice-count.ensures)) c.followed.ensures
+returns c = if_ok c.follow_all.result _ _ (λ all h. h ∙ ap (follow_all c.args.program.now) (ap length c.as_slice-count.ensures)) c.follow_all.ensures

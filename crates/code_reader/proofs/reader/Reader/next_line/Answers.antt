@@ -1,9 +1,9 @@
 use Rattle.std.proofs.Common.{[], ◌∷◌, Result, sym, subst}
 use Rattle.code_text.specs.declared.fault.CodeError.{CodeError}
 use Rattle.code_text.specs.Text.{Reading}
-use Rattle.code_reader.specs.Given.{Steps}
+use Rattle.code_text.specs.Given.{Steps}
 use Rattle.code_reader.specs.Read.{reading}
-use Rattle.code_reader.proofs.LineWords.{clean_line, foreign_line}
+use Rattle.code_reader.proofs.NextLine.{clean_line, foreign_line}
 use Rattle.code_reader.proofs.reader.Reader.next_line.Goals as goal
 
 pub returns-in_default : goal.returns-in_default

@@ -1,0 +1,49 @@
+//! The refusals of a line, for all who read one.
+ghost use Rattle.std.specs.Prelude.{◌≡◌};
+ghost use Rattle.code_text.specs.Given.{IsStop, stop};
+ghost use Rattle.code_text.specs.declared.fault.CodeCause.TheVariants.{BadLine, UnknownMacro, BadArgument, UnknownName};
+
+use code_text::{CodeCause, CodeError, CodeFault};
+use std::alloc::Global;
+use syn_base::Items;
+
+/// The refusal at a line.
+fn refusal(line: u32, cause: CodeCause) -> CodeError
+    ensures { result ≡ stop line cause }
+{
+    CodeError::Refused(CodeFault { line, cause })
+}
+
+/// The line has none of the forms, or may not stand where it does.
+pub fn bad_line(line: u32) -> CodeError
+    ensures { result ≡ stop line BadLine }
+{
+    refusal(line, CodeCause::BadLine)
+}
+
+/// The arguments are wrong.
+pub fn bad_argument(line: u32) -> CodeError
+    ensures { result ≡ stop line BadArgument }
+{
+    refusal(line, CodeCause::BadArgument)
+}
+
+/// No macro has this name.
+pub fn unknown_macro(alloc: Global, line: u32, name: &[u8]) -> CodeError
+    ensures { IsStop result (stop line (UnknownMacro name.now)) }
+{
+    match Vec::from_slice(alloc, name) {
+        Ok(name) => refusal(line, CodeCause::UnknownMacro(Items::new(name))),
+        Err(_) => CodeError::OutOfMemory,
+    }
+}
+
+/// What the word names is not declared there.
+pub fn unknown_name(alloc: Global, line: u32, word: &[u8]) -> CodeError
+    ensures { IsStop result (stop line (UnknownName word.now)) }
+{
+    match Vec::from_slice(alloc, word) {
+        Ok(word) => refusal(line, CodeCause::UnknownName(Items::new(word))),
+        Err(_) => CodeError::OutOfMemory,
+    }
+}

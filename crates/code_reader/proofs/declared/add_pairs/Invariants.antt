@@ -1,6 +1,0 @@
-use Rattle.std.proofs.Common.{◌≡◌, ◌++◌, map, take}
-use Rattle.code_text.specs.Text.{numbered}
-use Rattle.code_reader.proofs.declared.add_pairs.Given as goal
-
-abbrev pub invariant-loop-number : goal.invariant-loop-number
-invariant-loop-number l = (l.pairs.items ≡ l.initial.pairs.items ++ map (numbered l.line) (take l.number-index l.numbers)) × (l.owners.items ≡ l.initial.owners.items ++ map (λ _. l.operator) (take l.number-index l.numbers))

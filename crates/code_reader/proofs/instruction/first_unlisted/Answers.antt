@@ -1,7 +1,0 @@
-use Rattle.std.proofs.Common.{sym}
-use Rattle.code_text.specs.Forms.{arguments_of}
-use Rattle.code_reader.proofs.Lists.{all_declared}
-use Rattle.code_reader.proofs.instruction.first_unlisted.Goals as goal
-
-pub returns-then-are_known : goal.returns-then-are_known
-returns-then-are_known c = all_declared c.args.here.now (arguments_of c.args.list.now) c.args.buffers.now c.requires (sym c.if-are_known.ensures)
