@@ -27,6 +27,8 @@ CHECKS = {
     "kit": "rt still has what tools/kit.py and tools/plant.py change in it",
     "edits": "each wrong body can still be written",
     "examples": "the worked rows run on the examples",
+    "played": "the commands in documents are worked rows, with the same answers",
+    "explain": "each message that the manual names has a row there",
 }
 
 

@@ -1,0 +1,120 @@
+#!/usr/bin/env python3
+"""Says what a message of the program means, from the tables of docs/MANUAL.md, which are its only source.
+
+    tools/explain.py A7                  by the code of a message
+    tools/explain.py limit words         by a limit
+    tools/explain.py cannot write        by the words of a message without a code
+    tools/explain.py LINE                a whole line, as it was printed
+    tools/explain.py commands            the commands, a line each, with examples
+
+`./syndex explain` and `./syndex help` call it."""
+import os
+import re
+import sys
+
+from repository import TOP, text_of
+
+MANUAL = f"{TOP}/docs/MANUAL.md"
+CODE = re.compile(r"\b[ACEHKS][0-9]{1,2}\b")
+# Messages without a code, and what stands for them in the table of statuses.
+PLAIN = ("usage", "cannot read", "cannot write", "out of memory")
+COMMANDS = (
+    ("check ALGORITHM [ARCHITECTURE]", "the canonical texts, or the first thing that is wrong",
+     "check examples/speed_controller/algorithm.txt"),
+    ("flat ALGORITHM", "the operations of an algorithm", "flat examples/fir_filter/algorithm.txt"),
+    ("sim ALGORITHM SENSORS", "what the actuators take, by the meaning of the algorithm",
+     "sim examples/echo/algorithm.txt examples/echo/sensors.csv"),
+    ("chart ALGORITHM ARCHITECTURE", "when and where each operation and transfer happens",
+     "chart examples/relay/algorithm.txt examples/relay/architecture.txt"),
+    ("code ALGORITHM ARCHITECTURE", "the executive of each processor, as macro-code",
+     "code examples/echo/algorithm.txt examples/echo/architecture.txt"),
+    ("run ALGORITHM ARCHITECTURE SENSORS [--workers W]", "the macro-code, and what the actuators took on threads",
+     "run examples/echo/algorithm.txt examples/echo/architecture.txt examples/echo/sensors.csv"),
+    ("exec ALGORITHM ARCHITECTURE CODE SENSORS [--workers W]", "the same by macro-code of your own, once it is checked",
+     "exec examples/echo/algorithm.txt examples/echo/architecture.txt examples/echo/code.txt examples/echo/sensors.csv"),
+    ("dates ALGORITHM ARCHITECTURE DURATIONS N", "when all happens in N reactions, under the actual durations",
+     "dates examples/radar/algorithm.txt examples/radar/architecture.txt examples/radar/architecture.txt 3"),
+    ("load N", "how many steps a generated algorithm of size N takes", "load 3"),
+)
+
+
+def tables(text):
+    """The tables of a document: the cells of the header, and those of each row."""
+    header, rows = None, []
+    for line in [*text.splitlines(), ""]:
+        if not line.startswith("|"):
+            if header:
+                yield header, rows
+            header, rows = None, []
+            continue
+        cells = [it.strip() for it in re.split(r"(?<!\\)\|", line.strip().strip("|"))]
+        if header is None:
+            header = cells
+        elif not set("".join(cells)) <= set("-: "):
+            rows.append(cells)
+
+
+def messages():
+    """Each message with what it says: its forms, when it comes, and the examples of it."""
+    for header, rows in tables(text_of(MANUAL)):
+        for cells in rows:
+            if header[0] == "message":
+                yield "message", cells[0], cells[1]
+            elif header[-1] == "the answer":
+                yield "example", cells[-1], cells[0]
+            elif header[0] == "status":
+                yield "status", cells[1], f"status {cells[0]}: {cells[2]}"
+
+
+def key_of(words):
+    """What the rows that are asked for have in common, as an expression, or None."""
+    line = " ".join(words).strip()
+    if found := CODE.search(line):
+        return rf"\b{found[0]}\b"
+    if line.startswith("limit ") and len(line.split()) > 1:
+        return rf"\blimit {re.escape(line.split()[1].rstrip(':'))}\b"
+    for plain in PLAIN:
+        if line.startswith(plain):
+            return re.escape(plain)
+    return None
+
+
+def explained(words):
+    """What is to be printed about a message: a line for each row of the manual that has it."""
+    key = key_of(words)
+    if key is None:
+        return []
+    found = [it for it in messages() if re.search(key, it[1])]
+    said = [f"{form}\n    {text}" for kind, form, text in found if kind == "message"]
+    said += [f"for example: {text}\n    {form}" for kind, form, text in found if kind == "example"]
+    return said or [f"{form}\n    {text}" for kind, form, text in found if kind == "status"]
+
+
+def commands():
+    width = max(len(it[0]) for it in COMMANDS)
+    for words, what, example in COMMANDS:
+        print(f"  {words:{width}}  {what}\n      ./syndex {example}")
+
+
+def faults():
+    """Messages of the status table's kinds that the manual does not explain, for tools/check.py."""
+    for code in sorted(set(CODE.findall(text_of(MANUAL)))):
+        if not explained([code]):
+            yield f"docs/MANUAL.md names {code}, and no table says when it comes"
+
+
+def main(words):
+    if words == ["commands"]:
+        commands()
+        return 0
+    said = explained(words)
+    if not said:
+        print("no message like this stands in docs/MANUAL.md; ask by its code (A7), by its limit (limit words) or by"
+              " the whole line", file=sys.stderr)
+        return 2
+    print(*(it.replace("`", "") for it in said), sep="\n")
+    return 0
+
+
+if __name__ == "__main__":
+    sys.exit(main(sys.argv[1:]))

@@ -1,0 +1,73 @@
+#!/usr/bin/env python3
+"""Holds the commands in documents against the worked rows: each line `$ ./syndex WORDS` in an indented part of a
+document has to be a call of `crates/worked_rows`, and the lines after it have to be what the transcript has.
+
+A line `(FILE)` there says that the output is that file, `(among others the lines of FILE)` that its lines are in
+the output in this order, and `! LINE` is the line on the error stream. What follows an empty line belongs to no
+command. `tools/check.py played` runs it; it runs no program, since the gate compares the transcript with the
+program."""
+import glob
+import os
+import re
+import sys
+
+from repository import TOP, text_of
+
+DOCUMENTS = ["README.md", *(f"docs/{it}.md" for it in ("MANUAL", "TUTORIAL", "CALLING")), "examples/*/README.md"]
+PROMPT = "    $ ./syndex "
+
+
+def whole(told):
+    """The lines of an output, where the transcript names the file that has them."""
+    name = told[0][1:-1] if len(told) == 1 and told[0].startswith("(") else ""
+    path = f"{TOP}/examples/{name}"
+    return text_of(path).splitlines() if name and os.path.isfile(path) else told
+
+
+def calls():
+    """What the transcript has of each call, by its words: its lines without the status, of every time it stands there."""
+    found, lines = {}, text_of(f"{TOP}/crates/worked_rows/stdout").splitlines()
+    for at, line in enumerate(lines):
+        if not line.startswith("$ syndex "):
+            continue
+        end = next(it for it in range(at + 1, len(lines)) if lines[it].startswith("= "))
+        found.setdefault(line[len("$ syndex "):], []).append(lines[at + 1:end])
+    return found
+
+
+def commands(text):
+    """The commands of a document, each with the number of its line and with the lines after it."""
+    lines = text.splitlines()
+    for at, line in enumerate(lines):
+        if line.startswith(PROMPT):
+            after = []
+            for more in lines[at + 1:]:
+                if not more.startswith("    ") or more.startswith("    $"):
+                    break
+                after.append(more[4:])
+            yield at + 1, line[len(PROMPT):], after
+
+
+def as_told(line):
+    """A line of a document as the transcript has it."""
+    line = re.sub(r"^\(among others the lines of (.*)\)$", r"(has \1)", line)
+    return line.replace("examples/", "") if line.startswith("(") else line
+
+
+def faults():
+    """Commands of documents that the gate does not play, or that are answered otherwise."""
+    known = calls()
+    for path in sorted(it for name in DOCUMENTS for it in glob.glob(f"{TOP}/{name}")):
+        for number, words, after in commands(text_of(path)):
+            where = f"{path[len(TOP) + 1:]}:{number}"
+            told = known.get(words.replace("examples/", ""))
+            if told is None:
+                yield f"{where}: no worked row calls syndex {words}"
+            elif after and not any([as_told(line) for line in after] in (it, whole(it)) for it in told):
+                yield f"{where}: the worked row of syndex {words} has another answer"
+
+
+if __name__ == "__main__":
+    wrong = list(faults())
+    print(*wrong, sep="\n", end="\n" if wrong else "")
+    sys.exit(1 if wrong else 0)
