@@ -20,8 +20,9 @@ use Rattle.inlining_laws.specs.Plain.{IsKindPlain, IsPlain, AllPlain}
 use Rattle.operation_paths.specs.Named.{IsLabelNamed, IsNamed, AllNamed}
 use Rattle.level_order.specs.Order.{nodes_of}
 use Rattle.level_order.proofs.Nodes.{nodes_view}
-use Rattle.hierarchy.specs.Linked.{AreFound, GuardsFound, AllLinked}
-use Rattle.hierarchy.proofs.Linking.{linked_main, linked_anywhere}
+use Rattle.operation_table.specs.Linked.{AreFound, GuardsFound, AllLinked}
+use Rattle.hierarchy.proofs.Linking.{linked_anywhere}
+use Rattle.operation_table.proofs.Linking.{linked_main}
 use Rattle.hierarchy.specs.Built.{IsRun, Built, Adds}
 
 abbrev pub inner_of : Declared → List Declared

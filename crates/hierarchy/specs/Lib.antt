@@ -3,4 +3,3 @@ pub mod Wires
 pub mod Texts
 pub mod Unchanged
 pub mod Built
-pub mod Linked

@@ -15,7 +15,7 @@ ghost use Rattle.flat_laws.specs.Numbering.{HasBodiesInOrder};
 ghost use Rattle.flat_laws.specs.Stands.{Stands};
 ghost use Rattle.hierarchy.specs.Wires.{led};
 ghost use Rattle.hierarchy.specs.Texts.{Prefixes};
-ghost use Rattle.hierarchy.specs.Linked.{AllLinked};
+ghost use Rattle.operation_table.specs.Linked.{AllLinked};
 ghost use Rattle.hierarchy.specs.Built.{Adds, graph_of};
 
 use crate::level::lead_level;

@@ -8,7 +8,7 @@
 //!   numbered in order.
 //! - Which operations these are, without any pass: `operation_table` `Table.table`, unit by unit over the
 //!   tree. The law `operation_table::flat_graph_has_the_operations` says that the flat graph has exactly
-//!   these, each with the guards of the cases around it.
+//!   these, each with the sources of its inputs and the guards of the cases around it.
 //! - The theorem: `KeepsGraph`, the same values at the actuators and the same cells of the delays
 //!   in each reaction; from `KeepsMeaning` for the first two passes (`unroll_keeps`, `guard_keeps`),
 //!   `KeepsFlat` for the third (`inline_keeps`) and `stands_keeps` for the numbering; together

@@ -12,7 +12,7 @@ ghost use Rattle.flat_laws.specs.Names.{stage_text as text_of_stage};
 ghost use Rattle.flat_laws.specs.Stands.{task_of};
 ghost use Rattle.operation_paths.specs.Texts.{path_text};
 ghost use Rattle.hierarchy.specs.Wires.{led};
-ghost use Rattle.hierarchy.specs.Linked.{AllLinked, AreFound, GuardsFound, IsFound};
+ghost use Rattle.operation_table.specs.Linked.{AllLinked, AreFound, GuardsFound, IsFound};
 ghost use Rattle.flat_laws.specs.Numbering.{IsNumbered, bodies_in};
 ghost use Rattle.hierarchy.specs.Built.{Adds, IsOperation, IsRun, body_added, graph_of, stage_pair};
 

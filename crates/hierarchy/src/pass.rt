@@ -26,8 +26,9 @@ use syn_base::OutOfMemory;
 /// The flat graph of an algorithm: its repetitions are unrolled, its cases are put under guards, and
 /// its graphs are taken apart. It keeps the meaning: the actuators take the same values in each
 /// reaction, and each delay keeps the same. Its operations are those of the tree and no others, unit by
-/// unit in order (`HasOperations`): each operation and merge has a guard for each case around it, outer
-/// first, and no other guard. Its sensors and actuators have the lengths of the tree's.
+/// unit in order (`HasOperations`): each operation and merge reads what the tree says, and has a guard for
+/// each case around it, outer first, by the value that conditions the switch, and no other guard. Its sensors
+/// and actuators have the lengths of the tree's.
 pub fn flatten(alloc: Global, tree: &Tree) -> Result<Flat, OutOfMemory>
     requires names { HasNames tree.now }
     requires bounds { HasBounds tree.now }

@@ -2,6 +2,8 @@
 use Rattle.std.proofs.Common.{◌≡◌, ℕ, suc, ◌+◌, List, [], ◌∷◌, ◌++◌, length, map, get_or, length-append, refl, sym, ap, ap₂, ◌∙◌, add-zero}
 use Rattle.std.proofs.lemmas.List.{append_assoc}
 use Rattle.body_lang.specs.Expr.{Expr}
+use Rattle.level_meaning.specs.declared.source.Source.{Source}
+use Rattle.level_meaning.specs.declared.source.Source.TheVariants.{Own, Of}
 use Rattle.level_meaning.specs.declared.source.Guard.{Guard}
 use Rattle.algo_tree.specs.Tree as tree
 use Rattle.algo_tree.specs.Valid.{IsTree}
@@ -13,19 +15,36 @@ use Rattle.conditioning_laws.specs.Guarded.{guard}
 use Rattle.conditioning_laws.proofs.Trees.{tree-guard}
 use Rattle.inlining_laws.specs.Flat.{Operation, Task, runs, gets, sets}
 use Rattle.inlining_laws.specs.Inlined.{operations}
-use Rattle.flat_laws.specs.FlatOf.{flat_guard, flat_kind, body_of, vertex_of, vertices_from, bodies_of, flat_of}
+use Rattle.flat_laws.specs.FlatOf.{flat_source, flat_guard, flat_kind, body_of, vertex_of, vertices_from, bodies_of, flat_of}
 use Rattle.flat_laws.specs.Names.{name_of}
 use Rattle.flat_laws.specs.Stands.{task_of}
 use Rattle.flat_laws.proofs.Flattened.{flattened-plain}
-use Rattle.operation_table.specs.Table.{condition_of}
-use Rattle.operation_table.specs.Listed.{guard_condition, vertex_row, HasOperations}
+use Rattle.operation_table.specs.Linked.{IsFound, AreFound, GuardsFound, AllLinked}
+use Rattle.operation_table.specs.Origins.{Origin}
+use Rattle.operation_table.specs.Table.{Condition}
+use Rattle.operation_table.specs.Listed.{names_of, source_origin, guard_condition, vertex_row, HasOperations}
 use Rattle.operation_table.proofs.Unrolling.{table-unroll}
 use Rattle.operation_table.proofs.Guarding.{conditions, table-guard}
-use Rattle.operation_table.proofs.Inlining.{operation_row, IsFlatKind, IsFlatTask, AllFlat, table-inlined, all-flat}
+use Rattle.operation_table.proofs.Linking.{linked_main}
+use Rattle.operation_table.proofs.Inlining.{origin_of, operation_row, IsFlatKind, IsFlatTask, AllFlat, table-inlined, all-flat}
 
-flat-conditions : (gs : List Guard) → map guard_condition (map flat_guard gs) ≡ conditions gs
-flat-conditions [] = refl
-flat-conditions (g ∷ gs) = ap (λ cs. condition_of g ∷ cs) (flat-conditions gs)
+-- the names of the vertices are those of the operations
+names-are : (v b : ℕ) (ops : List Operation) → names_of (vertices_from v b ops) ≡ map name_of ops
+names-are v b [] = refl
+names-are v b (op ∷ ops) = ap (λ (xs : List (List ℕ)). name_of op ∷ xs) (names-are (suc v) (b + length (body_of op.task)) ops)
+
+flat-origin : (names : List (List ℕ)) (s : Source) → IsFound s → source_origin names (flat_source s) ≡ origin_of names s
+flat-origin names (Own k) h = absurd h
+flat-origin names (Of r q) h = refl
+
+flat-ins : (names : List (List ℕ)) (ss : List Source) → AreFound ss → map (source_origin names) (map flat_source ss) ≡ map (origin_of names) ss
+flat-ins names [] h = refl
+flat-ins names (s ∷ ss) h = ap₂ (λ x xs. x ∷ xs) (flat-origin names s h.0) (flat-ins names ss h.1)
+
+flat-conditions : (names : List (List ℕ)) (gs : List Guard) → GuardsFound gs → map (guard_condition names) (map flat_guard gs) ≡ conditions (origin_of names) gs
+flat-conditions names [] h = refl
+flat-conditions names (g ∷ gs) h =
+    ap₂ (λ (o : Origin) (cs : List Condition). record { source = o; values = g.values; case = g.case } ∷ cs) (flat-origin names g.source h.0) (flat-conditions names gs h.1)
 
 -- the body that an operation brings stands where it is looked for
 the_body : (before : List (List Expr)) (es : List Expr) (more : List (List Expr)) → get_or (before ++ (es ∷ more)) (length before) [] ≡ es
@@ -49,25 +68,30 @@ same-task before more (runs k) h = same-kind before more k h
 same-task before more (gets v) h = refl
 same-task before more sets h = refl
 
-same-row : (before more : List (List Expr)) (v : ℕ) (op : Operation) → IsFlatTask op.task → vertex_row (before ++ (body_of op.task ++ more)) (vertex_of v (length before) op) ≡ operation_row op
-same-row before more v op h =
-    ap₂ (λ cs t. record { name = name_of op; definition = op.definition; conditions = cs; outs = op.outs; task = t }) (flat-conditions op.guards) (same-task before more op.task h)
+module _ (names : List (List ℕ)) where
+  same-row : (before more : List (List Expr)) (v : ℕ) (op : Operation) → IsFlatTask op.task → AreFound op.ins × GuardsFound op.guards → vertex_row names (before ++ (body_of op.task ++ more)) (vertex_of v (length before) op) ≡ operation_row names op
+  same-row before more v op h found =
+      ap (λ t. record { name = name_of op; definition = op.definition; ins = map (source_origin names) (map flat_source op.ins); conditions = map (guard_condition names) (map flat_guard op.guards); outs = op.outs; task = t }) (same-task before more op.task h)
+      ∙ ap₂ (λ os cs. record { name = name_of op; definition = op.definition; ins = os; conditions = cs; outs = op.outs; task = op.task }) (flat-ins names op.ins found.0) (flat-conditions names op.guards found.1)
 
-same-rows : (before : List (List Expr)) (v : ℕ) (ops : List Operation) → AllFlat ops → map (vertex_row (before ++ bodies_of ops)) (vertices_from v (length before) ops) ≡ map operation_row ops
-same-rows before v [] h = refl
-same-rows before v (op ∷ ops) h =
-    let own = body_of op.task in
-    let whole : before ++ (own ++ bodies_of ops) ≡ (before ++ own) ++ bodies_of ops = sym (append_assoc before own (bodies_of ops)) in
-    ap₂ (λ r rs. r ∷ rs) (same-row before (bodies_of ops) v op h.0) (
-    ap₂ (λ bs b. map (vertex_row bs) (vertices_from (suc v) b ops)) whole (sym (length-append before own)) ∙ same-rows (before ++ own) (suc v) ops h.1
-    )
+  same-rows : (before : List (List Expr)) (v : ℕ) (ops : List Operation) → AllFlat ops → AllLinked ops → map (vertex_row names (before ++ bodies_of ops)) (vertices_from v (length before) ops) ≡ map (operation_row names) ops
+  same-rows before v [] h found = refl
+  same-rows before v (op ∷ ops) h found =
+      let own = body_of op.task in
+      let whole : before ++ (own ++ bodies_of ops) ≡ (before ++ own) ++ bodies_of ops = sym (append_assoc before own (bodies_of ops)) in
+      ap₂ (λ r rs. r ∷ rs) (same-row before (bodies_of ops) v op h.0 found.0) (
+      ap₂ (λ bs b. map (vertex_row names bs) (vertices_from (suc v) b ops)) whole (sym (length-append before own)) ∙ same-rows (before ++ own) (suc v) ops h.1 found.1
+      )
 
 pub has-operations : (main : tree.Vertex) → IsTree main → HasOperations main (flat_of main)
 has-operations main h =
     let one = unroll main in
     let made = tree-unroll main h in
     let plain = flattened-plain main h in
-    same-rows [] 0 (operations (guard one)) (all-flat (guard one) plain)
-    ∙ table-inlined (guard one) (tree-guard one made (no-unroll main)) plain
+    let last = tree-guard one made (no-unroll main) in
+    let ops = operations (guard one) in
+    ap (λ (names : List (List ℕ)). map (vertex_row names (bodies_of ops)) (vertices_from 0 0 ops)) (names-are 0 0 ops)
+    ∙ same-rows (map name_of ops) [] 0 ops (all-flat (guard one) last plain) (linked_main (guard one) last plain)
+    ∙ table-inlined (guard one) last plain
     ∙ table-guard one made (no-unroll main)
     ∙ table-unroll main h

@@ -13,6 +13,7 @@ use Rattle.algo_tree.specs.Tree.{Kind, sensor, actuator, delay, function, explod
 use Rattle.factorisation_laws.proofs.Worked.{of, alone}
 use Rattle.inlining_laws.specs.Flat.{runs, gets, sets}
 use Rattle.flat_laws.specs.FlatOf.{flat_of}
+use Rattle.operation_table.specs.Origins.{Origin, output_of, stage_origin}
 use Rattle.operation_table.specs.Table.{Condition, Row, stage_row, row, table}
 use Rattle.operation_table.specs.Listed.{flat_rows}
 
@@ -24,6 +25,10 @@ named x = Named x
 
 abbrev does : Kind
 does = function (index ∷ [])
+
+-- an output of the operation of this path
+abbrev output : Path → ℕ → Origin
+output path q = output_of path does q
 
 -- the lines are `fork q w`, `fork p v` and `join z z`
 abbrev added : Vertex
@@ -53,49 +58,79 @@ held = of (Numbered 0) (codes "K") [] (1 ∷ []) (switch (pos 5 ∷ []) (codes "
     (only (alone (Numbered 1) (codes "Same") (Own 1 ∷ []) (1 ∷ []) does)))
 
 abbrev nested : Vertex
-nested = of (named (codes "o")) (codes "Out") (Of 1 0 ∷ Of 2 0 ∷ []) (4 ∷ []) (repeat 2 (Diffuse 0 ∷ Fork (codes "x") 1 2 ∷ []) (Join (codes "y") 0 ∷ []))
+nested = of (named (codes "o")) (codes "Out") (Of 3 0 ∷ Of 2 0 ∷ []) (4 ∷ []) (repeat 2 (Diffuse 0 ∷ Fork (codes "x") 1 2 ∷ []) (Join (codes "y") 0 ∷ []))
     (only (of (Numbered 0) (codes "Mid") [] (2 ∷ []) (repeat 1 (Diffuse 0 ∷ Fork (codes "x") 1 2 ∷ []) (Join (codes "y") 0 ∷ [])) (only held)))
 
 abbrev main : Vertex
 main = of (named (codes "main")) (codes "main") [] [] (graph [])
     (and_vertex (alone (named (codes "s")) (codes "Sense") [] (1 ∷ []) (sensor 0))
-    (and_vertex switched (and_vertex nested (only (alone (named (codes "a")) (codes "Act") (Of 1 0 ∷ []) [] (actuator 0))))))
+    (and_vertex (alone (named (codes "t")) (codes "Sense") [] (6 ∷ []) (sensor 1))
+    (and_vertex (alone (named (codes "v")) (codes "Sense") [] (2 ∷ []) (sensor 2))
+    (and_vertex switched (and_vertex nested (only (alone (named (codes "a")) (codes "Act") (Of 4 0 ∷ []) [] (actuator 0))))))))
 
-abbrev when : List ℤ → ℕ → Condition
-when values c = record { values = values; case = c }
+abbrev when : Origin → List ℤ → ℕ → Condition
+when on values c = record { source = on; values = values; case = c }
 
 abbrev w : Path
 w = Named (codes "w") ∷ []
+
+abbrev from : List ℕ → Origin
+from x = output (Named x ∷ []) 0
+
+-- the conditions of the cases of w
+abbrev in_case : ℕ → Condition
+in_case = when (from (codes "s")) outer
+
+abbrev merged : Origin
+merged = output (w ++ Port (codes "y") ∷ []) 0
 
 -- copy i of the outer repetition
 abbrev copied : ℕ → List Row
 copied i =
     let o : Path = Named (codes "o") ∷ Numbered i ∷ [] in
-    row (o ++ Port (codes "x") ∷ []) (codes "Mid") [] (2 ∷ []) (runs explode)
-    ∷ row (o ++ Numbered 0 ∷ Numbered 0 ∷ Named (codes "d") ∷ []) (codes "Zero") (when (pos 5 ∷ []) 0 ∷ []) (1 ∷ []) (gets (pos 0 ∷ []))
-    ∷ row (o ++ Numbered 0 ∷ Numbered 0 ∷ Named (codes "d") ∷ []) (codes "Zero") (when (pos 5 ∷ []) 0 ∷ []) [] sets
-    ∷ row (o ++ Numbered 0 ∷ Numbered 1 ∷ []) (codes "Same") (when (pos 5 ∷ []) 1 ∷ []) (1 ∷ []) (runs does)
-    ∷ row (o ++ Numbered 0 ∷ Port (codes "v") ∷ []) (codes "K") [] (1 ∷ []) (runs (merge (pos 5 ∷ [])))
-    ∷ row (o ++ Port (codes "y") ∷ []) (codes "Mid") [] (2 ∷ []) (runs implode)
+    let part : Origin = output (o ++ Port (codes "x") ∷ []) 0 in
+    let hold : Path = o ++ Numbered 0 ∷ Numbered 0 ∷ Named (codes "d") ∷ [] in
+    let same : Path = o ++ Numbered 0 ∷ Numbered 1 ∷ [] in
+    row (o ++ Port (codes "x") ∷ []) (codes "Mid") (output (Named (codes "o") ∷ Port (codes "x") ∷ []) i ∷ []) [] (2 ∷ []) (runs explode)
+    ∷ row hold (codes "Zero") [] (when merged (pos 5 ∷ []) 0 ∷ []) (1 ∷ []) (gets (pos 0 ∷ []))
+    ∷ row hold (codes "Zero") (part ∷ []) (when merged (pos 5 ∷ []) 0 ∷ []) [] sets
+    ∷ row same (codes "Same") (part ∷ []) (when merged (pos 5 ∷ []) 1 ∷ []) (1 ∷ []) (runs does)
+    ∷ row (o ++ Numbered 0 ∷ Port (codes "v") ∷ []) (codes "K") (merged ∷ stage_origin hold 0 0 ∷ output same 0 ∷ []) [] (1 ∷ []) (runs (merge (pos 5 ∷ [])))
+    ∷ row (o ++ Port (codes "y") ∷ []) (codes "Mid") (output (o ++ Numbered 0 ∷ Port (codes "v") ∷ []) 0 ∷ []) [] (2 ∷ []) (runs implode)
     ∷ []
 
+-- the port z of the repetition in w
+abbrev of_w : List ℕ → Path
+of_w x = w ++ Numbered 0 ∷ Port x ∷ []
+
+abbrev add : ℕ → Path
+add i = w ++ Numbered 0 ∷ Numbered i ∷ []
+
+abbrev acc : List ℕ → Path
+acc x = w ++ Numbered 1 ∷ Named x ∷ []
+
 rows : table main ≡
-    row (Named (codes "s") ∷ []) (codes "Sense") [] (1 ∷ []) (runs (sensor 0))
-    ∷ row (w ++ Numbered 0 ∷ Port (codes "q") ∷ []) (codes "R") (when outer 0 ∷ []) (1 ∷ 1 ∷ []) (runs explode)
-    ∷ row (w ++ Numbered 0 ∷ Port (codes "p") ∷ []) (codes "R") (when outer 0 ∷ []) (3 ∷ 3 ∷ []) (runs explode)
-    ∷ row (w ++ Numbered 0 ∷ Numbered 0 ∷ []) (codes "Add") (when outer 0 ∷ []) (1 ∷ []) (runs does)
-    ∷ row (w ++ Numbered 0 ∷ Numbered 1 ∷ []) (codes "Add") (when outer 0 ∷ []) (1 ∷ []) (runs does)
-    ∷ row (w ++ Numbered 0 ∷ Port (codes "z") ∷ []) (codes "R") (when outer 0 ∷ []) (2 ∷ []) (runs implode)
-    ∷ row (w ++ Numbered 1 ∷ Named (codes "d") ∷ []) (codes "Mem") (when outer 1 ∷ []) (2 ∷ []) (gets (pos 8 ∷ pos 9 ∷ []))
-    ∷ row (w ++ Numbered 1 ∷ Named (codes "d") ∷ []) (codes "Mem") (when outer 1 ∷ []) [] sets
-    ∷ row (w ++ Numbered 1 ∷ Named (codes "f") ∷ []) (codes "Add") (when outer 1 ∷ []) (2 ∷ []) (runs does)
-    ∷ row (w ++ Numbered 2 ∷ Numbered 0 ∷ []) (codes "Same") (when outer 2 ∷ when (pos 9 ∷ []) 0 ∷ []) (2 ∷ []) (runs does)
-    ∷ row (w ++ Numbered 2 ∷ Numbered 1 ∷ []) (codes "Neg") (when outer 2 ∷ when (pos 9 ∷ []) 1 ∷ []) (2 ∷ []) (runs does)
-    ∷ row (w ++ Numbered 2 ∷ Port (codes "u") ∷ []) (codes "In") (when outer 2 ∷ []) (2 ∷ []) (runs (merge (pos 9 ∷ [])))
-    ∷ row (w ++ Port (codes "y") ∷ []) (codes "Sw") [] (2 ∷ []) (runs (merge outer))
-    ∷ row (Named (codes "o") ∷ Port (codes "x") ∷ []) (codes "Out") [] (2 ∷ 2 ∷ []) (runs explode)
-    ∷ (copied 0 ++ (copied 1 ++ (row (Named (codes "o") ∷ Port (codes "y") ∷ []) (codes "Out") [] (4 ∷ []) (runs implode)
-    ∷ row (Named (codes "a") ∷ []) (codes "Act") [] [] (runs (actuator 0)) ∷ [])))
+    row (Named (codes "s") ∷ []) (codes "Sense") [] [] (1 ∷ []) (runs (sensor 0))
+    ∷ row (Named (codes "t") ∷ []) (codes "Sense") [] [] (6 ∷ []) (runs (sensor 1))
+    ∷ row (Named (codes "v") ∷ []) (codes "Sense") [] [] (2 ∷ []) (runs (sensor 2))
+    ∷ row (of_w (codes "q")) (codes "R") (from (codes "v") ∷ []) (in_case 0 ∷ []) (1 ∷ 1 ∷ []) (runs explode)
+    ∷ row (of_w (codes "p")) (codes "R") (from (codes "t") ∷ []) (in_case 0 ∷ []) (3 ∷ 3 ∷ []) (runs explode)
+    ∷ row (add 0) (codes "Add") (output (of_w (codes "p")) 0 ∷ output (of_w (codes "q")) 0 ∷ []) (in_case 0 ∷ []) (1 ∷ []) (runs does)
+    ∷ row (add 1) (codes "Add") (output (of_w (codes "p")) 1 ∷ output (of_w (codes "q")) 1 ∷ []) (in_case 0 ∷ []) (1 ∷ []) (runs does)
+    ∷ row (of_w (codes "z")) (codes "R") (output (add 0) 0 ∷ output (add 1) 0 ∷ []) (in_case 0 ∷ []) (2 ∷ []) (runs implode)
+    ∷ row (acc (codes "d")) (codes "Mem") [] (in_case 1 ∷ []) (2 ∷ []) (gets (pos 8 ∷ pos 9 ∷ []))
+    ∷ row (acc (codes "d")) (codes "Mem") (output (acc (codes "f")) 0 ∷ []) (in_case 1 ∷ []) [] sets
+    ∷ row (acc (codes "f")) (codes "Add") (stage_origin (acc (codes "d")) 0 0 ∷ from (codes "t") ∷ []) (in_case 1 ∷ []) (2 ∷ []) (runs does)
+    ∷ row (w ++ Numbered 2 ∷ Numbered 0 ∷ []) (codes "Same") (from (codes "v") ∷ []) (in_case 2 ∷ when (from (codes "t")) (pos 9 ∷ []) 0 ∷ []) (2 ∷ []) (runs does)
+    ∷ row (w ++ Numbered 2 ∷ Numbered 1 ∷ []) (codes "Neg") (from (codes "v") ∷ []) (in_case 2 ∷ when (from (codes "t")) (pos 9 ∷ []) 1 ∷ []) (2 ∷ []) (runs does)
+    ∷ row (w ++ Numbered 2 ∷ Port (codes "u") ∷ []) (codes "In")
+    (from (codes "t") ∷ output (w ++ Numbered 2 ∷ Numbered 0 ∷ []) 0 ∷ output (w ++ Numbered 2 ∷ Numbered 1 ∷ []) 0 ∷ []) (in_case 2 ∷ []) (2 ∷ []) (runs (merge (pos 9 ∷ [])))
+    ∷ row (w ++ Port (codes "y") ∷ []) (codes "Sw")
+    (from (codes "s") ∷ output (of_w (codes "z")) 0 ∷ stage_origin (acc (codes "d")) 0 0 ∷ output (w ++ Numbered 2 ∷ Port (codes "u") ∷ []) 0 ∷ []) [] (2 ∷ []) (runs (merge outer))
+    ∷ row (Named (codes "o") ∷ Port (codes "x") ∷ []) (codes "Out") (from (codes "v") ∷ []) [] (2 ∷ 2 ∷ []) (runs explode)
+    ∷ (copied 0 ++ (copied 1 ++ (row (Named (codes "o") ∷ Port (codes "y") ∷ []) (codes "Out")
+    (output (Named (codes "o") ∷ Numbered 0 ∷ Port (codes "y") ∷ []) 0 ∷ output (Named (codes "o") ∷ Numbered 1 ∷ Port (codes "y") ∷ []) 0 ∷ []) [] (4 ∷ []) (runs implode)
+    ∷ row (Named (codes "a") ∷ []) (codes "Act") (output (Named (codes "o") ∷ Port (codes "y") ∷ []) 0 ∷ []) [] [] (runs (actuator 0)) ∷ [])))
 rows = refl
 
 -- what the three passes make of it has these operations
@@ -128,19 +163,22 @@ deep_main = of (named (codes "main")) (codes "main") [] [] (graph [])
     (and_vertex (deep (named (codes "d")) (Of 0 0 ∷ []))
     (only (of (named (codes "r")) (codes "R") (Of 0 0 ∷ []) (2 ∷ []) (repeat 2 (Diffuse 0 ∷ []) (Join (codes "y") 0 ∷ [])) (only (deep (Numbered 0) []))))))
 
--- the halves of the stages of a delay of this path
+-- the halves of the stages of a delay of this path: the first takes what the second keeps, and the second takes s
 abbrev halves : Path → List Row
 halves p =
-    stage_row p 0 (codes "D") [] (1 ∷ []) (gets (pos 1 ∷ []))
-    ∷ stage_row p 0 (codes "D") [] [] sets
-    ∷ stage_row p 1 (codes "D") [] (1 ∷ []) (gets (pos 2 ∷ []))
-    ∷ stage_row p 1 (codes "D") [] [] sets
+    stage_row p 0 (codes "D") [] [] (1 ∷ []) (gets (pos 1 ∷ []))
+    ∷ stage_row p 0 (codes "D") (stage_origin p 1 0 ∷ []) [] [] sets
+    ∷ stage_row p 1 (codes "D") [] [] (1 ∷ []) (gets (pos 2 ∷ []))
+    ∷ stage_row p 1 (codes "D") (from (codes "s") ∷ []) [] [] sets
     ∷ []
 
+abbrev copy : ℕ → Path
+copy i = Named (codes "r") ∷ Numbered i ∷ []
+
 deep_rows : table deep_main ≡
-    row (Named (codes "s") ∷ []) (codes "S") [] (1 ∷ []) (runs (sensor 0))
-    ∷ (halves (Named (codes "d") ∷ []) ++ (halves (Named (codes "r") ∷ Numbered 0 ∷ []) ++ (halves (Named (codes "r") ∷ Numbered 1 ∷ [])
-    ++ (row (Named (codes "r") ∷ Port (codes "y") ∷ []) (codes "R") [] (2 ∷ []) (runs implode) ∷ []))))
+    row (Named (codes "s") ∷ []) (codes "S") [] [] (1 ∷ []) (runs (sensor 0))
+    ∷ (halves (Named (codes "d") ∷ []) ++ (halves (copy 0) ++ (halves (copy 1)
+    ++ (row (Named (codes "r") ∷ Port (codes "y") ∷ []) (codes "R") (stage_origin (copy 0) 0 0 ∷ stage_origin (copy 1) 0 0 ∷ []) [] (2 ∷ []) (runs implode) ∷ []))))
 deep_rows = refl
 
 deep_flattened : flat_rows (flat_of deep_main) ≡ table deep_main

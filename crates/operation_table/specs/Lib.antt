@@ -1,2 +1,4 @@
+pub mod Origins
 pub mod Table
 pub mod Listed
+pub mod Linked

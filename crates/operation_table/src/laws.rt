@@ -8,12 +8,15 @@ ghost use Rattle.pass_laws.specs.NoRepeat.{HasNoRepeat};
 ghost use Rattle.factorisation_laws.specs.Unrolled.{unroll};
 ghost use Rattle.flat_laws.specs.FlatOf.{flat_of};
 ghost use Rattle.operation_table.specs.Listed.{HasOperations};
+ghost use Rattle.operation_table.specs.Origins.{FuelIsEnough};
 ghost use Rattle.operation_table.specs.Table.{table};
 
-/// The flat graph of an algorithm has the operations of its tree and no others, in order. Unrolling its
-/// repetitions and putting its cases under guards keep them.
+/// The flat graph of an algorithm has the operations of its tree and no others, in order; each reads what the
+/// tree says, and has the guards that it says. Unrolling its repetitions and putting its cases under guards keep
+/// them. The fuel with which sources are followed is enough: more changes nothing.
 pub fn flat_graph_has_the_operations()
     ensures operations { (main : Vertex) → IsTree main → HasOperations main (flat_of main) }
     ensures unrolled { (main : Vertex) → IsTree main → table (unroll main) ≡ table main }
     ensures guarded { (main : Vertex) → IsTree main → HasNoRepeat main → table (guard main) ≡ table main }
+    ensures enough { FuelIsEnough }
 {}

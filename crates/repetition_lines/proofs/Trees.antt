@@ -20,12 +20,13 @@ use Rattle.algo_defs.specs.declared.definition.Frontier.TheVariants.{Fork, Diffu
 use Rattle.algo_defs.specs.declared.definition.FrontierLine.{FrontierLine}
 use Rattle.syn_base.specs.Bytes.{Bytes}
 use Rattle.algo_rules.specs.Links.{definition}
-use Rattle.algo_rules.specs.Ports.{ports_of, len_of}
+use Rattle.algo_rules.specs.Ports.{ports_of, len_of, number_of}
 use Rattle.algo_rules.specs.declared.ports.Ports.{Ports}
 use Rattle.algo_rules.specs.Resolved.{Making, vertex_within, vertex_by, references_from, cases_from, owns, kind_by, inner_by, is_sensor, is_actuator, feed_of}
 use Rattle.inlining_laws.specs.Flat.{runs}
 use Rattle.factorisation_laws.specs.Lines.{outer_of}
-use Rattle.operation_table.specs.Table.{Condition, Row, row, port, explode_rows}
+use Rattle.operation_table.specs.Origins.{Origin, origin_at, port}
+use Rattle.operation_table.specs.Table.{Condition, Row, row, explode_rows}
 use Rattle.tree_laws.proofs.Standing.{named}
 use Rattle.tree_laws.proofs.Refused.{has_none}
 use Rattle.tree_laws.proofs.Accepted.{Accepted, accepted, own_ports}
@@ -36,13 +37,13 @@ use Rattle.repetition_lines.proofs.OuterNumbers.{numbers, outer_numbers}
 use Rattle.repetition_lines.proofs.Sorted.{lines_sorted}
 
 -- the explodes of the lines of a text
-explodes_are : (p : Path) (cs : List Condition) (d : Bytes) (copies : ℕ) (inner own : Ports) (ls : List FrontierLine) → explode_rows p cs d copies (text_feeds inner own ls) ≡ text_explodes p cs d copies inner ls
-explodes_are p cs d copies inner own [] = refl
-explodes_are p cs d copies inner own (l ∷ ls) = by l.frontier (explodes_are p cs d copies inner own ls)
+explodes_are : (p : Path) (cs : List Condition) (d : Bytes) (ins : List Origin) (copies : ℕ) (inner own : Ports) (ls : List FrontierLine) → explode_rows p cs d ins copies (text_feeds inner own ls) ≡ text_explodes p cs d ins copies inner own ls
+explodes_are p cs d ins copies inner own [] = refl
+explodes_are p cs d ins copies inner own (l ∷ ls) = by l.frontier (explodes_are p cs d ins copies inner own ls)
   where
-    by : (f : Frontier) → explode_rows p cs d copies (text_feeds inner own ls) ≡ text_explodes p cs d copies inner ls
-        → explode_rows p cs d copies (feeds_by inner own f ++ text_feeds inner own ls) ≡ explodes_by p cs d copies inner f ++ text_explodes p cs d copies inner ls
-    by (Fork q x) e = ap (λ (rs : List Row). row (port p q) d cs (replicate copies (len_of inner.ins x)) (runs tree.explode) ∷ rs) e
+    by : (f : Frontier) → explode_rows p cs d ins copies (text_feeds inner own ls) ≡ text_explodes p cs d ins copies inner own ls
+        → explode_rows p cs d ins copies (feeds_by inner own f ++ text_feeds inner own ls) ≡ explodes_by p cs d ins copies inner own f ++ text_explodes p cs d ins copies inner own ls
+    by (Fork q x) e = ap (λ (rs : List Row). row (port p q) d (origin_at ins (number_of own.ins q) ∷ []) cs (replicate copies (len_of inner.ins x)) (runs tree.explode) ∷ rs) e
     by (Diffuse q x) e = e
     by (Iterate q x y z) e = e
     by (Join y z) e = e
@@ -87,7 +88,7 @@ module _ (ds : List Def) (make : Making) where
         defined = e;
         in_order = sorted;
         numbered = subst (λ (fs : List Feed). map outer_of fs ≡ range_with_len 0 (length fs)) (sym sorted) (outer_numbers body own 0 lines numbered);
-        explodes = λ p cs. ap (explode_rows p cs w copies) sorted ∙ explodes_are p cs w copies body own lines;
+        explodes = λ p cs from. ap (explode_rows p cs w from copies) sorted ∙ explodes_are p cs w from copies body own lines;
       }
 
   kind_of_text : Accepted ds → (w : Bytes) (s a line : ℕ) (b : Body) → definition ds w ≡ Some (record { name = w; line = line; body = b }) → IsKindOfText ds w (kind_by ds make (ports_of ds w) s a b)

@@ -14,6 +14,7 @@ use Rattle.algo_rules.specs.declared.ports.Ports.{Ports}
 use Rattle.algo_rules.specs.Resolved.{feed_of}
 use Rattle.factorisation_laws.specs.Lines.{in_line_order}
 use Rattle.inlining_laws.specs.Flat.{runs}
+use Rattle.operation_table.specs.Origins.{Origin, output_of}
 use Rattle.operation_table.specs.Table.{row}
 use Rattle.repetition_lines.specs.TextLines.{text_feeds, text_explodes}
 
@@ -45,5 +46,10 @@ by_inputs = refl
 sorted : in_line_order (map (λ (p : Port). feed_of body own lines p.name) body.ins) ≡ in_text
 sorted = refl
 
-explodes : text_explodes (part.Named (codes "r") ∷ []) [] (codes "R") 4 body lines ≡ row (part.Named (codes "r") ∷ part.Port (codes "q") ∷ []) (codes "R") [] (5 ∷ 5 ∷ 5 ∷ 5 ∷ []) (runs explode) ∷ []
+-- the inputs of the repetition come from the operations i, j and k: the line of q is the first, so its explode takes i
+abbrev from : Bytes → Origin
+from x = output_of (part.Named x ∷ []) explode 0
+
+explodes : text_explodes (part.Named (codes "r") ∷ []) [] (codes "R") (from (codes "i") ∷ from (codes "j") ∷ from (codes "k") ∷ []) 4 body own lines
+    ≡ row (part.Named (codes "r") ∷ part.Port (codes "q") ∷ []) (codes "R") (from (codes "i") ∷ []) [] (5 ∷ 5 ∷ 5 ∷ 5 ∷ []) (runs explode) ∷ []
 explodes = refl

@@ -18,7 +18,8 @@ use Rattle.algo_rules.specs.Resolved.{refusal, tree_of}
 use Rattle.algo_rules.specs.WellRead.{AreWellRead}
 use Rattle.factorisation_laws.specs.Lines.{outer_of, in_line_order}
 use Rattle.inlining_laws.specs.Flat.{runs}
-use Rattle.operation_table.specs.Table.{Condition, Row, row, port, explode_rows}
+use Rattle.operation_table.specs.Origins.{Origin, origin_at, port}
+use Rattle.operation_table.specs.Table.{Condition, Row, row, explode_rows}
 
 -- What a line feeds, where the body has the ports `inner` and the repetition the ports `own`. A join line feeds
 -- nothing.
@@ -32,17 +33,20 @@ feeds_by inner own (Join y q) = []
 abbrev pub text_feeds : Ports → Ports → List FrontierLine → List Feed
 text_feeds inner own lines = flat_map (λ l. feeds_by inner own l.frontier) lines
 
--- The explode of a fork line: it has an output for each copy, of the length of the inner input.
-abbrev pub explodes_by : Path → List Condition → Bytes → ℕ → Ports → Frontier → List Row
-explodes_by path conditions definition copies inner (Fork name x) =
-    row (port path name) definition conditions (replicate copies (len_of inner.ins x)) (runs explode) ∷ []
-explodes_by path conditions definition copies inner (Diffuse name x) = []
-explodes_by path conditions definition copies inner (Iterate name x y z) = []
-explodes_by path conditions definition copies inner (Join y z) = []
+-- The explode of a fork line, of a repetition with the ports `own` whose inputs come from `ins`: it takes the input
+-- that the line names, and has an output for each copy, of the length of the inner input.
+abbrev pub explodes_by : Path → List Condition → Bytes → List Origin → ℕ → Ports → Ports → Frontier → List Row
+explodes_by path conditions definition ins copies inner own (Fork name x) =
+    row (port path name) definition (origin_at ins (number_of own.ins name) ∷ []) conditions
+    (replicate copies (len_of inner.ins x)) (runs explode) ∷ []
+explodes_by path conditions definition ins copies inner own (Diffuse name x) = []
+explodes_by path conditions definition ins copies inner own (Iterate name x y z) = []
+explodes_by path conditions definition ins copies inner own (Join y z) = []
 
-abbrev pub text_explodes : Path → List Condition → Bytes → ℕ → Ports → List FrontierLine → List Row
-text_explodes path conditions definition copies inner lines =
-    flat_map (λ l. explodes_by path conditions definition copies inner l.frontier) lines
+abbrev pub text_explodes : Path → List Condition → Bytes → List Origin → ℕ → Ports → Ports → List FrontierLine →
+    List Row
+text_explodes path conditions definition ins copies inner own lines =
+    flat_map (λ l. explodes_by path conditions definition ins copies inner own l.frontier) lines
 
 -- The repetition of these copies and feeds is that of the definition of this name.
 pub record IsOfText (ds : List Def) (name : Bytes) (copies : ℕ) (feeds : List Feed) : Type 0 where
@@ -52,9 +56,9 @@ pub record IsOfText (ds : List Def) (name : Bytes) (copies : ℕ) (feeds : List 
   pub defined : definition ds name ≡ Some (record { name = name; line = line; body = Repeat copies body lines })
   pub in_order : in_line_order feeds ≡ text_feeds (ports_of ds body) (ports_of ds name) lines
   pub numbered : map outer_of (in_line_order feeds) ≡ range_with_len 0 (length (in_line_order feeds))
-  pub explodes : (p : Path) (cs : List Condition) →
-      explode_rows p cs name copies (in_line_order feeds) ≡
-      text_explodes p cs name copies (ports_of ds body) lines
+  pub explodes : (p : Path) (cs : List Condition) (ins : List Origin) →
+      explode_rows p cs name ins copies (in_line_order feeds) ≡
+      text_explodes p cs name ins copies (ports_of ds body) (ports_of ds name) lines
 
 abbrev pub IsKindOfText : List Def → Bytes → Kind → Type 0
 IsKindOfText ds name (repeat copies feeds gives) = IsOfText ds name copies feeds

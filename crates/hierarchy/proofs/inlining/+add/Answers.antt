@@ -11,7 +11,7 @@ use Rattle.inlining_laws.specs.Inlined.{inlined, inlined_all}
 use Rattle.inlining_laws.specs.Plain.{IsPlain}
 use Rattle.operation_paths.specs.Named.{IsNamed}
 use Rattle.hierarchy.specs.Built.{graph_of}
-use Rattle.hierarchy.specs.Linked.{AllLinked}
+use Rattle.operation_table.specs.Linked.{AllLinked}
 use Rattle.hierarchy.specs.Texts.{Prefixes}
 use Rattle.hierarchy.specs.Wires.{led}
 use Rattle.hierarchy.proofs.Leading.{graph_well, well_at}

@@ -4,7 +4,7 @@ use Rattle.algo_tree.specs.Counted.{operations_in as count_all}
 use Rattle.algo_tree.specs.View.{vertices_view}
 use Rattle.inlining_laws.specs.Inlined.{inlined_all}
 use Rattle.hierarchy.specs.Built.{graph_of}
-use Rattle.hierarchy.specs.Linked.{AllLinked}
+use Rattle.operation_table.specs.Linked.{AllLinked}
 use Rattle.hierarchy.specs.Texts.{Prefixes}
 use Rattle.hierarchy.specs.Wires.{led}
 use Rattle.hierarchy.proofs.Building.{AddsRest}

@@ -5,7 +5,7 @@ use Rattle.algo_tree.specs.declared.vertex.Vertex.{out-Vertex}
 use Rattle.inlining_laws.specs.Inlined.{stages}
 use Rattle.operation_paths.specs.Texts.{path_text}
 use Rattle.hierarchy.specs.Built.{graph_of}
-use Rattle.hierarchy.specs.Linked.{AllLinked}
+use Rattle.operation_table.specs.Linked.{AllLinked}
 use Rattle.hierarchy.specs.Wires.{led}
 use Rattle.hierarchy.proofs.Building.{StagesRest}
 use Rattle.hierarchy.proofs.operation.add_delay.Given as goal

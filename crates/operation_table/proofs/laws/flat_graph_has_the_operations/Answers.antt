@@ -1,3 +1,4 @@
+use Rattle.operation_table.proofs.Following.{fuel-enough}
 use Rattle.operation_table.proofs.Unrolling.{table-unroll}
 use Rattle.operation_table.proofs.Guarding.{table-guard}
 use Rattle.operation_table.proofs.Listing.{has-operations}
@@ -11,3 +12,6 @@ returns-clause-unrolled c = table-unroll
 
 pub returns-clause-guarded : goal.returns-clause-guarded
 returns-clause-guarded c = table-guard
+
+pub returns-clause-enough : goal.returns-clause-enough
+returns-clause-enough c = fuel-enough
