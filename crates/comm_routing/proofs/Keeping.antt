@@ -1,7 +1,6 @@
 -- Candidates and their arrivals after a decision.
-use Rattle.std.proofs.Common.{◌≡◌, ◌≢◌, ℕ, zero, suc, ◌<◌, Bool, true, false, ◌&&◌, ◌||◌, not, List, [], ◌∷◌, ◌++◌, map, length, refl, sym, ap, subst, arith, ◌∙◌, inl, inr, ◌⊎◌}
-use Rattle.flat_graph.specs.Graph.{with_vertex}
-use Rattle.std.specs.Prelude.{slice_get, slice_index_or, nat_eq, nat_lt}
+use Rattle.std.proofs.Common.{◌≡◌, ◌≢◌, ℕ, ◌<◌, ◌≤◌, Bool, Option, Some, None, true, false, ◌&&◌, ◌||◌, not, List, [], ◌∷◌, ◌++◌, map, length, take, refl, sym, ap, subst, arith, ◌∙◌, inl, inr, ◌⊎◌}
+use Rattle.std.specs.Prelude.{slice_index_or, nat_eq, nat_lt}
 use Rattle.std.specs.List.{list_all, list_any}
 use Rattle.std.proofs.lemmas.Bool.{true≢false, and_parts, or_left, or_right, or_parts, eq-eqb, ne_eqb, not-true}
 use Rattle.std.proofs.lemmas.List.Folds.{list_any-append}
@@ -14,67 +13,78 @@ use Rattle.comm_routing.specs.Placing.{is_placed, needs, is_candidate, may_place
 use Rattle.comm_routing.specs.Draft.{Drafted, Keeps, IsTold, task_of, after_placing}
 use Rattle.std.specs.Global.{Vec}
 use Rattle.comm_routing.specs.Dependents.{AreDependents}
-use Rattle.comm_routing.specs.Candidates.{AreArrivals, IsBehind, IsUpdated, CanArrive, is_candidate_in, is_free_in, flag_at, row_at}
-use Rattle.comm_routing.specs.declared.reach.Walks.{Walks}
+use Rattle.comm_routing.specs.Candidates.{AreUnknown, HasOneMore, IsBehind, IsUpdated, flag_at, kept_at, places_from, row_at}
+use Rattle.comm_routing.specs.declared.candidates.Ready.{Ready}
 use Rattle.comm_routing.specs.declared.candidates.Candidates.{Candidates}
 use Rattle.comm_routing.proofs.Arrivals.{arrivals_are_kept}
 use Rattle.comm_routing.proofs.Done.{none_carried}
 use Rattle.comm_routing.proofs.Finding.{chosen}
 use Rattle.comm_routing.proofs.Walks.{any_same, or_both}
-use Rattle.comm_routing.proofs.Steps.{candidate_same, can_walk, arrival_same}
+use Rattle.comm_routing.proofs.Steps.{candidate_same}
 
--- the walks are those of the draft
-pub record Fitting (d : Drafted) (b : Board) (reads : List (List Source)) (w : Walks) : Type 0 where
-  pub board : w.board.now ≡ b
-  pub media : w.media.now ≡ d.archi.media
-  pub routes : w.routes.now ≡ d.routes
-  pub lists : w.reads.now ≡ reads
-  pub operators : w.operators ≡ length d.archi.operators
+none_kept : (o : Option ℕ) (n : ℕ) → o ≡ None → o ≡ Some n → ⊥
+none_kept o n e f = cc
 
-module _ (d : Drafted) (b : Board) (reads : List (List Source)) (told : IsTold d b reads) (w : Walks) (fit : Fitting d b reads w) (vs : List Vertex) (same : vs ≡ d.graph.vertices) where
-  there_in : (v : ℕ) → is_candidate_in vs w.board.now v ≡ true → v < length d.graph.vertices
-  there_in v h = let l = within vs v h in let e = ap length same in omega arith
-    where
-      get_within : (xs : List Vertex) (k : ℕ) → with_vertex (slice_get xs k) false (is_free_in w.board.now v) ≡ true → k < length xs
-      get_within [] k h = absurd (true≢false (sym h))
-      get_within (x ∷ xs) zero h = omega arith
-      get_within (x ∷ xs) (suc k) h = let r = get_within xs k h in omega arith
-
-      within : (xs : List Vertex) (v' : ℕ) → with_vertex (slice_get xs v') false (is_free_in w.board.now v) ≡ true → v' < length xs
-      within xs v' h = get_within xs v' h
-
-  candidate_is : (v : ℕ) → v < length d.graph.vertices → is_candidate_in vs w.board.now v ≡ is_candidate (task_of d) (acts_of d.decisions) v
-  candidate_is v l = (λ i. is_candidate_in (same i) (fit.board i) v) ∙ candidate_same d b reads told v l
-
-  -- each candidate's walks are there
-  pub can_arrive : (v : ℕ) → is_candidate_in vs w.board.now v ≡ true → CanArrive w v
-  can_arrive v h p on =
-      let o = fit.operators in
-      can_walk d b reads told v (sym (candidate_is v (there_in v h)) ∙ h) p (omega arith) w fit.board fit.media fit.routes fit.lists
-
+module _ (d : Drafted) (b : Board) (reads : List (List Source)) (told : IsTold d b reads) (vs : List Vertex) (same : vs ≡ d.graph.vertices) where
   -- what was updated is kept, where the arrivals that stayed are still those of their candidates
-  pub kept_after : (keeps : Bool) (c after : Candidates) → AreDependents vs c.dependents.items → IsUpdated vs w keeps c after
-      → ((v p : ℕ) → v < length d.graph.vertices → is_candidate (task_of d) (acts_of d.decisions) v ≡ true → (flag_at c v && keeps) ≡ true → p < length d.archi.operators
-      → slice_index_or (row_at c.arrivals.items v) p 0 ≡ arrival (task_of d) (acts_of d.decisions) v p)
+  pub kept_after : (keeps : Bool) (c after : Candidates) → AreDependents vs c.dependents.items → IsUpdated vs b keeps c after
+      → ((v p n : ℕ) → v < length d.graph.vertices → is_candidate (task_of d) (acts_of d.decisions) v ≡ true → (flag_at c v && keeps) ≡ true → p < length d.archi.operators
+      → kept_at c v p ≡ Some n → n ≡ arrival (task_of d) (acts_of d.decisions) v p)
       → Keeps d b reads after
   kept_after keeps c after depend updated stay =
-      let u : IsUpdated d.graph.vertices w keeps c after = subst (λ (xs : List Vertex). IsUpdated xs w keeps c after) same updated in
+      let u : IsUpdated d.graph.vertices b keeps c after = subst (λ (xs : List Vertex). IsUpdated xs b keeps c after) same updated in
       let flags : (v : ℕ) → v < length d.graph.vertices → flag_at after v ≡ is_candidate (task_of d) (acts_of d.decisions) v
-      = λ v l. u.flags v l ∙ ap (λ (x : Board). is_candidate_in d.graph.vertices x v) fit.board ∙ candidate_same d b reads told v l in
+      = λ v l. u.flags v l ∙ candidate_same d b reads told v l in
       record {
         told = told;
         size = u.size;
         flags = flags;
         ready = u.ready;
         dependents = subst (λ (xs : List (Vec ℕ)). AreDependents d.graph.vertices xs) (sym u.dependents) (subst (λ (xs : List Vertex). AreDependents xs c.dependents.items) same depend);
-        arrivals = λ v p l f on. by v p l on (sym (flags v l) ∙ f) (u.arrivals v l f);
+        arrivals = λ v p n l f on e. by v p n l on (sym (flags v l) ∙ f) e (u.arrivals v l f);
       }
     where
-      by : (v p : ℕ) → v < length d.graph.vertices → p < length d.archi.operators → is_candidate (task_of d) (acts_of d.decisions) v ≡ true
-          → AreArrivals w v (row_at after.arrivals.items v) ⊎ (((flag_at c v && keeps) ≡ true) × (row_at after.arrivals.items v ≡ row_at c.arrivals.items v))
-          → slice_index_or (row_at after.arrivals.items v) p 0 ≡ arrival (task_of d) (acts_of d.decisions) v p
-      by v p l on can (inl found) = let o = fit.operators in found p (omega arith) ∙ arrival_same d b reads told v can p on w fit.board fit.media fit.routes fit.lists
-      by v p l on can (inr kept) = ap (λ (r : List ℕ). slice_index_or r p 0) kept.1 ∙ stay v p l can kept.0 on
+      by : (v p n : ℕ) → v < length d.graph.vertices → p < length d.archi.operators → is_candidate (task_of d) (acts_of d.decisions) v ≡ true → kept_at after v p ≡ Some n
+          → AreUnknown (row_at after.arrivals.items v) ⊎ (((flag_at c v && keeps) ≡ true) × (row_at after.arrivals.items v ≡ row_at c.arrivals.items v))
+          → n ≡ arrival (task_of d) (acts_of d.decisions) v p
+      by v p n l on can e (inl unknown) = absurd (none_kept (kept_at after v p) n (unknown p) e)
+      by v p n l on can e (inr kept) = stay v p n l can kept.0 on (ap (λ (r : List (Option ℕ)). slice_index_or r p None) (sym kept.1) ∙ e)
+
+-- one arrival more is kept, which is that of its candidate
+pub kept_more : (d : Drafted) (b : Board) (reads : List (List Source)) (c after : Candidates) (v p date : ℕ) → Keeps d b reads c → after.ready ≡ c.ready → after.dependents ≡ c.dependents
+    → length after.arrivals.items ≡ length c.arrivals.items → HasOneMore c.arrivals.items after.arrivals.items v p date → date ≡ arrival (task_of d) (acts_of d.decisions) v p → Keeps d b reads after
+kept_more d b reads c after v p date k ready depend size more same = record {
+  told = k.told;
+  size = record {
+    flags = ap (λ (r : Ready). length r.flags.items) ready ∙ k.size.flags;
+    list = ap (λ (r : Ready). length r.list.items) ready ∙ k.size.list;
+    count = subst (λ (r : Ready). r.count ≤ length d.graph.vertices) (sym ready) k.size.count;
+    arrivals = size ∙ k.size.arrivals;
+    dependents = ap (λ (xs : Vec (Vec ℕ)). length xs.items) depend ∙ k.size.dependents;
+  };
+  flags = λ w l. ap (λ (r : Ready). slice_index_or r.flags.items w false) ready ∙ k.flags w l;
+  ready = ap (λ (r : Ready). take r.count r.list.items) ready ∙ k.ready ∙ ap (λ (r : Ready). places_from 0 r.flags.items) (sym ready);
+  dependents = subst (λ (xs : Vec (Vec ℕ)). AreDependents d.graph.vertices xs.items) (sym depend) k.dependents;
+  arrivals = λ w q n l f on e. by w q n l (ap (λ (r : Ready). slice_index_or r.flags.items w false) (sym ready) ∙ f) on (more w q n e);
+}
+  where
+    by : (w q n : ℕ) → w < length d.graph.vertices → flag_at c w ≡ true → q < length d.archi.operators → (kept_at c w q ≡ Some n) ⊎ ((w ≡ v) × (q ≡ p) × (n ≡ date)) → n ≡ arrival (task_of d) (acts_of d.decisions) w q
+    by w q n l f on (inl was) = k.arrivals w q n l f on was
+    by w q n l f on (inr now) = now.2 ∙ same ∙ (λ i. arrival (task_of d) (acts_of d.decisions) (sym now.0 i) (sym now.1 i))
+
+-- of an operation and an operator on which it may be placed: there is room for the arrival, and one that is kept is right
+module _ (d : Drafted) (b : Board) (reads : List (List Source)) (c : Candidates) (k : Keeps d b reads c) (v p : ℕ) (may : may_place (task_of d) (acts_of d.decisions) v p ≡ true) where
+  pub kept_room : (v < length c.arrivals.items) × (p < 16)
+  kept_room =
+      let ch = chosen d b reads c k v p may in
+      let there = ch.there in
+      let on = ch.on in
+      let few = k.told.site.operators in
+      let size = k.size.arrivals in
+      (omega arith, omega arith)
+
+  pub kept_right : (n : ℕ) → Some n ≡ kept_at c v p → n ≡ arrival (task_of d) (acts_of d.decisions) v p
+  kept_right n e = let ch = chosen d b reads c k v p may in k.arrivals v p n ch.there ch.flag ch.on (sym e)
 
 module _ (d : Drafted) (u o : ℕ) where
   -- the acts of the decision that places it
@@ -133,10 +143,10 @@ behind d b new reads c u o k may told vs same =
 -- a decision without transfers leaves the arrivals of the other candidates
 pub stay_after : (d : Drafted) (b : Board) (reads : List (List Source)) (c : Candidates) (u o : ℕ) → Keeps d b reads c → may_place (task_of d) (acts_of d.decisions) u o ≡ true
     → (decision (task_of d) (acts_of d.decisions) u o).transfers ≡ []
-    → (v p : ℕ) → v < length d.graph.vertices → is_candidate (task_of d) (acts_of (after_placing d u o).decisions) v ≡ true → flag_at c v ≡ true → p < length d.archi.operators
-    → slice_index_or (row_at c.arrivals.items v) p 0 ≡ arrival (task_of d) (acts_of (after_placing d u o).decisions) v p
-stay_after d b reads c u o k may none v p l can was on =
-    k.arrivals v p l was on
+    → (v p n : ℕ) → v < length d.graph.vertices → is_candidate (task_of d) (acts_of (after_placing d u o).decisions) v ≡ true → flag_at c v ≡ true → p < length d.archi.operators
+    → kept_at c v p ≡ Some n → n ≡ arrival (task_of d) (acts_of (after_placing d u o).decisions) v p
+stay_after d b reads c u o k may none v p n l can was on e =
+    k.arrivals v p n l was on e
     ∙ sym (arrivals_are_kept (task_of d) k.told.site.given d.decisions u o v p k.told.right may none (sym (k.flags v l) ∙ was) other on)
   where
     other : v ≢ u

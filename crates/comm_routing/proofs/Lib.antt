@@ -26,3 +26,4 @@ pub mod Ordered
 pub mod Renewal
 pub mod Hops
 pub mod Appending
+pub mod Kept

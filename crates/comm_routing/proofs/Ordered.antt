@@ -188,15 +188,11 @@ room flags list count i same within size l h =
     let m = fewer_places 0 i flags l h in
     omega arith
 
--- those whose arrivals are sought are operations
-pub sought_below : (keeps : Bool) (dependents ops : List ℕ) (r : Ready) (flags : List Bool) (n : ℕ) → IsListed n r → All (λ v. v < n) dependents → ops ≡ sought_in keeps dependents r → flags ≡ r.flags.items → All (λ v. v < length flags) ops
-sought_below true dependents ops r flags n listed low e f =
-    let size = listed.flags in
-    let long = ap length f in
-    let same : n ≡ length flags = omega arith in
-    subst (λ (xs : List ℕ). All (λ v. v < length flags) xs) (sym e) (subst (λ (k : ℕ). All (λ v. v < k) dependents) same low)
-sought_below false dependents ops r flags n listed low e f =
-    subst (λ (xs : List ℕ). All (λ v. v < length flags) xs) (sym (e ∙ listed.ready ∙ ap (places_from 0) (sym f))) (places_below flags)
+-- those whose arrivals are forgotten are operations
+pub sought_below : (keeps : Bool) (dependents ops : List ℕ) (r : Ready) (n : ℕ) → IsListed n r → All (λ v. v < n) dependents → ops ≡ sought_in keeps dependents r → All (λ v. v < n) ops
+sought_below true dependents ops r n listed low e = subst (λ (xs : List ℕ). All (λ v. v < n) xs) (sym e) low
+sought_below false dependents ops r n listed low e =
+    subst (λ (k : ℕ). All (λ v. v < k) ops) listed.flags (subst (λ (xs : List ℕ). All (λ v. v < length r.flags.items) xs) (sym (e ∙ listed.ready)) (places_below r.flags.items))
 
 -- with one more that was not set
 pub listed_with : (n op : ℕ) (old new : Ready) → op < n → IsListed n old → slice_index_or old.flags.items op false ≡ false → new.flags.items ≡ slice_set old.flags.items op true

@@ -1,5 +1,5 @@
 -- The candidates after one more operation was placed.
-use Rattle.std.proofs.Common.{◌≡◌, ◌≢◌, ℕ, ◌<◌, Bool, true, false, ◌&&◌, nat_eq, List, length, refl, take, sym, ap, subst, arith, ◌∙◌, inl, inr, ◌⊎◌}
+use Rattle.std.proofs.Common.{◌≡◌, ◌≢◌, ℕ, ◌<◌, Bool, Option, true, false, ◌&&◌, nat_eq, List, length, refl, take, sym, ap, subst, arith, ◌∙◌, inl, inr, ◌⊎◌}
 use Rattle.std.specs.Prelude.{All, slice_index_or, slice_set}
 use Rattle.std.specs.List.{list_any}
 use Rattle.std.specs.Cmp.Derive.{both_true}
@@ -8,8 +8,7 @@ use Rattle.std.proofs.lemmas.List.{get_or-set_same, get_or-set_other}
 use Rattle.flat_graph.specs.declared.vertex.Vertex.{Vertex}
 use Rattle.comm_routing.specs.Board.{Board}
 use Rattle.comm_routing.specs.Dependents.{list_at}
-use Rattle.comm_routing.specs.Candidates.{AreArrivals, IsBehind, flag_at, flag_in, is_candidate_in, needs_of, places_from, row_at, sought_in}
-use Rattle.comm_routing.specs.declared.reach.Walks.{Walks}
+use Rattle.comm_routing.specs.Candidates.{AreUnknown, IsBehind, flag_at, flag_in, is_candidate_in, needs_of, places_from, row_at, sought_in}
 use Rattle.comm_routing.specs.declared.candidates.Candidates.{Candidates}
 use Rattle.comm_routing.specs.declared.candidates.Ready.{Ready}
 use Rattle.comm_routing.proofs.Depending.{dependent_there, dependents_below}
@@ -61,17 +60,17 @@ module _ (vertices : List Vertex) (b : Board) (placed : ℕ) (c : Candidates) (d
     | inr n ↦ sym (other_flag v n) ∙ sym (m.others v h) ∙ f
   ]
 
-  -- the arrivals of each candidate are found, or kept
-  pub arrivals_right : (w : Walks) (keeps : Bool) (r : Ready) (before rows after : List (List ℕ)) {lent : List (List ℕ)} → r.flags.items ≡ two → take r.count r.list.items ≡ places_from 0 r.flags.items → lent ≡ before → after ≡ rows
-      → ((v : ℕ) → flag_in r v ≡ true → list_any (nat_eq v) (sought_in keeps dependents r) ≡ true → AreArrivals w v (row_at rows v))
+  -- the arrivals of each candidate are forgotten, or stay
+  pub arrivals_right : (keeps : Bool) (r : Ready) (before rows after : List (List (Option ℕ))) {lent : List (List (Option ℕ))} → r.flags.items ≡ two → take r.count r.list.items ≡ places_from 0 r.flags.items → lent ≡ before → after ≡ rows
+      → ((v : ℕ) → list_any (nat_eq v) (sought_in keeps dependents r) ≡ true → AreUnknown (row_at rows v))
       → ((v : ℕ) → list_any (nat_eq v) (sought_in keeps dependents r) ≡ false → row_at rows v ≡ row_at lent v)
       → (v : ℕ) → v < length vertices → flag_in r v ≡ true
-      → AreArrivals w v (row_at after v) ⊎ (((flag_at c v && keeps) ≡ true) × (row_at after v ≡ row_at before v))
-  arrivals_right w true r before rows after is listed were now found kept v l f =
-      subst (λ (xs : List (List ℕ)). AreArrivals w v (row_at xs v) ⊎ (((flag_at c v && true) ≡ true) × (row_at xs v ≡ row_at before v))) (sym now) (by (list_any (nat_eq v) dependents) refl)
+      → AreUnknown (row_at after v) ⊎ (((flag_at c v && keeps) ≡ true) × (row_at after v ≡ row_at before v))
+  arrivals_right true r before rows after is listed were now found kept v l f =
+      subst (λ (xs : List (List (Option ℕ))). AreUnknown (row_at xs v) ⊎ (((flag_at c v && true) ≡ true) × (row_at xs v ≡ row_at before v))) (sym now) (by (list_any (nat_eq v) dependents) refl)
     where
-      by : (t : Bool) → list_any (nat_eq v) dependents ≡ t → AreArrivals w v (row_at rows v) ⊎ (((flag_at c v && true) ≡ true) × (row_at rows v ≡ row_at before v))
-      by true h = inl (found v f h)
-      by false h = inr (both_true (flag_before v l h (ap (λ (xs : List Bool). slice_index_or xs v false) (sym is) ∙ f)) refl, kept v h ∙ ap (λ (xs : List (List ℕ)). row_at xs v) were)
-  arrivals_right w false r before rows after is listed were now found kept v l f =
-      inl (subst (λ (xs : List (List ℕ)). AreArrivals w v (row_at xs v)) (sym now) (found v f (ap (list_any (nat_eq v)) listed ∙ set_there r.flags.items v f)))
+      by : (t : Bool) → list_any (nat_eq v) dependents ≡ t → AreUnknown (row_at rows v) ⊎ (((flag_at c v && true) ≡ true) × (row_at rows v ≡ row_at before v))
+      by true h = inl (found v h)
+      by false h = inr (both_true (flag_before v l h (ap (λ (xs : List Bool). slice_index_or xs v false) (sym is) ∙ f)) refl, kept v h ∙ ap (λ (xs : List (List (Option ℕ))). row_at xs v) were)
+  arrivals_right false r before rows after is listed were now found kept v l f =
+      inl (subst (λ (xs : List (List (Option ℕ))). AreUnknown (row_at xs v)) (sym now) (found v (ap (list_any (nat_eq v)) listed ∙ set_there r.flags.items v f)))

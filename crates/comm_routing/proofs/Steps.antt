@@ -23,7 +23,7 @@ use Rattle.comm_routing.specs.Board.{Board, HasPlace, HasWay, FitsAll, held_in, 
 use Rattle.comm_routing.specs.Tables.{Tells, after_transfers, after_operation, decision_in, transfers_in, start_in, outs_of}
 use Rattle.comm_routing.specs.Start.{reads_of}
 use Rattle.comm_routing.specs.Draft.{Drafted, IsTold, IsSite, task_of, nones, rise, after_placing}
-use Rattle.comm_routing.specs.Candidates.{CanWalk, reads_in, arrival_at, is_placed_in, is_free_in, is_candidate_in}
+use Rattle.comm_routing.specs.Candidates.{CanWalk, reads_in, is_placed_in, is_free_in, is_candidate_in}
 use Rattle.comm_routing.specs.declared.reach.Walks.{Walks}
 use Rattle.comm_routing.proofs.Right.{candidate_given, is_given, stands}
 use Rattle.comm_routing.proofs.Arrivals.{from_distinct, all_there, placed_rightly_behind}
@@ -162,10 +162,11 @@ module _ (d : Drafted) (b : Board) (reads : List (List Source)) (told : IsTold d
                 (subst (λ (x : List Source). FitsAll d.archi.media b (route_in d.routes) p x (walk b.ends 0)) (sym same) stays.fits)));
           }
 
-      pub arrival_same : (w : Walks) → w.board.now ≡ b → w.media.now ≡ d.archi.media → w.routes.now ≡ d.routes → w.reads.now ≡ reads → arrival_at w v p ≡ arrival (task_of d) (acts_of d.decisions) v p
-      arrival_same w board media routes rs =
-          (λ i. (fetch_all (time_in (media i) (board i)) (held_in (board i)) (on_in (board i)) (route_in (routes i)) p (slice_index_or (rs i) v []) (walk (board i).ends 0)).date)
-          ∙ (λ i. (fetch_all (time_in d.archi.media b) (held_in b) (on_in b) (route_in d.routes) p (read_sources v there i) (walk b.ends 0)).date)
+      -- the walk over the tables finds the arrival
+      pub arrival_same : (media : List Medium) → media ≡ d.archi.media
+          → (fetch_all (time_in media b) (held_in b) (on_in b) (route_in d.routes) p (slice_index_or reads v []) (walk b.ends 0)).date ≡ arrival (task_of d) (acts_of d.decisions) v p
+      arrival_same media same =
+          (λ i. (fetch_all (time_in (same i) b) (held_in b) (on_in b) (route_in d.routes) p (read_sources v there i) (walk b.ends 0)).date)
           ∙ sym (arrivals_are_in_tables (task_of d) told.site.given d.decisions b v p told.right told.tells can on).0
 
       greatest_low : (us : List ℕ) → greatest (map (λ u. slice_index_or b.ended u 0) us) ≤ rise * length d.decisions

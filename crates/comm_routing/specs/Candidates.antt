@@ -19,6 +19,8 @@ use Rattle.std.specs.Prelude.{
   ◌∷◌,
   length,
   All,
+  Option,
+  Some,
   None,
   is_some,
   take,
@@ -73,20 +75,27 @@ pub record CanWalk (w : Walks) (v p : ℕ) : Type 0 where
   pub fits : FitsAll w.media.now w.board.now (route_in w.routes.now) p (reads_in w v)
       (walk w.board.now.ends 0)
 
-abbrev pub CanArrive : Walks → ℕ → Type 0
-CanArrive w v = (p : ℕ) → p < w.operators → CanWalk w v p
-
 pub record HasWalks (w : Walks) : Type 0 where
   pub operators : w.operators ≤ 16
   pub routes : w.operators ≡ w.routes.now.operators
   pub media : length w.media.now ≤ 16
 
--- the arrivals of an operation, operator by operator
-abbrev pub AreArrivals : Walks → ℕ → List ℕ → Type 0
-AreArrivals w v row = (p : ℕ) → p < w.operators → slice_index_or row p 0 ≡ arrival_at w v p
+-- no arrival of the row is known
+abbrev pub AreUnknown : List (Option ℕ) → Type 0
+AreUnknown row = (p : ℕ) → slice_index_or row p None ≡ None
 
-abbrev pub row_at : List (List ℕ) → ℕ → List ℕ
+abbrev pub row_at : List (List (Option ℕ)) → ℕ → List (Option ℕ)
 row_at rows v = slice_index_or rows v []
+
+-- the arrival of an operation on an operator that is kept, if there is one
+abbrev pub kept_in : List (List (Option ℕ)) → ℕ → ℕ → Option ℕ
+kept_in rows v p = slice_index_or (row_at rows v) p None
+
+-- no arrival is kept but those that were, and this date of operation v on operator p
+abbrev pub HasOneMore : List (List (Option ℕ)) → List (List (Option ℕ)) → ℕ → ℕ → ℕ → Type 0
+HasOneMore before after v p date =
+    (w q n : ℕ) → kept_in after w q ≡ Some n
+    → (kept_in before w q ≡ Some n) ⊎ ((w ≡ v) × (q ≡ p) × (n ≡ date))
 
 -- The flags and the list are of this many operations, and the list has the places of those that are set.
 pub record IsListed (operations : ℕ) (r : Ready) : Type 0 where
@@ -95,7 +104,7 @@ pub record IsListed (operations : ℕ) (r : Ready) : Type 0 where
   pub count : r.count ≤ operations
   pub ready : take r.count r.list.items ≡ places_from 0 r.flags.items
 
--- those whose arrivals are found anew: where arrivals are kept, no other than these dependents
+-- those whose arrivals are not known any more: where arrivals are kept, no other than these dependents
 abbrev pub sought_in : Bool → List ℕ → Ready → List ℕ
 sought_in keeps dependents r = if keeps then dependents else take r.count r.list.items
 
@@ -113,6 +122,9 @@ flag_in r v = slice_index_or r.flags.items v false
 abbrev pub flag_at : Candidates → ℕ → Bool
 flag_at c v = flag_in c.ready v
 
+abbrev pub kept_at : Candidates → ℕ → ℕ → Option ℕ
+kept_at c v p = kept_in c.arrivals.items v p
+
 abbrev pub ready_in : Candidates → List ℕ
 ready_in c = take c.ready.count c.ready.list.items
 
@@ -125,12 +137,12 @@ pub record IsBehind (vertices : List Vertex) (b : Board) (placed : ℕ) (c : Can
   pub others : (v : ℕ) → v < length vertices → v ≢ placed → list_any (nat_eq placed) (needs_of vertices v) ≡ false
       → flag_at c v ≡ is_candidate_in vertices b v
 
--- The candidates by the tables. Their arrivals are found, or stay where they are kept.
-pub record IsUpdated (vertices : List Vertex) (w : Walks) (keeps : Bool) (before after : Candidates) : Type 0 where
+-- The candidates by the tables. Their arrivals are unknown, or stay where they are kept.
+pub record IsUpdated (vertices : List Vertex) (b : Board) (keeps : Bool) (before after : Candidates) : Type 0 where
   pub size : HasSize (length vertices) after
   pub dependents : after.dependents.items ≡ before.dependents.items
-  pub flags : (v : ℕ) → v < length vertices → flag_at after v ≡ is_candidate_in vertices w.board.now v
+  pub flags : (v : ℕ) → v < length vertices → flag_at after v ≡ is_candidate_in vertices b v
   pub ready : ready_in after ≡ places_from 0 after.ready.flags.items
   pub arrivals : (v : ℕ) → v < length vertices → flag_at after v ≡ true
-      → AreArrivals w v (row_at after.arrivals.items v)
+      → AreUnknown (row_at after.arrivals.items v)
       ⊎ (((flag_at before v && keeps) ≡ true) × (row_at after.arrivals.items v ≡ row_at before.arrivals.items v))

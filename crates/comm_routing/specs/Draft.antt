@@ -17,6 +17,7 @@ use Rattle.std.specs.Prelude.{
   is_none,
   if◌then◌else◌,
   Option,
+  Some,
   None,
   slice_index_or,
   refl,
@@ -37,7 +38,7 @@ use Rattle.comm_routing.specs.Board.{Board}
 use Rattle.comm_routing.specs.Start.{reads_of}
 use Rattle.comm_routing.specs.Tables.{Tells}
 use Rattle.comm_routing.specs.Dependents.{AreDependents}
-use Rattle.comm_routing.specs.Candidates.{HasSize, flag_at, places_from, ready_in, row_at}
+use Rattle.comm_routing.specs.Candidates.{HasSize, flag_at, kept_at, places_from, ready_in}
 use Rattle.comm_routing.specs.declared.site.Site.{Site}
 use Rattle.comm_routing.specs.declared.candidates.Candidates.{Candidates}
 
@@ -106,7 +107,7 @@ pub record IsTold (d : Drafted) (b : Board) (reads : List (List Source)) : Type 
   pub firsts : length b.first ≡ length d.graph.vertices
   pub counted : length d.decisions + nones b.places ≡ length d.graph.vertices
 
--- Candidates and their arrivals are those after the decisions.
+-- Candidates are those after the decisions, and so are the arrivals that are kept of them.
 pub record Keeps (d : Drafted) (b : Board) (reads : List (List Source)) (c : Candidates) : Type 0 where
   pub told : IsTold d b reads
   pub size : HasSize (length d.graph.vertices) c
@@ -114,9 +115,9 @@ pub record Keeps (d : Drafted) (b : Board) (reads : List (List Source)) (c : Can
       → flag_at c v ≡ is_candidate (task_of d) (acts_of d.decisions) v
   pub ready : ready_in c ≡ places_from 0 c.ready.flags.items
   pub dependents : AreDependents d.graph.vertices c.dependents.items
-  pub arrivals : (v p : ℕ) → v < length d.graph.vertices → flag_at c v ≡ true
-      → p < length d.archi.operators
-      → slice_index_or (row_at c.arrivals.items v) p 0 ≡ arrival (task_of d) (acts_of d.decisions) v p
+  pub arrivals : (v p n : ℕ) → v < length d.graph.vertices → flag_at c v ≡ true
+      → p < length d.archi.operators → kept_at c v p ≡ Some n
+      → n ≡ arrival (task_of d) (acts_of d.decisions) v p
 
 -- what is given, with these decisions
 abbrev pub drafted : Site → List Decision → Drafted

@@ -1,11 +1,11 @@
 -- What may be placed where, by the tables.
-use Rattle.std.specs.Prelude.{ℕ, Bool, ◌&&◌, nat_eq, nat_lt, length, [], is_some, slice_get, slice_index_or}
+use Rattle.std.specs.Prelude.{ℕ, Bool, ◌&&◌, nat_eq, nat_lt, length, [], is_some, slice_get}
 use Rattle.std.specs.List.{list_all}
 use Rattle.flat_graph.specs.Graph.{with_vertex}
 use Rattle.flat_graph.specs.Order.{get_half}
 use Rattle.durations.specs.Table.{entry_in}
 use Rattle.comm_routing.specs.Board.{Board, on_in}
-use Rattle.comm_routing.specs.Candidates.{flag_at, row_at}
+use Rattle.comm_routing.specs.Candidates.{flag_at}
 use Rattle.comm_routing.specs.Draft.{Drafted}
 use Rattle.comm_routing.specs.declared.candidates.Candidates.{Candidates}
 
@@ -19,6 +19,3 @@ module _ (d : Drafted) (b : Board) (c : Candidates) where
 
   abbrev pub may_place_in : ℕ → ℕ → Bool
   may_place_in v p = nat_lt v (length d.graph.vertices) && (flag_at c v && may_stand_in v p)
-
-  abbrev pub arrival_kept : ℕ → ℕ → ℕ
-  arrival_kept v p = slice_index_or (row_at c.arrivals.items v) p 0

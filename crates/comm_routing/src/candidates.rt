@@ -1,15 +1,14 @@
 //! The candidates, and their arrivals as far as they are known. `progress` keeps them up to date.
-ghost use Rattle.std.specs.Prelude.{◌≡◌, ℕ, ◌+◌, ◌<◌, ◌≤◌, [], All, true, false, ◌&&◌, IfOk, if◌then◌else◌, length, nat_eq, slice_index_or, slice_set, take, replicate};
+ghost use Rattle.std.specs.Prelude.{◌≡◌, ℕ, ◌+◌, ◌<◌, ◌≤◌, [], All, Some, true, false, ◌&&◌, IfOk, if◌then◌else◌, length, nat_eq, slice_index_or, slice_set, take, replicate};
 ghost use Rattle.std.specs.List.{list_all, list_any};
 ghost use Rattle.syn_base.specs.Limits.{most_operations};
 ghost use Rattle.flat_graph.specs.Order.{get_half};
 ghost use Rattle.comm_routing.specs.Dependents.{AreDependents};
-ghost use Rattle.comm_routing.specs.Candidates.{AreArrivals, CanArrive, HasSize, HasWalks, IsBehind, IsListed, IsUpdated, flag_in, is_candidate_in, is_free_in, is_placed_in, places_from, row_at, sought_in};
+ghost use Rattle.comm_routing.specs.Candidates.{AreUnknown, HasOneMore, HasSize, IsBehind, IsListed, IsUpdated, flag_in, is_candidate_in, is_free_in, is_placed_in, kept_at, kept_in, places_from, row_at, sought_in};
 
 use crate::ascending::{put_in, take_out};
 use crate::board::Board;
 use crate::dependents::all_dependents;
-use crate::reach::{Walks, arrivals};
 use flat_graph::{Guard, Kind, Source, Vertex};
 use std::alloc::Global;
 use syn_base::OutOfMemory;
@@ -81,12 +80,15 @@ impl Ready {
     }
 }
 
-/// The candidates, by operation its arrivals by operator where it is a candidate, and by operation
-/// those that depend on it.
+/// By operator an arrival, where it is known.
+type Arrivals = [Option<u64>; 16];
+
+/// The candidates, by operation the arrivals that are known where it is a candidate, and by
+/// operation those that depend on it.
 #[derive(Drop)]
 pub(crate) struct Candidates {
     pub ready: Ready,
-    pub arrivals: Vec<[u64; 16]>,
+    pub arrivals: Vec<Arrivals>,
     pub dependents: Vec<Vec<u32>>,
 }
 
@@ -105,46 +107,98 @@ impl Candidates {
         };
         Ok(Candidates {
             ready,
-            arrivals: vec![in alloc; [0; 16]; operations]?,
+            arrivals: vec![in alloc; unknown(); operations]?,
             dependents: all_dependents(alloc, vertices)?,
         })
     }
 
-    /// Finds the candidates among all operations, and their arrivals. It takes no memory.
-    pub fn fill(&mut self, vertices: &[Vertex], walks: &Walks)
+    /// Finds the candidates among all operations. It takes no memory.
+    pub fn fill(&mut self, vertices: &[Vertex], board: &Board)
         requires few { length vertices.now ≤ most_operations }
         requires size { HasSize (length vertices.now) self.old }
-        requires walks { HasWalks walks.now }
-        requires reads { length vertices.now ≤ length walks.now.reads.now }
-        requires ways { (v : ℕ) → is_candidate_in vertices.now walks.now.board.now v ≡ true → CanArrive walks.now v }
-        ensures { IsUpdated vertices.now walks.now false self.old self.new }
+        ensures { IsUpdated vertices.now board.now false self.old self.new }
     {
-        self.ready.mark_all(vertices, walks.board);
-        renew(walks, &self.ready, &[], false, self.arrivals.as_mut_slice());
+        self.ready.mark_all(vertices, board);
+        forget(&self.ready, &[], false, self.arrivals.as_mut_slice());
     }
 
     /// Brings the candidates up to date after this operation was placed: only those that depend on it
-    /// can be new. Finds the arrivals of the new ones, or of all where they are not kept. It takes no
-    /// memory.
-    pub fn update(&mut self, vertices: &[Vertex], walks: &Walks, placed: u32, keeps: bool)
+    /// can be new. Forgets the arrivals of the new ones, or of all where they are not kept. It takes
+    /// no memory.
+    pub fn update(&mut self, vertices: &[Vertex], board: &Board, placed: u32, keeps: bool)
         requires size { HasSize (length vertices.now) self.old }
-        requires behind { IsBehind vertices.now walks.now.board.now placed self.old }
-        requires walks { HasWalks walks.now }
-        requires reads { length vertices.now ≤ length walks.now.reads.now }
-        requires ways { (v : ℕ) → is_candidate_in vertices.now walks.now.board.now v ≡ true → CanArrive walks.now v }
-        ensures { IsUpdated vertices.now walks.now keeps self.old self.new }
+        requires behind { IsBehind vertices.now board.now placed self.old }
+        ensures { IsUpdated vertices.now board.now keeps self.old self.new }
     {
         let dependents = self.dependents[placed as usize].as_slice();
-        self.ready.mark_one(vertices, walks.board, placed);
-        self.ready.mark_each(vertices, walks.board, dependents);
-        renew(
-            walks,
-            &self.ready,
-            dependents,
-            keeps,
+        self.ready.mark_one(vertices, board, placed);
+        self.ready.mark_each(vertices, board, dependents);
+        forget(&self.ready, dependents, keeps, self.arrivals.as_mut_slice());
+    }
+
+    /// The arrival of an operation on an operator, where it is known.
+    pub fn arrival(&self, op: u32, operator: u32) -> Option<u64>
+        requires operation { op < length self.now.arrivals.items }
+        requires operator { operator < 16 }
+        ensures { result ≡ kept_at self.now op operator }
+    {
+        kept(self.arrivals.as_slice(), op as usize, operator as usize)
+    }
+
+    /// Keeps the arrival of an operation on an operator. It takes no memory.
+    pub fn keep(&mut self, op: u32, operator: u32, date: u64)
+        requires operation { op < length self.old.arrivals.items }
+        requires operator { operator < 16 }
+        ensures ready { self.new.ready ≡ self.old.ready }
+        ensures dependents { self.new.dependents ≡ self.old.dependents }
+        ensures size { length self.new.arrivals.items ≡ length self.old.arrivals.items }
+        ensures kept { HasOneMore self.old.arrivals.items self.new.arrivals.items op operator date }
+    {
+        put(
             self.arrivals.as_mut_slice(),
+            op as usize,
+            operator as usize,
+            date,
         );
     }
+}
+
+/// No arrival is known.
+fn unknown() -> Arrivals
+    ensures { AreUnknown result }
+{
+    [None; 16]
+}
+
+/// The arrival that is kept at this place.
+fn kept(rows: &[Arrivals], op: usize, operator: usize) -> Option<u64>
+    requires operation { op < length rows.now }
+    requires operator { operator < 16 }
+    ensures { result ≡ kept_in rows.now op operator }
+{
+    let row = &rows[op];
+    row[operator]
+}
+
+/// Keeps an arrival at this place.
+fn put(rows: &mut [Arrivals], op: usize, operator: usize, date: u64)
+    requires operation { op < length rows.old }
+    requires operator { operator < 16 }
+    ensures size { length rows.new ≡ length rows.old }
+    ensures kept { HasOneMore rows.old rows.new op operator date }
+{
+    let row = with_arrival(rows[op], operator, date);
+    rows[op] = row;
+}
+
+/// The row with an arrival at this place.
+fn with_arrival(row: Arrivals, operator: usize, date: u64) -> Arrivals
+    requires { operator < 16 }
+    ensures { result ≡ slice_set row operator (Some date) }
+{
+    let mut row = row;
+    row[operator] = Some(date);
+    row
 }
 
 /// This many flags, none of which is set.
@@ -217,48 +271,36 @@ fn is_get_half_placed(board: &Board, kind: &Kind, twin: Option<u32>) -> bool
     }
 }
 
-/// Finds the arrivals of all candidates, or where they are kept of those among these dependents.
-fn renew(walks: &Walks, ready: &Ready, dependents: &[u32], keeps: bool, rows: &mut [[u64; 16]])
-    requires walks { HasWalks walks.now }
+/// Forgets the arrivals of all candidates, or where they are kept of these dependents alone.
+fn forget(ready: &Ready, dependents: &[u32], keeps: bool, rows: &mut [Arrivals])
     requires listed { IsListed (length rows.old) ready.now }
     requires operations { All (λ v. v < length rows.old) dependents.now }
-    requires reads { length rows.old ≤ length walks.now.reads.now }
-    requires ways { (v : ℕ) → v < length rows.old → flag_in ready.now v ≡ true → CanArrive walks.now v }
     ensures size { length rows.new ≡ length rows.old }
-    ensures found { (v : ℕ) → flag_in ready.now v ≡ true →
-        list_any (nat_eq v) (sought_in keeps dependents.now ready.now) ≡ true →
-        AreArrivals walks.now v (row_at rows.new v) }
+    ensures forgotten { (v : ℕ) → list_any (nat_eq v) (sought_in keeps dependents.now ready.now) ≡ true →
+        AreUnknown (row_at rows.new v) }
     ensures kept { (v : ℕ) → list_any (nat_eq v) (sought_in keeps dependents.now ready.now) ≡
         false → row_at rows.new v ≡ row_at rows.old v }
 {
     let sought = sought(keeps, dependents, ready.as_slice());
-    find(walks, sought, ready.flags.as_slice(), rows);
+    forget_each(sought, rows);
 }
 
-/// Those whose arrivals are to be found: where arrivals are kept, no other than these dependents.
+/// Those whose arrivals are forgotten: where arrivals are kept, no other than these dependents.
 fn sought<'a>(keeps: bool, dependents: &'a [u32], ready: &'a [u32]) -> &'a [u32]
     ensures { result.now ≡ (if keeps then dependents.now else ready.now) }
 {
     if keeps { dependents } else { ready }
 }
 
-/// Finds the arrivals of those of these operations that are candidates.
-fn find(walks: &Walks, ops: &[u32], flags: &[bool], rows: &mut [[u64; 16]])
-    requires walks { HasWalks walks.now }
-    requires operations { All (λ v. v < length flags.now) ops.now }
-    requires rows { length rows.old ≡ length flags.now }
-    requires reads { length flags.now ≤ length walks.now.reads.now }
-    requires ways { (v : ℕ) → v < length flags.now → slice_index_or flags.now v false ≡ true → CanArrive walks.now v }
-    ensures size { length rows.new ≡ length flags.now }
-    ensures found { (v : ℕ) → slice_index_or flags.now v false ≡ true →
-        list_any (nat_eq v) ops.now ≡ true → AreArrivals walks.now v (row_at rows.new v) }
+/// Forgets the arrivals of these operations.
+fn forget_each(ops: &[u32], rows: &mut [Arrivals])
+    requires operations { All (λ v. v < length rows.old) ops.now }
+    ensures size { length rows.new ≡ length rows.old }
+    ensures forgotten { (v : ℕ) → list_any (nat_eq v) ops.now ≡ true → AreUnknown (row_at rows.new v) }
     ensures kept { (v : ℕ) → list_any (nat_eq v) ops.now ≡ false → row_at rows.new v ≡ row_at rows.old v }
 {
     for op in ops {
-        let place = *op as usize;
-        if flags[place] {
-            rows[place] = arrivals(walks, place);
-        }
+        rows[*op as usize] = unknown();
     }
 }
 

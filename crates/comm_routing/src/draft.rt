@@ -1,7 +1,7 @@
 //! The draft: the decisions so far, with the tables that tell of them. `pressure_heuristic` places
 //! one operation after another by it.
 use crate::placing::start;
-use crate::progress::{Progress, begin, may_place_next, place_next};
+use crate::progress::{Progress, arrival_next, begin, find_next, may_place_next, place_next};
 use crate::reads::all_reads;
 use crate::site::Site;
 use archi_graph::Archi;
@@ -110,7 +110,28 @@ impl<'a> Draft<'a> {
         requires { IsTrue (may_place (task_of self.now) (acts_of self.now.decisions) op operator) }
         ensures { result ≡ arrival (task_of self.now) (acts_of self.now.decisions) op operator }
     {
-        self.progress.candidates.arrivals[op as usize][operator as usize]
+        arrival_next(
+            &self.site,
+            self.reads.as_slice(),
+            &self.progress,
+            op,
+            operator,
+        )
+    }
+
+    /// Finds the arrival of a candidate on the operator and keeps it, so that `arrival` and `try_place`
+    /// need not find it again while nothing is carried. It takes no memory.
+    pub fn find(&mut self, op: u32, operator: u32)
+        requires { IsTrue (may_place (task_of self.old) (acts_of self.old.decisions) op operator) }
+        ensures { self.new ≡ self.old }
+    {
+        find_next(
+            &self.site,
+            self.reads.as_slice(),
+            op,
+            operator,
+            &mut self.progress,
+        );
     }
 
     /// The start that a candidate would have on the operator: the greatest of its arrival, the

@@ -7,14 +7,14 @@ ghost use Rattle.schedule.specs.declared.decision.Decision.{Decision};
 ghost use Rattle.comm_routing.specs.declared.candidates.Candidates.{Candidates};
 ghost use Rattle.comm_routing.specs.Board.{on_in};
 ghost use Rattle.comm_routing.specs.Draft.{IsSite, Keeps, after_placing, drafted, task_of};
-ghost use Rattle.comm_routing.specs.Placing.{may_place};
+ghost use Rattle.comm_routing.specs.Placing.{arrival, may_place};
 ghost use Rattle.comm_routing.specs.Progress.{may_place_in, may_stand_in};
 ghost use Rattle.comm_routing.specs.Start.{reads_of};
 
 use crate::board::{Board, date_or_zero};
 use crate::candidates::Candidates;
 use crate::placing::place;
-use crate::reach::Walks;
+use crate::reach::{Walks, arrival_on};
 use crate::site::Site;
 use flat_graph::{Kind, Source};
 use schedule::Decision;
@@ -42,17 +42,9 @@ pub(crate) fn begin(
     ensures keeps { IfOk result (λ p. Keeps (drafted site.now []) p.board reads.now p.candidates) }
 {
     let vertices = site.flat.vertices();
-    let operators = site.archi.operators().len();
-    let board = Board::new(alloc, vertices, operators as u32)?;
+    let board = Board::new(alloc, vertices, site.archi.operators().len() as u32)?;
     let mut candidates = Candidates::new(alloc, vertices)?;
-    let walks = Walks {
-        board: &board,
-        media: site.archi.media(),
-        routes: site.routes,
-        operators,
-        reads,
-    };
-    candidates.fill(vertices, &walks);
+    candidates.fill(vertices, &board);
     Ok(Progress {
         board,
         decisions: Vec::new(alloc),
@@ -94,6 +86,43 @@ pub(crate) fn place_next(
         &mut progress.board,
         &mut progress.decisions,
     )?;
+    progress
+        .candidates
+        .update(site.flat.vertices(), &progress.board, op, quiet);
+    Ok(())
+}
+
+/// The arrival of a candidate on an operator: the one that is kept, or else found by a walk. It takes
+/// no memory.
+pub(crate) fn arrival_next(
+    site: &Site,
+    reads: &[Items<Source>],
+    progress: &Progress,
+    op: u32,
+    operator: u32,
+) -> u64
+    requires keeps { Keeps (drafted site.now progress.now.decisions.items) progress.now.board
+        reads.now progress.now.candidates }
+    requires may { IsTrue (may_place (task_of (drafted site.now progress.now.decisions.items))
+        (acts_of progress.now.decisions.items) op operator) }
+    ensures { result ≡ arrival (task_of (drafted site.now progress.now.decisions.items))
+        (acts_of progress.now.decisions.items) op operator }
+{
+    match progress.candidates.arrival(op, operator) {
+        Some(date) => date,
+        None => walked(site, reads, progress, op, operator),
+    }
+}
+
+/// The arrival of a candidate on an operator, found by a walk.
+fn walked(site: &Site, reads: &[Items<Source>], progress: &Progress, op: u32, operator: u32) -> u64
+    requires keeps { Keeps (drafted site.now progress.now.decisions.items) progress.now.board
+        reads.now progress.now.candidates }
+    requires may { IsTrue (may_place (task_of (drafted site.now progress.now.decisions.items))
+        (acts_of progress.now.decisions.items) op operator) }
+    ensures { result ≡ arrival (task_of (drafted site.now progress.now.decisions.items))
+        (acts_of progress.now.decisions.items) op operator }
+{
     let walks = Walks {
         board: &progress.board,
         media: site.archi.media(),
@@ -101,10 +130,27 @@ pub(crate) fn place_next(
         operators: site.archi.operators().len(),
         reads,
     };
-    progress
-        .candidates
-        .update(site.flat.vertices(), &walks, op, quiet);
-    Ok(())
+    arrival_on(&walks, op as usize, operator as usize)
+}
+
+/// Keeps the arrival of a candidate on an operator, found where it is not known. It takes no memory.
+pub(crate) fn find_next(
+    site: &Site,
+    reads: &[Items<Source>],
+    op: u32,
+    operator: u32,
+    progress: &mut Progress,
+)
+    requires keeps { Keeps (drafted site.now progress.old.decisions.items) progress.old.board
+        reads.now progress.old.candidates }
+    requires may { IsTrue (may_place (task_of (drafted site.now progress.old.decisions.items))
+        (acts_of progress.old.decisions.items) op operator) }
+    ensures same { progress.new.decisions.items ≡ progress.old.decisions.items }
+    ensures keeps { Keeps (drafted site.now progress.new.decisions.items) progress.new.board
+        reads.now progress.new.candidates }
+{
+    let date = arrival_next(site, reads, progress, op, operator);
+    progress.candidates.keep(op, operator, date);
 }
 
 /// Whether an operation is a candidate that may stand on the operator. It takes no memory.

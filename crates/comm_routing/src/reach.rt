@@ -1,6 +1,6 @@
-//! The walks that arrivals are found by, for `candidates`.
+//! The walks that arrivals are found by, for `progress`.
 ghost use Rattle.std.specs.Prelude.{◌≡◌, ◌<◌, length};
-ghost use Rattle.comm_routing.specs.Candidates.{AreArrivals, CanArrive, HasWalks, arrival_at};
+ghost use Rattle.comm_routing.specs.Candidates.{CanWalk, HasWalks, arrival_at};
 
 use crate::board::{Board, arrival};
 use archi_graph::Medium;
@@ -19,26 +19,12 @@ pub(crate) struct Walks<'a> {
     pub reads: &'a [Items<Source>],
 }
 
-/// The arrivals of an operation on each operator.
-pub(crate) fn arrivals(walks: &Walks, op: usize) -> [u64; 16]
-    requires walks { HasWalks walks.now }
-    requires operation { op < length walks.now.reads.now }
-    requires way { CanArrive walks.now op }
-    ensures { AreArrivals walks.now op result }
-{
-    let mut row = [0; 16];
-    for operator in 0..walks.operators {
-        row[operator] = arrival_on(walks, op, operator);
-    }
-    row
-}
-
 /// The arrival of an operation on one operator.
-fn arrival_on(walks: &Walks, op: usize, operator: usize) -> u64
+pub(crate) fn arrival_on(walks: &Walks, op: usize, operator: usize) -> u64
     requires walks { HasWalks walks.now }
     requires operation { op < length walks.now.reads.now }
     requires operator { operator < walks.now.operators }
-    requires way { CanArrive walks.now op }
+    requires way { CanWalk walks.now op operator }
     ensures { result ≡ arrival_at walks.now op operator }
 {
     arrival(

@@ -16,7 +16,7 @@ use Rattle.comm_routing.specs.Candidates.{HasSize, flag_at}
 use Rattle.comm_routing.specs.Dependents.{AreDependents}
 use Rattle.comm_routing.proofs.Sites.{at_default, length-reads}
 use Rattle.comm_routing.proofs.Steps.{asks, decided, told_after}
-use Rattle.comm_routing.proofs.Keeping.{behind, can_arrive, kept_after, stay_after}
+use Rattle.comm_routing.proofs.Keeping.{behind, kept_after, stay_after}
 use Rattle.comm_routing.proofs.progress.place_next.Goals as goal
 
 pub place-requires-clause-ways : goal.place-requires-clause-ways
@@ -70,19 +70,6 @@ update-requires-clause-behind c =
     behind d g.board c.place.new.board c.args.reads.now g.candidates c.args.op c.args.operator c.requires.keeps c.requires.may
     (told_after d g.board c.args.reads.now c.requires.keeps.told c.args.op c.args.operator c.requires.may c.place.new.board is) c.vertices.result.now c.vertices.ensures.same
 
-pub update-requires-clause-ways : goal.update-requires-clause-ways
-update-requires-clause-ways c = λ v h p on.
-    let s = c.args.site.now in
-    let g = c.args.progress.now in
-    let d = drafted s g.decisions.items in
-    let time = c.date_or_zero.ensures ∙ ap ticks_in c.ticks.ensures.entry in
-    let m = routing s.flat.now s.archi.now s.routes.now in
-    let is = c.in_ok-quiet.ensures.tables
-    ∙ ap (λ n. after_operation (after_transfers g.board (transfers_in m g.board c.args.op c.args.operator)) (outs_of m c.args.op) (decision_in m g.board c.args.op c.args.operator n)) time in
-    let told : IsTold (after_placing d c.args.op c.args.operator) c.place.new.board c.args.reads.now = told_after d g.board c.args.reads.now c.requires.keeps.told c.args.op c.args.operator c.requires.may c.place.new.board is in
-    can_arrive (after_placing d c.args.op c.args.operator) c.place.new.board c.args.reads.now told _ (record { board = refl; media = c.media.ensures.same; routes = refl; lists = refl; operators = ap length c.operators.ensures.same })
-    c.vertices.result.now c.vertices.ensures.same v h p on
-
 pub returns-clause-placed : goal.returns-clause-placed
 returns-clause-placed c =
     let s = c.args.site.now in
@@ -104,13 +91,13 @@ returns-clause-keeps c =
     let is = c.in_ok-quiet.ensures.tables
     ∙ ap (λ n. after_operation (after_transfers g.board (transfers_in m g.board c.args.op c.args.operator)) (outs_of m c.args.op) (decision_in m g.board c.args.op c.args.operator n)) time in
     let told : IsTold (after_placing d c.args.op c.args.operator) c.place.new.board c.args.reads.now = told_after d g.board c.args.reads.now c.requires.keeps.told c.args.op c.args.operator c.requires.may c.place.new.board is in
-    kept_after (after_placing d c.args.op c.args.operator) c.place.new.board c.args.reads.now told _ (record { board = refl; media = c.media.ensures.same; routes = refl; lists = refl; operators = ap length c.operators.ensures.same })
+    kept_after (after_placing d c.args.op c.args.operator) c.place.new.board c.args.reads.now told
     c.vertices.result.now c.vertices.ensures.same c.in_ok-quiet.quiet g.candidates c.update.new.self
     (subst (λ xs. AreDependents xs g.candidates.dependents.items) (sym c.vertices.ensures.same) c.requires.keeps.dependents) c.update.ensures
-    (λ v p l can e on.
+    (λ v p n l can e on is.
     let both = and_parts (flag_at g.candidates v) c.in_ok-quiet.quiet e in
     stay_after d g.board c.args.reads.now g.candidates c.args.op c.args.operator c.requires.keeps c.requires.may
-    (ap (λ x. x.transfers) (decided d g.board c.args.reads.now c.requires.keeps.told c.args.op c.args.operator c.requires.may) ∙ c.in_ok-quiet.ensures.quiet both.1) v p l can both.0 on)
+    (ap (λ x. x.transfers) (decided d g.board c.args.reads.now c.requires.keeps.told c.args.op c.args.operator c.requires.may) ∙ c.in_ok-quiet.ensures.quiet both.1) v p n l can both.0 on is)
 
 pub bounds-reads-op : goal.bounds-reads-op
 bounds-reads-op c =
@@ -138,16 +125,3 @@ place-requires-clause-reads c =
 
 pub update-requires-clause-size : goal.update-requires-clause-size
 update-requires-clause-size c = subst (λ (l : List Vertex). HasSize (length l) c.args.progress.now.candidates) (sym c.vertices.ensures.same) c.requires.keeps.size
-
-pub update-requires-clause-walks : goal.update-requires-clause-walks
-update-requires-clause-walks c = record {
-  operators = subst (λ (l : List Name). length l ≤ 16) (sym c.operators.ensures.same) c.requires.keeps.told.site.operators;
-  routes = ap (λ (l : List Name). length l) c.operators.ensures.same ∙ sym c.requires.keeps.told.site.routes.operators;
-  media = subst (λ (l : List Medium). length l ≤ 16) (sym c.media.ensures.same) c.requires.keeps.told.site.media;
-}
-
-pub update-requires-clause-reads : goal.update-requires-clause-reads
-update-requires-clause-reads c =
-    let vertices = ap (λ (l : List Vertex). length l) c.vertices.ensures.same in
-    let reads = ap (λ (l : List (List Source)). length l) c.requires.keeps.told.reads_are ∙ length-reads c.args.site.now.flat.now.vertices in
-    omega arith

@@ -10,4 +10,4 @@ pub arrival-requires-clause-ways : goal.arrival-requires-clause-ways
 arrival-requires-clause-ways c =
     let w = c.args.walks.now in
     subst (λ (xs : List Source). All (HasWay w.media.now w.board.now (route_in w.routes.now) w.routes.now.operators c.args.operator) xs)
-    (sym (c.as_slice.ensures ∙ any_default w.reads.now c.args.op c.index-walks-op.result [] c.requires.operation)) (c.requires.way c.args.operator c.requires.operator).ways
+    (sym (c.as_slice.ensures ∙ any_default w.reads.now c.args.op c.index-walks-op.result [] c.requires.operation)) c.requires.way.ways

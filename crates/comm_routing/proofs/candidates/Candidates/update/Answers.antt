@@ -8,43 +8,27 @@ pub mark_each-requires-clause-operations : goal.mark_each-requires-clause-operat
 mark_each-requires-clause-operations c =
     let s = c.requires.size.dependents in
     let l = c.requires.behind.operation in
-    dependents_low c.args.vertices.now c.args.walks.now.board.now c.args.placed c.args.self.now c.requires.behind _
+    dependents_low c.args.vertices.now c.args.board.now c.args.placed c.args.self.now c.requires.behind _
     (c.as_slice-dependents.ensures.value ∙ sym (list_is c.args.self.now.dependents.items c.args.placed c.index.result.now (omega arith) c.index.ensures))
 
-pub renew-requires-clause-operations : goal.renew-requires-clause-operations
-renew-requires-clause-operations c = λ k d m.
+pub forget-requires-clause-operations : goal.forget-requires-clause-operations
+forget-requires-clause-operations c = λ k d m.
     let s = c.requires.size.dependents in
     let l = c.requires.behind.operation in
-    let low = dependents_low c.args.vertices.now c.args.walks.now.board.now c.args.placed c.args.self.now c.requires.behind _
+    let low = dependents_low c.args.vertices.now c.args.board.now c.args.placed c.args.self.now c.requires.behind _
     (c.as_slice-dependents.ensures.value ∙ sym (list_is c.args.self.now.dependents.items c.args.placed c.index.result.now (omega arith) c.index.ensures)) k d m in
     let long = ap length c.as_mut_slice.ensures.value in
     let size = c.requires.size.arrivals in
     omega arith
-
-pub renew-requires-clause-ways : goal.renew-requires-clause-ways
-renew-requires-clause-ways c = λ v l h.
-    let s = c.requires.size.dependents in
-    let o = c.requires.behind.operation in
-    let long = ap length c.as_mut_slice.ensures.value in
-    let size = c.requires.size.arrivals in
-    c.requires.ways v (sym (flags_right c.args.vertices.now c.args.walks.now.board.now c.args.placed c.args.self.now c.as_slice-dependents.result.now c.mark_one.new.self.flags.items c.mark_each.new.self.flags.items
-    (record {
-      behind = c.requires.behind;
-      size = c.requires.size.flags;
-      dependents_are = c.as_slice-dependents.ensures.value ∙ sym (list_is c.args.self.now.dependents.items c.args.placed c.index.result.now (omega arith) c.index.ensures);
-      first = c.mark_one.ensures.marked;
-      marked = c.mark_each.ensures.marked;
-      others = c.mark_each.ensures.others;
-    }) v (omega arith)) ∙ h)
 
 pub returns : goal.returns
 returns c =
     let s = c.requires.size.dependents in
     let o = c.requires.behind.operation in
     let long = c.as_mut_slice.ensures.len in
-    let size = c.renew.ensures.size in
-    let rows = with_items_is c.args.self.now.arrivals c.renew.new.rows (omega arith) in
-    let marked : AreMarked c.args.vertices.now c.args.walks.now.board.now c.args.placed c.args.self.now c.as_slice-dependents.result.now c.mark_one.new.self.flags.items c.mark_each.new.self.flags.items
+    let size = c.forget.ensures.size in
+    let rows = with_items_is c.args.self.now.arrivals c.forget.new.rows (omega arith) in
+    let marked : AreMarked c.args.vertices.now c.args.board.now c.args.placed c.args.self.now c.as_slice-dependents.result.now c.mark_one.new.self.flags.items c.mark_each.new.self.flags.items
     = record {
       behind = c.requires.behind;
       size = c.requires.size.flags;
@@ -62,8 +46,8 @@ returns c =
         dependents = c.requires.size.dependents;
       };
       dependents = refl;
-      flags = flags_right c.args.vertices.now c.args.walks.now.board.now c.args.placed c.args.self.now c.as_slice-dependents.result.now c.mark_one.new.self.flags.items c.mark_each.new.self.flags.items marked;
+      flags = flags_right c.args.vertices.now c.args.board.now c.args.placed c.args.self.now c.as_slice-dependents.result.now c.mark_one.new.self.flags.items c.mark_each.new.self.flags.items marked;
       ready = c.mark_each.ensures.listed.ready;
-      arrivals = arrivals_right c.args.vertices.now c.args.walks.now.board.now c.args.placed c.args.self.now c.as_slice-dependents.result.now c.mark_one.new.self.flags.items c.mark_each.new.self.flags.items marked
-          c.args.walks.now c.args.keeps c.mark_each.new.self c.args.self.now.arrivals.items c.renew.new.rows _ refl c.mark_each.ensures.listed.ready c.as_mut_slice.ensures.value rows c.renew.ensures.found c.renew.ensures.kept;
+      arrivals = arrivals_right c.args.vertices.now c.args.board.now c.args.placed c.args.self.now c.as_slice-dependents.result.now c.mark_one.new.self.flags.items c.mark_each.new.self.flags.items marked
+          c.args.keeps c.mark_each.new.self c.args.self.now.arrivals.items c.forget.new.rows _ refl c.mark_each.ensures.listed.ready c.as_mut_slice.ensures.value rows c.forget.ensures.forgotten c.forget.ensures.kept;
     }
