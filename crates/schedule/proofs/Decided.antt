@@ -26,8 +26,6 @@ pub record Asked (s : Setting) (g : Graph) (a : Architecture) (table : Table) : 
   pub operators : s.operators ≡ length a.operators
   pub media : s.media.now ≡ a.media
   pub durations : s.durations.now ≡ table
-  pub rows : length table.rows ≡ length g.vertices
-  pub columns : table.operators ≡ length a.operators
   pub flat : is_flat g ≡ true
   pub archi : is_archi a.operators a.media ≡ true
   pub few : length g.vertices ≤ 2048
@@ -47,14 +45,12 @@ few_operations g h =
     leb-true (length g.vertices) 2048 (and_parts few apart u.0).0
 
 pub asked_of : (s : Setting) (g : Graph) (a : Architecture) (table : Table) → s.vertices.now ≡ g.vertices → s.operators ≡ length a.operators → s.media.now ≡ a.media → s.durations.now ≡ table
-    → length table.rows ≡ length g.vertices → table.operators ≡ length a.operators → IsTrue (is_flat g) → IsTrue (is_archi a.operators a.media) → Asked s g a table
-asked_of s g a table vertices operators media durations rows columns flat archi = record {
+    → IsTrue (is_flat g) → IsTrue (is_archi a.operators a.media) → Asked s g a table
+asked_of s g a table vertices operators media durations flat archi = record {
   vertices = vertices;
   operators = operators;
   media = media;
   durations = durations;
-  rows = rows;
-  columns = columns;
   flat = flat;
   archi = archi;
   few = few_operations g flat;
@@ -66,14 +62,10 @@ module _ (s : Setting) (g : Graph) (a : Architecture) (table : Table) (asked : A
       let v = ap length asked.vertices in
       let o = asked.operators in
       let m = ap length asked.media in
-      let r = ap (λ (t : Table). length t.rows) asked.durations in
-      let c = ap (λ (t : Table). t.operators) asked.durations in
-      let rows = asked.rows in
-      let columns = asked.columns in
       let few = asked.few in
       let operators = few_operators a asked.archi in
       let media = few_media a asked.archi in
-      record { rows = r ∙ rows ∙ sym v; columns = c ∙ columns ∙ sym o; operations = omega arith; operators = omega arith; media = omega arith }
+      record { operations = omega arith; operators = omega arith; media = omega arith }
 
   pub decided : (l : Lines) → IsStart l → (ds : List Decision) (x : Schedule) → ds ≡ x.decisions
       → is_valid g a (entry_in table) x ≡ (are_in_line s l (acts_of ds) && list_all (are_fed_from s.vertices.now (acts_of ds)) (range_with_len 0 ((length s.vertices.now + 15) / 16)))

@@ -38,10 +38,8 @@ use Rattle.schedule.specs.declared.line.Lines.{Lines}
 use Rattle.schedule.specs.Acts.{Act, carry, run}
 use Rattle.schedule.specs.Valid.{is_carried, lasts}
 
--- the durations are those of the operations and the operators, of which there are few
+-- there are few operations, operators and media
 pub record IsSetting (setting : Setting) : Type 0 where
-  pub rows : length setting.durations.now.rows ≡ length setting.vertices.now
-  pub columns : setting.durations.now.operators ≡ setting.operators
   pub operations : length setting.vertices.now ≤ most_operations
   pub operators : setting.operators ≤ bound_of Operators
   pub media : length setting.media.now ≤ bound_of Media

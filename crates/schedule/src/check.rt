@@ -23,11 +23,11 @@ use flat_graph::{Flat, Vertex};
 /// starts, and that its far operator does not have. What an operation reads is held on its operator
 /// when it starts. A set half stands on the operator of its get half, after it.
 ///
+/// The durations may be of any graph and any architecture: where they have no entry, nothing may stand.
+///
 /// It takes no memory. The acts are gone through once with a table of operations and lines, and once
 /// more for every sixteen operations with a table of the copies of their outputs: no value is searched.
 pub fn is_valid(flat: &Flat, archi: &Archi, durations: &Durations, schedule: &Schedule) -> bool
-    requires operations { length durations.now.rows ≡ length flat.now.vertices }
-    requires operators { durations.now.operators ≡ length archi.now.operators }
     ensures { result ≡ is_valid flat.now archi.now (entry_in durations.now) schedule.now }
 {
     let setting = Setting {
