@@ -26,7 +26,6 @@ CALLS = {
     "main": ["words"],
     "rtlib.crates_below": ["top"],
     "rtlib.Crate.below": ["self"],
-    "rtlib.Crate.stamp": ["self"],
     "rtlib.Crate.front_end": ["self"],
     "rtlib.Crate.is_built": ["self"],
     "rtlib.Crate.build_rlib": ["self", "flags", "anew"],
@@ -34,7 +33,6 @@ CALLS = {
 }
 # What a call has to say in its code for the change to do what it is for.
 SAID = {
-    "rtlib.Crate.stamp": "dep.stamp() for dep in self.deps",
     "rtlib.Crate.is_built": "os.path.isdir(self.rlib)",
     "rtlib.Crate.build_rlib": "self.is_built()",
     "rtlib.every": ".front_end()",
@@ -48,6 +46,11 @@ def rt():
     made = importlib.util.module_from_spec(importlib.util.spec_from_loader("rt", loader))
     loader.exec_module(made)
     return made
+
+
+# How a kit sums up the files of a crate and of all below it: once for each path that leads there, or once each.
+STAMP = "rtlib.Crate.stamp"
+STAMPS = {"each path": (["self"], "dep.stamp() for dep in self.deps"), "once": (["crate", "made"], "STAMPS")}
 
 
 def member(module, path):
@@ -73,12 +76,23 @@ def shape_faults(module, name, calls, said):
             yield f"{name}: {path} no longer says {words}"
 
 
+def stamps_of(module):
+    """Which of the ways of STAMPS a kit takes, or None where it is another one."""
+    for way, (wanted, words) in STAMPS.items():
+        if not list(shape_faults(module, "rt", {STAMP: wanted}, {STAMP: words})):
+            return way
+    return None
+
+
 def faults():
     """What of rt is not as this script and tools/plant.py expect it."""
     if not shutil.which("rt"):
         yield "there is no command rt: install the kit"
         return
-    yield from shape_faults(rt(), "rt", CALLS, SAID)
+    module = rt()
+    yield from shape_faults(module, "rt", CALLS, SAID)
+    if stamps_of(module) is None:
+        yield f"rt: {STAMP} is none of those that are known here"
     import plant
 
     yield from plant.faults()
