@@ -13,7 +13,8 @@ use Rattle.operation_table.specs.Table.{Condition, Row, table}
 abbrev pub names_of : List Vertex → List (List ℕ)
 names_of xs = map (λ x. x.name) xs
 
--- A source, where the operations have these names in order.
+-- A source, where the operations have these names in order. In a valid flat graph no two have the same name, so that a
+-- name says which operation it is.
 abbrev pub source_origin : List (List ℕ) → Source → Origin
 source_origin names s = record { name = slice_index_or names s.vertex []; output = s.port }
 

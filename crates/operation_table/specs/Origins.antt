@@ -63,11 +63,11 @@ pub record Origin : Type 0 where
   pub name : List ℕ
   pub output : ℕ
 
--- A source that is not there. No operation has an empty name.
+-- A source that is not there. In a tree with names no operation has an empty one.
 abbrev pub nowhere : Origin
 nowhere = record { name = []; output = 0 }
 
--- What one of these units leads to, by number.
+-- The origin of this number, or nowhere past the end.
 abbrev pub origin_at : List Origin → ℕ → Origin
 origin_at os k = slice_index_or os k nowhere
 
@@ -133,12 +133,13 @@ copy_input path own before i (Fork name input len) = output_of (port path name) 
 copy_input path own before i (Diffuse input) = origin_at own input
 copy_input path own before i (Iterate input output) = if i == 0 then origin_at own input else before output
 
--- `body` says where an output of the copy of a number leads, from where the inputs of that copy lead.
+-- Where the inputs of the copy of a number lead. `body` says where an output of a copy leads, from where its inputs do.
 abbrev pub copy_inputs : Path → List Feed → (ℕ → List Origin → ℕ → Origin) → List Origin → ℕ → List Origin
 copy_inputs path feeds body own zero = map (copy_input path own (λ output. nowhere) 0) feeds
 copy_inputs path feeds body own (suc i) =
     map (copy_input path own (body i (copy_inputs path feeds body own i)) (suc i)) feeds
 
+-- Where an output of the copy of a number leads.
 abbrev pub copy_output : Path → List Feed → (ℕ → List Origin → ℕ → Origin) → List Origin → ℕ → ℕ → Origin
 copy_output path feeds body own i = body i (copy_inputs path feeds body own i)
 
@@ -175,7 +176,7 @@ abbrev mutual
   body_leads path no_vertices own p = nowhere
   body_leads path (and_vertex u us) own p = (outlet path u).leads own p
 
--- From the number of the units of a level on, more fuel changes nothing. No level of a tree has a cycle.
+-- From the number of the units of a level on, more fuel changes nothing. In a tree the level of a graph has no cycle.
 abbrev pub FuelIsEnough : Type 0
 FuelIsEnough =
     (path : Path) (us : Vertices) (own : List Origin) (r p more : ℕ) → IsAcyclic (nodes us) →

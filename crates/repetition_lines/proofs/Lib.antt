@@ -1,5 +1,6 @@
 pub mod Sorted
 pub mod OuterNumbers
 pub mod Trees
+pub mod Elaborated
 mod Worked
 mod WorkedText

@@ -1,5 +1,5 @@
 -- The lines of a repetition of a text, and the repetition of a tree that has them.
-use Rattle.std.specs.Prelude.{◌≡◌, ℕ, List, [], ◌∷◌, length, map, replicate, Some, None}
+use Rattle.std.specs.Prelude.{◌≡◌, ℕ, List, [], ◌∷◌, length, map, replicate, Some, None, Ok}
 use Rattle.std.specs.List.{flat_map, range_with_len}
 use Rattle.level_meaning.specs.declared.frontier.Feed.{Feed}
 use Rattle.level_meaning.specs.declared.frontier.Feed.TheVariants as feed
@@ -7,15 +7,18 @@ use Rattle.level_meaning.specs.Level.{Path}
 use Rattle.algo_tree.specs.Tree.{Kind, explode, repeat, Vertex, vertex, Vertices, no_vertices, and_vertex}
 use Rattle.algo_defs.specs.declared.definition.Def.{Def}
 use Rattle.algo_defs.specs.declared.definition.Body.TheVariants.{Repeat}
+use Rattle.algo_defs.specs.declared.definition.Defs.{Defs}
 use Rattle.algo_defs.specs.declared.definition.Frontier.{Frontier}
 use Rattle.algo_defs.specs.declared.definition.Frontier.TheVariants.{Fork, Diffuse, Iterate, Join}
 use Rattle.algo_defs.specs.declared.definition.FrontierLine.{FrontierLine}
 use Rattle.syn_base.specs.Bytes.{Bytes}
+use Rattle.algo_text.specs.Text.{definitions_of}
 use Rattle.algo_rules.specs.Links.{definition}
 use Rattle.algo_rules.specs.Ports.{ports_of, len_of, number_of}
 use Rattle.algo_rules.specs.declared.ports.Ports.{Ports}
 use Rattle.algo_rules.specs.Resolved.{refusal, tree_of}
 use Rattle.algo_rules.specs.WellRead.{AreWellRead}
+use Rattle.elaboration.specs.Elaborated.{elaboration_of}
 use Rattle.factorisation_laws.specs.Lines.{outer_of, in_line_order}
 use Rattle.inlining_laws.specs.Flat.{runs}
 use Rattle.operation_table.specs.Origins.{Origin, origin_at, port}
@@ -75,3 +78,9 @@ abbrev mutual
 
 abbrev pub LinesStandInTextOrder : Type 0
 LinesStandInTextOrder = (ds : List Def) → AreWellRead ds → refusal ds ≡ None → IsVertexOfText ds (tree_of ds)
+
+-- The tree of an accepted text, in which marked references have become graphs.
+abbrev pub ElaboratedLinesStandInTextOrder : Type 0
+ElaboratedLinesStandInTextOrder =
+    (text : Bytes) (defs : Defs) (made : Vertex) → definitions_of text ≡ Ok defs → elaboration_of defs ≡ Ok made →
+    IsVertexOfText defs.defs made
