@@ -1,4 +1,4 @@
-use Rattle.std.proofs.Common.{◌+◌, ◌-◌, ap, arith, sym, ◌∙◌}
+use Rattle.std.proofs.Common.{◌+◌, ◌-◌, ap, arith, ◌∙◌}
 use Rattle.comm_routing.specs.Draft.{Drafted, after_placing, task_of}
 use Rattle.pressure_heuristic.proofs.Running.{ends_after, ends_without, guide_after, left_after}
 use Rattle.pressure_heuristic.proofs.steps.run.Goals as goal
