@@ -1,7 +1,8 @@
 #!/usr/bin/env python3
 """Times `syndex chart`, or with the word `code` `syndex code`, over 512, 1,024 and 2,048 operations on 1, 4 and 16
 operators: a chain of functions, functions that all read one sensor, and functions that all read the same 32 values at 64
-inputs. The operators stand in a ring or at one bus. A plain program (`bench/plain/code.c`, built here by `cc -O2`) does the
+inputs. The operators stand in a ring or at one bus. Then over four texts most of whose operations have something carried for them,
+on 16 operators. A plain program (`bench/plain/code.c`, built here by `cc -O2`) does the
 same, and has to write the same bytes where `syndex` meets no limit. Prints the status, the seconds of the processor, the
 ratio to the plain program's, and the ratio to those of half as many operations."""
 import os
@@ -11,6 +12,7 @@ import sys
 import tempfile
 
 from program import built_program, written, TOP
+from shapes import carrying
 
 PROGRAM = built_program()
 SIZES = (512, 1024, 2048)
@@ -125,6 +127,8 @@ def main():
                         where = "a ring" if ring else "a bus"
                         what = f"{shape}, {operations} operations, {operators} operators in {where}"
                         before = compared(plain, [algorithm, archi], command, what, before)
+        for what, (algorithm, archi) in carrying().items():
+            compared(plain, [written(room, "a", algorithm), written(room, "h", archi)], command, what, None)
 
 
 if __name__ == "__main__":

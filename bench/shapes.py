@@ -134,3 +134,73 @@ def table(names, reactions):
     """A sensor table with these columns."""
     rows = ([str(k)] + [str((k * 7 + j * 13) % 199 - 99) for j in range(len(names))] for k in range(reactions))
     return "\n".join(",".join(row) for row in [["k", *names], *rows]) + "\n"
+
+
+def ports_in(count):
+    return "".join(f"in x{i} 1\n" for i in range(count))
+
+
+def producer():
+    """A function of 64 outputs."""
+    return "function P\n" + "".join(f"out y{i} 1 = {i}\n" for i in range(64)) + "end\n"
+
+
+def staircase():
+    """32 producers, each read by 63 functions, of which the next reads one value more than the one before: 2,048 operations."""
+    parts = [HEAD, producer()]
+    parts += [f"function F{j}\n{ports_in(j + 1)}out y 1 = x0[0]\nend\n" for j in range(63)]
+    parts += ["graph G\n", ports_in(64)] + [f"ref f{j} F{j}\n" for j in range(63)]
+    parts += [f"edge x{i} f{j}.x{i}\n" for j in range(63) for i in range(j + 1)] + ["end\ngraph main\n"]
+    parts += [f"ref p{k} P\nref g{k} G\n" for k in range(32)]
+    parts += [f"edge p{k}.y{i} g{k}.x{i}\n" for k in range(32) for i in range(64)]
+    return "".join(parts + ["end\n"])
+
+
+def half_common():
+    """31 producers, each read by 63 functions at 32 values that all of them read and at one of 32 others: 1,984 operations."""
+    parts = [HEAD, producer(), f"function C\n{ports_in(33)}out y 1 = x0[0]\nend\n", "graph G\nref p P\n"]
+    parts += [f"ref c{j} C\n" for j in range(63)]
+    for j in range(63):
+        parts += [f"edge p.y{i} c{j}.x{i}\n" for i in range(32)] + [f"edge p.y{32 + j % 32} c{j}.x32\n"]
+    parts += ["end\ngraph main\n"] + [f"ref g{k} G\n" for k in range(31)]
+    return "".join(parts + ["end\n"])
+
+
+def all_of_one():
+    """One producer, whose 64 values 2,016 functions read all."""
+    parts = [HEAD, producer(), f"function C\n{ports_in(64)}out y 1 = x0[0]\nend\n", "graph G\n", ports_in(64)]
+    parts += [f"ref c{j} C\n" for j in range(63)]
+    parts += [f"edge x{i} c{j}.x{i}\n" for j in range(63) for i in range(64)] + ["end\ngraph main\nref p P\n"]
+    parts += [f"ref g{k} G\n" for k in range(32)]
+    parts += [f"edge p.y{i} g{k}.x{i}\n" for k in range(32) for i in range(64)]
+    return "".join(parts + ["end\n"])
+
+
+def sixteen(fixed, per, ring, durations):
+    """16 operators in a ring or a chain of media that carry so fast, and durations by definition and operator."""
+    lines = ["architecture 1"] + [f"operator o{k}" for k in range(16)]
+    for k in range(16 if ring else 15):
+        lines += [f"medium m{k} p2p {fixed} {per}", f"connect m{k} o{k}", f"connect m{k} o{(k + 1) % 16}"]
+    lines += [f"duration {definition} o{k} {ticks}" for definition, k, ticks in durations]
+    return "\n".join(lines + [""])
+
+
+def carrying():
+    """By name, algorithms most of whose operations have something carried for them, with their architectures."""
+    falling = [(f"F{j}", 100 - j) for j in range(63)]
+    everywhere = range(16)
+    return {
+        "63 readers each, on one operator": (staircase(), sixteen(2, 1, True, [("P", 0, 1)] + [(f, 8, t) for f, t in falling])),
+        "63 readers each, on all operators": (
+            staircase(),
+            sixteen(2, 1, True, [("P", 0, 1)] + [(f, k, t) for f, t in falling for k in everywhere]),
+        ),
+        "readers of 32 common values in a chain": (
+            half_common(),
+            sixteen(1, 0, False, [("P", k, 1) for k in everywhere] + [("C", k, 1000) for k in everywhere]),
+        ),
+        "readers of all values of one": (
+            all_of_one(),
+            sixteen(2, 1, True, [("P", k, 1) for k in everywhere] + [("C", k, 5 + 7 * k % 13) for k in everywhere]),
+        ),
+    }

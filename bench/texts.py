@@ -1,7 +1,9 @@
 #!/usr/bin/env python3
 """Times reading and printing of texts of 1, 4 and 16 MiB: algorithm texts of sensors, of comments, of a chain of graphs,
 of functions, of graphs whose names have a long prefix, and architecture texts of durations. Prints the seconds and
-the ratios of the times, so that the growth shows on a noisy machine.
+the ratios of the times, so that the growth shows on a noisy machine. Then it reads texts with 100,000 names of eight
+letters: names that fall into one group of the kit's table where its own fixed seed hashes them (`plain/colliding.c`
+finds them, in some seconds), and plain ones. Both should take the same time.
 
 What is timed is a program that is put into a copy of the repository, which is thrown away. The copy takes over what
 earlier checks kept; in a new clone everything below is proved first."""
@@ -112,6 +114,26 @@ KINDS = {
 }
 
 
+# Texts with names of eight letters, whose names may have been chosen to collide.
+NAMED = {
+    "sensors": (ALGORITHM, lambda name: f"sensor {name} 1\n"),
+    "durations": (ARCHITECTURE, lambda name: f"duration {name} P0 17\n"),
+}
+MOST_NAMES = 100_000
+
+
+def colliding_names(room):
+    maker = os.path.join(room, "colliding")
+    source = os.path.join(TOP, "bench", "plain", "colliding.c")
+    subprocess.run(["cc", "-O2", "-o", maker, source], check=True)
+    made = subprocess.run([maker, str(MOST_NAMES)], capture_output=True, text=True, check=True)
+    return made.stdout.split()
+
+
+def plain_names():
+    return [f"n{k:07}" for k in range(MOST_NAMES)]
+
+
 def copy(room):
     """The crates that are needed, with what is kept of their checks, and the program."""
     shutil.copy(os.path.join(TOP, "HANDLES"), room)
@@ -148,6 +170,10 @@ def main():
             printed = ", ".join(f"{printed:.3f}" for _, printed in times)
             ratios = ", ".join(f"{b[0] / a[0]:.2f}" for a, b in zip(times, times[1:]))
             print(f"{kind}: read in {read} s (ratios {ratios}), printed in {printed} s")
+        chosen, plain = colliding_names(room), plain_names()
+        for kind, (head, line) in NAMED.items():
+            slow, quick = (seconds(crate, head + "".join(map(line, names)))[0] for names in (chosen, plain))
+            print(f"{kind} with names that were chosen to collide: read in {slow:.3f} s, plain ones in {quick:.3f} s")
 
 
 if __name__ == "__main__":

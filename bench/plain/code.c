@@ -1,6 +1,6 @@
 /* A plain compiler, for bench/chart.py to compare `syndex chart` and `syndex code` with: it takes an algorithm of sensors,
    actuators, constants, delays, functions and graphs apart into operations, places them by the pressure of the schedule with
-   kept arrivals, and prints the timing chart or the macro-code. */
+   kept arrivals, found only where they may decide, and prints the timing chart or the macro-code. */
 #include "flat.h"
 #include "architecture.h"
 
@@ -41,7 +41,10 @@ typedef struct { int op, on, first_transfer, transfers; int64_t start, end; } De
 static Decision *decisions;
 static Transfer *transfers;
 static int decision_count, transfer_count, transfer_room;
-static int64_t cpu_end[CPUS], medium_end[MEDIA], *held, *tail, *arrivals;
+static int64_t cpu_end[CPUS], medium_end[MEDIA], *held, *tail, *arrivals, *seen;
+/* by operation and operator whether the arrival is known, and by operation the operator that is looked at first */
+static char *known;
+static int *proposed;
 static int *placed_on;
 static int64_t *placed_end;
 
@@ -105,10 +108,6 @@ static int may_stand(int o, int on) {
     return ticks(&ops[o], on) >= 0;
 }
 
-static void arrive(int o) {
-    for (int on = 0; on < cpu_count; on++) if (may_stand(o, on)) arrivals[o * CPUS + on] = arrival(&ops[o], on, 0);
-}
-
 static void place(int o, int on) {
     Decision *d = &decisions[decision_count++];
     *d = (Decision){ o, on, transfer_count, 0, 0, 0 };
@@ -152,40 +151,63 @@ static int64_t tail_of(int o) {
     return tail[o];
 }
 
+static int64_t pressure(int o, int on) {
+    int64_t arrives = known[o * CPUS + on] ? arrivals[o * CPUS + on] : arrival(&ops[o], on, 0);
+    return start_at(o, on, arrives) + ticks(&ops[o], on) + tail[o];
+}
+
+/* looks at the operators that seem best by what was seen before, until one is as good as it seemed */
+static void propose(int o) {
+    for (;;) {
+        int best = -1;
+        int64_t low = 0;
+        for (int on = 0; on < cpu_count; on++) {
+            if (!may_stand(o, on)) continue;
+            int64_t start = seen[o * CPUS + on] > cpu_end[on] ? seen[o * CPUS + on] : cpu_end[on];
+            if (best < 0 || start + ticks(&ops[o], on) < low) { best = on; low = start + ticks(&ops[o], on); }
+        }
+        int at = o * CPUS + best;
+        int64_t before = seen[at];
+        proposed[o] = best;
+        if (!known[at]) { arrivals[at] = arrival(&ops[o], best, 0); known[at] = 1; }
+        seen[at] = start_at(o, best, arrivals[at]);
+        if (seen[at] <= before) return;
+    }
+}
+
 static void schedule(void) {
     size_t n = (size_t)op_count;
     decisions = made(sizeof *decisions * n); readers = made(sizeof *readers * n); waits = made(sizeof *waits * n);
     held = made(sizeof *held * CPUS * (size_t)(value_count + 1)); memset(held, -1, sizeof *held * CPUS * (size_t)(value_count + 1));
     tail = made(sizeof *tail * n); memset(tail, -1, sizeof *tail * n);
-    arrivals = made(sizeof *arrivals * CPUS * n); placed_on = made(sizeof *placed_on * n); placed_end = made(sizeof *placed_end * n);
+    arrivals = made(sizeof *arrivals * CPUS * n); seen = made(sizeof *seen * CPUS * n); known = made(CPUS * n); proposed = made(sizeof *proposed * n);
+    placed_on = made(sizeof *placed_on * n); placed_end = made(sizeof *placed_end * n);
     for (int o = 0; o < op_count; o++) {
         for (int p = 0; p < ops[o].ins; p++) { push(&readers[ops[o].in[p].op], o); waits[o]++; }
         if (ops[o].half == SET) { push(&readers[ops[o].get], o); waits[o]++; }
     }
     for (int o = 0; o < op_count; o++) tail_of(o);
-    int *ready = made(sizeof *ready * n), count = 0;
-    for (int o = 0; o < op_count; o++) if (!waits[o]) { ready[count++] = o; arrive(o); }
-    while (count) {
-        int best = -1, best_on = 0, best_at = 0;
+    char *ready = made(n);
+    for (int o = 0; o < op_count; o++) ready[o] = !waits[o];
+    for (int left = op_count; left; left--) {
+        int best = -1, best_on = 0, sent = transfer_count;
         int64_t most = -1;
-        for (int i = 0; i < count; i++) {
-            int o = ready[i], on_o = -1;
+        for (int o = 0; o < op_count; o++) if (ready[o]) propose(o);
+        for (int o = 0; o < op_count; o++) {
+            if (!ready[o] || pressure(o, proposed[o]) <= most) continue;
+            int on_o = -1;
             int64_t low = 0;
             for (int on = 0; on < cpu_count; on++) {
                 if (!may_stand(o, on)) continue;
-                int64_t pressure = start_at(o, on, arrivals[o * CPUS + on]) + ticks(&ops[o], on) + tail[o];
-                if (on_o < 0 || pressure < low) { low = pressure; on_o = on; }
+                int64_t p = pressure(o, on);
+                if (on_o < 0 || p < low) { low = p; on_o = on; }
             }
-            if (low > most || (low == most && o < best)) { most = low; best = o; best_on = on_o; best_at = i; }
+            if (low > most) { most = low; best = o; best_on = on_o; }
         }
-        int sent = transfer_count;
         place(best, best_on);
-        ready[best_at] = ready[--count];
-        if (transfer_count > sent) for (int i = 0; i < count; i++) arrive(ready[i]);
-        for (int i = 0; i < readers[best].count; i++) {
-            int o = readers[best].to[i];
-            if (!--waits[o]) { ready[count++] = o; arrive(o); }
-        }
+        ready[best] = 0;
+        if (transfer_count > sent) memset(known, 0, CPUS * n);
+        for (int i = 0; i < readers[best].count; i++) if (!--waits[readers[best].to[i]]) ready[readers[best].to[i]] = 1;
     }
 }
 

@@ -8,7 +8,7 @@ use Rattle.algo_defs.specs.declared.definition.Def.{Def}
 use Rattle.algo_defs.specs.declared.fault.AlgoError.{AlgoError}
 use Rattle.algo_rules.specs.Links.{first_of, links_of}
 use Rattle.algo_rules.specs.Resolved.{body_fault, faults_at}
-use Rattle.algo_links.specs.Placing.{Tells}
+use Rattle.algo_defs.specs.Returned.{Tells}
 use Rattle.algo_links.proofs.Fresh.{from_here}
 use Rattle.reference_graph.specs.Links.{depths}
 use Rattle.algo_check.proofs.Inside.{links_count}

@@ -1,8 +1,8 @@
 -- What is refused first, of checks in order.
 use Rattle.std.proofs.Common.{◌≡◌, List, [], ◌∷◌, ◌++◌, Option, Some, None, Err, refl, ap, sym, subst}
 use Rattle.algo_defs.specs.declared.fault.AlgoError.{AlgoError}
-use Rattle.algo_defs.specs.declared.fault.AlgoError.TheVariants.{Refused, Limit, OutOfMemory}
-use Rattle.algo_links.specs.Placing.{Tells}
+use Rattle.algo_defs.specs.declared.fault.AlgoError.TheVariants.{Refused, Limit, TooLarge, OutOfMemory}
+use Rattle.algo_defs.specs.Returned.{Tells}
 use Rattle.algo_rules.specs.Links.{first_of}
 use Rattle.algo_rules.specs.Placed.{Checks}
 
@@ -10,11 +10,13 @@ use Rattle.algo_rules.specs.Placed.{Checks}
 pub told : (A : Type 0) (e : AlgoError) (o : Option AlgoError) → Tells e o → Checks {A = A} (Err e) o
 told A (Refused f) o h = h
 told A (Limit f) o h = h
+told A TooLarge o h = h
 told A OutOfMemory o h = h
 
 pub tells : (A : Type 0) (e : AlgoError) (o : Option AlgoError) → Checks {A = A} (Err e) o → Tells e o
 tells A (Refused f) o h = h
 tells A (Limit f) o h = h
+tells A TooLarge o h = h
 tells A OutOfMemory o h = h
 
 some_first : (e : AlgoError) (xs ys : List (Option AlgoError)) → first_of xs ≡ Some e → first_of (xs ++ ys) ≡ Some e
@@ -31,6 +33,7 @@ none_first (Some f ∷ xs) ys h = cc
 pub front_told : (e : AlgoError) (xs ys : List (Option AlgoError)) → Tells e (first_of xs) → Tells e (first_of (xs ++ ys))
 front_told (Refused f) xs ys h = some_first (Refused f) xs ys h
 front_told (Limit f) xs ys h = some_first (Limit f) xs ys h
+front_told TooLarge xs ys h = some_first TooLarge xs ys h
 front_told OutOfMemory xs ys h = h
 
 -- and of the back, where the front has none
@@ -40,6 +43,7 @@ back_told e xs ys h k = subst (λ (o : Option AlgoError). Tells e o) (sym (none_
 pub one_told : (e : AlgoError) (o : Option AlgoError) (os : List (Option AlgoError)) → Tells e o → Tells e (first_of (o ∷ os))
 one_told (Refused f) o os h = rw h refl
 one_told (Limit f) o os h = rw h refl
+one_told TooLarge o os h = rw h refl
 one_told OutOfMemory o os h = tt
 
 pub next_told : (e : AlgoError) (o : Option AlgoError) (os : List (Option AlgoError)) → o ≡ None → Tells e (first_of os) → Tells e (first_of (o ∷ os))

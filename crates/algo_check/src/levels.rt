@@ -2,7 +2,7 @@
 ghost use Rattle.std.specs.Prelude.{◌≡◌, ◌<◌, ◌≤◌, ◌∷◌, [], IfOk, None, Some, length, map};
 ghost use Rattle.syn_base.specs.Limits.{most_in_text};
 ghost use Rattle.algo_tree.specs.Well.{AreDistinctNames};
-ghost use Rattle.algo_links.specs.Placing.{Tells};
+ghost use Rattle.algo_defs.specs.Returned.{Tells};
 ghost use Rattle.algo_rules.specs.Links.{first_of, links_of, misplaced, recursive, recursive_by, too_deep, too_deep_by, unknown};
 ghost use Rattle.algo_rules.specs.Placed.{Checks};
 ghost use Rattle.reference_graph.specs.Links.{depths, first_recursive};

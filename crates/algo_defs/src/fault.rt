@@ -56,6 +56,10 @@ pub enum AlgoError {
     Refused(AlgoFault),
     #[error("{count} above {bound}", count = .0.count, bound = .0.bound)]
     Limit(LimitFault),
+    /// The tree would be made of more vertices than any tree is. The commands report it as want of
+    /// memory.
+    #[error("too many vertices")]
+    TooLarge,
     #[error("out of memory")]
     OutOfMemory,
 }

@@ -5,12 +5,13 @@ use Rattle.std.specs.List.{flat_map}
 use Rattle.std.proofs.lemmas.List.{get_or-map}
 use Rattle.algo_defs.specs.declared.definition.Def.{Def}
 use Rattle.algo_defs.specs.declared.fault.AlgoError.{AlgoError}
-use Rattle.algo_defs.specs.declared.fault.AlgoError.TheVariants.{Refused, Limit, OutOfMemory}
+use Rattle.algo_defs.specs.declared.fault.AlgoError.TheVariants.{Refused, Limit, TooLarge, OutOfMemory}
 use Rattle.algo_defs.specs.declared.fault.AlgoCause.TheVariants.{Misplaced}
 use Rattle.syn_base.specs.Bytes.{Bytes}
 use Rattle.algo_rules.specs.Links.{fault, first_of, Mention, may_stand, misplaced_by, definition}
 use Rattle.algo_rules.specs.Placed.{Checks}
-use Rattle.algo_links.specs.Placing.{Tells, place_of, places_of, misplaced_in}
+use Rattle.algo_defs.specs.Returned.{Tells}
+use Rattle.algo_links.specs.Placing.{place_of, places_of, misplaced_in}
 use Rattle.algo_links.proofs.Fresh.{from_here}
 use Rattle.algo_links.proofs.Found.{found}
 
@@ -18,11 +19,13 @@ use Rattle.algo_links.proofs.Found.{found}
 pub told : (A : Type 0) (e : AlgoError) (o : Option AlgoError) → Tells e o → Checks {A = A} (Err e) o
 told A (Refused f) o h = h
 told A (Limit f) o h = h
+told A TooLarge o h = h
 told A OutOfMemory o h = h
 
 pub tells : (A : Type 0) (e : AlgoError) (o : Option AlgoError) → Checks {A = A} (Err e) o → Tells e o
 tells A (Refused f) o h = h
 tells A (Limit f) o h = h
+tells A TooLarge o h = h
 tells A OutOfMemory o h = h
 
 -- what is told of the first is told of all
@@ -39,6 +42,7 @@ none_first (Some f ∷ xs) ys h = cc
 first_told : (e : AlgoError) (xs ys : List (Option AlgoError)) → Tells e (first_of xs) → Tells e (first_of (xs ++ ys))
 first_told (Refused f) xs ys h = some_first (Refused f) xs ys h
 first_told (Limit f) xs ys h = some_first (Limit f) xs ys h
+first_told TooLarge xs ys h = some_first TooLarge xs ys h
 first_told OutOfMemory xs ys h = h
 
 module _ (f : Def → List (Option AlgoError)) (ds : List Def) (i : ℕ) (d : Def) (h : i < length ds) (is : d ≡ get_or ds i d) (before : first_of (flat_map f ds) ≡ first_of (flat_map f (drop i ds))) where
@@ -56,6 +60,7 @@ module _ (f : Def → List (Option AlgoError)) (ds : List Def) (i : ℕ) (d : De
 pub one_told : (e : AlgoError) (o : Option AlgoError) (os : List (Option AlgoError)) → Tells e o → Tells e (first_of (o ∷ os))
 one_told (Refused f) o os h = rw h refl
 one_told (Limit f) o os h = rw h refl
+one_told TooLarge o os h = rw h refl
 one_told OutOfMemory o os h = tt
 
 -- A line of an owner, whose definition stands at the place that is given.

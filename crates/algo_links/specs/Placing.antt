@@ -1,19 +1,12 @@
 -- The lines that name definitions, over the names of all definitions in order.
-use Rattle.std.specs.Prelude.{◌≡◌, ℕ, List, map, position, Option, Some, None}
+use Rattle.std.specs.Prelude.{ℕ, List, map, position, Option, Some, None}
 use Rattle.std.specs.List.{flat_map, position_or_len}
 use Rattle.std.specs.Str.{bytes_eq}
 use Rattle.algo_defs.specs.declared.definition.Def.{Def}
 use Rattle.algo_defs.specs.declared.fault.AlgoError.{AlgoError}
-use Rattle.algo_defs.specs.declared.fault.AlgoError.TheVariants.{Refused, Limit, OutOfMemory}
 use Rattle.algo_defs.specs.declared.fault.AlgoCause.TheVariants.{UnknownName}
 use Rattle.syn_base.specs.Bytes.{Bytes}
 use Rattle.algo_rules.specs.Links.{fault, first_of, Mention, mentions, misplaced_by}
-
--- a refusal that was made is this one, or memory ran out
-abbrev pub Tells : AlgoError → Option AlgoError → Type 0
-Tells (Refused f) expected = expected ≡ Some (Refused f)
-Tells (Limit f) expected = expected ≡ Some (Limit f)
-Tells OutOfMemory expected = Unit {0}
 
 abbrev pub names_of : List Def → List Bytes
 names_of ds = map (λ d. d.name) ds

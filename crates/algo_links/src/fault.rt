@@ -1,7 +1,7 @@
 //! The refusal of a line that names a definition, which `links_of` returns.
 ghost use Rattle.algo_defs.specs.declared.fault.AlgoCause.TheVariants.{UnknownName, Misplaced};
 ghost use Rattle.algo_rules.specs.Links.{fault};
-ghost use Rattle.algo_links.specs.Placing.{Tells};
+ghost use Rattle.algo_defs.specs.Returned.{Tells};
 
 use algo_defs::{AlgoCause, AlgoError, AlgoFault};
 use std::alloc::Global;

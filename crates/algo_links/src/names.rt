@@ -4,7 +4,7 @@ ghost use Rattle.algo_tree.specs.Well.{AreDistinctNames};
 ghost use Rattle.algo_links.specs.Placing.{names_of};
 
 use algo_defs::Def;
-use name_table::Names;
+use name_table::{Names, TableKey};
 use std::alloc::Global;
 use syn_base::OutOfMemory;
 
@@ -13,7 +13,8 @@ pub fn names_of<'a>(alloc: Global, defs: &'a [Def]) -> Result<Names<'a>, OutOfMe
     requires { AreDistinctNames (names_of defs.now) }
     ensures { IfOk result (λ names. names ≡ names_of defs.now) }
 {
-    let mut names = Names::new(alloc);
+    let key = TableKey::of_names(defs.iter().map(|def| def.name.as_bytes()));
+    let mut names = Names::new(alloc, key);
     for def in defs {
         names.add(def.name.as_bytes())?;
     }

@@ -17,7 +17,7 @@ use algo_lines::{
     above, add_new, bad_line, bad_number, begins, delay_depth, is_above, line_name, line_words,
     not_text, push, read_count, read_values, read_version,
 };
-use name_table::Names;
+use name_table::{Names, TableKey};
 use std::alloc::Global;
 use std::mem;
 use syn_base::{Items, LimitKind, Name};
@@ -112,14 +112,14 @@ fn values_body(kind: ValuesKind, values: Vec<i64>) -> Body
 }
 
 impl<'a> Reader<'a> {
-    /// A reader that has read nothing. It takes no memory.
-    pub fn new(alloc: Global) -> Reader<'a>
+    /// A reader that has read nothing, with the key of its text. It takes no memory.
+    pub fn new(alloc: Global, key: TableKey) -> Reader<'a>
         ensures { reading result ≡ start }
     {
         Reader {
             version: 0,
             defs: Vec::new(alloc),
-            names: Names::new(alloc),
+            names: Names::new(alloc, key),
             place: Place::BeforeVersion,
         }
     }
@@ -598,7 +598,7 @@ pub fn read_algo(alloc: Global, bytes: &[u8]) -> Result<Defs, AlgoError>
     requires { length (lines_of bytes.now) ≤ most_in_text }
     ensures { Gives result (definitions_of bytes.now) }
 {
-    let mut reader = Reader::new(alloc);
+    let mut reader = Reader::new(alloc, TableKey::of_text(bytes));
     let mut from = 0;
     let mut number = 1;
     while from < bytes.len() {

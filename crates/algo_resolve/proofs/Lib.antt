@@ -1,6 +1,7 @@
 pub mod Placed
 pub mod Steps
 pub mod Told
+pub mod Within
 pub mod Edges
 pub mod Sizing
 pub mod Planned

@@ -1,8 +1,7 @@
 -- One round of sizes more.
-use Rattle.std.proofs.Common.{◌≡◌, ℕ, zero, suc, ◌+◌, ◌-◌, ◌*◌, ◌^◌, ◌<◌, Bool, true, false, List, [], ◌∷◌, ◌++◌, length, map, min, Some, None, nat_lt, refl, ap, ap₂, sym, ◌∙◌, arith}
+use Rattle.std.proofs.Common.{◌≡◌, ℕ, zero, suc, ◌+◌, ◌-◌, ◌*◌, ◌^◌, ◌<◌, List, [], ◌∷◌, ◌++◌, length, map, min, Some, None, refl, ap, ap₂, sym, ◌∙◌, arith}
 use Rattle.std.specs.Prelude.{slice_get, slice_index, replicate}
 use Rattle.std.specs.List.{sum_by}
-use Rattle.std.proofs.lemmas.Bool.{le-ltb, lt-ltb, ltb-false, ltb-true}
 use Rattle.std.proofs.lemmas.List.Sums.{sum_by-append, sum_by-cons}
 use Rattle.algo_tree.proofs.Capped.{product_capped}
 use Rattle.algo_defs.specs.declared.definition.Def.{Def}
@@ -104,11 +103,3 @@ ones_count (suc n) = ap suc (ones_count n)
 
 pub no_rounds : (ds : List Def) → AreSizes ds 0 (replicate (length ds) 1)
 no_rounds ds = record { rows = ones_count (length ds); within = λ k w h. ones (length ds) k h.below }
-
--- whether a bound below the cap is passed
-pub passed : (b x m : ℕ) → b < m → nat_lt b (min x m) ≡ nat_lt b x
-passed b x m low = by (nat_lt b x) refl
-  where
-    by : (t : Bool) → nat_lt b x ≡ t → nat_lt b (min x m) ≡ t
-    by true e = lt-ltb b (min x m) (omega (arith, ltb-true b x e, low))
-    by false e = le-ltb b (min x m) (omega (arith, ltb-false b x e))

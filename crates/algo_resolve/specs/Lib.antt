@@ -3,3 +3,4 @@ pub mod Parts
 pub mod Plans
 pub mod Wiring
 pub mod Sizes
+pub mod Within

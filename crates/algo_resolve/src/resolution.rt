@@ -1,15 +1,16 @@
 //! The tree of the definitions of a text, or their first refusal: `resolve`, which `elaboration` calls.
-ghost use Rattle.std.specs.Prelude.{◌≡◌, ◌<◌, ◌≤◌, IfOk, IfSome, MatchOption, None, Some, codes, length, nat_lt, slice_get};
+ghost use Rattle.std.specs.Prelude.{◌≡◌, ◌<◌, ◌≤◌, IfOk, IfSome, MatchOption, None, Some, codes, length, slice_get};
 ghost use Rattle.syn_base.specs.Limits.{most_in_text};
 ghost use Rattle.algo_rules.specs.Links.{definition};
-ghost use Rattle.algo_rules.specs.Placed.{Gives};
+ghost use Rattle.algo_defs.specs.Returned.{Gives};
 ghost use Rattle.algo_rules.specs.Resolved.{refusal, resolution_of, tree_of};
 ghost use Rattle.algo_rules.specs.WellRead.{AreWellRead};
-ghost use Rattle.algo_tree.specs.Size.{vertices_made};
+ghost use Rattle.algo_tree.specs.Size.{is_large, vertices_made};
 ghost use Rattle.algo_tree.specs.View.{view};
 ghost use Rattle.operation_paths.specs.Bounded.{HasBounds};
 ghost use Rattle.operation_paths.specs.Named.{HasNames};
 ghost use Rattle.algo_resolve.specs.Parts.{ArePlanned, AreReady};
+ghost use Rattle.algo_resolve.specs.Within.{Makes, of_size, within_bound};
 
 use crate::build::{Seat, build_vertex};
 use crate::builder::Builder;
@@ -20,7 +21,7 @@ use crate::size::{entry, sizes};
 use algo_check::check_definitions;
 use algo_defs::{AlgoError, Def, Defs};
 use algo_links::links_of;
-use algo_tree::{MOST_VERTICES, Tree, Vertex};
+use algo_tree::{MOST_VERTICES, SizeError, Tree, Vertex};
 use level_meaning::Part;
 use std::alloc::Global;
 use syn_base::{Items, OutOfMemory};
@@ -28,13 +29,13 @@ use tree_laws::{accepted_make_a_tree, vertices_are_counted};
 
 /// The tree of the definitions of a text, or their first refusal in the order of the checks.
 ///
-/// OutOfMemory may come in place of any result. It comes also where the tree would be made of more than
-/// `MOST_VERTICES`, each copy of the body of a repetition counted, before anything is made; a tree of
-/// at most this many is always made, as far as there is memory.
+/// TooLarge comes after all checks, exactly where the tree would be made of more than `MOST_VERTICES`,
+/// each copy of the body of a repetition counted, and before anything is made. OutOfMemory may come in
+/// place of any result, where memory runs out.
 pub fn resolve(alloc: Global, defs: &Defs) -> Result<Tree, AlgoError>
     requires read { AreWellRead defs.now.defs }
     requires few { length defs.now.defs ≤ most_in_text }
-    ensures gives { Gives result (resolution_of defs.now.defs) }
+    ensures gives { Gives result (within_bound (resolution_of defs.now.defs)) }
     ensures named { IfOk result (λ t. HasNames t) }
     ensures bounded { IfOk result (λ t. HasBounds t) }
     ensures few { IfOk result (λ t. vertices_made t ≤ 262144) }
@@ -50,23 +51,32 @@ pub fn resolve(alloc: Global, defs: &Defs) -> Result<Tree, AlgoError>
     };
     match tree(alloc, &checked) {
         Ok(tree) => Ok(tree),
-        Err(_) => Err(AlgoError::OutOfMemory),
+        Err(error) => Err(refusal_of(error)),
     }
 }
 
-/// The tree of definitions that have passed all checks.
-fn tree(alloc: Global, checked: &Checked) -> Result<Tree, OutOfMemory>
+/// The refusal of a text whose tree is not made.
+fn refusal_of(error: SizeError) -> AlgoError
+    ensures { result ≡ of_size error }
+{
+    match error {
+        SizeError::TooLarge => AlgoError::TooLarge,
+        SizeError::OutOfMemory => AlgoError::OutOfMemory,
+    }
+}
+
+/// The tree of definitions that have passed all checks, where it is within the bound on vertices.
+fn tree(alloc: Global, checked: &Checked) -> Result<Tree, SizeError>
     requires ready { AreReady checked.now }
     requires read { AreWellRead checked.now.defs.now }
     requires passed { refusal checked.now.defs.now ≡ None }
-    ensures is { IfOk result (λ t. t ≡ tree_of checked.now.defs.now) }
-    ensures few { IfOk result (λ t. vertices_made t ≤ 262144) }
+    ensures { Makes (tree_of checked.now.defs.now) result }
 {
     let Some(place) = main_place(checked.defs) else {
         unreachable!()
     };
     if is_too_large(alloc, checked, place)? {
-        return Err(OutOfMemory);
+        return Err(SizeError::TooLarge);
     }
     let main = main_vertex(alloc, checked, place)?;
     // That the vertex is a valid tree, which `Tree::new` asks for.
@@ -81,7 +91,7 @@ fn is_too_large(alloc: Global, checked: &Checked, place: usize) -> Result<bool, 
     requires passed { refusal checked.now.defs.now ≡ None }
     requires below { place < length checked.now.defs.now }
     requires main { definition checked.now.defs.now (codes "main") ≡ slice_get checked.now.defs.now place }
-    ensures { IfOk result (λ large. large ≡ nat_lt 262144 (vertices_made (tree_of checked.now.defs.now))) }
+    ensures { IfOk result (λ large. large ≡ is_large (tree_of checked.now.defs.now)) }
 {
     let sizes = sizes(alloc, checked)?;
     // That the counted size is that of the tree.

@@ -18,7 +18,7 @@ use Rattle.std.specs.Prelude.{
 }
 use Rattle.algo_defs.specs.declared.definition.Def.{Def}
 use Rattle.algo_defs.specs.declared.fault.AlgoError.{AlgoError}
-use Rattle.algo_defs.specs.declared.fault.AlgoError.TheVariants.{Refused, Limit, OutOfMemory}
+use Rattle.algo_defs.specs.declared.fault.AlgoError.TheVariants.{Refused, Limit, TooLarge, OutOfMemory}
 use Rattle.syn_base.specs.Bytes.{Bytes}
 use Rattle.algo_rules.specs.Links.{definition}
 use Rattle.algo_rules.specs.Ports.{no_ports, ports_of}
@@ -44,11 +44,5 @@ abbrev pub Checks : {A : Type 0} → Result A AlgoError → Option AlgoError →
 Checks (Ok done) expected = expected ≡ None
 Checks (Err (Refused f)) expected = expected ≡ Some (Refused f)
 Checks (Err (Limit f)) expected = expected ≡ Some (Limit f)
+Checks (Err TooLarge) expected = expected ≡ Some TooLarge
 Checks (Err OutOfMemory) expected = Unit {0}
-
--- the same for a call that answers what was resolved
-abbrev pub Gives : {A : Type 0} → Result A AlgoError → Result A AlgoError → Type 0
-Gives (Ok x) expected = expected ≡ Ok x
-Gives (Err (Refused f)) expected = expected ≡ Err (Refused f)
-Gives (Err (Limit f)) expected = expected ≡ Err (Limit f)
-Gives (Err OutOfMemory) expected = Unit {0}

@@ -12,7 +12,7 @@ use Rattle.body_text.proofs.Judged.{is_written}
 use Rattle.algo_defs.specs.declared.fault.AlgoCause.{AlgoCause}
 use Rattle.algo_defs.specs.declared.fault.AlgoCause.TheVariants.{NotText, BadLine, BadName, BadNumber, BadExpression, DuplicateName, UnknownName, WrongLength, Unconnected, TwiceConnected, Recursive, Cycle, NoMain, BadCase, Misplaced, BadRepeat, BadDelay, BadEvery}
 use Rattle.algo_defs.specs.declared.fault.AlgoError.{AlgoError}
-use Rattle.algo_defs.specs.declared.fault.AlgoError.TheVariants.{Refused, Limit, OutOfMemory}
+use Rattle.algo_defs.specs.declared.fault.AlgoError.TheVariants.{Refused, Limit, TooLarge, OutOfMemory}
 use Rattle.syn_base.specs.Bytes.{Bytes}
 use Rattle.algo_text.specs.Blocks.{refused}
 use Rattle.algo_text.specs.Formulas.{name_in, known_by, read_by, formula_of}
@@ -87,6 +87,7 @@ module _ (line : ℕ) (ports : List Bytes) (text : Bytes) where
   one_formula (Ok e) h = body_formula line ports text e h
   one_formula (Err (Limit f)) h = many_shape (length (tokens text)) (bound_of Tokens) _ _ h.0 ∙ ap (λ (g : _). Err (Limit g)) (sym h.1)
   one_formula (Err (Refused r)) h = refusal r.line r.cause h.0 h.1
+  one_formula (Err TooLarge) h = absurd h
   one_formula (Err OutOfMemory) h = absurd h
 
   pub formula_law : (r : Result Expr AlgoError) → (formula_of line ports text ≡ r) ↔ IsFormula ports text line r

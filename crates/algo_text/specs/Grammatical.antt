@@ -28,7 +28,7 @@ use Rattle.algo_defs.specs.declared.fault.AlgoCause.TheVariants.{
   BadEvery,
 }
 use Rattle.algo_defs.specs.declared.fault.AlgoError.{AlgoError}
-use Rattle.algo_defs.specs.declared.fault.AlgoError.TheVariants.{Refused, Limit, OutOfMemory}
+use Rattle.algo_defs.specs.declared.fault.AlgoError.TheVariants.{Refused, Limit, TooLarge, OutOfMemory}
 use Rattle.syn_base.specs.Bytes.{Bytes}
 
 -- The first port that the text names and that is none of these has this name.
@@ -67,4 +67,5 @@ module _ (ports : List Bytes) (text : Bytes) where
       (bound_of Tokens < length (tokens text)) ×
       (f ≡ record { which = Tokens; count = length (tokens text); bound = bound_of Tokens })
   IsFormula line (Err (Refused r)) = (r.line ≡ line) × IsCause r.cause
+  IsFormula line (Err TooLarge) = ⊥
   IsFormula line (Err OutOfMemory) = ⊥

@@ -1,17 +1,43 @@
 //! The number of vertices that a vertex is made of, which whoever makes or simulates them asks for before.
 ghost use Rattle.std.specs.Prelude.{◌≡◌, ◌^◌, ◌-◌, min};
-ghost use Rattle.algo_tree.specs.Size.{made_by, vertices_made};
+ghost use Rattle.algo_tree.specs.Size.{is_large, made_by, vertices_made};
 ghost use Rattle.algo_tree.specs.View.{kind_view, view};
+ghost use Rattle.algo_tree.specs.declared.size.SizeError.TheVariants.{OutOfMemory as Wants};
 
 use crate::count::{count_forks, count_joins};
 use crate::vertex::{Kind, Vertex};
+use syn_base::OutOfMemory;
 
-/// The most vertices that any tree is made of, each copy of the body of a repetition counted: what
-/// resolves, simulates or flattens an algorithm returns want of memory beyond it, before anything is
-/// made. A flat operation stands in at most eight vertices, `main` among them, so the at most 2,048
-/// operations of a tree stand in at most 16,384: a tree beyond this bound is made of graphs, switches
-/// and repetitions that stand for no operation.
+/// The most vertices that any tree is made of, each copy of the body of a repetition counted. What
+/// resolves, elaborates, simulates or unrolls an algorithm refuses a tree beyond it, and none within
+/// it. A flat operation of what a text resolves to stands in at most eight vertices, `main` among
+/// them, and a mark puts three more around what it marks: so the at most 2,048 operations of a tree
+/// stand in at most 22,528, and a tree beyond this bound is made of graphs, switches and repetitions
+/// that stand for no operation.
 pub const MOST_VERTICES: u64 = 262_144;
+
+/// Why no tree is made of another: it would have more vertices than any tree, or memory ran out.
+#[derive(Clone, Copy, Debug, PartialEq, Eq)]
+pub enum SizeError {
+    TooLarge,
+    OutOfMemory,
+}
+
+impl From<OutOfMemory> for SizeError {
+    ghost from_gives = { λ _ e. e ≡ Wants };
+
+    fn from(_want: OutOfMemory) -> SizeError {
+        SizeError::OutOfMemory
+    }
+}
+
+/// Whether a vertex is made of more than `MOST_VERTICES`. It takes no memory, and goes once through
+/// the vertex.
+pub fn is_large(vertex: &Vertex) -> bool
+    ensures { result ≡ is_large (view vertex.now) }
+{
+    count_vertices(vertex) > MOST_VERTICES
+}
 
 /// The number of vertices that a vertex is made of, it and all inside it: the body of a repetition
 /// once for each copy, with a vertex for each of its fork and join lines; or the last value of the

@@ -8,7 +8,7 @@ ghost use Rattle.archi_reader.specs.Durations.{is_given, AreGiven};
 
 use crate::fault::push;
 use archi_defs::{ArchiError, DurationLine};
-use name_table::Names;
+use name_table::{Names, TableKey};
 use std::alloc::Global;
 use std::marker::Model;
 use syn_base::{Items, Name};
@@ -38,13 +38,13 @@ impl<'a> Model for Durations<'a> {
 }
 
 impl<'a> Durations<'a> {
-    /// No durations.
-    pub fn new(alloc: Global) -> Result<Durations<'a>, ArchiError>
+    /// No durations. The names are to be hashed by this key.
+    pub fn new(alloc: Global, key: TableKey) -> Result<Durations<'a>, ArchiError>
         ensures { Has result [] }
     {
         let mut given = Vec::new(alloc);
         for _operator in 0..MOST_OPERATORS {
-            push(&mut given, Names::new(alloc))?;
+            push(&mut given, Names::new(alloc, key))?;
         }
         Ok(Durations {
             lines: Vec::new(alloc),

@@ -15,6 +15,7 @@ use crate::stands::{has_stand, with_stand};
 use crate::word::{begins, line_words, read_depth, read_name, read_up_to, read_version};
 use archi_defs::{ArchiError, ArchiText};
 use archi_graph::Medium;
+use name_table::TableKey;
 use std::alloc::Global;
 use syn_base::{Items, LimitKind, Name};
 use text_lines::Words;
@@ -40,8 +41,8 @@ pub struct Reader<'a> {
 }
 
 impl<'a> Reader<'a> {
-    /// Nothing was read yet.
-    pub fn new(alloc: Global) -> Result<Reader<'a>, ArchiError>
+    /// Nothing was read yet of the text with this key.
+    pub fn new(alloc: Global, key: TableKey) -> Result<Reader<'a>, ArchiError>
         ensures { MakesReader result start }
     {
         Ok(Reader {
@@ -51,7 +52,7 @@ impl<'a> Reader<'a> {
             media: Vec::new(alloc),
             lines: Vec::new(alloc),
             connections: 0,
-            durations: Durations::new(alloc)?,
+            durations: Durations::new(alloc, key)?,
         })
     }
 
@@ -297,7 +298,7 @@ pub fn read_archi(alloc: Global, bytes: &[u8]) -> Result<ArchiText, ArchiError>
     requires { length (lines_of bytes.now) ≤ most_in_text }
     ensures { Gives result (description_of bytes.now) }
 {
-    let mut reader = Reader::new(alloc)?;
+    let mut reader = Reader::new(alloc, TableKey::of_text(bytes))?;
     let mut from = 0;
     let mut number = 1;
     while from < bytes.len() {

@@ -1,3 +1,4 @@
+pub mod Ascending
 pub mod Clean
 pub mod Cuts
 pub mod Each

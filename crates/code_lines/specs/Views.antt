@@ -164,11 +164,6 @@ abbrev pub GivesEnds : Result declared_ends.Ends CodeError → Result Ends CodeE
 GivesEnds (Ok e) read = read ≡ Ok (record { from = e.from; to = e.to })
 GivesEnds (Err e) read = Fails e read
 
--- the numbers that a line lists, or its refusal
-abbrev pub GivesNumbers : Result (Vec ℕ) CodeError → Result (List ℕ) CodeError → Type 0
-GivesNumbers (Ok v) read = read ≡ Ok v.items
-GivesNumbers (Err e) read = Fails e read
-
 -- the buffer that a line declares, or its refusal
 abbrev pub GivesDeclaration : Result declared_declaration.Declaration CodeError → Result Declaration CodeError → Type 0
 GivesDeclaration (Ok d) read = read ≡ Ok (declaration_view d)

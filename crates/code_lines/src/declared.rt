@@ -1,6 +1,8 @@
 //! The pairs and the buffer that a line declares.
-ghost use Rattle.code_text.specs.Text.{declaration_of, pairs_of};
-ghost use Rattle.code_lines.specs.Views.{GivesDeclaration, GivesNumbers};
+ghost use Rattle.std.specs.Prelude.{◌≡◌, IfOk, true};
+ghost use Rattle.code_text.specs.Text.{declaration_of, follows, last_of, pairs_of};
+ghost use Rattle.code_text.specs.Given.{Gives};
+ghost use Rattle.code_lines.specs.Views.{GivesDeclaration};
 
 use crate::arguments::{Arguments, Declaration, ascends, cut_list, numbers, read_declaration};
 use crate::fault::bad_argument;
@@ -9,8 +11,8 @@ use code_text::CodeError;
 use std::alloc::Global;
 
 /// The pairs of a processor.
-pub fn read_pairs(alloc: Global, line: u32, arguments: &Arguments) -> Result<Vec<u64>, CodeError>
-    ensures { GivesNumbers result (pairs_of line arguments.now) }
+pub fn read_pairs(alloc: Global, line: u32, arguments: &Arguments) -> Result<Numbers, CodeError>
+    ensures { Gives result (pairs_of line arguments.now) }
 {
     let Some(list) = arguments.list() else {
         return Err(bad_argument(line));
@@ -20,7 +22,7 @@ pub fn read_pairs(alloc: Global, line: u32, arguments: &Arguments) -> Result<Vec
         return Err(bad_argument(line));
     };
     if ascends(pairs.as_slice()) {
-        Ok(pairs)
+        Ok(Numbers::of(pairs))
     } else {
         Err(bad_argument(line))
     }
@@ -32,7 +34,8 @@ pub fn read_buffer_line(
     here: &Numbers,
     arguments: &Arguments,
 ) -> Result<Declaration, CodeError>
-    ensures { GivesDeclaration result (declaration_of line here.now arguments.now) }
+    ensures gives { GivesDeclaration result (declaration_of line here.now arguments.now) }
+    ensures follows { IfOk result (λ d. follows (last_of here.now) d.number ≡ true) }
 {
     let Some(list) = arguments.list() else {
         return Err(bad_argument(line));

@@ -13,7 +13,7 @@ use crate::word::is_name;
 use archi_graph::{Archi, Medium};
 use code_text::CodeError;
 use flat_graph::{Flat, Vertex};
-use name_table::Names;
+use name_table::{Names, TableKey};
 use std::alloc::Global;
 use std::marker::Model;
 use syn_base::{Name, OutOfMemory};
@@ -49,7 +49,8 @@ fn operations_of<'a>(alloc: Global, vertices: &'a [Vertex]) -> Result<Names<'a>,
     requires { are_named_apart vertices.now ≡ true }
     ensures { IfOk result (λ names. names ≡ map (λ x. x.name) vertices.now) }
 {
-    let mut names = Names::new(alloc);
+    let key = TableKey::of_names(vertices.iter().map(|vertex| vertex.name.as_slice()));
+    let mut names = Names::new(alloc, key);
     for vertex in vertices {
         names.add(vertex.name.as_slice())?;
     }

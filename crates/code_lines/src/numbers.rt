@@ -1,29 +1,27 @@
 //! The list of the numbers that a processor declares, with a test of whether one is among them.
-ghost use Rattle.std.specs.Prelude.{◌≡◌, ◌++◌, ◌∷◌, [], OnOk, IfOk};
+ghost use Rattle.std.specs.Prelude.{◌≡◌, ◌++◌, ◌∷◌, [], OnOk, true};
+ghost use Rattle.archi_graph.specs.Archi.{ascends_from};
 ghost use Rattle.code_text.specs.Text.{follows, is_among, last_of};
 
-use crate::marks::Marks;
 use std::alloc::Global;
 use std::marker::Model;
 use syn_base::OutOfMemory;
 
-/// Numbers in the order in which they were added. A mark for each of them says without a search that it is there.
-/// Contracts see their list.
+/// Numbers that ascend, so that one among them is found by halving. Contracts see their list.
 #[derive(Drop)]
 pub struct Numbers {
     list: Vec<u64>,
-    marks: Marks,
 }
 
 impl Model for Numbers {
     ghost use Rattle.std.specs.Prelude.{List, ℕ};
-    ghost use Rattle.code_lines.specs.Numbers.{AreAmong};
+    ghost use Rattle.std.specs.List.Sorted.{IsNonDecreasing};
 
     ghost Value = { List ℕ };
 
     ghost view = { λ s. s.list.items };
 
-    ghost invariant = { λ s. AreAmong s.marks s.list.items };
+    ghost invariant = { λ s. IsNonDecreasing s.list.items };
 }
 
 impl Numbers {
@@ -33,20 +31,23 @@ impl Numbers {
     {
         Numbers {
             list: Vec::new(alloc),
-            marks: Marks::new(alloc),
         }
     }
 
-    /// Adds a number at the end.
+    /// Numbers of which each is above the one before it.
+    pub fn of(list: Vec<u64>) -> Self
+        requires { ascends_from 0 list.items ≡ true }
+        ensures { result ≡ list.items }
+    {
+        Numbers { list }
+    }
+
+    /// Adds a number that is above the last one.
     pub fn add(&mut self, number: u64) -> Result<(), OutOfMemory>
+        requires { follows (last_of self.old) number ≡ true }
         ensures { OnOk result (self.new ≡ self.old ++ number ∷ []) }
     {
         self.list.push(number)?;
-        if self.marks.add(number).is_err() {
-            // The number has no mark, so that it may not stay in the list.
-            let _ = self.list.pop();
-            return Err(OutOfMemory);
-        }
         Ok(())
     }
 
@@ -54,7 +55,7 @@ impl Numbers {
     pub fn has(&self, number: u64) -> bool
         ensures { result ≡ is_among self.now number }
     {
-        self.marks.has(number)
+        self.list.binary_search(&number).is_ok()
     }
 
     /// Whether a number is above the last one.
@@ -66,15 +67,11 @@ impl Numbers {
             None => true,
         }
     }
-}
 
-/// These numbers.
-pub fn numbers_of(alloc: Global, list: &[u64]) -> Result<Numbers, OutOfMemory>
-    ensures { IfOk result (λ numbers. numbers ≡ list.now) }
-{
-    let mut numbers = Numbers::new(alloc);
-    for number in list {
-        numbers.add(*number)?;
+    /// The numbers.
+    pub fn as_slice(&self) -> &[u64]
+        ensures { result.now ≡ self.now }
+    {
+        self.list.as_slice()
     }
-    Ok(numbers)
 }

@@ -13,8 +13,8 @@ use crate::stage::{
 use crate::written::WrittenCode;
 use archi_graph::Seq;
 use code_lines::{
-    Arguments, Known, Numbers, Written, bad_argument, numbers_of, read_buffer_line, read_pair,
-    read_pairs, read_sync, read_transfer,
+    Arguments, Known, Numbers, Written, bad_argument, read_buffer_line, read_pair, read_pairs,
+    read_sync, read_transfer,
 };
 use code_text::{CodeError, Numbered, Size, Stage};
 use macro_code::Macro;
@@ -166,7 +166,7 @@ impl Reader {
             operator,
             pairs.as_slice(),
         )?;
-        self.pairs_here = numbers_of(self.alloc, pairs.as_slice())?;
+        self.pairs_here = pairs;
         self.stage = Stage::Declared;
         Ok(())
     }

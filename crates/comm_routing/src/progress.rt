@@ -149,7 +149,10 @@ pub(crate) fn find_next(
     ensures keeps { Keeps (drafted site.now progress.new.decisions.items) progress.new.board
         reads.now progress.new.candidates }
 {
-    let date = arrival_next(site, reads, progress, op, operator);
+    if progress.candidates.arrival(op, operator).is_some() {
+        return;
+    }
+    let date = walked(site, reads, progress, op, operator);
     progress.candidates.keep(op, operator, date);
 }
 

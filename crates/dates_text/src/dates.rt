@@ -6,7 +6,7 @@ ghost use Rattle.self_timed_laws.specs.Entries.{AreWithin};
 ghost use Rattle.self_timed.specs.Told.{HaveEntries, IsValidForSome, entries_of};
 ghost use Rattle.dates_text.specs.Listing.{all_dates, dated_text};
 
-use crate::listing::print_dates;
+use crate::listing::text_of_dates;
 use archi_graph::Archi;
 use executive_program::Program;
 use flat_graph::Flat;
@@ -26,7 +26,7 @@ pub fn repeated(alloc: Global, ticks: &[u64], reactions: usize) -> Result<Actual
     Ok(actual)
 }
 
-/// The text of the dates of a schedule whose reactions last these ticks: as `print_dates` prints the dates that
+/// The text of the dates of a schedule whose reactions last these ticks: as `text_of_dates` tells the dates that
 /// `dates_of` computes. The schedule is valid for some durations, `program` is its program, and no entry lasts
 /// longer than stated.
 pub fn dates_text(
@@ -46,7 +46,5 @@ pub fn dates_text(
         dated_text flat.now archi.now (all_dates flat.now archi.now schedule.now actual.now)) }
 {
     let dates = dates_of(alloc, flat, archi, schedule, program, actual)?;
-    let mut text = Vec::new(alloc);
-    print_dates(alloc, flat, archi, schedule, &dates, &mut text)?;
-    Ok(text)
+    text_of_dates(alloc, flat, archi, schedule, &dates)
 }

@@ -1,8 +1,7 @@
 //! The text of the dates of a schedule's reactions: when each operation and each transfer starts
 //! and ends in each reaction, where they last as long as they really do.
 //!
-//! `dates_text` computes the dates and makes their text, which the command `dates` writes;
-//! `print_dates` appends the text of dates that are there.
+//! `dates_text` computes the dates and makes their text, which the command `dates` writes.
 #![tactic(auto)]
 
 mod dates;
@@ -13,4 +12,3 @@ mod reaction;
 
 pub use dates::{dates_text, repeated};
 pub use laws::actual_are_within;
-pub use listing::print_dates;

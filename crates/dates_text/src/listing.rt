@@ -1,5 +1,5 @@
-//! The listing of all reactions, as `print_dates` appends it.
-ghost use Rattle.std.specs.Prelude.{◌≡◌, ◌++◌, IfOk, OnErr, OnOk, length};
+//! The listing of all reactions, which `dates_text` returns.
+ghost use Rattle.std.specs.Prelude.{◌≡◌, ◌++◌, IfOk, OnOk, length};
 ghost use Rattle.schedule.specs.Acts.{acts, acts_of};
 ghost use Rattle.self_timed.specs.Told.{IsValidForSome};
 ghost use Rattle.dates_text.specs.Listing.{dated_in, dated_text};
@@ -15,29 +15,26 @@ use self_timed::Dates;
 use std::alloc::Global;
 use syn_base::OutOfMemory;
 
-/// Appends the text of the dates of a schedule: reaction by reaction and decision by decision, for each
+/// The text of the dates of a schedule: reaction by reaction and decision by decision, for each
 /// transfer the line `K on MEDIUM START END OPERATION PORT FROM TO`, and then for the operation
 /// `K op START END OPERATION`, where K is the number of the reaction and PORT that of the operation's
 /// output; last `latest L`, where L is the greatest end, or 0. The dates have an entry for each operation
-/// and each transfer. After want of memory `out` is as before.
-pub fn print_dates(
+/// and each transfer.
+pub fn text_of_dates(
     alloc: Global,
     flat: &Flat,
     archi: &Archi,
     schedule: &Schedule,
     dates: &Dates,
-    out: &mut Vec<u8>,
-) -> Result<(), OutOfMemory>
+) -> Result<Vec<u8>, OutOfMemory>
     requires valid { IsValidForSome flat.now archi.now schedule.now }
     requires entries { HaveSpans flat.now schedule.now dates.now }
-    ensures text { OnOk result (out.new.items ≡ out.old.items ++ dated_text flat.now archi.now
+    ensures { IfOk result (λ text. text.items ≡ dated_text flat.now archi.now
         (dated_in (entry_span flat.now schedule.now dates.now) (length dates.now) (acts schedule.now))) }
-    ensures err { OnErr result (out.new.items ≡ out.old.items) }
 {
     let mut text = Vec::new(alloc);
     append_dates(&mut text, flat, archi, schedule.decisions.as_slice(), dates)?;
-    out.extend_from_slice(&text)?;
-    Ok(())
+    Ok(text)
 }
 
 /// Appends the lines of all reactions and the latest end. After want of memory part of them may

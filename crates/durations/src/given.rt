@@ -8,6 +8,7 @@ ghost use Rattle.durations.specs.Given.{first_of, ticks_at, AreFound};
 
 use archi_defs::DurationLine;
 use indexmap::IndexMap;
+use name_table::TableKey;
 use std::alloc::Global;
 use std::marker::Model;
 use syn_base::OutOfMemory;
@@ -15,7 +16,7 @@ use syn_base::OutOfMemory;
 /// The definitions that have a duration on one operator, with their ticks.
 #[derive(Drop)]
 struct OnOperator<'a> {
-    ticks: IndexMap<&'a [u8], u64>,
+    ticks: IndexMap<&'a [u8], u64, TableKey>,
 }
 
 impl<'a> Model for OnOperator<'a> {
@@ -28,12 +29,12 @@ impl<'a> Model for OnOperator<'a> {
 }
 
 impl<'a> OnOperator<'a> {
-    /// No definitions. It takes no memory.
-    fn new(alloc: Global) -> OnOperator<'a>
+    /// No definitions, which are to be hashed by this key. It takes no memory.
+    fn new(alloc: Global, key: TableKey) -> OnOperator<'a>
         ensures { result ≡ [] }
     {
         OnOperator {
-            ticks: IndexMap::new(alloc),
+            ticks: IndexMap::with_hasher(alloc, key),
         }
     }
 
@@ -86,7 +87,8 @@ impl<'a> Given<'a> {
         requires { AreDurations operators lines.now }
         ensures { IfOk result (λ g. g ≡ record { operators = operators; lines = lines.now }) }
     {
-        let mut found = no_durations(alloc, operators)?;
+        let key = TableKey::of_names(lines.iter().map(|line| line.def.as_bytes()));
+        let mut found = no_durations(alloc, operators, key)?;
         for line in lines {
             let ticks = u64::from(line.ticks);
             found[line.operator as usize].add(line.def.as_bytes(), ticks)?;
@@ -128,13 +130,17 @@ impl<'a> Given<'a> {
 }
 
 /// For each of this many operators, no definitions so far.
-fn no_durations<'a>(alloc: Global, operators: u32) -> Result<Vec<OnOperator<'a>>, OutOfMemory>
+fn no_durations<'a>(
+    alloc: Global,
+    operators: u32,
+    key: TableKey,
+) -> Result<Vec<OnOperator<'a>>, OutOfMemory>
     ensures length { IfOk result (λ v. length v.items ≡ operators) }
     ensures empty { IfOk result (λ v. (o : ℕ) → slice_index_or v.items o [] ≡ []) }
 {
     let mut found = Vec::new(alloc);
     for _ in 0..operators {
-        found.push(OnOperator::new(alloc))?;
+        found.push(OnOperator::new(alloc, key))?;
     }
     Ok(found)
 }

@@ -1,2 +1,3 @@
 pub mod Resolved
+pub mod Bounded
 pub mod Whole

@@ -5,6 +5,7 @@ use Rattle.algo_defs.specs.declared.definition.Def.{Def}
 use Rattle.algo_defs.specs.declared.definition.Defs.{Defs}
 use Rattle.algo_defs.specs.declared.fault.AlgoError.{AlgoError}
 use Rattle.algo_defs.specs.declared.fault.AlgoError.TheVariants.{Limit, OutOfMemory}
+use Rattle.algo_resolve.specs.Within.{within_bound}
 use Rattle.algo_rules.specs.Resolved.{resolution_of}
 use Rattle.multi_period.specs.declared.fault.PeriodError.{PeriodError}
 use Rattle.multi_period.specs.declared.fault.PeriodError.TheVariants as period
@@ -33,3 +34,12 @@ resolved_by ds (Err e) = Err e
 -- graphs, within the bound on operations.
 abbrev pub elaboration_of : Defs → Result Vertex AlgoError
 elaboration_of defs = resolved_by defs.defs (resolution_of defs.defs)
+
+abbrev pub bounded_by : List Def → Result Vertex AlgoError → Result Vertex AlgoError
+bounded_by ds (Ok main) = within_bound (marked_by main (marking_of ds))
+bounded_by ds (Err e) = Err e
+
+-- The same, where neither what the definitions resolve to nor what is made of it may be above the bound on vertices:
+-- a tree that is resolved is counted before its marks are looked at, and the made one after all else.
+abbrev pub bounded_elaboration : Defs → Result Vertex AlgoError
+bounded_elaboration defs = bounded_by defs.defs (within_bound (resolution_of defs.defs))

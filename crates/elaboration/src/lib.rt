@@ -7,31 +7,35 @@
 
 ghost use Rattle.std.specs.Prelude.{◌≡◌, ◌≤◌, IfOk, length};
 ghost use Rattle.syn_base.specs.Limits.{most_in_text};
-ghost use Rattle.algo_rules.specs.Placed.{Gives};
+ghost use Rattle.algo_defs.specs.Returned.{Gives};
 ghost use Rattle.algo_rules.specs.WellRead.{AreWellRead};
+ghost use Rattle.algo_tree.specs.Size.{vertices_made};
 ghost use Rattle.operation_paths.specs.Bounded.{HasBounds};
 ghost use Rattle.operation_paths.specs.Named.{HasNames};
 ghost use Rattle.period_marks.specs.Stand.{HavePeriods};
-ghost use Rattle.elaboration.specs.Elaborated.{elaboration_of, of_periods};
+ghost use Rattle.elaboration.specs.Elaborated.{bounded_elaboration, of_periods};
 ghost use Rattle.elaboration.specs.Laws.{AcceptedAreElaborated};
 
 use algo_defs::{AlgoError, Defs};
 use algo_resolve::resolve;
-use algo_tree::Tree;
+use algo_tree::{Tree, is_large};
 use multi_period::{PeriodError, periods};
 use period_marks::{accepted_marks_stand, marks};
 use std::alloc::Global;
 
-/// The tree of the definitions of a text, or their first refusal: those of resolving, then a mark where none
-/// may stand, and then the limit on the operations of the tree in which the marked references have become
-/// graphs. OutOfMemory may come in place of any result.
+/// The tree of the definitions of a text, or their first refusal: those of resolving, the bound on vertices
+/// as its last one; then a mark where none may stand; then the limit on the operations of the tree in which
+/// the marked references have become graphs; and then the bound on the vertices of that tree, so that every
+/// tree that is answered is one that `simulate` and `unroll` take. OutOfMemory may come in place of any
+/// result, where memory runs out.
 pub fn elaborate(alloc: Global, defs: &Defs) -> Result<Tree, AlgoError>
     requires read { AreWellRead defs.now.defs }
     requires periods { HavePeriods defs.now.defs }
     requires few { length defs.now.defs ≤ most_in_text }
-    ensures gives { Gives result (elaboration_of defs.now) }
+    ensures gives { Gives result (bounded_elaboration defs.now) }
     ensures named { IfOk result (λ t. HasNames t) }
     ensures bounded { IfOk result (λ t. HasBounds t) }
+    ensures few { IfOk result (λ t. vertices_made t ≤ 262144) }
 {
     let tree = resolve(alloc, defs)?;
     let marks = marks(alloc, defs)?;
@@ -41,7 +45,12 @@ pub fn elaborate(alloc: Global, defs: &Defs) -> Result<Tree, AlgoError>
     // That the marks may stand in the tree, which `periods` asks for.
     accepted_marks_stand();
     match periods(alloc, &tree, &marks) {
-        Ok(made) => Ok(made),
+        Ok(made) => {
+            if is_large(made.main()) {
+                return Err(AlgoError::TooLarge);
+            }
+            Ok(made)
+        }
         Err(error) => Err(refusal_of(error)),
     }
 }

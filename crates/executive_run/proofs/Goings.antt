@@ -12,7 +12,7 @@ use Rattle.semaphore_core.specs.Told.{told}
 use Rattle.word_table.specs.Driver.{FabricData, DriverData, Drives, IsFinished}
 use Rattle.word_table.specs.declared.answer.MicroAnswer.{MicroAnswer}
 use Rattle.word_table.specs.declared.answer.MicroAnswer.TheVariants.{Stepped, NotYet}
-use Rattle.word_table.specs.Answers.{AnswersAlone, answer_in, answer_by}
+use Rattle.word_table.specs.Answers.{AnswersAlone, DrivesEvery, answer_in, answer_by}
 use Rattle.executive_run.specs.Going.{left_from, steps_left, GoesOn, GoesTo, IsHalted, IsStuck}
 
 -- two numbers that leave the same when they are divided by g are at least g apart
@@ -37,6 +37,10 @@ left-one_more j k (n ∷ ns) (suc i) l m =
 -- where nothing went
 pub stays : (d : DriverData) → GoesOn d d 0
 stays d = record { fabric = refl; group = refl; many = refl; idle = λ e. refl; no_more = omega arith; fewer = λ l. absurd (omega arith) }
+
+-- the driver of the one group drives every sequence
+pub one_drives : (d : DriverData) (f : FabricData) (seq : ℕ) → d.fabric ≡ f → f.groups ≡ 1 → seq % f.groups ≡ d.group → DrivesEvery d
+one_drives d f seq of one mine s l = ap (λ (w : FabricData). s % w.groups) of ∙ ap (λ (n : ℕ). s % n) one ∙ (let z : s % 1 ≡ seq % 1 = omega arith in z) ∙ ap (λ (n : ℕ). seq % n) (sym one) ∙ mine
 
 -- a sequence that is no driver's next has no micro-step enabled
 pub not_stepped : (j : JobData) (z : Core) (s : ℕ) (answer : MicroAnswer) → answer ≡ answer_in j z s → answer ≢ Stepped → is_enabled j z s ≡ false

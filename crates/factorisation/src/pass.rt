@@ -1,5 +1,5 @@
 //! The pass over a tree, which replaces each repetition by a graph of its copies. `hierarchy` calls it.
-ghost use Rattle.std.specs.Prelude.{◌≡◌, ◌<◌, ◌≤◌, ◌+◌, ◌++◌, IsErr, IfOk, OnOk, length, map};
+ghost use Rattle.std.specs.Prelude.{◌≡◌, ◌<◌, ◌≤◌, ◌+◌, ◌++◌, IfOk, OnOk, true, length, map};
 ghost use Rattle.algo_tree.specs.declared.vertex.Vertex.{out-Vertex};
 ghost use Rattle.algo_tree.specs.Tree.{and_vertex, no_vertices};
 ghost use Rattle.algo_tree.specs.Counted.{operations};
@@ -12,31 +12,33 @@ ghost use Rattle.pass_laws.specs.SameMeaning.{KeepsMeaning};
 ghost use Rattle.pass_laws.specs.NoRepeat.{HasNoRepeat};
 ghost use Rattle.factorisation_laws.specs.Lines.{in_line_order as ordered};
 ghost use Rattle.factorisation_laws.specs.Unrolled.{copies as copied, unroll as unrolled, unroll_all, unrolled_inside};
-ghost use Rattle.algo_tree.specs.Size.{size, vertices_made, vertices_made_in};
+ghost use Rattle.algo_tree.specs.Size.{is_large as large, size, vertices_made, vertices_made_in};
 
 use crate::frontier::{Copies, add_implodes, begin_of, explodes};
 use crate::lines::in_line_order;
 use crate::vertices::{as_copy, as_graph, with_inside};
-use algo_tree::{Kind, MOST_VERTICES, Tree, Vertex, count_vertices};
+use algo_tree::{Kind, MOST_VERTICES, SizeError, Tree, Vertex, is_large};
 use level_meaning::{Feed, Give};
 use std::alloc::Global;
 use syn_base::OutOfMemory;
 
 /// The tree without repetitions, of the same meaning: each is replaced by a graph of its copies, with
-/// an explode for each fork line before them and an implode for each join line after them. Where
-/// the tree would have more than `MOST_VERTICES` vertices it returns want of memory, before any of it
-/// is taken.
-pub fn unroll(alloc: Global, tree: &Tree) -> Result<Tree, OutOfMemory>
+/// an explode for each fork line before them and an implode for each join line after them. `TooLarge`
+/// comes exactly where that tree would have more than `MOST_VERTICES` vertices, before any memory is
+/// taken, and `OutOfMemory` only where memory runs out.
+pub fn unroll(alloc: Global, tree: &Tree) -> Result<Tree, SizeError>
     ensures same { IfOk result (λ t. t ≡ unrolled tree.now) }
     ensures kept { IfOk result (λ t. KeepsMeaning tree.now t) }
     ensures flat { IfOk result (λ t. HasNoRepeat t) }
     ensures count { IfOk result (λ t. operations t ≡ operations tree.now) }
     ensures names { HasNames tree.now → IfOk result (λ t. HasNames t) }
-    ensures large { MOST_VERTICES < size (unrolled tree.now) → IsErr result }
+    ensures few { IfOk result (λ t. size t ≤ MOST_VERTICES) }
+    ensures large { large tree.now ≡ true → result ≡ Err SizeError.TooLarge }
+    ensures only_large { result ≡ Err SizeError.TooLarge → large tree.now ≡ true }
 {
     let main = tree.main();
-    if count_vertices(main) > MOST_VERTICES {
-        return Err(OutOfMemory);
+    if is_large(main) {
+        return Err(SizeError::TooLarge);
     }
     Ok(Tree::new(unroll_vertex(alloc, main)?))
 }

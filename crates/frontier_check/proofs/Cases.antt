@@ -5,7 +5,7 @@ use Rattle.std.proofs.Math.Seq.{take-suc, drop-cons}
 use Rattle.body_lang.specs.declared.expression.Port.{Port}
 use Rattle.algo_defs.specs.declared.definition.Case.{Case}
 use Rattle.algo_defs.specs.declared.fault.AlgoError.{AlgoError}
-use Rattle.algo_defs.specs.declared.fault.AlgoError.TheVariants.{Refused, Limit, OutOfMemory}
+use Rattle.algo_defs.specs.declared.fault.AlgoError.TheVariants.{Refused, Limit, TooLarge, OutOfMemory}
 use Rattle.syn_base.specs.Bytes.{Bytes}
 use Rattle.algo_rules.specs.Links.{first_of}
 use Rattle.algo_rules.specs.Placed.{Checks}
@@ -16,6 +16,7 @@ use Rattle.algo_rules.specs.declared.ports.Ports.{Ports}
 told : (e : AlgoError) (o : Option AlgoError) (os : List (Option AlgoError)) → Checks {A = Unit {0}} (Err e) o → Checks {A = Unit {0}} (Err e) (first_of (o ∷ os))
 told (Refused f) o os h = ap (λ (x : Option AlgoError). first_of (x ∷ os)) h
 told (Limit f) o os h = ap (λ (x : Option AlgoError). first_of (x ∷ os)) h
+told TooLarge o os h = ap (λ (x : Option AlgoError). first_of (x ∷ os)) h
 told OutOfMemory o os h = tt
 
 abbrev values : List Case → List ℤ
@@ -67,4 +68,5 @@ fails_last b e f h same = ap (λ (x : Bool). first_of (cond x None f ∷ [])) (s
 pub answered : (e : AlgoError) (o : Option AlgoError) → o ≡ Some e → Checks {A = Unit {0}} (Err e) o
 answered (Refused f) o h = h
 answered (Limit f) o h = h
+answered TooLarge o h = h
 answered OutOfMemory o h = tt

@@ -2,7 +2,7 @@
 use Rattle.std.proofs.Common.{◌≡◌, List, [], ◌∷◌, ◌++◌, sym, ◌∙◌, refl, subst}
 use Rattle.std.specs.Prelude.{Option, Some, None, Result, Ok, Err}
 use Rattle.algo_defs.specs.declared.fault.AlgoError.{AlgoError}
-use Rattle.algo_defs.specs.declared.fault.AlgoError.TheVariants.{Refused, Limit, OutOfMemory}
+use Rattle.algo_defs.specs.declared.fault.AlgoError.TheVariants.{Refused, Limit, TooLarge, OutOfMemory}
 use Rattle.algo_rules.specs.Links.{first_of}
 use Rattle.algo_rules.specs.Graphs.{cycle_fault, edge_faults, graph_fault, open_faults}
 use Rattle.algo_rules.specs.Placed.{Checks}
@@ -23,6 +23,7 @@ append_finds (Some f ∷ xs) ys e h = h
 append_stops : (e : AlgoError) (xs ys : List (Option AlgoError)) → Checks {A = Unit {0}} (Err e) (first_of xs) → Checks {A = Unit {0}} (Err e) (first_of (xs ++ ys))
 append_stops (Refused f) xs ys h = append_finds xs ys (Refused f) h
 append_stops (Limit f) xs ys h = append_finds xs ys (Limit f) h
+append_stops TooLarge xs ys h = append_finds xs ys TooLarge h
 append_stops OutOfMemory xs ys h = h
 
 last_checks : (r : Result (Unit {0}) AlgoError) (x : Option AlgoError) → Checks r x → Checks r (first_of (x ∷ []))

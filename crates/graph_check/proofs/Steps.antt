@@ -7,7 +7,7 @@ use Rattle.body_lang.specs.declared.expression.Port.{Port}
 use Rattle.syn_base.specs.Bytes.{Bytes}
 use Rattle.algo_defs.specs.declared.definition.Edge.{Edge}
 use Rattle.algo_defs.specs.declared.fault.AlgoError.{AlgoError}
-use Rattle.algo_defs.specs.declared.fault.AlgoError.TheVariants.{Refused, Limit, OutOfMemory}
+use Rattle.algo_defs.specs.declared.fault.AlgoError.TheVariants.{Refused, Limit, TooLarge, OutOfMemory}
 use Rattle.algo_rules.specs.Links.{first_of}
 use Rattle.algo_rules.specs.Ports.{number_of}
 use Rattle.algo_rules.specs.Graphs.{place, port_len, is_connected, edge_fault, edge_faults, joins}
@@ -22,6 +22,7 @@ use Rattle.graph_check.proofs.Marked.{more_marked, spot_below}
 pub first_stops : (r : AlgoError) (x : Option AlgoError) (xs : List (Option AlgoError)) → Checks {A = Unit {0}} (Err r) x → Checks {A = Unit {0}} (Err r) (first_of (x ∷ xs))
 first_stops (Refused f) x xs h = subst (λ (x : Option AlgoError). first_of (x ∷ xs) ≡ Some (Refused f)) (sym h) refl
 first_stops (Limit f) x xs h = subst (λ (x : Option AlgoError). first_of (x ∷ xs) ≡ Some (Limit f)) (sym h) refl
+first_stops TooLarge x xs h = subst (λ (x : Option AlgoError). first_of (x ∷ xs) ≡ Some TooLarge) (sym h) refl
 first_stops OutOfMemory x xs h = h
 
 pub first_passes : (x : Option AlgoError) (xs : List (Option AlgoError)) → x ≡ None → first_of (x ∷ xs) ≡ first_of xs

@@ -3,7 +3,7 @@ ghost use Rattle.std.specs.Prelude.{◌≡◌, ◌++◌, ◌∷◌, IfOk};
 ghost use Rattle.algo_defs.specs.declared.fault.AlgoCause.TheVariants.{UnknownName, WrongLength, TwiceConnected, Unconnected, Cycle};
 ghost use Rattle.algo_rules.specs.Links.{fault};
 ghost use Rattle.algo_rules.specs.Graphs.{written};
-ghost use Rattle.graph_check.specs.Stops.{Stops};
+ghost use Rattle.algo_defs.specs.Returned.{Tells};
 
 use algo_defs::{AlgoCause, AlgoError, AlgoFault, End};
 use std::alloc::Global;
@@ -11,7 +11,7 @@ use syn_base::{Items, Name, OutOfMemory};
 
 /// The refusal of a line for this cause.
 fn refusal(line: u32, cause: AlgoCause) -> AlgoError
-    ensures { Stops result (fault line cause) }
+    ensures { Tells result (fault line cause) }
 {
     AlgoError::Refused(AlgoFault { line, cause })
 }
@@ -38,7 +38,7 @@ fn written(alloc: Global, end: &End) -> Result<Items<u8>, OutOfMemory>
 
 /// The refusal of an end of an edge that is not there.
 pub fn unknown(alloc: Global, line: u32, end: &End) -> AlgoError
-    ensures { Stops result (fault line (UnknownName (written end.now))) }
+    ensures { Tells result (fault line (UnknownName (written end.now))) }
 {
     match written(alloc, end) {
         Ok(word) => refusal(line, AlgoCause::UnknownName(word)),
@@ -48,7 +48,7 @@ pub fn unknown(alloc: Global, line: u32, end: &End) -> AlgoError
 
 /// The refusal of an edge between unequal lengths, which tells its target.
 pub fn wrong_length(alloc: Global, line: u32, end: &End) -> AlgoError
-    ensures { Stops result (fault line (WrongLength (written end.now))) }
+    ensures { Tells result (fault line (WrongLength (written end.now))) }
 {
     match written(alloc, end) {
         Ok(word) => refusal(line, AlgoCause::WrongLength(word)),
@@ -58,7 +58,7 @@ pub fn wrong_length(alloc: Global, line: u32, end: &End) -> AlgoError
 
 /// The refusal of a second edge into its target.
 pub fn twice(alloc: Global, line: u32, end: &End) -> AlgoError
-    ensures { Stops result (fault line (TwiceConnected (written end.now))) }
+    ensures { Tells result (fault line (TwiceConnected (written end.now))) }
 {
     match written(alloc, end) {
         Ok(word) => refusal(line, AlgoCause::TwiceConnected(word)),
@@ -68,7 +68,7 @@ pub fn twice(alloc: Global, line: u32, end: &End) -> AlgoError
 
 /// The refusal of an input of a reference into which no edge leads.
 pub fn open_input(alloc: Global, line: u32, owner: &[u8], port: &[u8]) -> AlgoError
-    ensures { Stops result (fault line (Unconnected (owner.now ++ 46 ∷ port.now))) }
+    ensures { Tells result (fault line (Unconnected (owner.now ++ 46 ∷ port.now))) }
 {
     match joined(alloc, owner, port) {
         Ok(word) => refusal(line, AlgoCause::Unconnected(word)),
@@ -78,7 +78,7 @@ pub fn open_input(alloc: Global, line: u32, owner: &[u8], port: &[u8]) -> AlgoEr
 
 /// The refusal of an output of the graph into which no edge leads.
 pub fn open_output(alloc: Global, line: u32, port: &[u8]) -> AlgoError
-    ensures { Stops result (fault line (Unconnected port.now)) }
+    ensures { Tells result (fault line (Unconnected port.now)) }
 {
     match Vec::from_slice(alloc, port) {
         Ok(word) => refusal(line, AlgoCause::Unconnected(Items::new(word))),
@@ -88,7 +88,7 @@ pub fn open_output(alloc: Global, line: u32, port: &[u8]) -> AlgoError
 
 /// The refusal of the references that depend on themselves.
 pub fn cycle(line: u32, names: Vec<Name>) -> AlgoError
-    ensures { Stops result (fault line (Cycle names.items)) }
+    ensures { Tells result (fault line (Cycle names.items)) }
 {
     refusal(line, AlgoCause::Cycle(Items::new(names)))
 }

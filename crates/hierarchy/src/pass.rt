@@ -55,7 +55,9 @@ fn inline_unrolled(alloc: Global, tree: &Tree) -> Result<Inlined, OutOfMemory>
     if is_unrolled(tree.main()) {
         return inline_guarded(alloc, tree);
     }
-    let unrolled = unroll(alloc, tree)?;
+    let Ok(unrolled) = unroll(alloc, tree) else {
+        return Err(OutOfMemory);
+    };
     inline_guarded(alloc, &unrolled)
 }
 

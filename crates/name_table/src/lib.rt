@@ -6,7 +6,10 @@ ghost use Rattle.std.specs.Prelude.{◌≡◌, not, OnErr, IfOk, List, ℕ, map,
 ghost use Rattle.std.specs.List.{list_any};
 ghost use Rattle.std.specs.Cmp.Lexicographic.{pointwise};
 
+mod key;
+
 use indexmap::IndexSet;
+pub use key::TableKey;
 use std::alloc::Global;
 use std::marker::Model;
 use syn_base::OutOfMemory;
@@ -15,7 +18,7 @@ use syn_base::OutOfMemory;
 /// length. Contracts see the list of the names.
 #[derive(Drop)]
 pub struct Names<'a> {
-    set: IndexSet<&'a [u8]>,
+    set: IndexSet<&'a [u8], TableKey>,
 }
 
 impl<'a> Model for Names<'a> {
@@ -25,12 +28,12 @@ impl<'a> Model for Names<'a> {
 }
 
 impl<'a> Names<'a> {
-    /// No names. It takes no memory.
-    pub fn new(alloc: Global) -> Self
+    /// No names, which are to be hashed by this key. It takes no memory.
+    pub fn new(alloc: Global, key: TableKey) -> Self
         ensures { result ≡ [] }
     {
         Names {
-            set: IndexSet::new(alloc),
+            set: IndexSet::with_hasher(alloc, key),
         }
     }
 

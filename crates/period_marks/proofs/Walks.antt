@@ -12,7 +12,8 @@ use Rattle.algo_defs.specs.declared.fault.AlgoError.{AlgoError}
 use Rattle.algo_defs.specs.declared.fault.AlgoCause.TheVariants.{BadEvery}
 use Rattle.syn_base.specs.Bytes.{Bytes}
 use Rattle.algo_rules.specs.Links.{fault, first_of, definition, mentions_in}
-use Rattle.algo_links.specs.Placing.{Tells, places_of}
+use Rattle.algo_defs.specs.Returned.{Tells}
+use Rattle.algo_links.specs.Placing.{places_of}
 use Rattle.algo_links.proofs.Firsts.{one_told}
 use Rattle.algo_links.proofs.Fresh.{from_here}
 use Rattle.algo_links.proofs.Found.{found}

@@ -1,15 +1,12 @@
 -- The references of one definition, and of several.
-use Rattle.std.specs.Prelude.{◌≡◌, ℕ, List, map, Result, Ok, Err, Option}
-use Rattle.std.specs.Global.{Vec}
+use Rattle.std.specs.Prelude.{ℕ, List, map, Option}
 use Rattle.std.specs.List.{flat_map, position_or_len}
 use Rattle.std.specs.Str.{bytes_eq}
 use Rattle.algo_defs.specs.declared.definition.Def.{Def}
 use Rattle.algo_defs.specs.declared.definition.Reference.{Reference}
 use Rattle.algo_defs.specs.declared.fault.AlgoError.{AlgoError}
-use Rattle.algo_defs.specs.declared.fault.AlgoError.TheVariants.{Refused, Limit, OutOfMemory}
 use Rattle.syn_base.specs.Bytes.{Bytes}
 use Rattle.algo_rules.specs.Links.{first_of}
-use Rattle.multi_period.specs.declared.mark.Mark.{Mark}
 use Rattle.period_marks.specs.Marking.{references_of, bad_by}
 
 -- where the definition that a reference names stands
@@ -28,10 +25,3 @@ bad_of ds d = bad_in ds d.name (references_of d.body)
 -- the same of these owners
 abbrev pub bad_all : List Def → List Def → Option AlgoError
 bad_all ds owners = first_of (flat_map (λ d. map (bad_by ds d.name) (references_of d.body)) owners)
-
--- what was answered is what is defined; want of memory may come in place of anything
-abbrev pub Gives : Result (Vec Mark) AlgoError → Result (List Mark) AlgoError → Type 0
-Gives (Ok marks) expected = expected ≡ Ok marks.items
-Gives (Err (Refused f)) expected = expected ≡ Err (Refused f)
-Gives (Err (Limit f)) expected = expected ≡ Err (Limit f)
-Gives (Err OutOfMemory) expected = Unit {0}

@@ -5,7 +5,7 @@ ghost use Rattle.algo_tree.specs.Well.{AreDistinctNames};
 ghost use Rattle.algo_rules.specs.Links.{definition};
 ghost use Rattle.algo_rules.specs.Resolved.{refusal};
 ghost use Rattle.period_marks.specs.Marking.{marking_of, marks_from, marks_in, references_of};
-ghost use Rattle.period_marks.specs.Walked.{Gives};
+ghost use Rattle.algo_defs.specs.Returned.{GivesList};
 
 use crate::standing::check_marks;
 use algo_defs::{AlgoError, Body, Def, Defs, Reference};
@@ -23,7 +23,7 @@ pub fn marks(alloc: Global, defs: &Defs) -> Result<Vec<Mark>, AlgoError>
     requires resolved { refusal defs.now.defs ≡ None }
     requires distinct { AreDistinctNames (map (λ d. d.name) defs.now.defs) }
     requires few { length defs.now.defs ≤ most_in_text }
-    ensures { Gives result (marking_of defs.now.defs) }
+    ensures { GivesList result (marking_of defs.now.defs) }
 {
     let Ok(links) = links_of(alloc, defs) else {
         return Err(AlgoError::OutOfMemory);

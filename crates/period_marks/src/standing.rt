@@ -4,7 +4,8 @@ ghost use Rattle.algo_defs.specs.declared.fault.AlgoCause.TheVariants.{BadEvery}
 ghost use Rattle.algo_rules.specs.Links.{fault, is_main as names_main, links_of, may_be_inner as inner};
 ghost use Rattle.algo_rules.specs.Placed.{Checks};
 ghost use Rattle.algo_rules.specs.Links.{mentions};
-ghost use Rattle.algo_links.specs.Placing.{Tells, places_of};
+ghost use Rattle.algo_defs.specs.Returned.{Tells};
+ghost use Rattle.algo_links.specs.Placing.{places_of};
 ghost use Rattle.period_marks.specs.Marking.{may_be_marked, may_stand as stands};
 ghost use Rattle.period_marks.specs.Walked.{bad_all, bad_in, bad_of, places_in};
 

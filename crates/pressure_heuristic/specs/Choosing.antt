@@ -6,8 +6,10 @@ use Rattle.std.specs.Prelude.{
   ◌≤◌,
   true,
   List,
+  ◌∷◌,
   length,
   if◌then◌else◌,
+  nat_le,
   nat_lt,
   Option,
   Some,
@@ -66,9 +68,26 @@ abbrev pub lower_stand : Stand → Option Stand → Stand
 lower_stand s None = s
 lower_stand s (Some later) = if nat_lt later.pressure s.pressure then later else s
 
-abbrev pub higher_choice : Choice → Option Choice → Choice
-higher_choice c None = c
-higher_choice c (Some later) = if nat_lt c.pressure later.pressure then later else c
+-- the later one of two choices where its pressure is greater
+abbrev pub higher_choice : Option Choice → Choice → Choice
+higher_choice None c = c
+higher_choice (Some earlier) c = if nat_le c.pressure earlier.pressure then earlier else c
+
+-- the best choice so far is the choice of its operation
+abbrev pub IsBest : Task → List Act → Option Choice → Type 0
+IsBest t before None = Unit {0}
+IsBest t before (Some c) = IsChoice t before c
+
+-- the best choice so far, and operations behind it
+abbrev pub with_best : Option Choice → List ℕ → List ℕ
+with_best None vs = vs
+with_best (Some c) vs = c.op ∷ vs
+
+-- with operation v the best choice is that one, whatever stands behind it
+abbrev pub Leads : Task → List Act → Option Choice → ℕ → Option Choice → Type 0
+Leads t before best v after =
+    (vs : List ℕ) → first_greatest (urgency t before) (with_best after vs)
+    ≡ first_greatest (urgency t before) (with_best best (v ∷ vs))
 
 abbrev pub next_of : ℕ → Option Stand → Option Next
 next_of v None = None

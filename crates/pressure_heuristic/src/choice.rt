@@ -5,9 +5,10 @@ ghost use Rattle.std.specs.List.{filter};
 ghost use Rattle.schedule.specs.Acts.{acts_of};
 ghost use Rattle.comm_routing.specs.Draft.{task_of};
 ghost use Rattle.comm_routing.specs.Placing.{is_candidate, may_place, may_stand, ticks_in};
-ghost use Rattle.pressure_heuristic.specs.Pressure.{candidates, operators, pressure};
-ghost use Rattle.pressure_heuristic.specs.Choosing.{IsChoice, IsGreatestChoice, IsGuide, IsLeastStand, IsNext, higher_choice, lower_stand, next_of, pressure_of};
+ghost use Rattle.pressure_heuristic.specs.Pressure.{candidates, operators, pressure, urgency};
+ghost use Rattle.pressure_heuristic.specs.Choosing.{IsBest, IsChoice, IsGreatestChoice, IsGuide, IsLeastStand, IsNext, Leads, higher_choice, lower_stand, next_of, pressure_of};
 
+use crate::proposals::Proposals;
 use comm_routing::Draft;
 use durations::Durations;
 
@@ -34,11 +35,16 @@ pub(crate) struct Next {
 }
 
 /// The next decision, where there is one.
-pub(crate) fn decide(draft: &Draft, durations: &Durations, tails: &[u64]) -> Option<Next>
+pub(crate) fn decide(
+    draft: &Draft,
+    durations: &Durations,
+    tails: &[u64],
+    proposals: &Proposals,
+) -> Option<Next>
     requires guide { IsGuide draft.now durations.now tails.now }
     ensures { IsNext (task_of draft.now) (acts_of draft.now.decisions) result }
 {
-    match choose(draft, durations, tails) {
+    match choose(draft, durations, tails, proposals) {
         Some(choice) => next_of(choice),
         None => None,
     }
@@ -58,27 +64,91 @@ fn next_of(choice: Choice) -> Option<Next>
 }
 
 /// The candidate of greatest least pressure, the first of those that have it.
-fn choose(draft: &Draft, durations: &Durations, tails: &[u64]) -> Option<Choice>
+fn choose(
+    draft: &Draft,
+    durations: &Durations,
+    tails: &[u64],
+    proposals: &Proposals,
+) -> Option<Choice>
     requires guide { IsGuide draft.now durations.now tails.now }
     ensures { IsGreatestChoice (task_of draft.now) (acts_of draft.now.decisions)
         (candidates (task_of draft.now) (acts_of draft.now.decisions)) result }
 {
     let ready = draft.ready();
     let mut best = None;
-    let mut place = ready.len();
-    while place > 0 {
-        place -= 1;
-        best = Some(higher(choice_of(draft, durations, tails, ready[place]), best));
+    for op in ready {
+        best = greater(draft, durations, tails, *op, proposals.operator(*op), best);
     }
     best
 }
 
-/// The operation, unless the pressure of the later one is greater.
-fn higher(choice: Choice, later: Option<Choice>) -> Choice
-    ensures { result ≡ higher_choice choice later }
+/// The best choice with one candidate more. Where the pressure on the operator that is proposed for it
+/// is not above that of the best one, its least pressure is not either, and no other operator is looked
+/// at.
+fn greater(
+    draft: &Draft,
+    durations: &Durations,
+    tails: &[u64],
+    op: u32,
+    operator: u32,
+    best: Option<Choice>,
+) -> Option<Choice>
+    requires guide { IsGuide draft.now durations.now tails.now }
+    requires candidate { IsTrue (is_candidate (task_of draft.now) (acts_of draft.now.decisions) op) }
+    requires best { IsBest (task_of draft.now) (acts_of draft.now.decisions) best }
+    ensures best { IsBest (task_of draft.now) (acts_of draft.now.decisions) result }
+    ensures leads { Leads (task_of draft.now) (acts_of draft.now.decisions) best op result }
 {
-    match later {
-        Some(later) if choice.pressure < later.pressure => later,
+    if is_led(draft, durations, tails, op, operator, best) {
+        return best;
+    }
+    Some(higher(best, choice_of(draft, durations, tails, op)))
+}
+
+/// Whether the pressure of a candidate on an operator is not above that of the best choice.
+fn is_led(
+    draft: &Draft,
+    durations: &Durations,
+    tails: &[u64],
+    op: u32,
+    operator: u32,
+    best: Option<Choice>,
+) -> bool
+    requires guide { IsGuide draft.now durations.now tails.now }
+    requires best { IsBest (task_of draft.now) (acts_of draft.now.decisions) best }
+    ensures { IsTrue result → Leads (task_of draft.now) (acts_of draft.now.decisions) best op best }
+{
+    match best {
+        Some(choice) => is_within(draft, durations, tails, op, operator, choice.pressure),
+        None => false,
+    }
+}
+
+/// Whether the pressure of a candidate on an operator where it may stand is at most this.
+fn is_within(
+    draft: &Draft,
+    durations: &Durations,
+    tails: &[u64],
+    op: u32,
+    operator: u32,
+    bound: u64,
+) -> bool
+    requires guide { IsGuide draft.now durations.now tails.now }
+    ensures { IsTrue result → urgency (task_of draft.now) (acts_of draft.now.decisions) op ≤ bound }
+{
+    if draft.may_place(op, operator) {
+        let pressure = pressure(draft, durations, tails, op, operator);
+        return pressure <= bound;
+    }
+    false
+}
+
+/// The later choice where its pressure is greater, else the earlier one.
+fn higher(earlier: Option<Choice>, choice: Choice) -> Choice
+    ensures { result ≡ higher_choice earlier choice }
+{
+    match earlier {
+        Some(earlier) if choice.pressure <= earlier.pressure => earlier,
         _ => choice,
     }
 }

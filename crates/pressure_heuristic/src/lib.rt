@@ -7,6 +7,7 @@
 
 mod choice;
 mod laws;
+mod proposals;
 mod steps;
 mod tails;
 

@@ -4,12 +4,14 @@ ghost use Rattle.durations.specs.Fitting.{IsOf};
 ghost use Rattle.durations.specs.Table.{entry_in};
 ghost use Rattle.schedule.specs.Tight.{is_tight};
 ghost use Rattle.schedule.specs.Valid.{is_valid};
+ghost use Rattle.schedule.specs.Acts.{acts_of};
 ghost use Rattle.comm_routing.specs.Draft.{task_of};
 ghost use Rattle.pressure_heuristic.specs.Adequation.{IsPressureRun, IsRunOfAny};
-ghost use Rattle.pressure_heuristic.specs.Choosing.{IsGuide};
+ghost use Rattle.pressure_heuristic.specs.Choosing.{IsGuide, IsNext};
 ghost use Rattle.pressure_heuristic.specs.Pressure.{pressure_run};
 
-use crate::choice::decide;
+use crate::choice::{Next, decide};
+use crate::proposals::{Proposals, propose_all};
 use crate::tails::all_tails;
 use archi_graph::Archi;
 use comm_routing::Draft;
@@ -44,7 +46,8 @@ pub fn adequation(
     let tails = all_tails(alloc, vertices, durations)?;
     let routes = routes_of(alloc, archi)?;
     let draft = Draft::new(alloc, flat, archi, durations, &routes)?;
-    run(draft, durations, &tails, operations)
+    let proposals = Proposals::new(alloc, operations)?;
+    run(draft, durations, &tails, operations, proposals)
 }
 
 /// Makes this many decisions, or fewer where none is left.
@@ -53,6 +56,7 @@ fn run(
     durations: &Durations,
     tails: &[u64],
     operations: usize,
+    proposals: Proposals,
 ) -> Result<Schedule, OutOfMemory>
     requires guide { IsGuide draft durations.now tails.now }
     requires first { draft.decisions ≡ [] }
@@ -60,11 +64,27 @@ fn run(
     ensures { IfOk result (λ s. s ≡ pressure_run (task_of draft.entry)) }
 {
     let mut draft = draft;
+    let mut proposals = proposals;
     for _decision in 0..operations {
-        match decide(&draft, durations, tails) {
+        match next_of_draft(&mut draft, durations, tails, &mut proposals) {
             Some(next) => draft.place(next.op, next.operator)?,
             None => return Ok(draft.finish()),
         }
     }
     Ok(draft.finish())
+}
+
+/// The next decision, where there is one, after a proposal for each candidate.
+fn next_of_draft(
+    draft: &mut Draft,
+    durations: &Durations,
+    tails: &[u64],
+    proposals: &mut Proposals,
+) -> Option<Next>
+    requires guide { IsGuide draft.old durations.now tails.now }
+    ensures same { draft.new ≡ draft.old }
+    ensures next { IsNext (task_of draft.old) (acts_of draft.old.decisions) result }
+{
+    propose_all(draft, durations, proposals);
+    decide(draft, durations, tails, proposals)
 }

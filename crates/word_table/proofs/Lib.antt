@@ -13,3 +13,4 @@ pub mod Closings
 pub mod Gathering
 pub mod Finishing
 pub mod TakingRows
+mod Worked

@@ -15,7 +15,7 @@ use Rattle.word_table.specs.declared.answer.MicroAnswer.{MicroAnswer}
 use Rattle.word_table.specs.declared.answer.MicroAnswer.TheVariants.{Stepped, NotYet, Finished}
 use Rattle.word_table.specs.declared.driver_parts.DriverParts.{DriverParts}
 use Rattle.word_table.specs.declared.fabric_parts.FabricParts.{FabricParts}
-use Rattle.word_table.specs.Answers.{Answers, AnswersAlone, HasNext, answer_by, answer_in}
+use Rattle.word_table.specs.Answers.{Answers, AnswersAlone, DrivesEvery, HasNext, answer_by, answer_in}
 use Rattle.word_table.specs.Driver.{FabricData, DriverData, Drives, AgreeWith, InSome, IsTold}
 use Rattle.word_table.specs.Parts.{IsDriver, AreDriverParts, AreFabricParts, IsOf, Reaches, driver_view, fabric_view}
 use Rattle.word_table.proofs.Own.{told_is, IsOwnOf}
@@ -90,10 +90,10 @@ counts_reached j g d k i all = subst (AreReached j) same r.reached
     same = same_lists r.counts d.counts.items (many ∙ sym i.counts_there)
         (λ s l. let c = i.all s (let q = many in omega (arith, l, q)) (all s (let q = many in omega (arith, l, q))) in r.agree s c.0 c.1 ∙ sym (i.counted s c.0 c.1))
 
--- A driver of the one group of a fabric.
-pub alone_answers : (f : FabricParts) (d e : DriverParts) (s : ℕ) (answer : MicroAnswer) → AreFabricParts f → IsOf f d → IsOf f e → d.groups ≡ 1 → s % d.groups ≡ d.group → e.groups ≡ d.groups → e.group ≡ d.group → s < length f.job.now.program.seqs
+-- A driver of every sequence of a fabric.
+pub alone_answers : (f : FabricParts) (d e : DriverParts) (s : ℕ) (answer : MicroAnswer) → AreFabricParts f → IsOf f d → IsOf f e → DrivesEvery (driver_view d) → e.groups ≡ d.groups → e.group ≡ d.group → s < length f.job.now.program.seqs
     → Answers (driver_view d) (driver_view e) s answer → AnswersAlone (driver_view d) (driver_view e) s answer
-alone_answers f d e s answer is od oe one mine gs g l a = alone (driver_view d) many (λ t q. record { there = q; grouped = every t }) e' s answer there was now a
+alone_answers f d e s answer is od oe every gs g l a = alone (driver_view d) many (λ t q. record { there = q; grouped = every t q }) e' s answer there was now a
   where
     e' : DriverData
     e' = driver_view e
@@ -107,14 +107,14 @@ alone_answers f d e s answer is od oe one mine gs g l a = alone (driver_view d) 
     there : s < length d.job.now.program.seqs
     there = subst (λ (j : JobData). s < length j.program.seqs) (sym job) l
 
-    every : (t : ℕ) → t % d.groups ≡ d.group
-    every t = ap (λ (n : ℕ). t % n) one ∙ (let z : t % 1 ≡ s % 1 = omega arith in z) ∙ ap (λ (n : ℕ). s % n) (sym one) ∙ mine
+    of_fabric : (t : ℕ) → t < length f.job.now.program.seqs → t % d.groups ≡ d.group
+    of_fabric t q = every t (subst (λ (j : JobData). t < length j.program.seqs) (sym job) q)
 
-    every_new : (t : ℕ) → t % e.groups ≡ e.group
-    every_new t = ap (λ (n : ℕ). t % n) gs ∙ every t ∙ sym g
+    of_new : (t : ℕ) → t < length f.job.now.program.seqs → t % e.groups ≡ e.group
+    of_new t q = ap (λ (n : ℕ). t % n) gs ∙ of_fabric t q ∙ sym g
 
     was : AreReached d.job.now d.counts.items
-    was = subst (λ (j : JobData). AreReached j d.counts.items) (sym job) (counts_reached f.job.now is.runs d od.0 (subst (λ (t : TableId). IsDriver f.job.now t od.0 d) (sym od.1.of_table) od.1) (λ t q. every t))
+    was = subst (λ (j : JobData). AreReached j d.counts.items) (sym job) (counts_reached f.job.now is.runs d od.0 (subst (λ (t : TableId). IsDriver f.job.now t od.0 d) (sym od.1.of_table) od.1) of_fabric)
 
     now : AreReached d.job.now e.counts.items
-    now = subst (λ (j : JobData). AreReached j e.counts.items) (sym job) (counts_reached f.job.now is.runs e oe.0 (subst (λ (t : TableId). IsDriver f.job.now t oe.0 e) (sym oe.1.of_table) oe.1) (λ t q. every_new t))
+    now = subst (λ (j : JobData). AreReached j e.counts.items) (sym job) (counts_reached f.job.now is.runs e oe.0 (subst (λ (t : TableId). IsDriver f.job.now t oe.0 e) (sym oe.1.of_table) oe.1) of_new)

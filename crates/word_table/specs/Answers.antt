@@ -1,5 +1,20 @@
 -- What a try of a sequence answers.
-use Rattle.std.specs.Prelude.{◌≡◌, ℕ, ◌+◌, ◌<◌, Bool, true, false, cond, Option, Some, None, slice_index_or}
+use Rattle.std.specs.Prelude.{
+  ◌≡◌,
+  ℕ,
+  ◌+◌,
+  ◌%◌,
+  ◌<◌,
+  Bool,
+  true,
+  false,
+  cond,
+  length,
+  Option,
+  Some,
+  None,
+  slice_index_or,
+}
 use Rattle.consistent_cuts.specs.Sites.{step_at, reaction_at}
 use Rattle.executive_program.specs.declared.steps.MicroStep.{MicroStep}
 use Rattle.executive_program.specs.declared.steps.MicroStep.TheVariants.{Take, See, Await}
@@ -63,6 +78,10 @@ answer_by j z s (Some m) = cond (enabled_in z (reaction j z s) m) Stepped NotYet
 
 abbrev pub answer_in : JobData → Core → ℕ → MicroAnswer
 answer_in j z s = answer_by j z s (next j z s)
+
+-- the driver drives every sequence, in however many groups sequences are driven
+abbrev pub DrivesEvery : DriverData → Type 0
+DrivesEvery d = (s : ℕ) → s < length d.fabric.job.program.seqs → s % d.fabric.groups ≡ d.group
 
 -- A driver that drives every sequence: its counts are reached, and the answer is the core's in what they tell.
 pub record AnswersAlone (old new : DriverData) (s : ℕ) (answer : MicroAnswer) : Type 0 where

@@ -1,7 +1,7 @@
 //! A fabric and its drivers, kept whole: what callers see of `FabricParts` and `DriverParts`.
 ghost use Rattle.std.specs.Prelude.{◌≡◌, ◌<◌, ◌%◌, IfNone, IfSome, length, slice_index_or};
 ghost use Rattle.semaphore_core.specs.Core.{full};
-ghost use Rattle.word_table.specs.Answers.{Answers, AnswersAlone};
+ghost use Rattle.word_table.specs.Answers.{Answers, AnswersAlone, DrivesEvery};
 ghost use Rattle.word_table.specs.Driver.{IsTold};
 
 use crate::answer::MicroAnswer;
@@ -102,7 +102,7 @@ impl<'a> Fabric<'a> {
         ensures told { IsTold driver.new }
 
         // A driver of every sequence knows all counts.
-        ensures alone { self.now.groups ≡ 1 → AnswersAlone driver.old driver.new seq result }
+        ensures alone { DrivesEvery driver.old → AnswersAlone driver.old driver.new seq result }
     {
         self.parts.try_micro(&mut driver.parts, seq)
     }

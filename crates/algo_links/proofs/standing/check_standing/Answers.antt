@@ -1,7 +1,8 @@
 use Rattle.std.proofs.Common.{List, map, ap, sym, subst, ◌∙◌}
 use Rattle.std.proofs.lemmas.Result.{err_from_is_err_and}
 use Rattle.algo_rules.specs.Links.{Mention, mentions, misplaced_by}
-use Rattle.algo_links.specs.Placing.{Tells, misplaced_in}
+use Rattle.algo_defs.specs.Returned.{Tells}
+use Rattle.algo_links.specs.Placing.{misplaced_in}
 use Rattle.algo_links.proofs.Firsts.{told, tells, stops, goes}
 use Rattle.algo_links.proofs.standing.check_standing.Goals as goal
 

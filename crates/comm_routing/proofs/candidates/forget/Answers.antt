@@ -1,4 +1,4 @@
-use Rattle.std.proofs.Common.{List, ℕ, ap, arith, cond, length, ◌∙◌}
+use Rattle.std.proofs.Common.{List, ℕ, ap, cond, length, ◌∙◌}
 use Rattle.comm_routing.proofs.Ordered.{sought_below}
 use Rattle.comm_routing.proofs.candidates.forget.Goals as goal
 

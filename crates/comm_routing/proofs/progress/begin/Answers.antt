@@ -1,12 +1,10 @@
-use Rattle.std.proofs.Common.{◌≤◌, List, [], arith, length, ap, refl, false, subst, sym, ◌∙◌}
+use Rattle.std.proofs.Common.{◌≤◌, List, [], arith, length, ap, false, subst, sym}
 use Rattle.syn_base.specs.declared.name.Name.{Name}
-use Rattle.archi_graph.specs.declared.medium.Medium.{Medium}
-use Rattle.flat_graph.specs.declared.vertex.Source.{Source}
 use Rattle.flat_graph.specs.declared.vertex.Vertex.{Vertex}
 use Rattle.std.proofs.lemmas.Bool.{false≢true, and_parts}
 use Rattle.comm_routing.specs.Candidates.{flag_at}
 use Rattle.comm_routing.specs.Draft.{IsTold, drafted}
-use Rattle.comm_routing.proofs.Sites.{all_few, length-reads, told_begin}
+use Rattle.comm_routing.proofs.Sites.{all_few, told_begin}
 use Rattle.comm_routing.proofs.Keeping.{kept_after}
 use Rattle.comm_routing.proofs.progress.begin.Goals as goal
 

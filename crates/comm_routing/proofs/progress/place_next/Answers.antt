@@ -1,8 +1,6 @@
-use Rattle.std.proofs.Common.{◌≤◌, List, [], ◌∷◌, ◌++◌, ap, arith, length, refl, subst, sym, ◌∙◌}
+use Rattle.std.proofs.Common.{List, [], ◌∷◌, ◌++◌, ap, arith, length, subst, sym, ◌∙◌}
 use Rattle.std.specs.Prelude.{All}
 use Rattle.std.proofs.lemmas.Bool.{and_parts}
-use Rattle.syn_base.specs.declared.name.Name.{Name}
-use Rattle.archi_graph.specs.declared.medium.Medium.{Medium}
 use Rattle.flat_graph.specs.declared.vertex.Source.{Source}
 use Rattle.flat_graph.specs.declared.vertex.Vertex.{Vertex}
 use Rattle.route_table.specs.Table.{route_in}

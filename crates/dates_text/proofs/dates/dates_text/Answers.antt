@@ -1,6 +1,6 @@
-use Rattle.std.proofs.Common.{◌≡◌, ◌++◌, ℕ, List, length, refl, sym, ap, ◌∙◌, arith}
+use Rattle.std.proofs.Common.{◌≡◌, ℕ, List, length, refl, sym, subst, ap, ◌∙◌, arith}
+use Rattle.std.specs.Prelude.{IfOk}
 use Rattle.schedule.specs.Acts.{Act, acts}
-use Rattle.syn_base.specs.Bytes.{Bytes}
 use Rattle.self_timed.specs.Running.{span}
 use Rattle.self_timed.specs.Told.{end_at, start_at}
 use Rattle.dates_text.specs.Listing.{Dated, dated_in, dated_text}
@@ -21,5 +21,4 @@ returns c =
     = sym (told_is g s dates (entry_span g s dates) (length dates) (λ k l i x e. refl))
     ∙ told_is g s dates when (length dates) (λ k l i x e. c.in_ok-dates.ensures.dates.each k i x (omega arith) e)
     ∙ ap (λ (n : ℕ). dated_in when n (acts s)) count in
-    c.in_ok-print_dates.ensures.text ∙ ap (λ (l : Bytes). l ++ dated_text g a (dated_in (entry_span g s dates) (length dates) (acts s))) c.new-text.ensures.items
-    ∙ ap (λ (ds : List Dated). dated_text g a ds) same
+    subst (λ (ds : List Dated). IfOk c.text_of_dates.result (λ text. text.items ≡ dated_text g a ds)) same c.text_of_dates.ensures

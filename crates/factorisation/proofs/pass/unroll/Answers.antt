@@ -1,4 +1,5 @@
-use Rattle.std.proofs.Common.{◌≡◌, arith, ap, ◌∙◌, sym, subst}
+use Rattle.std.proofs.Common.{◌≡◌, ◌≤◌, ℕ, true, false, ap, ◌∙◌, sym, subst}
+use Rattle.std.proofs.lemmas.Bool.{ltb-false}
 use Rattle.algo_tree.specs.Counted.{operations}
 use Rattle.algo_tree.specs.Valid.{IsTree}
 use Rattle.algo_tree.specs.View.{view}
@@ -11,9 +12,12 @@ use Rattle.factorisation_laws.proofs.Unrepeated.{no-unroll}
 use Rattle.factorisation_laws.proofs.Names.{names-unroll}
 use Rattle.factorisation_laws.proofs.Counting.{counted-unroll}
 use Rattle.factorisation_laws.proofs.Trees.{tree-unroll}
-use Rattle.algo_tree.specs.Size.{size, vertices_made}
+use Rattle.algo_tree.specs.Size.{is_large, size, vertices_made}
 use Rattle.factorisation.proofs.Sizes.{sized-unroll}
 use Rattle.factorisation.proofs.pass.unroll.Goals as goal
+
+not_both : true ≡ false → ⊥
+not_both h = cc
 
 pub new-requires : goal.new-requires
 new-requires c =
@@ -35,10 +39,20 @@ returns-clause-count c =
     let is : c.new.result ≡ unrolled c.args.tree.now = c.new.ensures ∙ c.in_ok-unroll_vertex.ensures ∙ ap unrolled c.main-main.ensures.same in
     ap operations is ∙ counted-unroll c.args.tree.now c.main-main.ensures.valid.well
 
+pub unroll_vertex-requires-clause-small : goal.unroll_vertex-requires-clause-small
+unroll_vertex-requires-clause-small c = ltb-false 262144 (vertices_made (view c.main-main.result.now)) (sym c.is_large.ensures ∙ c.if-is_large.false)
+
+pub returns-clause-few : goal.returns-clause-few
+returns-clause-few c =
+    let is : c.new.result ≡ unrolled c.args.tree.now = c.new.ensures ∙ c.in_ok-unroll_vertex.ensures ∙ ap unrolled c.main-main.ensures.same in
+    let made : vertices_made (view c.main-main.result.now) ≡ size c.new.result = ap vertices_made c.main-main.ensures.same ∙ sym (sized-unroll c.args.tree.now c.main-main.ensures.valid.well) ∙ ap size (sym is) in
+    subst (λ (n : ℕ). n ≤ 262144) made (ltb-false 262144 (vertices_made (view c.main-main.result.now)) (sym c.is_large.ensures ∙ c.if-is_large.false))
+
 pub returns-clause-large : goal.returns-clause-large
-returns-clause-large c large =
-    let made : vertices_made (view c.main-main.result.now) ≡ size (unrolled c.args.tree.now) = ap vertices_made c.main-main.ensures.same ∙ sym (sized-unroll c.args.tree.now c.main-main.ensures.valid.well) in
-    absurd (omega (arith, made, large, c.count_vertices.ensures, c.if-count_vertices-gt-MOST_VERTICES.false))
+returns-clause-large c large = absurd (not_both (sym large ∙ ap is_large (sym c.main-main.ensures.same) ∙ sym c.is_large.ensures ∙ c.if-is_large.false))
+
+pub returns-in_err-unroll_vertex-clause-large : goal.returns-in_err-unroll_vertex-clause-large
+returns-in_err-unroll_vertex-clause-large c large = absurd (not_both (sym large ∙ ap is_large (sym c.main-main.ensures.same) ∙ sym c.is_large.ensures ∙ c.if-is_large.false))
 
 pub returns-clause-names : goal.returns-clause-names
 returns-clause-names c names =

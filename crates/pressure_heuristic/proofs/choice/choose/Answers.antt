@@ -1,29 +1,32 @@
-use Rattle.std.proofs.Common.{◌-◌, arith, drop, subst, sym}
-use Rattle.std.specs.Prelude.{Some}
+use Rattle.std.proofs.Common.{◌+◌, List, ap, drop, subst, sym, ◌∙◌, ℕ}
+use Rattle.std.proofs.lemmas.List.{drop_all, drop_more}
 use Rattle.schedule.specs.Acts.{acts_of}
 use Rattle.comm_routing.specs.Draft.{task_of}
 use Rattle.comm_routing.specs.Placing.{is_candidate}
-use Rattle.pressure_heuristic.specs.Pressure.{operations}
-use Rattle.pressure_heuristic.specs.Choosing.{IsGreatestChoice}
-use Rattle.pressure_heuristic.specs.declared.choice.Choice.{Choice}
-use Rattle.pressure_heuristic.proofs.Greedy.{choice_step, passes_at}
+use Rattle.pressure_heuristic.specs.Choice.{first_greatest}
+use Rattle.pressure_heuristic.specs.Pressure.{operations, urgency}
+use Rattle.pressure_heuristic.specs.Choosing.{IsGreatestChoice, with_best}
+use Rattle.pressure_heuristic.proofs.Greedy.{leads_last, passes_at}
 use Rattle.pressure_heuristic.proofs.choice.choose.Goals as goal
 
-pub choice_of-requires-clause-candidate : goal.choice_of-requires-clause-candidate
-choice_of-requires-clause-candidate c =
+pub greater-best-requires-clause-candidate : goal.greater-best-requires-clause-candidate
+greater-best-requires-clause-candidate c =
     let d = c.args.draft.now in
-    let within = c.loop-place.invariant.within in
-    let more = c.loop-place-test.true in
-    passes_at (is_candidate (task_of d) (acts_of d.decisions)) (operations (task_of d)) c.ready-ready.result.now (c.loop-place.place - 1) 0 c.ready-ready.ensures (omega arith)
+    passes_at (is_candidate (task_of d) (acts_of d.decisions)) (operations (task_of d)) c.ready-ready.result.now c.loop-op.op-index 0 c.ready-ready.ensures c.loop-op-test.true
 
-pub loop-place-preserved : goal.loop-place-preserved
-loop-place-preserved c =
+pub loop-op-preserved : goal.loop-op-preserved
+loop-op-preserved c =
     let d = c.args.draft.now in
-    let k = c.loop-place.place in
-    let within = c.loop-place.invariant.within in
-    let more = c.loop-place-test.true in
     record {
-      best = subst (λ (x : Choice). IsGreatestChoice (task_of d) (acts_of d.decisions) (drop (k - 1) c.ready-ready.result.now) (Some x)) (sym c.higher.ensures)
-          (choice_step (task_of d) (acts_of d.decisions) c.ready-ready.result.now (k - 1) k 0 c.choice_of.result c.loop-place.best (omega arith) within c.choice_of.ensures.op c.choice_of.ensures.choice c.loop-place.invariant.best);
-      within = omega arith;
+      best = c.greater-best.ensures.best;
+      leads = c.greater-best.ensures.leads (drop (c.loop-op.op-index + 1) c.ready-ready.result.now)
+          ∙ ap (λ (l : List ℕ). first_greatest (urgency (task_of d) (acts_of d.decisions)) (with_best c.loop-op.best l)) (sym (drop_more c.ready-ready.result.now c.loop-op.op-index 0 c.loop-op-test.true))
+          ∙ c.loop-op.invariant.leads;
     }
+
+pub returns : goal.returns
+returns c =
+    let d = c.args.draft.now in
+    subst (λ (vs : List ℕ). IsGreatestChoice (task_of d) (acts_of d.decisions) vs c.loop-op.best) c.ready-ready.ensures
+    (leads_last (task_of d) (acts_of d.decisions) c.ready-ready.result.now c.loop-op.best c.loop-op.invariant.best
+    (ap (λ (l : List ℕ). first_greatest (urgency (task_of d) (acts_of d.decisions)) (with_best c.loop-op.best l)) (sym (drop_all c.loop-op.op-index c.ready-ready.result.now c.loop-op-test.false)) ∙ c.loop-op.invariant.leads))

@@ -1,15 +1,14 @@
-use Rattle.std.proofs.Common.{◌≤◌, drop, length}
+use Rattle.std.proofs.Common.{◌≡◌, drop}
 use Rattle.schedule.specs.Acts.{acts_of}
 use Rattle.comm_routing.specs.Draft.{task_of}
-use Rattle.pressure_heuristic.specs.Choosing.{IsGreatestChoice}
+use Rattle.pressure_heuristic.specs.Choice.{first_greatest}
+use Rattle.pressure_heuristic.specs.Pressure.{urgency}
+use Rattle.pressure_heuristic.specs.Choosing.{IsBest, with_best}
 use Rattle.pressure_heuristic.proofs.choice.choose.Given as goal
 
--- the choice among the candidates from this place on
-abbrev pub invariant-loop-place : goal.invariant-loop-place
-invariant-loop-place l = record {
-  best : IsGreatestChoice (task_of l.draft) (acts_of l.draft.decisions) (drop l.place l.ready) l.best;
-  within : l.place ≤ length l.ready;
+-- the best choice so far, with the candidates that are left, leads as all candidates do
+abbrev pub invariant-loop-op : goal.invariant-loop-op
+invariant-loop-op l = record {
+  best : IsBest (task_of l.draft) (acts_of l.draft.decisions) l.best;
+  leads : first_greatest (urgency (task_of l.draft) (acts_of l.draft.decisions)) (with_best l.best (drop l.op-index l.ready)) ≡ first_greatest (urgency (task_of l.draft) (acts_of l.draft.decisions)) l.ready;
 }
-
-abbrev pub decreases-loop-place : goal.decreases-loop-place
-decreases-loop-place l = l.place

@@ -1,5 +1,5 @@
 use Rattle.std.proofs.Common.{◌≡◌, ◌%◌, ◌<◌, ℕ, length, ap, sym, subst, ◌∙◌}
-use Rattle.word_table.specs.Answers.{Answers, AnswersAlone}
+use Rattle.word_table.specs.Answers.{Answers, AnswersAlone, DrivesEvery}
 use Rattle.word_table.specs.Driver.{FabricData, DriverData}
 use Rattle.word_table.specs.Parts.{driver_view, fabric_view}
 use Rattle.word_table.proofs.Told.{own_driver, of_views, told_of, alone_answers}
@@ -32,9 +32,7 @@ pub returns-clause-told : goal.returns-clause-told
 returns-clause-told c = told_of c.self.inside.parts c.try_micro.new.driver c.self.invariant c.try_micro.ensures.of
 
 pub returns-clause-alone : goal.returns-clause-alone
-returns-clause-alone c one = let q = c.requires in let w = c.self.inside.parts in let d = c.driver.inside.parts in let e = c.try_micro.new.driver in let s = c.try_micro.ensures.same in let seq = c.args.seq in
+returns-clause-alone c every = let q = c.requires in let w = c.self.inside.parts in let d = c.driver.inside.parts in let e = c.try_micro.new.driver in let s = c.try_micro.ensures.same in let seq = c.args.seq in
     let of : (driver_view d).fabric ≡ fabric_view w = ap (λ (d : DriverData). d.fabric) c.driver.view_is ∙ q.of ∙ sym c.self.view_is in
-    let groups : d.groups ≡ c.args.self.now.groups = ap (λ (d : DriverData). d.fabric.groups) c.driver.view_is ∙ ap (λ (f : FabricData). f.groups) q.of in
-    let drives : seq % d.groups ≡ d.group = ap (λ (n : ℕ). seq % n) groups ∙ q.drives ∙ sym (ap (λ (d : DriverData). d.group) c.driver.view_is) in
     subst (λ (x : DriverData). AnswersAlone x (driver_view e) seq c.try_micro.result) c.driver.view_is
-    (alone_answers w d e seq c.try_micro.result c.self.invariant (of_views w d of c.driver.invariant) c.try_micro.ensures.of (groups ∙ one) drives s.groups s.group (subst (λ (f : FabricData). c.args.seq < length f.job.program.seqs) (sym c.self.view_is) q.there) c.try_micro.ensures.answer)
+    (alone_answers w d e seq c.try_micro.result c.self.invariant (of_views w d of c.driver.invariant) c.try_micro.ensures.of (subst DrivesEvery (sym c.driver.view_is) every) s.groups s.group (subst (λ (f : FabricData). c.args.seq < length f.job.program.seqs) (sym c.self.view_is) q.there) c.try_micro.ensures.answer)

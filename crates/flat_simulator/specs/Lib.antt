@@ -1,0 +1,5 @@
+pub mod Order
+pub mod Begun
+pub mod Store
+pub mod Reaction
+pub mod Ran
