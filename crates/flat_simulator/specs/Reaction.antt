@@ -1,5 +1,19 @@
 -- What a reaction of a flat graph does to its store.
-use Rattle.std.specs.Prelude.{◌≡◌, ◌≢◌, ℕ, List, [], ◌∷◌, map, drop, Some, if◌then◌else◌, slice_get, slice_index_or, slice_set}
+use Rattle.std.specs.Prelude.{
+  ◌≡◌,
+  ◌≢◌,
+  ℕ,
+  List,
+  [],
+  ◌∷◌,
+  map,
+  drop,
+  Some,
+  if◌then◌else◌,
+  slice_get,
+  slice_index_or,
+  slice_set,
+}
 use Rattle.syn_base.specs.Rows.{Reactions}
 use Rattle.level_meaning.specs.Level.{Vector, Values, vector_at}
 use Rattle.flat_graph.specs.declared.vertex.Source.{Source}
