@@ -45,7 +45,9 @@ fn taken(alloc: Global, tree: &Tree, rows: &[&[i64]]) -> Result<Vec<u8>, OutOfMe
 {
     let lens = tree.sensor_lens(alloc)?;
     let sensed = rows_of(alloc, &lens, rows)?;
-    let acts = simulate(alloc, tree, &sensed)?;
+    let Ok(acts) = simulate(alloc, tree, &sensed) else {
+        return Err(OutOfMemory);
+    };
     acts_text(alloc, tree, &acts)
 }
 

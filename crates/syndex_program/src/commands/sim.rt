@@ -81,6 +81,8 @@ pub fn print_acts(alloc: Global, tree: &Tree, rows: &SensorRows) -> Result<Vec<u
     requires bounds { HasBounds tree.now }
     ensures { IfOk result (λ text. text.items ≡ output_of tree.now rows.now.reactions) }
 {
-    let acts = simulate(alloc, tree, rows)?;
+    let Ok(acts) = simulate(alloc, tree, rows) else {
+        return Err(OutOfMemory);
+    };
     acts_text(alloc, tree, &acts)
 }
