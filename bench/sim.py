@@ -5,6 +5,8 @@ ratios of the times, so that they show on a noisy machine:
 - 2,048 operations, a chain of functions in graphs, over 10,000 reactions, with references declared in the order of the
   chain and in reverse;
 - 64 functions of 64 elements each over 10,000 reactions;
+- values that pass through graphs and repetitions which hold next to no operation, over 100 reactions, with the memory that each
+  command takes;
 - growing sensor tables of the largest simple algorithm that the bound on the output allows, where each line also has its
   ratio to the line before.
 
@@ -17,6 +19,7 @@ import tempfile
 from flat import algorithm as chain
 from program import built_program, written, TOP
 from shapes import table
+from shapes_sim import SHAPES
 
 PROGRAM = built_program()
 RUNS, LENGTH, REFERENCES = 5, 64, 3
@@ -65,10 +68,29 @@ def told(what, plain, files, before=None):
     return took
 
 
+def peak(words):
+    """The most memory that a command takes, in MB."""
+    child = subprocess.Popen(words, stdout=subprocess.DEVNULL)
+    _, status, usage = os.wait4(child.pid, 0)
+    assert status == 0, words
+    return usage.ru_maxrss / 1024
+
+
+def passing(room):
+    """Texts of many ports on few operations: nothing of a reaction may be in proportion to the ports."""
+    for what, (make, columns) in SHAPES.items():
+        text = written(room, "passing.txt", make())
+        rows = written(room, "passing.csv", table(columns, 100))
+        for words in [["check", text], ["flat", text], ["sim", text, rows]]:
+            took, _ = seconds([PROGRAM, *words])
+            print(f"{what}, {words[0]}: {took:.3f} s, {peak([PROGRAM, *words]):.0f} MB")
+
+
 def main():
     with tempfile.TemporaryDirectory() as room:
         plain = os.path.join(room, "plain")
         subprocess.run(["cc", "-O2", "-o", plain, os.path.join(TOP, "bench", "plain", "sim.c")], check=True)
+        passing(room)
         rows = written(room, "one.csv", table(["s.0"], REACTIONS[-1]))
         for backwards in [False, True]:
             text = written(room, "chain.txt", chain(2_048, backwards))

@@ -1,8 +1,7 @@
 //! The order in which the vertices of a level run: each after all that its outputs ask for.
 //!
-//! `find_order` finds it. The simulator (`sync_meaning`) runs a level in this order, and
-//! `hierarchy` follows the edges of a level in it. By `is_vertex_ready`, `tree_check` tests that a level has
-//! one.
+//! `find_order` finds it, and `hierarchy` follows the edges of a level in it. By `is_vertex_ready`,
+//! `tree_check` tests that a level has one.
 #![tactic(auto)]
 
 mod order;

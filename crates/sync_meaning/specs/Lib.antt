@@ -1,5 +1,1 @@
-pub mod Store
-pub mod Sound
-pub mod Run
-pub mod First
 pub mod Simulated

@@ -1,16 +1,10 @@
 //! The simulator: it computes the synchronous meaning of an algorithm, reaction by reaction.
 //!
-//! `simulate` lays out all values of a tree once, with an order for each level (`level_order`), and
-//! writes them over in each reaction. `syndex_program` calls it for `sim`.
+//! `simulate` makes the flat graph of a tree, of which `hierarchy` says that its meaning is the tree's, and
+//! runs it with `flat_simulator`. It knows no operator, schedule, buffer or semaphore. `syndex_program` calls
+//! it for `sim`.
 #![tactic(auto)]
 
-mod apply;
-mod frontier;
-mod layout;
-mod leaf;
-mod react;
 mod simulator;
-mod store;
-mod values;
 
 pub use simulator::simulate;

@@ -1,12 +1,15 @@
 //! Passes of flattening, each by itself, over trees of texts (`factorisation`, `conditioning`, `hierarchy`).
 ghost use Rattle.std.specs.Prelude.{◌≡◌, ◌≤◌, IfOk, length, sum};
+ghost use Rattle.operation_paths.specs.Bounded.{HasBounds};
+ghost use Rattle.operation_paths.specs.Named.{HasNames};
 ghost use Rattle.pass_laws.specs.NoRepeat.{HasNoRepeat};
 
-use crate::tree_texts::{CASES, COPIES, resolved};
+use crate::tree_texts::{CASES, COPIES, DELAYED, resolved};
 use act_text::acts_text;
 use algo_tree::Tree;
 use conditioning::guard;
 use factorisation::unroll;
+use flat_laws::bounds_are_kept;
 use flat_text::print_flat;
 use hierarchy::flatten;
 use std::alloc::Global;
@@ -36,27 +39,42 @@ fn rows_of(alloc: Global, lens: &[u32], rows: &[&[i64]]) -> Result<SensorRows, O
 }
 
 /// What the actuators of a tree take when its sensors give these rows.
-fn taken(alloc: Global, tree: &Tree, rows: &[&[i64]]) -> Result<Vec<u8>, OutOfMemory> {
+fn taken(alloc: Global, tree: &Tree, rows: &[&[i64]]) -> Result<Vec<u8>, OutOfMemory>
+    requires names { HasNames tree.now }
+    requires bounds { HasBounds tree.now }
+{
     let lens = tree.sensor_lens(alloc)?;
     let sensed = rows_of(alloc, &lens, rows)?;
-    let acts = simulate(alloc, tree, &sensed)?;
+    let Ok(acts) = simulate(alloc, tree, &sensed) else {
+        return Err(OutOfMemory);
+    };
     acts_text(alloc, tree, &acts)
 }
 
 /// The tree of a text without repetitions.
 fn unrolled(alloc: Global, text: &[u8]) -> Result<Tree, Fail>
     requires { length text.now ≤ 2000 }
-    ensures { IfOk result (λ tree. HasNoRepeat tree) }
+    ensures flat { IfOk result (λ tree. HasNoRepeat tree) }
+    ensures named { IfOk result (λ tree. HasNames tree) }
+    ensures bounded { IfOk result (λ tree. HasBounds tree) }
 {
     let tree = resolved(alloc, text)?;
+    // By this call the proof knows that the tree is valid.
+    let _main = tree.main();
+    bounds_are_kept();
     Ok(unroll(alloc, &tree)?)
 }
 
 /// The tree of a text without repetitions and without cases.
 fn guarded(alloc: Global, text: &[u8]) -> Result<Tree, Fail>
     requires { length text.now ≤ 2000 }
+    ensures named { IfOk result (λ tree. HasNames tree) }
+    ensures bounded { IfOk result (λ tree. HasBounds tree) }
 {
     let tree = unrolled(alloc, text)?;
+    // By this call the proof knows that the tree is valid.
+    let _main = tree.main();
+    bounds_are_kept();
     Ok(guard(alloc, &tree)?)
 }
 
@@ -88,6 +106,17 @@ fn cases_take_turns(rt: HostRuntime) -> Result<(), Fail> {
     assert_eq!(rt;
         text.as_slice(),
         b"0 a 100\n1 a 0\n2 a 103\n3 a 5\n".as_slice()
+    );
+    Ok(())
+}
+
+#[test]
+fn a_delay_gives_before_it_takes(rt: HostRuntime) -> Result<(), Fail> {
+    let tree = resolved(rt.alloc(), DELAYED)?;
+    let text = taken(rt.alloc(), &tree, &[&[5, -1], &[4, 10]])?;
+    assert_eq!(rt;
+        text.as_slice(),
+        b"0 a 3\n0 b 7\n1 a 7\n1 b -16\n".as_slice()
     );
     Ok(())
 }

@@ -109,6 +109,29 @@ edge c.p b.i
 end
 ";
 
+/// A sensor of length 2, declared after all that it reaches: a function of it, a delay of that with the
+/// initial value 3, an actuator of the delay and one of the function.
+pub const DELAYED: &[u8] = b"algorithm 1
+sensor Sense 2
+actuator Act 1
+function Difference
+in x 2
+out y 1 = sub(x[0],mul(2,x[1]))
+end
+delay Mem = 3
+graph main
+ref a Act
+ref b Act
+ref f Difference
+ref d Mem
+ref s Sense
+edge d.o a.i
+edge f.y b.i
+edge s.o f.x
+edge f.y d.i
+end
+";
+
 /// The tree of a text, or its first refusal.
 #[tactic(auto, using(algo_reader::proofs::LineCounts::lines_at_most))]
 pub fn resolved(alloc: Global, text: &[u8]) -> Result<Tree, AlgoError>

@@ -3,6 +3,8 @@ ghost use Rattle.std.specs.Prelude.{◌≡◌, ◌*◌, sum, IfOk};
 ghost use Rattle.algo_tree.specs.Ends.{sensor_lengths, actuator_lengths};
 ghost use Rattle.command_plan.specs.Run.{Makes};
 ghost use Rattle.outside.specs.Shelf.{Held, Stays};
+ghost use Rattle.operation_paths.specs.Bounded.{HasBounds};
+ghost use Rattle.operation_paths.specs.Named.{HasNames};
 ghost use Rattle.syndex_program.specs.Reads.{text_in};
 ghost use Rattle.top_plans.specs.Given.{output_of};
 ghost use Rattle.top_plans.specs.Plans.{excess, rows_plan, sim_plan};
@@ -33,7 +35,9 @@ pub fn sim_text<S: Shelf>(
 
 /// The text of what the actuators take over these rows, where it is within its bound.
 fn text_over(alloc: Global, tree: &Tree, rows: &SensorRows) -> Result<Vec<u8>, Status>
-    requires { rows.now.lens ≡ sensor_lengths tree.now }
+    requires lens { rows.now.lens ≡ sensor_lengths tree.now }
+    requires names { HasNames tree.now }
+    requires bounds { HasBounds tree.now }
     ensures { (held : Held) → Makes held held (rows_plan tree.now rows.now) (text_in result) }
 {
     let width = output_width(alloc, tree)?;
@@ -72,9 +76,13 @@ fn excess(reactions: usize, width: usize) -> Option<LimitFault>
 
 /// The text of what the actuators take over these rows.
 pub fn print_acts(alloc: Global, tree: &Tree, rows: &SensorRows) -> Result<Vec<u8>, OutOfMemory>
-    requires { rows.now.lens ≡ sensor_lengths tree.now }
+    requires lens { rows.now.lens ≡ sensor_lengths tree.now }
+    requires names { HasNames tree.now }
+    requires bounds { HasBounds tree.now }
     ensures { IfOk result (λ text. text.items ≡ output_of tree.now rows.now.reactions) }
 {
-    let acts = simulate(alloc, tree, rows)?;
+    let Ok(acts) = simulate(alloc, tree, rows) else {
+        return Err(OutOfMemory);
+    };
     acts_text(alloc, tree, &acts)
 }

@@ -8,8 +8,8 @@ use Rattle.syndex_program.specs.Reads.{text_in}
 use Rattle.syndex_program.proofs.Steps.{rows_went_on, went_on}
 use Rattle.syndex_program.proofs.commands.sim.sim_text.Goals as goal
 
-pub text_over-requires : goal.text_over-requires
-text_over-requires g c = c.in_ok-rows.ensures.reads.2.1
+pub text_over-requires-clause-lens : goal.text_over-requires-clause-lens
+text_over-requires-clause-lens g c = c.in_ok-rows.ensures.reads.2.1
 
 pub returns-in_err-rows-clause-makes : goal.returns-in_err-rows-clause-makes
 returns-in_err-rows-clause-makes g c =
