@@ -43,7 +43,7 @@ impl Routes {
     }
 
     /// How many hops the least route from one operator to the other has.
-    pub fn level(&self, from: u32, to: u32) -> u32
+    fn level(&self, from: u32, to: u32) -> u32
         requires { (from < self.now.operators) × (to < self.now.operators) }
         ensures { result ≡ level_in self.now from to }
     {
