@@ -7,7 +7,7 @@ use Rattle.syn_base.specs.Name.{is_name}
 use Rattle.algo_defs.specs.declared.fault.AlgoCause.{AlgoCause}
 use Rattle.algo_defs.specs.declared.fault.AlgoCause.TheVariants.{BadName, DuplicateName}
 use Rattle.algo_defs.specs.declared.fault.AlgoError.{AlgoError}
-use Rattle.algo_defs.specs.declared.fault.AlgoError.TheVariants.{Refused, Limit, OutOfMemory}
+use Rattle.algo_defs.specs.declared.fault.AlgoError.TheVariants.{Refused, Limit, TooLarge, OutOfMemory}
 use Rattle.algo_defs.specs.Returned.{Fails}
 
 -- A call that changes a value leaves there what is defined, or returns the error that is.
@@ -23,6 +23,7 @@ stop line why = Refused (record { line = line; cause = why })
 abbrev pub IsStop : AlgoError → AlgoError → Type 0
 IsStop (Refused f) asked = asked ≡ Refused f
 IsStop (Limit f) asked = asked ≡ Limit f
+IsStop TooLarge asked = asked ≡ TooLarge
 IsStop OutOfMemory asked = Unit {0}
 
 -- This value is returned, unless memory ran out.
@@ -31,6 +32,7 @@ Has (Ok x) wanted = x ≡ wanted
 Has (Err OutOfMemory) wanted = Unit {0}
 Has (Err (Refused f)) wanted = ⊥
 Has (Err (Limit f)) wanted = ⊥
+Has (Err TooLarge) wanted = ⊥
 
 -- A call added an element at the end, or changed nothing where memory ran out.
 abbrev pub Adds : {A B : Type 0} → Result B AlgoError → List A → A → List A → Type 0
@@ -38,6 +40,7 @@ Adds (Ok _) old x new = new ≡ old ++ x ∷ []
 Adds (Err OutOfMemory) old x new = new ≡ old
 Adds (Err (Refused f)) old x new = ⊥
 Adds (Err (Limit f)) old x new = ⊥
+Adds (Err TooLarge) old x new = ⊥
 
 -- A name was added at the end, or was there.
 abbrev pub AddsName : Result Bool AlgoError → List Bytes → Bytes → List Bytes → Type 0
@@ -46,6 +49,7 @@ AddsName (Ok false) old name new = (list_any (bytes_eq name) old ≡ true) × (n
 AddsName (Err OutOfMemory) old name new = new ≡ old
 AddsName (Err (Refused f)) old name new = ⊥
 AddsName (Err (Limit f)) old name new = ⊥
+AddsName (Err TooLarge) old name new = ⊥
 
 -- The name that a word is, or the line's refusal where it is none.
 abbrev pub IsNamed : Result Bytes AlgoError → ℕ → Bytes → Type 0
@@ -53,6 +57,7 @@ IsNamed (Ok name) line word = (is_name word ≡ true) × (name ≡ word)
 IsNamed (Err (Refused f)) line word = (is_name word ≡ false) × (f ≡ record { line = line; cause = BadName word })
 IsNamed (Err OutOfMemory) line word = Unit {0}
 IsNamed (Err (Limit f)) line word = ⊥
+IsNamed (Err TooLarge) line word = ⊥
 
 -- A name was added at the end, or the line refused since it was there.
 abbrev pub AddsNew : {B : Type 0} → Result B AlgoError → ℕ → List Bytes → Bytes → List Bytes → Type 0
@@ -61,3 +66,4 @@ AddsNew (Err (Refused f)) line old name new =
     (list_any (bytes_eq name) old ≡ true) × (f ≡ record { line = line; cause = DuplicateName name })
 AddsNew (Err OutOfMemory) line old name new = Unit {0}
 AddsNew (Err (Limit f)) line old name new = ⊥
+AddsNew (Err TooLarge) line old name new = ⊥

@@ -7,7 +7,7 @@ use Rattle.algo_defs.specs.declared.definition.Body.{Body}
 use Rattle.algo_defs.specs.declared.definition.Body.TheVariants.{Sensor, Actuator, Constant, Delay}
 use Rattle.algo_defs.specs.declared.definition.Defs.{Defs}
 use Rattle.algo_defs.specs.declared.fault.AlgoError.{AlgoError}
-use Rattle.algo_defs.specs.declared.fault.AlgoError.TheVariants.{Refused, Limit, OutOfMemory}
+use Rattle.algo_defs.specs.declared.fault.AlgoError.TheVariants.{Refused, Limit, TooLarge, OutOfMemory}
 use Rattle.syn_base.specs.Bytes.{Bytes}
 use Rattle.algo_defs.specs.Words.{is_among}
 use Rattle.algo_text.specs.Words.{word, count_of}
@@ -144,6 +144,8 @@ fails_after (Refused f) lines n (Ok r) h = cc
 fails_after (Refused f) lines n (Err e) h = let same : e ≡ Refused f = cc in ap (λ (g : AlgoError). Err g) same
 fails_after (Limit f) lines n (Ok r) h = cc
 fails_after (Limit f) lines n (Err e) h = let same : e ≡ Limit f = cc in ap (λ (g : AlgoError). Err g) same
+fails_after TooLarge lines n (Ok r) h = cc
+fails_after TooLarge lines n (Err e) h = let same : e ≡ TooLarge = cc in ap (λ (g : AlgoError). Err g) same
 fails_after OutOfMemory lines n x h = tt
 
 -- A line that is refused.
@@ -167,6 +169,7 @@ reading_settled r = ap (λ (k : Block). record (reading r) { block = k }) (open_
 fails_settled : (e : AlgoError) (x : Result Reading AlgoError) → Fails e x → Fails e (settle x)
 fails_settled (Refused f) x h = ap settle h
 fails_settled (Limit f) x h = ap settle h
+fails_settled TooLarge x h = ap settle h
 fails_settled OutOfMemory x h = tt
 
 pub steps_settled : {T : Type 0} (result : Result T AlgoError) (new : Reader) (read : Result Reading AlgoError) → Steps result (reading new) read → Steps result (reading new) (settle read)

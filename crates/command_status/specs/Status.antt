@@ -80,11 +80,13 @@ number_of (ActualRefused fault) = 13
 abbrev pub of_algorithm : AlgoError → Refusal
 of_algorithm (algorithm.Refused fault) = bad_algorithm fault
 of_algorithm (algorithm.Limit fault) = above fault
+of_algorithm algorithm.TooLarge = wants_memory
 of_algorithm algorithm.OutOfMemory = wants_memory
 
 abbrev pub status_of_algorithm : AlgoError → Status
 status_of_algorithm (algorithm.Refused fault) = AlgoRefused fault
 status_of_algorithm (algorithm.Limit fault) = Limit fault
+status_of_algorithm algorithm.TooLarge = OutOfMemory
 status_of_algorithm algorithm.OutOfMemory = OutOfMemory
 
 -- the refusal by an architecture's text or its durations

@@ -77,7 +77,7 @@ impl From<AlgoError> for Status {
         match error {
             AlgoError::Refused(fault) => Status::AlgoRefused(fault),
             AlgoError::Limit(fault) => Status::Limit(fault),
-            AlgoError::OutOfMemory => Status::OutOfMemory,
+            AlgoError::TooLarge | AlgoError::OutOfMemory => Status::OutOfMemory,
         }
     }
 }

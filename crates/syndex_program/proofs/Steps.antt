@@ -6,8 +6,9 @@ use Rattle.algo_defs.specs.declared.definition.Defs.{Defs}
 use Rattle.algo_defs.specs.declared.fault.AlgoError.{AlgoError}
 use Rattle.algo_defs.specs.declared.fault.AlgoError.TheVariants as error
 use Rattle.algo_text.specs.Text.{definitions_of}
-use Rattle.algo_rules.specs.Placed.{Gives}
-use Rattle.elaboration.specs.Elaborated.{elaboration_of}
+use Rattle.algo_defs.specs.Returned.{Gives}
+use Rattle.elaboration.specs.Elaborated.{bounded_elaboration, elaboration_of}
+use Rattle.elaboration.proofs.Bounded.{limit_stays, refusal_stays}
 use Rattle.algo_tree.specs.Tree.{Vertex}
 use Rattle.csv.specs.Reading.{default_config, records, strip_bom}
 use Rattle.sensor_table.specs.Answers as table
@@ -23,7 +24,7 @@ use Rattle.command_plan.proofs.Makes.{after_err, after_ok, memory}
 use Rattle.command_status.specs.Status.{Refusal, above, ending_of, of_algorithm, of_sensors, status_of_algorithm, status_of_sensors}
 use Rattle.top_plans.specs.Given.{Given}
 use Rattle.top_plans.specs.Plans.{Made, algorithm_plan, table_in, table_plan, unless}
-use Rattle.syndex_program.specs.Compiles.{IsAlgorithm, IsRefused, MakesAlgorithm, resolves_none, says_none}
+use Rattle.syndex_program.specs.Compiles.{IsAlgorithm, IsRefused, MakesAlgorithm, makes_large, resolves_none, says_none}
 use Rattle.syndex_program.specs.Reads.{ReadsAlgorithm, ReadsTable}
 use Rattle.syndex_program.specs.declared.compile.Algorithm.{Algorithm}
 
@@ -32,6 +33,7 @@ module _ {X : Type 0} (held : Held) (answer : Result X AlgoError) (next : X → 
   by_error : (e : AlgoError) → answer ≡ Err e → Makes held held (after of_algorithm answer next) (Err (ending_of (status_of_algorithm e)))
   by_error (error.Refused fault) is = after_err held of_algorithm answer next (error.Refused fault) is
   by_error (error.Limit fault) is = after_err held of_algorithm answer next (error.Limit fault) is
+  by_error error.TooLarge is = memory held (after of_algorithm answer next)
   by_error error.OutOfMemory is = memory held (after of_algorithm answer next)
 
 module _ (text : Bytes) (next : Defs → Vertex → Made) where
@@ -47,6 +49,7 @@ module _ (text : Bytes) (next : Defs → Vertex → Made) where
   pub refused_so : (held : Held) (e : AlgoError) → MakesAlgorithm text (Err e) → Makes held held behind (Err (ending_of (status_of_algorithm e)))
   refused_so held (error.Refused fault) h = is_refused held (error.Refused fault) h
   refused_so held (error.Limit fault) h = is_refused held (error.Limit fault) h
+  refused_so held error.TooLarge h = memory held behind
   refused_so held error.OutOfMemory h = memory held behind
 
   pub resolved_so : (old new : Held) (algorithm : Algorithm) (made : Result Given (Ending Refusal)) → IsAlgorithm text algorithm → Makes old new (next algorithm.defs algorithm.tree) made → Makes old new behind made
@@ -86,7 +89,8 @@ pub is_within : (old new : Held) (o : Option LimitFault) (next : Made) (made : R
 is_within old new o next made is m = subst (λ (x : Option LimitFault). Makes old new (unless x next) made) (sym is) m
 
 -- the definitions of a text are refused
-pub by_definitions : (text : Bytes) (defs : Defs) (e : AlgoError) → definitions_of text ≡ Ok defs → Gives {A = Vertex} (Err e) (elaboration_of defs) → MakesAlgorithm text (Err e)
-by_definitions text defs (error.Refused fault) says h = resolves_none defs says h
-by_definitions text defs (error.Limit fault) says h = resolves_none defs says h
+pub by_definitions : (text : Bytes) (defs : Defs) (e : AlgoError) → definitions_of text ≡ Ok defs → Gives {A = Vertex} (Err e) (bounded_elaboration defs) → MakesAlgorithm text (Err e)
+by_definitions text defs (error.Refused fault) says h = resolves_none defs says (refusal_stays defs fault h)
+by_definitions text defs (error.Limit fault) says h = resolves_none defs says (limit_stays defs fault h)
+by_definitions text defs error.TooLarge says h = makes_large defs says h
 by_definitions text defs error.OutOfMemory says h = tt

@@ -5,7 +5,7 @@ use Rattle.algo_defs.specs.declared.definition.Defs.{Defs}
 use Rattle.algo_defs.specs.declared.fault.AlgoError.{AlgoError}
 use Rattle.algo_defs.specs.declared.fault.AlgoError.TheVariants as error
 use Rattle.algo_text.specs.Text.{definitions_of}
-use Rattle.elaboration.specs.Elaborated.{elaboration_of}
+use Rattle.elaboration.specs.Elaborated.{bounded_elaboration, elaboration_of}
 use Rattle.algo_tree.specs.Tree.{Vertex}
 use Rattle.archi_defs.specs.Text.{Described, description_of}
 use Rattle.archi_defs.specs.declared.text.ArchiText.{ArchiText}
@@ -32,11 +32,19 @@ pub data IsRefused (text : Bytes) (error : AlgoError) : Type 0 where
   says_none : definitions_of text ≡ Err error → IsRefused text error
   resolves_none : (defs : Defs) → definitions_of text ≡ Ok defs → elaboration_of defs ≡ Err error → IsRefused text error
 
+-- the definitions of a text resolve to a tree above the bound on vertices, or one is made of it, and nothing else is
+-- refused before
+pub data IsTooLarge (text : Bytes) : Type 0 where
+  says_large : definitions_of text ≡ Err error.TooLarge → IsTooLarge text
+  makes_large : (defs : Defs) → definitions_of text ≡ Ok defs → bounded_elaboration defs ≡ Err error.TooLarge →
+      IsTooLarge text
+
 -- the algorithm of a text or its first refusal; want of memory may come in place of either
 abbrev pub MakesAlgorithm : Bytes → Result Algorithm AlgoError → Type 0
 MakesAlgorithm text (Ok algorithm) = IsAlgorithm text algorithm
 MakesAlgorithm text (Err (error.Refused fault)) = IsRefused text (error.Refused fault)
 MakesAlgorithm text (Err (error.Limit fault)) = IsRefused text (error.Limit fault)
+MakesAlgorithm text (Err error.TooLarge) = IsTooLarge text
 MakesAlgorithm text (Err error.OutOfMemory) = Unit {0}
 
 -- what a text describes

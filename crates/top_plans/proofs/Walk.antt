@@ -94,6 +94,7 @@ Leaf Told _ _ = ⊥
 algorithm_not : (e : AlgoError) → ¬ (of_algorithm e ≡ usage)
 algorithm_not (algorithm.Refused fault) q = cc
 algorithm_not (algorithm.Limit fault) q = cc
+algorithm_not algorithm.TooLarge q = cc
 algorithm_not algorithm.OutOfMemory q = cc
 
 architecture_not : (e : ArchiError) → ¬ (of_architecture e ≡ usage)

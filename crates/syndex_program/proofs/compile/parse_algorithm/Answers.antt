@@ -1,4 +1,5 @@
 use Rattle.std.proofs.lemmas.Result.{err_from_is_err_and}
+use Rattle.elaboration.proofs.Bounded.{elaborated}
 use Rattle.elaboration.proofs.Whole.{have_periods}
 use Rattle.syndex_program.proofs.Sizes.{few_definitions, few_lines}
 use Rattle.syndex_program.proofs.Steps.{by_definitions}
@@ -24,3 +25,11 @@ pub returns-in_err-tree : goal.returns-in_err-tree
 returns-in_err-tree c =
     let p = err_from_is_err_and c.from_residual-in_err-tree.result c.from_residual-in_err-tree.ensures.1 in
     rw (p.1, p.2) (by_definitions c.args.text.now c.in_ok-defs.defs c.in_err-tree.field-0.0 c.in_ok-defs.ensures c.in_err-tree.ensures.gives)
+
+pub returns : goal.returns
+returns c = record {
+  says = c.in_ok-defs.ensures;
+  resolves = elaborated c.in_ok-defs.defs c.in_ok-tree.tree c.in_ok-tree.ensures.gives;
+  named = c.in_ok-tree.ensures.named;
+  bounded = c.in_ok-tree.ensures.bounded;
+}
