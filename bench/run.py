@@ -6,6 +6,8 @@ to write the same bytes.
 - 2,048 operations on 16 operators over 1,000 reactions: a chain of functions; 16 lanes of functions that take from each other over
   a bus, and the same in a ring;
 - growth with the reactions (250, 1,000, 4,000, 10,000), the workers (1, 2, 3, 4, 16) and the operators (1, 4, 16);
+- more workers than have something to do (1, 2, 4, 16, 80), without the plain executive: three operations on one operator; 50
+  functions on one of 16 operators at four buses, which makes 80 sequences; 62 delays of depth 16 on one of these;
 - the memory of a window: 10,000 reactions beside 250.
 
 `run` also reads the texts, places the operations and builds the program, which the plain executive is given; so the time of
@@ -26,6 +28,7 @@ PROGRAM = built_program()
 RUNS = 5
 REACTIONS = [250, 1_000, 4_000, 10_000]
 WORKERS = [1, 2, 3, 4, 16]
+IDLE = [1, 2, 4, 16, 80]
 OPERATORS = [1, 4, 16]
 SENSORS = [f"s{i}.0" for i in range(shapes.LANES)]
 
@@ -104,6 +107,16 @@ class Bench:
                 flush=True,
             )
 
+    def told_idle(self, what):
+        """With one worker and with more than have something to do, by the clock."""
+        one = None
+        for workers in IDLE:
+            run = Times([PROGRAM, "run", self.algorithm, self.archi, self.rows, "--workers", str(workers)])
+            for _ in range(RUNS):
+                run.run(self.room)
+            one = one or run.clock
+            print(f"{what}, {workers} workers: {run.clock:.3f} s by the clock, {run.clock / one:.2f} times one worker's; {run.size:.0f} MiB", flush=True)
+
 
 def load():
     return "load " + ", ".join(f"{it:.2f}" for it in os.getloadavg())
@@ -131,6 +144,12 @@ def main():
         for operators in OPERATORS:
             bench.take(lanes(15), operators_for(operators), SENSORS, 500)
             before = bench.told(f"lanes, 2,048 operations, {operators} operators at a bus, 500 reactions", before)
+        bench.take(chain(3, False), operators_for(1), ["s.0"], 10_000)
+        bench.told_idle("a chain, 3 operations, 1 operator, 10,000 reactions")
+        bench.take(chain(52, False), first_of_many("SFA"), ["s.0"], 10_000)
+        bench.told_idle("a chain, 52 operations, 1 of 16 operators, 10,000 reactions")
+        bench.take(delays(62, 16), first_of_many("SA"), ["s.0"], 5_000)
+        bench.told_idle("62 delays of depth 16, 1 of 16 operators, 5,000 reactions")
     print(load())
 
 

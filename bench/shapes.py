@@ -130,6 +130,24 @@ def operators_for(operators, ring=False, depth=1):
     return "\n".join(lines + [""])
 
 
+def delays(count, depth):
+    """This many delays of this depth, one after another between a sensor and an actuator."""
+    lines = ["algorithm 2", "sensor S 1", "actuator A 1", f"delay D {depth} = {' '.join('0' * depth)}", "graph main", "ref s S", "ref a A"]
+    lines += [f"ref d{i} D" for i in range(count)]
+    ends = ["s.o"] + [f"d{i}.o" for i in range(count)]
+    lines += [f"edge {ends[i]} d{i}.i" for i in range(count)]
+    return "\n".join(lines + [f"edge {ends[-1]} a.i", "end", ""])
+
+
+def first_of_many(definitions):
+    """16 operators at four buses, which makes 80 sequences; what takes time may stand on the first operator alone."""
+    names = [f"o{k}" for k in range(16)]
+    lines = ["architecture 1"] + [f"operator {name}" for name in names]
+    for bus in range(4):
+        lines += [f"medium b{bus} multi 1 1"] + [f"connect b{bus} {name}" for name in names]
+    return "\n".join(lines + [f"duration {definition} o0 20" for definition in definitions] + [""])
+
+
 def table(names, reactions):
     """A sensor table with these columns."""
     rows = ([str(k)] + [str((k * 7 + j * 13) % 199 - 99) for j in range(len(names))] for k in range(reactions))

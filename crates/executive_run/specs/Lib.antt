@@ -4,3 +4,4 @@ pub mod Groups
 pub mod Places
 pub mod Ready
 pub mod Prepared
+pub mod Sharing

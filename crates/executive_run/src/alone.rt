@@ -22,6 +22,8 @@ pub fn run<'a, G: Gate>(ready: Ready<'a>, gate: &G, driven: &mut Driven) -> Clos
 {
     let Ready {
         job,
+        workers: _,
+        active: _,
         fabric,
         groups,
         places: _,

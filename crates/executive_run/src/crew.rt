@@ -13,7 +13,7 @@ use std::sync::Wait;
 use std::sync::atomic::{AtomicU64, Ordering};
 use word_table::Fabric;
 
-/// What all workers of a run share. There are as many workers as groups.
+/// What all workers of a run share. There are at most as many workers as groups.
 pub struct Crew<'e, 'a, R, G> {
     pub rt: &'e R,
     pub fabric: &'e Fabric<'a>,
@@ -22,6 +22,8 @@ pub struct Crew<'e, 'a, R, G> {
     pub places: &'e [Place<'a>],
     /// How many groups are not finished.
     pub unfinished: &'e AtomicU64,
+    /// How many workers have begun and did not return.
+    pub at_work: &'e AtomicU64,
     ghost places_are: { ArePlaces fabric.now places.now },
 }
 
@@ -33,17 +35,38 @@ impl<'e, 'a, R, G> Clone for Crew<'e, 'a, R, G> {
 
 impl<'e, 'a, R, G> Copy for Crew<'e, 'a, R, G> {}
 
+impl<'e, 'a, R, G> Crew<'e, 'a, R, G> {
+    /// Whether a worker that has nothing to do may return, and is counted no more. It may where more workers are at
+    /// work than groups are not finished, since each of these groups may then be in the hands of another one. The
+    /// number of these groups only falls, so that there stay as many workers as groups.
+    fn leaves(&self) -> bool {
+        let at_work = self.at_work.load(Ordering::SeqCst);
+        if at_work <= self.unfinished.load(Ordering::SeqCst) {
+            return false;
+        }
+        let left = self
+            .at_work
+            .compare_exchange(at_work, at_work - 1, Ordering::SeqCst, Ordering::SeqCst);
+        left.is_ok()
+    }
+}
+
 impl<'e, 'a, R: Wait, G: Ask> Crew<'e, 'a, R, G> {
-    /// What the worker of this number does: it drives groups until all are finished. Where it makes no step it
-    /// waits a while. A step does not begin the waiting anew: where there are more workers than processors,
-    /// each soon yields at once when it cannot go on, and one that can is not kept waiting by others that spin.
+    /// What the worker of this number does: it drives groups until all are finished, or until it is not needed.
+    /// Where it makes no step it waits a while. A step does not begin the waiting anew: where there are more
+    /// workers than processors, each soon yields at once when it cannot go on, and one that can is not kept
+    /// waiting by others that spin.
     pub fn work(self, worker: usize) {
+        self.at_work.fetch_add(1, Ordering::SeqCst);
         let backoff = Backoff::new();
         'rounds: for _ in self.rt.forever() {
             if self.unfinished.load(Ordering::SeqCst) == 0 {
                 return;
             }
             if self.round(worker) == 0 {
+                if self.leaves() {
+                    return;
+                }
                 backoff.snooze();
             }
         }

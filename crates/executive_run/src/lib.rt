@@ -1,9 +1,9 @@
 //! The runner of a job: it drives the fabric of the job to its end, by threads or by one driver alone.
 //!
-//! `prepare` takes all memory that a run takes; `run_ready` drives the groups of sequences by as many workers, of
-//! whom the caller is the first, and who share all groups; `run_alone` drives all sequences by one driver, starts
-//! no thread and returns. Both leave the rows and the cells of the job's meaning. `syndex_program` calls them for
-//! `run`, `load` and `exec`.
+//! `prepare` takes all memory that a run takes; `run_ready` drives the groups of sequences by at most as many
+//! workers as sequences have an instruction, of whom the caller is the first, and who share all groups; `run_alone`
+//! drives all sequences by one driver, starts no thread and returns. Both leave the rows and the cells of the job's
+//! meaning. `syndex_program` calls them for `run`, `load` and `exec`.
 #![tactic(auto)]
 
 ghost use Rattle.std.specs.Prelude.{◌≡◌};
@@ -11,6 +11,7 @@ ghost use Rattle.word_rule.specs.Driven.{driven_by};
 ghost use Rattle.word_table.specs.Closed.{IsAtEnd};
 
 mod alone;
+mod busy;
 mod crew;
 mod group;
 mod place;
@@ -24,10 +25,11 @@ use std::sync::Wait;
 use std::thread::Threads;
 use word_table::{Closed, Driven};
 
-/// Runs a job by its workers. The caller is the first, and each other one is a thread beside it. A group of
-/// sequences is driven by one worker at a time, whichever is free, so that a worker that cannot be started is
-/// not missed. The gate is asked once before the first try of each step, by the thread that drives the
-/// sequence. It refuses nothing and takes no memory of its own.
+/// Runs a job by its workers. The caller is the first, and each other one is a thread beside it, of which no more
+/// are started than sequences have an instruction. A group of sequences is driven by one worker at a time,
+/// whichever is free, so that a worker that cannot be started is not missed; one that finds nothing to do returns
+/// where there are more workers than groups that are not finished. The gate is asked once before the first try of
+/// each step, by the thread that drives the sequence. It refuses nothing and takes no memory of its own.
 pub fn run_ready<'a, R: Threads + Wait + Sync, G: Gate>(
     rt: &R,
     ready: Ready<'a>,

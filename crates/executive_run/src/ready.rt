@@ -3,6 +3,7 @@ ghost use Rattle.std.specs.Prelude.{◌≡◌, ◌≤◌, IfOk, vec_len};
 ghost use Rattle.word_table.specs.Driver.{AreDrivers, AreNew, IsNew};
 ghost use Rattle.executive_run.specs.Prepared.{AreGroups};
 
+use crate::busy::{busy_count, groups_for};
 use crate::group::Group;
 use crate::place::Place;
 use semaphore_core::Job;
@@ -12,10 +13,13 @@ use syn_base::OutOfMemory;
 use word_table::{Driver, Fabric, weave};
 
 /// A fabric with all its drivers, and all memory that a run takes. Contracts see the job and the number of
-/// workers.
+/// workers that was asked for.
 #[derive(Drop)]
 pub struct Ready<'a> {
     pub(crate) job: &'a Job<'a>,
+    /// How many workers were asked for, and how many of them have something to do.
+    pub(crate) workers: u32,
+    pub(crate) active: usize,
     pub(crate) fabric: Fabric<'a>,
     pub(crate) groups: Vec<Group<'a>>,
     /// Room for the groups while they are driven, once they are done, and for their drivers.
@@ -31,6 +35,7 @@ impl<'a> Model for Ready<'a> {
     ghost use Rattle.semaphore_core.specs.Job.{job_code};
     ghost use Rattle.executive_run.specs.Ready.{ReadyData, ready_code};
     ghost use Rattle.std.specs.Prelude.{vec_len, vec_capacity};
+    ghost use Rattle.executive_run.specs.Sharing.{IsShared};
     ghost use Rattle.executive_run.specs.Prepared.{IsReady, IsRoom};
 
     ghost Value = { ReadyData };
@@ -38,27 +43,34 @@ impl<'a> Model for Ready<'a> {
     ghost coded = { ready_code (job_code (Prim.hlevel codes)
         (graph_code (Prim.hlevel codes) (expr_code (Prim.hlevel codes)))) };
 
-    ghost view = { λ r. record { job = r.job.now; workers = r.fabric.groups } };
+    ghost view = { λ r. record { job = r.job.now; workers = r.workers } };
 
     ghost invariant = { λ r. IsReady r.job.now r.fabric r.groups.items
         × IsRoom r.fabric.groups (vec_len r.places) (vec_capacity r.places)
         × IsRoom r.fabric.groups (vec_len r.done) (vec_capacity r.done)
-        × IsRoom r.fabric.groups (vec_len r.drivers) (vec_capacity r.drivers) };
+        × IsRoom r.fabric.groups (vec_len r.drivers) (vec_capacity r.drivers)
+        × IsShared r.job.now r.workers r.fabric.groups r.active };
 }
 
-/// Makes a job ready to be run by 1 to 80 workers. It takes all memory that the run takes.
+/// Makes a job ready to be run by 1 to 80 workers. It takes all memory that the run takes. Sequences
+/// without an instruction take no group of their own where fewer groups keep the others apart.
 pub fn prepare<'a>(alloc: Global, job: &'a Job<'a>, workers: u32) -> Result<Ready<'a>, OutOfMemory>
     requires from { 1 ≤ workers }
     requires to { workers ≤ 80 }
     ensures { IfOk result (λ ready. (ready.job ≡ job.now) × (ready.workers ≡ workers)) }
 {
-    let places = Vec::with_capacity(alloc, workers as usize)?;
-    let done = Vec::with_capacity(alloc, workers as usize)?;
-    let drivers = Vec::with_capacity(alloc, workers as usize)?;
-    let (fabric, fresh) = weave(alloc, job, workers)?;
+    let seqs = job.program().seqs.as_slice();
+    let count = groups_for(seqs, workers);
+    let active = busy_count(seqs).min(count as usize);
+    let places = Vec::with_capacity(alloc, count as usize)?;
+    let done = Vec::with_capacity(alloc, count as usize)?;
+    let drivers = Vec::with_capacity(alloc, count as usize)?;
+    let (fabric, fresh) = weave(alloc, job, count)?;
     let groups = groups_of(alloc, &fabric, fresh)?;
     Ok(Ready {
         job,
+        workers,
+        active,
         fabric,
         groups,
         places,

@@ -37,6 +37,8 @@ pub fn run<'a, R: Threads + Wait + Sync, G: Gate>(
 {
     let Ready {
         job: _,
+        workers: _,
+        active,
         fabric,
         groups,
         places,
@@ -44,7 +46,7 @@ pub fn run<'a, R: Threads + Wait + Sync, G: Gate>(
         drivers,
     } = ready;
     let places = places_of(&fabric, groups, places);
-    let groups = drive_all(rt, &fabric, gate, &places, done);
+    let groups = drive_all(rt, &fabric, gate, &places, done, active);
     let drivers = drivers_of(&fabric, groups, drivers);
     fabric.close(drivers, driven)
 }
@@ -66,23 +68,25 @@ fn places_of<'a>(
     places
 }
 
-/// Starts a thread for each worker but the first. One that cannot be started is not missed.
+/// Starts a thread for each of these workers but the first. One that cannot be started is not missed.
 fn start<'s, 'e, 'a, R: Wait + Sync, G: Ask + Sync>(
     scope: &Scope<'s, &'e ()>,
     crew: Crew<'s, 'a, R, G>,
+    workers: usize,
 ) {
-    for worker in 1..crew.places.len() {
+    for worker in 1..workers {
         let _ = scope.spawn(move || crew.work(worker));
     }
 }
 
-/// Drives all groups to their ends.
+/// Drives all groups to their ends by this many workers.
 fn drive_all<'x, 'a, R: Threads + Wait + Sync, G: Gate>(
     rt: &'x R,
     fabric: &'x Fabric<'a>,
     gate: &'x G,
     places: &'x [Place<'a>],
     done: Vec<Group<'a>>,
+    workers: usize,
 ) -> Vec<Group<'a>>
     requires places { ArePlaces fabric.now places.now }
     requires done { IsRoom fabric.now.groups (vec_len done) (vec_capacity done) }
@@ -90,15 +94,17 @@ fn drive_all<'x, 'a, R: Threads + Wait + Sync, G: Gate>(
     ensures driven { Each (λ k. IsDriven) result.items }
 {
     let unfinished = AtomicU64::new(u64::from(fabric.groups()));
+    let at_work = AtomicU64::new(0);
     let crew = Crew {
         rt,
         fabric,
         gate,
         places,
         unfinished: &unfinished,
+        at_work: &at_work,
     };
     thread::scope(thread::scope_env(), rt, |scope| {
-        start(scope, crew);
+        start(scope, crew, workers);
         crew.work(0);
     });
     crew.collect(done)

@@ -2,6 +2,8 @@
 use Rattle.std.specs.Prelude.{
   ◌≡◌,
   ℕ,
+  ◌+◌,
+  ◌<◌,
   ◌++◌,
   List,
   map,
@@ -14,13 +16,14 @@ use Rattle.std.specs.Prelude.{
   Bool,
   false,
   slice_get,
+  slice_index_or,
   ℤ,
 }
 use Rattle.level_meaning.specs.Level.{Values}
 use Rattle.flat_graph.specs.declared.vertex.Vertex.{Vertex}
 use Rattle.flat_graph.specs.Graph.{Graph}
 use Rattle.flat_graph.specs.Fire.{read_lens, out_lens}
-use Rattle.flat_graph.specs.Meaning.{is_get}
+use Rattle.flat_graph.specs.Meaning.{is_get, delay_number}
 use Rattle.operation_desks.specs.Operation.{vectors_from, delay_of}
 
 pub record DeskData : Type 0 where
@@ -71,6 +74,11 @@ is_get_by (Some x) = is_get x.kind
 -- operation k is the get half of a delay
 abbrev pub is_get_at : List Vertex → ℕ → Bool
 is_get_at xs k = is_get_by (slice_get xs k)
+
+-- by operation, and at the end for the place past the last one: how many get halves stand before it
+pub record AreDelayNumbers (xs : List Vertex) (numbers : List ℕ) : Type 0 where
+  pub many : length numbers ≡ length xs + 1
+  pub each : (v : ℕ) → v < length numbers → slice_index_or numbers v 0 ≡ delay_number xs v
 
 -- these are the desks of the first n operations
 pub record AreDesks (g : Graph) (n : ℕ) (desks : List DeskLens) : Type 0 where

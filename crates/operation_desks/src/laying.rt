@@ -1,9 +1,9 @@
 //! Desks as `semaphore_core` lays them out when it opens a state: one for each operation.
 ghost use Rattle.std.specs.Prelude.{◌≡◌, ◌+◌, ◌^◌, ◌<◌, ◌++◌, ◌≤◌, cond, map, length, slice_get, Some, IfOk, OnOk, IsTrue};
 ghost use Rattle.flat_graph.specs.Meaning.{delay_number};
-ghost use Rattle.operation_desks.specs.Operation.{delay_by};
+ghost use Rattle.operation_desks.specs.Operation.{delay_by, delay_of};
 ghost use Rattle.flat_graph.specs.Valid.{is_flat};
-ghost use Rattle.operation_desks.specs.Desk.{is_get_at, IsDesk, lens_of_desk};
+ghost use Rattle.operation_desks.specs.Desk.{AreDelayNumbers, is_get_at, IsDesk, lens_of_desk};
 ghost use Rattle.operation_desks.specs.Desk.{AreDesks};
 
 use crate::desk::Desk;
@@ -31,25 +31,38 @@ fn count_if(number: u32, more: bool) -> u32
     if more { number + 1 } else { number }
 }
 
+/// For each operation, and past the last one: how many get halves stand before it. They are counted in one pass.
+fn delay_numbers(alloc: Global, vertices: &[Vertex]) -> Result<Vec<u32>, OutOfMemory>
+    ensures { IfOk result (λ n. AreDelayNumbers vertices.now n.items) }
+{
+    let count = to_u32(vertices.len())?;
+    let mut number = 0;
+    let mut numbers = Vec::new(alloc);
+    numbers.push(number)?;
+    for v in 0..count {
+        number = count_if(number, is_get_at(vertices, v));
+        numbers.push(number)?;
+    }
+    Ok(numbers)
+}
+
 /// How many get halves stand before operation `v`.
-fn delay_number(vertices: &[Vertex], v: u32) -> u32
+fn delay_number(vertices: &[Vertex], numbers: &[u32], v: u32) -> u32
+    requires { AreDelayNumbers vertices.now numbers.now }
     ensures { result ≡ delay_number vertices.now v }
 {
-    let mut number = 0;
-    for k in 0..v {
-        number = count_if(number, is_get_at(vertices, k));
-    }
-    number
+    numbers[(v as usize).min(vertices.len())]
 }
 
 /// The number of the delay of which operation `v` is a half.
-fn delay_of(vertices: &[Vertex], v: u32, x: &Vertex) -> Option<u32>
+fn delay_of(vertices: &[Vertex], numbers: &[u32], v: u32, x: &Vertex) -> Option<u32>
+    requires { AreDelayNumbers vertices.now numbers.now }
     ensures { result ≡ delay_by vertices.now v x.now.kind x.now.twin }
 {
     match &x.kind {
-        Kind::Get(_) => Some(delay_number(vertices, v)),
+        Kind::Get(_) => Some(delay_number(vertices, numbers, v)),
         Kind::Set => match x.twin {
-            Some(twin) => Some(delay_number(vertices, twin)),
+            Some(twin) => Some(delay_number(vertices, numbers, twin)),
             None => None,
         },
         _ => None,
@@ -66,9 +79,16 @@ fn push_all(list: &[u32], lens: &mut Vec<u32>) -> Result<(), OutOfMemory>
     Ok(())
 }
 
-/// The desk of operation `v`.
-pub fn desk_of(alloc: Global, flat: &Flat, v: u32, x: &Vertex) -> Result<Desk, OutOfMemory>
-    requires { slice_get flat.now.vertices v ≡ Some x.now }
+/// The desk of operation `v`, which is a half of this delay if it is one.
+fn desk_of(
+    alloc: Global,
+    flat: &Flat,
+    v: u32,
+    x: &Vertex,
+    delay: Option<u32>,
+) -> Result<Desk, OutOfMemory>
+    requires there { slice_get flat.now.vertices v ≡ Some x.now }
+    requires delay { delay ≡ delay_of flat.now v x.now }
     ensures { IfOk result (λ d. IsDesk flat.now v x.now (lens_of_desk d)) }
 {
     let guards = to_u32(x.guards.as_slice().len())?;
@@ -77,7 +97,6 @@ pub fn desk_of(alloc: Global, flat: &Flat, v: u32, x: &Vertex) -> Result<Desk, O
     push_lens(flat, x.ins.as_slice(), &mut lens)?;
     let ones = vec![in alloc; 1; x.guards.as_slice().len()]?;
     push_all(ones.as_slice(), &mut lens)?;
-    let delay = delay_of(flat.vertices(), v, x);
     Desk::new(
         alloc,
         lens.as_slice(),
@@ -95,9 +114,12 @@ pub fn desks_of(alloc: Global, flat: &Flat) -> Result<Vec<Desk>, OutOfMemory>
 {
     let vertices = flat.vertices();
     let count = to_u32(vertices.len())?;
+    let numbers = delay_numbers(alloc, vertices)?;
     let mut desks = Vec::new(alloc);
     for v in 0..count {
-        desks.push(desk_of(alloc, flat, v, &vertices[v as usize])?)?;
+        let x = &vertices[v as usize];
+        let delay = delay_of(vertices, numbers.as_slice(), v, x);
+        desks.push(desk_of(alloc, flat, v, x, delay)?)?;
     }
     Ok(desks)
 }

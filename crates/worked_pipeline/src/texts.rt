@@ -1,0 +1,164 @@
+//! The texts that go down the pipeline.
+
+/// A sensor, a function that adds 1, twice, and an actuator for each result.
+pub const ALGORITHM: &[u8] = b"algorithm 1
+sensor Sense 1
+actuator Act 1
+function F
+in x 1
+out y 1 = add(x[0],1)
+end
+graph main
+ref s Sense
+ref f F
+ref g F
+ref a Act
+ref b Act
+edge s.o f.x
+edge s.o g.x
+edge f.y a.i
+edge g.y b.i
+end
+";
+
+/// Two operators on a bus; the sensor stands on the first one alone.
+pub const ARCHITECTURE: &[u8] = b"architecture 1
+operator P
+operator Q
+medium bus p2p 1 1
+connect bus P
+connect bus Q
+duration Sense P 1
+duration F P 10
+duration F Q 10
+duration Act P 1
+duration Act Q 1
+";
+
+/// What the sensor gives in three reactions.
+pub const SENSORS: &[u8] = b"k,s.0
+0,5
+1,-1
+2,0
+";
+
+/// The durations that really occur: the function lasts 4 ticks on the first operator.
+pub const DURATIONS: &[u8] = b"architecture 1
+operator P
+operator Q
+medium bus p2p 1 1
+connect bus P
+connect bus Q
+duration Sense P 1
+duration F P 4
+duration F Q 10
+duration Act P 1
+duration Act Q 1
+";
+
+/// When and where each operation and the transfer happen.
+pub const CHART: &[u8] = b"operator P
+0 1 s
+1 11 f
+11 12 a
+operator Q
+3 13 g
+13 14 b
+medium bus
+1 3 s 0 P Q
+length 14
+";
+
+/// The executive of both processors.
+pub const CODE: &[u8] = b"processor_(P)
+semaphores_(0)
+alloc_(b0,1)
+alloc_(b1,1)
+thread_(bus)
+Pre0_(0)
+loop_
+Suc1_(0)
+send_(b0,Q)
+Pre0_(0)
+endloop_
+endthread_
+main_
+spawn_thread_(bus)
+loop_
+Suc0_(0)
+op s(;b0)
+Pre1_(0)
+op f(b0;b1)
+op a(b1;)
+endloop_
+wait_endthread_(bus)
+endmain_
+processor_(Q)
+semaphores_(1)
+alloc_(b2,1)
+alloc_(b3,1)
+thread_(bus)
+loop_
+Suc0_(1)
+recv_(b2,P)
+Pre1_(1)
+endloop_
+endthread_
+main_
+spawn_thread_(bus)
+Pre0_(1)
+loop_
+Suc1_(1)
+op g(b2;b3)
+Pre0_(1)
+op b(b3;)
+endloop_
+wait_endthread_(bus)
+endmain_
+";
+
+/// The function runs in every second reaction alone.
+pub const MARKED: &[u8] = b"algorithm 3
+sensor Sense 1
+actuator Act 1
+function F
+in x 1
+out y 1 = add(x[0],1)
+end
+graph main
+ref s Sense
+ref f F every 2
+ref a Act
+edge s.o f.x
+edge f.y a.i
+end
+";
+
+/// What the sensor gives in five reactions.
+pub const FIVE_ROWS: &[u8] = b"k,s.0
+0,5
+1,6
+2,7
+3,8
+4,9
+";
+
+/// Four operators in a ring of four media.
+pub const RING: &[u8] = b"architecture 1
+operator A
+operator B
+operator C
+operator D
+medium m0 p2p 0 1
+medium m1 p2p 0 1
+medium m2 p2p 0 1
+medium m3 p2p 0 1
+connect m0 A
+connect m0 B
+connect m1 A
+connect m1 C
+connect m2 B
+connect m2 D
+connect m3 C
+connect m3 D
+";
