@@ -34,7 +34,8 @@ use Rattle.command_status.specs.declared.status.Status.TheVariants.{
   OutOfMemory,
 }
 
--- Why a command is refused. No definition says `wants_memory`: it is there because the types of errors have it.
+-- Why a command is refused. No definition says `wants_memory` (law `no_plan_wants_memory` of `top_plans`): it is there
+-- because the types of errors have it.
 pub data Refusal : Type 0 where
   usage : Refusal
   bad_algorithm : AlgoFault → Refusal

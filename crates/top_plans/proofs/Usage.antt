@@ -4,7 +4,7 @@ use Rattle.std.specs.Prelude.{IsOkAnd}
 use Rattle.syn_base.specs.Bytes.{Bytes}
 use Rattle.outside.specs.Shelf.{Held}
 use Rattle.outside.specs.Sink.{Sunk, Appends, AppendsPrefix}
-use Rattle.command_plan.specs.Plan.{Plan, give, refuse, read, outcome}
+use Rattle.command_plan.specs.Plan.{Plan, give, refuse, read, outcome, RefusesOnly}
 use Rattle.command_plan.specs.Stage.{text_of, jobs_of, after_jobs, RunsSome}
 use Rattle.command_plan.specs.Ending.{Ending, done, refused, unread, unwritten, no_memory}
 use Rattle.command_plan.specs.Run.{FailsToRead, Makes, gives, refuses, not_read, was_read, Ends, Ran}
@@ -22,12 +22,6 @@ use Rattle.top_plans.proofs.Written.{windows_write, windows_run}
 use Rattle.top_plans.proofs.Walk.{walk}
 use Rattle.top_plans.proofs.Commands.{Any, reads_only, keeps_plain, load_gives_once}
 
--- no refusal of the plan is this one
-abbrev Never : {R A : Type 0} → R → Plan R A → Type 0
-Never u (give a) = Unit {0}
-Never u (refuse r) = ¬ (r ≡ u)
-Never u (read file name long next) = ¬ (long ≡ u) × ((bytes : Bytes) → Never u (next bytes))
-
 same_refused : {R : Type 0} (a b : R) → refused a ≡ refused b → a ≡ b
 same_refused a b e = cc
 
@@ -41,7 +35,7 @@ module _ {R A : Type 0} where
   no_stop : (a : A) (b : Ending R) → Ok a ≡ stop b → ⊥
   no_stop a b e = cc
 
-  never_made : (u : R) (old new : Held) (plan : Plan R A) (made : Result A (Ending R)) → Never u plan → Makes old new plan made → made ≡ Err (refused u) → ⊥
+  never_made : (u : R) (old new : Held) (plan : Plan R A) (made : Result A (Ending R)) → RefusesOnly (λ r. ¬ (r ≡ u)) plan → Makes old new plan made → made ≡ Err (refused u) → ⊥
   never_made u old new (give a) made n (gives (inl g, stay)) e = no_stop a (refused u) (sym g ∙ e)
   never_made u old new (give a) made n (gives (inr g, stay)) e = let q = same_stop no_memory (refused u) (sym g ∙ e) in cc
   never_made u old new (refuse r) made n (refuses (inl g, stay)) e = n (same_refused r u (same_stop (refused r) (refused u) (sym g ∙ e)))
@@ -56,8 +50,8 @@ module _ {R A : Type 0} where
       by no_memory f q = cc
   never_made u old new (read file name long next) made n (was_read between bytes is m) e = never_made u between new (next bytes) made (n.1 bytes) m e
 
-never : (command : Command) → Never usage (plan_for command)
-never command = walk Any (Never usage) (λ r n. n) command (λ file name next e h. ((λ q. cc), λ bytes. h bytes tt)) (λ a l. tt)
+never : (command : Command) → RefusesOnly (λ r. ¬ (r ≡ usage)) (plan_for command)
+never command = walk Any (RefusesOnly (λ r. ¬ (r ≡ usage))) (λ r n. n.no_usage) command (λ file name next e h. ((λ q. cc), λ bytes. h bytes tt)) (λ a l. tt)
 
 not_usage : (command : Command) (held held' : Held) (sunk sunk' : Sunk) (d d' : Driven) (ending : Ending Refusal)
     → Ran driven_by stages (plan_for command) held held' sunk sunk' d d' ending → ending ≡ refused usage → ⊥

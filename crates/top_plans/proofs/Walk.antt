@@ -35,13 +35,20 @@ use Rattle.macro_code.specs.Text.{macro_code}
 use Rattle.sequence_build.specs.Limit.{program_limit}
 use Rattle.semaphore_core.specs.IsJob.{limit_of}
 use Rattle.command_plan.specs.Plan.{give, refuse, after}
-use Rattle.command_status.specs.Status.{Refusal, above, failed_check, of_algorithm, of_architecture, of_code, of_durations, of_sensors, usage}
+use Rattle.command_status.specs.Status.{Refusal, above, failed_check, of_algorithm, of_architecture, of_code, of_durations, of_sensors, usage, wants_memory}
 use Rattle.command_words.specs.Command.{Command, check, sim, flat, chart, code, run, load, exec, dates}
 use Rattle.top_plans.specs.Names.{names_for}
 use Rattle.top_plans.specs.Given.{Given, written, printed, executed, summed, Execution, one_job, output_of}
 use Rattle.top_plans.specs.Plans.{Made, read_file, unless, unless_lacking, algorithm_in, described_in, architecture_in, table_in, code_in, durations_in, program_plan, program_by, schedule_of, rows_plan, excess, execution, execution_plan, head, summary, load_plan, plan_for}
 use Rattle.top_plans.specs.Loads.{load_algorithm, load_architecture, load_table}
 use Rattle.top_plans.specs.Checks.{lacking}
+use Rattle.top_plans.proofs.Only.{Only}
+use Rattle.top_plans.proofs.TextRefusals as texts
+use Rattle.top_plans.proofs.MarkRefusals.{elaboration_safe}
+use Rattle.top_plans.proofs.ArchitectureRefusals as architectures
+use Rattle.top_plans.proofs.DurationRefusals as durations
+use Rattle.top_plans.proofs.TableRefusals as tables
+use Rattle.top_plans.proofs.CodeRefusals as codes
 
 -- where the program of an execution comes from
 pub data Comes (d : Described) (e : Execution) : Type 0 where
@@ -90,53 +97,63 @@ Leaf Told (exec a h c s workers) (executed e) = (is : IsAccepted e) × Told a is
 Leaf Told (dates a h g n) (written t) = Unit {0}
 Leaf Told _ _ = ⊥
 
--- no part refuses as words that are no command
-algorithm_not : (e : AlgoError) → ¬ (of_algorithm e ≡ usage)
-algorithm_not (algorithm.Refused fault) q = cc
-algorithm_not (algorithm.Limit fault) q = cc
-algorithm_not algorithm.TooLarge q = cc
-algorithm_not algorithm.OutOfMemory q = cc
+-- no part refuses as words that are no command, nor for want of memory
+pub record IsTold (r : Refusal) : Type 0 where
+  pub no_usage : ¬ (r ≡ usage)
+  pub no_want : ¬ (r ≡ wants_memory)
 
-architecture_not : (e : ArchiError) → ¬ (of_architecture e ≡ usage)
-architecture_not (architecture.Refused fault) q = cc
-architecture_not (architecture.Limit fault) q = cc
-architecture_not architecture.OutOfMemory q = cc
+told_above : (fault : LimitFault) → IsTold (above fault)
+told_above fault = record { no_usage = λ q. cc; no_want = λ q. cc }
 
-sensors_not : (e : SensorError) → ¬ (of_sensors e ≡ usage)
-sensors_not (sensors.Refused fault) q = cc
-sensors_not (sensors.Limit fault) q = cc
-sensors_not sensors.OutOfMemory q = cc
+told_algorithm : (e : AlgoError) → texts.Stays e → IsTold (of_algorithm e)
+told_algorithm (algorithm.Refused fault) s = record { no_usage = λ q. cc; no_want = λ q. cc }
+told_algorithm (algorithm.Limit fault) s = told_above fault
+told_algorithm algorithm.TooLarge s = absurd s
+told_algorithm algorithm.OutOfMemory s = absurd s
 
-code_not : (e : CodeError) → ¬ (of_code e ≡ usage)
-code_not (macros.Refused fault) q = cc
-code_not (macros.Limit fault) q = cc
-code_not macros.OutOfMemory q = cc
+told_architecture : (e : ArchiError) → architectures.Stays e → IsTold (of_architecture e)
+told_architecture (architecture.Refused fault) s = record { no_usage = λ q. cc; no_want = λ q. cc }
+told_architecture (architecture.Limit fault) s = told_above fault
+told_architecture architecture.OutOfMemory s = absurd s
 
-durations_not : (e : ActualError) → ¬ (of_durations e ≡ usage)
-durations_not (actual.Refused fault) q = cc
-durations_not (actual.Limit fault) q = cc
-durations_not actual.OutOfMemory q = cc
+told_sensors : (e : SensorError) → tables.Stays e → IsTold (of_sensors e)
+told_sensors (sensors.Refused fault) s = record { no_usage = λ q. cc; no_want = λ q. cc }
+told_sensors (sensors.Limit fault) s = told_above fault
+told_sensors sensors.OutOfMemory s = absurd s
+
+told_code : (e : CodeError) → codes.Stays e → IsTold (of_code e)
+told_code (macros.Refused fault) s = record { no_usage = λ q. cc; no_want = λ q. cc }
+told_code (macros.Limit fault) s = told_above fault
+told_code macros.OutOfMemory s = absurd s
+
+told_durations : (e : ActualError) → durations.Stays e → IsTold (of_durations e)
+told_durations (actual.Refused fault) s = record { no_usage = λ q. cc; no_want = λ q. cc }
+told_durations (actual.Limit fault) s = told_above fault
+told_durations actual.OutOfMemory s = absurd s
 
 -- a property of plans that refusals have, and that reads have where what follows has it for each text that is told
-module _ (Told : Bytes → Bytes → Type 0) (Q : Made → Type 0) (refused : (r : Refusal) → ¬ (r ≡ usage) → Q (refuse r)) where
-  after_so : {X E : Type 0} (refusal : E → Refusal) → ((e : E) → ¬ (refusal e ≡ usage)) → (answer : Result X E) (next : X → Made) → ((x : X) → answer ≡ Ok x → Q (next x)) → Q (after refusal answer next)
-  after_so refusal not_usage (Ok x) next h = h x refl
-  after_so refusal not_usage (Err e) next h = refused (refusal e) (not_usage e)
+module _ (Told : Bytes → Bytes → Type 0) (Q : Made → Type 0) (refused : (r : Refusal) → IsTold r → Q (refuse r)) where
+  after_so : {X E : Type 0} {P : E → Type 0} (refusal : E → Refusal) → ((e : E) → P e → IsTold (refusal e)) → (answer : Result X E) → Only P answer → (next : X → Made) → ((x : X) → answer ≡ Ok x → Q (next x))
+      → Q (after refusal answer next)
+  after_so refusal told (Ok x) only next h = h x refl
+  after_so refusal told (Err e) only next h = refused (refusal e) (told e only.error)
 
   unless_within : (o : Option LimitFault) (next : Made) → (o ≡ None → Q next) → Q (unless o next)
-  unless_within (Some f) next h = refused (above f) (λ q. cc)
+  unless_within (Some f) next h = refused (above f) (told_above f)
   unless_within None next h = h refl
 
   algorithm_so : (text : Bytes) (next : Defs → Vertex → Made) → ((defs : Defs) (main : Vertex) → definitions_of text ≡ Ok defs → elaboration_of defs ≡ Ok main → Q (next defs main)) → Q (algorithm_in text next)
-  algorithm_so text next h = after_so of_algorithm algorithm_not (definitions_of text) (λ defs. after of_algorithm (elaboration_of defs) (next defs)) (λ defs p. after_so of_algorithm algorithm_not (elaboration_of defs) (next defs) (λ main q. h defs main p q))
+  algorithm_so text next h = 
+      after_so of_algorithm told_algorithm (definitions_of text) (texts.definitions_safe text) (λ defs. after of_algorithm (elaboration_of defs) (next defs))
+      (λ defs p. after_so of_algorithm told_algorithm (elaboration_of defs) (elaboration_safe defs) (next defs) (λ main q. h defs main p q))
 
   architecture_so : (text : Bytes) (main : Vertex) (next : Described → Table → Made) → ((d : Described) (t : Table) → description_of text ≡ Ok d → durations_of (flat_of main) d ≡ Ok t → Q (next d t))
       → Q (architecture_in text main next)
-  architecture_so text main next h = after_so of_architecture architecture_not (description_of text) (λ d. after of_architecture (durations_of (flat_of main) d) (next d))
-      (λ d p. after_so of_architecture architecture_not (durations_of (flat_of main) d) (next d) (λ t q. h d t p q))
+  architecture_so text main next h = after_so of_architecture told_architecture (description_of text) (architectures.description_safe text) (λ d. after of_architecture (durations_of (flat_of main) d) (next d))
+      (λ d p. after_so of_architecture told_architecture (durations_of (flat_of main) d) (durations.durations_safe (flat_of main) d) (next d) (λ t q. h d t p q))
 
   table_so : (main : Vertex) (table : Bytes) (next : Reactions → Made) → ((rows : Reactions) → rows_of main (records default_config (strip_bom table)) ≡ Ok rows → Q (next rows)) → Q (table_in main table next)
-  table_so main table next h = after_so of_sensors sensors_not (rows_of main (records default_config (strip_bom table))) next h
+  table_so main table next h = after_so of_sensors told_sensors (rows_of main (records default_config (strip_bom table))) (tables.table_safe main (records default_config (strip_bom table))) next h
 
   rows_so : (main : Vertex) (rows : Reactions) → Q (give (written (output_of main rows.reactions))) → Q (rows_plan main rows)
   rows_so main rows h = unless_within (excess _) _ (λ n. h)
@@ -145,17 +162,17 @@ module _ (Told : Bytes → Bytes → Type 0) (Q : Made → Type 0) (refused : (r
   program_so g a t next h = unless_within (program_limit (program_by g a t) (length a.media)) (next (program_by g a t)) (λ n. h)
 
   unless_none : (o : Option CheckCause) (next : Made) → (o ≡ None → Q next) → Q (unless_lacking o next)
-  unless_none (Some cause) next h = refused (failed_check cause) (λ q. cc)
+  unless_none (Some cause) next h = refused (failed_check cause) (record { no_usage = λ q. cc; no_want = λ q. cc })
   unless_none None next h = h refl
 
   described_so : (text : Bytes) (next : Described → Made) → ((d : Described) → description_of text ≡ Ok d → Q (next d)) → Q (described_in text next)
-  described_so text next h = after_so of_architecture architecture_not (description_of text) next h
+  described_so text next h = after_so of_architecture told_architecture (description_of text) (architectures.description_safe text) next h
 
   code_so : (text : Bytes) (g : Graph) (a : Archi) (next : Program → Made) → ((p : Program) → lacking g a p ≡ None → Q (next p)) → Q (code_in text g a next)
-  code_so text g a next h = after_so of_code code_not (program_in text g a) (λ p. unless_lacking (lacking g a p) (next p)) (λ p q. unless_none (lacking g a p) (next p) (h p))
+  code_so text g a next h = after_so of_code told_code (program_in text g a) (codes.program_safe text g a) (λ p. unless_lacking (lacking g a p) (next p)) (λ p q. unless_none (lacking g a p) (next p) (h p))
 
   durations_so : (text : Bytes) (g : Graph) (a : Archi) (t : Table) (next : List ℕ → Made) → ((ticks : List ℕ) → Q (next ticks)) → Q (durations_in text g a t next)
-  durations_so text g a t next h = after_so of_durations durations_not (actual_of g a t (schedule_of g a t) text) next (λ ticks q. h ticks)
+  durations_so text g a t next h = after_so of_durations told_durations (actual_of g a t (schedule_of g a t) text) (durations.actual_safe g a t (schedule_of g a t) text) next (λ ticks q. h ticks)
 
   -- an execution of the program that the pressure run gives
   execution_so : (text : Bytes) (defs : Defs) (main : Vertex) (lines : Bytes) (d : Described) (t : Table) (table : Bytes) (rows : Reactions) (what : Execution → Given)

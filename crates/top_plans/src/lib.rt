@@ -4,6 +4,7 @@
 #![tactic(auto)]
 
 ghost use Rattle.top_plans.specs.Meaning.{AcceptedRunTrue, WindowsAreRun, WindowsWriteTheOutput};
+ghost use Rattle.top_plans.specs.Refusals.{NoOutcomeWantsMemory, NoPlanWantsMemory};
 ghost use Rattle.top_plans.specs.Replies.{CommandsReply, DoneRuns, LoadsKeep, PlainCommandsReply};
 
 use phase_laws::{runs_end, runs_take_rows, windows_make_the_run};
@@ -16,6 +17,14 @@ pub fn windows_write_the_output()
 /// The jobs that are run are the windows of the one job over all rows.
 pub fn windows_are_run()
     ensures { WindowsAreRun }
+{}
+
+/// No refusal of a plan is that for want of memory, whatever the files hold: words and texts are refused for what
+/// they say alone. So where a refusal is told and no call of the outside world fails, it is that refusal which is
+/// answered, unless memory really ran out.
+pub fn no_plan_wants_memory()
+    ensures plans { NoPlanWantsMemory }
+    ensures outcomes { NoOutcomeWantsMemory }
 {}
 
 /// Whatever a command makes that is accepted runs true: in every interleaving each state is what its counts

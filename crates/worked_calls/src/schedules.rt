@@ -5,20 +5,24 @@ ghost use Rattle.durations.specs.Lines.{AreDurations};
 use crate::graphs::{bus, delayed, operations, operators};
 use archi_defs::ArchiText;
 use archi_graph::{Archi, is_archi};
-use durations::durations_of;
-use flat_graph::{Flat, Source, is_flat};
+use durations::{Durations, durations_of};
+use flat_graph::{Flat, Source, Vertex, is_flat};
 use schedule::{Decision, Schedule, Transfer, is_valid};
 use std::alloc::Global;
 use std::process::Abort;
 use std::test::Fail;
 use syn_base::Items;
 
-/// A constant that is passed on.
-fn passed_on(rt: &impl Abort, alloc: Global) -> Result<Flat, Fail> {
-    let operations = operations(alloc, 0)?;
+/// The flat graph of these operations, which are one.
+fn flat_graph(rt: &impl Abort, alloc: Global, operations: Vec<Vertex>) -> Result<Flat, Fail> {
     let bodies = Vec::new(alloc);
     assert!(rt; is_flat(&operations, &bodies));
     Ok(Flat::new(operations, bodies))
+}
+
+/// A constant that is passed on.
+fn passed_on(rt: &impl Abort, alloc: Global) -> Result<Flat, Fail> {
+    flat_graph(rt, alloc, operations(alloc, 0)?)
 }
 
 /// Two operators on a bus, and no durations.
@@ -64,24 +68,16 @@ fn schedule(alloc: Global, at: u64) -> Result<Schedule, Fail> {
     })
 }
 
-/// Whether the constant may be passed on at this date.
+/// Whether the constant may be passed on at this date, by these durations.
 fn may_be_passed_on(
-    rt: &impl Abort,
     alloc: Global,
     flat: &Flat,
-    text: &ArchiText,
+    archi: &Archi,
+    durations: &Durations,
     at: u64,
-) -> Result<bool, Fail>
-    requires { AreDurations (length text.now.archi.operators) text.now.lines }
-{
-    let durations = durations_of(alloc, flat, text)?;
-    assert_eq!(rt; durations.operations(), flat.vertices().len());
-    assert_eq!(rt;
-        durations.operators() as usize,
-        text.archi.operators().len()
-    );
+) -> Result<bool, Fail> {
     let schedule = schedule(alloc, at)?;
-    Ok(is_valid(flat, &text.archi, &durations, &schedule))
+    Ok(is_valid(flat, archi, durations, &schedule))
 }
 
 #[test]
@@ -89,18 +85,37 @@ fn an_operation_waits_for_what_it_reads(rt: HostRuntime) -> Result<(), Fail> {
     let alloc = rt.alloc();
     let flat = passed_on(&rt, alloc)?;
     let text = two_operators(&rt, alloc)?;
-    assert_eq!(rt; may_be_passed_on(&rt, alloc, &flat, &text, 2)?, true);
-    assert_eq!(rt; may_be_passed_on(&rt, alloc, &flat, &text, 1)?, false);
+    let durations = durations_of(alloc, &flat, &text)?;
+    assert_eq!(rt;
+        may_be_passed_on(alloc, &flat, &text.archi, &durations, 2)?,
+        true
+    );
+    assert_eq!(rt;
+        may_be_passed_on(alloc, &flat, &text.archi, &durations, 1)?,
+        false
+    );
+    Ok(())
+}
+
+#[test]
+fn an_operation_without_an_entry_stands_nowhere(rt: HostRuntime) -> Result<(), Fail> {
+    let alloc = rt.alloc();
+    let flat = passed_on(&rt, alloc)?;
+    let text = two_operators(&rt, alloc)?;
+    let mut made = operations(alloc, 0)?;
+    let _passed = made.pop();
+    let durations = durations_of(alloc, &flat_graph(&rt, alloc, made)?, &text)?;
+    assert_eq!(rt;
+        may_be_passed_on(alloc, &flat, &text.archi, &durations, 2)?,
+        false
+    );
     Ok(())
 }
 
 #[test]
 fn only_a_set_half_has_a_get_half(rt: HostRuntime) -> Result<(), Fail> {
     let alloc = rt.alloc();
-    let operations = delayed(alloc)?;
-    let bodies = Vec::new(alloc);
-    assert!(rt; is_flat(&operations, &bodies));
-    let flat = Flat::new(operations, bodies);
+    let flat = flat_graph(&rt, alloc, delayed(alloc)?)?;
     let durations = durations_of(alloc, &flat, &two_operators(&rt, alloc)?)?;
     assert_eq!(rt; durations.get_half(0), None);
     assert_eq!(rt; durations.get_half(1), None);
