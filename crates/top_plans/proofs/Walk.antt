@@ -143,7 +143,7 @@ module _ (Told : Bytes → Bytes → Type 0) (Q : Made → Type 0) (refused : (r
   unless_within None next h = h refl
 
   algorithm_so : (text : Bytes) (next : Defs → Vertex → Made) → ((defs : Defs) (main : Vertex) → definitions_of text ≡ Ok defs → elaboration_of defs ≡ Ok main → Q (next defs main)) → Q (algorithm_in text next)
-  algorithm_so text next h = 
+  algorithm_so text next h =
       after_so of_algorithm told_algorithm (definitions_of text) (texts.definitions_safe text) (λ defs. after of_algorithm (elaboration_of defs) (next defs))
       (λ defs p. after_so of_algorithm told_algorithm (elaboration_of defs) (elaboration_safe defs) (next defs) (λ main q. h defs main p q))
 

@@ -13,7 +13,6 @@ fn of_two_routes_the_one_over_the_lesser_medium_is_taken(rt: HostRuntime) -> Res
     let routes = routes_of(alloc, &text.archi)?;
     assert_eq!(rt; routes.operators(), 4);
     let route = routes.route(0, 3);
-    assert_eq!(rt; routes.level(0, 3), 2);
     assert_eq!(rt; route.len(), 2);
     assert_eq!(rt; route[0], Hop { medium: 0, to: 1 });
     assert_eq!(rt; route[1], Hop { medium: 2, to: 3 });
