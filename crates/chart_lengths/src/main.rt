@@ -3,20 +3,23 @@
 #![tactic(auto)]
 
 ghost use Rattle.std.specs.Prelude.{◌≤◌, IfOk, length};
-ghost use Rattle.outside.specs.Shelf.{file_bound};
+ghost use Rattle.algo_rules.specs.WellRead.{AreWellRead};
+ghost use Rattle.durations.specs.Lines.{AreDurations};
 ghost use Rattle.operation_paths.specs.Bounded.{HasBounds};
 ghost use Rattle.operation_paths.specs.Named.{HasNames};
+ghost use Rattle.period_marks.specs.Stand.{HavePeriods};
+ghost use Rattle.syn_base.specs.Limits.{most_in_text};
 
-use algo_defs::AlgoError;
+use algo_defs::{AlgoError, Defs};
 use algo_reader::read_algo;
 use algo_tree::Tree;
-use archi_defs::ArchiError;
+use archi_defs::{ArchiError, ArchiText};
 use archi_reader::read_archi;
 use durations::{accepted_are_durations, durations_fit, durations_of};
 use elaboration::elaborate;
 use hierarchy::flatten;
 use pressure_heuristic::adequation;
-use reading_laws::{accepted_are_well_read, accepted_have_periods};
+use reading_laws::{accepted_are_few, accepted_are_well_read, accepted_have_periods};
 use std::alloc::Global;
 use std::io;
 
@@ -98,49 +101,85 @@ duration Branch P3 20
 ",
 ];
 
+/// The definitions of a text of at most 4,000 bytes, with what `elaborate` asks of them, or its first refusal.
+#[tactic(auto, using(algo_reader::proofs::LineCounts::lines_at_most))]
+fn definitions(alloc: Global, text: &[u8]) -> Result<Defs, AlgoError>
+    requires { length text.now ≤ 4000 }
+    ensures read { IfOk result (λ defs. AreWellRead defs.defs) }
+    ensures periods { IfOk result (λ defs. HavePeriods defs.defs) }
+    ensures few { IfOk result (λ defs. length defs.defs ≤ most_in_text) }
+{
+    let defs = read_algo(alloc, text)?;
+    // Laws: what the definitions of every accepted text have.
+    accepted_are_well_read();
+    accepted_have_periods();
+    accepted_are_few();
+    Ok(defs)
+}
+
 /// The tree that the text of an algorithm means, or its first refusal.
 fn tree_of(alloc: Global, text: &[u8]) -> Result<Tree, AlgoError>
-    requires { length text.now ≤ file_bound }
+    requires { length text.now ≤ 4000 }
     ensures names { IfOk result (λ tree. HasNames tree) }
     ensures bounds { IfOk result (λ tree. HasBounds tree) }
 {
-    let defs = read_algo(alloc, text)?;
-    // Laws: what an accepted text has, which `elaborate` asks for.
-    accepted_are_well_read();
-    accepted_have_periods();
+    let defs = definitions(alloc, text)?;
     elaborate(alloc, &defs)
+}
+
+/// What the text of an architecture describes, or its first refusal.
+#[tactic(auto, using(algo_reader::proofs::LineCounts::lines_at_most))]
+fn description(alloc: Global, text: &[u8]) -> Result<ArchiText, ArchiError>
+    requires { length text.now ≤ 4000 }
+    ensures { IfOk result (λ text. AreDurations (length text.archi.operators) text.lines) }
+{
+    // A law: the lines of every accepted text are durations.
+    accepted_are_durations();
+    read_archi(alloc, text)
 }
 
 /// The length of the chart of a tree on the architecture of a text, or the first refusal.
 fn chart_length(alloc: Global, tree: &Tree, text: &[u8]) -> Result<u64, ArchiError>
-    requires short { length text.now ≤ file_bound }
+    requires short { length text.now ≤ 4000 }
     requires names { HasNames tree.now }
     requires bounds { HasBounds tree.now }
 {
     let Ok(flat) = flatten(alloc, tree) else {
         return Err(ArchiError::OutOfMemory);
     };
-    let described = read_archi(alloc, text)?;
-    // Laws: the lines of an accepted text are durations, and those of a flat graph fit it.
-    accepted_are_durations();
-    durations_fit();
+    let described = description(alloc, text)?;
     let durations = durations_of(alloc, &flat, &described)?;
+    // A law: durations that were found for a flat graph and an architecture are theirs.
+    durations_fit();
     match adequation(alloc, &flat, &described.archi, &durations) {
         Ok(schedule) => Ok(schedule.length()),
         Err(_) => Err(ArchiError::OutOfMemory),
     }
 }
 
-/// A line for each architecture.
+/// A line for the architecture of a text, which has this many processors.
+fn print_length(rt: &HostRuntime, tree: &Tree, count: usize, text: &[u8]) -> io::Result<()>
+    requires short { length text.now ≤ 4000 }
+    requires names { HasNames tree.now }
+    requires bounds { HasBounds tree.now }
+{
+    match chart_length(rt.alloc(), tree, text) {
+        Ok(length) => println!(rt; "{count} processors: {length} ticks"),
+        Err(_) => println!(rt; "{count} processors: refused"),
+    }
+}
+
+/// A line for each architecture. That a text is short enough is tested, so that the proof knows it.
 fn main(rt: HostRuntime) -> io::Result<()> {
-    let Ok(tree) = tree_of(rt.alloc(), ALGORITHM) else {
-        println!(rt; "the algorithm is refused")?;
+    if ALGORITHM.len() > 4000 {
         return Ok(());
+    }
+    let Ok(tree) = tree_of(rt.alloc(), ALGORITHM) else {
+        return println!(rt; "the algorithm is refused");
     };
     for (at, text) in ARCHITECTURES.iter().enumerate() {
-        match chart_length(rt.alloc(), &tree, text) {
-            Ok(length) => println!(rt; "{} processors: {length} ticks", at + 1)?,
-            Err(_) => println!(rt; "{} processors: refused", at + 1)?,
+        if text.len() <= 4000 {
+            print_length(&rt, &tree, at + 1, text)?;
         }
     }
     Ok(())
