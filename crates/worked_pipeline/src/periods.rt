@@ -1,7 +1,7 @@
 //! References that run in some reactions alone: their marks, and the tree in which they are graphs.
 ghost use Rattle.std.specs.Prelude.{◌≤◌, length};
 
-use crate::stages::read_defs;
+use crate::stages::{read_defs, read_tree};
 use crate::texts::{FIVE_ROWS, MARKED};
 use algo_defs::AlgoError;
 use algo_resolve::resolve;
@@ -44,11 +44,21 @@ fn made(alloc: Global, text: &[u8]) -> Result<Tree, Fail>
     Ok(periods(alloc, &tree, &marks)?)
 }
 
-/// What the actuators of that tree take over a table.
+#[test]
+fn a_tree_with_a_marked_reference_keeps_its_actuator(rt: HostRuntime) -> Result<(), Fail> {
+    assert!(rt; MARKED.len() <= 4000);
+    let tree = made(rt.alloc(), MARKED)?;
+    let lens = tree.actuator_lens(rt.alloc())?;
+    assert_eq!(rt; lens.len(), 1);
+    assert_eq!(rt; lens[0], 1);
+    Ok(())
+}
+
+/// What the actuators of the tree that a text means take over a table.
 fn taken(alloc: Global, text: &[u8], table: &[u8]) -> Result<ActRows, Fail>
     requires { length text.now ≤ 4000 }
 {
-    let tree = made(alloc, text)?;
+    let tree = read_tree(alloc, text)?;
     let rows = read_sensors(alloc, table, &tree)?;
     Ok(simulate(alloc, &tree, &rows)?)
 }
