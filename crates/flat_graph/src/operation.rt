@@ -50,35 +50,38 @@ fn fire_vertex(
         (take (length vertex.now.ins) ins.now) }
 {
     let count = vertex.ins.as_slice().len();
-    let lens = vertex.outs.as_slice();
     if are_holding(vertex.guards.as_slice(), count, ins) {
-        fire_active(&vertex.kind, bodies, count, lens, ins, cell, row, outs);
+        fire_active(vertex, bodies, ins, cell, row, outs);
     } else {
-        put_zeros(lens, outs);
+        put_zeros(vertex.outs.as_slice(), outs);
     }
 }
 
-/// An active operation, whose inputs are the first of these vectors.
+/// Fires this operation as an active one.
 fn fire_active(
-    kind: &Kind,
+    vertex: &Vertex,
     bodies: &[Body],
-    count: usize,
-    lens: &[u32],
     ins: &Ins,
     cell: &mut [i64],
     row: &[i64],
     outs: &mut Ins,
 )
-    requires fits { IsTrue (fits bodies.now kind.now (take count (map length ins.now)) lens.now) }
-    requires short { All (λ n. n ≤ 64) lens.now }
-    requires count { count ≤ length ins.now }
-    requires cell { length cell.old ≡ kind_cell_len kind.now (take count (map length ins.now)) }
-    requires row { length row.now ≡ kind_seen_len kind.now lens.now }
-    requires outs { map length outs.old ≡ lens.now }
-    ensures outs { outs.new ≡ kind_outputs bodies.now kind.now lens.now cell.old row.now (take count ins.now) }
-    ensures cell { cell.new ≡ stored kind.now true cell.old (vector_at (take count ins.now) 0) }
+    requires fits { IsTrue (fits bodies.now vertex.now.kind
+        (take (length vertex.now.ins) (map length ins.now)) vertex.now.outs) }
+    requires short { All (λ n. n ≤ 64) vertex.now.outs }
+    requires count { length vertex.now.ins ≤ length ins.now }
+    requires cell { length cell.old ≡ kind_cell_len vertex.now.kind
+        (take (length vertex.now.ins) (map length ins.now)) }
+    requires row { length row.now ≡ kind_seen_len vertex.now.kind vertex.now.outs }
+    requires outs { map length outs.old ≡ vertex.now.outs }
+    ensures outs { outs.new ≡ kind_outputs bodies.now vertex.now.kind vertex.now.outs cell.old row.now
+        (take (length vertex.now.ins) ins.now) }
+    ensures cell { cell.new ≡ stored vertex.now.kind true cell.old
+        (vector_at (take (length vertex.now.ins) ins.now) 0) }
 {
-    match kind {
+    let count = input_count(vertex);
+    let lens = vertex.outs.as_slice();
+    match &vertex.kind {
         Kind::Sensor(_) => put_only(row, outs),
         Kind::Actuator(_) => {}
         Kind::Function(body) => put_values(lens, bodies[*body as usize].outputs(), ins, outs),
@@ -92,6 +95,13 @@ fn fire_active(
             put_only(ins.vector(1 + case), outs);
         }
     }
+}
+
+/// How many inputs an operation has, without those of its guards.
+fn input_count(vertex: &Vertex) -> usize
+    ensures { result ≡ length vertex.now.ins }
+{
+    vertex.ins.as_slice().len()
 }
 
 /// Whether all guards hold, the values of whose sources are the vectors from a place on.
