@@ -9,10 +9,10 @@ ghost use Rattle.compiler.specs.Reads.{text_in};
 ghost use Rattle.top_plans.specs.Given.{output_of};
 ghost use Rattle.top_plans.specs.Plans.{excess, rows_plan, sim_plan};
 
-use compiler::{read_algorithm, read_table};
 use act_text::acts_text;
 use algo_tree::Tree;
 use command_status::Status;
+use compiler::{read_algorithm, read_table};
 use outside::Shelf;
 use std::alloc::Global;
 use syn_base::{LimitFault, LimitKind, OutOfMemory, SensorRows, Shape};
