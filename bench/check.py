@@ -3,6 +3,7 @@
 refers to the next (refused by its depth), of graphs whose names have a long prefix. Reading, checking and printing together.
 Graphs of thousands of edges come besides, and a function with long expressions that is used up to 1,984 times in one text.
 Prints the status, the seconds and the ratios of the times and of the sizes of the texts, and the greatest size in memory.
+Then graphs of many ports without operations, some 258,000 of them.
 Last, texts whose graphs or repetitions hold no operation but would make 64^7 vertices and more, which end at once."""
 import os
 import resource
@@ -82,6 +83,8 @@ def main():
         told("graphs of 4,032 edges", path, [shapes.wide_graphs(mib * MIB) for mib in (1, 4, 16)])
         told("a long function used again and again", path, [shapes.shared_body(uses) for uses in (1, 8, 31)])
         told("22,000 vertices and 1,000 operations", path, [shapes.passing(1_000)])
+        for kind, text in shapes.PORTS.items():
+            told(kind, path, [text()])
         told("countless graphs", path, [countless()])
         told("countless copies", path, [shapes.nested_repetitions()])
     most = resource.getrusage(resource.RUSAGE_CHILDREN).ru_maxrss

@@ -1,7 +1,8 @@
 #!/usr/bin/env python3
 """Times `syndex flat` over algorithms of 512, 1,024 and 2,048 operations, a chain of functions in graphs, and `syndex sim` of the
 largest over 1,000 and 10,000 reactions; each with references declared in the order of the chain and in reverse. Then `syndex
-flat` of a function with long expressions, used 64, 512 and 1,984 times, and of 22,000 vertices that stand for 1,000 operations.
+flat` of a function with long expressions, used 64, 512 and 1,984 times, of 22,000 vertices that stand for 1,000 operations, and of
+some 258,000 graphs of many ports that hold none.
 Prints the seconds and the ratios, so that the growth shows on a noisy machine."""
 import os
 import subprocess
@@ -87,6 +88,8 @@ def main():
             what = f"flat, a long function used {64 * uses} times in a text of {len(content)} bytes"
             before = told(what, listed(text, content), before)
         told("flat, 22,000 vertices and 1,000 operations", listed(text, shapes.passing(1_000)), None)
+        for kind, made in shapes.PORTS.items():
+            told(f"flat, {kind}", listed(text, made()), None)
 
 
 if __name__ == "__main__":

@@ -1,5 +1,5 @@
 """Texts that are timed: algorithms whose trees or checks would be large if anything were done once for each use, and one whose
-operations stand on all operators; an architecture and a sensor table for these."""
+operations stand on all operators; graphs of many ports that hold no operation; an architecture and a sensor table for these."""
 
 HEAD = "algorithm 1\n"
 LANES, LANE = 16, 8
@@ -73,6 +73,70 @@ def nested_repetitions():
         parts.append(f"repeat {name} 64 {inner}\nend\n")
         inner = name
     return "".join(parts + [f"graph main\nref r {inner}\nend\n"])
+
+
+def pass_through(name, ins, outs, edges):
+    """A graph of these ports without references."""
+    lines = [f"graph {name}", *(f"in {port}" for port in ins), *(f"out {port}" for port in outs)]
+    return lines + [f"edge {source} {target}" for source, target in edges] + ["end"]
+
+
+def copied_ports():
+    """A graph that gives its input 64 times, in three repetitions one inside the other: 257,985 vertices, one operation."""
+    lines = ["algorithm 1", "constant Z = " + " ".join(["0"] * 64)]
+    lines += pass_through("P", ["x 64"], [f"y{k} 64" for k in range(64)], [("x", f"y{k}") for k in range(64)])
+    for name, copies, inner in (("A", 64, "P"), ("B", 64, "A"), ("C", 62, "B")):
+        lines += [f"repeat {name} {copies} {inner}", "diffuse x x", "end"]
+    return "\n".join(lines + ["graph main", "ref z Z", "ref c C", "edge z.o c.x", "end", ""])
+
+
+def wide_chain(name, definition, count):
+    """A graph of 64 inputs and outputs that leads them through this many references, one after another."""
+    lines = [f"graph {name}", *(f"in x{k} 64" for k in range(64)), *(f"out y{k} 64" for k in range(64))]
+    lines += [f"ref r{i} {definition}" for i in range(count)]
+    for k in range(64):
+        ends = [f"x{k}"] + [f"r{i}.y{k}" for i in range(count)]
+        lines += [f"edge {ends[i]} r{i}.x{k}" for i in range(count)] + [f"edge {ends[-1]} y{k}"]
+    return lines + ["end"]
+
+
+def wide_chains():
+    """A graph that passes 64 values of 64 elements on, in three chains one inside the other: 257,985 vertices, two operations."""
+    wide = range(64)
+    lines = ["algorithm 1", "sensor S 64", "actuator T 64"]
+    lines += pass_through("P", [f"x{k} 64" for k in wide], [f"y{k} 64" for k in wide], [(f"x{k}", f"y{k}") for k in wide])
+    lines += wide_chain("Q", "P", 64) + wide_chain("R", "Q", 64) + ["graph main", "ref s S", "ref t T"]
+    lines += [f"ref r{i} R" for i in range(62)] + [f"edge s.o r0.x{k}" for k in wide]
+    lines += [f"edge r{i}.y{k} r{i + 1}.x{k}" for i in range(61) for k in wide]
+    return "\n".join(lines + ["edge r61.y0 t.i", "end", ""])
+
+
+def named_ports(passes=False):
+    """A graph with 64 outputs of long names, used 4,096 times in each of 62 graphs: 257,983 vertices, one operation; where
+    `passes` is set, 61 graphs and a repetition and a switch beside them, so that flattening makes two trees more."""
+    names = [f"an_output_with_quite_a_long_name{k:02}"[-32:] for k in range(64)]
+    lines = ["algorithm 1", "sensor S 1"]
+    lines += pass_through("P", ["x 1"], [f"{name} 1" for name in names], [("x", name) for name in names])
+    for name, inner in (("A", "P"), ("B", "A")):
+        lines += [f"graph {name}", "in x 1", *(f"ref u{i} {inner}" for i in range(64))]
+        lines += [f"edge x u{i}.x" for i in range(64)] + ["end"]
+    uses, refs, edges = 62, ["ref s S"], []
+    if passes:
+        lines += ["graph E", "in x 1", "out y 1", "edge x y", "end", "repeat Again 1 E", "iterate x x y y", "end"]
+        lines += ["switch Either", "on c", "in x 1", "out y 1", "case 0 E", "otherwise E", "end"]
+        uses, refs = 61, refs + ["ref again Again", "ref either Either"]
+        edges = ["edge s.o again.x", "edge s.o either.c", "edge s.o either.x"]
+    lines += ["graph main", *refs, *(f"ref b{i} B" for i in range(uses)), *edges]
+    lines += [f"edge s.o b{i}.x" for i in range(uses)]
+    return "\n".join(lines + ["end", ""])
+
+
+PORTS = {
+    "ports in repetitions": copied_ports,
+    "ports in graphs": wide_chains,
+    "ports with names": named_ports,
+    "ports with names, repeated and switched": lambda: named_ports(True),
+}
 
 
 def lane():

@@ -7,12 +7,19 @@ use Rattle.algo_defs.specs.declared.definition.Body.{Body}
 use Rattle.algo_defs.specs.declared.definition.Body.TheVariants.{Sensor, Actuator, Constant, Delay, Function, Graph, Switch, Repeat}
 use Rattle.syn_base.specs.Bytes.{Bytes}
 use Rattle.algo_rules.specs.Links.{definition}
-use Rattle.algo_rules.specs.Ports.{ports_of}
+use Rattle.algo_rules.specs.Ports.{lens_of, ports_of}
 use Rattle.algo_rules.specs.Resolved.{Making, kind_by, vertex_within}
 use Rattle.algo_rules.specs.declared.ports.Ports.{Ports}
-use Rattle.algo_resolve.specs.Plans.{plan_of, plan_view}
+use Rattle.algo_resolve.specs.Plans.{Planned, plan_of, plan_view}
 use Rattle.algo_resolve.specs.declared.plan.Plan.{Plan}
 use Rattle.algo_resolve.proofs.Placed.{same_name}
+
+-- what vertices of a name share
+pub record Shares (ds : List Def) (w : Bytes) (p : Plan) : Type 0 where
+  pub definition : p.definition ≡ w
+  pub outs : p.outs ≡ lens_of (ports_of ds w).outs
+  pub names : p.names ≡ map (λ o. o.name) (ports_of ds w).outs
+  pub guards : p.guards ≡ []
 
 head_same : {A : Type 0} (x y : A) (xs ys : List A) → x ∷ xs ≡ y ∷ ys → x ≡ y
 head_same x y xs ys h = cc
@@ -41,6 +48,16 @@ module _ (ds : List Def) where
 
   pub plan_at : (ps : List Plan) (i : ℕ) (d : Def) (p : Plan) → map plan_view ps ≡ map (plan_of ds) ds → slice_get ds i ≡ Some d → p ≡ get_or ps i p → plan_view p ≡ plan_of ds d
   plan_at ps i d p h at is = plan_in ps ds i d p h at is
+
+  pub shared_by : (w : Bytes) (d : Def) (p : Plan) → definition ds w ≡ Some d → plan_view p ≡ plan_of ds d → Shares ds w p
+  shared_by w d p at is =
+      let back = sym (same_name ds w d at) in
+      record {
+        definition = ap (λ (q : Planned). q.definition) is ∙ back;
+        outs = ap (λ (q : Planned). q.outs) is ∙ ap (λ (v : Bytes). lens_of (ports_of ds v).outs) back;
+        names = ap (λ (q : Planned). q.names) is ∙ ap (λ (v : Bytes). map (λ o. o.name) (ports_of ds v).outs) back;
+        guards = ap (λ (q : Planned). q.guards) is;
+      }
 
   -- the kind depends on the making of vertices in nothing
   any_kind : (m n : Making) (own : Ports) (b : Body) → kind_by ds m own 0 0 b ≡ kind_by ds n own 0 0 b

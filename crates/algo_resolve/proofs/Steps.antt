@@ -3,7 +3,7 @@ use Rattle.std.proofs.Common.{◌≡◌, ℕ, zero, suc, ◌+◌, ◌-◌, ◌<�
 use Rattle.std.specs.Prelude.{slice_get}
 use Rattle.std.proofs.Math.Numerals.{suc-eq-add-one}
 use Rattle.std.proofs.lemmas.List.{drop_all}
-use Rattle.std.proofs.lemmas.List.FromFn.{map-range_with_len_more}
+use Rattle.std.proofs.lemmas.List.FromFn.{length-map-range_with_len, map-range_with_len_more}
 use Rattle.body_lang.specs.declared.expression.Port.{Port}
 use Rattle.level_meaning.specs.declared.source.Source.{Source}
 use Rattle.level_meaning.specs.declared.source.Source.TheVariants.{Own}
@@ -49,6 +49,22 @@ named_at ds table (x ∷ ws) [] i w h at = absurd h
 named_at ds table (x ∷ ws) (p ∷ ps) zero w h at = let same : x ≡ w = cc in subst (λ (y : Bytes). IsPlaced ds table y p) same h.0
 named_at ds table (x ∷ ws) (p ∷ ps) (suc i) w h at = named_at ds table ws ps i w h.1 at
 
+-- where a case or the body of a repetition stands
+abbrev pub inner_at : ℕ → List Source → Seat
+inner_at i ss = record { part = Numbered i; ins = ss; sensor = 0; actuator = 0 }
+
+-- the only list among several
+pub only_wire : (wires : List (List Source)) (wire ws : List Source) → wires ≡ ws ∷ [] → wire ≡ get_or wires 0 wire → wire ≡ ws
+only_wire wires wire ws planned here = here ∙ ap (λ (xs : List (List Source)). get_or xs 0 wire) planned
+
+-- as many own inputs as there are
+pub owns_long : (first n : ℕ) (ss : List Source) → ss ≡ owns first n → length ss ≡ n
+owns_long first n ss is =
+    ap (λ (xs : List Source). length xs) is ∙ length-map-range_with_len (λ (k : ℕ). Own k) first n
+
+pub owns_itself : (first n : ℕ) (ss : List Source) → ss ≡ owns first n → ss ≡ owns first (length ss)
+owns_itself first n ss is = is ∙ ap (owns first) (sym (owns_long first n ss is))
+
 module _ (ds : List Def) where
   -- a definition with fuel left
   pub vertex_step : (n m : ℕ) (part : Part) (w : Bytes) (ins : List Source) (s a : ℕ) (d : Def) (own : Ports) (kind : Kind) (inner : List Vertex)
@@ -66,17 +82,16 @@ module _ (ds : List Def) where
   first_place table w (p ∷ ps) h = h.0
 
   -- the vertex of the body of a repetition, which is alone
-  pub one_copy : (fuel : ℕ) (w : Bytes) (own : Ports) (ports : List Port) (ins : List Source) (seat : Seat) (v : Vertex) (us : List Vertex)
-      → own ≡ ports_of ds w → ports ≡ own.ins → ins ≡ owns 0 (length ports) → seat ≡ record { part = Numbered 0; ins = ins; sensor = 0; actuator = 0 }
+  pub one_copy : (fuel : ℕ) (w : Bytes) (wires : List (List Source)) (wire ins : List Source) (seat : Seat) (v : Vertex) (us : List Vertex)
+      → wires ≡ owns 0 (length (ports_of ds w).ins) ∷ [] → wire ≡ get_or wires 0 wire → ins ≡ wire → seat ≡ inner_at 0 ins
       → view v ≡ vertex_within ds fuel seat.part w seat.ins seat.sensor seat.actuator → us ≡ v ∷ []
       → map view us ≡ vertex_within ds fuel (Numbered 0) w (owns 0 (length (ports_of ds w).ins)) 0 0 ∷ []
-  one_copy fuel w own ports ins seat v us same lists sources sits made alone =
+  one_copy fuel w wires wire ins seat v us planned here same sits made alone =
       ap (λ (vs : List Vertex). map view vs) alone
       ∙ ap (λ (u : tree.Vertex). u ∷ [])
       (made
       ∙ ap (λ (s : Seat). vertex_within ds fuel s.part w s.ins s.sensor s.actuator) sits
-      ∙ ap (λ (ss : List Source). vertex_within ds fuel (Numbered 0) w ss 0 0)
-      (sources ∙ ap (λ (ps : List Port). owns 0 (length ps)) lists ∙ ap (λ (q : Ports). owns 0 (length q.ins)) same))
+      ∙ ap (λ (ss : List Source). vertex_within ds fuel (Numbered 0) w ss 0 0) (same ∙ only_wire wires wire (owns 0 (length (ports_of ds w).ins)) planned here))
 
   module _ (make : Making) where
     pub next_reference : (ins : List Port) (all : List Reference) (edges : List Edge) (rs : List Reference) (i : ℕ) (r : Reference) (s a t b : ℕ)
@@ -102,7 +117,7 @@ module _ (ds : List Def) where
 
     -- the vertex of the next case, after those that are made
     pub one_case : (ins : ℕ) (ws : List Bytes) (i : ℕ) (w : Bytes) (seat : Seat) (us : List Vertex) (v : Vertex) (whole : List tree.Vertex)
-        → slice_get ws i ≡ Some w → seat ≡ record { part = Numbered i; ins = owns 1 ins; sensor = 0; actuator = 0 }
+        → slice_get ws i ≡ Some w → seat ≡ inner_at i (owns 1 ins)
         → view v ≡ make seat.part w seat.ins seat.sensor seat.actuator
         → map view us ++ cases_from ds make ins i (drop i ws) ≡ whole
         → map view (us ++ v ∷ []) ++ cases_from ds make ins (i + 1) (drop (i + 1) ws) ≡ whole

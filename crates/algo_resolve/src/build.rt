@@ -16,12 +16,12 @@ ghost use Rattle.algo_resolve.specs.Parts.{ArePlanned, IsWired};
 ghost use Rattle.algo_resolve.specs.Plans.{wires_by};
 
 use crate::builder::{Builder, WiredGraph};
-use crate::kind::{port_lens, port_names};
 use crate::lookup::copy_name;
+use crate::plan::Plan;
 use algo_defs::{Body, Case, Def, Reference};
-use algo_rules::Ports;
-use algo_tree::{Kind, Vertex, copy_kind, copy_sources};
-use level_meaning::{Part, Source};
+use algo_tree::{Kind, Vertex, share_kind};
+use level_meaning::{Guard, Part, Source};
+use shared_items::Shared;
 use std::alloc::Global;
 use syn_base::{Items, Name, OutOfMemory, to_u32};
 
@@ -30,7 +30,7 @@ use syn_base::{Items, Name, OutOfMemory, to_u32};
 pub struct Seat {
     pub part: Part,
     /// The sources of its inputs.
-    pub ins: Items<Source>,
+    pub ins: Shared<Source>,
     /// Its number if it is a sensor.
     pub sensor: u32,
     /// Its number if it is an actuator.
@@ -67,8 +67,8 @@ pub fn build_vertex(
         plan.wires.as_slice(),
         body,
     )?;
-    let label = label_of(alloc, name, &builder.table[place], body, &plan.kind, &seat)?;
-    Ok(label.vertex(alloc, seat, inner))
+    let label = label_of(body, plan, &seat)?;
+    Ok(label.vertex(seat, inner))
 }
 
 /// The places of the definitions that the definition at a place names.
@@ -83,13 +83,7 @@ fn places_of<'a>(builder: &Builder<'a>, place: usize) -> &'a [u32]
 
 /// The kind of a vertex of this definition: that of the plan, but for the number of a sensor or an
 /// actuator.
-fn numbered(
-    alloc: Global,
-    body: &Body,
-    plan: &Kind,
-    sensor: u32,
-    actuator: u32,
-) -> Result<Kind, OutOfMemory>
+fn numbered(body: &Body, plan: &Kind, sensor: u32, actuator: u32) -> Result<Kind, OutOfMemory>
     ensures { IfOk result (λ k. (ds : List Definition) (make : Making) (own : PortLists) →
         kind_view plan.now ≡ kind_by ds make own 0 0 body.now →
         kind_view k ≡ kind_by ds make own sensor actuator body.now) }
@@ -97,20 +91,20 @@ fn numbered(
     match body {
         Body::Sensor(_) => Ok(Kind::Sensor(sensor)),
         Body::Actuator(_) => Ok(Kind::Actuator(actuator)),
-        _ => copy_kind(alloc, plan),
+        _ => share_kind(plan),
     }
 }
 
 /// What is inside a vertex: the references of a graph, the cases of a switch, or the body of a
-/// repetition. The definitions that it names stand at `places`, and `wires` has the sources of the
-/// inputs of the references.
+/// repetition. The definitions that it names stand at `places`, and `wires` has the sources of their
+/// inputs.
 #[cycle(build)]
 fn build_inner(
     alloc: Global,
     builder: &Builder,
     fuel: u32,
     places: &[u32],
-    wires: &[Items<Source>],
+    wires: &[Shared<Source>],
     body: &Body,
 ) -> Result<Vec<Vertex>, OutOfMemory>
     requires planned { ArePlanned builder.now }
@@ -137,50 +131,51 @@ fn build_inner(
             build_references(alloc, builder, fuel, &graph)
         }
         Body::Switch {
-            ins,
             cases,
             otherwise,
             ..
         } => {
             let names = Cases {
-                ins: ins.as_slice().len(),
+                ins: &wires[0],
                 cases: cases.as_slice(),
                 otherwise,
             };
             build_cases(alloc, builder, fuel, places, &names)
         }
-        Body::Repeat { def, .. } => build_copy(alloc, builder, fuel, places, def),
+        Body::Repeat { def, .. } => build_copy(alloc, builder, fuel, places, wires, def),
         _ => Ok(Vec::new(alloc)),
     }
 }
 
-/// The body of a repetition, which is there once.
+/// The body of a repetition, which is there once. Its inputs are the only ones that are wired.
 #[cycle(build)]
 fn build_copy(
     alloc: Global,
     builder: &Builder,
     fuel: u32,
     places: &[u32],
+    wires: &[Shared<Source>],
     name: &Name,
 ) -> Result<Vec<Vertex>, OutOfMemory>
     requires planned { ArePlanned builder.now }
     requires placed { ArePlaced builder.now.defs.now builder.now.table.now (name.now ∷ []) places.now }
+    requires wires { wires.now ≡ owns 0 (length (ports_of builder.now.defs.now name.now).ins) ∷ [] }
     ensures { IfOk result (λ us. map view us.items ≡
         vertex_within builder.now.defs.now fuel (Numbered 0) name.now
         (owns 0 (length (ports_of builder.now.defs.now name.now).ins)) 0 0 ∷ []) }
 {
     let place = places[0] as usize;
-    let ins = own_inputs(alloc, 0, builder.table[place].ins.as_slice().len())?;
+    let ins = wires[0].share()?;
     let seat = inner_seat(0, ins);
     let mut inner = Vec::new(alloc);
     inner.push(build_vertex(alloc, builder, fuel, name, place, seat)?)?;
     Ok(inner)
 }
 
-/// The definitions that a switch names, and how many inputs it has after the conditioning one.
+/// The definitions that a switch names, and its inputs after the conditioning one, which each case takes.
 #[derive(Clone, Copy)]
 struct Cases<'a> {
-    ins: usize,
+    ins: &'a Shared<Source>,
     cases: &'a [Case],
     otherwise: &'a Name,
 }
@@ -212,13 +207,15 @@ fn build_cases(
     requires planned { ArePlanned builder.now }
     requires placed { ArePlaced builder.now.defs.now builder.now.table.now
         (map (λ c. c.def) names.now.cases.now ++ names.now.otherwise.now ∷ []) places.now }
+    requires ins { names.now.ins.now ≡ owns 1 (length names.now.ins.now) }
     ensures { IfOk result (λ us. map view us.items ≡
-        cases_from builder.now.defs.now (vertex_within builder.now.defs.now fuel) names.now.ins 0
+        cases_from builder.now.defs.now (vertex_within builder.now.defs.now fuel)
+        (length names.now.ins.now) 0
         (map (λ c. c.def) names.now.cases.now ++ names.now.otherwise.now ∷ [])) }
 {
     let mut inner = Vec::new(alloc);
     for (number, place) in places.iter().enumerate() {
-        let seat = case_seat(alloc, number, names.ins)?;
+        let seat = case_seat(number, names.ins)?;
         let name = names.name(number);
         inner.push(build_vertex(alloc, builder, fuel, name, *place as usize, seat)?)?;
     }
@@ -226,7 +223,7 @@ fn build_cases(
 }
 
 /// Where the body of a repetition or a case stands.
-fn inner_seat(number: u32, ins: Items<Source>) -> Seat
+fn inner_seat(number: u32, ins: Shared<Source>) -> Seat
     ensures { result ≡ record { part = Numbered number; ins = ins; sensor = 0; actuator = 0 } }
 {
     Seat {
@@ -238,10 +235,10 @@ fn inner_seat(number: u32, ins: Items<Source>) -> Seat
 }
 
 /// Where the case of this number stands: it takes the inputs after the conditioning one.
-fn case_seat(alloc: Global, number: usize, ins: usize) -> Result<Seat, OutOfMemory>
-    ensures { IfOk result (λ s. s ≡ record { part = Numbered number; ins = owns 1 ins; sensor = 0; actuator = 0 }) }
+fn case_seat(number: usize, ins: &Shared<Source>) -> Result<Seat, OutOfMemory>
+    ensures { IfOk result (λ s. s ≡ record { part = Numbered number; ins = ins.now; sensor = 0; actuator = 0 }) }
 {
-    Ok(inner_seat(to_u32(number)?, own_inputs(alloc, 1, ins)?))
+    Ok(inner_seat(to_u32(number)?, ins.share()?))
 }
 
 /// The references of a graph, in order.
@@ -265,13 +262,7 @@ fn build_references(
     let mut actuators: u32 = 0;
     for (at, reference) in graph.references.iter().enumerate() {
         let place = graph.places[at] as usize;
-        let seat = reference_seat(
-            alloc,
-            reference,
-            graph.wires[at].as_slice(),
-            sensors,
-            actuators,
-        )?;
+        let seat = reference_seat(alloc, reference, &graph.wires[at], sensors, actuators)?;
         inner.push(build_vertex(alloc, builder, fuel, &reference.def, place, seat)?)?;
         let def = &builder.defs[place];
         sensors += sensors_of(def);
@@ -284,7 +275,7 @@ fn build_references(
 fn reference_seat(
     alloc: Global,
     reference: &Reference,
-    wires: &[Source],
+    wires: &Shared<Source>,
     sensors: u32,
     actuators: u32,
 ) -> Result<Seat, OutOfMemory>
@@ -297,7 +288,7 @@ fn reference_seat(
 {
     Ok(Seat {
         part: Part::Named(copy_name(alloc, &reference.name)?),
-        ins: copy_sources(alloc, wires)?,
+        ins: wires.share()?,
         sensor: sensors,
         actuator: actuators,
     })
@@ -325,77 +316,59 @@ fn actuators_of(def: &Def) -> u32
     }
 }
 
-/// This many own inputs, from a first one on, as sources.
-fn own_inputs(alloc: Global, first: u32, count: usize) -> Result<Items<Source>, OutOfMemory>
-    ensures { IfOk result (λ sources. sources ≡ owns first count) }
-{
-    let end = to_u32(count)?.checked_add(first).ok_or(OutOfMemory)?;
-    let mut sources = Vec::new(alloc);
-    for number in first..end {
-        sources.push(Source::Own(number))?;
-    }
-    Ok(Items::new(sources))
-}
-
 /// A vertex that nothing is known of.
 fn empty_vertex(alloc: Global, name: &Name, seat: Seat) -> Result<Vertex, OutOfMemory>
     ensures { IfOk result (λ v. view v ≡ vertex seat.part name.now seat.ins [] (no_graph []) []) }
 {
-    Ok(Vertex {
-        definition: copy_name(alloc, name)?,
-        part: seat.part,
-        ins: seat.ins,
-        guards: Items::new(Vec::new(alloc)),
-        outs: Items::new(Vec::new(alloc)),
-        names: Items::new(Vec::new(alloc)),
-        kind: Kind::Graph(Items::new(Vec::new(alloc))),
-        inner: Vec::new(alloc),
-    })
+    let label = Label {
+        definition: Shared::new(alloc, Vec::from_slice(alloc, name.as_bytes())?)?,
+        outs: Shared::empty(alloc)?,
+        names: Shared::empty(alloc)?,
+        guards: Shared::empty(alloc)?,
+        kind: Kind::Graph(Shared::empty(alloc)?),
+    };
+    Ok(label.vertex(seat, Vec::new(alloc)))
 }
 
 /// What a vertex is by its definition, apart from where it stands and what is inside it.
 #[derive(Drop)]
 struct Label {
-    definition: Items<u8>,
-    outs: Items<u32>,
-    names: Items<Items<u8>>,
+    definition: Shared<u8>,
+    outs: Shared<u32>,
+    names: Shared<Items<u8>>,
+    guards: Shared<Guard>,
     kind: Kind,
 }
 
-/// What a vertex of a definition of this name and body is, which has the ports `own` and of which this
-/// kind is planned.
-fn label_of(
-    alloc: Global,
-    name: &Name,
-    own: &Ports,
-    body: &Body,
-    plan: &Kind,
-    seat: &Seat,
-) -> Result<Label, OutOfMemory>
-    ensures name { IfOk result (λ l. l.definition ≡ name.now) }
-    ensures outs { IfOk result (λ l. l.outs ≡ lens_of own.now.outs) }
-    ensures names { IfOk result (λ l. l.names ≡ map (λ p. p.name) own.now.outs) }
+/// What a vertex of a definition of this body and plan is. It takes no memory.
+fn label_of(body: &Body, plan: &Plan, seat: &Seat) -> Result<Label, OutOfMemory>
+    ensures name { IfOk result (λ l. l.definition ≡ plan.now.definition) }
+    ensures outs { IfOk result (λ l. l.outs ≡ plan.now.outs) }
+    ensures names { IfOk result (λ l. l.names ≡ plan.now.names) }
+    ensures guards { IfOk result (λ l. l.guards ≡ plan.now.guards) }
     ensures kind { IfOk result (λ l. (ds : List Definition) (make : Making) (own : PortLists) →
-        kind_view plan.now ≡ kind_by ds make own 0 0 body.now →
+        kind_view plan.now.kind ≡ kind_by ds make own 0 0 body.now →
         kind_view l.kind ≡ kind_by ds make own seat.now.sensor seat.now.actuator body.now) }
 {
-    let definition = copy_name(alloc, name)?;
-    let outs = port_lens(alloc, own.outs.as_slice())?;
-    let names = port_names(alloc, own.outs.as_slice())?;
-    let kind = numbered(alloc, body, plan, seat.sensor, seat.actuator)?;
+    let definition = plan.definition.share()?;
+    let outs = plan.outs.share()?;
+    let names = plan.names.share()?;
+    let guards = plan.guards.share()?;
+    let kind = numbered(body, &plan.kind, seat.sensor, seat.actuator)?;
     Ok(Label {
         definition,
         outs,
         names,
+        guards,
         kind,
     })
 }
 
 impl Label {
     /// The vertex that stands there, with this inside it.
-    fn vertex(self, alloc: Global, seat: Seat, inner: Vec<Vertex>) -> Vertex
+    fn vertex(self, seat: Seat, inner: Vec<Vertex>) -> Vertex
         ensures { (outs : List Port) → self.outs ≡ lens_of outs →
-            self.names ≡ map (λ p. p.name) outs →
+            self.names ≡ map (λ p. p.name) outs → self.guards ≡ [] →
             view result ≡ vertex seat.part self.definition seat.ins outs (kind_view self.kind)
             (map view inner.items) }
     {
@@ -405,7 +378,7 @@ impl Label {
             names: self.names,
             part: seat.part,
             ins: seat.ins,
-            guards: Items::new(Vec::new(alloc)),
+            guards: self.guards,
             kind: self.kind,
             inner,
         }

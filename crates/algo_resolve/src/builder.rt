@@ -4,6 +4,7 @@ use algo_defs::{Def, Edge, Reference};
 use algo_rules::Ports;
 use body_lang::Port;
 use level_meaning::Source;
+use shared_items::Shared;
 use syn_base::Items;
 
 /// The definitions of a text that has passed its checks, with what their vertices have in common.
@@ -28,5 +29,5 @@ pub struct WiredGraph<'a> {
     /// The place of the definition of each reference.
     pub places: &'a [u32],
     /// The sources of the inputs of each reference.
-    pub wires: &'a [Items<Source>],
+    pub wires: &'a [Shared<Source>],
 }

@@ -9,8 +9,9 @@ use algo_defs::{Frontier, FrontierLine};
 use algo_rules::Ports;
 use graph_check::find_port;
 use level_meaning::{Feed, Give};
+use shared_items::Shared;
 use std::alloc::Global;
-use syn_base::{Items, Name, OutOfMemory, to_u32};
+use syn_base::{Name, OutOfMemory, to_u32};
 
 /// How the inputs of the body are fed, in order.
 pub fn feeds(
@@ -18,14 +19,14 @@ pub fn feeds(
     inner: &Ports,
     outer: &Ports,
     lines: &[FrontierLine],
-) -> Result<Items<Feed>, OutOfMemory>
+) -> Result<Shared<Feed>, OutOfMemory>
     ensures { IfOk result (λ fs. fs ≡ map (λ p. feed_of inner.now outer.now lines.now p.name) inner.now.ins) }
 {
     let mut feeds = Vec::new(alloc);
     for port in inner.ins.as_slice() {
         feeds.push(feed(alloc, inner, outer, lines, &port.name)?)?;
     }
-    Ok(Items::new(feeds))
+    Shared::new(alloc, feeds)
 }
 
 /// How one input of the body is fed: by the first line that uses it.
@@ -135,7 +136,7 @@ pub fn gives(
     alloc: Global,
     inner: &Ports,
     lines: &[FrontierLine],
-) -> Result<Items<Give>, OutOfMemory>
+) -> Result<Shared<Give>, OutOfMemory>
     ensures { IfOk result (λ gs. (outer : Ports) → gs ≡ flat_map (λ l. give_by inner.now outer l.frontier) lines.now) }
 {
     let mut gives = Vec::new(alloc);
@@ -144,7 +145,7 @@ pub fn gives(
             gives.push(give)?;
         }
     }
-    Ok(Items::new(gives))
+    Shared::new(alloc, gives)
 }
 
 /// The output of a line, if it has one.

@@ -18,6 +18,7 @@ use algo_defs::{Body, Case, FrontierLine, Output};
 use algo_rules::Ports;
 use algo_tree::{Kind, copy_numbers};
 use body_lang::{Body as Function, Expr, Port};
+use shared_items::Shared;
 use std::alloc::Global;
 use syn_base::{Items, Name, OutOfMemory};
 
@@ -40,7 +41,7 @@ impl<'a> Checked<'a> {
         match body {
             Body::Sensor(_) => Ok(Kind::Sensor(0)),
             Body::Actuator(_) => Ok(Kind::Actuator(0)),
-            Body::Constant(values) => Ok(Kind::Constant(copy_numbers(alloc, values.as_slice())?)),
+            Body::Constant(values) => Ok(Kind::Constant(numbers(alloc, values.as_slice())?)),
             Body::Delay(depth, values) => {
                 Ok(Kind::Delay(groups(alloc, *depth, values.as_slice())?))
             }
@@ -68,12 +69,19 @@ impl<'a> Checked<'a> {
     }
 
     /// The ports of the only definition that a repetition names.
-    fn only(&self, places: &[u32], name: &Name) -> &'a Ports
+    pub fn only(&self, places: &[u32], name: &Name) -> &'a Ports
         requires { ArePlaced self.now.defs.now self.now.table.now (name.now ∷ []) places.now }
         ensures { result.now ≡ ports_of self.now.defs.now name.now }
     {
         &self.table[places[0] as usize]
     }
+}
+
+/// The values of a constant.
+fn numbers(alloc: Global, values: &[i64]) -> Result<Shared<i64>, OutOfMemory>
+    ensures { IfOk result (λ vs. vs ≡ values.now) }
+{
+    Shared::new(alloc, Vec::from_slice(alloc, values)?)
 }
 
 /// The kind of a switch with these cases and outputs.
@@ -121,7 +129,7 @@ fn behind(values: &[i64], len: usize) -> &[i64]
 
 /// The values of a delay in groups of equal length, one for each reaction that it looks back.
 #[tactic(auto, using(crate::proofs::Groups::one_group, crate::proofs::Groups::all_groups))]
-fn groups(alloc: Global, depth: u32, values: &[i64]) -> Result<Items<Items<i64>>, OutOfMemory>
+fn groups(alloc: Global, depth: u32, values: &[i64]) -> Result<Shared<Items<i64>>, OutOfMemory>
     requires { 1 ≤ depth }
     ensures { IfOk result (λ all. all ≡ groups depth (length values.now / depth) values.now) }
 {
@@ -132,7 +140,7 @@ fn groups(alloc: Global, depth: u32, values: &[i64]) -> Result<Items<Items<i64>>
         all.push(copy_numbers(alloc, front(rest, len))?)?;
         rest = behind(rest, len);
     }
-    Ok(Items::new(all))
+    Shared::new(alloc, all)
 }
 
 /// The expressions of a function's outputs, as its vertices share them.
@@ -154,34 +162,34 @@ fn copies_of(alloc: Global, outs: &[Output]) -> Result<Vec<Expr>, OutOfMemory>
 }
 
 /// The values of the cases of a switch.
-fn case_values(alloc: Global, cases: &[Case]) -> Result<Items<i64>, OutOfMemory>
+fn case_values(alloc: Global, cases: &[Case]) -> Result<Shared<i64>, OutOfMemory>
     ensures { IfOk result (λ values. values ≡ map (λ c. c.value) cases.now) }
 {
     let mut values = Vec::new(alloc);
     for case in cases {
         values.push(case.value)?;
     }
-    Ok(Items::new(values))
+    Shared::new(alloc, values)
 }
 
 /// The names of ports.
-pub fn port_names(alloc: Global, ports: &[Port]) -> Result<Items<Items<u8>>, OutOfMemory>
+pub fn port_names(alloc: Global, ports: &[Port]) -> Result<Shared<Items<u8>>, OutOfMemory>
     ensures { IfOk result (λ names. names ≡ map (λ p. p.name) ports.now) }
 {
     let mut names = Vec::new(alloc);
     for port in ports {
         names.push(copy_name(alloc, &port.name)?)?;
     }
-    Ok(Items::new(names))
+    Shared::new(alloc, names)
 }
 
 /// The lengths of ports.
-pub fn port_lens(alloc: Global, ports: &[Port]) -> Result<Items<u32>, OutOfMemory>
+pub fn port_lens(alloc: Global, ports: &[Port]) -> Result<Shared<u32>, OutOfMemory>
     ensures { IfOk result (λ lens. lens ≡ lens_of ports.now) }
 {
     let mut lens = Vec::new(alloc);
     for port in ports {
         lens.push(port.len)?;
     }
-    Ok(Items::new(lens))
+    Shared::new(alloc, lens)
 }

@@ -1,26 +1,39 @@
 //! The plan of a definition: what all its vertices have in common, made once.
-ghost use Rattle.std.specs.Prelude.{◌≡◌, ◌<◌, IfOk, Some, map, slice_get};
+ghost use Rattle.std.specs.Prelude.{◌≡◌, ◌<◌, ◌∷◌, [], IfOk, Some, map, slice_get};
 ghost use Rattle.algo_links.specs.Linked.{named};
 ghost use Rattle.algo_rules.specs.Placed.{ArePlaced};
-ghost use Rattle.algo_rules.specs.Resolved.{sources_to};
+ghost use Rattle.algo_rules.specs.Resolved.{owns, sources_to};
 ghost use Rattle.algo_resolve.specs.Parts.{AreReady, IsPlacedGraph, of};
-ghost use Rattle.algo_resolve.specs.Plans.{plan_of, plan_view, wires_by};
+ghost use Rattle.algo_resolve.specs.Plans.{plan_of, plan_view, planned, wires_by};
+ghost use Rattle.algo_tree.specs.View.{kind_view};
 
 use crate::checked::Checked;
-use crate::sources::Graph;
+use crate::kind::{port_lens, port_names};
+use crate::sources::{Graph, own_inputs};
 use algo_defs::{Body, Def, Reference};
+use algo_rules::Ports;
 use algo_tree::Kind;
-use level_meaning::Source;
+use level_meaning::{Guard, Source};
+use shared_items::Shared;
 use std::alloc::Global;
-use syn_base::{Items, OutOfMemory};
+use syn_base::{Items, Name, OutOfMemory};
 
-/// What a vertex of a definition is made from, wherever it stands.
+/// What a vertex of a definition is made from, wherever it stands: all its vertices share these lists.
 #[derive(Drop)]
 pub struct Plan {
+    /// The name of the definition.
+    pub definition: Shared<u8>,
+    /// The lengths of its outputs.
+    pub outs: Shared<u32>,
+    /// The names of its outputs.
+    pub names: Shared<Items<u8>>,
+    /// No guards.
+    pub guards: Shared<Guard>,
     /// Its kind, in which the number of a sensor or an actuator is 0.
     pub kind: Kind,
-    /// For each reference of a graph the sources of its inputs; nothing for other definitions.
-    pub wires: Items<Items<Source>>,
+    /// The sources of the inputs of what is inside: for each reference of a graph its own, and one list for
+    /// all cases of a switch, or for the body of a repetition.
+    pub wires: Items<Shared<Source>>,
 }
 
 /// A plan for each definition.
@@ -43,17 +56,43 @@ fn plan_at(alloc: Global, checked: &Checked, place: usize, def: &Def) -> Result<
 {
     let places = checked.links[place].as_slice();
     let wires = wires(alloc, checked, places, &def.body)?;
-    let kind = checked.kind(alloc, &checked.table[place], places, &def.body)?;
-    Ok(Plan { kind, wires })
+    let own = &checked.table[place];
+    let kind = checked.kind(alloc, own, places, &def.body)?;
+    make_plan(alloc, &def.name, own, kind, wires)
 }
 
-/// The sources of the inputs of each reference of a graph, whose definitions stand at `places`.
+/// The plan of a definition of this name, which has these ports.
+fn make_plan(
+    alloc: Global,
+    name: &Name,
+    own: &Ports,
+    kind: Kind,
+    wires: Items<Shared<Source>>,
+) -> Result<Plan, OutOfMemory>
+    ensures { IfOk result (λ p. plan_view p ≡ planned name.now own.now (kind_view kind) wires) }
+{
+    let definition = Shared::new(alloc, Vec::from_slice(alloc, name.as_bytes())?)?;
+    let outs = port_lens(alloc, own.outs.as_slice())?;
+    let names = port_names(alloc, own.outs.as_slice())?;
+    let guards = Shared::empty(alloc)?;
+    Ok(Plan {
+        definition,
+        outs,
+        names,
+        guards,
+        kind,
+        wires,
+    })
+}
+
+/// The sources of the inputs of what is inside: of the references of a graph, whose definitions stand at
+/// `places`, of the cases of a switch, or of the body of a repetition.
 fn wires(
     alloc: Global,
     checked: &Checked,
     places: &[u32],
     body: &Body,
-) -> Result<Items<Items<Source>>, OutOfMemory>
+) -> Result<Items<Shared<Source>>, OutOfMemory>
     requires { ArePlaced checked.now.defs.now checked.now.table.now (named body.now) places.now }
     ensures { IfOk result (λ ws. ws ≡ wires_by checked.now.defs.now body.now) }
 {
@@ -73,12 +112,25 @@ fn wires(
             };
             all_inputs(alloc, &graph)
         }
+        Body::Switch { ins, .. } => one_list(alloc, 1, ins.as_slice().len()),
+        Body::Repeat { def, .. } => {
+            one_list(alloc, 0, checked.only(places, def).ins.as_slice().len())
+        }
         _ => Ok(Items::new(Vec::new(alloc))),
     }
 }
 
+/// The list of this many own inputs, from a first one on, alone.
+fn one_list(alloc: Global, first: u32, count: usize) -> Result<Items<Shared<Source>>, OutOfMemory>
+    ensures { IfOk result (λ ws. ws ≡ owns first count ∷ []) }
+{
+    let mut all = Vec::new(alloc);
+    all.push(own_inputs(alloc, first, count)?)?;
+    Ok(Items::new(all))
+}
+
 /// The sources of the inputs of each reference of a graph.
-fn all_inputs(alloc: Global, graph: &Graph) -> Result<Items<Items<Source>>, OutOfMemory>
+fn all_inputs(alloc: Global, graph: &Graph) -> Result<Items<Shared<Source>>, OutOfMemory>
     requires { IsPlacedGraph graph.now }
     ensures { IfOk result (λ ws. ws ≡ map (λ r. sources_to (of graph.now) graph.now.ins.now
         graph.now.references.now graph.now.edges.now (Some r.name) (of graph.now r.def).ins)
@@ -97,7 +149,7 @@ fn inputs(
     graph: &Graph,
     at: usize,
     reference: &Reference,
-) -> Result<Items<Source>, OutOfMemory>
+) -> Result<Shared<Source>, OutOfMemory>
     requires placed { IsPlacedGraph graph.now }
     requires there { slice_get graph.now.references.now at ≡ Some reference.now }
     ensures { IfOk result (λ ss. ss ≡ sources_to (of graph.now) graph.now.ins.now

@@ -23,8 +23,9 @@ use algo_defs::{AlgoError, Def, Defs};
 use algo_links::links_of;
 use algo_tree::{MOST_VERTICES, SizeError, Tree, Vertex};
 use level_meaning::Part;
+use shared_items::Shared;
 use std::alloc::Global;
-use syn_base::{Items, OutOfMemory};
+use syn_base::OutOfMemory;
 use tree_laws::{accepted_make_a_tree, vertices_are_counted};
 
 /// The tree of the definitions of a text, or their first refusal in the order of the checks.
@@ -126,7 +127,7 @@ fn build_main(alloc: Global, builder: &Builder, place: usize) -> Result<Vertex, 
     let name = &builder.defs[place].name;
     let seat = Seat {
         part: Part::Named(copy_name(alloc, name)?),
-        ins: Items::new(Vec::new(alloc)),
+        ins: Shared::empty(alloc)?,
         sensor: 0,
         actuator: 0,
     };

@@ -1,8 +1,8 @@
-//! The sources of the values in a graph, which its plan keeps.
+//! The sources of the values in a graph, and of the inputs of cases and bodies, which plans keep.
 ghost use Rattle.std.specs.Prelude.{◌≡◌, IfOk, MatchOption, map};
 ghost use Rattle.algo_rules.specs.Graphs.{ports_at, same_owner};
 ghost use Rattle.algo_rules.specs.Ports.{no_ports, number_of};
-ghost use Rattle.algo_rules.specs.Resolved.{source_from, sources_to};
+ghost use Rattle.algo_rules.specs.Resolved.{owns, source_from, sources_to};
 ghost use Rattle.algo_resolve.specs.Parts.{IsPlacedGraph, of};
 ghost use Rattle.algo_resolve.specs.Wiring.{into, source_among};
 
@@ -12,8 +12,9 @@ use algo_rules::Ports;
 use body_lang::Port;
 use graph_check::{find_port, find_reference, is_same_name};
 use level_meaning::Source;
+use shared_items::Shared;
 use std::alloc::Global;
-use syn_base::{Items, Name, OutOfMemory, to_u32};
+use syn_base::{Name, OutOfMemory, to_u32};
 
 /// A graph among the definitions of its text.
 #[derive(Clone, Copy)]
@@ -34,7 +35,7 @@ impl<'a> Graph<'a> {
         alloc: Global,
         owner: &Option<Name>,
         ports: &[Port],
-    ) -> Result<Items<Source>, OutOfMemory>
+    ) -> Result<Shared<Source>, OutOfMemory>
         requires { IsPlacedGraph self.now }
         ensures { IfOk result (λ sources. sources ≡
             sources_to (of self.now) self.now.ins.now self.now.references.now self.now.edges.now
@@ -50,7 +51,7 @@ impl<'a> Graph<'a> {
         alloc: Global,
         edges: &[&Edge],
         ports: &[Port],
-    ) -> Result<Items<Source>, OutOfMemory>
+    ) -> Result<Shared<Source>, OutOfMemory>
         requires { IsPlacedGraph self.now }
         ensures { IfOk result (λ sources. sources ≡
             map (λ p. source_among (of self.now) self.now.ins.now self.now.references.now
@@ -60,7 +61,7 @@ impl<'a> Graph<'a> {
         for port in ports {
             sources.push(self.source_among(edges, &port.name)?)?;
         }
-        Ok(Items::new(sources))
+        Shared::new(alloc, sources)
     }
 
     /// Where the first of these edges into a port of this name comes from.
@@ -143,4 +144,16 @@ fn is_same_owner(first: &Option<Name>, second: &Option<Name>) -> bool
         (Some(first), Some(second)) => is_same_name(first.as_bytes(), second.as_bytes()),
         _ => false,
     }
+}
+
+/// This many own inputs, from a first one on, as sources.
+pub fn own_inputs(alloc: Global, first: u32, count: usize) -> Result<Shared<Source>, OutOfMemory>
+    ensures { IfOk result (λ sources. sources ≡ owns first count) }
+{
+    let end = to_u32(count)?.checked_add(first).ok_or(OutOfMemory)?;
+    let mut sources = Vec::new(alloc);
+    for number in first..end {
+        sources.push(Source::Own(number))?;
+    }
+    Shared::new(alloc, sources)
 }

@@ -1,8 +1,10 @@
 -- A declared vertex beside its plain data.
-use Rattle.std.proofs.Common.{◌≡◌, ◌≢◌, ℕ, zero, suc, ◌+◌, ◌<◌, ◌≤◌, List, [], ◌∷◌, ◌++◌, length, get_or, map, drop, drop-cons, refl, sym, ap, ap₂, ◌∙◌, arith}
+use Rattle.std.proofs.Common.{◌≡◌, ◌≢◌, ℕ, zero, suc, ◌+◌, ◌<◌, ◌≤◌, List, [], ◌∷◌, ◌++◌, length, get_or, map, drop, drop-cons, Result, Ok, Err, refl, sym, ap, ap₂, ◌∙◌, arith}
+use Rattle.std.specs.Prelude.{IfOk}
+use Rattle.syn_base.specs.declared.memory.OutOfMemory.{OutOfMemory}
 use Rattle.level_meaning.specs.declared.source.Source.{Source}
 use Rattle.algo_tree.specs.Tree.{vertex, and_vertex, Vertex as Plain}
-use Rattle.algo_tree.specs.View.{label_view, kind_view, view_step, view, vertices_view}
+use Rattle.algo_tree.specs.View.{label_view, kind_view, view_step, view, vertices_of, vertices_view}
 use Rattle.algo_tree.specs.Typed.{outs_of, label_of}
 use Rattle.algo_tree.specs.Ends.{sensor_length, sensor_lengths_in, actuator_length, actuator_lengths_in}
 use Rattle.algo_tree.specs.declared.vertex.Kind.{Kind}
@@ -46,3 +48,9 @@ pub left_from : (us : List Vertex) (i : ℕ) (u : Vertex) → i < length us → 
 left_from us i u lt is =
     let one : suc i ≡ i + 1 = omega arith in
     ap vertices_view (drop-cons us i u lt ∙ ap₂ (λ v k. v ∷ drop k us) (sym is) one) ∙ ap (λ v. and_vertex v (vertices_view (drop (i + 1) us))) (view_out u)
+
+-- a vertex that was made with the same inside
+pub shared_answered : (u : Vertex) (us : List Vertex) (r : Result Vertex OutOfMemory) → map view us ≡ map view (out-Vertex u).inner.items
+    → IfOk r (λ w. view w ≡ vertex (label_view (out-Vertex u)) (vertices_view us)) → IfOk r (λ w. view w ≡ view u)
+shared_answered u us (Ok w) inside is = is ∙ ap (λ vs. vertex (label_view (out-Vertex u)) (vertices_of vs)) inside ∙ sym (view_out u)
+shared_answered u us (Err e) inside is = tt

@@ -1,7 +1,7 @@
-//! Copies of what is said of a vertex beside its kind and what is inside it, with which passes make vertices.
+//! Copies of parts, guards and lists, for passes that make others of them.
 ghost use Rattle.std.specs.Prelude.{◌≡◌, IfOk};
 
-use level_meaning::{Guard, Part, Source};
+use level_meaning::{Guard, Part};
 use std::alloc::Global;
 use syn_base::{Items, OutOfMemory};
 
@@ -10,17 +10,6 @@ pub fn copy_bytes(alloc: Global, bytes: &[u8]) -> Result<Items<u8>, OutOfMemory>
     ensures { IfOk result (λ copy. copy ≡ bytes.now) }
 {
     Ok(Items::new(Vec::from_slice(alloc, bytes)?))
-}
-
-/// The same names.
-pub fn copy_names(alloc: Global, names: &[Items<u8>]) -> Result<Items<Items<u8>>, OutOfMemory>
-    ensures { IfOk result (λ copies. copies ≡ names.now) }
-{
-    let mut copies = Vec::new(alloc);
-    for name in names {
-        copies.push(copy_bytes(alloc, name.as_slice())?)?;
-    }
-    Ok(Items::new(copies))
 }
 
 /// The same values.
@@ -35,13 +24,6 @@ pub fn copy_lens(alloc: Global, lens: &[u32]) -> Result<Items<u32>, OutOfMemory>
     ensures { IfOk result (λ copy. copy ≡ lens.now) }
 {
     Ok(Items::new(Vec::from_slice(alloc, lens)?))
-}
-
-/// The same sources.
-pub fn copy_sources(alloc: Global, sources: &[Source]) -> Result<Items<Source>, OutOfMemory>
-    ensures { IfOk result (λ copy. copy ≡ sources.now) }
-{
-    Ok(Items::new(Vec::from_slice(alloc, sources)?))
 }
 
 /// The same part of a path.
@@ -67,12 +49,12 @@ pub fn copy_guard(alloc: Global, guard: &Guard) -> Result<Guard, OutOfMemory>
 }
 
 /// The same guards, in order.
-pub fn copy_guards(alloc: Global, guards: &[Guard]) -> Result<Items<Guard>, OutOfMemory>
-    ensures { IfOk result (λ copies. copies ≡ guards.now) }
+pub fn copy_guards(alloc: Global, guards: &[Guard]) -> Result<Vec<Guard>, OutOfMemory>
+    ensures { IfOk result (λ copies. copies.items ≡ guards.now) }
 {
     let mut copies = Vec::new(alloc);
     for guard in guards {
         copies.push(copy_guard(alloc, guard)?)?;
     }
-    Ok(Items::new(copies))
+    Ok(copies)
 }

@@ -1,10 +1,11 @@
 //! Vertices of the resolved algorithm, with what is inside them.
 use body_lang::Body;
 use level_meaning::{Feed, Give, Guard, Part, Source};
+use shared_items::Shared;
 use syn_base::Items;
 
-/// What a vertex is. Explode, implode and merge are made by flattening; all others stand in a
-/// resolved algorithm.
+/// What a vertex is, which all uses of its definition share. Explode, implode and merge are made by
+/// flattening; all others stand in a resolved algorithm.
 #[derive(Drop)]
 pub enum Kind {
     /// The sensor of this number, counted from 0 in declared order.
@@ -12,40 +13,41 @@ pub enum Kind {
     /// The actuator of this number, counted from 0 in declared order.
     Actuator(u32),
     /// Its values.
-    Constant(Items<i64>),
+    Constant(Shared<i64>),
     /// Its initial values, a group for each active reaction that it looks back.
-    Delay(Items<Items<i64>>),
-    /// What it computes, which all uses of its definition share.
+    Delay(Shared<Items<i64>>),
+    /// What it computes.
     Function(Body),
     /// Gives the parts of its input.
     Explode,
     /// Gives its inputs, one after another.
     Implode,
     /// Gives the input of the case that its first input selects, by the values of the cases.
-    Merge(Items<i64>),
+    Merge(Shared<i64>),
     /// The sources of its outputs.
-    Graph(Items<Source>),
+    Graph(Shared<Source>),
     /// The values of its cases, and the names of its outputs. Its first input selects the case; the
     /// last case is `otherwise`.
-    Switch(Items<i64>, Items<Items<u8>>),
+    Switch(Shared<i64>, Shared<Items<u8>>),
     /// The number of copies, how each input of the body is fed, and the outputs.
-    Repeat(u32, Items<Feed>, Items<Give>),
+    Repeat(u32, Shared<Feed>, Shared<Give>),
 }
 
-/// A vertex: a reference, a case or a body, with what is inside it.
+/// A vertex: a reference, a case or a body, with what is inside it. Its lists are shared with other uses
+/// of its definition, so that it takes the same memory whatever its ports.
 pub struct Vertex {
     /// What it adds to the path around it.
     pub part: Part,
     /// The name of its definition.
-    pub definition: Items<u8>,
+    pub definition: Shared<u8>,
     /// The sources of its inputs, in port order.
-    pub ins: Items<Source>,
+    pub ins: Shared<Source>,
     /// The conditions under which it is active. A resolved algorithm has none.
-    pub guards: Items<Guard>,
+    pub guards: Shared<Guard>,
     /// The lengths of its outputs, in port order.
-    pub outs: Items<u32>,
+    pub outs: Shared<u32>,
     /// The names of its outputs, in port order; none where a pass of flattening makes the vertex.
-    pub names: Items<Items<u8>>,
+    pub names: Shared<Items<u8>>,
     pub kind: Kind,
     /// The vertices of a graph, the cases of a switch, the body of a repetition.
     pub inner: Vec<Vertex>,

@@ -5,8 +5,9 @@ ghost use Rattle.algo_tree.specs.View.{view};
 ghost use Rattle.conditioning_laws.specs.Guarded.{merge_of, merge_sources};
 ghost use Rattle.conditioning.specs.Listed.{merges_listed};
 
-use algo_tree::{Kind, Vertex, copy_bytes, copy_guards, copy_numbers};
+use algo_tree::{Kind, Vertex, copy_bytes};
 use level_meaning::{Guard, Part, Source};
+use shared_items::Shared;
 use std::alloc::Global;
 use syn_base::{Items, OutOfMemory, len_at, to_u32};
 
@@ -14,10 +15,10 @@ use syn_base::{Items, OutOfMemory, len_at, to_u32};
 /// them, the number of its conditioning input, the values of its cases, and the number of these.
 #[derive(Clone, Copy)]
 pub struct Switched<'a> {
-    pub definition: &'a [u8],
-    pub guards: &'a [Guard],
+    pub definition: &'a Shared<u8>,
+    pub guards: &'a Shared<Guard>,
     pub condition: u32,
-    pub values: &'a [i64],
+    pub values: &'a Shared<i64>,
     pub cases: u32,
 }
 
@@ -60,18 +61,20 @@ fn merge(
         switch.now.condition switch.now.values.now switch.now.cases output name.now len) }
 {
     let ins = merge_ins(alloc, switch.condition, switch.cases, output)?;
-    let outs = vec![in alloc; len]?;
+    let ins = Shared::new(alloc, ins)?;
+    let outs = Shared::new(alloc, vec![in alloc; len]?)?;
+    let names = Shared::empty(alloc)?;
     let name = copy_bytes(alloc, name)?;
-    let definition = copy_bytes(alloc, switch.definition)?;
-    let values = copy_numbers(alloc, switch.values)?;
-    let guards = copy_guards(alloc, switch.guards)?;
+    let definition = switch.definition.share()?;
+    let values = switch.values.share()?;
+    let guards = switch.guards.share()?;
     Ok(Vertex {
         part: Part::Port(name),
         definition,
-        ins: Items::new(ins),
+        ins,
         guards,
-        outs: Items::new(outs),
-        names: Items::new(Vec::new(alloc)),
+        outs,
+        names,
         kind: Kind::Merge(values),
         inner: Vec::new(alloc),
     })

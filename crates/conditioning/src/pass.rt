@@ -15,6 +15,7 @@ use crate::merges::{Switched, add_merges, merge_outputs};
 use crate::vertices::{as_graph, as_operation};
 use algo_tree::{Kind, Tree, Vertex};
 use level_meaning::{Guard, Source};
+use shared_items::Shared;
 use std::alloc::Global;
 use syn_base::{Items, OutOfMemory, to_u32};
 
@@ -31,23 +32,31 @@ pub fn guard(alloc: Global, tree: &Tree) -> Result<Tree, OutOfMemory>
     ensures names { HasNames tree.now → IfOk result (λ t. HasNames t) }
 {
     let main = tree.main();
-    Ok(Tree::new(guard_vertex(alloc, &[], 0, main)?))
+    Ok(Tree::new(guard_main(alloc, main)?))
+}
+
+/// The main graph without cases.
+fn guard_main(alloc: Global, main: &Vertex) -> Result<Vertex, OutOfMemory>
+    ensures { IfOk result (λ u. view u ≡ guarded_tree (view main.now)) }
+{
+    let none = Shared::empty(alloc)?;
+    let made = guard_vertex(alloc, &none, 0, main)?;
+    Ok(made)
 }
 
 /// The vertex under these guards, without cases, in a level that has `before` further inputs.
 #[cycle(guard)]
 fn guard_vertex(
     alloc: Global,
-    guards: &[Guard],
+    guards: &Shared<Guard>,
     before: u32,
     vertex: &Vertex,
 ) -> Result<Vertex, OutOfMemory>
     ensures { IfOk result (λ u. view u ≡ guarded guards.now before (view vertex.now)) }
 {
     match &vertex.kind {
-        Kind::Graph(outputs) => guard_graph(alloc, guards, before, vertex, outputs.as_slice()),
+        Kind::Graph(outputs) => guard_graph(alloc, guards, before, vertex, outputs),
         Kind::Switch(values, names) => {
-            let values = values.as_slice();
             guard_switch(alloc, guards, before, vertex, values, names.as_slice())
         }
         _ => as_operation(alloc, guards, before, vertex),
@@ -58,7 +67,7 @@ fn guard_vertex(
 #[cycle(guard)]
 fn guard_each(
     alloc: Global,
-    guards: &[Guard],
+    guards: &Shared<Guard>,
     before: u32,
     vertices: &Vec<Vertex>,
 ) -> Result<Vec<Vertex>, OutOfMemory>
@@ -75,18 +84,18 @@ fn guard_each(
 #[cycle(guard)]
 fn guard_graph(
     alloc: Global,
-    guards: &[Guard],
+    guards: &Shared<Guard>,
     before: u32,
     vertex: &Vertex,
-    outputs: &[Source],
+    outputs: &Shared<Source>,
 ) -> Result<Vertex, OutOfMemory>
     requires { (out-Vertex vertex.now).kind ≡ Kind.Graph outputs.now }
     ensures { IfOk result (λ u. view u ≡ guarded guards.now before (view vertex.now)) }
 {
     let own = own_guards(alloc, guards)?;
-    let handed = to_u32(guards.len())?;
+    let handed = to_u32(guards.as_slice().len())?;
     let outputs = shift_sources(alloc, handed, outputs)?;
-    let inner = guard_each(alloc, own.as_slice(), handed, &vertex.inner)?;
+    let inner = guard_each(alloc, &own, handed, &vertex.inner)?;
     as_graph(alloc, guards, before, vertex, outputs, inner)
 }
 
@@ -94,23 +103,23 @@ fn guard_graph(
 #[cycle(guard)]
 fn guard_switch(
     alloc: Global,
-    guards: &[Guard],
+    guards: &Shared<Guard>,
     before: u32,
     vertex: &Vertex,
-    values: &[i64],
+    values: &Shared<i64>,
     names: &[Items<u8>],
 ) -> Result<Vertex, OutOfMemory>
     requires { (out-Vertex vertex.now).kind ≡ Kind.Switch values.now names.now }
     ensures { IfOk result (λ u. view u ≡ guarded guards.now before (view vertex.now)) }
 {
     let own = own_guards(alloc, guards)?;
-    let handed = to_u32(guards.len())?;
+    let handed = to_u32(guards.as_slice().len())?;
     let cases = to_u32(vertex.inner.len())?;
-    let outputs = merge_outputs(alloc, cases, names.len())?;
-    let mut inner = guard_cases(alloc, own.as_slice(), handed, values, &vertex.inner)?;
+    let outputs = Shared::new(alloc, merge_outputs(alloc, cases, names.len())?)?;
+    let mut inner = guard_cases(alloc, &own, handed, values, &vertex.inner)?;
     let switch = Switched {
-        definition: vertex.definition.as_slice(),
-        guards: own.as_slice(),
+        definition: &vertex.definition,
+        guards: &own,
         condition: handed,
         values,
         cases,
@@ -123,9 +132,9 @@ fn guard_switch(
 #[cycle(guard)]
 fn guard_cases(
     alloc: Global,
-    guards: &[Guard],
+    guards: &Shared<Guard>,
     handed: u32,
-    values: &[i64],
+    values: &Shared<i64>,
     vertices: &Vec<Vertex>,
 ) -> Result<Vec<Vertex>, OutOfMemory>
     ensures { IfOk result (λ us. map view us.items ≡
@@ -135,7 +144,7 @@ fn guard_cases(
     for vertex in vertices {
         let case = to_u32(all.len())?;
         let inside = guards_of_case(alloc, guards, handed, values, case)?;
-        all.push(guard_vertex(alloc, inside.as_slice(), handed, vertex)?)?;
+        all.push(guard_vertex(alloc, &inside, handed, vertex)?)?;
     }
     Ok(all)
 }

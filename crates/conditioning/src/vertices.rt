@@ -5,8 +5,9 @@ ghost use Rattle.algo_tree.specs.View.{kind_view, label_view, view, vertices_vie
 ghost use Rattle.conditioning_laws.specs.Guarded.{graph_under, operation_under};
 
 use crate::conditions::{graph_inputs, guards_under, shift_sources};
-use algo_tree::{Kind, Vertex, copy_bytes, copy_kind, copy_lens, copy_names, copy_part};
+use algo_tree::{Kind, Vertex, copy_part, share_kind};
 use level_meaning::{Guard, Part, Source};
+use shared_items::Shared;
 use std::alloc::Global;
 use syn_base::{Items, OutOfMemory};
 
@@ -14,12 +15,12 @@ use syn_base::{Items, OutOfMemory};
 #[derive(Drop)]
 struct Kept {
     part: Part,
-    definition: Items<u8>,
-    outs: Items<u32>,
-    names: Items<Items<u8>>,
+    definition: Shared<u8>,
+    outs: Shared<u32>,
+    names: Shared<Items<u8>>,
 }
 
-/// Copies of what a vertex keeps.
+/// What a vertex keeps, its part copied and its lists shared.
 fn kept_of(alloc: Global, vertex: &Vertex) -> Result<Kept, OutOfMemory>
     ensures { IfOk result (λ kept. kept ≡ record {
       part = (out-Vertex vertex.now).part;
@@ -28,9 +29,9 @@ fn kept_of(alloc: Global, vertex: &Vertex) -> Result<Kept, OutOfMemory>
       names = (out-Vertex vertex.now).names;
     }) }
 {
-    let definition = copy_bytes(alloc, vertex.definition.as_slice())?;
-    let outs = copy_lens(alloc, vertex.outs.as_slice())?;
-    let names = copy_names(alloc, vertex.names.as_slice())?;
+    let definition = vertex.definition.share()?;
+    let outs = vertex.outs.share()?;
+    let names = vertex.names.share()?;
     let part = copy_part(alloc, &vertex.part)?;
     Ok(Kept {
         part,
@@ -43,22 +44,22 @@ fn kept_of(alloc: Global, vertex: &Vertex) -> Result<Kept, OutOfMemory>
 /// An operation under these guards, in a level that has `before` further inputs.
 pub fn as_operation(
     alloc: Global,
-    guards: &[Guard],
+    guards: &Shared<Guard>,
     before: u32,
     vertex: &Vertex,
 ) -> Result<Vertex, OutOfMemory>
     ensures { IfOk result (λ u. view u ≡ operation_under guards.now before
         (label_view (out-Vertex vertex.now)) (kind_view (out-Vertex vertex.now).kind)) }
 {
-    let ins = shift_sources(alloc, before, vertex.ins.as_slice())?;
+    let ins = shift_sources(alloc, before, &vertex.ins)?;
     let guards = guards_under(alloc, guards, before, vertex.guards.as_slice())?;
     let kept = kept_of(alloc, vertex)?;
-    let kind = copy_kind(alloc, &vertex.kind)?;
+    let kind = share_kind(&vertex.kind)?;
     Ok(Vertex {
         part: kept.part,
         definition: kept.definition,
-        ins: Items::new(ins),
-        guards: Items::new(guards),
+        ins,
+        guards,
         outs: kept.outs,
         names: kept.names,
         kind,
@@ -70,25 +71,26 @@ pub fn as_operation(
 /// that has `before` further inputs.
 pub fn as_graph(
     alloc: Global,
-    guards: &[Guard],
+    guards: &Shared<Guard>,
     before: u32,
     vertex: &Vertex,
-    outputs: Vec<Source>,
+    outputs: Shared<Source>,
     inner: Vec<Vertex>,
 ) -> Result<Vertex, OutOfMemory>
     ensures { IfOk result (λ u. view u ≡ graph_under guards.now before
-        (label_view (out-Vertex vertex.now)) outputs.items (vertices_view inner.items)) }
+        (label_view (out-Vertex vertex.now)) outputs (vertices_view inner.items)) }
 {
-    let ins = graph_inputs(alloc, guards, before, vertex.ins.as_slice())?;
+    let ins = graph_inputs(alloc, guards.as_slice(), before, &vertex.ins)?;
+    let guards = vertex.guards.emptied(alloc)?;
     let kept = kept_of(alloc, vertex)?;
     Ok(Vertex {
         part: kept.part,
         definition: kept.definition,
-        ins: Items::new(ins),
-        guards: Items::new(Vec::new(alloc)),
+        ins,
+        guards,
         outs: kept.outs,
         names: kept.names,
-        kind: Kind::Graph(Items::new(outputs)),
+        kind: Kind::Graph(outputs),
         inner,
     })
 }

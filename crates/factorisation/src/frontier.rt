@@ -9,8 +9,9 @@ ghost use Rattle.factorisation_laws.specs.Unrolled.{made as vertex_made, explode
 use crate::lines::place_of;
 use algo_tree::{Kind, MOST_VERTICES, Vertex, copy_bytes};
 use level_meaning::{Feed, Give, Part, Source};
+use shared_items::Shared;
 use std::alloc::Global;
-use syn_base::{Items, OutOfMemory, len_at};
+use syn_base::{OutOfMemory, len_at};
 
 /// The copies of a repetition: the number of the first, and how many there are.
 #[derive(Clone, Copy)]
@@ -22,7 +23,7 @@ pub struct Copies {
 /// A vertex that flattening makes for a port of a repetition of this definition.
 fn vertex_for_port(
     alloc: Global,
-    definition: &[u8],
+    definition: &Shared<u8>,
     name: &[u8],
     ins: Vec<Source>,
     outs: Vec<u32>,
@@ -30,15 +31,17 @@ fn vertex_for_port(
 ) -> Result<Vertex, OutOfMemory>
     ensures { IfOk result (λ u. view u ≡ vertex_made definition.now name.now ins.items outs.items (kind_view kind)) }
 {
-    let name = copy_bytes(alloc, name)?;
-    let definition = copy_bytes(alloc, definition)?;
+    let ins = Shared::new(alloc, ins)?;
+    let outs = Shared::new(alloc, outs)?;
+    let guards = Shared::empty(alloc)?;
+    let names = Shared::empty(alloc)?;
     Ok(Vertex {
-        part: Part::Port(name),
-        definition,
-        ins: Items::new(ins),
-        guards: Items::new(Vec::new(alloc)),
-        outs: Items::new(outs),
-        names: Items::new(Vec::new(alloc)),
+        part: Part::Port(copy_bytes(alloc, name)?),
+        definition: definition.share()?,
+        ins,
+        guards,
+        outs,
+        names,
         kind,
         inner: Vec::new(alloc),
     })
@@ -54,7 +57,7 @@ fn same_lengths(alloc: Global, len: u32, count: u32) -> Result<Vec<u32>, OutOfMe
 /// An explode of an own input into `count` parts of this length.
 fn explode(
     alloc: Global,
-    definition: &[u8],
+    definition: &Shared<u8>,
     count: u32,
     name: &[u8],
     input: u32,
@@ -70,7 +73,7 @@ fn explode(
 /// An explode for each fork line among these lines.
 pub fn explodes(
     alloc: Global,
-    definition: &[u8],
+    definition: &Shared<u8>,
     count: u32,
     lines: &[&Feed],
 ) -> Result<Vec<Vertex>, OutOfMemory>
@@ -151,7 +154,7 @@ fn outputs_of(alloc: Global, copies: Copies, output: u32) -> Result<Vec<Source>,
 /// An implode of an output of each copy.
 fn implode(
     alloc: Global,
-    definition: &[u8],
+    definition: &Shared<u8>,
     copies: Copies,
     name: &[u8],
     output: u32,
@@ -168,7 +171,7 @@ fn implode(
 /// Adds an implode for each join line, in order, of the lengths of the repetition's outputs.
 pub fn add_implodes(
     alloc: Global,
-    definition: &[u8],
+    definition: &Shared<u8>,
     copies: Copies,
     outs: &[u32],
     gives: &[Give],

@@ -16,8 +16,10 @@ ghost use Rattle.algo_tree.specs.Size.{is_large as large, size, vertices_made, v
 
 use crate::frontier::{Copies, add_implodes, begin_of, explodes};
 use crate::lines::in_line_order;
-use crate::vertices::{as_copy, as_graph, with_inside};
-use algo_tree::{Kind, MOST_VERTICES, SizeError, Tree, Vertex, is_large};
+use crate::vertices::{as_copy, as_graph};
+use algo_tree::{
+    Kind, MOST_VERTICES, SizeError, Tree, Vertex, is_large, share_vertex, with_inside,
+};
 use level_meaning::{Feed, Give};
 use std::alloc::Global;
 use syn_base::OutOfMemory;
@@ -114,7 +116,7 @@ fn unroll_inside(
         unrolled_inside (label_of (view vertex.now)).definition copies.count feeds.now gives.now
         (label_of (view vertex.now)).outs (unroll_all (vertices_in (view vertex.now)))) }
 {
-    let definition = vertex.definition.as_slice();
+    let definition = &vertex.definition;
     let lines = in_line_order(alloc, feeds)?;
     let mut all = explodes(alloc, definition, copies.count, &lines)?;
     add_copies(alloc, &vertex.inner, copies, feeds, &lines, &mut all)?;
@@ -151,7 +153,7 @@ fn add_copies(
     add_copies_of(alloc, &inner[0], copies, feeds, lines, all)
 }
 
-/// Adds the copies of a body, each made anew.
+/// Adds the copies of a body, which is unrolled once.
 #[cycle(unroll)]
 fn add_copies_of(
     alloc: Global,
@@ -170,8 +172,9 @@ fn add_copies_of(
         copied copies.begin feeds.now copies.count
         (and_vertex (unrolled (view body.now)) no_vertices)) }
 {
+    let unrolled = unroll_vertex(alloc, body)?;
     for i in 0..copies.count {
-        let vertex = unroll_vertex(alloc, body)?;
+        let vertex = share_vertex(alloc, &unrolled)?;
         all.push(as_copy(alloc, vertex, copies, i, feeds, lines)?)?;
     }
     Ok(())

@@ -11,88 +11,11 @@ ghost use Rattle.pass_laws.specs.Relabelled.{with_kind};
 ghost use Rattle.factorisation_laws.specs.Unrolled.{copy, give_sources as sources_given};
 
 use crate::frontier::{Copies, copy_ins, give_sources};
-use algo_tree::{
-    Kind, MOST_VERTICES, Vertex, copy_bytes, copy_guards, copy_kind, copy_lens, copy_names,
-    copy_part, copy_sources,
-};
-use level_meaning::{Feed, Give, Guard, Part, Source};
+use algo_tree::{Kind, MOST_VERTICES, Vertex, rebuild};
+use level_meaning::{Feed, Give, Part};
+use shared_items::Shared;
 use std::alloc::Global;
-use syn_base::{Items, OutOfMemory};
-
-/// What is said of a vertex beside its kind.
-#[derive(Drop)]
-struct Label {
-    part: Part,
-    definition: Items<u8>,
-    ins: Items<Source>,
-    guards: Items<Guard>,
-    outs: Items<u32>,
-    names: Items<Items<u8>>,
-}
-
-/// A copy of what is said of this vertex beside its kind.
-fn copy_label(alloc: Global, vertex: &Vertex) -> Result<Label, OutOfMemory>
-    ensures { IfOk result (λ b. b ≡ record {
-      part = (out-Vertex vertex.now).part;
-      definition = (out-Vertex vertex.now).definition;
-      ins = (out-Vertex vertex.now).ins;
-      guards = (out-Vertex vertex.now).guards;
-      outs = (out-Vertex vertex.now).outs;
-      names = (out-Vertex vertex.now).names;
-    }) }
-{
-    let definition = copy_bytes(alloc, vertex.definition.as_slice())?;
-    let outs = copy_lens(alloc, vertex.outs.as_slice())?;
-    let names = copy_names(alloc, vertex.names.as_slice())?;
-    let ins = copy_sources(alloc, vertex.ins.as_slice())?;
-    let guards = copy_guards(alloc, vertex.guards.as_slice())?;
-    let part = copy_part(alloc, &vertex.part)?;
-    Ok(Label {
-        part,
-        definition,
-        ins,
-        guards,
-        outs,
-        names,
-    })
-}
-
-/// A vertex with another kind, and other vertices inside.
-fn rebuild(
-    alloc: Global,
-    vertex: &Vertex,
-    kind: Kind,
-    inner: Vec<Vertex>,
-) -> Result<Vertex, OutOfMemory>
-    ensures { IfOk result (λ u. view u ≡ plain_vertex
-        (with_kind (label_view (out-Vertex vertex.now)) (kind_view kind))
-        (vertices_view inner.items)) }
-{
-    let copy = copy_label(alloc, vertex)?;
-    Ok(Vertex {
-        part: copy.part,
-        definition: copy.definition,
-        ins: copy.ins,
-        guards: copy.guards,
-        outs: copy.outs,
-        names: copy.names,
-        kind,
-        inner,
-    })
-}
-
-/// The same vertex, with other vertices inside.
-pub fn with_inside(
-    alloc: Global,
-    vertex: &Vertex,
-    inner: Vec<Vertex>,
-) -> Result<Vertex, OutOfMemory>
-    ensures { IfOk result (λ u. view u ≡ plain_vertex (label_view (out-Vertex vertex.now))
-        (vertices_view inner.items)) }
-{
-    let kind = copy_kind(alloc, &vertex.kind)?;
-    rebuild(alloc, vertex, kind, inner)
-}
+use syn_base::OutOfMemory;
 
 /// The graph that a repetition with these copies and outputs becomes, with what stands inside it.
 pub fn as_graph(
@@ -111,7 +34,8 @@ pub fn as_graph(
         (vertices_view inner.items)) }
 {
     let sources = give_sources(alloc, copies, gives)?;
-    rebuild(alloc, vertex, Kind::Graph(Items::new(sources)), inner)
+    let kind = Kind::Graph(Shared::new(alloc, sources)?);
+    rebuild(alloc, vertex, kind, inner)
 }
 
 /// Makes of an unrolled body the copy number `i`.
@@ -130,8 +54,9 @@ pub fn as_copy(
         (vertices_in (view body)) i) }
 {
     let ins = copy_ins(alloc, copies, i, feeds, lines)?;
+    let guards = body.guards.emptied(alloc)?;
     body.part = Part::Numbered(i);
-    body.ins = Items::new(ins);
-    body.guards = Items::new(Vec::new(alloc));
+    body.ins = Shared::new(alloc, ins)?;
+    body.guards = guards;
     Ok(body)
 }

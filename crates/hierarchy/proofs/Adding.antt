@@ -1,5 +1,7 @@
 -- What adding the operations of a vertex asks for, and what it answers, seen at a declared vertex.
-use Rattle.std.proofs.Common.{◌≡◌, ℕ, zero, suc, ◌+◌, ◌*◌, ◌<◌, List, [], ◌∷◌, ◌++◌, length, get_or, map, drop, drop-cons, refl, sym, ap, ap₂, ◌∙◌, subst, arith}
+use Rattle.std.proofs.Common.{◌≡◌, ◌≢◌, ◌==◌, ◌⊎◌, inl, inr, true, false, min, ℕ, zero, suc, ◌+◌, ◌-◌, ◌*◌, ◌^◌, ◌<◌, List, [], ◌∷◌, ◌++◌, length, get_or, map, drop, drop-cons, append-nil, refl, sym, ap, ap₂, ◌∙◌, subst, arith}
+use Rattle.std.proofs.lemmas.Bool.{eq-eqb, ne_eqb}
+use Rattle.std.proofs.lemmas.Bool.Decides.{eqb_tells}
 use Rattle.level_meaning.specs.declared.source.Source.{Source}
 use Rattle.level_meaning.specs.Level.{Vector, Path}
 use Rattle.level_meaning.specs.Order.{IsAcyclic}
@@ -17,6 +19,7 @@ use Rattle.flat_graph.specs.Graph.{Graph as Flat}
 use Rattle.inlining_laws.specs.Flat.{Operation, runs}
 use Rattle.inlining_laws.specs.Inlined.{wire, wirings, wire_guard, operation_of, stages, inlined_by, inlined, inlined_all, inlined_level, operations}
 use Rattle.inlining_laws.specs.Plain.{IsKindPlain, IsPlain, AllPlain}
+use Rattle.inlining_laws.proofs.Wires.{long-plain}
 use Rattle.operation_paths.specs.Named.{IsLabelNamed, IsNamed, AllNamed}
 use Rattle.level_order.specs.Order.{nodes_of}
 use Rattle.level_order.proofs.Nodes.{nodes_view}
@@ -143,3 +146,21 @@ main_linked u tree plain n none at =
 
 pub level_linked : (w : Source → Source) (own : List Source) (first n : ℕ) (us : Vertices) → first ≡ n → w ≡ wire (wirings first us) own → ((at : Path → Path) → AllLinked (inlined_level own n at us)) → (at : Path → Path) → AllLinked (inlined_all w n at us)
 level_linked w own first n us number leads linked at = subst (λ f. AllLinked (inlined_all f n at us)) (sym (leads ∙ ap (λ b. wire (wirings b us) own) number)) (linked at)
+
+-- a count that stops at a bound is 0 where the whole one is
+pub idle_capped : (n r : ℕ) → r ≡ min n (2 ^ 64 - 1) → (r == 0) ≡ (n == 0)
+idle_capped n r h = by (eqb_tells n 0)
+  where
+    by : (((n == 0) ≡ true) × (n ≡ 0)) ⊎ (((n == 0) ≡ false) × (n ≢ 0)) → (r == 0) ≡ (n == 0)
+    by (inl is) = eq-eqb r 0 (omega (arith, h, is.1)) ∙ sym is.0
+    by (inr some) = ne_eqb r 0 (λ none. some.1 (omega (arith, h, none))) ∙ sym some.0
+
+-- a graph without operations
+none_there : {A : Type 0} (xs : List A) → length xs ≡ 0 → xs ≡ []
+none_there [] h = refl
+none_there (x ∷ xs) h = absurd (omega (arith, h))
+
+pub nothing_added : (w : Source → Source) (u : Declared) → IsPlain (view u) → count (view u) ≡ 0 → (g : Flat) (at : Path → Path) → Adds g g (λ b. inlined w b at (view u))
+nothing_added w u plain none g at ops h =
+    let empty : inlined w (length ops) at (view u) ≡ [] = none_there (inlined w (length ops) at (view u)) (long-plain w (length ops) at (view u) plain ∙ none) in
+    subst (λ xs. Built g (ops ++ xs)) (sym empty) (subst (Built g) (sym (append-nil ops)) h)

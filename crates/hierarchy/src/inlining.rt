@@ -1,5 +1,5 @@
 //! The inlining of graphs: from a tree without repetitions and cases to its operations. `pass` calls it.
-ghost use Rattle.std.specs.Prelude.{◌≡◌, ◌+◌, [], ◌∷◌, IfOk, OnOk, length};
+ghost use Rattle.std.specs.Prelude.{◌≡◌, ◌==◌, ◌+◌, [], ◌∷◌, IfOk, OnOk, length};
 ghost use Rattle.level_meaning.specs.Level.{Path};
 ghost use Rattle.level_meaning.specs.Order.{IsAcyclic};
 ghost use Rattle.algo_tree.specs.declared.vertex.Vertex.{out-Vertex};
@@ -140,7 +140,14 @@ fn add_vertex(
     }
 }
 
-/// Adds the operations inside a graph, whose path has this text.
+/// Whether a vertex stands for no operation.
+fn is_idle(vertex: &Vertex) -> bool
+    ensures { result ≡ (count (view vertex.now) == 0) }
+{
+    count_operations(vertex) == 0
+}
+
+/// Adds the operations inside a graph, whose path has this text. A graph without operations is not gone into.
 #[cycle(add)]
 fn add_graph(
     alloc: Global,
@@ -164,6 +171,9 @@ fn add_graph(
         Adds (graph_of all.old) (graph_of all.new)
         (λ b. inlined (led level.now.leds.now level.now.own.now) b at (view vertex.now))) }
 {
+    if is_idle(vertex) {
+        return Ok(());
+    }
     let own = follow_all(alloc, level, vertex.ins.as_slice())?;
     add_level(alloc, &own, text, &vertex.inner, all)
 }

@@ -82,11 +82,6 @@ pub marked_answered : (u : Declared) (m : Mark) (r : Result Declared OutOfMemory
 marked_answered u m (Ok w) is = is ∙ ap (period_by (Some m)) (sym (view_out u))
 marked_answered u m (Err e) is = tt
 
-pub copied_answered : (u : Declared) (us : List Declared) (r : Result Declared OutOfMemory) → map view us ≡ map view (out-Vertex u).inner.items
-    → IfOk r (λ w. view w ≡ vertex (label_seen u) (vertices_view us)) → IfOk r (λ w. view w ≡ view u)
-copied_answered u us (Ok w) inside is = is ∙ ap (λ vs. vertex (label_seen u) (vertices_of vs)) inside ∙ sym (view_out u)
-copied_answered u us (Err e) inside is = tt
-
 pub each_below : (n : ℕ) (ms : List Mark) → AreOnce n ms → All (λ m. m.reference < n) ms
 each_below n [] h k d lt = absurd (omega arith)
 each_below n (m ∷ ms) h zero d lt = h.0.0

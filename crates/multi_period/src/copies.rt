@@ -1,88 +1,35 @@
-//! Copies of vertices, of which the pass makes others.
-ghost use Rattle.std.specs.Prelude.{◌≡◌, IfOk, map};
+//! Vertices made of others, with which they share their lists: for the pass.
+ghost use Rattle.std.specs.Prelude.{◌≡◌, IfOk};
 ghost use Rattle.algo_tree.specs.View.{kind_view, view};
 ghost use Rattle.multi_period.specs.Periods.{run as runs};
 ghost use Rattle.multi_period.specs.Seen.{AreKept, ArePorts, label_seen, of_seen, relabelled as labelled, with_inner};
 
 use crate::ports::{Ports, inputs_from};
-use algo_tree::{
-    Kind, Vertex, copy_bytes, copy_guards, copy_kind, copy_lens, copy_names, copy_part,
-    copy_sources,
-};
+use algo_tree::{Kind, Vertex, copy_bytes, share_each, share_kind};
 use level_meaning::{Part, Source};
+use shared_items::Shared;
 use std::alloc::Global;
 use syn_base::{Items, OutOfMemory};
-
-/// The same vertex, with copies of all that is inside it.
-#[cycle(copy)]
-pub fn copy_vertex(alloc: Global, vertex: &Vertex) -> Result<Vertex, OutOfMemory>
-    ensures { IfOk result (λ u. view u ≡ view vertex.now) }
-{
-    let inner = copy_each(alloc, &vertex.inner)?;
-    with_inside(alloc, vertex, inner)
-}
-
-/// The same vertices.
-#[cycle(copy)]
-fn copy_each(alloc: Global, vertices: &Vec<Vertex>) -> Result<Vec<Vertex>, OutOfMemory>
-    ensures { IfOk result (λ us. map view us.items ≡ map view vertices.now.items) }
-{
-    let mut all = Vec::new(alloc);
-    for vertex in vertices {
-        all.push(copy_vertex(alloc, vertex)?)?;
-    }
-    Ok(all)
-}
 
 /// What a vertex has whatever its part, its inputs and its kind.
 #[derive(Drop)]
 struct Kept {
-    definition: Items<u8>,
-    outs: Items<u32>,
-    names: Items<Items<u8>>,
+    definition: Shared<u8>,
+    outs: Shared<u32>,
+    names: Shared<Items<u8>>,
 }
 
-/// Copies of what a vertex keeps.
-fn copy_kept(alloc: Global, vertex: &Vertex) -> Result<Kept, OutOfMemory>
+/// What a vertex keeps, shared.
+fn share_kept(vertex: &Vertex) -> Result<Kept, OutOfMemory>
     ensures { IfOk result (λ kept. AreKept kept (label_seen vertex.now)) }
 {
-    let definition = copy_bytes(alloc, vertex.definition.as_slice())?;
-    let outs = copy_lens(alloc, vertex.outs.as_slice())?;
-    let names = copy_names(alloc, vertex.names.as_slice())?;
+    let definition = vertex.definition.share()?;
+    let outs = vertex.outs.share()?;
+    let names = vertex.names.share()?;
     Ok(Kept {
         definition,
         outs,
         names,
-    })
-}
-
-/// What is said of a vertex, with these vertices inside.
-pub fn with_inside(
-    alloc: Global,
-    vertex: &Vertex,
-    inner: Vec<Vertex>,
-) -> Result<Vertex, OutOfMemory>
-    ensures { IfOk result (λ u. view u ≡ with_inner (label_seen vertex.now) inner.items) }
-{
-    let ins = copy_sources(alloc, vertex.ins.as_slice())?;
-    let guards = copy_guards(alloc, vertex.guards.as_slice())?;
-    let kept = copy_kept(alloc, vertex)?;
-    let part = copy_part(alloc, &vertex.part)?;
-    let kind = copy_kind(alloc, &vertex.kind)?;
-    let Kept {
-        definition,
-        outs,
-        names,
-    } = kept;
-    Ok(Vertex {
-        part,
-        definition,
-        ins,
-        guards,
-        outs,
-        names,
-        kind,
-        inner,
     })
 }
 
@@ -91,7 +38,7 @@ pub fn relabelled(
     alloc: Global,
     vertex: &Vertex,
     part: Part,
-    ins: Items<Source>,
+    ins: Shared<Source>,
     kind: Kind,
     inner: Vec<Vertex>,
 ) -> Result<Vertex, OutOfMemory>
@@ -102,12 +49,13 @@ pub fn relabelled(
         definition,
         outs,
         names,
-    } = copy_kept(alloc, vertex)?;
+    } = share_kept(vertex)?;
+    let guards = vertex.guards.emptied(alloc)?;
     Ok(Vertex {
         part,
         definition,
         ins,
-        guards: Items::new(Vec::new(alloc)),
+        guards,
         outs,
         names,
         kind,
@@ -122,8 +70,8 @@ pub fn run(alloc: Global, vertex: &Vertex, ports: Ports) -> Result<Vertex, OutOf
 {
     let ins = inputs_from(alloc, 0, ports.ins)?;
     let name = copy_bytes(alloc, b"run")?;
-    let kind = copy_kind(alloc, &vertex.kind)?;
-    let inner = copy_each(alloc, &vertex.inner)?;
+    let kind = share_kind(&vertex.kind)?;
+    let inner = share_each(alloc, &vertex.inner)?;
     let part = Part::Named(name);
-    relabelled(alloc, vertex, part, Items::new(ins), kind, inner)
+    relabelled(alloc, vertex, part, Shared::new(alloc, ins)?, kind, inner)
 }

@@ -9,8 +9,9 @@ ghost use Rattle.multi_period.specs.Seen.{ArePorts, body_ins as ins_of_body, bot
 use crate::copies::{relabelled, run};
 use crate::mark::Mark;
 use crate::ports::{Ports, firsts, inputs_from, outputs_of, ports_of};
-use algo_tree::{Kind, Vertex, copy_bytes, copy_lens, copy_names, copy_part, copy_sources};
+use algo_tree::{Kind, Vertex, copy_bytes, copy_part};
 use level_meaning::{Part, Source};
+use shared_items::Shared;
 use std::alloc::Global;
 use syn_base::{Items, OutOfMemory, len_at};
 
@@ -19,21 +20,24 @@ fn make_vertex(
     alloc: Global,
     part: Part,
     ins: Vec<Source>,
-    outs: Items<u32>,
+    outs: Shared<u32>,
     kind: Kind,
     inner: Vec<Vertex>,
 ) -> Result<Vertex, OutOfMemory>
     ensures { let inside = vertices_view inner.items in
         IfOk result (λ u. view u ≡ vertex_made part ins.items outs (kind_view kind) inside) }
 {
-    let definition = copy_bytes(alloc, b"every")?;
+    let definition = Shared::new(alloc, Vec::from_slice(alloc, b"every")?)?;
+    let ins = Shared::new(alloc, ins)?;
+    let guards = Shared::empty(alloc)?;
+    let names = Shared::empty(alloc)?;
     Ok(Vertex {
         part,
         definition,
-        ins: Items::new(ins),
-        guards: Items::new(Vec::new(alloc)),
+        ins,
+        guards,
         outs,
-        names: Items::new(Vec::new(alloc)),
+        names,
         kind,
         inner,
     })
@@ -52,7 +56,7 @@ fn with_outputs(
         let outs = (label_seen vertex.now).outs in
         IfOk result (λ u. view u ≡ vertex_made part ins.items outs (kind_view kind) inside) }
 {
-    let outs = copy_lens(alloc, vertex.outs.as_slice())?;
+    let outs = vertex.outs.share()?;
     make_vertex(alloc, part, ins, outs, kind, inner)
 }
 
@@ -90,18 +94,18 @@ fn count(alloc: Global, every: u32) -> Result<Vertex, OutOfMemory>
     ensures { IfOk result (λ u. view u ≡ counted every) }
 {
     let ins = vec![in alloc; Source::Of(0, 0)]?;
-    let outs = Items::new(vec![in alloc; 1]?);
+    let outs = Shared::new(alloc, vec![in alloc; 1]?)?;
     let name = copy_bytes(alloc, b"count")?;
-    let kind = Kind::Delay(Items::new(turns(alloc, every)?));
+    let kind = Kind::Delay(Shared::new(alloc, turns(alloc, every)?)?);
     make_vertex(alloc, Part::Named(name), ins, outs, kind, Vec::new(alloc))
 }
 
 /// One group of as many zeros as an output has elements.
-fn zeros(alloc: Global, len: u32) -> Result<Items<Items<i64>>, OutOfMemory>
+fn zeros(alloc: Global, len: u32) -> Result<Shared<Items<i64>>, OutOfMemory>
     ensures { IfOk result (λ vs. vs ≡ zeroed len ∷ []) }
 {
     let group = Items::new(vec![in alloc; 0i64; len as usize]?);
-    Ok(Items::new(vec![in alloc; group]?))
+    Shared::new(alloc, vec![in alloc; group]?)
 }
 
 /// The name of what keeps the output of this number.
@@ -123,7 +127,7 @@ fn keep(alloc: Global, vertex: &Vertex, ports: Ports, output: u32) -> Result<Ver
     let len = len_at(vertex.outs.as_slice(), output as usize);
     let name = keep_name(alloc, vertex.names.as_slice(), output as usize)?;
     let ins = vec![in alloc; Source::Of(ports.switch, output)]?;
-    let outs = Items::new(vec![in alloc; len]?);
+    let outs = Shared::new(alloc, vec![in alloc; len]?)?;
     let kind = Kind::Delay(zeros(alloc, len)?);
     make_vertex(alloc, Part::Named(name), ins, outs, kind, Vec::new(alloc))
 }
@@ -137,7 +141,7 @@ fn when_runs(alloc: Global, vertex: &Vertex, ports: Ports) -> Result<Vertex, Out
     let outputs = outputs_of(alloc, 0, ports.outs)?;
     let mut inner = Vec::new(alloc);
     inner.push(run(alloc, vertex, ports)?)?;
-    let kind = Kind::Graph(Items::new(outputs));
+    let kind = Kind::Graph(Shared::new(alloc, outputs)?);
     with_outputs(alloc, vertex, Part::Numbered(0), ins, kind, inner)
 }
 
@@ -147,7 +151,7 @@ fn otherwise(alloc: Global, vertex: &Vertex, ports: Ports) -> Result<Vertex, Out
     ensures { IfOk result (λ u. view u ≡ kept_on (label_seen vertex.now)) }
 {
     let ins = inputs_from(alloc, ports.kept, ports.outs)?;
-    let kind = Kind::Graph(Items::new(inputs_from(alloc, 0, ports.outs)?));
+    let kind = Kind::Graph(Shared::new(alloc, inputs_from(alloc, 0, ports.outs)?)?);
     with_outputs(alloc, vertex, Part::Numbered(1), ins, kind, Vec::new(alloc))
 }
 
@@ -174,11 +178,11 @@ fn cases(alloc: Global, vertex: &Vertex, ports: Ports) -> Result<Vec<Vertex>, Ou
 }
 
 /// A switch whose first case runs at 0, and whose outputs have these names.
-fn switch_at_zero(alloc: Global, names: &[Items<u8>]) -> Result<Kind, OutOfMemory>
+fn switch_at_zero(alloc: Global, names: &Shared<Items<u8>>) -> Result<Kind, OutOfMemory>
     ensures { IfOk result (λ kind. kind_view kind ≡ switch (pos 0 ∷ []) names.now) }
 {
-    let names = copy_names(alloc, names)?;
-    Ok(Kind::Switch(number(alloc, 0)?, names))
+    let values = Shared::new(alloc, vec![in alloc; 0]?)?;
+    Ok(Kind::Switch(values, names.share()?))
 }
 
 /// The switch between the two cases.
@@ -188,7 +192,7 @@ fn body(alloc: Global, vertex: &Vertex, ports: Ports) -> Result<Vertex, OutOfMem
 {
     let ins = body_ins(alloc, ports)?;
     let name = copy_bytes(alloc, b"body")?;
-    let kind = switch_at_zero(alloc, vertex.names.as_slice())?;
+    let kind = switch_at_zero(alloc, &vertex.names)?;
     let inner = cases(alloc, vertex, ports)?;
     with_outputs(alloc, vertex, Part::Named(name), ins, kind, inner)
 }
@@ -218,10 +222,10 @@ pub fn period(alloc: Global, vertex: &Vertex, mark: Mark) -> Result<Vertex, OutO
     ensures { IfOk result (λ u. view u ≡ of_seen (perioded mark) vertex.now) }
 {
     let ports = ports_of(vertex)?;
-    let ins = copy_sources(alloc, vertex.ins.as_slice())?;
+    let ins = vertex.ins.share()?;
     let outputs = outputs_of(alloc, ports.switch, ports.outs)?;
     let part = copy_part(alloc, &vertex.part)?;
     let inner = parts(alloc, vertex, ports, mark)?;
-    let kind = Kind::Graph(Items::new(outputs));
+    let kind = Kind::Graph(Shared::new(alloc, outputs)?);
     relabelled(alloc, vertex, part, ins, kind, inner)
 }

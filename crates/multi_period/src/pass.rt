@@ -14,13 +14,12 @@ ghost use Rattle.multi_period.specs.Periods.{period_by as one_period, all_period
 ghost use Rattle.multi_period.specs.Seen.{label_seen};
 ghost use Rattle.multi_period.specs.Within.{Gives, made_within};
 
-use crate::copies::{copy_vertex, with_inside};
 use crate::count::added;
 use crate::fault::PeriodError;
 use crate::graph::period;
 use crate::mark::Mark;
 use crate::table::mark_table;
-use algo_tree::{Tree, Vertex};
+use algo_tree::{Tree, Vertex, share_vertex, with_inside};
 use std::alloc::Global;
 use syn_base::{LimitFault, LimitKind, OutOfMemory};
 
@@ -100,6 +99,6 @@ fn period_by(alloc: Global, vertex: &Vertex, mark: Option<Mark>) -> Result<Verte
 {
     match mark {
         Some(mark) => period(alloc, vertex, mark),
-        None => copy_vertex(alloc, vertex),
+        None => share_vertex(alloc, vertex),
     }
 }

@@ -1,15 +1,13 @@
 //! Built trees: repetitions of repetitions of nothing (`algo_tree`), which are counted and not made.
 use crate::parts::{graph, vertex};
 use algo_tree::{Kind, MOST_VERTICES, Vertex, count_vertices};
+use shared_items::Shared;
 use std::alloc::Global;
 use std::test::Fail;
-use syn_base::Items;
 
 /// 64 copies of a body without ports.
 fn repeated(alloc: Global, body: Vertex) -> Result<Vertex, Fail> {
-    let feeds = Items::new(Vec::new(alloc));
-    let gives = Items::new(Vec::new(alloc));
-    let kind = Kind::Repeat(64, feeds, gives);
+    let kind = Kind::Repeat(64, Shared::empty(alloc)?, Shared::empty(alloc)?);
     vertex(alloc, b"r", kind, &[], &[], vec![in alloc; body]?)
 }
 

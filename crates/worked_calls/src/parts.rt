@@ -3,6 +3,7 @@
 use algo_tree::{Kind, Vertex};
 use body_lang::{Body, Expr};
 use level_meaning::{Part, Source};
+use shared_items::Shared;
 use std::alloc::Global;
 use std::test::Fail;
 use syn_base::Items;
@@ -18,11 +19,11 @@ pub fn vertex(
 ) -> Result<Vertex, Fail> {
     Ok(Vertex {
         part: Part::Named(Items::new(Vec::from_slice(alloc, name)?)),
-        definition: Items::new(Vec::from_slice(alloc, b"D")?),
-        ins: Items::new(Vec::from_slice(alloc, ins)?),
-        guards: Items::new(Vec::new(alloc)),
-        outs: Items::new(Vec::from_slice(alloc, outs)?),
-        names: Items::new(Vec::new(alloc)),
+        definition: Shared::new(alloc, Vec::from_slice(alloc, b"D")?)?,
+        ins: Shared::new(alloc, Vec::from_slice(alloc, ins)?)?,
+        guards: Shared::empty(alloc)?,
+        outs: Shared::new(alloc, Vec::from_slice(alloc, outs)?)?,
+        names: Shared::empty(alloc)?,
         kind,
         inner,
     })
@@ -41,14 +42,14 @@ pub fn leaf(
 
 /// A graph without ports.
 pub fn graph(alloc: Global, name: &[u8], inner: Vec<Vertex>) -> Result<Vertex, Fail> {
-    let kind = Kind::Graph(Items::new(Vec::new(alloc)));
+    let kind = Kind::Graph(Shared::empty(alloc)?);
     vertex(alloc, name, kind, &[], &[], inner)
 }
 
 /// A delay with an output of one element, which begins with these values.
 pub fn delay(alloc: Global, values: &[i64], source: Source) -> Result<Vertex, Fail> {
     let group = Items::new(Vec::from_slice(alloc, values)?);
-    let held = Items::new(vec![in alloc; group]?);
+    let held = Shared::new(alloc, vec![in alloc; group]?)?;
     leaf(alloc, b"d", Kind::Delay(held), &[source], &[1])
 }
 

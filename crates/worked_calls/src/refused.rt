@@ -4,6 +4,7 @@ use crate::parts::{delay, function, graph, leaf, vertex};
 use algo_tree::{Kind, Vertex};
 use body_lang::Expr;
 use level_meaning::{Part, Source};
+use shared_items::Shared;
 use std::alloc::Global;
 use std::test::Fail;
 use syn_base::Items;
@@ -34,8 +35,8 @@ fn case(number: u32, mut vertex: Vertex) -> Vertex {
 /// A switch over what the sensor gives, with this for 0 and the function otherwise.
 fn switch(alloc: Global, first: Vertex) -> Result<Vertex, Fail> {
     let name = Items::new(Vec::from_slice(alloc, b"o")?);
-    let names = Items::new(vec![in alloc; name]?);
-    let values = Items::new(Vec::from_slice(alloc, &[0])?);
+    let names = Shared::new(alloc, vec![in alloc; name]?)?;
+    let values = Shared::new(alloc, Vec::from_slice(alloc, &[0])?)?;
     let otherwise = case(1, seven(alloc, Source::Own(1))?);
     let cases = vec![in alloc; case(0, first), otherwise]?;
     let ins = [Source::Of(0, 0), Source::Of(0, 0)];

@@ -1,4 +1,4 @@
-use Rattle.std.proofs.Common.{◌≡◌, ◌≤◌, ◌+◌, ◌-◌, ◌∷◌, ◌++◌, [], suc, ℕ, List, Some, get_or, length, map, sym, ap, ◌∙◌, arith, rules, length-append}
+use Rattle.std.proofs.Common.{◌≡◌, ◌≤◌, ◌+◌, ◌-◌, ◌∷◌, ◌++◌, [], suc, ℕ, List, Some, get_or, length, map, refl, sym, ap, ◌∙◌, arith, rules, length-append}
 use Rattle.std.proofs.lemmas.List.{length-map}
 use Rattle.std.proofs.lemmas.Option.{slice_get-get_or}
 use Rattle.level_meaning.specs.declared.source.Source.{Source}
@@ -13,9 +13,10 @@ use Rattle.algo_tree.specs.declared.vertex.Vertex.{Vertex}
 use Rattle.algo_resolve.specs.declared.build.Seat.{Seat}
 use Rattle.algo_resolve.specs.declared.plan.Plan.{Plan}
 use Rattle.frontier_check.proofs.Places.{one_more}
-use Rattle.algo_resolve.proofs.Placed.{def_at, place_at, place_there, ports_at}
-use Rattle.algo_resolve.proofs.Planned.{beside, plan_at, planned_kind}
-use Rattle.algo_resolve.proofs.Steps.{all_cases, first_place, named_at, one_case, one_copy, one_reference, vertex_step}
+use Rattle.algo_resolve.proofs.Placed.{def_at, place_at, place_there}
+use Rattle.algo_resolve.specs.Plans.{Planned}
+use Rattle.algo_resolve.proofs.Planned.{beside, plan_at, planned_kind, shared_by}
+use Rattle.algo_resolve.proofs.Steps.{all_cases, inner_at, named_at, one_case, one_copy, one_reference, only_wire, owns_itself, owns_long, vertex_step}
 use Rattle.algo_resolve.proofs.build.+build.Goals as goal
 
 pub build_cases-name-name-requires : goal.build_cases-name-name-requires
@@ -58,8 +59,8 @@ build_references-loop-at-preserved t c =
     let def = def_at ds b.table.now r.def place c.index-builder-place.result there in
     let sensors : c.sensors_of.result ≡ is_sensor (definition ds r.def) = c.sensors_of.ensures.is ∙ ap is_sensor (sym def) in
     let actuators : c.actuators_of.result ≡ is_actuator (definition ds r.def) = c.actuators_of.ensures.is ∙ ap is_actuator (sym def) in
-    let wire : c.as_slice.result.now ≡ sources_to (ports_of ds) g.ins.now g.references.now g.edges.now (Some r.name) (ports_of ds r.def).ins =
-    c.as_slice.ensures ∙ sym c.index-graph-at.is
+    let wire : get_or g.wires.now l.at c.index-graph-at.result ≡ sources_to (ports_of ds) g.ins.now g.references.now g.edges.now (Some r.name) (ports_of ds r.def).ins =
+    sym c.index-graph-at.is
     ∙ beside (λ x. sources_to (ports_of ds) g.ins.now g.references.now g.edges.now (Some x.name) (ports_of ds x.def).ins) g.wires.now g.references.now l.at r c.index-graph-at.result
     c.requires.wired.wires c.loop-at-test.true c.reference-item.is c.index-graph-at.is in
     let made =
@@ -91,7 +92,7 @@ build_vertex-build_inner-requires t c =
           c.requires.planned.ready.read c.args.place c.index-builder-place.result c.requires.placed.below,
           (
             c.places_of-places.ensures d at,
-            c.as_slice.ensures ∙ sym (ap (λ (p : Plan). p.wires) c.index-builder-place-2.is) ∙ ap (λ q. q.1) plan,
+            c.as_slice.ensures ∙ sym (ap (λ (p : Plan). p.wires) c.index-builder-place-2.is) ∙ ap (λ (q : Planned). q.wires) plan,
           ),
         ),
       ),
@@ -101,38 +102,44 @@ pub build_vertex-returns : goal.build_vertex-returns
 build_vertex-returns t c =
     let b = c.args.builder.now in
     let ds = b.defs.now in
+    let w = c.args.name.now in
     let d = get_or ds c.args.place c.index-builder-place.result in
     let at = slice_get-get_or ds c.args.place c.index-builder-place.result c.requires.placed.below in
-    let own = get_or b.table.now c.args.place c.index-builder-place-3.result in
+    let own = ports_of ds w in
     let seat = c.args.seat in
     let inner = c.args.fuel - 1 in
     let fuel : c.args.fuel ≡ suc inner = omega (arith, c.if-fuel-eq0.false) in
-    let def = def_at ds b.table.now c.args.name.now c.args.place c.index-builder-place.result c.requires.placed in
-    let ports = ports_at ds b.table.now c.args.name.now c.args.place c.index-builder-place-3.result c.requires.placed in
-    let plan = plan_at ds b.plans.now c.args.place d c.index-builder-place-2.result c.requires.planned.plans at c.index-builder-place-2.is in
-    let kind = planned_kind ds (vertex_within ds inner) c.args.name.now d own _ def ports (sym (ap (λ (p : Plan). kind_view p.kind) c.index-builder-place-2.is) ∙ ap (λ q. q.0) plan) in
-    c.vertex.ensures own.outs c.in_ok-label.ensures.outs c.in_ok-label.ensures.names
-    ∙ ap (λ (w : Bytes). vertex seat.part w seat.ins own.outs (kind_view c.in_ok-label.label.kind) (map view c.in_ok-inner.inner.items)) c.in_ok-label.ensures.name
-    ∙ vertex_step ds c.args.fuel inner seat.part c.args.name.now seat.ins seat.sensor seat.actuator d own c.in_ok-label.label.kind c.in_ok-inner.inner.items
-    fuel def ports (c.in_ok-label.ensures.kind ds (vertex_within ds inner) own kind) c.in_ok-inner.ensures
+    let def = def_at ds b.table.now w c.args.place c.index-builder-place.result c.requires.placed in
+    let here = c.index-builder-place-2.is in
+    let plan = plan_at ds b.plans.now c.args.place d c.index-builder-place-2.result c.requires.planned.plans at here in
+    let shares = shared_by ds w d c.index-builder-place-2.result def plan in
+    let kind = planned_kind ds (vertex_within ds inner) w d own _ def refl (sym (ap (λ (p : Plan). kind_view p.kind) here) ∙ ap (λ (q : Planned). q.kind) plan) in
+    c.vertex.ensures own.outs
+    (c.in_ok-label.ensures.outs ∙ sym (ap (λ (p : Plan). p.outs) here) ∙ shares.outs)
+    (c.in_ok-label.ensures.names ∙ sym (ap (λ (p : Plan). p.names) here) ∙ shares.names)
+    (c.in_ok-label.ensures.guards ∙ sym (ap (λ (p : Plan). p.guards) here) ∙ shares.guards)
+    ∙ ap (λ (v : Bytes). vertex seat.part v seat.ins own.outs (kind_view c.in_ok-label.label.kind) (map view c.in_ok-inner.inner.items))
+    (c.in_ok-label.ensures.name ∙ sym (ap (λ (p : Plan). p.definition) here) ∙ shares.definition)
+    ∙ vertex_step ds c.args.fuel inner seat.part w seat.ins seat.sensor seat.actuator d own c.in_ok-label.label.kind c.in_ok-inner.inner.items
+    fuel def refl (c.in_ok-label.ensures.kind ds (vertex_within ds inner) own kind) c.in_ok-inner.ensures
+
+pub build_inner-build_cases-requires : goal.build_inner-build_cases-requires
+build_inner-build_cases-requires t c = ?
+
+pub build_inner-returns-in-Switch : goal.build_inner-returns-in-Switch
+build_inner-returns-in-Switch t c = ?
 
 pub build_copy-returns : goal.build_copy-returns
 build_copy-returns t c =
-    let b = c.args.builder.now in
-    let w = c.args.name.now in
-    let place = get_or c.args.places.now 0 0 in
-    let own = get_or b.table.now place c.index-builder-place.result in
-    let placed = first_place b.defs.now b.table.now w c.args.places.now c.requires.placed in
-    one_copy b.defs.now c.args.fuel w own _ _ c.inner_seat-seat.result c.in_ok-build_vertex.field-0 _
-    (ports_at b.defs.now b.table.now w place c.index-builder-place.result placed)
-    c.as_slice.ensures c.in_ok-ins.ensures c.inner_seat-seat.ensures c.in_ok-build_vertex.ensures
+    one_copy c.args.builder.now.defs.now c.args.fuel c.args.name.now c.args.wires.now c.index-wires-0.result c.in_ok-ins.ins c.inner_seat-seat.result c.in_ok-build_vertex.field-0 _
+    c.requires.wires c.index-wires-0.is (c.in_ok-ins.ensures ∙ sym c.index-wires-0.is) c.inner_seat-seat.ensures c.in_ok-build_vertex.ensures
     (c.in_ok-push.ensures.items ∙ ap (λ (us : List Vertex). us ++ c.in_ok-build_vertex.field-0 ∷ []) c.new-inner.ensures.items)
 
 pub build_cases-loop-number-preserved : goal.build_cases-loop-number-preserved
 build_cases-loop-number-preserved t c =
     rw c.in_ok-push.ensures.items
-    (one_case c.args.builder.now.defs.now (vertex_within c.args.builder.now.defs.now c.args.fuel) c.args.names.now.ins _ c.loop-number.number _ c.in_ok-seat.seat c.loop-number.inner.items
-    c.in_ok-build_vertex.field-0 _ c.name-name.ensures c.in_ok-seat.ensures c.in_ok-build_vertex.ensures c.loop-number.invariant)
+    (one_case c.args.builder.now.defs.now (vertex_within c.args.builder.now.defs.now c.args.fuel) (length c.args.names.now.ins.now) _ c.loop-number.number _ c.in_ok-seat.seat c.loop-number.inner.items
+    c.in_ok-build_vertex.field-0 _ c.name-name.ensures (c.in_ok-seat.ensures ∙ ap (inner_at c.loop-number.number) c.requires.ins) c.in_ok-build_vertex.ensures c.loop-number.invariant)
 
 pub build_cases-returns : goal.build_cases-returns
 build_cases-returns t c =
@@ -141,4 +148,4 @@ build_cases-returns t c =
     let all = map (λ (x : Case). x.def) names.cases.now ++ names.otherwise.now ∷ [] in
     let past : length all ≤ c.loop-number.number =
     omega (arith, one_more b.defs.now b.table.now names.otherwise.now names.cases.now c.args.places.now c.requires.placed, length-append (map (λ (x : Case). x.def) names.cases.now) (names.otherwise.now ∷ []), length-map names.cases.now (λ (x : Case). x.def)) in
-    all_cases b.defs.now (vertex_within b.defs.now c.args.fuel) names.ins all c.loop-number.number c.loop-number.inner.items _ past c.loop-number.invariant
+    all_cases b.defs.now (vertex_within b.defs.now c.args.fuel) (length names.ins.now) all c.loop-number.number c.loop-number.inner.items _ past c.loop-number.invariant

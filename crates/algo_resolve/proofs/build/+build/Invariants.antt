@@ -1,4 +1,4 @@
-use Rattle.std.proofs.Common.{◌≡◌, ◌+◌, ◌*◌, ◌≤◌, ◌++◌, ◌∷◌, [], drop, map}
+use Rattle.std.proofs.Common.{◌≡◌, ◌+◌, ◌*◌, ◌≤◌, ◌++◌, ◌∷◌, [], drop, length, map}
 use Rattle.algo_tree.specs.View.{view}
 use Rattle.algo_rules.specs.Resolved.{cases_from, references_from, vertex_within}
 use Rattle.algo_resolve.proofs.build.+build.Given as goal
@@ -20,8 +20,8 @@ decreases-build_inner l = 3 * l.fuel + 2
 
 abbrev pub invariant-build_cases-loop-number : goal.invariant-build_cases-loop-number
 invariant-build_cases-loop-number l =
-    map view l.inner.items ++ cases_from l.builder.defs.now (vertex_within l.builder.defs.now l.fuel) l.names.ins l.number (drop l.number (map (λ c. c.def) l.names.cases.now ++ l.names.otherwise.now ∷ []))
-    ≡ cases_from l.builder.defs.now (vertex_within l.builder.defs.now l.fuel) l.names.ins 0 (map (λ c. c.def) l.names.cases.now ++ l.names.otherwise.now ∷ [])
+    map view l.inner.items ++ cases_from l.builder.defs.now (vertex_within l.builder.defs.now l.fuel) (length l.names.ins.now) l.number (drop l.number (map (λ c. c.def) l.names.cases.now ++ l.names.otherwise.now ∷ []))
+    ≡ cases_from l.builder.defs.now (vertex_within l.builder.defs.now l.fuel) (length l.names.ins.now) 0 (map (λ c. c.def) l.names.cases.now ++ l.names.otherwise.now ∷ [])
 
 abbrev pub invariant-build_references-loop-at : goal.invariant-build_references-loop-at
 invariant-build_references-loop-at l = record {

@@ -7,6 +7,7 @@ use Rattle.algo_defs.specs.declared.definition.FrontierLine.{FrontierLine}
 use Rattle.algo_rules.specs.Resolved.{give_by}
 use Rattle.algo_rules.specs.declared.ports.Ports.{Ports}
 use Rattle.algo_links.proofs.Fresh.{from_here}
+use Rattle.std.proofs.lemmas.Result.{IfOk-weaker}
 use Rattle.algo_resolve.proofs.frontier.gives.Goals as goal
 use Rattle.algo_resolve.proofs.frontier.gives.Goals.{in-Some+in_ok-push, in_default}
 
@@ -41,4 +42,7 @@ loop-line-preserved c = λ outer.
     ]
 
 pub returns : goal.returns
-returns c = λ outer. no_line c.args.inner.now outer c.args.lines.now _ _ _ c.loop-line-test.false c.new.ensures (c.loop-line.invariant outer)
+returns c =
+    IfOk-weaker c.new.result (λ gs. gs ≡ c.loop-line.gives.items) _
+    (λ gs same outer. no_line c.args.inner.now outer c.args.lines.now _ _ _ c.loop-line-test.false same (c.loop-line.invariant outer))
+    c.new.ensures

@@ -9,6 +9,9 @@ use Rattle.algo_rules.specs.Ports.{ports_of}
 use Rattle.algo_rules.specs.WellRead.{IsWellRead}
 use Rattle.algo_rules.specs.Resolved.{kind_by, vertex_within}
 use Rattle.algo_rules.specs.declared.ports.Ports.{Ports}
+use Rattle.algo_tree.specs.View.{kind_view}
+use Rattle.algo_resolve.specs.Plans.{plan_of, plan_view, planned}
+use Rattle.algo_resolve.proofs.Told.{retold}
 use Rattle.algo_resolve.proofs.Placed.{places_stand}
 use Rattle.algo_resolve.proofs.Planned.{beside, inside}
 use Rattle.algo_resolve.proofs.plan.plan_at.Goals as goal
@@ -42,4 +45,9 @@ returns c =
     let low = inside ds c.args.place d c.requires.there in
     let here = sym (get_or_from_slice_get ds c.args.place d d c.requires.there) in
     let own : c.index-checked-place-2.result ≡ ports_of ds d.name = beside (λ e. ports_of ds e.name) b.table.now ds c.args.place d c.index-checked-place-2.result c.requires.ready.ports low here c.index-checked-place-2.is in
-    ap₂ (λ (k : Kind) (ws : List (List Source)). (k, ws)) (c.in_ok-kind.ensures (vertex_within ds 0) ∙ ap (λ (p : Ports). kind_by ds (vertex_within ds 0) p 0 0 d.body) (sym c.index-checked-place-2.is ∙ own)) c.in_ok-wires.ensures
+    let kind = c.in_ok-kind.ensures (vertex_within ds 0) ∙ ap (λ (p : Ports). kind_by ds (vertex_within ds 0) p 0 0 d.body) (sym c.index-checked-place-2.is ∙ own) in
+    let made : planned d.name c.index-checked-place-2.result (kind_view c.in_ok-kind.kind) c.in_ok-wires.wires ≡ plan_of ds d =
+    ap (λ (p : Ports). planned d.name p (kind_view c.in_ok-kind.kind) c.in_ok-wires.wires) own
+    ∙ ap (λ (k : Kind). planned d.name (ports_of ds d.name) k c.in_ok-wires.wires) kind
+    ∙ ap (λ (ws : List (List Source)). planned d.name (ports_of ds d.name) (kind_by ds (vertex_within ds 0) (ports_of ds d.name) 0 0 d.body) ws) c.in_ok-wires.ensures in
+    retold plan_view c.make_plan.result _ (plan_of ds d) (ap (λ (p : Ports). planned d.name p (kind_view c.in_ok-kind.kind) c.in_ok-wires.wires) (sym c.index-checked-place-2.is) ∙ made) c.make_plan.ensures

@@ -20,4 +20,4 @@ returns c =
     let there = found_placed ds b.table.now c.requires.planned.ready.ports (codes "main") c.args.place c.index-builder-place.result c.requires.below c.requires.main c.index-builder-place.is in
     let named = subst (λ (d : Def). d.name ≡ codes "main") c.index-builder-place.is (sym there.0) in
     retold view c.build_vertex.result _ (tree_of ds)
-    (main_by (vertex_within ds 8) c.in_ok-copy_name.field-0 _ c.new-2.result (c.in_ok-copy_name.ensures ∙ named) named (c.new-2.ensures ∙ c.new.ensures.items)) c.build_vertex.ensures
+    (main_by (vertex_within ds 8) c.in_ok-copy_name.field-0 _ c.in_ok-empty.field-0 (c.in_ok-copy_name.ensures ∙ named) named c.in_ok-empty.ensures) c.build_vertex.ensures

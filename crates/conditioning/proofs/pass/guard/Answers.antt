@@ -16,30 +16,30 @@ use Rattle.conditioning.proofs.pass.guard.Goals as goal
 
 pub new-requires : goal.new-requires
 new-requires c =
-    let is : view c.in_ok-guard_vertex.field-0 ≡ guarded_tree c.args.tree.now = c.in_ok-guard_vertex.ensures ∙ ap guarded_tree c.main-main.ensures.same in
+    let is : view c.in_ok-guard_main.field-0 ≡ guarded_tree c.args.tree.now = c.in_ok-guard_main.ensures ∙ ap guarded_tree c.main-main.ensures.same in
     subst IsTree (sym is) (tree-guard c.args.tree.now c.main-main.ensures.valid c.requires)
 
 pub returns-clause-kept : goal.returns-clause-kept
 returns-clause-kept c =
-    let is : c.new.result ≡ guarded_tree c.args.tree.now = c.new.ensures ∙ c.in_ok-guard_vertex.ensures ∙ ap guarded_tree c.main-main.ensures.same in
+    let is : c.new.result ≡ guarded_tree c.args.tree.now = c.new.ensures ∙ c.in_ok-guard_main.ensures ∙ ap guarded_tree c.main-main.ensures.same in
     subst (KeepsMeaning c.args.tree.now) (sym is) (guard_main-keeps c.args.tree.now c.main-main.ensures.valid c.requires)
 
 pub returns-clause-cases : goal.returns-clause-cases
 returns-clause-cases c =
-    let is : c.new.result ≡ guarded_tree c.args.tree.now = c.new.ensures ∙ c.in_ok-guard_vertex.ensures ∙ ap guarded_tree c.main-main.ensures.same in
+    let is : c.new.result ≡ guarded_tree c.args.tree.now = c.new.ensures ∙ c.in_ok-guard_main.ensures ∙ ap guarded_tree c.main-main.ensures.same in
     subst HasNoCase (sym is) (no_case [] 0 c.args.tree.now)
 
 pub returns-clause-repeats : goal.returns-clause-repeats
 returns-clause-repeats c =
-    let is : c.new.result ≡ guarded_tree c.args.tree.now = c.new.ensures ∙ c.in_ok-guard_vertex.ensures ∙ ap guarded_tree c.main-main.ensures.same in
+    let is : c.new.result ≡ guarded_tree c.args.tree.now = c.new.ensures ∙ c.in_ok-guard_main.ensures ∙ ap guarded_tree c.main-main.ensures.same in
     subst HasNoRepeat (sym is) (no_repeat [] 0 c.args.tree.now c.requires)
 
 pub returns-clause-count : goal.returns-clause-count
 returns-clause-count c =
-    let is : c.new.result ≡ guarded_tree c.args.tree.now = c.new.ensures ∙ c.in_ok-guard_vertex.ensures ∙ ap guarded_tree c.main-main.ensures.same in
+    let is : c.new.result ≡ guarded_tree c.args.tree.now = c.new.ensures ∙ c.in_ok-guard_main.ensures ∙ ap guarded_tree c.main-main.ensures.same in
     ap operations is ∙ counted-guarded [] 0 c.args.tree.now c.requires
 
 pub returns-clause-names : goal.returns-clause-names
 returns-clause-names c names =
-    let is : c.new.result ≡ guarded_tree c.args.tree.now = c.new.ensures ∙ c.in_ok-guard_vertex.ensures ∙ ap guarded_tree c.main-main.ensures.same in
+    let is : c.new.result ≡ guarded_tree c.args.tree.now = c.new.ensures ∙ c.in_ok-guard_main.ensures ∙ ap guarded_tree c.main-main.ensures.same in
     subst HasNames (sym is) (names-guard c.args.tree.now c.main-main.ensures.valid names)

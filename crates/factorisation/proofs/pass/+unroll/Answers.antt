@@ -1,8 +1,8 @@
-use Rattle.std.proofs.Common.{◌≡◌, ◌<◌, ◌≤◌, length, get_or, map, ap, ◌∙◌, rules, arith}
+use Rattle.std.proofs.Common.{◌≡◌, ◌<◌, ◌≤◌, length, get_or, map, refl, ap, ◌∙◌, rules, arith}
 use Rattle.factorisation_laws.specs.Unrolled.{explodes}
 use Rattle.algo_tree.specs.View.{view}
 use Rattle.algo_tree.specs.Well.{IsWell}
-use Rattle.algo_tree.specs.declared.vertex.Vertex.{the_lemmas}
+use Rattle.algo_tree.specs.declared.vertex.Vertex.{out-Vertex, the_lemmas}
 use Rattle.algo_tree.specs.Size.{vertices_made}
 use Rattle.factorisation.proofs.Unrolling.{bounded, well_at, made_at, inside_made, copies_more, plain_answered}
 use Rattle.factorisation.proofs.pass.+unroll.Goals as goal
@@ -34,8 +34,8 @@ unroll_inside-add_implodes-requires t c =
 
 pub unroll_inside-returns : goal.unroll_inside-returns
 unroll_inside-returns t c =
-    inside_made c.args.vertex.now c.args.copies.count c.args.copies.begin c.args.feeds.now c.args.gives.now _ _ _ _ _ c.requires.begin c.as_slice-definition.ensures c.as_slice.ensures
-    (c.in_ok-all.ensures ∙ ap (explodes c.as_slice-definition.result.now c.args.copies.count) (ap (map (λ f. f.now)) c.deref.ensures.value ∙ c.in_ok-lines.ensures)) c.in_ok-add_copies.ensures c.in_ok-add_implodes.ensures
+    inside_made c.args.vertex.now c.args.copies.count c.args.copies.begin c.args.feeds.now c.args.gives.now _ _ _ _ _ c.requires.begin refl c.as_slice.ensures
+    (c.in_ok-all.ensures ∙ ap (explodes (out-Vertex c.args.vertex.now).definition c.args.copies.count) (ap (map (λ f. f.now)) c.deref.ensures.value ∙ c.in_ok-lines.ensures)) c.in_ok-add_copies.ensures c.in_ok-add_implodes.ensures
 
 pub unroll_repeat-as_graph-requires-clause-small : goal.unroll_repeat-as_graph-requires-clause-small
 unroll_repeat-as_graph-requires-clause-small t c =
@@ -47,4 +47,4 @@ unroll_vertex-returns-in_ok-inner-in_default t c = plain_answered c.args.vertex.
 
 pub add_copies_of-loop-i-preserved : goal.add_copies_of-loop-i-preserved
 add_copies_of-loop-i-preserved t c =
-    copies_more c.args.copies.begin c.args.feeds.now _ _ c.loop-i.i c.loop-i.all.items _ c.in_ok-vertex.vertex c.in_ok-as_copy.field-0 c.loop-i.invariant c.in_ok-vertex.ensures c.in_ok-as_copy.ensures c.in_ok-push.ensures.items
+    copies_more c.args.copies.begin c.args.feeds.now _ _ c.loop-i.i c.loop-i.all.items _ c.in_ok-vertex.vertex c.in_ok-as_copy.field-0 c.loop-i.invariant (c.in_ok-vertex.ensures ∙ c.in_ok-unrolled.ensures) c.in_ok-as_copy.ensures c.in_ok-push.ensures.items

@@ -1,5 +1,6 @@
 use Rattle.std.proofs.Common.{◌≡◌, ◌+◌, ◌*◌, ◌<◌, List, [], ◌∷◌, map, drop, length, get_or, refl, sym, ap, ◌∙◌, subst, rules, arith}
 use Rattle.std.proofs.lemmas.List.{drop_all}
+use Rattle.std.proofs.lemmas.Bool.{eqb-true}
 use Rattle.std.proofs.lemmas.Result.{on_ok_weaker}
 use Rattle.level_meaning.specs.Level.{Vector, Path}
 use Rattle.algo_tree.specs.Counted.{operations as count, operations_in as count_all}
@@ -18,7 +19,7 @@ use Rattle.hierarchy.proofs.Leading.{graph_well, well_at}
 use Rattle.hierarchy.proofs.Building.{AddsRest, vertex_added, all_added, level_added}
 use Rattle.hierarchy.proofs.Linking.{linked_left, linked_right}
 use Rattle.hierarchy.proofs.Texting.{prefixes_inside, prefixes_here}
-use Rattle.hierarchy.proofs.Adding.{rest_from, plain_at, named_at, label_named, inside_named, inside_plain, is_run, graph_adds, delay_adds, run_adds, graph_linked, delay_linked, run_linked, level_linked, graph_counted, delay_counted, run_counted}
+use Rattle.hierarchy.proofs.Adding.{rest_from, plain_at, named_at, label_named, inside_named, inside_plain, is_run, graph_adds, delay_adds, run_adds, graph_linked, delay_linked, run_linked, level_linked, graph_counted, delay_counted, run_counted, nothing_added}
 use Rattle.hierarchy.proofs.inlining.+add.Goals as goal
 
 pub add_vertices-loop-vertex-init : goal.add_vertices-loop-vertex-init
@@ -199,6 +200,18 @@ add_graph-add_level-requires t c =
     let own = c.deref.ensures.value ∙ c.in_ok-own.ensures ∙ ap (λ ss. map w ss) c.as_slice.ensures in
     let linked = graph_linked w u c.args.outputs.now c.deref.result.now c.requires.kind own (length c.args.all.now.vertices.items) c.requires.linked in
     (search (rules, the_lemmas), (inside.0, (inside_plain u c.requires.plain, (inside_named u c.requires.names, (inside.1, linked)))))
+
+pub add_graph-returns-then-is_idle-clause-added : goal.add_graph-returns-then-is_idle-clause-added
+add_graph-returns-then-is_idle-clause-added t c =
+    let u = c.args.vertex.now in
+    let none : count (view u) ≡ 0 = eqb-true (count (view u)) 0 (sym c.if-is_idle.ensures) in
+    λ below prefix. nothing_added (led c.args.level.now.leds.now c.args.level.now.own.now) u c.requires.plain none (graph_of c.args.all.now) below
+
+pub add_graph-returns-then-is_idle-clause-count : goal.add_graph-returns-then-is_idle-clause-count
+add_graph-returns-then-is_idle-clause-count t c =
+    let u = c.args.vertex.now in
+    let none : count (view u) ≡ 0 = eqb-true (count (view u)) 0 (sym c.if-is_idle.ensures) in
+    omega (arith, none)
 
 pub add_graph-returns-clause-added : goal.add_graph-returns-clause-added
 add_graph-returns-clause-added t c =

@@ -1,7 +1,9 @@
-use Rattle.std.proofs.Common.{◌≡◌, ◌-◌, ap, ◌∙◌, arith}
+use Rattle.std.proofs.Common.{◌≡◌, ◌-◌, List, ap, ◌∙◌, arith}
+use Rattle.level_meaning.specs.declared.source.Source.{Source}
 use Rattle.algo_rules.specs.Resolved.{owns}
 use Rattle.algo_resolve.proofs.Steps.{owns_more}
-use Rattle.algo_resolve.proofs.build.own_inputs.Goals as goal
+use Rattle.algo_resolve.proofs.Told.{retold}
+use Rattle.algo_resolve.proofs.sources.own_inputs.Goals as goal
 
 pub loop-number-preserved : goal.loop-number-preserved
 loop-number-preserved c =
@@ -10,4 +12,4 @@ loop-number-preserved c =
 pub returns : goal.returns
 returns c =
     let same : c.loop-number.number - c.args.first ≡ c.args.count = grind arith in
-    c.new.ensures ∙ c.loop-number.invariant ∙ ap (owns c.args.first) same
+    retold (λ (ss : List Source). ss) c.new.result _ _ (c.loop-number.invariant ∙ ap (owns c.args.first) same) c.new.ensures

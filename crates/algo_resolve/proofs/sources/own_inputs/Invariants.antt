@@ -1,6 +1,6 @@
 use Rattle.std.proofs.Common.{◌≡◌, ◌-◌}
 use Rattle.algo_rules.specs.Resolved.{owns}
-use Rattle.algo_resolve.proofs.build.own_inputs.Given as goal
+use Rattle.algo_resolve.proofs.sources.own_inputs.Given as goal
 
 abbrev pub invariant-loop-number : goal.invariant-loop-number
 invariant-loop-number l = l.sources.items ≡ owns l.first (l.number - l.first)

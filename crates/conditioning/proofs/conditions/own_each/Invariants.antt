@@ -1,6 +1,6 @@
 use Rattle.std.proofs.Common.{◌≡◌, ◌++◌, drop, length}
 use Rattle.conditioning_laws.specs.Guarded.{own_guards as guards_owned}
-use Rattle.conditioning.proofs.conditions.own_guards.Given as goal
+use Rattle.conditioning.proofs.conditions.own_each.Given as goal
 
 abbrev pub invariant-loop-guard : goal.invariant-loop-guard
 invariant-loop-guard l = record {
