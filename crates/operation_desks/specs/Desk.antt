@@ -14,6 +14,7 @@ use Rattle.std.specs.Prelude.{
   None,
   Some,
   Bool,
+  true,
   false,
   slice_get,
   slice_index_or,
@@ -80,8 +81,14 @@ pub record AreDelayNumbers (xs : List Vertex) (numbers : List ℕ) : Type 0 wher
   pub many : length numbers ≡ length xs + 1
   pub each : (v : ℕ) → v < length numbers → slice_index_or numbers v 0 ≡ delay_number xs v
 
--- these are the desks of the first n operations
-pub record AreDesks (g : Graph) (n : ℕ) (desks : List DeskLens) : Type 0 where
+-- in the place of operation v, which is x, stands its desk
+abbrev pub HasDesk : Graph → ℕ → Vertex → Option DeskLens → Type 0
+HasDesk g v x None = ⊥
+HasDesk g v x (Some d) = IsDesk g v x d
+
+-- There is a place for each of the first n operations, and in it stands the desk of each
+-- that is to be computed, by number. Nothing is said of the places of the others.
+pub record AreDesks (g : Graph) (mine : ℕ → Bool) (n : ℕ) (desks : List (Option DeskLens)) : Type 0 where
   pub there : length desks ≡ n
-  pub each : (v : ℕ) (x : Vertex) (d : DeskLens) → slice_get g.vertices v ≡ Some x → slice_get desks v ≡ Some d →
-      IsDesk g v x d
+  pub each : (v : ℕ) (x : Vertex) (o : Option DeskLens) → mine v ≡ true → slice_get g.vertices v ≡ Some x →
+      slice_get desks v ≡ Some o → HasDesk g v x o

@@ -1,13 +1,13 @@
-//! Desks as `semaphore_core` lays them out when it opens a state: one for each operation.
-ghost use Rattle.std.specs.Prelude.{◌≡◌, ◌+◌, ◌^◌, ◌<◌, ◌++◌, ◌≤◌, cond, map, length, slice_get, Some, IfOk, OnOk, IsTrue};
+//! Desks as `semaphore_core` lays them out when it opens a state: one for each operation that is to be computed.
+ghost use Rattle.std.specs.Prelude.{◌≡◌, ◌+◌, ◌^◌, ◌<◌, ◌++◌, ◌≤◌, cond, false, true, map, length, slice_get, slice_index_or, Some, IfOk, OnOk, IsTrue, option_map};
 ghost use Rattle.flat_graph.specs.Meaning.{delay_number};
 ghost use Rattle.operation_desks.specs.Operation.{delay_by, delay_of};
 ghost use Rattle.flat_graph.specs.Valid.{is_flat};
-ghost use Rattle.operation_desks.specs.Desk.{AreDelayNumbers, is_get_at, IsDesk, lens_of_desk};
+ghost use Rattle.operation_desks.specs.Desk.{AreDelayNumbers, is_get_at, HasDesk, IsDesk, lens_of_desk};
 ghost use Rattle.operation_desks.specs.Desk.{AreDesks};
 
 use crate::desk::Desk;
-use crate::opening::push_lens;
+use crate::opening::{is_mine, push_lens};
 use flat_graph::{Flat, Kind, Vertex};
 use std::alloc::Global;
 use syn_base::{OutOfMemory, to_u32};
@@ -107,9 +107,36 @@ fn desk_of(
     )
 }
 
-/// The desks of all operations.
-pub fn desks_of(alloc: Global, flat: &Flat) -> Result<Vec<Desk>, OutOfMemory>
-    ensures desks { IfOk result (λ s. AreDesks flat.now (length flat.now.vertices) (map lens_of_desk s.items)) }
+/// What stands in the place of operation `v`: its desk, where it is to be computed.
+fn desk_if(
+    alloc: Global,
+    flat: &Flat,
+    numbers: &[u32],
+    v: u32,
+    x: &Vertex,
+    mine: bool,
+) -> Result<Option<Desk>, OutOfMemory>
+    requires numbers { AreDelayNumbers flat.now.vertices numbers.now }
+    requires there { slice_get flat.now.vertices v ≡ Some x.now }
+    ensures { IfOk result (λ o. mine ≡ true → HasDesk flat.now v x.now (option_map lens_of_desk o)) }
+{
+    if mine {
+        let delay = delay_of(flat.vertices(), numbers, v, x);
+        Ok(Some(desk_of(alloc, flat, v, x, delay)?))
+    } else {
+        Ok(None)
+    }
+}
+
+/// A place for the desk of each operation, and in it the desk of each that is to be computed: `mine` says which, by
+/// their number. So where few operations are to be computed, little is laid out.
+pub fn desks_for(
+    alloc: Global,
+    flat: &Flat,
+    mine: &[bool],
+) -> Result<Vec<Option<Desk>>, OutOfMemory>
+    ensures desks { IfOk result (λ s. AreDesks flat.now (λ v. slice_index_or mine.now v false)
+        (length flat.now.vertices) (map (option_map lens_of_desk) s.items)) }
     ensures valid { IsTrue (is_flat flat.now) }
 {
     let vertices = flat.vertices();
@@ -118,8 +145,19 @@ pub fn desks_of(alloc: Global, flat: &Flat) -> Result<Vec<Desk>, OutOfMemory>
     let mut desks = Vec::new(alloc);
     for v in 0..count {
         let x = &vertices[v as usize];
-        let delay = delay_of(vertices, numbers.as_slice(), v, x);
-        desks.push(desk_of(alloc, flat, v, x, delay)?)?;
+        let is_mine = is_mine(mine, v as usize);
+        desks.push(desk_if(alloc, flat, numbers.as_slice(), v, x, is_mine)?)?;
     }
+    Ok(desks)
+}
+
+/// The desks of all operations.
+pub fn desks_of(alloc: Global, flat: &Flat) -> Result<Vec<Option<Desk>>, OutOfMemory>
+    ensures desks { IfOk result (λ s. AreDesks flat.now (λ v. true) (length flat.now.vertices)
+        (map (option_map lens_of_desk) s.items)) }
+    ensures valid { IsTrue (is_flat flat.now) }
+{
+    let all = vec![in alloc; true; flat.vertices().len()]?;
+    let desks = desks_for(alloc, flat, all.as_slice())?;
     Ok(desks)
 }

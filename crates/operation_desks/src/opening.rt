@@ -120,8 +120,8 @@ fn push_row_len(flat: &Flat, x: &Vertex, mine: bool, lens: &mut Vec<u32>) -> Res
     }
 }
 
-/// Whether the operation of this number is one of those whose rows are laid out.
-fn is_mine(mine: &[bool], vertex: usize) -> bool
+/// Whether the operation of this number is one of those that something is laid out for.
+pub fn is_mine(mine: &[bool], vertex: usize) -> bool
     ensures { result ≡ slice_index_or mine.now vertex false }
 {
     if vertex < mine.len() {

@@ -55,12 +55,11 @@ module _ (j : JobData) (job : IsJob j) where
   pub rows_laid_out : is_flat j.graph ≡ true → (lens : List ℕ) → lens ≡ actuator_lens j.graph j.graph.vertices → (v : ℕ) → HasRow j lens v
   rows_laid_out valid lens e v x a is k = subst (λ (l : List ℕ). (a < length l) × (slice_index_or l a 0 ≡ slice_index_or (lens_of j.graph.vertices x.ins) 0 0)) (sym e) (actuator_at j.graph valid v a x is k)
 
-  -- the opening cells, rows of zeros, and a desk for each operation
-  pub opening_ready : (k : Kept) → is_flat j.graph ≡ true → k.cells ≡ j.opening → length k.rows ≡ reactions j → AreDesks j.graph (length j.graph.vertices) k.desks → AreReady j k
+  -- the opening cells, rows of zeros, and a place for each desk
+  pub opening_ready : (k : Kept) → is_flat j.graph ≡ true → k.cells ≡ j.opening → length k.rows ≡ reactions j → length k.desks ≡ length j.graph.vertices → AreReady j k
   opening_ready k valid cells rows desks = record {
     valid = valid;
-    desks_there = desks.there;
-    desk = desks.each;
+    desks_there = desks;
     cells_fit = cells_fit;
     no_cell = λ v x is e. vertex_cell v x is ∙ no_delay j.graph valid v x is e;
     rows_there = rows;

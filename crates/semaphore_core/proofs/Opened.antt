@@ -99,7 +99,7 @@ module _ (j : JobData) where
         kept_by r a b ready reached = record {
           reached = reached;
           places = o.places;
-          rows = o.rows;
+          laid = o.laid;
           ready = ready;
           steps_are = o.steps_are;
           counts_there = same_length ∙ o.counts_there;

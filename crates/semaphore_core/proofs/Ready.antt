@@ -14,9 +14,10 @@ use Rattle.executive_program.specs.declared.steps.OnStore.{OnStore}
 use Rattle.executive_program.specs.declared.steps.OnStore.TheVariants.{Give, Carry as CarryOut, Compute as ComputeOut}
 use Rattle.operation_desks.specs.Operation.{vectors_from, lens_in, conditions_in, inputs_in, delay_of, HasCell, cell_at, with_cell, rows_by}
 use Rattle.operation_desks.specs.Registers.{Own, compute_by, absorb_by, after_by, gathered, with_registers}
+use Rattle.operation_desks.specs.Desk.{DeskLens}
 use Rattle.semaphore_core.specs.Job.{JobData}
 use Rattle.semaphore_core.specs.Parts.{Kept, with_kept}
-use Rattle.semaphore_core.specs.Held.{AreReady, HasRow, LoadHasRow, StoreHasRow}
+use Rattle.semaphore_core.specs.Held.{AreReady, IsLaid, LoadIsLaid, StoreIsLaid}
 use Rattle.semaphore_core.proofs.Operate.{cell_fits, kept_len}
 
 pub has_cell : (j : JobData) (k : Kept) → AreReady j k → (v : ℕ) (x : Vertex) → slice_get j.graph.vertices v ≡ Some x → HasCell k.cells (delay_of j.graph v x) (cell_len j.graph v)
@@ -56,7 +57,6 @@ module _ (j : JobData) (k : Kept) where
   same_lens c o n l m r = record {
     valid = r.valid;
     desks_there = r.desks_there;
-    desk = r.desk;
     cells_fit = λ v x d is e. (let f = (r.cells_fit v x d is e).0 in omega arith, l d ∙ (r.cells_fit v x d is e).1);
     no_cell = r.no_cell;
     rows_there = m ∙ r.rows_there;
@@ -89,13 +89,13 @@ module _ (j : JobData) (k : Kept) where
   after_ready (ComputeOut v more) n c r = let o = compute_by j.graph j.sensors v n [] c (slice_get j.graph.vertices v) in
       same_lens o (after_by j.graph j.sensors (ComputeOut v more) n c) refl (λ d. refl) refl (compute_ready v n [] c (slice_get j.graph.vertices v) refl r)
 
--- where the rows of all actuators are laid out, any load and any store has its rows
-pub load_has_row : (j : JobData) (lens : List ℕ) → ((v : ℕ) → HasRow j lens v) → (then : OnLoad) → LoadHasRow j lens then
-load_has_row j lens h CarryIn = tt
-load_has_row j lens h (Gather r) = tt
-load_has_row j lens h (ComputeIn v r more) = h v
+-- where all operations are laid out, so is what any load and any store computes
+pub load_is_laid : (j : JobData) (lens : List ℕ) (desks : List (Option DeskLens)) → ((v : ℕ) → IsLaid j lens desks v) → (then : OnLoad) → LoadIsLaid j lens desks then
+load_is_laid j lens desks h CarryIn = tt
+load_is_laid j lens desks h (Gather r) = tt
+load_is_laid j lens desks h (ComputeIn v r more) = h v
 
-pub store_has_row : (j : JobData) (lens : List ℕ) → ((v : ℕ) → HasRow j lens v) → (what : OnStore) → StoreHasRow j lens what
-store_has_row j lens h CarryOut = tt
-store_has_row j lens h (Give r more) = tt
-store_has_row j lens h (ComputeOut v more) = h v
+pub store_is_laid : (j : JobData) (lens : List ℕ) (desks : List (Option DeskLens)) → ((v : ℕ) → IsLaid j lens desks v) → (what : OnStore) → StoreIsLaid j lens desks what
+store_is_laid j lens desks h CarryOut = tt
+store_is_laid j lens desks h (Give r more) = tt
+store_is_laid j lens desks h (ComputeOut v more) = h v

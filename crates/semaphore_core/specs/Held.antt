@@ -12,6 +12,7 @@ use Rattle.std.specs.Prelude.{
   nat_lt,
   List,
   length,
+  Option,
   Some,
   None,
   slice_get,
@@ -33,7 +34,7 @@ use Rattle.flat_graph.specs.Valid.{is_flat}
 use Rattle.operation_desks.specs.Operation.{delay_of}
 use Rattle.flat_graph.specs.Graph.{lens_of}
 use Rattle.flat_graph.specs.Fire.{cell_len, seen_len}
-use Rattle.operation_desks.specs.Desk.{DeskLens, IsDesk}
+use Rattle.operation_desks.specs.Desk.{DeskLens, HasDesk}
 use Rattle.operation_desks.specs.Rooms.{Fits}
 use Rattle.semaphore_core.specs.Parts.{Kept}
 use Rattle.executive_program.specs.Steps.{steps}
@@ -43,12 +44,11 @@ use Rattle.semaphore_core.specs.Core.{Core, count, full, is_enabled, IsReached}
 use Rattle.semaphore_core.specs.declared.answer.StepAnswer.{StepAnswer}
 use Rattle.semaphore_core.specs.declared.answer.StepAnswer.TheVariants.{Stepped, NotYet, Finished}
 
--- Operations can be computed: each has its desk, and what it keeps and senses has the lengths of its kind.
+-- Operations that are laid out can be computed: each has a place for its desk, and what
+-- it keeps and senses has the lengths of its kind.
 pub record AreReady (j : JobData) (k : Kept) : Type 0 where
   pub valid : is_flat j.graph ≡ true
   pub desks_there : length k.desks ≡ length j.graph.vertices
-  pub desk : (v : ℕ) (x : Vertex) (d : DeskLens) → slice_get j.graph.vertices v ≡ Some x →
-      slice_get k.desks v ≡ Some d → IsDesk j.graph v x d
   pub cells_fit : (v : ℕ) (x : Vertex) (c : ℕ) → slice_get j.graph.vertices v ≡ Some x →
       delay_of j.graph v x ≡ Some c → (c < length k.cells) × (length (vector_at k.cells c) ≡ cell_len j.graph v)
   pub no_cell : (v : ℕ) (x : Vertex) → slice_get j.graph.vertices v ≡ Some x → delay_of j.graph v x ≡ None →
@@ -63,16 +63,23 @@ abbrev pub HasRow : JobData → List ℕ → ℕ → Type 0
 HasRow j lens v = (x : Vertex) (a : ℕ) → slice_get j.graph.vertices v ≡ Some x → x.kind ≡ Actuator a →
     (a < length lens) × (slice_index_or lens a 0 ≡ slice_index_or (lens_of j.graph.vertices x.ins) 0 0)
 
--- the operation that a load or a store computes has its rows
-abbrev pub LoadHasRow : JobData → List ℕ → OnLoad → Type 0
-LoadHasRow j lens CarryIn = Unit {0}
-LoadHasRow j lens (Gather r) = Unit {0}
-LoadHasRow j lens (ComputeIn v r more) = HasRow j lens v
+-- Operation v is laid out, among rows of these lengths and these desks: it
+-- has its rows, and in its place stands its desk.
+pub record IsLaid (j : JobData) (lens : List ℕ) (desks : List (Option DeskLens)) (v : ℕ) : Type 0 where
+  pub row : HasRow j lens v
+  pub desk : (x : Vertex) (o : Option DeskLens) → slice_get j.graph.vertices v ≡ Some x →
+      slice_get desks v ≡ Some o → HasDesk j.graph v x o
 
-abbrev pub StoreHasRow : JobData → List ℕ → OnStore → Type 0
-StoreHasRow j lens (ComputeOut v more) = HasRow j lens v
-StoreHasRow j lens CarryOut = Unit {0}
-StoreHasRow j lens (Give r more) = Unit {0}
+-- the operation that a load or a store computes is laid out
+abbrev pub LoadIsLaid : JobData → List ℕ → List (Option DeskLens) → OnLoad → Type 0
+LoadIsLaid j lens desks CarryIn = Unit {0}
+LoadIsLaid j lens desks (Gather r) = Unit {0}
+LoadIsLaid j lens desks (ComputeIn v r more) = IsLaid j lens desks v
+
+abbrev pub StoreIsLaid : JobData → List ℕ → List (Option DeskLens) → OnStore → Type 0
+StoreIsLaid j lens desks (ComputeOut v more) = IsLaid j lens desks v
+StoreIsLaid j lens desks CarryOut = Unit {0}
+StoreIsLaid j lens desks (Give r more) = Unit {0}
 
 pub record Held : Type 0 where
   pub core : Core
@@ -81,7 +88,7 @@ pub record Held : Type 0 where
   pub rooms : List ℕ
   -- the lengths of the actuators' vectors, and the operations' desks
   pub lens : List ℕ
-  pub desks : List DeskLens
+  pub desks : List (Option DeskLens)
 
 abbrev pub kept_of : Held → Kept
 kept_of h = record { cells = h.core.cells; rows = h.core.rows; lens = h.lens; desks = h.desks }
@@ -109,7 +116,7 @@ module _ (j : JobData) where
     pub reached : IsReached j h.core
     pub places : HasPlaces j.program
     pub ready : AreReady j (kept_of h)
-    pub rows : (v : ℕ) → HasRow j h.lens v
+    pub laid : (v : ℕ) → IsLaid j h.lens h.desks v
     pub steps_are : AreSteps j.program h.steps
     pub counts_there : length h.core.counts ≡ length j.program.seqs
     pub rooms_there : length h.rooms ≡ length j.program.seqs

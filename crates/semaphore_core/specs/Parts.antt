@@ -1,6 +1,6 @@
 -- What the sequences of a state or of a driver have of their own,
 -- and what the loads and stores of one of them leave of it.
-use Rattle.std.specs.Prelude.{ℕ, List, [], Some, slice_index_or, slice_set, ℤ}
+use Rattle.std.specs.Prelude.{ℕ, List, [], Option, Some, slice_index_or, slice_set, ℤ}
 use Rattle.level_meaning.specs.Level.{Values}
 use Rattle.flat_graph.specs.declared.vertex.Vertex.{Vertex}
 use Rattle.syn_base.specs.Rows.{Reactions}
@@ -11,12 +11,12 @@ use Rattle.operation_desks.specs.RegisterFile.{RegisterFile}
 use Rattle.operation_desks.specs.Registers.{Own, compute, compute_by, absorb_by, emit_by, after_by}
 use Rattle.semaphore_core.specs.Job.{JobData}
 
--- the delays' cells, the actuators' rows with the lengths of their vectors, and the operations' desks
+-- the delays' cells, the actuators' rows with the lengths of their vectors, and the places of the operations' desks
 pub record Kept : Type 0 where
   pub cells : Values
   pub rows : List Values
   pub lens : List ℕ
-  pub desks : List DeskLens
+  pub desks : List (Option DeskLens)
 
 pub record Parts : Type 0 where
   -- by sequence: the registers that are in use, and how many it has room for

@@ -6,9 +6,9 @@
 //! and the top call stand on this crate. For steps on other words than a state's own there are the parts of a
 //! step: `next_in` and `reaction_at` find the next micro-step of a sequence, and `home` and `slot` where an
 //! element lies. `OwnParts` is what the sequences of a state or of a driver have of their own: `absorb` does
-//! with an element what a load does, and `emit` returns what a store stores. Its rows can be laid out for some
-//! operations alone, `into_parts` hands its cells and rows out, and `put_row` puts rows together. What operations are
-//! computed with comes from `operation_desks`.
+//! with an element what a load does, and `emit` returns what a store stores. Its rows and desks can be laid out for
+//! some operations alone, `into_parts` hands its cells and rows out, and `put_row` puts rows together. What operations
+//! are computed with comes from `operation_desks`.
 #![tactic(auto)]
 
 mod answer;

@@ -13,14 +13,16 @@ ghost use Rattle.operation_desks.specs.RowLens.{actuator_lens};
 ghost use Rattle.semaphore_core.specs.Job.{zero_rows};
 ghost use Rattle.semaphore_core.specs.IsJob.{IsJob};
 ghost use Rattle.semaphore_core.specs.Rows.{with_vector, TakesRow};
-ghost use Rattle.semaphore_core.specs.Held.{AreReady, HasRow, LoadHasRow, StoreHasRow};
+ghost use Rattle.semaphore_core.specs.Held.{AreReady, IsLaid, LoadIsLaid, StoreIsLaid};
 ghost use Rattle.operation_desks.specs.Rooms.{outputs_len, top_load, top_store};
 ghost use Rattle.semaphore_core.specs.Parts.{own_of, own_with, computed, computed_by, absorbed, emitted, left, with_values, with_kept};
 
 use crate::job::Job;
 use executive_program::{OnLoad, OnStore};
 use flat_graph::{Flat, Kind, Vertex};
-use operation_desks::{Desk, Registers, actuator_lens, copy_of, desks_of, row_lens, zero_rows};
+use operation_desks::{
+    Desk, Registers, actuator_lens, copy_of, desks_for, desks_of, row_lens, zero_rows,
+};
 use std::alloc::Global;
 use std::marker::Model;
 use syn_base::{ActRows, OutOfMemory};
@@ -80,38 +82,51 @@ fn take_row(rows: &mut ActRows, vertex: &Vertex, reaction: usize, desk: &Desk)
     }
 }
 
+/// Which operation is made, and in which reaction: its number, and what it is.
+struct Call<'x> {
+    vertex: u32,
+    x: &'x Vertex,
+    reaction: usize,
+}
+
 /// Makes an operation on its desk: it reads the registers, and leaves its outputs in them.
 fn operate(
     job: &Job,
-    vertex: u32,
-    x: &Vertex,
-    reaction: usize,
+    call: Call,
     desk: &mut Desk,
     cells: &mut Vec<Vec<i64>>,
     rows: &mut ActRows,
     registers: &mut Registers,
 )
     requires valid { is_flat job.now.graph ≡ true }
-    requires there { slice_get job.now.graph.vertices vertex ≡ Some x.now }
-    requires desk { IsDesk job.now.graph vertex x.now (lens_of_desk desk.old) }
+    requires there { slice_get job.now.graph.vertices call.vertex ≡ Some call.x.now }
+    requires desk { IsDesk job.now.graph call.vertex call.x.now (lens_of_desk desk.old) }
     requires cell { HasCell (map (λ c. c.items) cells.old.items)
-        (delay_of job.now.graph vertex x.now) (cell_len job.now.graph vertex) }
-    requires sensor { (i : ℕ) → x.now.kind ≡ Sensor i →
+        (delay_of job.now.graph call.vertex call.x.now) (cell_len job.now.graph call.vertex) }
+    requires sensor { (i : ℕ) → call.x.now.kind ≡ Sensor i →
         (i < length job.now.lens) × (slice_index_or job.now.lens i 0 ≡
-        seen_len job.now.graph vertex) }
-    requires actuator { (a : ℕ) → x.now.kind ≡ Actuator a →
+        seen_len job.now.graph call.vertex) }
+    requires actuator { (a : ℕ) → call.x.now.kind ≡ Actuator a →
         (a < length rows.old.lens) × (slice_index_or rows.old.lens a 0 ≡
-        slice_index_or (lens_of job.now.graph.vertices x.now.ins) 0 0) }
-    requires reaction { (reaction < length job.now.sensors) × (reaction < length rows.old.reactions) }
-    requires room { outputs_len job.now.graph vertex < registers.old.room }
+        slice_index_or (lens_of job.now.graph.vertices call.x.now.ins) 0 0) }
+    requires reaction { (call.reaction < length job.now.sensors) × (call.reaction < length rows.old.reactions) }
+    requires room { outputs_len job.now.graph call.vertex < registers.old.room }
     ensures registers { let own = own_with registers.old (map (λ c. c.items) cells.old.items) rows.old in
-        registers.new ≡ with_values registers.old (computed_by job.now vertex x.now reaction own) }
+        registers.new ≡ with_values registers.old
+        (computed_by job.now call.entry.vertex call.entry.x.now call.entry.reaction own) }
     ensures cells { let own = own_with registers.old (map (λ c. c.items) cells.old.items) rows.old in
-        map (λ c. c.items) cells.new.items ≡ (computed_by job.now vertex x.now reaction own).cells }
+        map (λ c. c.items) cells.new.items ≡
+        (computed_by job.now call.entry.vertex call.entry.x.now call.entry.reaction own).cells }
     ensures rows { let own = own_with registers.old (map (λ c. c.items) cells.old.items) rows.old in
-        rows.new ≡ record rows.old { reactions = (computed_by job.now vertex x.now reaction own).rows } }
+        rows.new ≡ record rows.old { reactions =
+        (computed_by job.now call.entry.vertex call.entry.x.now call.entry.reaction own).rows } }
     ensures desk { lens_of_desk desk.new ≡ lens_of_desk desk.old }
 {
+    let Call {
+        vertex,
+        x,
+        reaction,
+    } = call;
     desk.read(registers);
     fire_on(desk, job.flat(), vertex, cells, job.sensed(x, reaction));
     desk.give(registers);
@@ -131,16 +146,16 @@ pub fn cells_and_rows(alloc: Global, job: &Job) -> Result<(Vec<Vec<i64>>, ActRow
     Ok((cells, rows))
 }
 
-/// The cells of the delays, the rows of the actuators, and a desk for each operation.
+/// The cells of the delays, the rows of the actuators, and by operation its desk, where it is laid out.
 #[derive(Drop)]
 pub struct Operations {
     cells: Vec<Vec<i64>>,
     rows: ActRows,
-    desks: Vec<Desk>,
+    desks: Vec<Option<Desk>>,
 }
 
 impl Model for Operations {
-    ghost use Rattle.std.specs.Prelude.{map};
+    ghost use Rattle.std.specs.Prelude.{map, option_map};
     ghost use Rattle.semaphore_core.specs.Parts.{Kept};
     ghost use Rattle.operation_desks.specs.Desk.{lens_of_desk};
 
@@ -150,7 +165,7 @@ impl Model for Operations {
       cells = map (λ c. c.items) s.cells.items;
       rows = s.rows.reactions;
       lens = s.rows.lens;
-      desks = map lens_of_desk s.desks.items;
+      desks = map (option_map lens_of_desk) s.desks.items;
     } };
 }
 
@@ -161,16 +176,15 @@ impl Operations {
         ensures lens { IfOk result (λ k. k.lens ≡ actuator_lens job.now.graph job.now.graph.vertices) }
         ensures rows { IfOk result (λ k. k.rows ≡ zero_rows job.now) }
         ensures ready { IfOk result (λ k. AreReady job.now k) }
-        ensures laid_out { IfOk result (λ k. (v : ℕ) → HasRow job.now k.lens v) }
+        ensures laid_out { IfOk result (λ k. (v : ℕ) → IsLaid job.now k.lens k.desks v) }
     {
         let (cells, rows) = cells_and_rows(alloc, job)?;
         let desks = desks_of(alloc, job.flat())?;
         Ok(Operations { cells, rows, desks })
     }
 
-    /// The operations of a job before any is made, with rows laid out for some of them alone: `mine` says
-    /// which, by their number. Only these may be computed then, where they are actuators. The cells and the
-    /// desks are those of all.
+    /// The operations of a job before any is made, with rows and desks laid out for some of them alone: `mine`
+    /// says which, by their number. Only these may be computed then. The cells are those of all.
     pub fn for_some(alloc: Global, job: &Job, mine: &[bool]) -> Result<Operations, OutOfMemory>
         ensures cells { IfOk result (λ k. k.cells ≡ job.now.opening) }
         ensures lens { IfOk result (λ k. k.lens ≡ lens_for job.now.graph
@@ -178,13 +192,13 @@ impl Operations {
         ensures rows { IfOk result (λ k. k.rows ≡ replicate (length job.now.sensors) (map zeros k.lens)) }
         ensures ready { IfOk result (λ k. AreReady job.now k) }
         ensures laid_out { IfOk result (λ k. (v : ℕ) →
-            slice_index_or mine.now v false ≡ true → HasRow job.now k.lens v) }
+            slice_index_or mine.now v false ≡ true → IsLaid job.now k.lens k.desks v) }
     {
         let lens = row_lens(alloc, job.flat(), mine)?;
         Ok(Operations {
             cells: copy_of(alloc, job.opening())?,
             rows: zero_rows(alloc, lens.as_slice(), job.reactions())?,
-            desks: desks_of(alloc, job.flat())?,
+            desks: desks_for(alloc, job.flat(), mine)?,
         })
     }
 
@@ -213,7 +227,7 @@ impl Operations {
         registers: &mut Registers,
     )
         requires ready { AreReady job.now self.old }
-        requires row { LoadHasRow job.now self.old.lens then }
+        requires laid { LoadIsLaid job.now self.old.lens self.old.desks then }
         requires reaction { reaction < length job.now.sensors }
         requires room { top_load job.now.graph then < registers.old.room }
         ensures registers { registers.new ≡ with_values registers.old
@@ -245,7 +259,7 @@ impl Operations {
         registers: &mut Registers,
     ) -> i64
         requires ready { AreReady job.now self.old }
-        requires row { StoreHasRow job.now self.old.lens what }
+        requires laid { StoreIsLaid job.now self.old.lens self.old.desks what }
         requires reaction { reaction < length job.now.sensors }
         requires room { top_store job.now.graph what < registers.old.room }
         ensures value { result ≡ emitted job.now what reaction (own_of registers.old self.old) }
@@ -278,7 +292,7 @@ impl Operations {
     /// Computes an operation on what the registers hold, which then hold its outputs.
     fn compute(&mut self, job: &Job, vertex: u32, reaction: u64, registers: &mut Registers)
         requires ready { AreReady job.now self.old }
-        requires row { HasRow job.now self.old.lens vertex }
+        requires laid { IsLaid job.now self.old.lens self.old.desks vertex }
         requires reaction { reaction < length job.now.sensors }
         requires room { outputs_len job.now.graph vertex < registers.old.room }
         ensures registers { registers.new ≡ with_values registers.old
@@ -288,17 +302,15 @@ impl Operations {
     {
         let vertices = job.flat().vertices();
         if (vertex as usize) < vertices.len() {
-            let x = &vertices[vertex as usize];
-            operate(
-                job,
+            let call = Call {
                 vertex,
-                x,
-                reaction as usize,
-                &mut self.desks[vertex as usize],
-                &mut self.cells,
-                &mut self.rows,
-                registers,
-            );
+                x: &vertices[vertex as usize],
+                reaction: reaction as usize,
+            };
+            match &mut self.desks[vertex as usize] {
+                Some(desk) => operate(job, call, desk, &mut self.cells, &mut self.rows, registers),
+                None => unreachable!(),
+            }
         } else {
             registers.clear();
         }

@@ -5,7 +5,7 @@ ghost use Rattle.operation_desks.specs.RowLens.{actuator_lens};
 ghost use Rattle.semaphore_core.specs.Job.{zero_rows};
 ghost use Rattle.semaphore_core.specs.AtOpening.{AreAtOpening};
 ghost use Rattle.operation_desks.specs.RowLens.{lens_for};
-ghost use Rattle.semaphore_core.specs.Held.{AreReady, HasRow, LoadHasRow, StoreHasRow};
+ghost use Rattle.semaphore_core.specs.Held.{AreReady, IsLaid, LoadIsLaid, StoreIsLaid};
 ghost use Rattle.operation_desks.specs.Rooms.{top_load, top_store};
 ghost use Rattle.semaphore_core.specs.Parts.{with_load, with_store, value_stored};
 
@@ -45,7 +45,7 @@ impl OwnParts {
         ensures lens { IfOk result (λ p. p.kept.lens
             ≡ actuator_lens job.now.graph job.now.graph.vertices) }
         ensures rows { IfOk result (λ p. p.kept.rows ≡ zero_rows job.now) }
-        ensures laid_out { IfOk result (λ p. (v : ℕ) → HasRow job.now p.kept.lens v) }
+        ensures laid_out { IfOk result (λ p. (v : ℕ) → IsLaid job.now p.kept.lens p.kept.desks v) }
     {
         Ok(OwnParts {
             registers: all_registers(alloc, job.flat(), steps)?,
@@ -53,8 +53,8 @@ impl OwnParts {
         })
     }
 
-    /// The same with rows laid out for some operations alone: `mine` says which, by their number. Only these
-    /// may be computed then, where they are actuators.
+    /// The same with rows and desks laid out for some operations alone: `mine` says which, by their number.
+    /// Only these may be computed then.
     pub fn for_some(
         alloc: Global,
         job: &Job,
@@ -67,7 +67,7 @@ impl OwnParts {
         ensures rows { IfOk result (λ p. p.kept.rows
             ≡ replicate (length job.now.sensors) (map zeros p.kept.lens)) }
         ensures laid_out { IfOk result (λ p. (v : ℕ)
-            → slice_index_or mine.now v false ≡ true → HasRow job.now p.kept.lens v) }
+            → slice_index_or mine.now v false ≡ true → IsLaid job.now p.kept.lens p.kept.desks v) }
     {
         Ok(OwnParts {
             registers: all_registers(alloc, job.flat(), steps)?,
@@ -93,7 +93,7 @@ impl OwnParts {
     /// What a load of a sequence does with the element. It takes no memory.
     pub fn absorb(&mut self, job: &Job, seq: usize, reaction: u64, then: OnLoad, value: i64)
         requires ready { AreReady job.now self.old.kept }
-        requires row { LoadHasRow job.now self.old.kept.lens then }
+        requires laid { LoadIsLaid job.now self.old.kept.lens self.old.kept.desks then }
         requires reaction { reaction < length job.now.sensors }
         requires there { seq < length self.old.rooms }
         requires room { top_load job.now.graph then < slice_index_or self.old.rooms seq 0 }
@@ -107,7 +107,7 @@ impl OwnParts {
     /// What a store of a sequence stores; it leaves what is there after that. It takes no memory.
     pub fn emit(&mut self, job: &Job, seq: usize, reaction: u64, what: OnStore) -> i64
         requires ready { AreReady job.now self.old.kept }
-        requires row { StoreHasRow job.now self.old.kept.lens what }
+        requires laid { StoreIsLaid job.now self.old.kept.lens self.old.kept.desks what }
         requires reaction { reaction < length job.now.sensors }
         requires there { seq < length self.old.rooms }
         requires room { top_store job.now.graph what < slice_index_or self.old.rooms seq 0 }

@@ -1,7 +1,7 @@
 //! The state of a run, and the calls that step it.
 ghost use Rattle.std.specs.Prelude.{◌≡◌, ℕ, ◌+◌, ◌*◌, ◌%◌, ◌^◌, ◌<◌, length, slice_index_or, slice_set, Some, IfOk};
 ghost use Rattle.semaphore_core.specs.Core.{count, counted, done_in, next, reaction, step, run_from, enabled_in, is_enabled, load_by, store_by, home_of, slot_of, opening};
-ghost use Rattle.semaphore_core.specs.Held.{AreReady, HasRow, IsOpened, FitsWord, NeedsReaction, answer, kept_of};
+ghost use Rattle.semaphore_core.specs.Held.{AreReady, IsLaid, IsOpened, FitsWord, NeedsReaction, answer, kept_of};
 ghost use Rattle.operation_desks.specs.Rooms.{top, top_load, top_store};
 ghost use Rattle.executive_program.specs.Instructions.{HasPlaces, depth_of};
 
@@ -136,7 +136,7 @@ impl State {
     fn load(&mut self, job: &Job, seq: usize, reaction: u64, place: Place, then: OnLoad)
         requires places { HasPlaces job.now.program }
         requires ready { AreReady job.now (kept_of self.old) }
-        requires rows { (v : ℕ) → HasRow job.now self.old.lens v }
+        requires laid { (v : ℕ) → IsLaid job.now self.old.lens self.old.desks v }
         requires reaction { reaction < length job.now.sensors }
         requires counted { (seq < length self.old.core.counts) × (count self.old.core seq + 1 < 2 ^ 64) }
         requires room { (seq < length self.old.rooms) ×
@@ -154,7 +154,7 @@ impl State {
     fn store(&mut self, job: &Job, seq: usize, reaction: u64, place: Place, what: OnStore)
         requires places { HasPlaces job.now.program }
         requires ready { AreReady job.now (kept_of self.old) }
-        requires rows { (v : ℕ) → HasRow job.now self.old.lens v }
+        requires laid { (v : ℕ) → IsLaid job.now self.old.lens self.old.desks v }
         requires reaction { reaction < length job.now.sensors }
         requires counted { (seq < length self.old.core.counts) × (count self.old.core seq + 1 < 2 ^ 64) }
         requires room { (seq < length self.old.rooms) ×
@@ -210,7 +210,7 @@ impl State {
     fn make(&mut self, job: &Job, seq: usize, reaction: u64, step: MicroStep)
         requires places { HasPlaces job.now.program }
         requires ready { AreReady job.now (kept_of self.old) }
-        requires rows { (v : ℕ) → HasRow job.now self.old.lens v }
+        requires laid { (v : ℕ) → IsLaid job.now self.old.lens self.old.desks v }
         requires reaction { NeedsReaction step reaction (length job.now.sensors) }
         requires counted { (seq < length self.old.core.counts) × (count self.old.core seq + 1 < 2 ^ 64) }
         requires room { (seq < length self.old.rooms) × (top job.now.graph step < slice_index_or self.old.rooms seq 0) }

@@ -13,7 +13,7 @@ use Rattle.operation_desks.specs.Rooms.{room_of}
 use Rattle.operation_desks.specs.RowLens.{lens_for}
 use Rattle.semaphore_core.specs.AtOpening.{AreAtOpening}
 use Rattle.operation_desks.specs.Registers.{Own}
-use Rattle.semaphore_core.specs.Held.{HasRow}
+use Rattle.semaphore_core.specs.Held.{IsLaid}
 use Rattle.semaphore_core.specs.Job.{JobData, zero_rows, reactions}
 use Rattle.operation_desks.specs.RowLens.{actuator_len, actuator_lens}
 use Rattle.semaphore_core.specs.Core.{opening}
@@ -61,16 +61,16 @@ module _ (j : JobData) (g : RunsOnWords j) (code : List SeqSteps) (are : AreStep
     (k : Knowledge) (d : DriverParts) (job : d.job.now ≡ j) (new : IsNewView j k) (drives : (s : ℕ) → s < length j.program.seqs → s % d.groups ≡ d.group → count_in k.driven s ≡ Some 0) (only : (s n : ℕ) → count_in k.driven s ≡ Some n → s % d.groups ≡ d.group)
     (holds : d.seat.view ≡ Holds k) (mine : List Bool) (mine_is : mine ≡ map (λ s. nat_eq (s % d.groups) d.group) callers)
     (counts : d.counts.items ≡ replicate (length j.program.seqs) 0) (at : AreAtOpening j code d.own) (lens : d.own.kept.lens ≡ lens_for j.graph (λ v. get_or mine v false) 0 j.graph.vertices)
-    (rows : d.own.kept.rows ≡ replicate (reactions j) (map zeros d.own.kept.lens)) (laid : (v : ℕ) → get_or mine v false ≡ true → HasRow j d.own.kept.lens v) where
+    (rows : d.own.kept.rows ≡ replicate (reactions j) (map zeros d.own.kept.lens)) (laid : (v : ℕ) → get_or mine v false ≡ true → IsLaid j d.own.kept.lens d.own.kept.desks v) where
   code_long : length code ≡ length j.program.seqs
   code_long = ap (length {A = SeqSteps}) are ∙ length-map j.program.seqs (expanded j.program)
 
   first : (s n : ℕ) → count_in k.driven s ≡ Some n → own_after j s n ≡ record { registers = []; cells = j.opening; rows = zero_rows j }
   first s n c = ap (own_after j s) (new.none_made s n c) ∙ g.values.first s
 
-  -- rows are laid out for what the group calls
-  rows_laid : (v : ℕ) → caller j v % d.groups ≡ d.group → HasRow j d.own.kept.lens v
-  rows_laid v q x a is e = laid v own x a is e
+  -- what the group calls is its own
+  is_own : (v : ℕ) (x : Vertex) → slice_get j.graph.vertices v ≡ Some x → caller j v % d.groups ≡ d.group → get_or mine v false ≡ true
+  is_own v x is q = own
     where
       there : v < length j.graph.vertices
       there = slice_get_within j.graph.vertices v x is
@@ -79,9 +79,16 @@ module _ (j : JobData) (g : RunsOnWords j) (code : List SeqSteps) (are : AreStep
       own = ap (λ (l : List Bool). get_or l v false) mine_is ∙ get_or-map (λ s. nat_eq (s % d.groups) d.group) callers v 0 false (let t = there in let w = callers_there in omega (arith, t, w))
           ∙ eq-eqb (get_or callers v 0 % d.groups) d.group (ap (λ (s : ℕ). s % d.groups) (called v there) ∙ q)
 
+  -- and is laid out
+  calls_laid : (v : ℕ) → caller j v % d.groups ≡ d.group → IsLaid j d.own.kept.lens d.own.kept.desks v
+  calls_laid v q = record {
+    row = λ x a is e. (laid v (is_own v x is q)).row x a is e;
+    desk = λ x b is at. (laid v (is_own v x is q)).desk x b is at;
+  }
+
   row_first : (s n v a i : ℕ) (x : Vertex) → count_in k.driven s ≡ Some n → slice_get j.graph.vertices v ≡ Some x → x.kind ≡ Actuator a → caller j v ≡ s → row_at d.own.kept.rows i a ≡ row_at (zero_rows j) i a
   row_first s n v a i x c is e w =
-      let q = rows_laid v (ap (λ (t : ℕ). t % d.groups) w ∙ only s n c) x a is e in let p = actuator_at j.graph at.ready.valid v a x is e in
+      let q = (calls_laid v (ap (λ (t : ℕ). t % d.groups) w ∙ only s n c)).row x a is e in let p = actuator_at j.graph at.ready.valid v a x is e in
       ap (λ (l : List Values). row_at l i a) rows ∙ zero_row (reactions j) d.own.kept.lens i a (get_or (lens_of j.graph.vertices x.ins) 0 0) q.0 q.1
       ∙ sym (zero_row (reactions j) (actuator_lens j.graph j.graph.vertices) i a (get_or (lens_of j.graph.vertices x.ins) 0 0) p.0 p.1)
 
@@ -111,7 +118,7 @@ module _ (j : JobData) (g : RunsOnWords j) (code : List SeqSteps) (are : AreStep
     all = λ s l q. (0, drives s l q);
     reaches = record { counts = (opening j).counts; reached = ([], refl); agree = λ s n c. count_zero (length j.program.seqs) s ∙ sym (new.none_made s n c) };
     ready = at.ready;
-    rows_laid = rows_laid;
+    laid = calls_laid;
     in_prologue = rw at.rooms (prologue_fits j code are);
     in_turn = rw at.rooms (turn_fits j code are);
     own = own_first;
@@ -122,7 +129,7 @@ pub begins_by : (j : JobData) → RunsOnWords j → (code : List SeqSteps) → A
     → (d : DriverParts) → d.job.now ≡ j → DrivesGroup j d.groups d.group d.seat.view → (mine : List Bool) → mine ≡ map (λ s. nat_eq (s % d.groups) d.group) callers
     → d.counts.items ≡ replicate (length j.program.seqs) 0 → AreAtOpening j code d.own
     → d.own.kept.lens ≡ lens_for j.graph (λ v. get_or mine v false) 0 j.graph.vertices
-    → d.own.kept.rows ≡ replicate (reactions j) (map zeros d.own.kept.lens) → ((v : ℕ) → get_or mine v false ≡ true → HasRow j d.own.kept.lens v)
+    → d.own.kept.rows ≡ replicate (reactions j) (map zeros d.own.kept.lens) → ((v : ℕ) → get_or mine v false ≡ true → IsLaid j d.own.kept.lens d.own.kept.desks v)
     → AreDriverParts d × IsNew (driver_view d)
 begins_by j g code are callers called there d job new mine mine_is counts at lens rows laid = by d.seat.view refl new
   where

@@ -118,4 +118,4 @@ seat_all j table groups counts s many h = record { long = many; each = λ i l. h
 
 -- the rows of the actuators of a driver's group are laid out
 pub own_laid : (d : DriverParts) (r : Remains) → AreDriverParts d → FitsTo d r → (v : ℕ) → get_or r.callers.items v 0 % d.groups ≡ d.group → HasRow d.job.now d.own.kept.lens v
-own_laid d r (k, i) f v q x a is e = i.rows_laid v (ap (λ (s : ℕ). s % d.groups) (sym (f.of_job.callers v (slice_get_within d.job.now.graph.vertices v x is))) ∙ q) x a is e
+own_laid d r (k, i) f v q x a is e = (i.laid v (ap (λ (s : ℕ). s % d.groups) (sym (f.of_job.callers v (slice_get_within d.job.now.graph.vertices v x is))) ∙ q)).row x a is e

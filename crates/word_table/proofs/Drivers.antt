@@ -78,7 +78,7 @@ unmoved j t k l d seat i of_table holds job driven = record {
   all = λ s q w. let r = i.all s q w in (r.0, subst (λ xs. count_in xs s ≡ Some r.0) (sym driven) r.1);
   reaches = reaches_still j k l i.reaches driven;
   ready = i.ready;
-  rows_laid = i.rows_laid;
+  laid = i.laid;
   in_prologue = i.in_prologue;
   in_turn = i.in_turn;
   own = let o = i.own in record {
@@ -96,8 +96,8 @@ unmoved j t k l d seat i of_table holds job driven = record {
 -- one micro-step more of s
 pub moved_on : (j : JobData) (t : TableId) (k l : Knowledge) (d e : DriverParts) (s n : ℕ) → IsDriver j t k d → SameDriver d e → e.seat.view ≡ Holds l → l.job ≡ k.job → l.driven ≡ raised k.driven s
     → count_in k.driven s ≡ Some n → n < full j s → CountsOneMore d e s → length e.own.registers ≡ length d.own.registers → e.own.rooms ≡ d.own.rooms
-    → Reaches j l → AreReady j e.own.kept → e.own.kept.lens ≡ d.own.kept.lens → HasOwn j l e.own.registers e.own.kept.cells e.own.kept.rows → IsDriver j t l e
-moved_on j t k l d e s n i same holds job driven mine more counts registers rooms reaches ready lens own = record {
+    → Reaches j l → AreReady j e.own.kept → (e.own.kept.lens ≡ d.own.kept.lens) × (e.own.kept.desks ≡ d.own.kept.desks) → HasOwn j l e.own.registers e.own.kept.cells e.own.kept.rows → IsDriver j t l e
+moved_on j t k l d e s n i same holds job driven mine more counts registers rooms reaches ready places own = record {
   of_table = same.table ∙ i.of_table;
   of_job = same.job ∙ i.of_job;
   holds = holds;
@@ -116,7 +116,7 @@ moved_on j t k l d e s n i same holds job driven mine more counts registers room
       (λ c. (r.0, subst (λ xs. count_in xs h ≡ Some r.0) (sym driven) (raised-other k.driven s h c ∙ r.1))) (cases_eq h s);
   reaches = reaches;
   ready = ready;
-  rows_laid = λ v q. rw lens (i.rows_laid v (ap (λ (m : ℕ). caller j v % m) (sym same.groups) ∙ q ∙ same.group));
+  laid = λ v q. rw (places.0, places.1) (i.laid v (ap (λ (m : ℕ). caller j v % m) (sym same.groups) ∙ q ∙ same.group));
   in_prologue = rw rooms i.in_prologue;
   in_turn = rw rooms i.in_turn;
   own = own;
@@ -225,16 +225,16 @@ module _ (f : FabricParts) (d : DriverParts) (next : Next) (is : AreFabricParts 
     now_holds = seat ∙ ap (λ (v : View). after (λ k. stepped k next.seq) v) c.driver.holds
 
     -- where the private part is what it is to be
-    pub free_driver : length e.own.registers ≡ length d.own.registers → e.own.rooms ≡ d.own.rooms → AreReady f.job.now e.own.kept → e.own.kept.lens ≡ d.own.kept.lens
+    pub free_driver : length e.own.registers ≡ length d.own.registers → e.own.rooms ≡ d.own.rooms → AreReady f.job.now e.own.kept → (e.own.kept.lens ≡ d.own.kept.lens) × (e.own.kept.desks ≡ d.own.kept.desks)
         → HasOwn f.job.now (stepped c.knowledge next.seq) e.own.registers e.own.kept.cells e.own.kept.rows → IsOf f e
-    free_driver registers rooms ready lens own = (
+    free_driver registers rooms ready places own = (
       L,
       moved_on J f.table.table K L d e next.seq c.count c.driver same now_holds refl refl c.drives c.more counts registers rooms
-          (reaches_next T.0 (agreed T.0 T.1) T.1.agree (free.always (told J T.0) next.reaction) L refl) ready lens own,
+          (reaches_next T.0 (agreed T.0 T.1) T.1.agree (free.always (told J T.0) next.reaction) L refl) ready places own,
     )
 
     pub quiet_driver : IsQuiet next.step → e.own ≡ d.own → IsOf f e
-    quiet_driver q own = free_driver (ap (λ o. length o.registers) own) (ap (λ o. o.rooms) own) (rw own c.driver.ready) (ap (λ o. o.kept.lens) own) (rw own (quiet_own L refl q))
+    quiet_driver q own = free_driver (ap (λ o. length o.registers) own) (ap (λ o. o.rooms) own) (rw own c.driver.ready) (ap (λ o. o.kept.lens) own, ap (λ o. o.kept.desks) own) (rw own (quiet_own L refl q))
 
     pub free_steps : Steps (driver_view d) (driver_view e) next.seq next.reaction next.step
     free_steps = record {

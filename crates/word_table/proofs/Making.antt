@@ -17,7 +17,7 @@ use Rattle.semaphore_core.specs.Job.{JobData, reactions}
 use Rattle.semaphore_core.specs.Core.{Core, full, own, element_of, enabled_in, turn_reached}
 use Rattle.operation_desks.specs.Registers.{emit_by}
 use Rattle.semaphore_core.specs.Parts.{own_at, absorbed, left, with_load, with_store, value_stored}
-use Rattle.semaphore_core.specs.Held.{NeedsReaction, LoadHasRow, StoreHasRow}
+use Rattle.semaphore_core.specs.Held.{NeedsReaction, LoadIsLaid, StoreIsLaid}
 use Rattle.operation_desks.specs.Rooms.{Fits}
 use Rattle.semaphore_core.specs.Told.{told}
 use Rattle.semaphore_core.proofs.Ready.{absorb_ready, after_ready}
@@ -78,22 +78,22 @@ module _ (f : FabricParts) (d : DriverParts) (next : Next) (is : AreFabricParts 
   grouped : (v : ℕ) → caller Jo v ≡ S → caller Jo v % d.groups ≡ d.group
   grouped v e = ap (λ (s : ℕ). s % d.groups) e ∙ c.driver.only S c.count c.drives
 
-  -- what the sequence computes has its rows
-  pub load_row : (x : Place) (then : OnLoad) → next.step ≡ Load x then → LoadHasRow f.job.now d.own.kept.lens then
-  load_row x then e = by then (loads_here Jo is.runs.formed is.runs.values S c.count x then (c.next_step ∙ ap (λ (i : MicroStep). Some i) e))
+  -- what the sequence computes is laid out
+  pub load_laid : (x : Place) (then : OnLoad) → next.step ≡ Load x then → LoadIsLaid f.job.now d.own.kept.lens d.own.kept.desks then
+  load_laid x then e = by then (loads_here Jo is.runs.formed is.runs.values S c.count x then (c.next_step ∙ ap (λ (i : MicroStep). Some i) e))
     where
-      by : (then : OnLoad) → LoadsHere Jo.program Jo.media S then → LoadHasRow Jo d.own.kept.lens then
+      by : (then : OnLoad) → LoadsHere Jo.program Jo.media S then → LoadIsLaid Jo d.own.kept.lens d.own.kept.desks then
       by CarryIn h = tt
       by (Gather r) h = tt
-      by (ComputeIn v r more) h = c.driver.rows_laid v (grouped v h)
+      by (ComputeIn v r more) h = c.driver.laid v (grouped v h)
 
-  pub store_row : (x : Place) (what : OnStore) → next.step ≡ Store x what → StoreHasRow f.job.now d.own.kept.lens what
-  store_row x what e = by what (stores_here Jo is.runs.formed is.runs.values S c.count x what (c.next_step ∙ ap (λ (i : MicroStep). Some i) e))
+  pub store_laid : (x : Place) (what : OnStore) → next.step ≡ Store x what → StoreIsLaid f.job.now d.own.kept.lens d.own.kept.desks what
+  store_laid x what e = by what (stores_here Jo is.runs.formed is.runs.values S c.count x what (c.next_step ∙ ap (λ (i : MicroStep). Some i) e))
     where
-      by : (what : OnStore) → StoresHere Jo.program Jo.media S what → StoreHasRow Jo d.own.kept.lens what
+      by : (what : OnStore) → StoresHere Jo.program Jo.media S what → StoreIsLaid Jo d.own.kept.lens d.own.kept.desks what
       by CarryOut h = tt
       by (Give r more) h = tt
-      by (ComputeOut v more) h = c.driver.rows_laid v (grouped v h)
+      by (ComputeOut v more) h = c.driver.laid v (grouped v h)
 
   -- where the seat stands
   pub can_step : CanStep f.table d.seat next
@@ -147,7 +147,7 @@ module _ (f : FabricParts) (d : DriverParts) (next : Next) (is : AreFabricParts 
     loaded_driver x then e found finds value q b =
         free_driver f d next is c v same seat counts (loads_freely x then next.step e) (finds_told found finds)
         (ap (λ o. length o.registers) b ∙ length-set d.own.registers S (absorbed Jo then R (own_at d.own S) value).registers) (ap (λ o. o.rooms) b)
-        (rw b (absorb_ready Jo d.own.kept then R (own_at d.own S) value c.driver.ready)) (ap (λ o. o.kept.lens) b)
+        (rw b (absorb_ready Jo d.own.kept then R (own_at d.own S) value c.driver.ready)) (ap (λ o. o.kept.lens) b, ap (λ o. o.kept.desks) b)
         (rw b (after_load Jo is.runs.formed is.runs.values c.knowledge d.own.registers d.own.kept.cells d.own.kept.rows c.driver.own S c.count R c.drives there c.more c.in_reaction (stepped c.knowledge S) refl
         is.runs (has found finds).counts (its_counts found finds) ((has found finds).agree.agree S c.count c.drives) x then (c.next_step ∙ ap (λ (i : MicroStep). Some i) e) has_registers value
         (sym (found_is x then e found finds) ∙ sym q)))
@@ -157,7 +157,7 @@ module _ (f : FabricParts) (d : DriverParts) (next : Next) (is : AreFabricParts 
     stored_driver x what e told_by b =
         free_driver f d next is c v same seat counts (stores_freely x what next.step e) told_by
         (ap (λ o. length o.registers) b ∙ length-set d.own.registers S (left Jo what R (own_at d.own S)).registers) (ap (λ o. o.rooms) b)
-        (rw b (after_ready Jo d.own.kept what R (own_at d.own S) c.driver.ready)) (ap (λ o. o.kept.lens) b)
+        (rw b (after_ready Jo d.own.kept what R (own_at d.own S) c.driver.ready)) (ap (λ o. o.kept.lens) b, ap (λ o. o.kept.desks) b)
         (rw b (after_store Jo is.runs.formed is.runs.values c.knowledge d.own.registers d.own.kept.cells d.own.kept.rows c.driver.own S c.count R c.drives there c.more c.in_reaction (stepped c.knowledge S) refl
         x what (c.next_step ∙ ap (λ (i : MicroStep). Some i) e) has_registers))
 
@@ -233,7 +233,7 @@ module _ (f : FabricParts) (d : DriverParts) (next : Next) (is : AreFabricParts 
           (look_job c.knowledge next.seq E next.word l.found) (look_on c.knowledge next.seq E next.word l.found on) c.drives c.more (l.made refl)
           (ap (λ o. length o.registers) own) (ap (λ o. o.rooms) own)
           (reaches_next f d next is c h.counts t h.agree.agree (test_is l.found l.finds ∙ on) (Seen l.found) (look_on c.knowledge next.seq E next.word l.found on))
-          (rw own c.driver.ready) (ap (λ o. o.kept.lens) own)
+          (rw own c.driver.ready) (ap (λ o. o.kept.lens) own, ap (λ o. o.kept.desks) own)
           (rw own (quiet_own f d next is c (Seen l.found) (look_on c.knowledge next.seq E next.word l.found on) q)),
     )
 

@@ -30,7 +30,7 @@ use Rattle.executive_program.specs.Steps.{steps}
 use Rattle.semaphore_core.specs.Job.{JobData, zero_rows}
 use Rattle.operation_desks.specs.RowLens.{actuator_lens}
 use Rattle.semaphore_core.specs.Core.{full, AreReached}
-use Rattle.semaphore_core.specs.Held.{AreReady, HasRow}
+use Rattle.semaphore_core.specs.Held.{AreReady, IsLaid}
 use Rattle.operation_desks.specs.Rooms.{Fits}
 use Rattle.operation_desks.specs.Operation.{delay_of}
 use Rattle.semaphore_core.specs.Told.{own_after}
@@ -89,8 +89,8 @@ pub record IsDriver (j : JobData) (table : TableId) (k : Knowledge) (d : DriverP
   pub all : (s : ℕ) → s < length j.program.seqs → s % d.groups ≡ d.group → (n : ℕ) × (count_in k.driven s ≡ Some n)
   pub reaches : Reaches j k
   pub ready : AreReady j d.own.kept
-  -- rows are laid out for the actuators that its sequences call
-  pub rows_laid : (v : ℕ) → caller j v % d.groups ≡ d.group → HasRow j d.own.kept.lens v
+  -- what its sequences call is laid out
+  pub laid : (v : ℕ) → caller j v % d.groups ≡ d.group → IsLaid j d.own.kept.lens d.own.kept.desks v
   pub in_prologue : (s l : ℕ) → Fits j.graph (slice_index_or d.own.rooms s 0) (slice_get (steps j.program s).prologue l)
   pub in_turn : (s l : ℕ) → Fits j.graph (slice_index_or d.own.rooms s 0) (slice_get (steps j.program s).turn l)
   pub own : HasOwn j k d.own.registers d.own.kept.cells d.own.kept.rows

@@ -1,15 +1,8 @@
--- One more operation.
-use Rattle.std.proofs.Common.{◌<◌, ◌∷◌, [], ◌∙◌, map, List, ap, length, arith}
-use Rattle.std.proofs.lemmas.List.{map-append}
-use Rattle.flat_graph.specs.declared.vertex.Vertex.{Vertex}
-use Rattle.flat_graph.proofs.ReadLens.{vertex_there}
-use Rattle.operation_desks.specs.Desk.{DeskData, lens_of_desk}
-use Rattle.operation_desks.proofs.MoreDesks.{desks_more}
+use Rattle.std.proofs.Common.{map}
+use Rattle.std.specs.Option.{option_map}
+use Rattle.operation_desks.specs.Desk.{lens_of_desk}
+use Rattle.operation_desks.proofs.MoreDesks.{all_desks}
 use Rattle.operation_desks.proofs.laying.desks_of.Goals as goal
 
-pub loop-v-preserved : goal.loop-v-preserved
-loop-v-preserved c =
-    let there : c.loop-v.v < length c.args.flat.now.vertices = let s = ap (λ (l : List Vertex). length l) c.vertices-vertices.ensures.same in let e = c.in_ok-count.ensures in let t = c.loop-v-test.true in omega arith in
-    desks_more c.args.flat.now c.loop-v.v c.index-vertices-v.result (lens_of_desk c.in_ok-desk_of.field-0) (map lens_of_desk c.loop-v.desks.items) (map lens_of_desk c.push.new.self.items)
-    (vertex_there c.vertices-vertices.result.now c.args.flat.now.vertices c.loop-v.v c.index-vertices-v.result c.vertices-vertices.ensures.same there c.index-vertices-v.is) c.loop-v.invariant c.in_ok-desk_of.ensures
-    (ap (λ (l : List DeskData). map lens_of_desk l) c.in_ok-push.ensures.items ∙ map-append lens_of_desk c.loop-v.desks.items (c.in_ok-desk_of.field-0 ∷ []))
+pub returns-clause-desks : goal.returns-clause-desks
+returns-clause-desks c = all_desks c.args.flat.now (map (option_map lens_of_desk) c.in_ok-desks.desks.items) c.as_slice.result.now ? c.in_ok-desks.ensures.desks

@@ -5,7 +5,7 @@ use Rattle.std.proofs.lemmas.Int.{to_z-of_z}
 use Rattle.operation_desks.specs.RegisterFile.{RegisterFile}
 use Rattle.operation_desks.specs.Registers.{Own}
 use Rattle.semaphore_core.specs.Parts.{Parts, own_of, with_values, with_kept, absorbed}
-use Rattle.semaphore_core.specs.Held.{AreReady, LoadHasRow}
+use Rattle.semaphore_core.specs.Held.{AreReady, LoadIsLaid}
 use Rattle.semaphore_core.proofs.Viewing.{changed}
 use Rattle.semaphore_core.proofs.own_parts.OwnParts.absorb.Goals as goal
 
@@ -21,5 +21,5 @@ returns c = rw (← c.self.view_is) (
 pub absorb-requires-clause-ready : goal.absorb-requires-clause-ready
 absorb-requires-clause-ready c = subst (λ (p : Parts). AreReady c.args.job.now p.kept) (sym c.self.view_is) c.requires.ready
 
-pub absorb-requires-clause-row : goal.absorb-requires-clause-row
-absorb-requires-clause-row c = subst (λ (p : Parts). LoadHasRow c.args.job.now p.kept.lens c.args.then) (sym c.self.view_is) c.requires.row
+pub absorb-requires-clause-laid : goal.absorb-requires-clause-laid
+absorb-requires-clause-laid c = subst (λ (p : Parts). LoadIsLaid c.args.job.now p.kept.lens p.kept.desks c.args.then) (sym c.self.view_is) c.requires.laid

@@ -4,7 +4,7 @@ use Rattle.std.proofs.lemmas.List.{length-map}
 use Rattle.operation_desks.specs.RegisterFile.{RegisterFile}
 use Rattle.operation_desks.specs.Registers.{Own}
 use Rattle.semaphore_core.specs.Parts.{Parts, left}
-use Rattle.semaphore_core.specs.Held.{AreReady, StoreHasRow}
+use Rattle.semaphore_core.specs.Held.{AreReady, StoreIsLaid}
 use Rattle.semaphore_core.proofs.Viewing.{changed}
 use Rattle.semaphore_core.proofs.own_parts.OwnParts.emit.Goals as goal
 
@@ -17,5 +17,5 @@ returns-clause-own c = rw (← c.self.view_is) (
 pub emit-requires-clause-ready : goal.emit-requires-clause-ready
 emit-requires-clause-ready c = subst (λ (p : Parts). AreReady c.args.job.now p.kept) (sym c.self.view_is) c.requires.ready
 
-pub emit-requires-clause-row : goal.emit-requires-clause-row
-emit-requires-clause-row c = subst (λ (p : Parts). StoreHasRow c.args.job.now p.kept.lens c.args.what) (sym c.self.view_is) c.requires.row
+pub emit-requires-clause-laid : goal.emit-requires-clause-laid
+emit-requires-clause-laid c = subst (λ (p : Parts). StoreIsLaid c.args.job.now p.kept.lens p.kept.desks c.args.what) (sym c.self.view_is) c.requires.laid

@@ -2,8 +2,8 @@
 use Rattle.std.proofs.Common.{◌<◌, ap, sym, subst, arith, rules, length, w64, to_z, of_z}
 use Rattle.std.proofs.lemmas.Int.{to_z-of_z}
 use mir.Val.{SFits}
-use Rattle.semaphore_core.specs.Held.{Held, AreReady, LoadHasRow, kept_of}
-use Rattle.semaphore_core.proofs.Ready.{load_has_row}
+use Rattle.semaphore_core.specs.Held.{Held, AreReady, LoadIsLaid, kept_of}
+use Rattle.semaphore_core.proofs.Ready.{load_is_laid}
 use Rattle.semaphore_core.proofs.Viewing.{loaded, found, core_of}
 use Rattle.semaphore_core.proofs.state.State.load.Goals as goal
 
@@ -23,5 +23,5 @@ returns c = rw (← c.self.view_is) (
 pub absorb-requires-clause-ready : goal.absorb-requires-clause-ready
 absorb-requires-clause-ready c = subst (λ (h : Held). AreReady c.args.job.now (kept_of h)) (sym c.self.view_is) c.requires.ready
 
-pub absorb-requires-clause-row : goal.absorb-requires-clause-row
-absorb-requires-clause-row c = subst (λ (h : Held). LoadHasRow c.args.job.now h.lens c.args.then) (sym c.self.view_is) (load_has_row c.args.job.now c.args.self.now.lens c.requires.rows c.args.then)
+pub absorb-requires-clause-laid : goal.absorb-requires-clause-laid
+absorb-requires-clause-laid c = subst (λ (h : Held). LoadIsLaid c.args.job.now h.lens h.desks c.args.then) (sym c.self.view_is) (load_is_laid c.args.job.now c.args.self.now.lens c.args.self.now.desks c.requires.laid c.args.then)

@@ -4,8 +4,8 @@ use Rattle.std.proofs.lemmas.List.{with_items_is}
 use Rattle.std.specs.Vec.{with_items}
 use Rattle.std.proofs.lemmas.Int.{to_z-of_z}
 use mir.Val.{SFits}
-use Rattle.semaphore_core.specs.Held.{Held, AreReady, StoreHasRow, kept_of}
-use Rattle.semaphore_core.proofs.Ready.{store_has_row}
+use Rattle.semaphore_core.specs.Held.{Held, AreReady, StoreIsLaid, kept_of}
+use Rattle.semaphore_core.proofs.Ready.{store_is_laid}
 use Rattle.executive_program.specs.declared.program.Program.{Program}
 use Rattle.semaphore_core.specs.Core.{home_of, slot_of}
 use Rattle.semaphore_core.specs.Elements.{with_element_in}
@@ -29,5 +29,5 @@ returns c = rw (← c.self.view_is) (
 pub emit-value-requires-clause-ready : goal.emit-value-requires-clause-ready
 emit-value-requires-clause-ready c = subst (λ (h : Held). AreReady c.args.job.now (kept_of h)) (sym c.self.view_is) c.requires.ready
 
-pub emit-value-requires-clause-row : goal.emit-value-requires-clause-row
-emit-value-requires-clause-row c = subst (λ (h : Held). StoreHasRow c.args.job.now h.lens c.args.what) (sym c.self.view_is) (store_has_row c.args.job.now c.args.self.now.lens c.requires.rows c.args.what)
+pub emit-value-requires-clause-laid : goal.emit-value-requires-clause-laid
+emit-value-requires-clause-laid c = subst (λ (h : Held). StoreIsLaid c.args.job.now h.lens h.desks c.args.what) (sym c.self.view_is) (store_is_laid c.args.job.now c.args.self.now.lens c.args.self.now.desks c.requires.laid c.args.what)

@@ -5,7 +5,7 @@ use Rattle.executive_program.specs.declared.steps.MicroStep.{MicroStep}
 use Rattle.semaphore_core.specs.Held.{NeedsReaction}
 use Rattle.semaphore_core.specs.Job.{reactions}
 use Rattle.word_table.proofs.Drivers.{can_count, loads_freely, free_steps}
-use Rattle.word_table.proofs.Making.{can_step, needs, room, has_room, load_row, finds_told, loaded_driver}
+use Rattle.word_table.proofs.Making.{can_step, needs, room, has_room, load_laid, finds_told, loaded_driver}
 use Rattle.word_table.proofs.fabric_parts.FabricParts.load_into.Goals as goal
 
 pub load-found-requires-clause-can : goal.load-found-requires-clause-can
@@ -20,8 +20,8 @@ count_up-requires c = let q = c.requires in let a = c.args in can_count a.self.n
 pub absorb-requires-clause-ready : goal.absorb-requires-clause-ready
 absorb-requires-clause-ready c = c.requires.can.driver.ready
 
-pub absorb-requires-clause-row : goal.absorb-requires-clause-row
-absorb-requires-clause-row c = let q = c.requires in let a = c.args in load_row a.self.now a.driver.now a.next q.fabric q.can a.place a.then q.kind
+pub absorb-requires-clause-laid : goal.absorb-requires-clause-laid
+absorb-requires-clause-laid c = let q = c.requires in let a = c.args in load_laid a.self.now a.driver.now a.next q.fabric q.can a.place a.then q.kind
 
 pub absorb-requires-clause-reaction : goal.absorb-requires-clause-reaction
 absorb-requires-clause-reaction c = let q = c.requires in let a = c.args in

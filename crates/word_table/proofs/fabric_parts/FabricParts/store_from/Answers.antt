@@ -5,14 +5,14 @@ use Rattle.executive_program.specs.declared.steps.MicroStep.{MicroStep}
 use Rattle.semaphore_core.specs.Held.{NeedsReaction}
 use Rattle.semaphore_core.specs.Job.{reactions}
 use Rattle.word_table.proofs.Drivers.{can_count, stores_freely, free_steps}
-use Rattle.word_table.proofs.Making.{can_step, needs, room, has_room, store_row, stores, stored_driver}
+use Rattle.word_table.proofs.Making.{can_step, needs, room, has_room, store_laid, stores, stored_driver}
 use Rattle.word_table.proofs.fabric_parts.FabricParts.store_from.Goals as goal
 
 pub emit-value-requires-clause-ready : goal.emit-value-requires-clause-ready
 emit-value-requires-clause-ready c = c.requires.can.driver.ready
 
-pub emit-value-requires-clause-row : goal.emit-value-requires-clause-row
-emit-value-requires-clause-row c = let q = c.requires in let a = c.args in store_row a.self.now a.driver.now a.next q.fabric q.can a.place a.what q.kind
+pub emit-value-requires-clause-laid : goal.emit-value-requires-clause-laid
+emit-value-requires-clause-laid c = let q = c.requires in let a = c.args in store_laid a.self.now a.driver.now a.next q.fabric q.can a.place a.what q.kind
 
 pub emit-value-requires-clause-reaction : goal.emit-value-requires-clause-reaction
 emit-value-requires-clause-reaction c = let q = c.requires in let a = c.args in
