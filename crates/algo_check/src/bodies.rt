@@ -10,8 +10,8 @@ ghost use Rattle.algo_check.specs.Tables.{IsSmall};
 
 use algo_defs::{AlgoError, Body, Def};
 use algo_rules::Ports;
-use frontier_check::{check_repeat, check_switch, ports_of_body};
-use graph_check::check_graph;
+use frontier_check::{SwitchParts, check_repeat, check_switch, ports_of_body};
+use graph_check::{GraphParts, check_graph};
 use std::alloc::Global;
 use syn_base::{Items, Name, OutOfMemory};
 
@@ -42,16 +42,16 @@ pub fn check_body(
             otherwise,
             otherwise_line,
             ..
-        } => check_switch(
+        } => check_switch(SwitchParts {
+            ins: ins.as_slice(),
+            outs: outs.as_slice(),
+            cases: cases.as_slice(),
+            otherwise,
+            otherwise_line: *otherwise_line,
             defs,
             table,
             places,
-            ins.as_slice(),
-            outs.as_slice(),
-            cases.as_slice(),
-            otherwise,
-            *otherwise_line,
-        ),
+        }),
         Body::Graph {
             ins,
             outs,
@@ -59,14 +59,16 @@ pub fn check_body(
             edges,
         } => check_graph(
             alloc,
-            line,
-            ins.as_slice(),
-            outs.as_slice(),
-            references.as_slice(),
-            edges.as_slice(),
-            defs,
-            table,
-            places,
+            GraphParts {
+                line,
+                ins: ins.as_slice(),
+                outs: outs.as_slice(),
+                references: references.as_slice(),
+                edges: edges.as_slice(),
+                defs,
+                table,
+                places,
+            },
         ),
         _ => Ok(()),
     }

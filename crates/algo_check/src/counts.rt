@@ -19,10 +19,8 @@ pub fn check_operations(alloc: Global, defs: &[Def], levels: &Levels) -> Result<
     requires leveled { AreLeveled defs.now levels.now.links levels.now.depths }
     ensures { Checks result (too_many defs.now) }
 {
-    match operations(alloc, defs, levels) {
-        Ok(count) => check_count(defs, count),
-        Err(_) => Err(AlgoError::OutOfMemory),
-    }
+    let count = operations(alloc, defs, levels)?;
+    check_count(defs, count)
 }
 
 /// Checks that this number of flat operations is within the limit.

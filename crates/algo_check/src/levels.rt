@@ -53,10 +53,9 @@ fn linked_depths(alloc: Global, defs: &[Def], links: &[Items<u32>]) -> Result<It
     ensures ends { IfOk result (λ ns. first_recursive (links_of defs.now) ≡ None) }
     ensures depths { IfOk result (λ ns. ns ≡ depths (links_of defs.now)) }
 {
-    match depths_of(alloc, links) {
-        Ok(Depths::Of(depths)) => Ok(depths),
-        Ok(Depths::Recursive(place)) => Err(recursive(alloc, defs, place)),
-        Err(_) => Err(AlgoError::OutOfMemory),
+    match depths_of(alloc, links)? {
+        Depths::Of(depths) => Ok(depths),
+        Depths::Recursive(place) => Err(recursive(alloc, defs, place)),
     }
 }
 

@@ -30,9 +30,7 @@ pub fn ports_of_bodies(
     ensures checks { Checks result (bodies_fault defs.now) }
     ensures ports { IfOk result (λ table. table.items ≡ map (λ d. ports_of defs.now d.name) defs.now) }
 {
-    let Ok(mut table) = empty_table(alloc, defs.len()) else {
-        return Err(AlgoError::OutOfMemory);
-    };
+    let mut table = empty_table(alloc, defs.len())?;
     for depth in 1..9u32 {
         pass(alloc, defs, levels, depth, &mut table)?;
     }
@@ -66,10 +64,8 @@ fn pass(
     ensures table { OnOk result (IsTable defs.now (depth + 1) table.new) }
 {
     check_depth(alloc, defs, levels, depth, table)?;
-    match fill_depth(alloc, defs, levels, depth, table) {
-        Ok(()) => Ok(()),
-        Err(_) => Err(AlgoError::OutOfMemory),
-    }
+    fill_depth(alloc, defs, levels, depth, table)?;
+    Ok(())
 }
 
 /// Checks the bodies of this depth, by line.

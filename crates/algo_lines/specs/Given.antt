@@ -1,5 +1,5 @@
 -- What a call that reads a word or adds something returns and leaves: what is defined, unless memory ran out.
-use Rattle.std.specs.Prelude.{◌≡◌, ℕ, Bool, true, false, List, [], ◌∷◌, ◌++◌, Result, Ok, Err}
+use Rattle.std.specs.Prelude.{◌≡◌, ℕ, true, false, List, [], ◌∷◌, ◌++◌, Result, Ok, Err}
 use Rattle.std.specs.List.{list_any}
 use Rattle.std.specs.Str.{bytes_eq}
 use Rattle.syn_base.specs.Bytes.{Bytes}
@@ -41,15 +41,6 @@ Adds (Err OutOfMemory) old x new = new ≡ old
 Adds (Err (Refused f)) old x new = ⊥
 Adds (Err (Limit f)) old x new = ⊥
 Adds (Err TooLarge) old x new = ⊥
-
--- A name was added at the end, or was there.
-abbrev pub AddsName : Result Bool AlgoError → List Bytes → Bytes → List Bytes → Type 0
-AddsName (Ok true) old name new = (list_any (bytes_eq name) old ≡ false) × (new ≡ old ++ name ∷ [])
-AddsName (Ok false) old name new = (list_any (bytes_eq name) old ≡ true) × (new ≡ old)
-AddsName (Err OutOfMemory) old name new = new ≡ old
-AddsName (Err (Refused f)) old name new = ⊥
-AddsName (Err (Limit f)) old name new = ⊥
-AddsName (Err TooLarge) old name new = ⊥
 
 -- The name that a word is, or the line's refusal where it is none.
 abbrev pub IsNamed : Result Bytes AlgoError → ℕ → Bytes → Type 0

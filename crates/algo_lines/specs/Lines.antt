@@ -1,5 +1,5 @@
 -- What parts of a line say, whatever block it stands in.
-use Rattle.std.specs.Prelude.{ℕ, ◌+◌, Bool, not, min, take, drop, List, Option, Some, None, Result, Ok, if◌then◌else◌}
+use Rattle.std.specs.Prelude.{ℕ, ◌+◌, Bool, not, min, take, drop, List, Result, Ok, if◌then◌else◌}
 use Rattle.std.specs.List.{position_or_len}
 use Rattle.syn_base.specs.Name.{is_name, is_name_byte}
 use Rattle.syn_base.specs.declared.limits.LimitKind.TheVariants.{PortLength, Ports}
@@ -9,10 +9,6 @@ use Rattle.algo_defs.specs.declared.fault.AlgoCause.TheVariants.{BadName, BadNum
 use Rattle.syn_base.specs.Bytes.{Bytes}
 use Rattle.algo_text.specs.Words.{word, count_of}
 use Rattle.algo_text.specs.Blocks.{refused, is_above, above, with_some}
-
--- The name that a word is, if it is one.
-abbrev pub some_name : Bytes → Option Bytes
-some_name w = if is_name w then Some w else None
 
 -- P LEN after `in` or `out`, where this many such lines stand before.
 unfoldable pub port_of : ℕ → ℕ → List Bytes → Result Port AlgoError

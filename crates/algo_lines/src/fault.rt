@@ -1,14 +1,11 @@
-//! The refusals of a line, which every reader of lines makes, and the limits.
+//! The refusals of a line, which every reader of lines makes.
 ghost use Rattle.std.specs.Prelude.{◌≡◌};
-ghost use Rattle.algo_lines.specs.Given.{IsStop, stop, Adds};
-ghost use Rattle.syn_base.specs.Limits.{bound_of};
-ghost use Rattle.algo_text.specs.Blocks.{is_above};
+ghost use Rattle.algo_lines.specs.Given.{IsStop, stop};
 ghost use Rattle.algo_defs.specs.declared.fault.AlgoCause.TheVariants.{NotText, BadLine, BadName, BadNumber, BadExpression, DuplicateName, UnknownName, BadDelay};
-ghost use Rattle.algo_defs.specs.declared.fault.AlgoError.TheVariants.{Limit};
 
 use algo_defs::{AlgoCause, AlgoError, AlgoFault};
 use std::alloc::Global;
-use syn_base::{Items, LimitFault, LimitKind};
+use syn_base::Items;
 
 /// The refusal of a line for this cause.
 fn refusal(line: u32, cause: AlgoCause) -> AlgoError
@@ -82,33 +79,5 @@ pub fn unknown(alloc: Global, line: u32, word: &[u8]) -> AlgoError
     match Vec::from_slice(alloc, word) {
         Ok(word) => refusal(line, AlgoCause::UnknownName(Items::new(word))),
         Err(_) => AlgoError::OutOfMemory,
-    }
-}
-
-/// Whether a quantity is above its bound.
-pub fn is_above(which: LimitKind, count: u128) -> bool
-    ensures { result ≡ is_above which count }
-{
-    count > which.bound()
-}
-
-/// The refusal of a quantity above its bound.
-pub fn above(which: LimitKind, count: u128) -> AlgoError
-    ensures { result ≡ Limit (record { which = which; count = count; bound = bound_of which }) }
-{
-    AlgoError::Limit(LimitFault {
-        which,
-        count,
-        bound: which.bound(),
-    })
-}
-
-/// Adds an element at the end, or changes nothing where memory runs out.
-pub fn push<T: Drop>(items: &mut Vec<T>, value: T) -> Result<(), AlgoError>
-    ensures { Adds result items.old.items value items.new.items }
-{
-    match items.push(value) {
-        Ok(()) => Ok(()),
-        Err(_) => Err(AlgoError::OutOfMemory),
     }
 }

@@ -9,11 +9,9 @@ mod ports;
 mod values;
 mod word;
 
-pub use fault::{above, bad_line, bad_name, bad_number, duplicate, is_above, not_text, push};
+pub use fault::{bad_line, bad_name, bad_number, duplicate, not_text};
 pub use formula::read_formula;
 pub use names::add_new;
 pub use ports::{Ports, read_port};
 pub use values::{delay_depth, read_values};
-pub use word::{
-    begins, line_name, line_words, read_count, read_end, read_number, read_period, read_version,
-};
+pub use word::{line_name, read_count, read_end, read_number, read_period, read_version};

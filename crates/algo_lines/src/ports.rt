@@ -6,14 +6,14 @@ ghost use Rattle.algo_defs.specs.Returned.{Gives};
 ghost use Rattle.algo_lines.specs.Given.{Adds};
 ghost use Rattle.algo_lines.specs.Lines.{port_of};
 
-use crate::fault::{above, bad_number, is_above, push};
+use crate::fault::bad_number;
 use crate::word::{line_name, read_count};
 use algo_defs::AlgoError;
 use body_lang::Port;
 use std::alloc::Global;
 use std::marker::Model;
 use syn_base::{Items, LimitKind};
-use text_lines::Words;
+use text_lines::{Words, check_limit};
 
 /// Ports up to their bound, seen as their list.
 #[derive(Drop)]
@@ -71,7 +71,8 @@ impl Ports {
         requires { length self.old < bound_of LimitKind.Ports }
         ensures { Adds result self.old port self.new }
     {
-        push(&mut self.ports, port)
+        self.ports.push(port)?;
+        Ok(())
     }
 
     /// The ports, handed back.
@@ -110,13 +111,8 @@ pub fn read_port(
     let Some(len) = read_count(words.get(2)) else {
         return Err(bad_number(alloc, number, words.get(2)));
     };
-    let count = before as u128 + 1;
-    if is_above(LimitKind::Ports, count) {
-        return Err(above(LimitKind::Ports, count));
-    }
-    if is_above(LimitKind::PortLength, u128::from(len)) {
-        return Err(above(LimitKind::PortLength, u128::from(len)));
-    }
+    check_limit(LimitKind::Ports, before as u128 + 1)?;
+    check_limit(LimitKind::PortLength, u128::from(len))?;
     Ok(Port {
         name,
         len: len as u32,

@@ -5,12 +5,12 @@ ghost use Rattle.algo_defs.specs.declared.definition.Body.TheVariants.{Delay};
 ghost use Rattle.algo_defs.specs.Returned.{GivesList};
 ghost use Rattle.algo_lines.specs.Given.{Steps};
 
-use crate::fault::{above, bad_delay, bad_number, is_above, push};
+use crate::fault::{bad_delay, bad_number};
 use crate::word::read_number;
 use algo_defs::AlgoError;
 use std::alloc::Global;
 use syn_base::LimitKind;
-use text_lines::Words;
+use text_lines::{Words, check_limit};
 
 /// The numbers that the words are from one on, or the first word that is none.
 pub fn read_values(
@@ -28,7 +28,7 @@ pub fn read_values(
         let Some(value) = read_number(words.get(at)) else {
             return Err(bad_number(alloc, number, words.get(at)));
         };
-        push(&mut values, value)?;
+        values.push(value)?;
         at += 1;
     }
     Ok(values)
@@ -41,16 +41,12 @@ pub fn delay_depth(number: u32, depth: u64, values: &[i64]) -> Result<u32, AlgoE
     ensures delay { Steps result (Delay depth values.now) (deep_delay number depth values.now) }
     ensures depth { IfOk result (λ d. d ≡ depth) }
 {
-    if is_above(LimitKind::Delay, u128::from(depth)) {
-        return Err(above(LimitKind::Delay, u128::from(depth)));
-    }
+    check_limit(LimitKind::Delay, u128::from(depth))?;
     let count = values.len() as u64;
     if count % depth != 0 {
         return Err(bad_delay(number));
     }
     let len = u128::from(count / depth);
-    if is_above(LimitKind::PortLength, len) {
-        return Err(above(LimitKind::PortLength, len));
-    }
+    check_limit(LimitKind::PortLength, len)?;
     Ok(depth as u32)
 }

@@ -1,42 +1,16 @@
 //! What a word of a line is: a name, a number, a version or an end of an edge. The readers of all kinds of
 //! lines call it.
-ghost use Rattle.std.specs.Prelude.{◌≡◌, ◌<◌, Some, None, IfOk, MatchOption, true, false, position, length, slice_index_or, []};
+ghost use Rattle.std.specs.Prelude.{◌≡◌, position};
 ghost use Rattle.std.specs.List.{before_first, after_first};
-ghost use Rattle.std.specs.Str.{bytes_eq};
-ghost use Rattle.syn_base.specs.Name.{is_name};
 ghost use Rattle.algo_lines.specs.Given.{Has, IsNamed};
-ghost use Rattle.algo_lines.specs.Lines.{some_name};
 ghost use Rattle.algo_text.specs.Words.{number_of, count_of, period_of, end_of, is_dot};
 ghost use Rattle.algo_text.specs.Text.{version_of};
-ghost use Rattle.text_lines.specs.Text.{words_of};
 
 use crate::fault::bad_name;
 use algo_defs::{AlgoError, End};
 use std::alloc::Global;
-use syn_base::{Name, NameFault, read_int};
-use text_lines::Words;
-
-/// The words of a line without comment.
-pub fn line_words<'a>(alloc: Global, code: &'a [u8]) -> Result<Words<'a>, AlgoError>
-    ensures { Has result (words_of code.now) }
-{
-    match Words::of(alloc, code) {
-        Ok(words) => Ok(words),
-        Err(_) => Err(AlgoError::OutOfMemory),
-    }
-}
-
-/// The name that a word is, or none where it is no name.
-pub fn read_name(alloc: Global, w: &[u8]) -> Result<Option<Name>, AlgoError>
-    ensures name { Has result (some_name w.now) }
-    ensures is { IfOk result (λ o. MatchOption o (is_name w.now ≡ false) (λ _. is_name w.now ≡ true)) }
-{
-    match Name::new(alloc, w) {
-        Ok(name) => Ok(Some(name)),
-        Err(NameFault::BadName) => Ok(None),
-        Err(NameFault::OutOfMemory) => Err(AlgoError::OutOfMemory),
-    }
-}
+use syn_base::{Name, read_int};
+use text_lines::read_name;
 
 /// The name that a word of a line is, or the line's refusal where it is none.
 pub fn line_name(alloc: Global, number: u32, w: &[u8]) -> Result<Name, AlgoError>
@@ -126,12 +100,4 @@ pub fn read_end(alloc: Global, w: &[u8]) -> Result<Option<End>, AlgoError>
         owner: Some(owner),
         port,
     }))
-}
-
-/// Whether the line begins with this word.
-pub fn begins(words: &Words, key: &[u8]) -> bool
-    requires { 0 < length words.now }
-    ensures { result ≡ bytes_eq (slice_index_or words.now 0 []) key.now }
-{
-    words.get(0) == key
 }

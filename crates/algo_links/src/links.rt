@@ -31,9 +31,7 @@ fn places_of_lines(
         let Some(place) = names.find(name) else {
             return Err(unknown(alloc, mention.line(), name));
         };
-        if places.push(place as u32).is_err() {
-            return Err(AlgoError::OutOfMemory);
-        }
+        places.push(place as u32)?;
     }
     Ok(Items::new(places))
 }
@@ -44,10 +42,8 @@ fn places_of_def(alloc: Global, names: &Names, def: &Def) -> Result<Items<u32>, 
     ensures checks { Checks result (unknown_in names.now (mentions def.now)) }
     ensures places { IfOk result (λ places. places ≡ places_in names.now (mentions def.now)) }
 {
-    match mentions_of(alloc, def) {
-        Ok(mentions) => places_of_lines(alloc, names, mentions.as_slice()),
-        Err(_) => Err(AlgoError::OutOfMemory),
-    }
+    let mentions = mentions_of(alloc, def)?;
+    places_of_lines(alloc, names, mentions.as_slice())
 }
 
 /// The places of the names that each definition names, or the first line whose name is not there.
@@ -59,9 +55,7 @@ fn places_of_all(alloc: Global, names: &Names, defs: &[Def]) -> Result<Vec<Items
     let mut links = Vec::new(alloc);
     for def in defs {
         let places = places_of_def(alloc, names, def)?;
-        if links.push(places).is_err() {
-            return Err(AlgoError::OutOfMemory);
-        }
+        links.push(places)?;
     }
     Ok(links)
 }
@@ -73,10 +67,8 @@ fn known_links(alloc: Global, defs: &[Def]) -> Result<Vec<Items<u32>>, AlgoError
     ensures checks { Checks result (unknown defs.now) }
     ensures links { IfOk result (λ links. links.items ≡ links_of defs.now) }
 {
-    match names_of(alloc, defs) {
-        Ok(names) => places_of_all(alloc, &names, defs),
-        Err(_) => Err(AlgoError::OutOfMemory),
-    }
+    let names = names_of(alloc, defs)?;
+    places_of_all(alloc, &names, defs)
 }
 
 /// The same once the check of what may stand where has passed.

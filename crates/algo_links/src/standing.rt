@@ -87,9 +87,7 @@ pub fn check_standing(alloc: Global, defs: &[Def], links: &[Items<u32>]) -> Resu
 {
     for i in 0..defs.len() {
         let def = &defs[i];
-        let Ok(mentions) = mentions_of(alloc, def) else {
-            return Err(AlgoError::OutOfMemory);
-        };
+        let mentions = mentions_of(alloc, def)?;
         check_lines(
             alloc,
             &def.name,

@@ -154,40 +154,39 @@ pub(crate) fn print_graph(
     put(b"end\n", text)
 }
 
+/// What the lines of a switch are printed from.
+#[derive(Clone, Copy)]
+pub(crate) struct SwitchParts<'a> {
+    pub name: &'a [u8],
+    /// The conditioning input.
+    pub on: &'a [u8],
+    pub ins: &'a [Port],
+    pub outs: &'a [Port],
+    pub cases: &'a [Case],
+    pub otherwise: &'a [u8],
+}
+
 /// Appends the lines of a switch.
-pub(crate) fn print_switch(
-    name: &[u8],
-    on: &[u8],
-    ins: &[Port],
-    outs: &[Port],
-    cases: &[Case],
-    otherwise: &[u8],
-    text: &mut Vec<u8>,
-) -> Result<(), OutOfMemory>
+pub(crate) fn print_switch(switch: SwitchParts, text: &mut Vec<u8>) -> Result<(), OutOfMemory>
     ensures { OnOk result (text.new.items ≡ text.old.items ++
-        text_of (whole_switch name.now on.now ins.now outs.now cases.now otherwise.now)) }
+        text_of (whole_switch switch.name.now switch.on.now switch.ins.now switch.outs.now
+        switch.cases.now switch.otherwise.now)) }
 {
-    print_named(b"switch", name, text)?;
-    print_inputs_and_cases(on, ins, outs, cases, text)?;
-    print_named(b"otherwise", otherwise, text)?;
+    print_named(b"switch", switch.name, text)?;
+    print_inputs_and_cases(switch, text)?;
+    print_named(b"otherwise", switch.otherwise, text)?;
     put(b"end\n", text)
 }
 
 /// Appends the lines of a switch between its first and the one with `otherwise`.
-fn print_inputs_and_cases(
-    on: &[u8],
-    ins: &[Port],
-    outs: &[Port],
-    cases: &[Case],
-    text: &mut Vec<u8>,
-) -> Result<(), OutOfMemory>
+fn print_inputs_and_cases(switch: SwitchParts, text: &mut Vec<u8>) -> Result<(), OutOfMemory>
     ensures { OnOk result (text.new.items ≡ text.old.items ++
-        text_of (switch_lines on.now ins.now outs.now cases.now)) }
+        text_of (switch_lines switch.on.now switch.ins.now switch.outs.now switch.cases.now)) }
 {
-    print_named(b"on", on, text)?;
-    print_ports(b"in", ins, text)?;
-    print_ports(b"out", outs, text)?;
-    print_cases(cases, text)
+    print_named(b"on", switch.on, text)?;
+    print_ports(b"in", switch.ins, text)?;
+    print_ports(b"out", switch.outs, text)?;
+    print_cases(switch.cases, text)
 }
 
 /// Appends the lines of a repetition.

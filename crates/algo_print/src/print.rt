@@ -3,7 +3,7 @@ ghost use Rattle.std.specs.Prelude.{◌≡◌, ◌++◌, OnOk, OnErr};
 ghost use Rattle.algo_print.specs.Canonical.{canonical_text, line_of, text_of, version_words, body_lines, definition_lines, ArePrintable, IsPrintable};
 
 use crate::blocks::{
-    print_delay, print_function, print_graph, print_repeat, print_switch, print_values,
+    SwitchParts, print_delay, print_function, print_graph, print_repeat, print_switch, print_values,
 };
 use crate::words::{print_sized, put, put_count};
 use algo_defs::{Body, Def, Defs};
@@ -86,12 +86,14 @@ fn print_definition(
             otherwise,
             ..
         } => print_switch(
-            name,
-            on.as_bytes(),
-            ins.as_slice(),
-            outs.as_slice(),
-            cases.as_slice(),
-            otherwise.as_bytes(),
+            SwitchParts {
+                name,
+                on: on.as_bytes(),
+                ins: ins.as_slice(),
+                outs: outs.as_slice(),
+                cases: cases.as_slice(),
+                otherwise: otherwise.as_bytes(),
+            },
             text,
         ),
         Body::Repeat { copies, def, lines } => {

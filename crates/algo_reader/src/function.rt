@@ -6,7 +6,7 @@ ghost use Rattle.algo_lines.specs.Given.{Steps};
 ghost use Rattle.algo_reader.specs.Views.{function_view, function_def};
 
 use algo_defs::{AlgoError, Body, Def, Output};
-use algo_lines::{Ports, bad_line, duplicate, line_words, push, read_formula, read_port};
+use algo_lines::{Ports, bad_line, duplicate, read_formula, read_port};
 use algo_text::Part;
 use std::alloc::Global;
 use syn_base::{Items, Name};
@@ -129,7 +129,7 @@ impl FunctionBlock {
             return Err(duplicate(alloc, number, port.name.as_bytes()));
         }
         self.part = Part::Outputs;
-        push(&mut self.results, Output { port, formula })?;
+        self.results.push(Output { port, formula })?;
         Ok(())
     }
 
@@ -140,7 +140,7 @@ impl FunctionBlock {
         let Some(at) = equals_in(code) else {
             return Err(bad_line(number));
         };
-        let words = line_words(alloc, &code[..at])?;
+        let words = Words::of(alloc, &code[..at])?;
         self.result_words(alloc, number, &words, text_from(code, at + 1))
     }
 }

@@ -8,13 +8,12 @@ ghost use Rattle.algo_reader.specs.Views.{graph_view, graph_def};
 
 use algo_defs::{AlgoError, Body, Def, Edge, Reference};
 use algo_lines::{
-    Ports, above, bad_line, bad_name, bad_number, duplicate, is_above, line_name, push, read_end,
-    read_period, read_port,
+    Ports, bad_line, bad_name, bad_number, duplicate, line_name, read_end, read_period, read_port,
 };
 use algo_text::Part;
 use std::alloc::Global;
 use syn_base::{Items, LimitKind, Name};
-use text_lines::Words;
+use text_lines::{Words, check_limit};
 
 /// The lines of a graph so far.
 #[derive(Drop)]
@@ -133,14 +132,13 @@ impl GraphBlock {
         ensures { Steps result (graph_view self.new) (with_reference (graph_view self.old) reference) }
     {
         let count = self.references.len() as u128 + 1;
-        if is_above(LimitKind::References, count) {
-            return Err(above(LimitKind::References, count));
-        }
+        check_limit(LimitKind::References, count)?;
         if has_reference(self.references.as_slice(), reference.name.as_bytes()) {
             return Err(duplicate(alloc, reference.line, reference.name.as_bytes()));
         }
         self.part = Part::References;
-        push(&mut self.references, reference)
+        self.references.push(reference)?;
+        Ok(())
     }
 
     /// Reads a line `ref R DEF`: one reference more, or the line's refusal.
@@ -205,13 +203,11 @@ impl GraphBlock {
             return Err(bad_name(alloc, number, words.get(2)));
         };
         self.part = Part::Edges;
-        push(
-            &mut self.edges,
-            Edge {
-                from,
-                to,
-                line: number,
-            },
-        )
+        self.edges.push(Edge {
+            from,
+            to,
+            line: number,
+        })?;
+        Ok(())
     }
 }

@@ -14,14 +14,14 @@ use crate::repetition::RepeatBlock;
 use crate::switch::SwitchBlock;
 use algo_defs::{AlgoError, Body, Def, Defs};
 use algo_lines::{
-    above, add_new, bad_line, bad_number, begins, delay_depth, is_above, line_name, line_words,
-    not_text, push, read_count, read_values, read_version,
+    add_new, bad_line, bad_number, delay_depth, line_name, not_text, read_count, read_values,
+    read_version,
 };
 use name_table::{Names, TableKey};
 use std::alloc::Global;
 use std::mem;
 use syn_base::{Items, LimitKind, Name};
-use text_lines::Words;
+use text_lines::{Words, check_limit};
 
 /// A kind of block that its first line only names.
 #[derive(Clone, Copy, Drop)]
@@ -136,7 +136,8 @@ impl<'a> Reader<'a> {
         ensures { Steps result (reading self.new) (Ok (ended (reading self.old) def)) }
     {
         self.go_to(Place::Between);
-        push(&mut self.defs, def)
+        self.defs.push(def)?;
+        Ok(())
     }
 
     /// Reads the first line, `algorithm VERSION`, or refuses it.
@@ -147,7 +148,7 @@ impl<'a> Reader<'a> {
         if words.len() != 2 {
             return Err(bad_line(number));
         }
-        if !begins(words, b"algorithm") {
+        if !words.begins(b"algorithm") {
             return Err(bad_line(number));
         }
         let Some(version) = read_version(words.get(1)) else {
@@ -175,16 +176,15 @@ impl<'a> Reader<'a> {
         let Some(len) = read_count(words.get(2)) else {
             return Err(bad_number(alloc, number, words.get(2)));
         };
-        if is_above(LimitKind::PortLength, u128::from(len)) {
-            return Err(above(LimitKind::PortLength, u128::from(len)));
-        }
+        check_limit(LimitKind::PortLength, u128::from(len))?;
         add_new(alloc, &mut self.names, number, words.get(1))?;
         let def = Def {
             name,
             line: number,
             body: end_body(kind, len as u32),
         };
-        push(&mut self.defs, def)
+        self.defs.push(def)?;
+        Ok(())
     }
 
     /// Reads a line `constant NAME = V0 V1 ..`, or `delay` likewise in version 1: one definition more, or the line's
@@ -206,16 +206,15 @@ impl<'a> Reader<'a> {
         }
         let name = line_name(alloc, number, words.get(1))?;
         let values = read_values(alloc, number, words, 3)?;
-        if is_above(LimitKind::PortLength, values.len() as u128) {
-            return Err(above(LimitKind::PortLength, values.len() as u128));
-        }
+        check_limit(LimitKind::PortLength, values.len() as u128)?;
         add_new(alloc, &mut self.names, number, words.get(1))?;
         let def = Def {
             name,
             line: number,
             body: values_body(kind, values),
         };
-        push(&mut self.defs, def)
+        self.defs.push(def)?;
+        Ok(())
     }
 
     /// Reads a line `delay NAME DEPTH = V0 V1 ..`, from version 2 on: one definition more, or the line's refusal.
@@ -240,7 +239,8 @@ impl<'a> Reader<'a> {
             line: number,
             body: Body::Delay(depth, Items::new(values)),
         };
-        push(&mut self.defs, def)
+        self.defs.push(def)?;
+        Ok(())
     }
 
     /// Reads a line `delay`, of depth 1 in version 1.
@@ -290,9 +290,7 @@ impl<'a> Reader<'a> {
         let Some(copies) = read_count(words.get(2)) else {
             return Err(bad_number(alloc, number, words.get(2)));
         };
-        if is_above(LimitKind::Copies, u128::from(copies)) {
-            return Err(above(LimitKind::Copies, u128::from(copies)));
-        }
+        check_limit(LimitKind::Copies, u128::from(copies))?;
         add_new(alloc, &mut self.names, number, words.get(1))?;
         let block = RepeatBlock::new(alloc, name, number, copies as u32, def);
         self.go_to(Place::InRepeat(block));
@@ -309,28 +307,28 @@ impl<'a> Reader<'a> {
         requires { 0 < length words.now }
         ensures { Steps result (reading self.new) (between_line (reading self.old) number words.now) }
     {
-        if begins(words, b"sensor") {
+        if words.begins(b"sensor") {
             return self.end_line(alloc, EndKind::Sensor, number, words);
         }
-        if begins(words, b"actuator") {
+        if words.begins(b"actuator") {
             return self.end_line(alloc, EndKind::Actuator, number, words);
         }
-        if begins(words, b"constant") {
+        if words.begins(b"constant") {
             return self.values_line(alloc, ValuesKind::Constant, number, words);
         }
-        if begins(words, b"delay") {
+        if words.begins(b"delay") {
             return self.delay_line(alloc, number, words);
         }
-        if begins(words, b"function") {
+        if words.begins(b"function") {
             return self.opening_line(alloc, Kind::Function, number, words);
         }
-        if begins(words, b"graph") {
+        if words.begins(b"graph") {
             return self.opening_line(alloc, Kind::Graph, number, words);
         }
-        if begins(words, b"switch") {
+        if words.begins(b"switch") {
             return self.opening_line(alloc, Kind::Switch, number, words);
         }
-        if begins(words, b"repeat") {
+        if words.begins(b"repeat") {
             return self.repeat_line(alloc, number, words);
         }
         Err(bad_line(number))
@@ -432,13 +430,13 @@ impl<'a> Reader<'a> {
         let Place::InFunction(block) = &mut self.place else {
             return Err(bad_line(number));
         };
-        if begins(words, b"in") {
+        if words.begins(b"in") {
             return block.in_line(alloc, number, words);
         }
-        if begins(words, b"out") {
+        if words.begins(b"out") {
             return block.result_line(alloc, number, code);
         }
-        if begins(words, b"end") {
+        if words.begins(b"end") {
             return self.end_block(number, words);
         }
         Err(bad_line(number))
@@ -453,19 +451,19 @@ impl<'a> Reader<'a> {
         let Place::InGraph(block) = &mut self.place else {
             return Err(bad_line(number));
         };
-        if begins(words, b"in") {
+        if words.begins(b"in") {
             return block.in_line(alloc, number, words);
         }
-        if begins(words, b"out") {
+        if words.begins(b"out") {
             return block.out_line(alloc, number, words);
         }
-        if begins(words, b"ref") {
+        if words.begins(b"ref") {
             return block.reference_line(alloc, self.version, number, words);
         }
-        if begins(words, b"edge") {
+        if words.begins(b"edge") {
             return block.edge_line(alloc, number, words);
         }
-        if begins(words, b"end") {
+        if words.begins(b"end") {
             return self.end_block(number, words);
         }
         Err(bad_line(number))
@@ -480,22 +478,22 @@ impl<'a> Reader<'a> {
         let Place::InSwitch(block) = &mut self.place else {
             return Err(bad_line(number));
         };
-        if begins(words, b"on") {
+        if words.begins(b"on") {
             return block.on_line(alloc, number, words);
         }
-        if begins(words, b"in") {
+        if words.begins(b"in") {
             return block.in_line(alloc, number, words);
         }
-        if begins(words, b"out") {
+        if words.begins(b"out") {
             return block.out_line(alloc, number, words);
         }
-        if begins(words, b"case") {
+        if words.begins(b"case") {
             return block.case_line(alloc, number, words);
         }
-        if begins(words, b"otherwise") {
+        if words.begins(b"otherwise") {
             return block.otherwise_line(alloc, number, words);
         }
-        if begins(words, b"end") {
+        if words.begins(b"end") {
             return self.end_block(number, words);
         }
         Err(bad_line(number))
@@ -510,19 +508,19 @@ impl<'a> Reader<'a> {
         let Place::InRepeat(block) = &mut self.place else {
             return Err(bad_line(number));
         };
-        if begins(words, b"fork") {
+        if words.begins(b"fork") {
             return block.fork_line(alloc, number, words);
         }
-        if begins(words, b"diffuse") {
+        if words.begins(b"diffuse") {
             return block.diffuse_line(alloc, number, words);
         }
-        if begins(words, b"iterate") {
+        if words.begins(b"iterate") {
             return block.iterate_line(alloc, number, words);
         }
-        if begins(words, b"join") {
+        if words.begins(b"join") {
             return block.join_line(alloc, number, words);
         }
-        if begins(words, b"end") {
+        if words.begins(b"end") {
             return self.end_block(number, words);
         }
         Err(bad_line(number))
@@ -560,7 +558,7 @@ impl<'a> Reader<'a> {
             return Err(not_text(number, place));
         }
         let code = text_lines::code(line);
-        let words = line_words(alloc, code)?;
+        let words = Words::of(alloc, code)?;
         if words.len() == 0 {
             return Ok(());
         }

@@ -9,10 +9,10 @@ ghost use Rattle.algo_lines.specs.Given.{Steps};
 ghost use Rattle.algo_reader.specs.Views.{repeat_view, repeat_def, with_line};
 
 use algo_defs::{AlgoError, Body, Def, Frontier, FrontierLine};
-use algo_lines::{above, bad_line, duplicate, is_above, line_name, push};
+use algo_lines::{bad_line, duplicate, line_name};
 use std::alloc::Global;
 use syn_base::{Items, LimitKind, Name};
-use text_lines::Words;
+use text_lines::{Words, check_limit};
 
 /// The lines of a repetition so far.
 #[derive(Drop)]
@@ -86,9 +86,7 @@ impl RepeatBlock {
             (with_frontier (repeat_view self.now) number frontier) }
     {
         let count = self.frontier.len() as u128 + 1;
-        if is_above(LimitKind::Ports, count) {
-            return Err(above(LimitKind::Ports, count));
-        }
+        check_limit(LimitKind::Ports, count)?;
         if has_outer(self.frontier.as_slice(), outer) {
             return Err(duplicate(alloc, number, outer));
         }
@@ -108,9 +106,7 @@ impl RepeatBlock {
             (with_frontier (repeat_view self.now) number frontier) }
     {
         let count = self.frontier.len() as u128 + 1;
-        if is_above(LimitKind::Ports, count) {
-            return Err(above(LimitKind::Ports, count));
-        }
+        check_limit(LimitKind::Ports, count)?;
         if has_outer(self.frontier.as_slice(), outer) {
             return Err(duplicate(alloc, number, outer));
         }
@@ -136,7 +132,8 @@ impl RepeatBlock {
             frontier,
             line: number,
         };
-        push(&mut self.frontier, line)
+        self.frontier.push(line)?;
+        Ok(())
     }
 
     /// Adds a line that gives an input and an output of the repetition.
@@ -156,7 +153,8 @@ impl RepeatBlock {
             frontier,
             line: number,
         };
-        push(&mut self.frontier, line)
+        self.frontier.push(line)?;
+        Ok(())
     }
 
     /// Reads a line `fork P X`: one frontier line more, or the line's refusal.

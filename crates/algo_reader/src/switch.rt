@@ -7,14 +7,11 @@ ghost use Rattle.algo_lines.specs.Given.{Steps};
 ghost use Rattle.algo_reader.specs.Views.{switch_view, switch_def, part_of, on_of};
 
 use algo_defs::{AlgoError, Body, Case, Def};
-use algo_lines::{
-    Ports, above, bad_line, bad_number, duplicate, is_above, line_name, push, read_number,
-    read_port,
-};
+use algo_lines::{Ports, bad_line, bad_number, duplicate, line_name, read_number, read_port};
 use algo_text::Part;
 use std::alloc::Global;
 use syn_base::{Items, LimitKind, Name};
-use text_lines::Words;
+use text_lines::{Words, check_limit};
 
 /// The part of a switch after its line `on` in which the last line stands.
 #[derive(Drop)]
@@ -168,18 +165,14 @@ impl SwitchBlock {
             return Err(bad_number(alloc, number, words.get(1)));
         };
         let count = self.cases.len() as u128 + 1;
-        if is_above(LimitKind::Cases, count) {
-            return Err(above(LimitKind::Cases, count));
-        }
+        check_limit(LimitKind::Cases, count)?;
         self.part = SwitchPart::Cases;
-        push(
-            &mut self.cases,
-            Case {
-                value,
-                def,
-                line: number,
-            },
-        )
+        self.cases.push(Case {
+            value,
+            def,
+            line: number,
+        })?;
+        Ok(())
     }
 
     /// Reads the last line, `otherwise DEF`, or refuses it.

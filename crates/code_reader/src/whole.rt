@@ -2,8 +2,6 @@
 ghost use Rattle.std.specs.Prelude.{◌≡◌, ℕ, ◌-◌, ◌^◌, IfOk, length, map, min};
 ghost use Rattle.code_text.specs.Text.{at_place, counted, first_misnumbered, limited, no_size, sized, whole, within_steps};
 ghost use Rattle.code_text.specs.Text as text;
-ghost use Rattle.code_text.specs.declared.fault.CodeError.TheVariants.{Limit};
-ghost use Rattle.syn_base.specs.Limits.{bound_of};
 ghost use Rattle.syn_base.specs.declared.limits.LimitKind.TheVariants.{MicroSteps};
 ghost use Rattle.executive_program.specs.Steps.{all_turns};
 ghost use Rattle.code_text.specs.Given.{Gives, Has};
@@ -20,7 +18,8 @@ use code_lines::{Known, bad_argument, bad_line};
 use code_text::{CodeError, Size};
 use executive_program::{Buffer, Program, pair_depths, turn_micros};
 use std::alloc::Global;
-use syn_base::{Items, LimitFault, LimitKind, OutOfMemory};
+use syn_base::{Items, LimitKind, OutOfMemory};
+use text_lines::check_limit;
 
 /// The sizes of buffers by number.
 fn sizes_in_order(
@@ -105,29 +104,15 @@ fn narrow_program(alloc: Global, wide: &WideProgram) -> Result<Program, CodeErro
     })
 }
 
-/// A quantity above its bound.
-fn above(which: LimitKind, count: u128) -> CodeError
-    ensures { result ≡ Limit (record { which = which; count = count; bound = bound_of which }) }
-{
-    CodeError::Limit(LimitFault {
-        which,
-        count,
-        bound: which.bound(),
-    })
-}
-
 /// A quantity is within its bound. `count` is the quantity, or the last value of the type where it is more, which no
 /// text that fits into memory reaches.
 fn check_bound(which: LimitKind, count: u128) -> Result<(), CodeError>
     ensures { (exact : ℕ) → count ≡ min exact (2 ^ 128 - 1) → IsBounded result which exact }
 {
     if count == u128::MAX {
-        Err(CodeError::OutOfMemory)
-    } else if count > which.bound() {
-        Err(above(which, count))
-    } else {
-        Ok(())
+        return Err(CodeError::OutOfMemory);
     }
+    check_limit(which, count).map_err(CodeError::Limit)
 }
 
 /// The micro-steps of the loops of a program in one reaction are within their bound.

@@ -262,7 +262,7 @@ fn over(
 }
 
 /// The date at which the value is at the end of the route, which it goes hop by hop.
-fn along(
+fn date_along(
     board: &Board,
     media: &[Medium],
     source: Source,
@@ -308,7 +308,7 @@ pub(crate) fn to_far(
 
 /// The date at which the value is on the operator: from when on it is held there, or by the route from the
 /// operator of its operation.
-fn fetched(
+fn fetch_date(
     board: &Board,
     media: &[Medium],
     routes: &Routes,
@@ -331,7 +331,7 @@ fn fetched(
     }
     let from = board.on(source.vertex);
     let date = date_or_zero(board.held(source, from));
-    along(
+    date_along(
         board,
         media,
         source,
@@ -370,7 +370,7 @@ pub(crate) fn arrival(
     let mut ends = board.ends;
     let mut latest = 0;
     for source in sources {
-        latest = fetched(board, media, routes, *source, operator, &mut ends).max(latest);
+        latest = fetch_date(board, media, routes, *source, operator, &mut ends).max(latest);
     }
     latest
 }

@@ -4,59 +4,71 @@ ghost use Rattle.flat_graph.specs.Graph.{with_vertex};
 ghost use Rattle.flat_graph.specs.Order.{get_half};
 ghost use Rattle.schedule.specs.Acts.{copy};
 ghost use Rattle.route_table.specs.Table.{route_in};
-ghost use Rattle.comm_routing.specs.Task.{routing};
+ghost use Rattle.comm_routing.specs.Task.{routing_on};
 ghost use Rattle.comm_routing.specs.Placing.{greatest, sources};
 ghost use Rattle.comm_routing.specs.Walk.{distinct, walk};
 ghost use Rattle.comm_routing.specs.Board.{FitsAll, HasPlace, HasWay};
 ghost use Rattle.comm_routing.specs.Tables.{after_operation, after_transfers, decision_in, outs_of, start_in, transfers_in};
 
 use crate::board::{Board, carry_all};
-use crate::listing::list_all;
-use archi_graph::Archi;
+use crate::listing::{Network, list_all};
+use crate::site::Site;
 use flat_graph::{Flat, Kind, Source};
-use route_table::Routes;
 use schedule::{Decision, Transfer};
 use std::alloc::Global;
 use syn_base::{Items, OutOfMemory};
 
-/// The decision that places an operation on an operator, where it lasts this many ticks.
+/// An operation that is to be placed on an operator, where it lasts this many ticks.
+#[derive(Clone, Copy)]
+pub(crate) struct Placement<'a> {
+    /// Its sources, each once.
+    pub reads: &'a [Source],
+    pub op: u32,
+    pub operator: u32,
+    pub ticks: u64,
+}
+
+/// The decision of a placement.
 pub(crate) fn decide(
     alloc: Global,
-    flat: &Flat,
-    archi: &Archi,
-    routes: &Routes,
-    reads: &[Source],
-    op: u32,
-    operator: u32,
-    ticks: u64,
+    site: &Site,
+    placement: Placement,
     board: &Board,
 ) -> Result<Decision, OutOfMemory>
-    requires few { length archi.now.media ≤ 16 }
-    requires operator { (operator < routes.now.operators) × (operator < 16) }
-    requires operation { op < length flat.now.vertices }
-    requires reads { reads.now ≡ distinct (sources (routing flat.now archi.now routes.now) op) }
-    requires ways { All (HasWay archi.now.media board.now (route_in routes.now)
-        routes.now.operators operator) reads.now }
-    requires fits { FitsAll archi.now.media board.now (route_in routes.now) operator reads.now (walk board.now.ends 0) }
-    requires ends { start_in (routing flat.now archi.now routes.now) board.now op operator + ticks < 2 ^ 64 }
-    ensures { IfOk result (λ d. d ≡ decision_in (routing flat.now archi.now routes.now) board.now op operator ticks) }
+    requires few { length site.now.archi.now.media ≤ 16 }
+    requires operator { (placement.operator < site.now.routes.now.operators) ×
+        (placement.operator < 16) }
+    requires operation { placement.op < length site.now.flat.now.vertices }
+    requires reads { placement.reads.now ≡ distinct (sources (routing_on site.now) placement.op) }
+    requires ways { All (HasWay site.now.archi.now.media board.now (route_in site.now.routes.now)
+        site.now.routes.now.operators placement.operator) placement.reads.now }
+    requires fits { FitsAll site.now.archi.now.media board.now (route_in site.now.routes.now)
+        placement.operator placement.reads.now (walk board.now.ends 0) }
+    requires ends { start_in (routing_on site.now) board.now placement.op placement.operator +
+        placement.ticks < 2 ^ 64 }
+    ensures { IfOk result (λ d. d ≡ decision_in (routing_on site.now) board.now
+        placement.op placement.operator placement.ticks) }
 {
-    let mut transfers = Vec::new(alloc);
-    let arrival = list_all(
+    let network = Network {
         board,
-        archi.media(),
-        routes,
-        reads,
-        operator,
-        &mut transfers,
-    )?;
-    let vertex = &flat.vertices()[op as usize];
-    let start = start(board, arrival, operator, &vertex.kind, vertex.twin);
+        media: site.archi.media(),
+        routes: site.routes,
+    };
+    let mut transfers = Vec::new(alloc);
+    let arrival = list_all(network, placement.reads, placement.operator, &mut transfers)?;
+    let vertex = &site.flat.vertices()[placement.op as usize];
+    let start = start(
+        board,
+        arrival,
+        placement.operator,
+        &vertex.kind,
+        vertex.twin,
+    );
     Ok(Decision {
-        op,
-        operator,
+        op: placement.op,
+        operator: placement.operator,
         start,
-        end: start + ticks,
+        end: start + placement.ticks,
         transfers: Items::new(transfers),
     })
 }
@@ -77,52 +89,51 @@ pub(crate) fn apply(board: &mut Board, decision: &Decision, outs: &[u32])
     board.run(decision, outs);
 }
 
-/// Places an operation on an operator, where it lasts this many ticks: adds the decision, and what it
-/// does to the tables. Returns whether no value was carried. After a refusal all is as before.
+/// Places an operation: adds the decision, and what it does to the tables. Returns whether no value was
+/// carried. After a refusal all is as before.
 pub(crate) fn place(
     alloc: Global,
-    flat: &Flat,
-    archi: &Archi,
-    routes: &Routes,
-    reads: &[Source],
-    op: u32,
-    operator: u32,
-    ticks: u64,
+    site: &Site,
+    placement: Placement,
     board: &mut Board,
     decisions: &mut Vec<Decision>,
 ) -> Result<bool, OutOfMemory>
-    requires few { length archi.now.media ≤ 16 }
-    requires operator { (operator < routes.now.operators) × (operator < 16) }
-    requires operation { (op < length flat.now.vertices) × (op < length board.old.first) ×
-        (op < length board.old.places) × (op < length board.old.ended) }
-    requires reads { reads.now ≡ distinct (sources (routing flat.now archi.now routes.now) op) }
-    requires ways { All (HasWay archi.now.media board.old (route_in routes.now)
-        routes.now.operators operator) reads.now }
-    requires fits { FitsAll archi.now.media board.old (route_in routes.now) operator reads.now (walk board.old.ends 0) }
-    requires ends { start_in (routing flat.now archi.now routes.now) board.old op operator + ticks < 2 ^ 64 }
-    requires lands { All (λ c. HasPlace board.old (copy c.to c.source) ×
-        (c.medium < 16)) (transfers_in (routing flat.now archi.now routes.now) board.old op
-        operator) }
-    requires outputs { (j : ℕ) → j < length (outs_of (routing flat.now archi.now routes.now) op) →
-        (slice_index_or board.old.first op 0 + j) * board.old.operators + operator <
-        length board.old.held }
+    requires few { length site.now.archi.now.media ≤ 16 }
+    requires operator { (placement.operator < site.now.routes.now.operators) ×
+        (placement.operator < 16) }
+    requires operation { (placement.op < length site.now.flat.now.vertices) ×
+        (placement.op < length board.old.first) × (placement.op < length board.old.places) ×
+        (placement.op < length board.old.ended) }
+    requires reads { placement.reads.now ≡ distinct (sources (routing_on site.now) placement.op) }
+    requires ways { All (HasWay site.now.archi.now.media board.old (route_in site.now.routes.now)
+        site.now.routes.now.operators placement.operator) placement.reads.now }
+    requires fits { FitsAll site.now.archi.now.media board.old (route_in site.now.routes.now)
+        placement.operator placement.reads.now (walk board.old.ends 0) }
+    requires ends { start_in (routing_on site.now) board.old placement.op placement.operator +
+        placement.ticks < 2 ^ 64 }
+    requires lands { All (λ c. HasPlace board.old (copy c.to c.source) × (c.medium < 16))
+        (transfers_in (routing_on site.now) board.old placement.op placement.operator) }
+    requires outputs { (j : ℕ) → j < length (outs_of (routing_on site.now) placement.op) →
+        (slice_index_or board.old.first placement.op 0 + j) * board.old.operators +
+        placement.operator < length board.old.held }
     ensures decided { OnOk result (decisions.new.items ≡ decisions.old.items ++
-        decision_in (routing flat.now archi.now routes.now) board.old op operator ticks ∷ []) }
+        decision_in (routing_on site.now) board.old placement.op placement.operator
+        placement.ticks ∷ []) }
     ensures tables { OnOk result (board.new ≡ after_operation
-        (after_transfers board.old (transfers_in (routing flat.now archi.now routes.now) board.old
-        op operator)) (outs_of (routing flat.now archi.now routes.now) op)
-        (decision_in (routing flat.now archi.now routes.now) board.old op operator ticks)) }
+        (after_transfers board.old (transfers_in (routing_on site.now) board.old
+        placement.op placement.operator)) (outs_of (routing_on site.now) placement.op)
+        (decision_in (routing_on site.now) board.old placement.op placement.operator
+        placement.ticks)) }
     ensures quiet { IfOk result (λ quiet. IsTrue quiet →
-        transfers_in (routing flat.now archi.now routes.now) board.old op operator ≡ []) }
-    ensures refused { OnErr result ((decisions.new.items ≡ decisions.old.items) × (board.new ≡ board.old)) }
+        transfers_in (routing_on site.now) board.old placement.op placement.operator ≡ []) }
+    ensures refused { OnErr result ((decisions.new.items ≡ decisions.old.items) ×
+        (board.new ≡ board.old)) }
 {
-    let decision = decide(
-        alloc, flat, archi, routes, reads, op, operator, ticks, board,
-    )?;
+    let decision = decide(alloc, site, placement, board)?;
     decisions.push(decision)?;
     let decision = &decisions[decisions.len() - 1];
     let quiet = is_quiet(decision.transfers.as_slice());
-    apply(board, decision, outs(flat, op));
+    apply(board, decision, outs(site.flat, placement.op));
     Ok(quiet)
 }
 

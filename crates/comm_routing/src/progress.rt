@@ -13,7 +13,7 @@ ghost use Rattle.comm_routing.specs.Start.{reads_of};
 
 use crate::board::{Board, date_or_zero};
 use crate::candidates::Candidates;
-use crate::placing::place;
+use crate::placing::{Placement, place};
 use crate::reach::{Walks, arrival_on};
 use crate::site::Site;
 use flat_graph::{Kind, Source};
@@ -74,15 +74,16 @@ pub(crate) fn place_next(
         (progress.new.board ≡ progress.old.board) ×
         (progress.new.candidates ≡ progress.old.candidates)) }
 {
-    let quiet = place(
-        alloc,
-        site.flat,
-        site.archi,
-        site.routes,
-        reads[op as usize].as_slice(),
+    let placement = Placement {
+        reads: reads[op as usize].as_slice(),
         op,
         operator,
-        date_or_zero(site.durations.ticks(op, operator)),
+        ticks: date_or_zero(site.durations.ticks(op, operator)),
+    };
+    let quiet = place(
+        alloc,
+        site,
+        placement,
         &mut progress.board,
         &mut progress.decisions,
     )?;

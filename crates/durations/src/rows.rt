@@ -27,16 +27,11 @@ pub fn durations_of(alloc: Global, flat: &Flat, text: &ArchiText) -> Result<Dura
     ensures fits { IfOk result (IsOf flat.now text.now.archi) }
 {
     let operators = text.archi.operators().len() as u32;
-    let Ok(given) = Given::new(alloc, operators, text.lines.as_slice()) else {
-        return Err(ArchiError::OutOfMemory);
-    };
+    let given = Given::new(alloc, operators, text.lines.as_slice())?;
     if let Some(def) = missing(&given, flat.vertices()) {
         return Err(no_duration(alloc, def));
     }
-    match table(alloc, &given, flat.vertices()) {
-        Ok(durations) => Ok(durations),
-        Err(_) => Err(ArchiError::OutOfMemory),
-    }
+    Ok(table(alloc, &given, flat.vertices())?)
 }
 
 /// The refusal of a definition that has no duration, at line 0, which stands for the whole text.

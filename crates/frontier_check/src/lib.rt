@@ -10,4 +10,4 @@ mod switch;
 
 pub use body_ports::ports_of_body;
 pub use repetition::check_repeat;
-pub use switch::check_switch;
+pub use switch::{SwitchParts, check_switch};

@@ -11,30 +11,45 @@ use algo_rules::Ports;
 use body_lang::Port;
 use syn_base::Name;
 
-/// Whether the cases of a switch have values of their own and its ports `ins` (without the
-/// conditioning one) and `outs`, in names, lengths and order, and `otherwise` likewise. BadCase
-/// comes at the first line that fails. The definitions of the cases, and last that of `otherwise`,
-/// stand at `places` of `defs`, their ports there in `table`. It takes no memory.
-pub fn check_switch(
-    defs: &[Def],
-    table: &[Ports],
-    places: &[u32],
-    ins: &[Port],
-    outs: &[Port],
-    cases: &[Case],
-    otherwise: &Name,
-    otherwise_line: u32,
-) -> Result<(), AlgoError>
-    requires placed { ArePlaced defs.now table.now (map (λ c. c.def) cases.now ++ otherwise.now ∷ []) places.now }
-    ensures { Checks result (switch_fault (ports_of defs.now) ins.now outs.now cases.now otherwise.now otherwise_line) }
+/// A switch, with the definitions of its text.
+#[derive(Clone, Copy)]
+pub struct SwitchParts<'a> {
+    /// The inputs, without the conditioning one.
+    pub ins: &'a [Port],
+    pub outs: &'a [Port],
+    pub cases: &'a [Case],
+    pub otherwise: &'a Name,
+    pub otherwise_line: u32,
+    pub defs: &'a [Def],
+    /// The ports of each definition, by its place.
+    pub table: &'a [Ports],
+    /// The places of the definitions of the cases, and last that of `otherwise`.
+    pub places: &'a [u32],
+}
+
+/// Whether the cases of a switch have values of their own and its ports, in names, lengths and
+/// order, and `otherwise` likewise. BadCase comes at the first line that fails. It takes no memory.
+pub fn check_switch(switch: SwitchParts) -> Result<(), AlgoError>
+    requires placed { ArePlaced switch.defs.now switch.table.now
+        (map (λ c. c.def) switch.cases.now ++ switch.otherwise.now ∷ []) switch.places.now }
+    ensures { Checks result (switch_fault (ports_of switch.defs.now) switch.ins.now switch.outs.now
+        switch.cases.now switch.otherwise.now switch.otherwise_line) }
 {
+    let SwitchParts {
+        ins,
+        outs,
+        cases,
+        table,
+        places,
+        ..
+    } = switch;
     for (at, case) in cases.iter().enumerate() {
         let ports = ports_at(table, places[at]);
         check_case(ins, outs, &cases[..at], case, ports)?;
     }
     let ports = ports_at(table, places[cases.len()]);
     if !fits(ins, outs, ports) {
-        return Err(refusal(otherwise_line, AlgoCause::BadCase));
+        return Err(refusal(switch.otherwise_line, AlgoCause::BadCase));
     }
     Ok(())
 }

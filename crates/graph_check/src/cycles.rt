@@ -156,15 +156,10 @@ impl<'a> GraphParts<'a> {
         ensures { Checks result
             (cycle_fault self.now.defs.now self.now.references.now self.now.line self.now.edges.now) }
     {
-        match self.cycle_names(alloc) {
-            Ok(names) => {
-                if names.is_empty() {
-                    Ok(())
-                } else {
-                    Err(cycle(self.line, names))
-                }
-            }
-            Err(_) => Err(AlgoError::OutOfMemory),
+        let names = self.cycle_names(alloc)?;
+        if names.is_empty() {
+            return Ok(());
         }
+        Err(cycle(self.line, names))
     }
 }

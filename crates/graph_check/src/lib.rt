@@ -11,4 +11,4 @@ mod parts;
 mod unfed;
 
 pub use check::check_graph;
-pub use parts::{find_port, find_reference, is_same_name};
+pub use parts::{GraphParts, find_port, find_reference, is_same_name};

@@ -29,10 +29,7 @@ pub fn marks(alloc: Global, defs: &Defs) -> Result<Vec<Mark>, AlgoError>
         return Err(AlgoError::OutOfMemory);
     };
     check_marks(alloc, defs.defs.as_slice(), links.as_slice())?;
-    match main_marks(alloc, defs.defs.as_slice()) {
-        Ok(marks) => Ok(marks),
-        Err(_) => Err(AlgoError::OutOfMemory),
-    }
+    Ok(main_marks(alloc, defs.defs.as_slice())?)
 }
 
 /// The marks of the definition of `main`.

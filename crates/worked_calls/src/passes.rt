@@ -4,7 +4,7 @@ ghost use Rattle.operation_paths.specs.Bounded.{HasBounds};
 ghost use Rattle.operation_paths.specs.Named.{HasNames};
 ghost use Rattle.pass_laws.specs.NoRepeat.{HasNoRepeat};
 
-use crate::tree_texts::{CASES, COPIES, DELAYED, resolved};
+use crate::tree_texts::{CASES, DELAYED, resolved};
 use act_text::acts_text;
 use algo_tree::Tree;
 use conditioning::guard;
@@ -16,6 +16,7 @@ use std::alloc::Global;
 use std::test::Fail;
 use syn_base::{OutOfMemory, SensorRows, Shape};
 use sync_meaning::simulate;
+use worked_parts::COPIES;
 
 /// How many elements vectors of these lengths have.
 fn width(alloc: Global, lens: &[u32]) -> Result<usize, OutOfMemory>
@@ -91,6 +92,7 @@ fn listing(alloc: Global, text: &[u8]) -> Result<Vec<u8>, Fail>
 
 #[test]
 fn copies_accumulate(rt: HostRuntime) -> Result<(), Fail> {
+    assert!(rt; COPIES.len() <= 2000);
     let tree = unrolled(rt.alloc(), COPIES)?;
     assert_eq!(rt; tree.operations(), 15);
     let text = taken(rt.alloc(), &tree, &[&[1, 2, 3, 4]])?;
@@ -139,6 +141,7 @@ fn cases_are_flattened(rt: HostRuntime) -> Result<(), Fail> {
 
 #[test]
 fn copies_are_flattened(rt: HostRuntime) -> Result<(), Fail> {
+    assert!(rt; COPIES.len() <= 2000);
     let lines = listing(rt.alloc(), COPIES)?;
     let expected = b"0 s sensor:Sense - - 4
 1 w constant:Two - - 1

@@ -2,7 +2,7 @@
 ghost use Rattle.std.specs.Prelude.{◌≡◌, ◌≤◌, ◌∷◌, [], IfOk, length};
 
 use crate::stages::{read_architecture, read_tree};
-use crate::texts::{ALGORITHM, ARCHITECTURE, FIVE_ROWS, MARKED, SENSORS};
+use crate::texts::{ARCHITECTURE, FIVE_ROWS, MARKED, SENSORS};
 use archi_graph::Seq;
 use sensor_table::read_sensors;
 use std::alloc::Global;
@@ -10,12 +10,13 @@ use std::process::Abort;
 use std::test::Fail;
 use syn_base::{ActRows, SensorRows};
 use sync_meaning::simulate;
+use worked_parts::TWICE;
 
 #[test]
 fn each_actuator_has_its_length(rt: HostRuntime) -> Result<(), Fail> {
     let alloc = rt.alloc();
-    assert!(rt; ALGORITHM.len() <= 4000);
-    let lens = read_tree(alloc, ALGORITHM)?.actuator_lens(alloc)?;
+    assert!(rt; TWICE.len() <= 4000);
+    let lens = read_tree(alloc, TWICE)?.actuator_lens(alloc)?;
     assert!(rt; lens.as_slice() == [1, 1].as_slice());
     Ok(())
 }
@@ -60,8 +61,8 @@ fn sensed_in(rows: &SensorRows, k: usize) -> Option<i64> {
 
 #[test]
 fn a_table_has_its_rows(rt: HostRuntime) -> Result<(), Fail> {
-    assert!(rt; ALGORITHM.len() <= 4000);
-    let rows = sensed(rt.alloc(), ALGORITHM, SENSORS)?;
+    assert!(rt; TWICE.len() <= 4000);
+    let rows = sensed(rt.alloc(), TWICE, SENSORS)?;
     assert_eq!(rt; rows.count(), 3);
     assert_eq!(rt; sensed_in(&rows, 0), Some(5));
     assert_eq!(rt; sensed_in(&rows, 1), Some(-1));
@@ -71,8 +72,8 @@ fn a_table_has_its_rows(rt: HostRuntime) -> Result<(), Fail> {
 
 #[test]
 fn a_window_has_its_rows(rt: HostRuntime) -> Result<(), Fail> {
-    assert!(rt; ALGORITHM.len() <= 4000);
-    let rows = sensed(rt.alloc(), ALGORITHM, SENSORS)?;
+    assert!(rt; TWICE.len() <= 4000);
+    let rows = sensed(rt.alloc(), TWICE, SENSORS)?;
     assert_eq!(rt; rows.count(), 3);
     let window = rows.window(1, 1)?;
     assert_eq!(rt; window.count(), 1);
@@ -106,8 +107,8 @@ fn both_take(acts: &ActRows, k: usize, value: i64) -> bool {
 
 #[test]
 fn both_actuators_take_one_more(rt: HostRuntime) -> Result<(), Fail> {
-    assert!(rt; ALGORITHM.len() <= 4000);
-    let acts = taken(rt.alloc(), ALGORITHM, SENSORS)?;
+    assert!(rt; TWICE.len() <= 4000);
+    let acts = taken(rt.alloc(), TWICE, SENSORS)?;
     assert_eq!(rt; acts.count(), 3);
     assert!(rt; both_take(&acts, 0, 6));
     assert!(rt; both_take(&acts, 1, 0));

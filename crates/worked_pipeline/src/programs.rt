@@ -1,12 +1,12 @@
 //! The program of a schedule, its macro-code, and its check.
 use crate::stages::{Site, build_program, find_schedule, two_operators};
-use crate::texts::CODE;
 use executive_program::Program;
 use macro_check::{loops_are_short, macro_check};
 use macro_code::print_code;
 use order_check::is_order;
 use std::alloc::Global;
 use std::test::Fail;
+use worked_parts::TWICE_CODE;
 
 /// The program of the schedule of a site.
 fn built(alloc: Global, site: &Site) -> Result<Program, Fail> {
@@ -38,7 +38,7 @@ fn the_code_of_the_program(rt: HostRuntime) -> Result<(), Fail> {
     let alloc = rt.alloc();
     let site = two_operators(&rt, alloc)?;
     let code = code(alloc, &site)?;
-    assert!(rt; code.as_slice() == CODE);
+    assert!(rt; code.as_slice() == TWICE_CODE);
     Ok(())
 }
 

@@ -2,7 +2,7 @@
 ghost use Rattle.std.specs.Prelude.{◌≤◌, length};
 
 use crate::stages::{read_architecture, read_defs};
-use crate::texts::{ALGORITHM, ARCHITECTURE};
+use crate::texts::ARCHITECTURE;
 use algo_print::print_algo;
 use archi_reader::print_archi;
 use body_lang::Port;
@@ -10,6 +10,7 @@ use body_text::{print_body, read_body};
 use std::alloc::Global;
 use std::test::Fail;
 use syn_base::{Name, print_int};
+use worked_parts::TWICE;
 
 #[test]
 fn an_integer_is_printed_in_decimal(rt: HostRuntime) -> Result<(), Fail> {
@@ -61,9 +62,9 @@ fn printed_algorithm(alloc: Global, text: &[u8]) -> Result<Vec<u8>, Fail>
 
 #[test]
 fn an_algorithm_is_printed_as_it_stands(rt: HostRuntime) -> Result<(), Fail> {
-    assert!(rt; ALGORITHM.len() <= 4000);
-    let printed = printed_algorithm(rt.alloc(), ALGORITHM)?;
-    assert!(rt; printed.as_slice() == ALGORITHM);
+    assert!(rt; TWICE.len() <= 4000);
+    let printed = printed_algorithm(rt.alloc(), TWICE)?;
+    assert!(rt; printed.as_slice() == TWICE);
     Ok(())
 }
 

@@ -12,7 +12,7 @@ ghost use Rattle.schedule.specs.Valid.{is_valid};
 ghost use Rattle.sequence_build_laws.specs.Built.{program_of};
 ghost use Rattle.syn_base.specs.Limits.{most_in_text};
 
-use crate::texts::{ALGORITHM, ARCHITECTURE};
+use crate::texts::ARCHITECTURE;
 use algo_defs::{AlgoError, Defs};
 use algo_print::canonical_text_reads_back;
 use algo_reader::read_algo;
@@ -32,6 +32,7 @@ use std::alloc::Global;
 use std::process::Abort;
 use std::test::Fail;
 use syn_base::OutOfMemory;
+use worked_parts::TWICE;
 
 /// The definitions of a text that is no longer than the texts here.
 #[tactic(auto, using(algo_reader::proofs::LineCounts::lines_at_most))]
@@ -124,7 +125,7 @@ pub fn build_program(alloc: Global, site: &Site, schedule: &Schedule) -> Result<
 
 /// The site of the texts here.
 pub fn two_operators(rt: &impl Abort, alloc: Global) -> Result<Site, Fail> {
-    assert!(rt; ALGORITHM.len() <= 4000);
+    assert!(rt; TWICE.len() <= 4000);
     assert!(rt; ARCHITECTURE.len() <= 4000);
-    site_of(alloc, ALGORITHM, ARCHITECTURE)
+    site_of(alloc, TWICE, ARCHITECTURE)
 }

@@ -1,26 +1,5 @@
 //! The texts that go down the pipeline.
 
-/// A sensor, a function that adds 1, twice, and an actuator for each result.
-pub const ALGORITHM: &[u8] = b"algorithm 1
-sensor Sense 1
-actuator Act 1
-function F
-in x 1
-out y 1 = add(x[0],1)
-end
-graph main
-ref s Sense
-ref f F
-ref g F
-ref a Act
-ref b Act
-edge s.o f.x
-edge s.o g.x
-edge f.y a.i
-edge g.y b.i
-end
-";
-
 /// Two operators on a bus; the sensor stands on the first one alone.
 pub const ARCHITECTURE: &[u8] = b"architecture 1
 operator P
@@ -67,54 +46,6 @@ operator Q
 medium bus
 1 3 s 0 P Q
 length 14
-";
-
-/// The executive of both processors.
-pub const CODE: &[u8] = b"processor_(P)
-semaphores_(0)
-alloc_(b0,1)
-alloc_(b1,1)
-thread_(bus)
-Pre0_(0)
-loop_
-Suc1_(0)
-send_(b0,Q)
-Pre0_(0)
-endloop_
-endthread_
-main_
-spawn_thread_(bus)
-loop_
-Suc0_(0)
-op s(;b0)
-Pre1_(0)
-op f(b0;b1)
-op a(b1;)
-endloop_
-wait_endthread_(bus)
-endmain_
-processor_(Q)
-semaphores_(1)
-alloc_(b2,1)
-alloc_(b3,1)
-thread_(bus)
-loop_
-Suc0_(1)
-recv_(b2,P)
-Pre1_(1)
-endloop_
-endthread_
-main_
-spawn_thread_(bus)
-Pre0_(1)
-loop_
-Suc1_(1)
-op g(b2;b3)
-Pre0_(1)
-op b(b3;)
-endloop_
-wait_endthread_(bus)
-endmain_
 ";
 
 /// The function runs in every second reaction alone.

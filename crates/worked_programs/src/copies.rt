@@ -13,58 +13,7 @@ use std::sync::Wait;
 use std::test::Fail;
 use std::thread::Threads;
 use word_table::Driven;
-
-/// The value of each copy is forked, w is 2 in each, and the result is iterated from 10 on. One actuator takes
-/// the last result, the other one all four.
-const ALGORITHM: &[u8] = b"algorithm 1
-sensor Sense 4
-actuator One 1
-actuator Four 4
-constant Two = 2
-constant Ten = 10
-function Add
-in x 1
-in y 1
-out z 1 = add(x[0],y[0])
-end
-function Mul
-in x 1
-in y 1
-out z 1 = mul(x[0],y[0])
-end
-graph Cell
-in v 1
-in w 1
-in acc 1
-out r 1
-ref p Add
-ref q Mul
-edge acc p.x
-edge v p.y
-edge p.z q.x
-edge w q.y
-edge q.z r
-end
-repeat Chain 4 Cell
-fork v v
-diffuse w w
-iterate z acc r t
-join r p
-end
-graph main
-ref s Sense
-ref w Two
-ref z Ten
-ref c Chain
-ref a One
-ref b Four
-edge s.o c.v
-edge w.o c.w
-edge z.o c.z
-edge c.t a.i
-edge c.p b.i
-end
-";
+use worked_parts::COPIES;
 
 /// On the first operator stand the sensor, the copies' parts, the sums and the received products, on the second
 /// the received sums and the products.
@@ -232,7 +181,7 @@ endmain_
 /// Each copy's sum goes over the bus, and its product back; then the first operator goes on.
 fn texts() -> Texts<'static> {
     Texts {
-        algorithm: ALGORITHM,
+        algorithm: COPIES,
         architecture: BUS,
         code: CODE,
         order: b"20000001113332222233311100001113332222233311100001113332222233311100001113332222233311100000000",

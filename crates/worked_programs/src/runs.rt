@@ -11,7 +11,7 @@ use std::sync::Wait;
 use std::test::Fail;
 use std::thread::Threads;
 use word_table::{Closed, Driven};
-use worked_gates::{Counting, Holding, Meeting};
+use worked_parts::{Counting, Holding, Meeting};
 
 /// Who drives a job.
 #[derive(Clone, Copy, Debug)]

@@ -11,26 +11,7 @@ use std::alloc::Global;
 use std::process::Abort;
 use std::test::Fail;
 use syn_base::ActRows;
-
-const ALGORITHM: &[u8] = b"algorithm 1
-sensor Sense 1
-actuator Act 1
-function OneMore
-in x 1
-out y 1 = add(x[0],1)
-end
-graph main
-ref s Sense
-ref f OneMore
-ref g OneMore
-ref a Act
-ref b Act
-edge s.o f.x
-edge s.o g.x
-edge f.y a.i
-edge g.y b.i
-end
-";
+use worked_parts::{TWICE, TWICE_CODE};
 
 /// Two operators at a bus.
 pub(crate) const BUS: &[u8] = b"architecture 1
@@ -39,53 +20,6 @@ operator Q
 medium bus p2p 1 1
 connect bus P
 connect bus Q
-";
-
-const CODE: &[u8] = b"processor_(P)
-semaphores_(0)
-alloc_(b0,1)
-alloc_(b1,1)
-thread_(bus)
-Pre0_(0)
-loop_
-Suc1_(0)
-send_(b0,Q)
-Pre0_(0)
-endloop_
-endthread_
-main_
-spawn_thread_(bus)
-loop_
-Suc0_(0)
-op s(;b0)
-Pre1_(0)
-op f(b0;b1)
-op a(b1;)
-endloop_
-wait_endthread_(bus)
-endmain_
-processor_(Q)
-semaphores_(1)
-alloc_(b2,1)
-alloc_(b3,1)
-thread_(bus)
-loop_
-Suc0_(1)
-recv_(b2,P)
-Pre1_(1)
-endloop_
-endthread_
-main_
-spawn_thread_(bus)
-Pre0_(1)
-loop_
-Suc1_(1)
-op g(b2;b3)
-Pre0_(1)
-op b(b3;)
-endloop_
-wait_endthread_(bus)
-endmain_
 ";
 
 const CODE_OF_TWO_PLACES: &[u8] = b"processor_(P)
@@ -141,9 +75,9 @@ endmain_
 /// and the first actuator.
 pub(crate) fn texts() -> Texts<'static> {
     Texts {
-        algorithm: ALGORITHM,
+        algorithm: TWICE,
         architecture: BUS,
-        code: CODE,
+        code: TWICE_CODE,
         order: b"000011133322220",
         rows: &[&[5], &[-1], &[0]],
     }

@@ -6,7 +6,7 @@ use outside::GateFree;
 use std::io;
 use std::sync::Wait;
 use std::thread::Threads;
-use worked_gates::{Counting, Holding, Meeting};
+use worked_parts::{Counting, Holding, Meeting};
 
 /// What a gate has seen.
 #[derive(Clone, Copy)]

@@ -13,7 +13,7 @@ use Rattle.algo_check.proofs.tables.ports_of_bodies.Goals as goal
 
 pub returns-in_err-pass-clause-checks : goal.returns-in_err-pass-clause-checks
 returns-in_err-pass-clause-checks c =
-    let p = err_from_is_err_and c.from_residual.result c.from_residual.ensures.1 in
+    let p = err_from_is_err_and c.from_residual-in_err-pass.result c.from_residual-in_err-pass.ensures.1 in
     let f : ℕ → List (Option AlgoError) = λ n. faults_at c.args.defs.now n c.args.defs.now c.args.levels.now.depths in
     rw (p.1, p.2) (told (Vec Ports) _ _ (depth_told f c.loop-depth.depth c.loop-depth-test.true (bodies_fault c.args.defs.now) c.loop-depth.invariant.left _ (tells (Unit {0}) _ _ c.in_err-pass.ensures.checks)))
 

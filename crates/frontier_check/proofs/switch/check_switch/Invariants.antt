@@ -8,6 +8,6 @@ use Rattle.frontier_check.proofs.switch.check_switch.Given as goal
 -- the cases that are left decide
 abbrev pub invariant-loop-at : goal.invariant-loop-at
 invariant-loop-at l =
-    first_of (case_faults (ports_of l.defs) l.ins l.outs (map (λ c. c.value) (take l.at l.cases)) (drop l.at l.cases)
-    ++ cond (fits l.ins l.outs (ports_of l.defs l.otherwise)) None (fault l.otherwise_line BadCase) ∷ [])
-    ≡ switch_fault (ports_of l.defs) l.ins l.outs l.cases l.otherwise l.otherwise_line
+    first_of (case_faults (ports_of l.switch.defs.now) l.switch.ins.now l.switch.outs.now (map (λ c. c.value) (take l.at l.switch.cases.now)) (drop l.at l.switch.cases.now)
+    ++ cond (fits l.switch.ins.now l.switch.outs.now (ports_of l.switch.defs.now l.switch.otherwise.now)) None (fault l.switch.otherwise_line BadCase) ∷ [])
+    ≡ switch_fault (ports_of l.switch.defs.now) l.switch.ins.now l.switch.outs.now l.switch.cases.now l.switch.otherwise.now l.switch.otherwise_line

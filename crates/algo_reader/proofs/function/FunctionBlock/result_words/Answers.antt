@@ -41,4 +41,4 @@ returns c =
     goes (result_follows (function_view c.args.self.now) c.args.number c.args.words.now c.args.text.now c.count.result three at c.count.ensures) c.in_ok-port.port c.in_ok-port.ensures.port
     ∙ ap (λ r. and_then r (with_result (function_view c.args.self.now) c.args.number c.in_ok-port.port)) (formula_same c.args.number _ _ c.args.text.now _ (ap (λ (ps : List Port). map (λ i. i.name) ps) c.as_slice.ensures.same) c.in_ok-formula.ensures)
     ∙ result_free (function_view c.args.self.now) c.args.number c.in_ok-port.port c.in_ok-formula.formula (sym c.if-is_taken.ensures)
-    ∙ ap (λ (os : List Output). Ok (record (function_view c.args.self.now) { part = Outputs; results = os })) (sym c.in_ok-push.ensures)
+    ∙ ap (λ (os : List Output). Ok (record (function_view c.args.self.now) { part = Outputs; results = os })) (sym c.in_ok-push.ensures.items)

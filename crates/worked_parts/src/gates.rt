@@ -1,7 +1,5 @@
 //! Gates that show which steps are asked for, by which threads, and in what order. Tests of runs hold them, and the
 //! script of `worked_rows` names them.
-#![tactic(auto)]
-
 use outside::Gate;
 use std::hint;
 use std::sync::atomic::{AtomicU64, Ordering};
