@@ -1,0 +1,5 @@
+mod Worked
+pub mod Whole
+pub mod Lone
+pub mod Timed
+pub mod Way
