@@ -37,20 +37,8 @@ use Rattle.top_plans.specs.Given.{Given, stages}
 use Rattle.top_plans.specs.Plans.{Made, code_in, described_in, read_file, unless_lacking}
 use Rattle.syndex_program.specs.Executes.{EndsOrWants}
 use Rattle.syndex_program.specs.Foreign.{IsProgram, MakesProgram, ReadsProgram}
-use Rattle.syndex_program.specs.Compiles.{described}
-use Rattle.syndex_program.specs.Reads.{ReadsDescription}
-
--- a text of an architecture is refused
-pub text_refused : (held : Held) (bytes : Bytes) (next : Described → Made) (e : ArchiError) → reader.Fails e (description_of bytes)
-    → Makes held held (described_in bytes next) (Err (ending_of (status_of_architecture e)))
-text_refused held bytes next (architecture.Refused fault) is = after_err held of_architecture (description_of bytes) next (architecture.Refused fault) is
-text_refused held bytes next (architecture.Limit fault) is = after_err held of_architecture (description_of bytes) next (architecture.Limit fault) is
-text_refused held bytes next architecture.OutOfMemory is = memory held (described_in bytes next)
-
--- a text of an architecture was read, and then the plan went on with what it describes
-pub text_went_on : (name : Bytes) (a b c : Held) (text : ArchiText) (next : Described → Made) (made : Result Given (Ending Refusal))
-    → ReadsDescription name a b (Ok text) → Makes b c (next (described text)) made → Makes a c (read_file Architecture name (λ bytes. described_in bytes next)) made
-text_went_on name a b c text next made (bytes, read, is) m = was_read b bytes read (after_ok b c of_architecture (description_of bytes) next made (described text) is m)
+use Rattle.compiler.specs.Compiles.{described}
+use Rattle.compiler.specs.Reads.{ReadsDescription}
 
 -- a cause is told as it is
 same_stops : (ys : List Stop) → map stop_of (map place_of ys) ≡ ys

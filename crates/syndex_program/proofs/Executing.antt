@@ -22,7 +22,7 @@ use Rattle.command_status.specs.Status.{Refusal, above}
 use Rattle.top_plans.specs.Given.{Given, Execution, one_job}
 use Rattle.top_plans.specs.Plans.{execution, execution_plan, program_by}
 use Rattle.syndex_program.specs.Executes.{rest_plan}
-use Rattle.syndex_program.proofs.Steps.{is_above, is_within}
+use Rattle.compiler.proofs.Steps.{is_above, is_within}
 
 module _ (main : Vertex) (a : Archi) (rows : Reactions) (p : Program) where
   abbrev e : Execution

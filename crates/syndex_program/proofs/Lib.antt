@@ -1,7 +1,3 @@
-pub mod Sizes
-pub mod Steps
-pub mod Architectures
-pub mod Tables
 pub mod Executing
 pub mod Leaving
 pub mod Summing

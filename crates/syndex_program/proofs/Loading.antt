@@ -18,12 +18,12 @@ use Rattle.command_status.specs.Status.{Refusal, ending_of, status_of_algorithm,
 use Rattle.top_plans.specs.Given.{Given, Execution}
 use Rattle.top_plans.specs.Plans.{Made, architecture_in, table_in}
 use Rattle.syndex_program.specs.Executes.{rest_plan, texts_plan}
-use Rattle.syndex_program.specs.Compiles.{IsAlgorithm, IsCompilation, MakesAlgorithm, MakesCompilation, described}
-use Rattle.syndex_program.specs.Reads.{MakesTable}
-use Rattle.syndex_program.specs.declared.compile.Algorithm.{Algorithm}
-use Rattle.syndex_program.specs.declared.compile.Compilation.{Compilation}
-use Rattle.syndex_program.proofs.Steps as steps
-use Rattle.syndex_program.proofs.Architectures as architectures
+use Rattle.compiler.specs.Compiles.{IsAlgorithm, IsCompilation, MakesAlgorithm, MakesCompilation, described}
+use Rattle.compiler.specs.Reads.{MakesTable}
+use Rattle.compiler.specs.declared.stages.Algorithm.{Algorithm}
+use Rattle.compiler.specs.declared.stages.Compilation.{Compilation}
+use Rattle.compiler.proofs.Steps as steps
+use Rattle.compiler.proofs.Architectures as architectures
 
 module _ (next : Execution → Given) (held : Held) (a h s : Bytes) where
   abbrev behind_table : Vertex → Described → Table → Made

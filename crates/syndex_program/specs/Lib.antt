@@ -1,6 +1,3 @@
-pub mod Compiles
-pub mod Reads
-pub mod Builds
 pub mod Executes
 pub mod Foreign
 pub mod Stopped

@@ -12,7 +12,7 @@ use Rattle.top_plans.specs.Given.{stages}
 use Rattle.top_plans.specs.Names.{RunsJobs}
 use Rattle.top_plans.specs.Plans.{plan_for}
 use Rattle.top_plans.specs.Replies.{PlainReplies}
-use Rattle.syndex_program.specs.Reads.{text_in}
+use Rattle.compiler.specs.Reads.{text_in}
 
 -- a command that runs jobs is left as it is; the plan of any other one was carried out, whatever is driven
 abbrev pub IsRunOrPlain : Command → Held → Held → Sunk → Sunk → Option Status → Type 0

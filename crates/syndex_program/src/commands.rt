@@ -9,7 +9,7 @@ ghost use Rattle.top_plans.specs.Given.{stages, written};
 ghost use Rattle.top_plans.specs.Plans.{plan_for};
 ghost use Rattle.syndex_program.specs.Counts.{IsCounted};
 ghost use Rattle.syndex_program.specs.Plainly.{IsRunOrPlain};
-ghost use Rattle.syndex_program.specs.Reads.{text_in};
+ghost use Rattle.compiler.specs.Reads.{text_in};
 ghost use Rattle.syndex_program.specs.Unread.{LeavesUnread};
 
 pub mod chart;

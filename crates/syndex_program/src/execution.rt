@@ -11,12 +11,9 @@ ghost use Rattle.top_plans.specs.Given.{Given, Execution as Executed};
 ghost use Rattle.top_plans.specs.Loads.{load_algorithm, load_architecture, load_table};
 ghost use Rattle.top_plans.specs.Plans.{execution, execution_plan};
 ghost use Rattle.syndex_program.specs.Executes.{IsExecuted, files_plan, made_of, rest_plan, texts_plan};
-ghost use Rattle.syndex_program.specs.Compiles.{HasDurations};
+ghost use Rattle.compiler.specs.Compiles.{HasDurations};
 
-use crate::compile::{
-    Algorithm, Compilation, compile_to_durations, compile_to_program, parse_algorithm,
-};
-use crate::files::{parse_table, read_algorithm, read_architecture, read_table};
+use compiler::{Algorithm, Compilation, compile_to_durations, compile_to_program, parse_algorithm, parse_table, read_algorithm, read_architecture, read_table};
 use accepted_laws::accepted_have_flat;
 use algo_tree::Tree;
 use archi_defs::ArchiText;

@@ -24,9 +24,7 @@ use top_plans::{commands_reply, plain_commands_reply};
 use word_table::Driven;
 
 mod commands;
-mod compile;
 mod execution;
-mod files;
 mod lines;
 mod windows;
 

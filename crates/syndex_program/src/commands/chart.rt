@@ -2,12 +2,11 @@
 ghost use Rattle.std.specs.Prelude.{◌≡◌, IfOk};
 ghost use Rattle.command_plan.specs.Run.{Makes};
 ghost use Rattle.outside.specs.Shelf.{Stays};
-ghost use Rattle.syndex_program.specs.Compiles.{HasDurations, described};
-ghost use Rattle.syndex_program.specs.Reads.{text_in};
+ghost use Rattle.compiler.specs.Compiles.{HasDurations, described};
+ghost use Rattle.compiler.specs.Reads.{text_in};
 ghost use Rattle.top_plans.specs.Plans.{chart_of, chart_plan};
 
-use crate::compile::{Compilation, find_schedule};
-use crate::files::{read_algorithm, read_architecture};
+use compiler::{Compilation, find_schedule, read_algorithm, read_architecture};
 use command_status::Status;
 use outside::Shelf;
 use std::alloc::Global;

@@ -3,11 +3,11 @@ ghost use Rattle.std.specs.Prelude.{◌≡◌, IfOk, None, Some, option_map};
 ghost use Rattle.algo_print.specs.Canonical.{canonical_text, ArePrintable};
 ghost use Rattle.command_plan.specs.Run.{Makes};
 ghost use Rattle.outside.specs.Shelf.{Stays};
-ghost use Rattle.syndex_program.specs.Compiles.{described};
-ghost use Rattle.syndex_program.specs.Reads.{text_in};
+ghost use Rattle.compiler.specs.Compiles.{described};
+ghost use Rattle.compiler.specs.Reads.{text_in};
 ghost use Rattle.top_plans.specs.Plans.{both_texts, check_plan};
 
-use crate::files::{read_algorithm, read_architecture};
+use compiler::{read_algorithm, read_architecture};
 use algo_defs::Defs;
 use algo_print::{canonical_text_reads_back, print_algo};
 use archi_defs::ArchiText;

@@ -4,12 +4,11 @@ ghost use Rattle.std.specs.Prelude.{◌≡◌, IfOk};
 ghost use Rattle.command_plan.specs.Run.{Makes};
 ghost use Rattle.macro_code.specs.Text.{macro_code};
 ghost use Rattle.outside.specs.Shelf.{Held, Stays};
-ghost use Rattle.syndex_program.specs.Compiles.{HasDurations};
-ghost use Rattle.syndex_program.specs.Reads.{text_in};
+ghost use Rattle.compiler.specs.Compiles.{HasDurations};
+ghost use Rattle.compiler.specs.Reads.{text_in};
 ghost use Rattle.top_plans.specs.Plans.{code_plan, macro_plan};
 
-use crate::compile::{Compilation, compile_to_program};
-use crate::files::{read_algorithm, read_architecture};
+use compiler::{Compilation, compile_to_program, read_algorithm, read_architecture};
 use archi_graph::Archi;
 use command_status::Status;
 use executive_program::Program;

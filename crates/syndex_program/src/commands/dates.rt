@@ -10,11 +10,10 @@ ghost use Rattle.self_timed.specs.Told.{HaveEntries, entries_of};
 ghost use Rattle.dates_text.specs.Listing.{dates_text};
 ghost use Rattle.sequence_build_laws.specs.Built.{program_of};
 ghost use Rattle.syndex_program.specs.Dates.{dated_in};
-ghost use Rattle.syndex_program.specs.Reads.{text_in};
+ghost use Rattle.compiler.specs.Reads.{text_in};
 ghost use Rattle.top_plans.specs.Plans.{dates_plan, schedule_of};
 
-use crate::compile::{Compilation, build_program, find_schedule};
-use crate::files::{read_algorithm, read_architecture, read_file};
+use compiler::{Compilation, build_program, find_schedule, read_algorithm, read_architecture, read_file};
 use actual_durations::actual_of;
 use command_status::Status;
 use dates_text::{actual_are_within, dates_text, repeated};

@@ -6,11 +6,10 @@ ghost use Rattle.flat_text.specs.Listing.{listing};
 ghost use Rattle.outside.specs.Shelf.{Stays};
 ghost use Rattle.operation_paths.specs.Bounded.{HasBounds};
 ghost use Rattle.operation_paths.specs.Named.{HasNames};
-ghost use Rattle.syndex_program.specs.Reads.{text_in};
+ghost use Rattle.compiler.specs.Reads.{text_in};
 ghost use Rattle.top_plans.specs.Plans.{flat_plan};
 
-use crate::compile::flatten_tree;
-use crate::files::read_algorithm;
+use compiler::{flatten_tree, read_algorithm};
 use algo_tree::Tree;
 use command_status::Status;
 use flat_text::print_flat;

@@ -5,11 +5,11 @@ ghost use Rattle.command_plan.specs.Run.{Makes};
 ghost use Rattle.outside.specs.Shelf.{Held, Stays};
 ghost use Rattle.operation_paths.specs.Bounded.{HasBounds};
 ghost use Rattle.operation_paths.specs.Named.{HasNames};
-ghost use Rattle.syndex_program.specs.Reads.{text_in};
+ghost use Rattle.compiler.specs.Reads.{text_in};
 ghost use Rattle.top_plans.specs.Given.{output_of};
 ghost use Rattle.top_plans.specs.Plans.{excess, rows_plan, sim_plan};
 
-use crate::files::{read_algorithm, read_table};
+use compiler::{read_algorithm, read_table};
 use act_text::acts_text;
 use algo_tree::Tree;
 use command_status::Status;

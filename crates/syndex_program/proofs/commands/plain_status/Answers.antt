@@ -1,4 +1,4 @@
-use Rattle.syndex_program.specs.Reads.{text_in}
+use Rattle.compiler.specs.Reads.{text_in}
 use Rattle.syndex_program.proofs.commands.plain_status.Goals as goal
 
 pub returns-clause-ran : goal.returns-clause-ran

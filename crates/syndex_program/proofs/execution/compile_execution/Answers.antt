@@ -7,7 +7,7 @@ use Rattle.flat_graph.specs.Graph.{Graph}
 use Rattle.command_plan.specs.Run.{Makes}
 use Rattle.command_status.specs.Status.{ending_of}
 use Rattle.top_plans.specs.Plans.{execution, execution_plan, program_plan}
-use Rattle.syndex_program.specs.Builds.{BuildsProgram}
+use Rattle.compiler.specs.Builds.{BuildsProgram}
 use Rattle.syndex_program.specs.Executes.{made_of}
 use Rattle.syndex_program.proofs.Executing.{built_so}
 use Rattle.syndex_program.proofs.execution.compile_execution.Goals as goal

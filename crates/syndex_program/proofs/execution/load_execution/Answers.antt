@@ -12,11 +12,11 @@ use Rattle.load_texts.specs.Table.{table_text}
 use Rattle.command_plan.proofs.Makes.{memory}
 use Rattle.top_plans.specs.Loads.{load_algorithm, load_architecture, load_table}
 use Rattle.syndex_program.specs.Executes.{made_of, texts_plan}
-use Rattle.syndex_program.specs.Compiles.{MakesAlgorithm, MakesCompilation, described}
-use Rattle.syndex_program.specs.Reads.{MakesTable}
+use Rattle.compiler.specs.Compiles.{MakesAlgorithm, MakesCompilation, described}
+use Rattle.compiler.specs.Reads.{MakesTable}
 use Rattle.syndex_program.proofs.Loading as loading
 use Rattle.syndex_program.proofs.Loads.{short_algorithm, short_architecture}
-use Rattle.syndex_program.proofs.Tables.{few_rows}
+use Rattle.compiler.proofs.Tables.{few_rows}
 use Rattle.syndex_program.proofs.execution.load_execution.Goals as goal
 
 -- a text is the one that the contract names

@@ -10,10 +10,10 @@ use Rattle.flat_graph.specs.Graph.{Graph}
 use Rattle.syn_base.specs.Rows.{Reactions}
 use Rattle.top_plans.specs.Plans.{architecture_plan, table_plan}
 use Rattle.syndex_program.specs.Executes.{made_of, rest_plan}
-use Rattle.syndex_program.specs.Compiles.{described}
-use Rattle.syndex_program.proofs.Architectures as architecture
-use Rattle.syndex_program.proofs.Steps.{went_on, rows_went_on}
-use Rattle.syndex_program.proofs.Tables.{few_rows}
+use Rattle.compiler.specs.Compiles.{described}
+use Rattle.compiler.proofs.Architectures as architecture
+use Rattle.compiler.proofs.Steps.{went_on, rows_went_on}
+use Rattle.compiler.proofs.Tables.{few_rows}
 use Rattle.syndex_program.proofs.execution.read_execution.Goals as goal
 
 pub compile_execution-requires-clause-flat : goal.compile_execution-requires-clause-flat

@@ -13,9 +13,9 @@ use Rattle.command_plan.proofs.Makes.{gave, memory}
 use Rattle.command_status.specs.Status.{ending_of}
 use Rattle.top_plans.specs.Given.{written}
 use Rattle.top_plans.specs.Plans.{architecture_plan, chart_of}
-use Rattle.syndex_program.specs.Compiles.{described}
-use Rattle.syndex_program.proofs.Architectures as architecture
-use Rattle.syndex_program.proofs.Steps.{went_on}
+use Rattle.compiler.specs.Compiles.{described}
+use Rattle.compiler.proofs.Architectures as architecture
+use Rattle.compiler.proofs.Steps.{went_on}
 use Rattle.syndex_program.proofs.commands.chart.chart_text.Goals as goal
 
 pub print_schedule-requires : goal.print_schedule-requires

@@ -11,8 +11,8 @@ use Rattle.command_plan.proofs.Makes.{gave, memory}
 use Rattle.command_status.specs.Status.{ending_of}
 use Rattle.top_plans.specs.Given.{written}
 use Rattle.top_plans.specs.Plans.{architecture_plan, both_texts}
-use Rattle.syndex_program.proofs.Architectures as architecture
-use Rattle.syndex_program.proofs.Steps.{went_on}
+use Rattle.compiler.proofs.Architectures as architecture
+use Rattle.compiler.proofs.Steps.{went_on}
 use Rattle.syndex_program.proofs.commands.check.check_both.Goals as goal
 
 pub returns-in_err-compilation-clause-makes : goal.returns-in_err-compilation-clause-makes

@@ -8,7 +8,7 @@ use Rattle.algo_tree.specs.Tree.{Vertex}
 use Rattle.command_plan.specs.Plan.{give}
 use Rattle.command_plan.proofs.Makes.{gave, memory}
 use Rattle.top_plans.specs.Given.{written}
-use Rattle.syndex_program.proofs.Steps.{went_on}
+use Rattle.compiler.proofs.Steps.{went_on}
 use Rattle.syndex_program.proofs.commands.check.check_text.Goals as goal
 
 pub returns-in_err-print_definitions-clause-makes : goal.returns-in_err-print_definitions-clause-makes

@@ -3,7 +3,7 @@ use Rattle.std.proofs.lemmas.List.{append_assoc}
 use Rattle.syn_base.specs.Bytes.{Bytes}
 use Rattle.algo_print.specs.Canonical.{canonical_text}
 use Rattle.archi_reader.specs.Canonical as architecture
-use Rattle.syndex_program.specs.Compiles.{described}
+use Rattle.compiler.specs.Compiles.{described}
 use Rattle.syndex_program.proofs.commands.check.print_both.Goals as goal
 
 pub returns : goal.returns

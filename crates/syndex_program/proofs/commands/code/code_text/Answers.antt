@@ -10,10 +10,10 @@ use Rattle.flat_laws.specs.FlatOf.{flat_of}
 use Rattle.command_plan.specs.Run.{Makes}
 use Rattle.command_status.specs.Status.{ending_of}
 use Rattle.top_plans.specs.Plans.{architecture_plan, macro_plan}
-use Rattle.syndex_program.specs.Compiles.{described}
-use Rattle.syndex_program.specs.Reads.{text_in}
-use Rattle.syndex_program.proofs.Architectures as architecture
-use Rattle.syndex_program.proofs.Steps.{went_on}
+use Rattle.compiler.specs.Compiles.{described}
+use Rattle.compiler.specs.Reads.{text_in}
+use Rattle.compiler.proofs.Architectures as architecture
+use Rattle.compiler.proofs.Steps.{went_on}
 use Rattle.syndex_program.proofs.commands.code.code_text.Goals as goal
 
 pub compile_code-requires : goal.compile_code-requires

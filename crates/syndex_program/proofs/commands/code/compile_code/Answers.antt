@@ -9,7 +9,7 @@ use Rattle.command_plan.specs.Plan.{give}
 use Rattle.command_plan.proofs.Makes.{gave, memory}
 use Rattle.top_plans.specs.Given.{written}
 use Rattle.top_plans.specs.Plans.{macro_plan, program_by}
-use Rattle.syndex_program.proofs.Steps.{is_within}
+use Rattle.compiler.proofs.Steps.{is_within}
 use Rattle.syndex_program.proofs.commands.code.compile_code.Goals as goal
 
 pub returns-in_err-program : goal.returns-in_err-program

@@ -17,8 +17,8 @@ use Rattle.top_plans.specs.Given.{written}
 use Rattle.top_plans.specs.Plans.{program_by, schedule_of}
 use Rattle.syndex_program.specs.Dates.{dated_in}
 use Rattle.syndex_program.proofs.Dated.{behind, refused_by}
-use Rattle.syndex_program.proofs.Sizes.{few_lines}
-use Rattle.syndex_program.proofs.Steps.{is_within}
+use Rattle.compiler.proofs.Sizes.{few_lines}
+use Rattle.compiler.proofs.Steps.{is_within}
 use Rattle.syndex_program.proofs.commands.dates.date_reactions.Goals as goal
 
 pub actual_of-requires-clause-short : goal.actual_of-requires-clause-short

@@ -11,11 +11,11 @@ use Rattle.command_plan.proofs.Makes.{memory}
 use Rattle.command_status.specs.Status.{ending_of}
 use Rattle.top_plans.specs.Plans.{architecture_plan}
 use Rattle.syndex_program.specs.Dates.{dated_in}
-use Rattle.syndex_program.specs.Compiles.{described}
-use Rattle.syndex_program.specs.Reads.{text_in}
-use Rattle.syndex_program.proofs.Architectures as architecture
+use Rattle.compiler.specs.Compiles.{described}
+use Rattle.compiler.specs.Reads.{text_in}
+use Rattle.compiler.proofs.Architectures as architecture
 use Rattle.syndex_program.proofs.Dated.{behind_architecture}
-use Rattle.syndex_program.proofs.Steps.{went_on}
+use Rattle.compiler.proofs.Steps.{went_on}
 use Rattle.syndex_program.proofs.commands.dates.dates_listing.Goals as goal
 
 pub find_schedule-requires : goal.find_schedule-requires

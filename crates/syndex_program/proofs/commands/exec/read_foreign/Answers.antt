@@ -16,9 +16,10 @@ use Rattle.top_plans.specs.Given.{Given, Execution}
 use Rattle.top_plans.specs.Plans.{Made, code_in, described_in, execution, execution_plan, read_file, table_plan}
 use Rattle.syndex_program.specs.Executes.{made_of}
 use Rattle.syndex_program.specs.Foreign.{ReadsProgram}
-use Rattle.syndex_program.proofs.Coded.{program_went_on, text_went_on}
-use Rattle.syndex_program.proofs.Steps.{went_on, rows_went_on}
-use Rattle.syndex_program.proofs.Tables.{few_rows}
+use Rattle.compiler.proofs.Architectures.{text_went_on}
+use Rattle.syndex_program.proofs.Coded.{program_went_on}
+use Rattle.compiler.proofs.Steps.{went_on, rows_went_on}
+use Rattle.compiler.proofs.Tables.{few_rows}
 use Rattle.syndex_program.proofs.commands.exec.read_foreign.Goals as goal
 
 -- the plan, from each of its files on

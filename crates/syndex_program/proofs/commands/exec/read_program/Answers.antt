@@ -5,7 +5,7 @@ use Rattle.outside.specs.Shelf.{file_bound}
 use Rattle.command_plan.specs.Run.{not_read}
 use Rattle.syndex_program.specs.Foreign.{MakesProgram}
 use Rattle.syndex_program.proofs.Coded.{program_read}
-use Rattle.syndex_program.proofs.Sizes.{few_lines}
+use Rattle.compiler.proofs.Sizes.{few_lines}
 use Rattle.syndex_program.proofs.commands.exec.read_program.Goals as goal
 
 pub program_of-requires : goal.program_of-requires

@@ -8,7 +8,7 @@ use Rattle.command_plan.specs.Plan.{give}
 use Rattle.command_plan.proofs.Makes.{gave, memory}
 use Rattle.flat_laws.specs.FlatOf.{flat_of}
 use Rattle.flat_text.specs.Listing.{listing}
-use Rattle.syndex_program.proofs.Steps.{went_on}
+use Rattle.compiler.proofs.Steps.{went_on}
 use Rattle.top_plans.specs.Given.{written}
 use Rattle.syndex_program.proofs.commands.flat.listing_text.Goals as goal
 

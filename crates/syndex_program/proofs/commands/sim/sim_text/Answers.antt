@@ -4,8 +4,8 @@ use Rattle.algo_defs.specs.declared.definition.Defs.{Defs}
 use Rattle.algo_tree.specs.Tree.{Vertex}
 use Rattle.command_status.specs.Status.{ending_of}
 use Rattle.top_plans.specs.Plans.{rows_plan, table_plan}
-use Rattle.syndex_program.specs.Reads.{text_in}
-use Rattle.syndex_program.proofs.Steps.{rows_went_on, went_on}
+use Rattle.compiler.specs.Reads.{text_in}
+use Rattle.compiler.proofs.Steps.{rows_went_on, went_on}
 use Rattle.syndex_program.proofs.commands.sim.sim_text.Goals as goal
 
 pub text_over-requires-clause-lens : goal.text_over-requires-clause-lens

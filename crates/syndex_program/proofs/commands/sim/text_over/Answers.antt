@@ -7,7 +7,7 @@ use Rattle.command_plan.specs.Plan.{give}
 use Rattle.command_plan.proofs.Makes.{gave, memory}
 use Rattle.top_plans.specs.Given.{output_of, written}
 use Rattle.top_plans.specs.Plans.{excess, rows_plan}
-use Rattle.syndex_program.proofs.Steps.{is_above, is_within}
+use Rattle.compiler.proofs.Steps.{is_above, is_within}
 use Rattle.syndex_program.proofs.commands.sim.text_over.Goals as goal
 
 pub returns-in_err-width : goal.returns-in_err-width

@@ -1,0 +1,4 @@
+pub mod Sizes
+pub mod Steps
+pub mod Architectures
+pub mod Tables

@@ -1,0 +1,3 @@
+pub mod Compiles
+pub mod Reads
+pub mod Builds

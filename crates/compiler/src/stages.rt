@@ -1,0 +1,217 @@
+//! The compiler on one page, from the texts of an algorithm and an architecture to the program of an executive. Each
+//! stage takes what the stages before it made, and each command takes as many stages as it needs:
+//!
+//! 1. `parse_algorithm`: a text → its definitions → the tree that they mean. Every command begins with it.
+//! 2. `flatten_tree`: the tree → its flat graph. `flat` ends here.
+//! 3. `parse_architecture`: a text → an architecture and durations of definitions. `exec` ends here, and takes its
+//!    program from a text.
+//! 4. `find_durations`: flat graph, architecture → how long each operation lasts on each operator. `check` ends here
+//!    where an architecture is named.
+//! 5. `find_schedule`: durations → least routes → the schedule of the pressure run. `chart` ends here.
+//! 6. `build_program`: the schedule → its program, for `code`, `dates`, `run` and `load`.
+//!
+//! `compile_to_durations` is stages 2 to 4 one after another, and `compile_to_program` is stages 5 and 6.
+ghost use Rattle.std.specs.Prelude.{◌≡◌, ◌≤◌, IfOk, IsTrue, length};
+ghost use Rattle.archi_defs.specs.Text.{description_of};
+ghost use Rattle.archi_reader.specs.Given.{Gives};
+ghost use Rattle.durations.specs.Lines.{AreDurations};
+ghost use Rattle.durations.specs.Table.{entry_in};
+ghost use Rattle.flat_laws.specs.FlatOf.{flat_of};
+ghost use Rattle.operation_paths.specs.Bounded.{HasBounds};
+ghost use Rattle.operation_paths.specs.Named.{HasNames};
+ghost use Rattle.outside.specs.Shelf.{file_bound};
+ghost use Rattle.schedule.specs.Valid.{is_valid};
+ghost use Rattle.sequence_build_laws.specs.Built.{program_of};
+ghost use Rattle.compiler.specs.Builds.{BuildsProgram};
+ghost use Rattle.compiler.specs.Compiles.{FindsDurations, HasDurations, MakesAlgorithm, MakesCompilation};
+ghost use Rattle.top_plans.specs.Plans.{schedule_of};
+
+use algo_defs::{AlgoError, Defs};
+use algo_print::canonical_text_reads_back;
+use algo_reader::read_algo;
+use algo_tree::Tree;
+use archi_defs::{ArchiError, ArchiText};
+use archi_reader::read_archi;
+use command_status::Status;
+use durations::{Durations, accepted_are_durations, durations_fit, durations_of};
+use elaboration::elaborate;
+use executive_program::Program;
+use flat_graph::Flat;
+use hierarchy::flatten;
+use pressure_heuristic::adequation;
+use reading_laws::{accepted_are_well_read, accepted_have_periods};
+use route_table::routes_are_least;
+use schedule::Schedule;
+use sequence_build::{BuildError, build};
+use std::alloc::Global;
+use syn_base::OutOfMemory;
+
+/// What a text defines, and the tree that its definitions mean.
+pub struct Algorithm {
+    pub defs: Defs,
+    pub tree: Tree,
+}
+
+/// Written by hand, so that a proof walks through all that is dropped here alone, and not on each way out of a
+/// function that owns an algorithm.
+impl Drop for Algorithm {
+    fn drop(self) {
+        let Algorithm { defs: _, tree: _ } = self;
+    }
+}
+
+impl Algorithm {
+    /// Its tree alone.
+    pub fn into_tree(self) -> Tree
+        ensures { result ≡ self.tree }
+    {
+        let Algorithm { defs: _, tree } = self;
+        tree
+    }
+}
+
+/// What a compilation has made before its schedule: the flat graph of an algorithm, what the text of an architecture
+/// describes, and how long each operation lasts by that text.
+pub struct Compilation {
+    pub text: ArchiText,
+    pub flat: Flat,
+    pub durations: Durations,
+}
+
+/// Written by hand, as that of an algorithm.
+impl Drop for Compilation {
+    fn drop(self) {
+        let Compilation {
+            text: _,
+            flat: _,
+            durations: _,
+        } = self;
+    }
+}
+
+impl Compilation {
+    /// Its flat graph and its text, without the durations.
+    pub fn into_parts(self) -> (Flat, ArchiText)
+        ensures flat { result.0 ≡ self.flat }
+        ensures text { result.1 ≡ self.text }
+    {
+        let Compilation {
+            text,
+            flat,
+            durations: _,
+        } = self;
+        (flat, text)
+    }
+}
+
+/// Stage 1: the definitions of a text and the tree that they mean, or the first refusal.
+pub fn parse_algorithm(alloc: Global, text: &[u8]) -> Result<Algorithm, AlgoError>
+    requires { length text.now ≤ file_bound }
+    ensures { MakesAlgorithm text.now result }
+{
+    let defs = read_algo(alloc, text)?;
+    accepted_are_well_read();
+    accepted_have_periods();
+    canonical_text_reads_back();
+    let tree = elaborate(alloc, &defs)?;
+    Ok(Algorithm { defs, tree })
+}
+
+/// Stage 2: the flat graph of a tree, which is its operations alone, without repetitions, cases and levels.
+pub fn flatten_tree(alloc: Global, tree: &Tree) -> Result<Flat, OutOfMemory>
+    requires names { HasNames tree.now }
+    requires bounds { HasBounds tree.now }
+    ensures { IfOk result (λ flat. flat ≡ flat_of tree.now) }
+{
+    flatten(alloc, tree)
+}
+
+/// Stage 3: what a text says of an architecture and of the durations of definitions, or its first refusal.
+pub fn parse_architecture(alloc: Global, text: &[u8]) -> Result<ArchiText, ArchiError>
+    requires { length text.now ≤ file_bound }
+    ensures says { Gives result (description_of text.now) }
+    ensures known { IfOk result (λ t. AreDurations (length t.archi.operators) t.lines) }
+{
+    accepted_are_durations();
+    read_archi(alloc, text)
+}
+
+/// Stage 4: how long each operation of a flat graph lasts on each operator by a text, or the first refusal.
+pub fn find_durations(alloc: Global, flat: Flat, text: ArchiText) -> Result<Compilation, ArchiError>
+    requires { AreDurations (length text.archi.operators) text.lines }
+    ensures { FindsDurations flat text result }
+{
+    let durations = durations_of(alloc, &flat, &text)?;
+    Ok(Compilation {
+        text,
+        flat,
+        durations,
+    })
+}
+
+/// Stages 2 to 4: from a tree and the text of an architecture to the durations, or the first refusal.
+pub fn compile_to_durations(
+    alloc: Global,
+    text: &[u8],
+    tree: &Tree,
+) -> Result<Compilation, ArchiError>
+    requires short { length text.now ≤ file_bound }
+    requires names { HasNames tree.now }
+    requires bounds { HasBounds tree.now }
+    ensures { MakesCompilation tree.now text.now result }
+{
+    let Ok(flat) = flatten_tree(alloc, tree) else {
+        return Err(ArchiError::OutOfMemory);
+    };
+    let text = parse_architecture(alloc, text)?;
+    find_durations(alloc, flat, text)
+}
+
+/// Stage 5: the schedule of the pressure run, for which `adequation` first finds the least routes between operators.
+pub fn find_schedule(alloc: Global, compilation: &Compilation) -> Result<Schedule, OutOfMemory>
+    requires { HasDurations compilation.now }
+    ensures run { IfOk result (λ s. s ≡ schedule_of compilation.now.flat
+        compilation.now.text.archi compilation.now.durations) }
+    ensures valid { IfOk result (λ s. IsTrue (is_valid compilation.now.flat
+        compilation.now.text.archi (entry_in compilation.now.durations) s)) }
+{
+    let flat = &compilation.flat;
+    let archi = &compilation.text.archi;
+    // By this call the proof knows that the architecture is valid, which the law of the least routes asks for.
+    let _operators = archi.operators();
+    durations_fit();
+    routes_are_least();
+    adequation(alloc, flat, archi, &compilation.durations)
+}
+
+/// Stage 6: the program of the schedule of the pressure run, or the first limit that refuses it.
+pub fn build_program(
+    alloc: Global,
+    compilation: &Compilation,
+    schedule: &Schedule,
+) -> Result<Program, Status>
+    requires run { schedule.now ≡ schedule_of compilation.now.flat
+        compilation.now.text.archi compilation.now.durations }
+    requires valid { IsTrue (is_valid compilation.now.flat compilation.now.text.archi
+        (entry_in compilation.now.durations) schedule.now) }
+    ensures builds { BuildsProgram compilation.now.flat compilation.now.text.archi
+        compilation.now.durations result }
+    ensures program { IfOk result (λ p. p ≡
+        program_of compilation.now.flat compilation.now.text.archi schedule.now) }
+{
+    match build(alloc, &compilation.flat, &compilation.text.archi, schedule) {
+        Ok(program) => Ok(program),
+        Err(BuildError::Limit(limit)) => Err(Status::Limit(limit)),
+        Err(BuildError::OutOfMemory) => Err(Status::OutOfMemory),
+    }
+}
+
+/// Stages 5 and 6: from the durations to the program, or the first limit that refuses it.
+pub fn compile_to_program(alloc: Global, compilation: &Compilation) -> Result<Program, Status>
+    requires { HasDurations compilation.now }
+    ensures { BuildsProgram compilation.now.flat compilation.now.text.archi
+        compilation.now.durations result }
+{
+    let schedule = find_schedule(alloc, compilation)?;
+    build_program(alloc, compilation, &schedule)
+}

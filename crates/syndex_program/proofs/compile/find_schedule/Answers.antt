@@ -1,5 +1,0 @@
-use Rattle.syndex_program.specs.Compiles.{described}
-use Rattle.syndex_program.proofs.compile.find_schedule.Goals as goal
-
-pub adequation-requires : goal.adequation-requires
-adequation-requires c = (c.durations_fit.ensures c.args.compilation.now.flat (described c.args.compilation.now.text) c.args.compilation.now.durations c.requires).0
