@@ -1,5 +1,15 @@
 -- Which command the words of the command line are. The first word is the program's name.
-use Rattle.std.specs.Prelude.{ℕ, List, [], ◌∷◌, Option, Some, None, option_and_then, option_map, if◌then◌else◌, codes}
+use Rattle.std.specs.Prelude.{
+  ℕ,
+  List,
+  Option,
+  Some,
+  None,
+  option_and_then,
+  option_map,
+  if◌then◌else◌,
+  codes,
+}
 use Rattle.std.specs.Str.{bytes_eq}
 use Rattle.clap.specs.Walk.{Row, first_of, is_empty}
 use Rattle.clap.specs.Simple.{subcommand_of}

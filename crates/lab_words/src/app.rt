@@ -41,7 +41,8 @@ fn with_needed<'a>(
     id: &'a str,
 ) -> Result<Command<'a>, AllocError>
     requires { (fields_of command).has_globals ≡ false }
-    ensures app { IfOk result (λ c. app_of c ≡ with_rule (app_of command.entry) (needed id.entry.now)) }
+    ensures app { IfOk result (λ c. app_of c ≡
+        with_rule (app_of command.entry) (needed id.entry.now)) }
     ensures local { IfOk result (λ c. (fields_of c).has_globals ≡ false) }
 {
     command.arg(Arg::new(alloc, id).required(true))
@@ -54,7 +55,8 @@ fn with_option<'a>(
     id: &'a str,
 ) -> Result<Command<'a>, AllocError>
     requires { (fields_of command).has_globals ≡ false }
-    ensures app { IfOk result (λ c. app_of c ≡ with_rule (app_of command.entry) (option id.entry.now)) }
+    ensures app { IfOk result (λ c. app_of c ≡
+        with_rule (app_of command.entry) (option id.entry.now)) }
     ensures local { IfOk result (λ c. (fields_of c).has_globals ≡ false) }
 {
     command.arg(Arg::new(alloc, id).long(id))
@@ -146,15 +148,20 @@ fn add<'a>(
     name: &'a str,
     takes: Takes,
 ) -> Result<Command<'a>, AllocError>
-    ensures { IfOk result (λ c. app_of c ≡ with_subcommand (app_of app.entry) (word_app takes name.entry.now).top) }
+    ensures { IfOk result (λ c. app_of c ≡
+        with_subcommand (app_of app.entry) (word_app takes name.entry.now).top) }
 {
     let command = taking(alloc, name, takes)?;
     app.subcommand(command)
 }
 
 /// The program with commands of these names.
-fn with_commands<'a>(alloc: Global, commands: &[(&'a str, Takes)]) -> Result<Command<'a>, AllocError>
-    ensures { IfOk result (λ c. app_of c ≡ with_commands bare_app (map (λ p. (p.0.now, p.1)) commands.now)) }
+fn with_commands<'a>(
+    alloc: Global,
+    commands: &[(&'a str, Takes)],
+) -> Result<Command<'a>, AllocError>
+    ensures { IfOk result (λ c. app_of c ≡
+        with_commands bare_app (map (λ p. (p.0.now, p.1)) commands.now)) }
 {
     let mut app = bare(alloc);
     for (name, takes) in commands {

@@ -3,9 +3,10 @@
 /// How a schedule is searched.
 #[derive(Clone, Copy, Drop)]
 pub struct Effort {
-    /// The number of schedules that are tried, up to 1,000,000; with 0 the schedule is that of the pressure run.
+    /// The number of schedules that are tried, up to 1,000,000. It is 0 where the option is not given, and the
+    /// schedule is that of the pressure run then.
     pub tries: u32,
-    /// From which number the search draws, 1 to 1,000,000,000.
+    /// From which number the search draws, 1 to 1,000,000; it is 1 where the option is not given.
     pub seed: u32,
 }
 

@@ -70,7 +70,8 @@ pub fn command_of<'a>(
 
 /// The command that is found in words which were matched.
 fn found_in<'a>(matches: &ArgMatches<'a>) -> Option<Command<'a>>
-    ensures { option_map view_of result ≡ option_and_then command_in (subcommand_rows_of matches.now) }
+    ensures { option_map view_of result ≡
+        option_and_then command_in (subcommand_rows_of matches.now) }
 {
     let (name, inner) = matches.subcommand()?;
     let values = values_in(&inner);
@@ -120,7 +121,8 @@ fn command_by<'a>(name: &str, values: &Values<'a>) -> Option<Command<'a>>
 
 /// The command `plot`, where there is a table.
 fn plot<'a>(algorithm: &'a str, sensors: Option<&'a str>) -> Option<Command<'a>>
-    ensures { option_map view_of result ≡ option_map (plot algorithm.now) (option_map (λ t. t.now) sensors.entry) }
+    ensures { option_map view_of result ≡
+        option_map (plot algorithm.now) (option_map (λ t. t.now) sensors.entry) }
 {
     let sensors = sensors?;
     Some(Command::Plot { algorithm, sensors })
@@ -175,7 +177,8 @@ fn subject_of(name: &str) -> Option<Subject>
 
 /// The options of a search, if they are numbers within their bounds.
 fn effort_of(tries: Option<&str>, seed: Option<&str>) -> Option<Effort>
-    ensures { option_map effort_view result ≡ effort_given (option_map (λ t. t.now) tries.entry) (option_map (λ t. t.now) seed.entry) }
+    ensures { option_map effort_view result ≡
+        effort_given (option_map (λ t. t.now) tries.entry) (option_map (λ t. t.now) seed.entry) }
 {
     let tries = number_given(0, tries)?;
     let seed = number_given(1, seed)?;

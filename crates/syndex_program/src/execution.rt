@@ -13,11 +13,14 @@ ghost use Rattle.top_plans.specs.Plans.{execution, execution_plan};
 ghost use Rattle.syndex_program.specs.Executes.{IsExecuted, files_plan, made_of, rest_plan, texts_plan};
 ghost use Rattle.compiler.specs.Compiles.{HasDurations};
 
-use compiler::{Algorithm, Compilation, compile_to_durations, compile_to_program, parse_algorithm, parse_table, read_algorithm, read_architecture, read_table};
 use accepted_laws::accepted_have_flat;
 use algo_tree::Tree;
 use archi_defs::ArchiText;
 use command_status::Status;
+use compiler::{
+    Algorithm, Compilation, compile_to_durations, compile_to_program, parse_algorithm, parse_table,
+    read_algorithm, read_architecture, read_table,
+};
 use executive_program::Program;
 use flat_graph::Flat;
 use load_texts::load_texts;

@@ -6,8 +6,8 @@ ghost use Rattle.compiler.specs.Compiles.{HasDurations, described};
 ghost use Rattle.compiler.specs.Reads.{text_in};
 ghost use Rattle.top_plans.specs.Plans.{chart_of, chart_plan};
 
-use compiler::{Compilation, find_schedule, read_algorithm, read_architecture};
 use command_status::Status;
+use compiler::{Compilation, find_schedule, read_algorithm, read_architecture};
 use outside::Shelf;
 use std::alloc::Global;
 use syn_base::OutOfMemory;

@@ -8,9 +8,9 @@ ghost use Rattle.compiler.specs.Compiles.{HasDurations};
 ghost use Rattle.compiler.specs.Reads.{text_in};
 ghost use Rattle.top_plans.specs.Plans.{code_plan, macro_plan};
 
-use compiler::{Compilation, compile_to_program, read_algorithm, read_architecture};
 use archi_graph::Archi;
 use command_status::Status;
+use compiler::{Compilation, compile_to_program, read_algorithm, read_architecture};
 use executive_program::Program;
 use flat_graph::Flat;
 use macro_code::print_code;

@@ -13,9 +13,11 @@ ghost use Rattle.syndex_program.specs.Dates.{dated_in};
 ghost use Rattle.compiler.specs.Reads.{text_in};
 ghost use Rattle.top_plans.specs.Plans.{dates_plan, schedule_of};
 
-use compiler::{Compilation, build_program, find_schedule, read_algorithm, read_architecture, read_file};
 use actual_durations::actual_of;
 use command_status::Status;
+use compiler::{
+    Compilation, build_program, find_schedule, read_algorithm, read_architecture, read_file,
+};
 use dates_text::{actual_are_within, dates_text, repeated};
 use executive_program::Program;
 use outside::{File, Shelf};

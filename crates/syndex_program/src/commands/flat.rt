@@ -9,9 +9,9 @@ ghost use Rattle.operation_paths.specs.Named.{HasNames};
 ghost use Rattle.compiler.specs.Reads.{text_in};
 ghost use Rattle.top_plans.specs.Plans.{flat_plan};
 
-use compiler::{flatten_tree, read_algorithm};
 use algo_tree::Tree;
 use command_status::Status;
+use compiler::{flatten_tree, read_algorithm};
 use flat_text::print_flat;
 use outside::Shelf;
 use std::alloc::Global;
