@@ -1,0 +1,7 @@
+pub mod Bare
+pub mod Counted
+pub mod Drawn
+pub mod Ordered
+pub mod Places
+pub mod Reading
+pub mod Worked
