@@ -40,12 +40,11 @@ module _ (test : Act → Bool) where
 
   module _ {A : Type 0} (lane : ℕ → Act → Bool) where
     -- how often an act that passes stands in the lanes from this number on
-    stands : Act → ℕ → List A → ℕ
+    abbrev stands : Act → ℕ → List A → ℕ
     stands x o [] = 0
     stands x o (n ∷ ns) = cond (lane o x) (passing x) 0 + stands x (suc o) ns
 
     lanes_more : (x : Act) (xs : List Act) (o : ℕ) (ns : List A) → count_by test (lane_acts lane (x ∷ xs) o ns) ≡ stands x o ns + count_by test (lane_acts lane xs o ns)
-    unfolding stands
     lanes_more x xs o [] = refl
     lanes_more x xs o (n ∷ ns) =
         let all = count-append (filter (lane o) (x ∷ xs)) (lane_acts lane (x ∷ xs) (suc o) ns) in
@@ -55,22 +54,21 @@ module _ (test : Act → Bool) where
         omega (arith, all, here, later, before)
 
     never : (x : Act) (o : ℕ) (ns : List A) → ((k : ℕ) → lane k x ≡ false) → stands x o ns ≡ 0
-    unfolding stands
     never x o [] h = refl
     never x o (n ∷ ns) h =
         let rest = never x (suc o) ns h in
-        ap (λ (b : Bool). cond b (passing x) 0 + stands x (suc o) ns) (h o) ∙ (omega (arith, rest))
+        let none_there : cond false (passing x) 0 + stands x (suc o) ns ≡ 0 = omega (arith, rest) in
+        ap (λ (b : Bool). cond b (passing x) 0 + stands x (suc o) ns) (h o) ∙ none_there
 
     past : (x : Act) (n o : ℕ) (ns : List A) → ((k : ℕ) → lane k x ≡ nat_eq n k) → n < o → stands x o ns ≡ 0
-    unfolding stands
     past x n o [] h l = refl
     past x n o (m ∷ ns) h l =
         let rest = past x n (suc o) ns h (omega arith) in
         let other : nat_eq n o ≡ false = ne_eqb n o (λ e. omega arith) in
-        ap (λ (b : Bool). cond b (passing x) 0 + stands x (suc o) ns) (h o ∙ other) ∙ (omega (arith, rest))
+        let none_there : cond false (passing x) 0 + stands x (suc o) ns ≡ 0 = omega (arith, rest) in
+        ap (λ (b : Bool). cond b (passing x) 0 + stands x (suc o) ns) (h o ∙ other) ∙ none_there
 
     once : (x : Act) (n o : ℕ) (ns : List A) → ((k : ℕ) → lane k x ≡ nat_eq n k) → o ≤ n → n < o + length ns → stands x o ns ≡ passing x
-    unfolding stands
     once x n o [] h l b = absurd (omega arith)
     once x n o (m ∷ ns) h l b = by (nat_eq n o) refl (λ later. once x n (suc o) ns h later (omega arith))
       where
@@ -78,11 +76,13 @@ module _ (test : Act → Bool) where
         by true e rest =
             let same = eqb-true n o e in
             let none = past x n (suc o) ns h (omega arith) in
-            ap (λ (b : Bool). cond b (passing x) 0 + stands x (suc o) ns) (h o ∙ e) ∙ (omega (arith, none))
+            let one : cond true (passing x) 0 + stands x (suc o) ns ≡ passing x = omega (arith, none) in
+            ap (λ (b : Bool). cond b (passing x) 0 + stands x (suc o) ns) (h o ∙ e) ∙ one
         by false e rest =
             let other : (n ≡ o) → ⊥ = λ s. false≢true (sym e ∙ ap (λ (z : ℕ). nat_eq n z) (sym s) ∙ self n) in
             let found = rest (omega (arith, other)) in
-            ap (λ (b : Bool). cond b (passing x) 0 + stands x (suc o) ns) (h o ∙ e) ∙ (omega (arith, found))
+            let one : cond false (passing x) 0 + stands x (suc o) ns ≡ passing x = omega (arith, found) in
+            ap (λ (b : Bool). cond b (passing x) 0 + stands x (suc o) ns) (h o ∙ e) ∙ one
           where
             self : (z : ℕ) → nat_eq z z ≡ true
             self z = eq-eqb z z refl

@@ -2,7 +2,7 @@
 use Rattle.std.proofs.Common.{◌≡◌, ℕ, suc, ◌+◌, ◌<◌, Bool, true, false, ◌||◌, cond, List, [], ◌∷◌, ◌++◌, map, length, drop, get_or, refl, sym, ap, arith, ◌∙◌, drop-cons}
 use Rattle.std.specs.Prelude.{slice_get, Some}
 use Rattle.std.specs.List.{filter, flat_map, list_any}
-use Rattle.std.proofs.lemmas.List.{append_assoc, map-append}
+use Rattle.std.proofs.lemmas.List.{append_assoc, append-nil, map-append}
 use Rattle.std.proofs.lemmas.List.Concat.{flat_map-append}
 use Rattle.std.proofs.lemmas.List.Elements.{filter-append}
 use Rattle.std.proofs.lemmas.List.Folds.{list_any-append}
@@ -11,10 +11,10 @@ use Rattle.flat_graph.specs.declared.vertex.Source.{Source}
 use Rattle.schedule.specs.declared.decision.Transfer.{Transfer}
 use Rattle.schedule.specs.declared.decision.Decision.{Decision}
 use Rattle.schedule.specs.Acts.{Act, carry, run, acts_of, Copy, copy, sources_of}
-use Rattle.schedule.specs.Tight.{reads_from}
 use Rattle.syn_base.specs.Bytes.{Bytes}
 use Rattle.svg_text.specs.declared.scale.Scale.{Scale}
-use Rattle.chart_picture.specs.Arrows.{act_link, brings, links_from, links_to}
+use Rattle.chart_picture.specs.Arrows.{act_link, brings, links_from, links_to, takes}
+use Rattle.chart_picture.specs.Truth.{WhoTakesReads}
 
 or_false : (b : Bool) → (b || false) ≡ b
 or_false true = refl
@@ -25,13 +25,9 @@ any_made : (t : Transfer) (cs : List Copy) → list_any (λ c. brings t c || fal
 any_made t [] = refl
 any_made t (c ∷ cs) = λ j. or_false (brings t c) j || any_made t cs j
 
-module _ (vertices : List Vertex) where
-  pub carry_reads : (r t : Transfer) → reads_from vertices (carry r) (carry t) ≡ brings t (copy r.from r.source)
-  carry_reads r t = any_made t (copy r.from r.source ∷ []) ∙ or_false (brings t (copy r.from r.source))
-
-  pub run_reads : (d : Decision) (t : Transfer)
-      → reads_from vertices (run d) (carry t) ≡ list_any (brings t) (map (copy d.operator) (sources_of (slice_get vertices d.op)))
-  run_reads d t = any_made t (map (copy d.operator) (sources_of (slice_get vertices d.op)))
+pub who_takes_reads : WhoTakesReads
+who_takes_reads vertices t (carry r) = sym (any_made t (copy r.from r.source ∷ []) ∙ or_false (brings t (copy r.from r.source)))
+who_takes_reads vertices t (run d) = sym (any_made t (map (copy d.operator) (sources_of (slice_get vertices d.op))))
 
 -- guards first, and then inputs
 pub takes_both : (x : Vertex) (o : ℕ) (t : Transfer)
@@ -42,22 +38,20 @@ takes_both x o t =
     ∙ list_any-append (brings t) (map (copy o) (map (λ d. d.source) x.guards)) (map (copy o) x.ins)
 
 module _ (vertices : List Vertex) (operators : ℕ) (scale : Scale) where
-  pub links-append : (y : Act) (xs ys : List Act) → links_to vertices operators scale y (xs ++ ys) ≡ links_to vertices operators scale y xs ++ links_to vertices operators scale y ys
-  links-append y xs ys =
-      ap (flat_map (act_link operators scale y)) (filter-append (λ x. reads_from vertices x y) xs ys)
-      ∙ flat_map-append (act_link operators scale y) (filter (λ x. reads_from vertices x y) xs) (filter (λ x. reads_from vertices x y) ys)
+  pub links-append : (t : Transfer) (xs ys : List Act) → links_to vertices operators scale t (xs ++ ys) ≡ links_to vertices operators scale t xs ++ links_to vertices operators scale t ys
+  links-append t xs ys =
+      ap (flat_map (act_link vertices operators scale (carry t))) (filter-append (takes vertices t) xs ys)
+      ∙ flat_map-append (act_link vertices operators scale (carry t)) (filter (takes vertices t) xs) (filter (takes vertices t) ys)
 
-  -- one act more
-  pub links_one : (y x : Act) (b : Bool) (ys : List Act) → reads_from vertices x y ≡ b
-      → links_to vertices operators scale y (x ∷ ys) ≡ cond b (act_link operators scale y x) [] ++ links_to vertices operators scale y ys
-  links_one y x b ys e = ap (λ (b : Bool). flat_map (act_link operators scale y) (cond b (x ∷ filter (λ x. reads_from vertices x y) ys) (filter (λ x. reads_from vertices x y) ys))) e ∙ by b (filter (λ x. reads_from vertices x y) ys)
-    where
-      by : (b : Bool) (rest : List Act) → flat_map (act_link operators scale y) (cond b (x ∷ rest) rest) ≡ cond b (act_link operators scale y x) [] ++ flat_map (act_link operators scale y) rest
-      by true rest = refl
-      by false rest = refl
+  -- an operation that takes what the transfer brings, and one that does not
+  pub reader_there : (t : Transfer) (d : Decision) → takes vertices t (run d) ≡ true → links_to vertices operators scale t (run d ∷ []) ≡ act_link vertices operators scale (carry t) (run d)
+  reader_there t d e = ap (λ (b : Bool). flat_map (act_link vertices operators scale (carry t)) (cond b (run d ∷ []) [])) e ∙ append-nil (act_link vertices operators scale (carry t) (run d))
+
+  pub reader_past : (t : Transfer) (d : Decision) → takes vertices t (run d) ≡ false → links_to vertices operators scale t (run d ∷ []) ≡ []
+  reader_past t d e = ap (λ (b : Bool). flat_map (act_link vertices operators scale (carry t)) (cond b (run d ∷ []) [])) e
 
   -- one decision more: its transfers, and then its operation
-  pub readers_step : (y : Act) (ds : List Decision) (i : ℕ) (d : Decision) → i < length ds → d ≡ get_or ds i d
+  pub readers_step : (y : Transfer) (ds : List Decision) (i : ℕ) (d : Decision) → i < length ds → d ≡ get_or ds i d
       → links_to vertices operators scale y (acts_of (drop i ds))
       ≡ links_to vertices operators scale y (map carry d.transfers) ++ (links_to vertices operators scale y (run d ∷ []) ++ links_to vertices operators scale y (acts_of (drop (i + 1) ds)))
   readers_step y ds i d h is =

@@ -14,10 +14,10 @@ use Rattle.schedule.proofs.Examples.{
   relay_archi,
   relay_schedule,
 }
-use Rattle.svg_text.specs.Shapes.{arrow_text}
-use Rattle.chart_picture.specs.Arrows.{links_from}
-use Rattle.chart_picture.specs.Bars.{bars_of}
-use Rattle.chart_picture.specs.Frame.{margin, point, size_of}
+use Rattle.svg_text.specs.Shapes.{arrow_text, point}
+use Rattle.chart_picture.specs.Arrows.{link_text, links_from}
+use Rattle.chart_picture.specs.Bars.{bars_of, dates_text, title_of, way_text}
+use Rattle.chart_picture.specs.Frame.{margin, size_of}
 use Rattle.chart_picture.specs.Picture.{scale_of}
 
 -- a sensor from 0 to 1, and an actuator from 1 to 3
@@ -34,6 +34,7 @@ plain_bars : bars_of plain_graph plain_archi (scale_of plain_graph plain_schedul
   title = codes "a" ++ ((codes ": " ++ (decimal 1 ++ (codes " to " ++ decimal 3))) ++ (codes " on " ++ codes "P"));
   label = codes "a";
 } ∷ []
+unfolding title_of dates_text
 plain_bars = refl
 
 -- one lane: the name takes 27, and the axis and the legend 88
@@ -49,16 +50,19 @@ bus_bars : bars_of bus_graph bus_archi (scale_of bus_graph (bus_schedule 3 13)) 
       ++ (codes " over " ++ (codes "m" ++ (codes ", " ++ (codes "P" ++ (codes " to " ++ codes "Q"))))))));
   label = codes "s";
 } ∷ []
+unfolding title_of dates_text way_text
 bus_bars = refl
 
 -- it stands in the third lane, and the function that reads it above it in the second
 bus_arrows : flat_map (links_from bus_graph.vertices 2 (scale_of bus_graph (bus_schedule 3 13)) (acts (bus_schedule 3 13))) (acts (bus_schedule 3 13))
     ≡ (arrow_text (point 214 78) (point 214 66) ++ []) ++ []
+unfolding link_text
 bus_arrows = refl
 
 -- The first hop stands in the fourth lane, the second one in the fifth, and the actuator in the third.
 relay_arrows : flat_map (links_from plain_graph.vertices 3 (scale_of plain_graph relay_schedule) (acts relay_schedule)) (acts relay_schedule)
     ≡ (arrow_text (point 500 138) (point 500 150) ++ []) ++ ((arrow_text (point 833 150) (point 833 102) ++ []) ++ [])
+unfolding link_text
 relay_arrows = refl
 
 relay_margin : margin relay_archi ≡ 27

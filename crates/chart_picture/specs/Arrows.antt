@@ -1,16 +1,14 @@
 -- The arrows of a chart, from each transfer to whoever reads what it brings.
-use Rattle.std.specs.Prelude.{ℕ, ◌+◌, ◌*◌, Bool, if◌then◌else◌, nat_lt, List, [], ◌++◌, codes}
-use Rattle.std.specs.List.{filter, flat_map}
+use Rattle.std.specs.Prelude.{ℕ, ◌+◌, ◌*◌, Bool, if◌then◌else◌, nat_lt, List, [], ◌++◌, map, slice_get, codes}
+use Rattle.std.specs.List.{filter, flat_map, list_any}
 use Rattle.syn_base.specs.Bytes.{Bytes}
 use Rattle.flat_graph.specs.declared.vertex.Vertex.{Vertex}
 use Rattle.schedule.specs.declared.decision.Transfer.{Transfer}
-use Rattle.schedule.specs.Acts.{Act, carry, run, start_of, end_of, Copy, copy, same_copy}
-use Rattle.schedule.specs.Tight.{reads_from}
+use Rattle.schedule.specs.Acts.{Act, carry, run, start_of, end_of, Copy, copy, same_copy, sources_of}
 use Rattle.svg_text.specs.declared.scale.Scale.{Scale}
 use Rattle.svg_text.specs.declared.style.TheConstants.{END_GROUP}
 use Rattle.svg_text.specs.Scale.{place}
-use Rattle.svg_text.specs.Shapes.{arrow_text, group_text}
-use Rattle.chart_picture.specs.Frame.{point}
+use Rattle.svg_text.specs.Shapes.{arrow_text, group_text, point}
 
 -- the lane of an act: first stand the operators, of which there are this many, and then the media
 abbrev pub lane_of : ℕ → Act → ℕ
@@ -26,7 +24,7 @@ abbrev pub edge_to : ℕ → ℕ → ℕ
 edge_to from to = if nat_lt to from then 36 * to + 30 else 36 * to + 6
 
 -- from a lane at a date to a lane at a date
-abbrev pub link_text : Scale → ℕ → ℕ → ℕ → ℕ → Bytes
+unfoldable pub link_text : Scale → ℕ → ℕ → ℕ → ℕ → Bytes
 link_text scale from end to start =
     arrow_text (point (place scale end) (edge_from from to)) (point (place scale start) (edge_to from to))
 
@@ -34,19 +32,24 @@ link_text scale from end to start =
 abbrev pub brings : Transfer → Copy → Bool
 brings t c = same_copy c (copy t.to t.source)
 
+-- the act takes the copy that the transfer brings
+abbrev pub takes : List Vertex → Transfer → Act → Bool
+takes vertices t (carry r) = brings t (copy r.from r.source)
+takes vertices t (run d) = list_any (brings t) (map (copy d.operator) (sources_of (slice_get vertices d.op)))
+
 module _ (vertices : List Vertex) (operators : ℕ) (scale : Scale) where
   -- from where one act ends to where another starts
   abbrev pub act_link : Act → Act → Bytes
   act_link y x = link_text scale (lane_of operators y) (end_of y) (lane_of operators x) (start_of x)
 
-  -- from an act to those of these that read what it brings
-  abbrev pub links_to : Act → List Act → Bytes
-  links_to y xs = flat_map (act_link y) (filter (λ x. reads_from vertices x y) xs)
+  -- from a transfer to those of these that take what it brings
+  abbrev pub links_to : Transfer → List Act → Bytes
+  links_to t xs = flat_map (act_link (carry t)) (filter (takes vertices t) xs)
 
   -- from each transfer
   abbrev pub links_from : List Act → Act → Bytes
   links_from xs (run d) = []
-  links_from xs (carry t) = links_to (carry t) xs
+  links_from xs (carry t) = links_to t xs
 
-  abbrev pub arrows_text : List Act → Bytes
+  unfoldable pub arrows_text : List Act → Bytes
   arrows_text xs = group_text (codes "arrows") [] (point 0 0) ++ (flat_map (links_from xs) xs ++ END_GROUP.now)

@@ -58,17 +58,21 @@ pub record Bar : Type 0 where
   pub title : Bytes
   pub label : Bytes
 
+-- a label in the middle of a bar
+unfoldable pub label_words : ℕ → Bytes → Bytes
+label_words at label = words_text (codes "label") at (codes "22") ++ (label ++ words_end)
+
 -- the label of a bar, where it fits
-abbrev pub label_text : ℕ → ℕ → Bytes → Bytes
+unfoldable pub label_text : ℕ → ℕ → Bytes → Bytes
 label_text left right label =
     if fits (length label) left right
-    then words_text (codes "label") (middle left right) (codes "22") ++ (label ++ words_end) else []
+    then label_words (middle left right) label else []
 
-abbrev pub bar_line : Bar → Bytes
+unfoldable pub bar_line : Bar → Bytes
 bar_line b = bar_text b.class b.left b.right ++ (b.title ++ (bar_end ++ label_text b.left b.right b.label))
 
 -- `: START to END`
-abbrev pub dates_text : ℕ → ℕ → Bytes
+unfoldable pub dates_text : ℕ → ℕ → Bytes
 dates_text start end = codes ": " ++ (decimal start ++ (codes " to " ++ decimal end))
 
 abbrev pub name_or_none : Option Medium → Bytes
@@ -78,22 +82,22 @@ name_or_none (Some m) = m.name
 abbrev pub medium_name : List Medium → ℕ → Bytes
 medium_name media m = name_or_none (slice_get media m)
 
-module _ (g : Graph) (a : Architecture) where
-  -- ` over MEDIUM, FROM to TO`
-  abbrev pub way_text : ℕ → ℕ → ℕ → Bytes
-  way_text medium from to =
-      codes " over " ++
-      (medium_name a.media medium ++
-      (codes ", " ++ (operator_name [] a.operators from ++ (codes " to " ++ operator_name [] a.operators to))))
+-- ` over MEDIUM, FROM to TO`
+unfoldable pub way_text : Architecture → ℕ → ℕ → ℕ → Bytes
+way_text a medium from to =
+    codes " over " ++
+    (medium_name a.media medium ++
+    (codes ", " ++ (operator_name [] a.operators from ++ (codes " to " ++ operator_name [] a.operators to))))
 
+module _ (g : Graph) (a : Architecture) where
   -- `OPERATION: START to END on OPERATOR`, and `OPERATION, output PORT: START to END over MEDIUM, FROM to TO`
-  abbrev pub title_of : ℕ → ℕ → Act → Bytes
+  unfoldable pub title_of : ℕ → ℕ → Act → Bytes
   title_of start end (run d) =
       operation_name g.vertices [] d.op ++
       (dates_text start end ++ (codes " on " ++ operator_name [] a.operators d.operator))
   title_of start end (carry t) =
       operation_name g.vertices [] t.source.vertex ++
-      (codes ", output " ++ (decimal t.source.port ++ (dates_text start end ++ way_text t.medium t.from t.to)))
+      (codes ", output " ++ (decimal t.source.port ++ (dates_text start end ++ way_text a t.medium t.from t.to)))
 
   abbrev pub act_class : Act → Bytes
   act_class (run d) = with_vertex (slice_get g.vertices d.op) [] (λ x. class_of x.kind)

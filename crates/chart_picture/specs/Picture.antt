@@ -9,10 +9,11 @@ use Rattle.schedule.specs.Acts.{Act, acts, is_over, is_on, length_of}
 use Rattle.svg_text.specs.declared.scale.Scale.{Scale}
 use Rattle.svg_text.specs.declared.style.TheConstants.{END, END_GROUP, LEGEND}
 use Rattle.svg_text.specs.Scale.{width_for}
-use Rattle.svg_text.specs.Shapes.{group_text, head_text}
+use Rattle.svg_text.specs.Axis.{axis_text}
+use Rattle.svg_text.specs.Shapes.{group_text, head_text, point}
 use Rattle.chart_picture.specs.Arrows.{arrows_text}
 use Rattle.chart_picture.specs.Bars.{bars_text}
-use Rattle.chart_picture.specs.Frame.{axis_text, height_of_lanes, lane_text, margin, point, size_of}
+use Rattle.chart_picture.specs.Frame.{height_of_lanes, lane_text, margin, size_of}
 
 -- the length of the schedule takes the width that is given for the operations
 abbrev pub scale_of : Graph → Schedule → Scale
@@ -20,7 +21,7 @@ scale_of g s = record { width = width_for (length g.vertices); length = length_o
 
 module _ (g : Graph) (a : Architecture) (scale : Scale) where
   -- a lane and the bars of the acts that pass
-  abbrev pub lane_part : Bytes → Bytes → Bytes → ℕ → (Act → Bool) → List Act → Bytes
+  unfoldable pub lane_part : Bytes → Bytes → Bytes → ℕ → (Act → Bool) → List Act → Bytes
   lane_part class word name k test xs =
       lane_text scale.width class word name k ++ (bars_text g a scale test xs ++ END_GROUP.now)
 
@@ -38,24 +39,24 @@ module _ (g : Graph) (a : Architecture) (scale : Scale) where
       medium_lanes xs (suc m) media
 
   -- the lanes of all operators, and then those of all media
-  abbrev pub lanes_text : List Act → Bytes
+  unfoldable pub lanes_text : List Act → Bytes
   lanes_text xs = operator_lanes xs 0 a.operators ++ medium_lanes xs 0 a.media
 
   -- what stands inside the group of the whole chart
-  abbrev pub plot_text : List Act → Bytes
+  unfoldable pub plot_text : List Act → Bytes
   plot_text xs =
       axis_text (codes "length ") scale (height_of_lanes a) ++
       (lanes_text xs ++ arrows_text g.vertices (length a.operators) scale xs)
 
 -- what the colours mean, below the lanes
-abbrev pub legend_text : Architecture → Bytes
+unfoldable pub legend_text : Architecture → Bytes
 legend_text a = group_text (codes "legend") [] (point 0 (height_of_lanes a + 14)) ++ (LEGEND.now ++ END_GROUP.now)
 
 -- the beginning of the picture, and of the group of the whole chart
-abbrev pub begin_text : Architecture → Scale → Bytes
+unfoldable pub begin_text : Architecture → Scale → Bytes
 begin_text a scale = head_text (size_of a scale) ++ group_text (codes "chart") [] (point (margin a) 44)
 
-abbrev pub whole_text : Graph → Architecture → Scale → List Act → Bytes
+unfoldable pub whole_text : Graph → Architecture → Scale → List Act → Bytes
 whole_text g a scale xs =
     begin_text a scale ++ (plot_text g a scale xs ++ (legend_text a ++ (END_GROUP.now ++ END.now)))
 

@@ -21,15 +21,19 @@ use Rattle.std.specs.Prelude.{
 use Rattle.std.specs.List.{count_by, filter}
 use Rattle.syn_base.specs.Bytes.{Bytes}
 use Rattle.syn_base.specs.Name.{is_name}
+use Rattle.flat_graph.specs.declared.vertex.Vertex.{Vertex}
 use Rattle.flat_graph.specs.Graph.{Graph}
 use Rattle.flat_graph.specs.Valid.{is_flat}
 use Rattle.archi_graph.specs.Archi.{Architecture}
 use Rattle.schedule.specs.declared.decision.Schedule.{Schedule}
-use Rattle.schedule.specs.Acts.{Act, acts, is_over, is_on, start_of, end_of, length_of}
+use Rattle.schedule.specs.declared.decision.Transfer.{Transfer}
+use Rattle.schedule.specs.Acts.{Act, carry, acts, is_over, is_on, start_of, end_of, length_of}
+use Rattle.schedule.specs.Tight.{reads_from}
 use Rattle.schedule.specs.Valid.{is_valid}
 use Rattle.timing_chart.specs.Chart.{operation_name}
 use Rattle.svg_text.specs.declared.scale.Scale.{Scale}
 use Rattle.svg_text.specs.Scale.{place}
+use Rattle.chart_picture.specs.Arrows.{takes}
 use Rattle.chart_picture.specs.Bars.{Bar, bars_of}
 
 -- the acts of lanes, lane by lane, of which the first has number n: of operators or of media
@@ -62,6 +66,11 @@ LanesAreInOrder = (g : Graph) (a : Architecture) (ticks : ℕ → ℕ → Option
 abbrev pub WhatLastsIsSeen : Type 0
 WhatLastsIsSeen = (scale : Scale) (start end : ℕ)
     → scale.length ≤ scale.width → start < end → end ≤ scale.length → place scale start < place scale end
+
+-- an arrow leads from a transfer to exactly those acts that read what it makes
+abbrev pub WhoTakesReads : Type 0
+WhoTakesReads = (vertices : List Vertex) (t : Transfer) (x : Act)
+    → takes vertices t x ≡ reads_from vertices x (carry t)
 
 -- the byte stands for itself in a text and in an attribute: it is none of `"`, `&`, `'`, `<` and `>`
 abbrev pub is_bare : ℕ → Bool

@@ -26,11 +26,7 @@ pub fn append_arrows(
 }
 
 /// Appends the arrows from all transfers.
-fn append_links(
-    out: &mut Vec<u8>,
-    sheet: &Sheet,
-    decisions: &[Decision],
-) -> Result<(), OutOfMemory>
+fn append_links(out: &mut Vec<u8>, sheet: &Sheet, decisions: &[Decision]) -> Result<(), OutOfMemory>
     ensures { OnOk result (out.new.items ≡ out.old.items ++ flat_map (links_from sheet.now.flat.now.vertices
         (length sheet.now.archi.now.operators) sheet.now.scale (acts_of decisions.now)) (acts_of decisions.now)) }
 {
@@ -64,7 +60,7 @@ fn append_links_to(
     readers: &[Decision],
 ) -> Result<(), OutOfMemory>
     ensures { OnOk result (out.new.items ≡ out.old.items ++ links_to sheet.now.flat.now.vertices
-        (length sheet.now.archi.now.operators) sheet.now.scale (carry transfer) (acts_of readers.now)) }
+        (length sheet.now.archi.now.operators) sheet.now.scale transfer (acts_of readers.now)) }
 {
     for reader in readers {
         append_relays(out, sheet, transfer, reader.transfers.as_slice())?;
@@ -81,7 +77,7 @@ fn append_relays(
     readers: &[Transfer],
 ) -> Result<(), OutOfMemory>
     ensures { OnOk result (out.new.items ≡ out.old.items ++ links_to sheet.now.flat.now.vertices
-        (length sheet.now.archi.now.operators) sheet.now.scale (carry transfer) (map carry readers.now)) }
+        (length sheet.now.archi.now.operators) sheet.now.scale transfer (map carry readers.now)) }
 {
     for reader in readers {
         if carries_on(*reader, transfer) {
@@ -99,7 +95,8 @@ fn append_relay(
     reader: Transfer,
 ) -> Result<(), OutOfMemory>
     ensures { OnOk result (out.new.items ≡ out.old.items ++
-        act_link (length sheet.now.archi.now.operators) sheet.now.scale (carry transfer) (carry reader)) }
+        act_link sheet.now.flat.now.vertices
+        (length sheet.now.archi.now.operators) sheet.now.scale (carry transfer) (carry reader)) }
 {
     let lane = operators_in(sheet.archi) + reader.medium as u64;
     append_link(out, sheet, transfer, lane, reader.start)
@@ -113,15 +110,17 @@ fn append_reader(
     reader: &Decision,
 ) -> Result<(), OutOfMemory>
     ensures { OnOk result (out.new.items ≡ out.old.items ++ links_to sheet.now.flat.now.vertices
-        (length sheet.now.archi.now.operators) sheet.now.scale (carry transfer) (run reader.now ∷ [])) }
+        (length sheet.now.archi.now.operators) sheet.now.scale transfer (run reader.now ∷ [])) }
 {
     if runs_on(sheet.flat, reader, transfer) {
-        append_link(out, sheet, transfer, reader.operator as u64, reader.start)?;
+        append_link(out, sheet, transfer, reader.operator as u64, reader.start)
+    } else {
+        Ok(())
     }
-    Ok(())
 }
 
 /// Appends an arrow from a transfer to a lane at a date.
+#[tactic(auto, unfolding(crate::specs::Arrows::link_text))]
 fn append_link(
     out: &mut Vec<u8>,
     sheet: &Sheet,
@@ -179,6 +178,7 @@ fn runs_on(flat: &Flat, reader: &Decision, transfer: Transfer) -> bool
 }
 
 /// Whether an operation takes what a transfer brings, where it runs on this operator.
+#[tactic(auto, using(crate::proofs::Reading::takes_both))]
 fn takes(vertex: &Vertex, operator: u32, transfer: Transfer) -> bool
     ensures { result ≡ list_any (brings transfer) (map (copy operator) (sources_of (Some vertex.now))) }
 {

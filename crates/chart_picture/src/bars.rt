@@ -3,7 +3,7 @@ ghost use Rattle.std.specs.Prelude.{◌≡◌, ◌++◌, [], OnOk, codes, length
 ghost use Rattle.std.specs.Fmt.{decimal};
 ghost use Rattle.flat_graph.specs.Graph.{with_vertex};
 ghost use Rattle.schedule.specs.Acts.{carry, run};
-ghost use Rattle.chart_picture.specs.Bars.{act_class, bar_line, bar_of, class_of, dates_text, label_text, title_of, way_text};
+ghost use Rattle.chart_picture.specs.Bars.{act_class, bar_line, bar_of, class_of, dates_text, label_text, label_words, title_of, way_text};
 
 use crate::sheet::{Sheet, medium_name, operation_name, operator_name};
 use archi_graph::Archi;
@@ -36,10 +36,16 @@ pub fn append_carry(out: &mut Vec<u8>, sheet: &Sheet, transfer: Transfer) -> Res
     begin_bar(out, b"transfer", left, right)?;
     append_title_of_transfer(out, sheet, transfer.start, transfer.end, transfer)?;
     end_bar(out)?;
-    append_label(out, left, right, operation_name(sheet.flat, transfer.source.vertex))
+    append_label(
+        out,
+        left,
+        right,
+        operation_name(sheet.flat, transfer.source.vertex),
+    )
 }
 
 /// Appends the label of a bar from one place to another, where it fits.
+#[tactic(auto, unfolding(crate::specs::Bars::label_text))]
 pub fn append_label(
     out: &mut Vec<u8>,
     left: u64,
@@ -49,11 +55,19 @@ pub fn append_label(
     ensures { OnOk result (out.new.items ≡ out.old.items ++ label_text left right label.now) }
 {
     if fits(label.len(), left, right) {
-        begin_text(out, b"label", middle(left, right), b"22")?;
-        append(out, label)?;
-        end_text(out)?;
+        append_words(out, middle(left, right), label)
+    } else {
+        Ok(())
     }
-    Ok(())
+}
+
+/// Appends a label in the middle of a bar.
+fn append_words(out: &mut Vec<u8>, middle: u64, label: &[u8]) -> Result<(), OutOfMemory>
+    ensures { OnOk result (out.new.items ≡ out.old.items ++ label_words middle label.now) }
+{
+    begin_text(out, b"label", middle, b"22")?;
+    append(out, label)?;
+    end_text(out)
 }
 
 /// Appends the title of an operation that lasts from a start to an end.

@@ -1,14 +1,12 @@
-//! The frame of a chart: the axis, and the lanes up to their bars.
-ghost use Rattle.std.specs.Prelude.{◌≡◌, ◌≤◌, ◌<◌, ◌++◌, ◌+◌, ◌*◌, ◌^◌, [], OnOk, map, max};
-ghost use Rattle.std.specs.List.{flat_map, range_with_len};
-ghost use Rattle.archi_graph.specs.Archi.{names_of};
-ghost use Rattle.svg_text.specs.Scale.{steps_of};
-ghost use Rattle.chart_picture.specs.Frame.{axis_text, date_text, end_text, ground_text, height_of_lanes, lane_text, longest, margin, name_text, size_of, tick_text, ticks_text};
+//! The frame of a chart: its sides, and the lanes up to their bars.
+ghost use Rattle.std.specs.Prelude.{◌≡◌, ◌≤◌, ◌<◌, ◌++◌, ◌^◌, OnOk, map};
+ghost use Rattle.svg_text.specs.Axis.{longest};
+ghost use Rattle.chart_picture.specs.Frame.{ground_text, height_of_lanes, lane_text, margin, name_text, size_of};
 
 use crate::sheet::{media_in, operators_in};
 use archi_graph::{Archi, Medium};
 use grown_text::{append, append_count};
-use svg_text::{END_GROUP, Point, Scale, append_class, append_line, begin_group, begin_text, end_text};
+use svg_text::{Point, Scale, append_class, begin_aside, begin_group, end_text};
 use syn_base::{Name, OutOfMemory};
 
 /// The space for the names, left of the lanes.
@@ -16,7 +14,7 @@ pub fn margin(archi: &Archi) -> u64
     ensures same { result ≡ margin archi.now }
     ensures narrow { result ≤ 244 }
 {
-    let longest = longest_medium(archi.media()).max(longest_operator(archi.operators()));
+    let longest = longest_operator(archi.operators()).max(longest_medium(archi.media()));
     20 + 7 * longest.min(32) as u64
 }
 
@@ -61,72 +59,6 @@ pub fn size_of(archi: &Archi, scale: Scale) -> Point
     }
 }
 
-/// Appends the axis over lanes of this height, and where all ends, which a word tells.
-pub fn append_axis(
-    out: &mut Vec<u8>,
-    word: &[u8],
-    scale: Scale,
-    height: u64,
-) -> Result<(), OutOfMemory>
-    ensures { OnOk result (out.new.items ≡ out.old.items ++ axis_text word.now scale height) }
-{
-    begin_group(out, b"axis", b"", Point { x: 0, y: 0 })?;
-    append_ticks(out, scale, height)?;
-    append_end(out, word, scale, height)?;
-    append(out, END_GROUP)
-}
-
-/// Appends the dates at the axis.
-fn append_ticks(out: &mut Vec<u8>, scale: Scale, height: u64) -> Result<(), OutOfMemory>
-    ensures { OnOk result (out.new.items ≡ out.old.items ++ ticks_text scale height) }
-{
-    append_date(out, scale, height, 0)?;
-    append_dates(out, scale, height)
-}
-
-/// Appends the dates at the axis beside 0.
-fn append_dates(out: &mut Vec<u8>, scale: Scale, height: u64) -> Result<(), OutOfMemory>
-    ensures { OnOk result (out.new.items ≡ out.old.items ++
-        flat_map (tick_text scale height) (range_with_len 0 (steps_of scale))) }
-{
-    for k in 0..scale.steps() {
-        append_date(out, scale, height, scale.date(k))?;
-    }
-    Ok(())
-}
-
-/// Appends a date at the axis.
-fn append_date(
-    out: &mut Vec<u8>,
-    scale: Scale,
-    height: u64,
-    date: u64,
-) -> Result<(), OutOfMemory>
-    ensures { OnOk result (out.new.items ≡ out.old.items ++ date_text scale height date) }
-{
-    let x = scale.place(date);
-    append_line(out, b"grid", Point { x, y: 0 }, height)?;
-    begin_text(out, b"tick", x, b"-8")?;
-    append_count(out, date as usize)?;
-    end_text(out)
-}
-
-/// Appends where all ends.
-fn append_end(
-    out: &mut Vec<u8>,
-    word: &[u8],
-    scale: Scale,
-    height: u64,
-) -> Result<(), OutOfMemory>
-    ensures { OnOk result (out.new.items ≡ out.old.items ++ end_text word.now scale height) }
-{
-    append_line(out, b"end", Point { x: scale.width, y: 0 }, height)?;
-    begin_text(out, b"length", scale.width, b"-26")?;
-    append(out, word)?;
-    append_count(out, scale.length as usize)?;
-    end_text(out)
-}
-
 /// What tells one lane from another: the class of its ground, the word before its identifier, its
 /// name and its number.
 #[derive(Clone, Copy)]
@@ -167,9 +99,7 @@ fn append_ground(out: &mut Vec<u8>, class: &[u8], width: u64) -> Result<(), OutO
 fn append_name(out: &mut Vec<u8>, name: &[u8]) -> Result<(), OutOfMemory>
     ensures { OnOk result (out.new.items ≡ out.old.items ++ name_text name.now) }
 {
-    append(out, b"<text")?;
-    append_class(out, b"name")?;
-    append(out, b" x=\"-8\" y=\"22\">")?;
+    begin_aside(out, b"name", b"22")?;
     append(out, name)?;
     end_text(out)
 }

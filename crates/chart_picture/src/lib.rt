@@ -13,9 +13,9 @@ mod picture;
 mod sheet;
 
 pub use bars::{append_label, append_title_of_run, append_title_of_transfer};
-pub use frame::{Lane, append_axis, begin_lane, height_of_lanes};
+pub use frame::{Lane, begin_lane, height_of_lanes};
 pub use laws::{
-    each_has_one_bar, lanes_are_in_order, names_need_no_escape, what_lasts_is_seen,
+    each_has_one_bar, lanes_are_in_order, names_need_no_escape, what_lasts_is_seen, who_takes_reads,
 };
 pub use picture::{begin_picture, end_picture, print_picture};
 pub use sheet::{Sheet, operation_name, operators_in};

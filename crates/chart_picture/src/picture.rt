@@ -2,19 +2,20 @@
 ghost use Rattle.std.specs.Prelude.{◌≡◌, ◌++◌, ◌+◌, ◌≤◌, ◌<◌, ◌^◌, OnErr, OnOk, codes, length, map};
 ghost use Rattle.schedule.specs.Acts.{acts_of, carry, is_on, is_over};
 ghost use Rattle.chart_picture.specs.Bars.{bars_text};
-ghost use Rattle.chart_picture.specs.Frame.{margin, point, size_of};
-ghost use Rattle.chart_picture.specs.Picture.{begin_text, lane_part, lanes_text, legend_text, medium_lanes, operator_lanes, picture, plot_text, whole_text};
+ghost use Rattle.chart_picture.specs.Picture.{begin_text, lane_part, lanes_text, legend_text, medium_lanes, operator_lanes, picture, plot_text, scale_of, whole_text};
 
 use crate::arrows::append_arrows;
 use crate::bars::{append_carry, append_run};
-use crate::frame::{Lane, append_axis, begin_lane, height_of_lanes, margin, size_of};
+use crate::frame::{Lane, begin_lane, height_of_lanes, margin, size_of};
 use crate::sheet::{Sheet, operators_in};
 use archi_graph::{Archi, Medium};
 use flat_graph::Flat;
 use grown_text::append;
 use schedule::{Decision, Schedule, Transfer};
 use std::alloc::Global;
-use svg_text::{END, END_GROUP, LEGEND, Point, Scale, append_head, begin_group, widened};
+use svg_text::{
+    END, END_GROUP, LEGEND, Point, Scale, append_axis, append_head, begin_group, widened,
+};
 use syn_base::{Name, OutOfMemory};
 
 /// Appends the chart of a schedule as a picture in SVG: a lane for each operator, and then for each
@@ -33,36 +34,43 @@ pub fn print_picture(
     ensures text { OnOk result (out.new.items ≡ out.old.items ++ picture flat.now archi.now schedule.now) }
     ensures err { OnErr result (out.new.items ≡ out.old.items) }
 {
+    let scale = scale_of(flat, schedule);
+    let sheet = Sheet { flat, archi, scale };
     let mut text = Vec::new(alloc);
-    append_picture(&mut text, flat, archi, schedule)?;
+    append_picture(&mut text, &sheet, schedule.decisions.as_slice())?;
     out.extend_from_slice(&text)?;
     Ok(())
+}
+
+/// The scale on which the whole length takes the width that is given for the operations.
+fn scale_of(flat: &Flat, schedule: &Schedule) -> Scale
+    ensures scale { result ≡ scale_of flat.now schedule.now }
+    ensures narrow { result.width ≤ 513000 }
+{
+    Scale {
+        width: widened(flat.vertices().len()),
+        length: schedule.length(),
+    }
 }
 
 /// Appends the whole picture. After want of memory part of it may stand there.
 fn append_picture(
     out: &mut Vec<u8>,
-    flat: &Flat,
-    archi: &Archi,
-    schedule: &Schedule,
+    sheet: &Sheet,
+    decisions: &[Decision],
 ) -> Result<(), OutOfMemory>
-    ensures { OnOk result (out.new.items ≡ out.old.items ++ picture flat.now archi.now schedule.now) }
+    requires { sheet.now.scale.width ≤ 513000 }
+    ensures { OnOk result (out.new.items ≡ out.old.items ++
+        whole_text sheet.now.flat.now sheet.now.archi.now sheet.now.scale (acts_of decisions.now)) }
 {
-    let sheet = Sheet {
-        flat,
-        archi,
-        scale: Scale {
-            width: widened(flat.vertices().len()),
-            length: schedule.length(),
-        },
-    };
-    begin_picture(out, archi, sheet.scale)?;
-    append_plot(out, &sheet, schedule.decisions.as_slice())?;
-    append_legend(out, archi)?;
+    begin_picture(out, sheet.archi, sheet.scale)?;
+    append_plot(out, sheet, decisions)?;
+    append_legend(out, sheet.archi)?;
     end_picture(out)
 }
 
 /// Begins a picture on this scale, and the group of the whole chart.
+#[tactic(auto, unfolding(crate::specs::Picture::begin_text))]
 pub fn begin_picture(out: &mut Vec<u8>, archi: &Archi, scale: Scale) -> Result<(), OutOfMemory>
     requires { scale.width ≤ 513000 }
     ensures { OnOk result (out.new.items ≡ out.old.items ++ begin_text archi.now scale) }
@@ -97,11 +105,7 @@ fn append_legend(out: &mut Vec<u8>, archi: &Archi) -> Result<(), OutOfMemory>
 }
 
 /// Appends the axis, the lanes and the arrows.
-fn append_plot(
-    out: &mut Vec<u8>,
-    sheet: &Sheet,
-    decisions: &[Decision],
-) -> Result<(), OutOfMemory>
+fn append_plot(out: &mut Vec<u8>, sheet: &Sheet, decisions: &[Decision]) -> Result<(), OutOfMemory>
     ensures { OnOk result (out.new.items ≡ out.old.items ++
         plot_text sheet.now.flat.now sheet.now.archi.now sheet.now.scale (acts_of decisions.now)) }
 {
@@ -111,11 +115,8 @@ fn append_plot(
 }
 
 /// Appends the lanes of all operators, and then those of all media.
-fn append_lanes(
-    out: &mut Vec<u8>,
-    sheet: &Sheet,
-    decisions: &[Decision],
-) -> Result<(), OutOfMemory>
+#[tactic(auto, using(crate::proofs::Few::few_operators_in, crate::proofs::Few::few_media_in), unfolding(crate::specs::Picture::lanes_text))]
+fn append_lanes(out: &mut Vec<u8>, sheet: &Sheet, decisions: &[Decision]) -> Result<(), OutOfMemory>
     ensures { OnOk result (out.new.items ≡ out.old.items ++
         lanes_text sheet.now.flat.now sheet.now.archi.now sheet.now.scale (acts_of decisions.now)) }
 {

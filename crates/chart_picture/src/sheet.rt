@@ -49,6 +49,7 @@ pub fn medium_name(archi: &Archi, medium: u32) -> &[u8]
 }
 
 /// The number of operators, which is the number of the first lane of a medium.
+#[tactic(auto, using(schedule::proofs::Archis::few_operators))]
 pub fn operators_in(archi: &Archi) -> u64
     ensures same { result ≡ length archi.now.operators }
     ensures few { result ≤ 16 }
@@ -57,6 +58,7 @@ pub fn operators_in(archi: &Archi) -> u64
 }
 
 /// The number of media.
+#[tactic(auto, using(schedule::proofs::Archis::few_media))]
 pub fn media_in(archi: &Archi) -> u64
     ensures same { result ≡ length archi.now.media }
     ensures few { result ≤ 16 }

@@ -15,16 +15,16 @@ use Rattle.dates_text.proofs.Entered.{Agree, told_is}
 use Rattle.svg_text.specs.declared.scale.Scale.{Scale}
 use Rattle.svg_text.specs.declared.style.TheConstants.{END, END_GROUP}
 use Rattle.chart_picture.specs.Picture.{begin_text}
-use Rattle.date_picture.specs.Picture.{board_text, dated_picture, dated_text, note_text, reaction_text, reactions_text, scale_of, tiles_text}
-use Rattle.date_picture.specs.Printed.{drawn_up_to}
+use Rattle.date_picture.specs.Picture.{board_text, dated_picture, dated_text, note_text, reaction_text, reactions_text, scale_for, tiles_text}
+use Rattle.date_picture.specs.Printed.{drawn_picture, drawn_up_to}
+
+abbrev rest : List Dated → List Dated
+rest [] = []
+rest (x ∷ xs) = xs
 
 cancel : (xs ys zs : List Dated) → xs ++ ys ≡ xs ++ zs → ys ≡ zs
 cancel [] ys zs e = e
-cancel (x ∷ xs) ys zs e = cancel xs ys zs (ap (λ (l : List Dated). rest l) e)
-  where
-    abbrev rest : List Dated → List Dated
-    rest [] = []
-    rest (y ∷ l) = l
+cancel (x ∷ xs) ys zs e = cancel xs ys zs (ap rest e)
 
 module _ (g : Graph) (a : Architecture) (scale : Scale) where
   pub tiles-append : (xs ys : List Dated) → tiles_text g a scale (xs ++ ys) ≡ tiles_text g a scale xs ++ tiles_text g a scale ys
@@ -72,11 +72,21 @@ pub entered : (g : Graph) (s : Schedule) (reactions : List (List Span)) (a : Arc
     → drawn_up_to g a scale reactions (acts s) n ≡ reactions_text g a scale (entry_span g s reactions) n (acts s)
 entered g s reactions a scale n = drawn_is g s reactions (entry_span g s reactions) a scale n (λ k l i x e. refl)
 
+-- so for the whole picture
+pub drawn_is_dated : (g : Graph) (a : Architecture) (s : Schedule) (reactions : List (List Span))
+    → drawn_picture g a (scale_for g (length reactions) (length_of s)) (length_of s) reactions (acts s) ≡ dated_picture g a s (entry_span g s reactions) (length reactions)
+unfolding drawn_picture dated_picture
+drawn_is_dated g a s reactions =
+    let n = length reactions in
+    let scale = scale_for g n (length_of s) in
+    ap (λ (l : Bytes). begin_text a scale ++ (board_text a scale (length_of s) n ++ (l ++ (note_text a (length_of s) ++ (END_GROUP.now ++ END.now))))) (entered g s reactions a scale n)
+
 module _ (g : Graph) (s : Schedule) (reactions : List (List Span)) (when : ℕ → ℕ → Act → Span) where
   pub picture_is : (a : Architecture) (n : ℕ) → ((k : ℕ) → k < n → Agree g s reactions when k)
       → dated_picture g a s (entry_span g s reactions) n ≡ dated_picture g a s when n
+  unfolding dated_picture
   picture_is a n agree =
-      let scale = scale_of g s n in
+      let scale = scale_for g n (length_of s) in
       let one_way = entered g s reactions a scale n in
       let other = drawn_is g s reactions when a scale n agree in
       ap (λ (l : Bytes). begin_text a scale ++ (board_text a scale (length_of s) n ++ (l ++ (note_text a (length_of s) ++ (END_GROUP.now ++ END.now))))) (sym one_way ∙ other)

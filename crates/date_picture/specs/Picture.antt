@@ -15,10 +15,20 @@ use Rattle.dates_text.specs.Listing.{Dated, dated_from}
 use Rattle.svg_text.specs.declared.scale.Scale.{Scale}
 use Rattle.svg_text.specs.declared.style.TheConstants.{END, END_GROUP}
 use Rattle.svg_text.specs.Scale.{place, width_for}
-use Rattle.svg_text.specs.Shapes.{bar_end, group_text, line_text, shade_text, tile_text, words_end, words_text}
+use Rattle.svg_text.specs.Axis.{axis_text}
+use Rattle.svg_text.specs.Shapes.{
+  bar_end,
+  group_text,
+  line_text,
+  point,
+  shade_text,
+  tile_text,
+  words_end,
+  words_text,
+}
 use Rattle.chart_picture.specs.Arrows.{lane_of}
 use Rattle.chart_picture.specs.Bars.{title_of}
-use Rattle.chart_picture.specs.Frame.{axis_text, height_of_lanes, lane_text, point}
+use Rattle.chart_picture.specs.Frame.{height_of_lanes, lane_text}
 use Rattle.chart_picture.specs.Picture.{begin_text}
 use Rattle.date_picture.specs.declared.board.TheConstants.{NOTE}
 
@@ -27,20 +37,20 @@ use Rattle.date_picture.specs.declared.board.TheConstants.{NOTE}
 abbrev pub repeated : ℕ → ℕ → ℕ
 repeated k ticks = min (k * ticks) (2 ^ 64 - 1)
 
--- as many charts, one after another, take the width that is given for their operations
-abbrev pub scale_of : Graph → Schedule → ℕ → Scale
-scale_of g s n = record {
+-- as many charts of these ticks, one after another, take the width that is given for their operations
+abbrev pub scale_for : Graph → ℕ → ℕ → Scale
+scale_for g n ticks = record {
   width = width_for (min (n * length g.vertices) (2 ^ 64 - 1));
-  length = repeated n (length_of s);
+  length = repeated n ticks;
 }
 
 -- `reaction K, `
-abbrev pub number_text : ℕ → Bytes
+unfoldable pub number_text : ℕ → Bytes
 number_text k = codes "reaction " ++ (decimal k ++ codes ", ")
 
 module _ (g : Graph) (a : Architecture) (scale : Scale) where
   -- an act of a reaction, in its lane
-  abbrev pub dated_text : Dated → Bytes
+  unfoldable pub dated_text : Dated → Bytes
   dated_text d =
       tile_text (place scale d.when.start) (place scale d.when.end) (36 * lane_of (length a.operators) d.act + 6) ++
       (number_text d.reaction ++ (title_of g a d.when.start d.when.end d.act ++ bar_end))
@@ -49,7 +59,7 @@ module _ (g : Graph) (a : Architecture) (scale : Scale) where
   tiles_text ds = flat_map dated_text ds
 
   -- a reaction, in its shade
-  abbrev pub reaction_text : ℕ → List Dated → Bytes
+  unfoldable pub reaction_text : ℕ → List Dated → Bytes
   reaction_text k ds = shade_text (codes "reaction-") k ++ (tiles_text ds ++ END_GROUP.now)
 
   -- Act i of reaction k, which is x, takes `when k i x`: this many reactions, in their order.
@@ -58,7 +68,7 @@ module _ (g : Graph) (a : Architecture) (scale : Scale) where
   reactions_text when (suc k) xs = reactions_text when k xs ++ reaction_text k (dated_from when k 0 xs)
 
 -- a lane with no bars
-abbrev pub ground_text : ℕ → Bytes → Bytes → Bytes → ℕ → Bytes
+unfoldable pub ground_text : ℕ → Bytes → Bytes → Bytes → ℕ → Bytes
 ground_text width class word name k = lane_text width class word name k ++ END_GROUP.now
 
 -- the lanes of operators whose names these are, of which the first has number o
@@ -74,40 +84,40 @@ medium_lanes width k (x ∷ media) =
     ground_text width (codes "medium") (codes "medium-") x.name k ++ medium_lanes width (suc k) media
 
 -- a line where one more repetition of the chart would end
-abbrev pub repeat_text : Scale → ℕ → ℕ → ℕ → Bytes
+unfoldable pub repeat_text : Scale → ℕ → ℕ → ℕ → Bytes
 repeat_text scale height ticks k = line_text (codes "end") (point (place scale (repeated (k + 1) ticks)) 0) height
 
-abbrev pub repeats_text : Scale → ℕ → ℕ → ℕ → Bytes
+unfoldable pub repeats_text : Scale → ℕ → ℕ → ℕ → Bytes
 repeats_text scale height ticks n =
     group_text (codes "repetitions") [] (point 0 0) ++
     (flat_map (repeat_text scale height ticks) (range_with_len 0 n) ++ END_GROUP.now)
 
 -- what the lines and the shades mean, below the lanes
-abbrev pub note_words : ℕ → Bytes
+unfoldable pub note_words : ℕ → Bytes
 note_words ticks = words_text (codes "note") 0 (codes "10") ++ (NOTE.now ++ (decimal ticks ++ words_end))
 
-abbrev pub note_text : Architecture → ℕ → Bytes
+unfoldable pub note_text : Architecture → ℕ → Bytes
 note_text a ticks =
     group_text (codes "note") [] (point 0 (height_of_lanes a + 14)) ++ (note_words ticks ++ END_GROUP.now)
 
 -- the lanes of all operators, and then those of all media
-abbrev pub lanes_text : Architecture → ℕ → Bytes
+unfoldable pub lanes_text : Architecture → ℕ → Bytes
 lanes_text a width = operator_lanes width 0 a.operators ++ medium_lanes width (length a.operators) a.media
 
 -- lanes, axis and repetitions
-abbrev pub board_text : Architecture → Scale → ℕ → ℕ → Bytes
+unfoldable pub board_text : Architecture → Scale → ℕ → ℕ → Bytes
 board_text a scale ticks n =
     lanes_text a scale.width ++
     (axis_text (codes "chart repeated: ") scale (height_of_lanes a) ++ repeats_text scale (height_of_lanes a) ticks n)
 
 module _ (g : Graph) (a : Architecture) (s : Schedule) where
   -- the picture of this many reactions
-  abbrev pub dated_picture : (ℕ → ℕ → Act → Span) → ℕ → Bytes
+  unfoldable pub dated_picture : (ℕ → ℕ → Act → Span) → ℕ → Bytes
   dated_picture when n =
-      begin_text a (scale_of g s n) ++
-      (board_text a (scale_of g s n) (length_of s) n ++
-      (reactions_text g a (scale_of g s n) when n (acts s) ++
-      (note_text a (length_of s) ++ (END_GROUP.now ++ END.now))))
+      let scale = scale_for g n (length_of s) in
+      begin_text a scale ++
+      (board_text a scale (length_of s) n ++
+      (reactions_text g a scale when n (acts s) ++ (note_text a (length_of s) ++ (END_GROUP.now ++ END.now))))
 
   -- the same, where the acts of each reaction last these ticks and wait for nothing but what must precede them
   abbrev pub dates_picture : List (List ℕ) → Bytes

@@ -8,7 +8,9 @@ use Rattle.self_timed.specs.declared.dates.Span.{Span}
 use Rattle.self_timed.specs.Told.{reaction_at}
 use Rattle.dates_text.specs.Printed.{dated_by}
 use Rattle.svg_text.specs.declared.scale.Scale.{Scale}
-use Rattle.date_picture.specs.Picture.{reaction_text}
+use Rattle.svg_text.specs.declared.style.TheConstants.{END, END_GROUP}
+use Rattle.chart_picture.specs.Picture.{begin_text}
+use Rattle.date_picture.specs.Picture.{board_text, note_text, reaction_text}
 
 -- reaction k of these, where the transfers' entries come after those of the operations
 abbrev pub drawn_reaction : Graph → Architecture → Scale → List (List Span) → List Act → ℕ → Bytes
@@ -20,3 +22,10 @@ abbrev pub drawn_up_to : Graph → Architecture → Scale → List (List Span) �
 drawn_up_to g a scale reactions xs zero = []
 drawn_up_to g a scale reactions xs (suc k) =
     drawn_up_to g a scale reactions xs k ++ drawn_reaction g a scale reactions xs k
+
+-- the picture of all of them, on a scale, beside the chart of these ticks
+unfoldable pub drawn_picture : Graph → Architecture → Scale → ℕ → List (List Span) → List Act → Bytes
+drawn_picture g a scale ticks reactions xs =
+    begin_text a scale ++
+    (board_text a scale ticks (length reactions) ++
+    (drawn_up_to g a scale reactions xs (length reactions) ++ (note_text a ticks ++ (END_GROUP.now ++ END.now))))

@@ -4,9 +4,11 @@ ghost use Rattle.std.specs.List.{flat_map, range_with_len};
 ghost use Rattle.date_picture.specs.Picture.{board_text, ground_text, lanes_text, medium_lanes, note_text, note_words, operator_lanes, repeat_text, repeated, repeats_text};
 
 use archi_graph::{Archi, Medium};
-use chart_picture::{Lane, append_axis, begin_lane, height_of_lanes, operators_in};
+use chart_picture::{Lane, begin_lane, height_of_lanes, operators_in};
 use grown_text::{append, append_count};
-use svg_text::{END_GROUP, Point, Scale, append_line, begin_group, begin_text, end_text};
+use svg_text::{
+    END_GROUP, Point, Scale, append_axis, append_line, begin_group, begin_text, end_text,
+};
 use syn_base::{Name, OutOfMemory};
 
 /// The date at which so many reactions would end if the chart of these ticks were repeated, one after
@@ -34,6 +36,7 @@ pub fn append_board(
 }
 
 /// Appends the lanes of all operators, and then those of all media.
+#[tactic(auto, unfolding(crate::specs::Picture::lanes_text))]
 fn append_lanes(out: &mut Vec<u8>, archi: &Archi, width: u64) -> Result<(), OutOfMemory>
     ensures { OnOk result (out.new.items ≡ out.old.items ++ lanes_text archi.now width) }
 {
@@ -42,11 +45,7 @@ fn append_lanes(out: &mut Vec<u8>, archi: &Archi, width: u64) -> Result<(), OutO
 }
 
 /// Appends the lanes of these operators.
-fn append_operators(
-    out: &mut Vec<u8>,
-    width: u64,
-    operators: &[Name],
-) -> Result<(), OutOfMemory>
+fn append_operators(out: &mut Vec<u8>, width: u64, operators: &[Name]) -> Result<(), OutOfMemory>
     requires { length operators.now < 2 ^ 32 }
     ensures { OnOk result (out.new.items ≡ out.old.items ++ operator_lanes width 0 operators.now) }
 {
@@ -85,6 +84,7 @@ fn append_media(
 }
 
 /// Appends a lane with no bars.
+#[tactic(auto, unfolding(crate::specs::Picture::ground_text))]
 fn append_ground(out: &mut Vec<u8>, width: u64, lane: &Lane) -> Result<(), OutOfMemory>
     requires { lane.now.number < 2 ^ 33 }
     ensures { OnOk result (out.new.items ≡ out.old.items ++

@@ -5,8 +5,8 @@ ghost use Rattle.sequence_build_laws.specs.Built.{program_of};
 ghost use Rattle.self_timed_laws.specs.Entries.{AreWithin};
 ghost use Rattle.self_timed.specs.Told.{HaveEntries, IsValidForSome, entries_of};
 ghost use Rattle.dates_text.specs.Printed.{EachFits, HaveSpans, entry_span};
-ghost use Rattle.date_picture.specs.Picture.{dated_picture, dates_picture, scale_of};
-ghost use Rattle.date_picture.specs.Printed.{drawn_up_to};
+ghost use Rattle.date_picture.specs.Picture.{dated_picture, dates_picture, scale_for};
+ghost use Rattle.date_picture.specs.Printed.{drawn_picture, drawn_up_to};
 
 use crate::board::{append_board, append_note, repeated};
 use crate::reaction::{Reaction, append_reaction};
@@ -58,26 +58,51 @@ fn picture_of(
     ensures { IfOk result (λ text. text.items ≡ dated_picture flat.now archi.now schedule.now
         (entry_span flat.now schedule.now dates.now) (length dates.now)) }
 {
-    let mut text = Vec::new(alloc);
-    let scale = scale_of(flat, schedule, dates.reactions());
-    begin_picture(&mut text, archi, scale)?;
-    append_board(&mut text, archi, scale, schedule.length(), dates.reactions())?;
+    let ticks = schedule.length();
+    let scale = scale_for(flat, dates, ticks);
     let sheet = Sheet { flat, archi, scale };
-    append_reactions(&mut text, &sheet, dates, schedule.decisions.as_slice())?;
-    append_note(&mut text, archi, schedule.length())?;
-    end_picture(&mut text)?;
+    let mut text = Vec::new(alloc);
+    append_picture(
+        &mut text,
+        &sheet,
+        dates,
+        ticks,
+        schedule.decisions.as_slice(),
+    )?;
     Ok(text)
 }
 
-/// The scale on which as many charts as there are reactions take the whole width.
-fn scale_of(flat: &Flat, schedule: &Schedule, reactions: usize) -> Scale
-    ensures scale { result ≡ scale_of flat.now schedule.now reactions }
+/// The scale on which as many charts of these ticks as there are reactions take the whole width.
+fn scale_for(flat: &Flat, dates: &Dates, ticks: u64) -> Scale
+    ensures scale { result ≡ scale_for flat.now (length dates.now) ticks }
     ensures narrow { result.width ≤ 513000 }
 {
+    let reactions = dates.reactions();
     Scale {
         width: widened(reactions.saturating_mul(flat.vertices().len())),
-        length: repeated(reactions, schedule.length()),
+        length: repeated(reactions, ticks),
     }
+}
+
+/// Appends the whole picture, where the chart of these decisions has these ticks.
+#[tactic(auto, unfolding(crate::specs::Printed::drawn_picture))]
+fn append_picture(
+    out: &mut Vec<u8>,
+    sheet: &Sheet,
+    dates: &Dates,
+    ticks: u64,
+    decisions: &[Decision],
+) -> Result<(), OutOfMemory>
+    requires narrow { sheet.now.scale.width ≤ 513000 }
+    requires fit { EachFits sheet.now.flat.now decisions.now dates.now }
+    ensures { OnOk result (out.new.items ≡ out.old.items ++ drawn_picture sheet.now.flat.now
+        sheet.now.archi.now sheet.now.scale ticks dates.now (acts_of decisions.now)) }
+{
+    begin_picture(out, sheet.archi, sheet.scale)?;
+    append_board(out, sheet.archi, sheet.scale, ticks, dates.reactions())?;
+    append_reactions(out, sheet, dates, decisions)?;
+    append_note(out, sheet.archi, ticks)?;
+    end_picture(out)
 }
 
 /// Appends all reactions.

@@ -1,2 +1,3 @@
+pub mod Axis
 pub mod Scale
 pub mod Shapes

@@ -15,6 +15,7 @@ pub struct Point {
 }
 
 /// Appends the beginning of a picture of these sides: its style, and its paper.
+#[tactic(auto, unfolding(crate::specs::Shapes::head_text))]
 pub fn append_head(out: &mut Vec<u8>, size: Point) -> Result<(), OutOfMemory>
     ensures { OnOk result (out.new.items ≡ out.old.items ++ head_text size) }
 {
@@ -24,6 +25,7 @@ pub fn append_head(out: &mut Vec<u8>, size: Point) -> Result<(), OutOfMemory>
 }
 
 /// Appends the root element.
+#[tactic(auto, unfolding(crate::specs::Shapes::root_text))]
 fn append_root(out: &mut Vec<u8>, size: Point) -> Result<(), OutOfMemory>
     ensures { OnOk result (out.new.items ≡ out.old.items ++ root_text size) }
 {
@@ -33,6 +35,7 @@ fn append_root(out: &mut Vec<u8>, size: Point) -> Result<(), OutOfMemory>
 }
 
 /// Appends the part of the picture that is seen, which is all of it.
+#[tactic(auto, unfolding(crate::specs::Shapes::view_text))]
 fn append_view(out: &mut Vec<u8>, size: Point) -> Result<(), OutOfMemory>
     ensures { OnOk result (out.new.items ≡ out.old.items ++ view_text size) }
 {
@@ -42,6 +45,7 @@ fn append_view(out: &mut Vec<u8>, size: Point) -> Result<(), OutOfMemory>
 }
 
 /// Appends a rectangle as large as the picture.
+#[tactic(auto, unfolding(crate::specs::Shapes::paper_text))]
 fn append_paper(out: &mut Vec<u8>, size: Point) -> Result<(), OutOfMemory>
     ensures { OnOk result (out.new.items ≡ out.old.items ++ paper_text size) }
 {
@@ -51,6 +55,7 @@ fn append_paper(out: &mut Vec<u8>, size: Point) -> Result<(), OutOfMemory>
 }
 
 /// Appends the attributes of both sides.
+#[tactic(auto, unfolding(crate::specs::Shapes::sides_text))]
 fn append_sides(out: &mut Vec<u8>, size: Point) -> Result<(), OutOfMemory>
     ensures { OnOk result (out.new.items ≡ out.old.items ++ sides_text size) }
 {
@@ -62,6 +67,7 @@ fn append_sides(out: &mut Vec<u8>, size: Point) -> Result<(), OutOfMemory>
 }
 
 /// Appends a point.
+#[tactic(auto, unfolding(crate::specs::Shapes::point_text))]
 fn append_point(out: &mut Vec<u8>, point: Point) -> Result<(), OutOfMemory>
     ensures { OnOk result (out.new.items ≡ out.old.items ++ point_text point) }
 {
@@ -71,6 +77,7 @@ fn append_point(out: &mut Vec<u8>, point: Point) -> Result<(), OutOfMemory>
 }
 
 /// Appends the attribute of a class.
+#[tactic(auto, unfolding(crate::specs::Shapes::class_text))]
 pub fn append_class(out: &mut Vec<u8>, class: &[u8]) -> Result<(), OutOfMemory>
     ensures { OnOk result (out.new.items ≡ out.old.items ++ class_text class.now) }
 {
@@ -80,6 +87,7 @@ pub fn append_class(out: &mut Vec<u8>, class: &[u8]) -> Result<(), OutOfMemory>
 }
 
 /// Begins a group, whose identifier is a word and then a name, and whose origin is at a point.
+#[tactic(auto, unfolding(crate::specs::Shapes::group_text))]
 pub fn begin_group(
     out: &mut Vec<u8>,
     word: &[u8],
@@ -95,6 +103,7 @@ pub fn begin_group(
 }
 
 /// Appends the origin of a group, and the end of its first tag.
+#[tactic(auto, unfolding(crate::specs::Shapes::origin_text))]
 fn append_origin(out: &mut Vec<u8>, origin: Point) -> Result<(), OutOfMemory>
     ensures { OnOk result (out.new.items ≡ out.old.items ++ origin_text origin) }
 {
@@ -104,6 +113,7 @@ fn append_origin(out: &mut Vec<u8>, origin: Point) -> Result<(), OutOfMemory>
 }
 
 /// Appends how an origin is moved.
+#[tactic(auto, unfolding(crate::specs::Shapes::move_text))]
 fn append_move(out: &mut Vec<u8>, origin: Point) -> Result<(), OutOfMemory>
     ensures { OnOk result (out.new.items ≡ out.old.items ++ move_text origin) }
 {
@@ -113,12 +123,8 @@ fn append_move(out: &mut Vec<u8>, origin: Point) -> Result<(), OutOfMemory>
 }
 
 /// Begins a bar of a lane, from one place to another. Next comes the text of its title.
-pub fn begin_bar(
-    out: &mut Vec<u8>,
-    class: &[u8],
-    left: u64,
-    right: u64,
-) -> Result<(), OutOfMemory>
+#[tactic(auto, unfolding(crate::specs::Shapes::bar_text))]
+pub fn begin_bar(out: &mut Vec<u8>, class: &[u8], left: u64, right: u64) -> Result<(), OutOfMemory>
     ensures { OnOk result (out.new.items ≡ out.old.items ++ bar_text class.now left right) }
 {
     append(out, b"<path")?;
@@ -128,6 +134,7 @@ pub fn begin_bar(
 }
 
 /// Appends the attribute of a bar's sides.
+#[tactic(auto, unfolding(crate::specs::Shapes::sides_of_bar))]
 fn append_sides_of_bar(out: &mut Vec<u8>, left: u64, right: u64) -> Result<(), OutOfMemory>
     ensures { OnOk result (out.new.items ≡ out.old.items ++ sides_of_bar left right) }
 {
@@ -141,6 +148,7 @@ fn append_sides_of_bar(out: &mut Vec<u8>, left: u64, right: u64) -> Result<(), O
 }
 
 /// Begins a tile from one place to another, below a height. Next comes the text of its title.
+#[tactic(auto, unfolding(crate::specs::Shapes::tile_text))]
 pub fn begin_tile(out: &mut Vec<u8>, left: u64, right: u64, top: u64) -> Result<(), OutOfMemory>
     ensures { OnOk result (out.new.items ≡ out.old.items ++ tile_text left right top) }
 {
@@ -155,6 +163,7 @@ pub fn begin_tile(out: &mut Vec<u8>, left: u64, right: u64, top: u64) -> Result<
 
 /// Begins a group, whose identifier is a word and then a number, and which has the shade of the
 /// number: one of eight in turn.
+#[tactic(auto, unfolding(crate::specs::Shapes::shade_text))]
 pub fn begin_shade(out: &mut Vec<u8>, word: &[u8], number: usize) -> Result<(), OutOfMemory>
     ensures { OnOk result (out.new.items ≡ out.old.items ++ shade_text word.now number) }
 {
@@ -167,6 +176,7 @@ pub fn begin_shade(out: &mut Vec<u8>, word: &[u8], number: usize) -> Result<(), 
 }
 
 /// Ends a bar or a tile, after its title.
+#[tactic(auto, unfolding(crate::specs::Shapes::bar_end))]
 pub fn end_bar(out: &mut Vec<u8>) -> Result<(), OutOfMemory>
     ensures { OnOk result (out.new.items ≡ out.old.items ++ bar_end) }
 {
@@ -174,6 +184,7 @@ pub fn end_bar(out: &mut Vec<u8>) -> Result<(), OutOfMemory>
 }
 
 /// Appends a vertical line down from a point, of this length.
+#[tactic(auto, unfolding(crate::specs::Shapes::line_text))]
 pub fn append_line(
     out: &mut Vec<u8>,
     class: &[u8],
@@ -192,6 +203,7 @@ pub fn append_line(
 }
 
 /// Appends an arrow from a point to another.
+#[tactic(auto, unfolding(crate::specs::Shapes::arrow_text))]
 pub fn append_arrow(out: &mut Vec<u8>, from: Point, to: Point) -> Result<(), OutOfMemory>
     requires { from.y + to.y < 2 ^ 64 }
     ensures { OnOk result (out.new.items ≡ out.old.items ++ arrow_text from to) }
@@ -202,6 +214,7 @@ pub fn append_arrow(out: &mut Vec<u8>, from: Point, to: Point) -> Result<(), Out
 }
 
 /// Appends a curve that leaves and arrives vertically.
+#[tactic(auto, unfolding(crate::specs::Shapes::curve_text))]
 fn append_curve(out: &mut Vec<u8>, from: Point, to: Point) -> Result<(), OutOfMemory>
     requires { from.y + to.y < 2 ^ 64 }
     ensures { OnOk result (out.new.items ≡ out.old.items ++ curve_text from to) }

@@ -16,6 +16,24 @@ path{stroke:#111;stroke-opacity:.45}
 .end{stroke:#24292f;stroke-opacity:1;stroke-dasharray:4 3}
 .arrow{fill:none;stroke:#57606a;stroke-opacity:.6;marker-end:url(#head)}
 .head{fill:#57606a;stroke:none}
+.value{text-anchor:end;fill:#6b7480}
+.curve{fill:none;stroke-opacity:1;stroke-width:1.5}
+.line1{stroke:#0072b2}
+.ink1{fill:#0072b2}
+.line2{stroke:#e69f00}
+.ink2{fill:#e69f00}
+.line3{stroke:#009e73}
+.ink3{fill:#009e73}
+.line4{stroke:#d55e00}
+.ink4{fill:#d55e00}
+.line5{stroke:#cc79a7}
+.ink5{fill:#cc79a7}
+.line6{stroke:#56b4e9}
+.ink6{fill:#56b4e9}
+.line7{stroke:#a08c00}
+.ink7{fill:#a08c00}
+.line8{stroke:#8a9097}
+.ink8{fill:#8a9097}
 .function,.shade1{fill:#56b4e9}
 .actuator,.shade2{fill:#e69f00}
 .sensor,.shade3{fill:#009e73}
@@ -26,10 +44,11 @@ path{stroke:#111;stroke-opacity:.45}
 .constant,.shade8{fill:#b4b9bf}
 @media (prefers-color-scheme:dark){
 text{fill:#e6edf3}
+path{stroke:#e6edf3}
 .paper{fill:#0d1117}
 .lane{fill:#9198a1;fill-opacity:.12}
 .medium{fill:#a371f7;fill-opacity:.16}
-.tick{fill:#9198a1}
+.tick,.value{fill:#9198a1}
 .label{fill:#111}
 .end{stroke:#e6edf3}
 .arrow{stroke:#9198a1}

@@ -1,6 +1,6 @@
 use Rattle.std.proofs.Common.{◌≡◌, drop}
 use Rattle.std.specs.Prelude.{max}
-use Rattle.chart_picture.specs.Frame.{longest}
+use Rattle.svg_text.specs.Axis.{longest}
 use Rattle.chart_picture.proofs.frame.longest_operator.Given as goal
 
 -- the longest so far, or of those that are left

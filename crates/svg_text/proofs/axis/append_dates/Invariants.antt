@@ -1,8 +1,8 @@
 use Rattle.std.proofs.Common.{◌≡◌, ◌++◌, ◌-◌}
 use Rattle.std.specs.List.{flat_map, range_with_len}
 use Rattle.svg_text.specs.Scale.{steps_of}
-use Rattle.chart_picture.specs.Frame.{tick_text}
-use Rattle.chart_picture.proofs.frame.append_dates.Given as goal
+use Rattle.svg_text.specs.Axis.{tick_text}
+use Rattle.svg_text.proofs.axis.append_dates.Given as goal
 
 -- what is there, with the dates that are left, is the whole
 abbrev pub invariant-loop-k : goal.invariant-loop-k
