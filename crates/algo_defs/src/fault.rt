@@ -1,6 +1,7 @@
 //! The refusal of a text of an algorithm, which the reader, the checks and the resolver return.
+use std::alloc::{AllocError, AllocFailed};
 use std::fmt;
-use syn_base::{Items, LimitFault, Name};
+use syn_base::{Items, LimitFault, Name, OutOfMemory};
 use thiserror::Error;
 
 /// The causes of a refusal, with what a message prints after the cause: the place, the word, the end of
@@ -68,5 +69,53 @@ pub enum AlgoError {
 impl fmt::Debug for AlgoError {
     fn fmt<W: fmt::Write>(&self, f: &mut fmt::Formatter<W>) -> fmt::Result {
         fmt::Display::fmt(self, f)
+    }
+}
+
+/// Want of memory stays want of memory, so that `?` hands it on.
+impl From<OutOfMemory> for AlgoError {
+    ghost use Rattle.std.specs.Prelude.{◌≡◌};
+    ghost use Rattle.algo_defs.specs.declared.fault.AlgoError.TheVariants.{OutOfMemory as NoMemory};
+
+    ghost from_gives = { λ _ error. error ≡ NoMemory };
+
+    fn from(_failed: OutOfMemory) -> AlgoError {
+        AlgoError::OutOfMemory
+    }
+}
+
+/// An allocation that failed is want of memory.
+impl From<AllocError> for AlgoError {
+    ghost use Rattle.std.specs.Prelude.{◌≡◌};
+    ghost use Rattle.algo_defs.specs.declared.fault.AlgoError.TheVariants.{OutOfMemory as NoMemory};
+
+    ghost from_gives = { λ _ error. error ≡ NoMemory };
+
+    fn from(_failed: AllocError) -> AlgoError {
+        AlgoError::OutOfMemory
+    }
+}
+
+/// A value that found no room is want of memory.
+impl<T: Drop> From<AllocFailed<T>> for AlgoError {
+    ghost use Rattle.std.specs.Prelude.{◌≡◌};
+    ghost use Rattle.algo_defs.specs.declared.fault.AlgoError.TheVariants.{OutOfMemory as NoMemory};
+
+    ghost from_gives = { λ _ error. error ≡ NoMemory };
+
+    fn from(_failed: AllocFailed<T>) -> AlgoError {
+        AlgoError::OutOfMemory
+    }
+}
+
+/// A quantity above its bound is a refusal of the text.
+impl From<LimitFault> for AlgoError {
+    ghost use Rattle.std.specs.Prelude.{◌≡◌};
+    ghost use Rattle.algo_defs.specs.declared.fault.AlgoError.TheVariants.{Limit};
+
+    ghost from_gives = { λ fault error. error ≡ Limit fault };
+
+    fn from(fault: LimitFault) -> AlgoError {
+        AlgoError::Limit(fault)
     }
 }

@@ -14,11 +14,15 @@ use Rattle.std.specs.Prelude.{
   ◌∷◌,
   take,
   Option,
+  Some,
+  None,
   if◌then◌else◌,
   position,
   slice_range,
 }
 use Rattle.std.specs.List.{position_or_len}
+use Rattle.syn_base.specs.Bytes.{Bytes}
+use Rattle.syn_base.specs.Name.{is_name}
 use Rattle.text_lines.specs.declared.Span.{Span}
 
 -- The byte ends a line.
@@ -65,6 +69,10 @@ with_letter b (c ∷ _) ws = if is_blank c then (b ∷ []) ∷ ws else with_byte
 abbrev pub words_of : List ℕ → List (List ℕ)
 words_of [] = []
 words_of (b ∷ bs) = if is_blank b then words_of bs else with_letter b bs (words_of bs)
+
+-- The name that a word is, if it is one.
+abbrev pub some_name : Bytes → Option Bytes
+some_name word = if is_name word then Some word else None
 
 -- The bytes of a span.
 abbrev pub text_at : List ℕ → Span → List ℕ

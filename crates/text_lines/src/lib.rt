@@ -3,18 +3,21 @@
 //!
 //! Lines end at a line feed; the last line may lack one. Tab, carriage return and space are blanks
 //! (`is_blank_byte`). From `#` on a line is comment. `line_end` finds the end of a line, `code` cuts off its
-//! comment, `foreign` finds a byte that may not stand there, and `Words` are its words.
+//! comment, `foreign` finds a byte that may not stand there, `Words` are its words, `read_name` reads a
+//! word as a name, and `check_limit` refuses a quantity above its bound.
 #![tactic(auto)]
 
+mod limit;
 mod words;
 
 ghost use Rattle.std.specs.Prelude.{◌≡◌, ◌+◌, ◌<◌, ◌≤◌, length, drop, map, None, Some, IfOk, All, position};
 ghost use Rattle.std.specs.List.{position_or_len};
 ghost use Rattle.text_lines.specs.Text.{is_feed, is_blank, is_foreign, is_hash, code_of, foreign_place, words_of, text_at, IsWithin};
 
+pub use limit::check_limit;
 use std::alloc::Global;
 use syn_base::OutOfMemory;
-pub use words::Words;
+pub use words::{Words, read_name};
 
 /// A part of a line, from a place up to another.
 #[derive(Clone, Copy, Drop)]

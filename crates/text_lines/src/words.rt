@@ -1,11 +1,13 @@
-//! The words of a line: `Words`, which the readers go through line by line.
-ghost use Rattle.std.specs.Prelude.{◌≡◌, ◌<◌, List, ℕ, map, length, slice_index_or, [], All, IfOk};
-ghost use Rattle.text_lines.specs.Text.{text_at, IsWithin, words_of};
+//! The words of a line: `Words`, which the readers go through line by line, and the name that a word is.
+ghost use Rattle.std.specs.Prelude.{◌≡◌, ◌<◌, List, ℕ, map, length, slice_index_or, [], All, IfOk, MatchOption, true, false};
+ghost use Rattle.std.specs.Str.{bytes_eq};
+ghost use Rattle.syn_base.specs.Name.{is_name};
+ghost use Rattle.text_lines.specs.Text.{text_at, IsWithin, words_of, some_name};
 
 use crate::{Span, spans};
 use std::alloc::Global;
 use std::marker::Model;
-use syn_base::OutOfMemory;
+use syn_base::{Name, NameFault, OutOfMemory};
 
 /// The words of a line, seen as their bytes.
 #[derive(Drop)]
@@ -50,5 +52,25 @@ impl<'a> Words<'a> {
     {
         let span = self.spans[k];
         &self.line[span.from..span.to]
+    }
+
+    /// Whether the line begins with this word.
+    pub fn begins(&self, key: &[u8]) -> bool
+        requires { 0 < length self.now }
+        ensures { result ≡ bytes_eq (slice_index_or self.now 0 []) key.now }
+    {
+        self.get(0) == key
+    }
+}
+
+/// The name that a word is, or none where it is no name.
+pub fn read_name(alloc: Global, word: &[u8]) -> Result<Option<Name>, OutOfMemory>
+    ensures name { IfOk result (λ name. name ≡ some_name word.now) }
+    ensures is { IfOk result (λ name. MatchOption name (is_name word.now ≡ false) (λ _. is_name word.now ≡ true)) }
+{
+    match Name::new(alloc, word) {
+        Ok(name) => Ok(Some(name)),
+        Err(NameFault::BadName) => Ok(None),
+        Err(NameFault::OutOfMemory) => Err(OutOfMemory),
     }
 }

@@ -1,0 +1,10 @@
+use Rattle.std.proofs.Common.{◌≡◌, ◌++◌, drop, length}
+use Rattle.schedule.specs.Acts.{acts_of}
+use Rattle.chart_picture.specs.Arrows.{links_to}
+use Rattle.chart_picture.proofs.arrows.append_links_to.Given as goal
+
+-- what is there, with the arrows to the decisions that are left, is the whole
+abbrev pub invariant-loop-reader : goal.invariant-loop-reader
+invariant-loop-reader l =
+    l.out.items ++ links_to l.sheet.flat.now.vertices (length l.sheet.archi.now.operators) l.sheet.scale l.transfer (acts_of (drop l.reader-index l.readers))
+    ≡ l.fn.out.items ++ links_to l.sheet.flat.now.vertices (length l.sheet.archi.now.operators) l.sheet.scale l.transfer (acts_of l.readers)

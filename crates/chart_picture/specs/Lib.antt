@@ -1,0 +1,5 @@
+pub mod Arrows
+pub mod Bars
+pub mod Frame
+pub mod Picture
+pub mod Truth
