@@ -1,0 +1,9 @@
+pub mod Below
+pub mod Late
+pub mod Least
+pub mod Loads
+pub mod Parts
+pub mod Renewed
+pub mod Sums
+pub mod Whole
+mod Worked

@@ -1,0 +1,63 @@
+-- The bound computed on worked graphs: by the longest chain, by shared work, by the work of one operator alone.
+use Rattle.std.proofs.Common.{◌≡◌, ℕ, false, List, [], ◌∷◌, Option, Some, None, refl, pos}
+use Rattle.flat_graph.specs.declared.vertex.Kind.TheVariants.{Get, Sensor, Set}
+use Rattle.flat_graph.specs.declared.vertex.Vertex.{Vertex}
+use Rattle.schedule.specs.Acts.{length_of}
+use Rattle.schedule.proofs.Examples.{entry, operation, source, vertex, plain_graph, bus_graph, bus_ticks, bus_schedule, speed_graph, speed_ticks, speed_schedule}
+use Rattle.lower_bound.specs.Bound.{least, needs, chain_to, longest_chain, may_work, shared_work, work_only, greatest_work, lower_bound}
+
+-- on one operator everything is its work: no schedule is better than one after the other
+abbrev plain_ticks : ℕ → ℕ → Option ℕ
+plain_ticks = entry ((Some 1 ∷ []) ∷ (Some 2 ∷ []) ∷ [])
+
+plain : (longest_chain 1 plain_ticks plain_graph.vertices ≡ 3) × (shared_work 1 plain_ticks 2 ≡ 3) × (greatest_work 1 plain_ticks 2 ≡ 3) × (lower_bound 1 plain_ticks plain_graph.vertices ≡ 3)
+plain = (refl, refl, refl, refl)
+
+-- The sensor, which stands on the first operator alone, either function, an actuator. All together last 23.
+bus : (longest_chain 2 bus_ticks bus_graph.vertices ≡ 12) × (shared_work 2 bus_ticks 5 ≡ 12) × (work_only 2 bus_ticks 5 0 ≡ 1) × (work_only 2 bus_ticks 5 1 ≡ 0)
+    × (lower_bound 2 bus_ticks bus_graph.vertices ≡ 12) × (length_of (bus_schedule 3 13) ≡ 14)
+bus = (refl, refl, refl, refl, refl, refl)
+
+-- A chain of eight: a sensor, four functions, a case, whose guard is a function's, a merge, an actuator. One actuator stands on the second operator alone.
+speed : (chain_to 2 speed_ticks speed_graph.vertices 8 ≡ 17) × (longest_chain 2 speed_ticks speed_graph.vertices ≡ 19) × (shared_work 2 speed_ticks 14 ≡ 14) × (work_only 2 speed_ticks 14 0 ≡ 6) × (work_only 2 speed_ticks 14 1 ≡ 5)
+    × (lower_bound 2 speed_ticks speed_graph.vertices ≡ 19) × (length_of speed_schedule ≡ 27)
+speed = (refl, refl, refl, refl, refl, refl, refl)
+
+-- A set half waits for its get half, which here ends after what it keeps: 9 against 2.
+abbrev kept : List Vertex
+kept = operation 115 (Sensor 0) [] [] (1 ∷ []) None ∷ operation 103 (Get (pos 7 ∷ [])) [] [] (1 ∷ []) (Some 2) ∷ operation 104 Set [] (source 0 ∷ []) [] (Some 1) ∷ []
+
+abbrev slow_halves : ℕ → ℕ → Option ℕ
+slow_halves = entry ((Some 2 ∷ []) ∷ (Some 11 ∷ Some 9 ∷ []) ∷ (None ∷ Some 5 ∷ []) ∷ [])
+
+halves : (needs 2 slow_halves kept 2 ≡ 0 ∷ 1 ∷ []) × (chain_to 2 slow_halves kept 1 ≡ 9) × (chain_to 2 slow_halves kept 2 ≡ 14) × (chain_to 2 slow_halves kept 0 ≡ 2)
+halves = (refl, refl, refl, refl)
+
+-- Of three operators the last may take only what takes no time on some operator, so the work is divided by two.
+abbrev uneven_ticks : ℕ → ℕ → Option ℕ
+uneven_ticks = entry ((Some 1 ∷ []) ∷ (Some 10 ∷ Some 7 ∷ []) ∷ (Some 9 ∷ Some 12 ∷ []) ∷ (None ∷ Some 3 ∷ []) ∷ (None ∷ Some 2 ∷ Some 0 ∷ []) ∷ [])
+
+uneven : (least 3 uneven_ticks 1 ≡ 7) × (may_work 3 uneven_ticks 5 2 ≡ false) × (longest_chain 3 uneven_ticks bus_graph.vertices ≡ 11) × (shared_work 3 uneven_ticks 5 ≡ 10)
+    × (work_only 3 uneven_ticks 5 0 ≡ 1) × (work_only 3 uneven_ticks 5 1 ≡ 3) × (work_only 3 uneven_ticks 5 2 ≡ 0) × (lower_bound 3 uneven_ticks bus_graph.vertices ≡ 11)
+uneven = (refl, refl, refl, refl, refl, refl, refl, refl)
+
+-- Both functions stand on the second operator alone: one waits for the other.
+abbrev bound_ticks : ℕ → ℕ → Option ℕ
+bound_ticks = entry ((Some 4 ∷ []) ∷ (None ∷ Some 6 ∷ []) ∷ (None ∷ Some 7 ∷ []) ∷ (Some 1 ∷ Some 1 ∷ []) ∷ (Some 1 ∷ Some 1 ∷ []) ∷ [])
+
+bound : (longest_chain 2 bound_ticks bus_graph.vertices ≡ 12) × (shared_work 2 bound_ticks 5 ≡ 10) × (work_only 2 bound_ticks 5 0 ≡ 4) × (work_only 2 bound_ticks 5 1 ≡ 13) × (lower_bound 2 bound_ticks bus_graph.vertices ≡ 13)
+bound = (refl, refl, refl, refl, refl)
+
+-- Three operations on two operators, none of which depends on another: 11 ticks are divided by two, and rounded up.
+abbrev three : List Vertex
+three = vertex 97 (Sensor 0) [] (1 ∷ []) ∷ vertex 98 (Sensor 1) [] (1 ∷ []) ∷ vertex 99 (Sensor 2) [] (1 ∷ []) ∷ []
+
+abbrev three_ticks : ℕ → ℕ → Option ℕ
+three_ticks = entry ((Some 3 ∷ Some 3 ∷ []) ∷ (Some 4 ∷ Some 5 ∷ []) ∷ (Some 6 ∷ Some 4 ∷ []) ∷ [])
+
+shared : (longest_chain 2 three_ticks three ≡ 4) × (shared_work 2 three_ticks 3 ≡ 6) × (greatest_work 2 three_ticks 3 ≡ 0) × (lower_bound 2 three_ticks three ≡ 6)
+shared = (refl, refl, refl, refl)
+
+-- nothing takes time
+nothing : (shared_work 2 three_ticks 0 ≡ 0) × (lower_bound 2 three_ticks [] ≡ 0) × (lower_bound 2 (λ v o. Some 0) three ≡ 0)
+nothing = (refl, refl, refl)

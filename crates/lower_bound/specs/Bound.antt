@@ -1,0 +1,103 @@
+-- A bound below the length of every schedule.
+use Rattle.std.specs.Prelude.{
+  ℕ,
+  zero,
+  suc,
+  ◌+◌,
+  ◌-◌,
+  ◌/◌,
+  Bool,
+  ◌&&◌,
+  ◌||◌,
+  nat_eq,
+  nat_lt,
+  List,
+  [],
+  ◌∷◌,
+  length,
+  map,
+  max,
+  Option,
+  is_none,
+  is_some,
+  unwrap_or,
+  slice_get,
+  sum_by,
+  count_by,
+  filter,
+}
+use Rattle.std.specs.List.{list_all, list_any, range_with_len}
+use Rattle.flat_graph.specs.declared.vertex.Vertex.{Vertex}
+use Rattle.flat_graph.specs.Graph.{with_vertex}
+use Rattle.flat_graph.specs.Order.{depends_on}
+use Rattle.durations.specs.Table.{least_of}
+
+abbrev pub greatest : List ℕ → ℕ
+greatest [] = 0
+greatest (n ∷ ns) = max n (greatest ns)
+
+-- the greatest of so many parts that are as equal as can be
+abbrev pub divided_up : ℕ → ℕ → ℕ
+divided_up n parts = (n + (parts - 1)) / parts
+
+-- how long each operation lasts on each of this many operators, where it may stand
+module _ (operators : ℕ) (ticks : ℕ → ℕ → Option ℕ) where
+  abbrev pub all_operators : List ℕ
+  all_operators = range_with_len 0 operators
+
+  -- the least duration of an operation
+  abbrev pub least : ℕ → ℕ
+  least v = unwrap_or (least_of (map (ticks v) all_operators)) 0
+
+  -- the operation takes time wherever it stands, and it may stand on this operator
+  abbrev pub takes_time_on : ℕ → ℕ → Bool
+  takes_time_on o v = nat_lt 0 (least v) && is_some (ticks v o)
+
+  -- the operation may stand on no other operator
+  abbrev pub stands_only : ℕ → ℕ → Bool
+  stands_only o v = list_all (λ p. nat_eq p o || is_none (ticks v p)) all_operators
+
+  module _ (operations : ℕ) where
+    abbrev pub all_operations : List ℕ
+    all_operations = range_with_len 0 operations
+
+    -- an operation that takes time wherever it stands may stand on this operator
+    abbrev pub may_work : ℕ → Bool
+    may_work o = list_any (takes_time_on o) all_operations
+
+    -- the least durations of all operations, divided among the operators that may work
+    abbrev pub shared_work : ℕ
+    shared_work = divided_up (sum_by least all_operations) (max (count_by may_work all_operators) 1)
+
+    -- the durations of the operations that may stand on this operator alone
+    abbrev pub work_only : ℕ → ℕ
+    work_only o = sum_by least (filter (stands_only o) all_operations)
+
+    -- the greatest of all operators
+    abbrev pub greatest_work : ℕ
+    greatest_work = greatest (map work_only all_operators)
+
+  module _ (vertices : List Vertex) where
+    -- the operations that an operation depends on, of a set half also its get half
+    abbrev pub needs : ℕ → List ℕ
+    needs v = with_vertex (slice_get vertices v) [] depends_on
+
+    -- when an operation ends that starts at the greatest of these dates of those that it needs
+    abbrev pub end_after : (ℕ → ℕ) → ℕ → ℕ
+    end_after dates v = least v + greatest (map dates (needs v))
+
+    -- The longest time up to the end of an operation, by least durations, along operations of which each depends on
+    -- the one before. At most this many are followed.
+    abbrev pub chain_within : ℕ → ℕ → ℕ
+    chain_within zero v = 0
+    chain_within (suc n) v = end_after (chain_within n) v
+
+    abbrev pub chain_to : ℕ → ℕ
+    chain_to v = chain_within (length vertices) v
+
+    abbrev pub longest_chain : ℕ
+    longest_chain = greatest (map chain_to (all_operations (length vertices)))
+
+    -- the longest chain, the work that is shared, and the greatest work that one operator alone may do
+    abbrev pub lower_bound : ℕ
+    lower_bound = max longest_chain (max (shared_work (length vertices)) (greatest_work (length vertices)))

@@ -1,0 +1,12 @@
+//! The law of the bound for the pressure run: no run is shorter than the bound.
+//!
+//! Whoever reports on a schedule that `pressure_heuristic` made cites it.
+#![tactic(auto)]
+
+ghost use Rattle.lower_bound_laws.specs.Runs.{NoRunIsShorter};
+
+/// No pressure run is shorter than the bound, since it is a valid schedule.
+#[tactic(auto, using(crate::proofs::Runs::no_run_is_shorter))]
+pub fn no_run_is_shorter()
+    ensures { NoRunIsShorter }
+{}
