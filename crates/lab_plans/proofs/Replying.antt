@@ -1,5 +1,5 @@
 -- What was carried out of the plan of the words replies.
-use Rattle.std.proofs.Common.{◌≡◌, ◌∙◌, Option, Some, None, Result, Ok, Err, inl, inr, refl, sym, ap, subst}
+use Rattle.std.proofs.Common.{◌≡◌, Option, Some, None, Result, Ok, Err, inl, inr, refl, sym, ap, subst}
 use Rattle.std.specs.Prelude.{IsOkAnd, IsSomeAnd, false}
 use Rattle.syn_base.specs.Bytes.{Bytes}
 use Rattle.outside.specs.Faults.{Rose}

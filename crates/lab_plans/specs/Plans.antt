@@ -1,9 +1,8 @@
 -- The plan of each command: which files it reads, in which order it is refused, and what it asks for.
-use Rattle.std.specs.Prelude.{◌*◌, ℕ, List, length, sum, Option, Some, None}
+use Rattle.std.specs.Prelude.{◌*◌, ℕ, length, sum, Option, Some, None}
 use Rattle.syn_base.specs.Bytes.{Bytes}
 use Rattle.syn_base.specs.Rows.{Reactions}
 use Rattle.outside.specs.declared.file.File.TheVariants.{Durations}
-use Rattle.algo_defs.specs.declared.definition.Defs.{Defs}
 use Rattle.algo_tree.specs.Tree.{Vertex}
 use Rattle.algo_tree.specs.Ends.{actuator_lengths}
 use Rattle.archi_defs.specs.Text.{Described}

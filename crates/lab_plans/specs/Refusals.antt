@@ -1,5 +1,5 @@
 -- What no plan refuses for: want of memory is told by what is carried out, and never by what texts and words say.
-use Rattle.std.specs.Prelude.{◌≡◌, Option, Result, Err}
+use Rattle.std.specs.Prelude.{◌≡◌, Option, Err}
 use Rattle.schedule.specs.declared.decision.Schedule.{Schedule}
 use Rattle.command_plan.specs.Plan.{RefusesOnly}
 use Rattle.command_status.specs.Status.{Refusal, wants_memory}

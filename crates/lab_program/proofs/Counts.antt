@@ -12,7 +12,7 @@ use Rattle.syn_base.specs.Integer.{number_of}
 use Rattle.syn_base.specs.Name.{is_digit}
 use Rattle.command_words.specs.Command.{number_up_to}
 use Rattle.lab_words.specs.App.{the_app}
-use Rattle.lab_words.specs.Command.{Command, Effort, Subject, Values, graph, plot, command_by, command_for, command_in, command_of, dates_by, dates_given, effort_given, schedule_by, schedule_given, subject_of, values_of}
+use Rattle.lab_words.specs.Command.{Command, Effort, Subject, Values, graph, plot, command_for, command_in, command_of, dates_by, effort_given, schedule_by, subject_of, values_of}
 use Rattle.lab_program.specs.Counts.{AreCounted}
 
 either : (b : Bool) (x y : Option Command) → AreCounted x → AreCounted y → AreCounted (if b then x else y)

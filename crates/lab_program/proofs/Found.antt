@@ -1,5 +1,5 @@
 -- What is made of a compilation: programs and dates of a schedule that was found.
-use Rattle.std.proofs.Common.{◌≡◌, ◌∙◌, ℕ, List, Option, Some, None, Result, Ok, Err, inl, inr, refl, sym, ap, subst}
+use Rattle.std.proofs.Common.{◌≡◌, ℕ, List, Option, None, Result, Ok, Err, inl, inr, refl, sym, ap, subst}
 use Rattle.std.specs.Prelude.{Vec}
 use Rattle.syn_base.specs.Bytes.{Bytes}
 use Rattle.syn_base.specs.declared.limits.LimitFault.{LimitFault}
@@ -7,14 +7,12 @@ use Rattle.schedule.specs.declared.decision.Schedule.{Schedule}
 use Rattle.actual_defs.specs.declared.fault.ActualError.{ActualError}
 use Rattle.actual_defs.specs.declared.fault.ActualError.TheVariants as error
 use Rattle.actual_durations.specs.Answers as durations
-use Rattle.command_plan.specs.Ending.{Ending}
-use Rattle.command_status.specs.Status.{Refusal, above, ending_of, of_durations, status_of_durations}
+use Rattle.command_status.specs.Status.{ending_of, status_of_durations}
 use Rattle.command_status.specs.declared.status.Status.{Status}
-use Rattle.executive_program.specs.declared.program.Program.{Program}
 use Rattle.lab_plans.specs.Asked.{Asked, IsFoundFor, Problem}
 use Rattle.lab_plans.specs.Answers.{answer, dates_by, limit, within}
 use Rattle.lab_program.specs.Found.{Builds}
-use Rattle.lab_program.specs.Texts.{Gives, GivesOfFound, Is, WantsMemory}
+use Rattle.lab_program.specs.Texts.{Gives, GivesOfFound, Is}
 
 module _ {A : Type 0} where
   -- the program of a schedule was refused, or memory ran out

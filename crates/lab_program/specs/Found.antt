@@ -1,5 +1,5 @@
 -- What is made of a compilation.
-use Rattle.std.specs.Prelude.{◌≡◌, ◌⊎◌, length, Some, None, Result, Ok, Err}
+use Rattle.std.specs.Prelude.{◌≡◌, ◌⊎◌, Some, None, Result, Ok, Err}
 use Rattle.syn_base.specs.declared.limits.LimitFault.{LimitFault}
 use Rattle.schedule.specs.declared.decision.Schedule.{Schedule}
 use Rattle.executive_program.specs.declared.program.Program.{Program}

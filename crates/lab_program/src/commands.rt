@@ -1,6 +1,8 @@
 //! The commands, one a module, and which function makes the text of which.
+ghost use Rattle.std.specs.Prelude.{Some};
 ghost use Rattle.command_status.specs.Status.{ending_of};
 ghost use Rattle.lab_plans.specs.Plans.{plan_for};
+ghost use Rattle.lab_plans.specs.Replies.{LeavesUnread};
 ghost use Rattle.lab_plans.specs.Run.{Ran};
 ghost use Rattle.lab_words.specs.View.{view_of};
 ghost use Rattle.outside.specs.Shelf.{Stays};
@@ -32,6 +34,7 @@ pub fn carry_out<S: Shelf, K: Sink>(
     ensures ran { Ran (plan_for (view_of command.now)) (S.held shelf.old) (S.held shelf.new)
         (K.sunk out.old) (K.sunk out.new) (ending_of result) }
     ensures stays { Stays (S.held shelf.old) (S.held shelf.new) }
+    ensures unread { LeavesUnread (Some (view_of command.now)) (S.held shelf.old) (S.held shelf.new) }
 {
     let made = command_text(alloc, command, shelf);
     write_text(out, made)

@@ -33,11 +33,11 @@ pub fn find_schedule(
     // By this call the proof knows that the architecture is valid, which the law of durations asks for.
     let _operators = archi.operators();
     durations_fit();
-    let effort = schedule_search::Effort {
+    let tried = schedule_search::Effort {
         tries: effort.tries,
         seed: u64::from(effort.seed),
     };
-    search(alloc, flat, archi, &compilation.durations, effort)
+    search(alloc, flat, archi, &compilation.durations, tried)
 }
 
 /// The program of a schedule, or the first limit that refuses it.

@@ -9,7 +9,6 @@ ghost use Rattle.lab_plans.specs.Asked.{of_schedule};
 ghost use Rattle.lab_plans.specs.Plans.{schedule_plan};
 ghost use Rattle.lab_words.specs.Command.{Effort as Tried, code};
 ghost use Rattle.lab_words.specs.View.{effort_view, subject_view};
-ghost use Rattle.macro_code.specs.Text.{macro_code};
 ghost use Rattle.outside.specs.Shelf.{Stays};
 ghost use Rattle.report_text.specs.Text.{report_text};
 ghost use Rattle.schedule.specs.Valid.{is_valid};

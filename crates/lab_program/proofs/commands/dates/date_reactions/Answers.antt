@@ -1,4 +1,4 @@
-use Rattle.std.proofs.Common.{◌≡◌, ◌∙◌, ℕ, List, Result, Ok, Err, ap, inl, inr, refl, replicate, subst, sym}
+use Rattle.std.proofs.Common.{◌∙◌, ℕ, List, Result, Err, ap, inl, refl, replicate, subst, sym}
 use Rattle.std.specs.Prelude.{Vec}
 use Rattle.std.proofs.lemmas.Result.{err_from_is_err_and}
 use Rattle.schedule.specs.Acts.{acts}

@@ -1,5 +1,5 @@
 use Rattle.std.proofs.Common.{◌≡◌, ◌∙◌, ◌*◌, ℕ, length, sum, sym, ap, inl, refl, subst}
-use Rattle.std.specs.Prelude.{Ok, Err, Some, None, Option}
+use Rattle.std.specs.Prelude.{Ok, Some, None, Option}
 use Rattle.std.proofs.lemmas.Result.{err_from_is_err_and}
 use Rattle.syn_base.specs.declared.limits.LimitFault.{LimitFault}
 use Rattle.algo_tree.specs.Ends.{actuator_lengths}
