@@ -1,0 +1,52 @@
+//! Places of tables that may not be there: what is read past the end is the greatest number, and what
+//! is written there is lost. So the untrusted part of the search is safe whatever it computes.
+
+/// What stands where there is no operation and no operator.
+pub(crate) const NOBODY: u32 = u32::MAX;
+
+/// The date of what does not happen.
+pub(crate) const NEVER: u64 = u64::MAX;
+
+/// The number at a place, `NOBODY` where there is none.
+pub(crate) fn number_at(numbers: &[u32], place: u32) -> u32 {
+    match numbers.get(place as usize) {
+        Some(number) => *number,
+        None => NOBODY,
+    }
+}
+
+/// The date at a place, `NEVER` where there is none.
+pub(crate) fn date_at(dates: &[u64], place: u32) -> u64 {
+    match dates.get(place as usize) {
+        Some(date) => *date,
+        None => NEVER,
+    }
+}
+
+/// Writes a number at a place, if there is one.
+pub(crate) fn put_number(numbers: &mut [u32], place: u32, number: u32) {
+    if let Some(it) = numbers.get_mut(place as usize) {
+        *it = number;
+    }
+}
+
+/// Writes a date at a place, if there is one.
+pub(crate) fn put_date(dates: &mut [u64], place: u32, date: u64) {
+    if let Some(it) = dates.get_mut(place as usize) {
+        *it = date;
+    }
+}
+
+/// Writes the same date at each place.
+pub(crate) fn put_dates(dates: &mut [u64], date: u64) {
+    for it in dates.iter_mut() {
+        *it = date;
+    }
+}
+
+/// Copies numbers over as many others.
+pub(crate) fn copy_numbers(numbers: &mut [u32], others: &[u32]) {
+    if numbers.len() == others.len() {
+        numbers.copy_from_slice(others);
+    }
+}

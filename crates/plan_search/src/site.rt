@@ -1,0 +1,30 @@
+//! What a search is asked for: what is to be scheduled, on what, and how long to look.
+use archi_graph::Archi;
+use durations::Durations;
+use flat_graph::Flat;
+use route_table::Routes;
+use std::alloc::Global;
+
+/// A flat graph, an architecture with its routes, how long operations last, and where memory is taken.
+#[derive(Clone, Copy)]
+pub struct Site<'a> {
+    pub alloc: Global,
+    pub flat: &'a Flat,
+    pub archi: &'a Archi,
+    pub durations: &'a Durations,
+    pub routes: &'a Routes,
+}
+
+/// How long to search: so many plans are tried, by the chances of a seed.
+#[derive(Clone, Copy, Debug, PartialEq, Eq)]
+pub struct Effort {
+    pub tries: u32,
+    pub seed: u64,
+}
+
+/// An operation on an operator. A plan is a list of these, in the order in which they are placed.
+#[derive(Clone, Copy, Debug, PartialEq, Eq)]
+pub struct Stand {
+    pub op: u32,
+    pub operator: u32,
+}

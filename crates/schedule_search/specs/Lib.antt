@@ -1,0 +1,3 @@
+pub mod Found
+pub mod Drafts
+pub mod Alone
