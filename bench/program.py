@@ -6,8 +6,9 @@ import sys
 TOP = os.path.dirname(os.path.dirname(os.path.abspath(__file__)))
 
 
-def built_program():
-    program = os.path.join(TOP, "crates", "syndex", "out", "syndex")
+def built_program(named=None):
+    """The path of the program: the one that is named, or else the one that ./build makes."""
+    program = named or os.path.join(TOP, "crates", "syndex", "out", "syndex")
     if not os.access(program, os.X_OK):
         sys.exit("bench: the program is not built: run ./build first")
     return program

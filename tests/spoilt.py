@@ -4,7 +4,9 @@ the five kinds: an algorithm by `check`, an architecture by `check`, macro-code 
 durations by `dates`. The status, the line and the output have to be the same. Prints how often each cause
 came, and every text on which both differ; ends with status 1 where there is one.
 
-    tests/spoilt.py [COUNT [SEED]]     COUNT texts of each kind, 10,000 where nothing is said"""
+    tests/spoilt.py [COUNT [SEED [PROGRAM]]]     COUNT texts of each kind, 10,000 where nothing is said
+
+The program is the one that ./build makes, where no other one is named."""
 import collections
 import os
 import random
@@ -66,8 +68,8 @@ def changed(text, rng):
 class Program:
     """The built program over files of a folder."""
 
-    def __init__(self, room):
-        self.program, self.room = built_program(), room
+    def __init__(self, room, named=None):
+        self.program, self.room = built_program(named), room
 
     def answer(self, words, files):
         name, *rest = words
@@ -108,9 +110,10 @@ def compare(program, files, kind, count, rng):
 
 def main(words):
     count, seed = int(words[0]) if words else 10_000, int(words[1]) if words[1:] else 1
+    named = words[2] if words[2:] else None
     files = Script(FOLDER).files
     with tempfile.TemporaryDirectory() as room:
-        program = Program(room)
+        program = Program(room, named)
         return 1 if sum(compare(program, files, kind, count, random.Random(seed)) for kind in KINDS) else 0
 
 

@@ -4,11 +4,13 @@ over texts of the script of `crates/worked_rows`: the answer has to be the right
 nothing written; by `run` and `exec`, which write window by window, with the first windows of what is right.
 Then each start of a thread fails in turn, and then all of them: the answer has to be the right one, since the
 other threads drive all groups. Prints a line a command with the number of its calls; ends with status 1 where
-an answer is wrong, or where no start of a thread was seen.
+an answer is wrong, or where no call for memory or no start of a thread was seen.
 
 The program is the one that ./build makes. A small library in C, compiled with `cc` and loaded before the C
 library, lets the Nth call of a kind fail: `malloc`, `calloc`, `realloc`, `aligned_alloc`, `posix_memalign`
-and `mmap` ask for memory, `pthread_create` starts a thread. What the C library asks of itself is not seen."""
+and `mmap` ask for memory, `pthread_create` starts a thread. What the C library asks of itself is not seen. The
+unproved program of `./build --quick` has an allocator of its own: over it no call for memory is seen, and the
+script ends with status 1."""
 import os
 import subprocess
 import sys
@@ -184,7 +186,8 @@ def rows(room):
         files = {**next(call for call in script.calls if call.shown == shown).files, **own}
         for words in all_words:
             name, *rest = words.split()
-            yield [name, *(written(room, word, files.get(word)) for word in rest)]
+            # The script has files whose names look like options; here these are options.
+            yield [name, *(it if it.startswith("-") else written(room, it, files.get(it)) for it in rest)]
 
 
 class Runs:
@@ -232,7 +235,8 @@ def shown(words):
 
 
 def tried(runs, words):
-    """How many answers are wrong, and how many threads were started, where each call of the program fails in turn."""
+    """How many answers are wrong where each call of the program fails in turn, how many calls for memory it made,
+    and how many threads it started."""
     right, calls, starts = runs.answer(words)
     wants = wrong = 0
     for number in range(1, calls + 1):
@@ -249,18 +253,18 @@ def tried(runs, words):
             print(f"WRONG where {'each' if number < 0 else number} start of a thread fails: {shown(words)}: {got}")
     print(f"{shown(words)}: status {right[0]}, {calls} calls, {wants} want memory, {calls - wants} answer as ever;"
           f" {starts} threads", flush=True)
-    return wrong, starts
+    return wrong, calls, starts
 
 
 def main():
-    wrong = threads = 0
+    wrong = calls = threads = 0
     with tempfile.TemporaryDirectory() as room:
         runs = Runs(room)
         for words in [*commands(room), *rows(room)]:
-            bad, starts = tried(runs, words)
-            wrong, threads = wrong + bad, threads + starts
-    print(f"{wrong} wrong answers, {threads} starts of threads")
-    return 1 if wrong or not threads else 0
+            bad, asked, starts = tried(runs, words)
+            wrong, calls, threads = wrong + bad, calls + asked, threads + starts
+    print(f"{wrong} wrong answers, {calls} calls for memory, {threads} starts of threads")
+    return 1 if wrong or not calls or not threads else 0
 
 
 if __name__ == "__main__":

@@ -1,5 +1,5 @@
 -- How what was returned stands to what is defined: they are the same, unless memory ran out.
-use Rattle.std.specs.Prelude.{◌≡◌, ℕ, List, [], ◌∷◌, ◌++◌, Option, Result, Ok, Err}
+use Rattle.std.specs.Prelude.{◌≡◌, ℕ, List, [], ◌∷◌, ◌++◌, Result, Ok, Err}
 use Rattle.archi_defs.specs.declared.text.ArchiText.{ArchiText}
 use Rattle.archi_defs.specs.declared.fault.ArchiCause.{ArchiCause}
 use Rattle.archi_defs.specs.declared.fault.ArchiError.{ArchiError}
@@ -27,13 +27,6 @@ abbrev pub IsStop : ArchiError → ArchiError → Type 0
 IsStop (Refused f) asked = asked ≡ Refused f
 IsStop (Limit f) asked = asked ≡ Limit f
 IsStop OutOfMemory asked = Unit {0}
-
--- what there is, unless memory ran out
-abbrev pub GivesSome : {A : Type 0} → Result (Option A) ArchiError → Option A → Type 0
-GivesSome (Ok x) defined = defined ≡ x
-GivesSome (Err OutOfMemory) defined = Unit {0}
-GivesSome (Err (Refused f)) defined = ⊥
-GivesSome (Err (Limit f)) defined = ⊥
 
 -- this value, unless memory ran out
 abbrev pub Has : {A : Type 0} → Result A ArchiError → A → Type 0

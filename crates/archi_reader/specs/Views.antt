@@ -1,16 +1,10 @@
 -- What contracts see of a word and of the reader, and what the reader keeps.
-use Rattle.std.specs.Prelude.{◌≡◌, ℕ, ◌≤◌, true, ◌&&◌, nat_lt, nat_le, Bool, length, Option, Some, None, if◌then◌else◌}
+use Rattle.std.specs.Prelude.{◌≡◌, ℕ, ◌≤◌, true, ◌&&◌, nat_lt, nat_le, Bool, length}
 use Rattle.std.specs.List.{list_all}
-use Rattle.syn_base.specs.Name.{is_name}
 use Rattle.archi_graph.specs.declared.medium.Medium.{Medium}
 use Rattle.archi_graph.specs.Archi.{ascends_from, are_distinct, is_depth, names_of, stands_in_all}
-use Rattle.syn_base.specs.Bytes.{Bytes}
 use Rattle.archi_defs.specs.Text.{Reading, depth_or_one}
 use Rattle.archi_reader.specs.declared.reader.Reader.{Reader}
-
--- the name that a word is
-abbrev pub some_name : Bytes → Option Bytes
-some_name w = if is_name w then Some w else None
 
 -- what the reader has read
 abbrev pub reading : Reader → Reading

@@ -6,7 +6,6 @@ ghost use Rattle.syn_base.specs.declared.limits.LimitKind.TheVariants.{Operators
 ghost use Rattle.archi_reader.specs.Given.{Adds, Has};
 ghost use Rattle.archi_reader.specs.Durations.{is_given, AreGiven};
 
-use crate::fault::push;
 use archi_defs::{ArchiError, DurationLine};
 use name_table::{Names, TableKey};
 use std::alloc::Global;
@@ -44,7 +43,7 @@ impl<'a> Durations<'a> {
     {
         let mut given = Vec::new(alloc);
         for _operator in 0..MOST_OPERATORS {
-            push(&mut given, Names::new(alloc, key))?;
+            given.push(Names::new(alloc, key))?;
         }
         Ok(Durations {
             lines: Vec::new(alloc),
@@ -77,7 +76,7 @@ impl<'a> Durations<'a> {
             operator,
             ticks,
         };
-        push(&mut self.lines, line)?;
+        self.lines.push(line)?;
         match self.given[operator as usize].add(word) {
             Ok(_) => Ok(()),
             Err(_) => {

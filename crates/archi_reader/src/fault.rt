@@ -1,14 +1,11 @@
 //! The refusals of a line, which `reader` and `whole` return.
 ghost use Rattle.std.specs.Prelude.{◌≡◌};
-ghost use Rattle.archi_reader.specs.Given.{IsStop, stop, Adds};
-ghost use Rattle.syn_base.specs.Limits.{bound_of};
-ghost use Rattle.archi_defs.specs.Text.{is_above};
+ghost use Rattle.archi_reader.specs.Given.{IsStop, stop};
 ghost use Rattle.archi_defs.specs.declared.fault.ArchiCause.TheVariants.{NotText, BadLine, BadName, BadNumber, UnknownName, DuplicateName};
-ghost use Rattle.archi_defs.specs.declared.fault.ArchiError.TheVariants.{Limit};
 
 use archi_defs::{ArchiCause, ArchiError, ArchiFault};
 use std::alloc::Global;
-use syn_base::{Items, LimitFault, LimitKind};
+use syn_base::Items;
 
 /// The refusal at a line.
 pub fn refusal(line: u32, cause: ArchiCause) -> ArchiError
@@ -68,33 +65,5 @@ pub fn duplicate(alloc: Global, line: u32, word: &[u8]) -> ArchiError
     match Vec::from_slice(alloc, word) {
         Ok(word) => refusal(line, ArchiCause::DuplicateName(Items::new(word))),
         Err(_) => ArchiError::OutOfMemory,
-    }
-}
-
-/// A quantity is above its bound.
-pub fn is_above(which: LimitKind, count: u128) -> bool
-    ensures { result ≡ is_above which count }
-{
-    count > which.bound()
-}
-
-/// The refusal of a quantity above its bound.
-pub fn above(which: LimitKind, count: u128) -> ArchiError
-    ensures { result ≡ Limit (record { which = which; count = count; bound = bound_of which }) }
-{
-    ArchiError::Limit(LimitFault {
-        which,
-        count,
-        bound: which.bound(),
-    })
-}
-
-/// Adds an element at the end.
-pub fn push<T: Drop>(items: &mut Vec<T>, value: T) -> Result<(), ArchiError>
-    ensures { Adds result items.old.items value items.new.items }
-{
-    match items.push(value) {
-        Ok(()) => Ok(()),
-        Err(_) => Err(ArchiError::OutOfMemory),
     }
 }

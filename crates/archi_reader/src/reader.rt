@@ -7,18 +7,16 @@ ghost use Rattle.archi_reader.specs.Given.{Steps, Gives, MakesReader};
 ghost use Rattle.archi_reader.specs.Views.{reading, IsSound};
 
 use crate::durations::Durations;
-use crate::fault::{
-    above, bad_line, bad_name, bad_number, duplicate, is_above, not_text, push, unknown,
-};
+use crate::fault::{bad_line, bad_name, bad_number, duplicate, not_text, unknown};
 use crate::names::{is_taken, medium_at, operator_at};
 use crate::stands::{has_stand, with_stand};
-use crate::word::{begins, line_words, read_depth, read_name, read_up_to, read_version};
+use crate::word::{read_depth, read_up_to, read_version};
 use archi_defs::{ArchiError, ArchiText};
 use archi_graph::Medium;
 use name_table::TableKey;
 use std::alloc::Global;
 use syn_base::{Items, LimitKind, Name};
-use text_lines::Words;
+use text_lines::{Words, check_limit, read_name};
 
 /// The most ticks of a transfer, fixed and for each element.
 const MOST_TRANSFER_TICKS: u32 = 1_000_000;
@@ -64,7 +62,7 @@ impl<'a> Reader<'a> {
         if words.len() != 2 {
             return Err(bad_line(number));
         }
-        if !begins(words, b"architecture") {
+        if !words.begins(b"architecture") {
             return Err(bad_line(number));
         }
         let Some(version) = read_version(words.get(1)) else {
@@ -89,10 +87,8 @@ impl<'a> Reader<'a> {
             return Err(duplicate(alloc, number, word));
         }
         let count = self.operators.len() as u128 + 1;
-        if is_above(LimitKind::Operators, count) {
-            return Err(above(LimitKind::Operators, count));
-        }
-        push(&mut self.operators, name)?;
+        check_limit(LimitKind::Operators, count)?;
+        self.operators.push(name)?;
         Ok(())
     }
 
@@ -121,9 +117,7 @@ impl<'a> Reader<'a> {
             return Err(duplicate(alloc, number, word));
         }
         let count = self.media.len() as u128 + 1;
-        if is_above(LimitKind::Media, count) {
-            return Err(above(LimitKind::Media, count));
-        }
+        check_limit(LimitKind::Media, count)?;
         let medium = Medium {
             name,
             multi,
@@ -131,8 +125,8 @@ impl<'a> Reader<'a> {
             per,
             stands: Items::new(Vec::new(alloc)),
         };
-        push(&mut self.media, medium)?;
-        push(&mut self.lines, number)?;
+        self.media.push(medium)?;
+        self.lines.push(number)?;
         Ok(())
     }
 
@@ -152,9 +146,7 @@ impl<'a> Reader<'a> {
             return Err(duplicate(alloc, number, word));
         }
         let count = self.connections as u128 + 1;
-        if is_above(LimitKind::Connections, count) {
-            return Err(above(LimitKind::Connections, count));
-        }
+        check_limit(LimitKind::Connections, count)?;
         let stands = with_stand(alloc, operator, self.media[medium].stands.as_slice())?;
         self.media[medium].stands = stands;
         self.connections += 1;
@@ -249,19 +241,19 @@ impl<'a> Reader<'a> {
         requires sound { IsSound (reading self.old) }
         ensures { Steps result (reading self.new) (described_line (reading self.old) number version words.now) }
     {
-        if begins(words, b"operator") {
+        if words.begins(b"operator") {
             return self.operator_line(alloc, number, words);
         }
-        if begins(words, b"medium") {
+        if words.begins(b"medium") {
             return self.medium_line(alloc, number, words);
         }
-        if begins(words, b"connect") {
+        if words.begins(b"connect") {
             return self.connect_line(alloc, number, words);
         }
-        if begins(words, b"duration") {
+        if words.begins(b"duration") {
             return self.duration_line(alloc, number, words);
         }
-        if begins(words, b"depth") {
+        if words.begins(b"depth") {
             return self.depth_line(alloc, number, version, words);
         }
         Err(bad_line(number))
@@ -280,7 +272,7 @@ impl<'a> Reader<'a> {
         if let Some(place) = text_lines::foreign(line) {
             return Err(not_text(number, place));
         }
-        let words = line_words(alloc, text_lines::code(line))?;
+        let words = Words::of(alloc, text_lines::code(line))?;
         if words.len() == 0 {
             return Ok(());
         }

@@ -44,11 +44,7 @@ fn place_for(operator: u32, stands: &[u32]) -> usize
 pub fn with_stand(alloc: Global, operator: u32, stands: &[u32]) -> Result<Items<u32>, ArchiError>
     ensures { Has result (with_stand operator stands.now) }
 {
-    let Ok(mut more) = Vec::from_slice(alloc, stands) else {
-        return Err(ArchiError::OutOfMemory);
-    };
-    match more.insert(place_for(operator, stands), operator) {
-        Ok(()) => Ok(Items::new(more)),
-        Err(_) => Err(ArchiError::OutOfMemory),
-    }
+    let mut more = Vec::from_slice(alloc, stands)?;
+    more.insert(place_for(operator, stands), operator)?;
+    Ok(Items::new(more))
 }

@@ -84,10 +84,7 @@ impl<'a> Reader<'a> {
         requires { IsSound (reading self) }
         ensures { Gives result (whole (reading self.entry) number) }
     {
-        let version = match self.check_whole(alloc, number) {
-            Ok(version) => version,
-            Err(fault) => return Err(fault),
-        };
+        let version = self.check_whole(alloc, number)?;
         let depth = self.depth.unwrap_or(1);
         Ok(ArchiText {
             version,

@@ -15,7 +15,7 @@ invariant_of-self-in-Ok c =
     let d : DurationLine = record { def = c.args.def; operator = c.args.operator; ticks = c.args.ticks } in
     let at = table_at tables c.args.operator c.index_mut.result.now c.self.invariant.sixteen c.requires.known c.index_mut.ensures.value in
     let added = c.in-Ok.ensures in
-    subst (λ (lines : List DurationLine). AreGiven (slice_set tables c.args.operator c.add.new.self) lines) (sym c.in_ok-push.ensures)
+    subst (λ (lines : List DurationLine). AreGiven (slice_set tables c.args.operator c.add.new.self) lines) (sym c.in_ok-push.ensures.items)
     (given_more tables c.self.inside.lines.items w d c.in-Ok.field-0 c.add.new.self c.self.invariant c.requires.known c.requires.same
     (added.new ∙ ap (λ (t : List Bytes). not (list_any (bytes_eq w) t)) at)
     (added.after ∙ ap (λ (t : List Bytes). if c.in-Ok.field-0 then t ++ w ∷ [] else t) at))
