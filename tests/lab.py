@@ -1,10 +1,11 @@
 #!/usr/bin/env python3
 """Whether other tools take what `syndex_lab` writes of the examples, and whether its numbers are those of the charts.
 
-Each picture is well-formed XML, each trace is JSON whose complete events do not overlap on a thread, and each graph is taken by
-Graphviz where `dot` is there. Without tries the schedule is the one whose chart stands in the example: the same length, the same
-macro-code where the example has it, and a bar and an event for each of its lines; with tries it is no longer. The same words give
-the same bytes, and words that are no command end with `usage`.
+Each picture is well-formed XML, each trace is JSON whose complete events do not overlap on a thread, and each graph is
+taken by Graphviz where `dot` is there. Without tries the schedule is the one whose chart stands in the example: the
+same length, the same macro-code where the example has it, a bar and an event for each of its lines, and what its lanes
+are busy; with tries it is no longer. The same words give the same bytes, and words that are no command end with
+`usage`.
 
     tests/lab.py [PROGRAM [TRIES]]      with the program that `./build --program syndex_lab` makes, and 200 tries
 """
@@ -56,18 +57,27 @@ class Lab:
         return out
 
 
-def charted(chart):
-    """The numbers of operations and transfers of a chart, and its length."""
-    count, kind = collections.Counter(), None
-    for line in chart.splitlines():
-        words = line.split()
-        if words[0] in ("operator", "medium"):
-            kind = words[0]
-        elif words[0] == "length":
-            return count["operator"], count["medium"], int(words[1])
-        else:
-            count[kind] += 1
-    raise Wrong("the chart has no length")
+class Chart:
+    """What a chart says: its length, how many lines it has between those of its lanes, and how long each lane is busy."""
+
+    def __init__(self, text):
+        self.acts, self.busy, lane = 0, {}, None
+        for line in text.splitlines():
+            words = line.split()
+            if words[0] in ("operator", "medium"):
+                lane = " ".join(words)
+                self.busy[lane] = 0
+            elif words[0] == "length":
+                self.length = int(words[1])
+            else:
+                self.acts += 1
+                self.busy[lane] += int(words[1]) - int(words[0])
+
+    def loads(self):
+        """The lines of a report on the lanes: shares of the length in thousandths, rounded down."""
+        for lane, busy in self.busy.items():
+            share = busy * 1000 // self.length
+            yield f"{lane} busy {busy} share {share // 1000}.{share % 1000:03}"
 
 
 def check_trace(trace, acts):
@@ -100,13 +110,15 @@ def length_in(report):
 def check_schedule(lab, folder, tries):
     """What is written of the schedule of an example."""
     a, h = f"{folder}/algorithm.txt", f"{folder}/architecture.txt"
-    length = length_in(lab.text("report", a, h))
+    report = lab.text("report", a, h)
+    length = length_in(report)
     if os.path.exists(f"{folder}/chart.txt"):
-        operations, transfers, charted_length = charted(text_of(f"{folder}/chart.txt"))
-        holds(length == charted_length, f"length {length} in place of {charted_length}")
-        check_trace(lab.text("trace", a, h), operations + transfers)
+        chart = Chart(text_of(f"{folder}/chart.txt"))
+        loads = [line for line in report.splitlines() if line.startswith(("operator ", "medium "))]
+        holds(length == chart.length and loads == list(chart.loads()), "the report's length and loads")
+        check_trace(lab.text("trace", a, h), chart.acts)
         titles = lab.text("chart", a, h).count("<title>")
-        holds(titles == operations + transfers, f"{titles} titles for {operations + transfers} acts")
+        holds(titles == chart.acts, f"{titles} titles for {chart.acts} acts")
     if os.path.exists(f"{folder}/code.txt"):
         holds(lab.text("code", a, h) == text_of(f"{folder}/code.txt"), "the macro-code")
     for seed in ("1", "7"):
