@@ -1,12 +1,14 @@
 -- The time of lines, one decision or one transfer more; lists of numbers, one more.
 use Rattle.std.proofs.Common.{◌≡◌, ℕ, zero, suc, ◌+◌, ◌<◌, ◌≤◌, Bool, true, false, cond, ◌&&◌, nat_eq, List, [], ◌∷◌, ◌++◌, map, length, drop, get_or, refl, sym, ap, arith, ◌∙◌, drop-cons}
-use Rattle.std.specs.Prelude.{filter, sum_by}
+use Rattle.std.specs.Prelude.{filter, is_some, sum_by, Option, None}
 use Rattle.std.specs.List.{list_all, range_with_len}
+use Rattle.std.proofs.lemmas.Bool.{false_from_ne_true, false≢true}
 use Rattle.std.proofs.lemmas.List.Sums.{sum_by_push}
 use Rattle.schedule.specs.declared.decision.Transfer.{Transfer}
 use Rattle.schedule.specs.declared.decision.Decision.{Decision}
 use Rattle.schedule.specs.Acts.{Act, carry, run, acts_of, is_on, is_over}
-use Rattle.schedule_report.specs.Numbers.{busy, lasting}
+use Rattle.lower_bound.proofs.Below.{all_in_range}
+use Rattle.schedule_report.specs.Numbers.{busy, lasting, may_all_stand}
 use Rattle.schedule_report.proofs.Busy.{busy-cons}
 
 busy-append : (test : Act → Bool) (xs ys : List Act) → busy test (xs ++ ys) ≡ busy test xs + busy test ys
@@ -87,3 +89,8 @@ all_last p (x ∷ xs) y = by (p x) (all_last p xs y)
 
 pub all_more : (p : ℕ → Bool) (n : ℕ) → list_all p (range_with_len 0 (n + 1)) ≡ (list_all p (range_with_len 0 n) && p n)
 all_more p n = ap (list_all p) (one_more n) ∙ all_last p (range_with_len 0 n) n
+
+-- where an operation may not stand, not all may
+pub none_stands : (ticks : ℕ → ℕ → Option ℕ) (n o v : ℕ) → v < n → ticks v o ≡ None → may_all_stand ticks n o ≡ false
+none_stands ticks n o v l e =
+    false_from_ne_true (may_all_stand ticks n o) (λ h. false≢true (sym (ap (λ (x : Option ℕ). is_some x) e) ∙ all_in_range (λ u. is_some (ticks u o)) 0 n v h (omega arith) (omega arith)))

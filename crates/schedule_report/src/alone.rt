@@ -5,7 +5,7 @@ ghost use Rattle.syn_base.specs.Limits.{most_operations};
 ghost use Rattle.durations.specs.Table.{entry_in};
 ghost use Rattle.schedule_report.specs.Numbers.{alone, may_all_stand, time_alone};
 
-use crate::ratio::{Ratio, ratio};
+use crate::ratio::{Ratio, ratio_of};
 use durations::Durations;
 use std::alloc::Global;
 use syn_base::{Items, OutOfMemory};
@@ -24,28 +24,28 @@ pub struct Alone {
 pub(crate) fn all_alone(
     alloc: Global,
     durations: &Durations,
-    length: u64,
+    beside: u64,
 ) -> Result<Items<Option<Alone>>, OutOfMemory>
     requires { length durations.now.rows ≤ most_operations }
     ensures { IfOk result (λ list. list ≡ map (alone (entry_in durations.now) (length durations.now.rows)
-        length) (range_with_len 0 durations.now.operators)) }
+        beside) (range_with_len 0 durations.now.operators)) }
 {
     let mut list = Vec::with_capacity(alloc, durations.operators() as usize)?;
     for operator in 0..durations.operators() {
-        list.push(alone(durations, operator, length))?;
+        list.push(alone_on(durations, operator, beside))?;
     }
     Ok(Items::new(list))
 }
 
 /// The time of an operator alone, where all operations may stand there.
-fn alone(durations: &Durations, operator: u32, beside: u64) -> Option<Alone>
+fn alone_on(durations: &Durations, operator: u32, beside: u64) -> Option<Alone>
     requires { length durations.now.rows ≤ most_operations }
     ensures { result ≡ alone (entry_in durations.now) (length durations.now.rows) beside operator }
 {
     let time = time_alone(durations, operator)?;
     Some(Alone {
         time,
-        speed_up: ratio(time, beside),
+        speed_up: ratio_of(time, beside),
     })
 }
 

@@ -4,7 +4,7 @@ ghost use Rattle.std.specs.List.{range_with_len};
 ghost use Rattle.schedule.specs.Acts.{acts, acts_of, carry, is_on, is_over, length_of, run};
 ghost use Rattle.schedule_report.specs.Numbers.{busy, lasting, load, loads};
 
-use crate::ratio::{Ratio, ratio};
+use crate::ratio::{Ratio, ratio_of};
 use schedule::{Decision, Schedule, Transfer};
 use std::alloc::Global;
 use syn_base::{Items, OutOfMemory};
@@ -24,14 +24,14 @@ pub(crate) fn operator_loads(
     operators: usize,
 ) -> Result<Items<Load>, OutOfMemory>
     requires { (o : ℕ) → busy (is_on o) (acts schedule.now) ≤ length_of schedule.now }
-    ensures { IfOk result (λ loads. loads ≡ loads is_on operators schedule.now) }
+    ensures { IfOk result (λ list. list ≡ loads is_on operators schedule.now) }
 {
     let length = schedule.length();
     let decisions = schedule.decisions.as_slice();
     let mut loads = Vec::with_capacity(alloc, operators)?;
     for operator in 0..operators {
         let busy = busy_on(decisions, operator, length);
-        loads.push(load(busy, length))?;
+        loads.push(load_of(busy, length))?;
     }
     Ok(Items::new(loads))
 }
@@ -44,25 +44,25 @@ pub(crate) fn medium_loads(
     media: usize,
 ) -> Result<Items<Load>, OutOfMemory>
     requires { (m : ℕ) → busy (is_over m) (acts schedule.now) ≤ length_of schedule.now }
-    ensures { IfOk result (λ loads. loads ≡ loads is_over media schedule.now) }
+    ensures { IfOk result (λ list. list ≡ loads is_over media schedule.now) }
 {
     let length = schedule.length();
     let decisions = schedule.decisions.as_slice();
     let mut loads = Vec::with_capacity(alloc, media)?;
     for medium in 0..media {
         let busy = busy_over(decisions, medium, length);
-        loads.push(load(busy, length))?;
+        loads.push(load_of(busy, length))?;
     }
     Ok(Items::new(loads))
 }
 
 /// The load of a line that is busy for this time.
-fn load(busy: u64, length: u64) -> Load
+fn load_of(busy: u64, length: u64) -> Load
     ensures { result ≡ load length busy }
 {
     Load {
         busy,
-        share: ratio(busy, length),
+        share: ratio_of(busy, length),
     }
 }
 

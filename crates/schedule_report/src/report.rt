@@ -7,7 +7,7 @@ ghost use Rattle.schedule_report.specs.Numbers.{report};
 
 use crate::alone::{Alone, all_alone};
 use crate::loads::{Load, medium_loads, operator_loads};
-use crate::ratio::{Ratio, ratio};
+use crate::ratio::{Ratio, ratio_of};
 use archi_graph::Archi;
 use durations::Durations;
 use flat_graph::Flat;
@@ -49,7 +49,7 @@ pub fn report_of(
     let media = medium_loads(alloc, schedule, archi.media().len())?;
     let alone = all_alone(alloc, durations, length)?;
     let bound = lower_bound(alloc, flat, archi, durations)?;
-    let above = ratio(length, bound);
+    let above = ratio_of(length, bound);
     Ok(Report {
         length,
         operators,

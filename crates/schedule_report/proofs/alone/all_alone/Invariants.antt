@@ -6,4 +6,4 @@ use Rattle.schedule_report.proofs.alone.all_alone.Given as goal
 
 -- the operators before
 abbrev pub invariant-loop-operator : goal.invariant-loop-operator
-invariant-loop-operator l = l.list.items ≡ map (alone (entry_in l.durations) (length l.durations.rows) l.length) (range_with_len 0 l.operator)
+invariant-loop-operator l = l.list.items ≡ map (alone (entry_in l.durations) (length l.durations.rows) l.beside) (range_with_len 0 l.operator)
