@@ -92,14 +92,21 @@ fn is_memory(error: &Error) -> bool
 fn values_in<'a>(matches: &ArgMatches<'a>) -> Values<'a>
     ensures { values_view result ≡ values_of (rows_of (found_of matches.now)) }
 {
+    let algorithm = matches.get_str("algorithm");
+    let architecture = matches.get_str("architecture");
+    let sensors = matches.get_str("sensors");
+    let durations = matches.get_str("durations");
+    let reactions = matches.get_str("reactions");
+    let tries = matches.get_str("tries");
+    let seed = matches.get_str("seed");
     Values {
-        algorithm: matches.get_str("algorithm"),
-        architecture: matches.get_str("architecture"),
-        sensors: matches.get_str("sensors"),
-        durations: matches.get_str("durations"),
-        reactions: matches.get_str("reactions"),
-        tries: matches.get_str("tries"),
-        seed: matches.get_str("seed"),
+        algorithm,
+        architecture,
+        sensors,
+        durations,
+        reactions,
+        tries,
+        seed,
     }
 }
 
@@ -165,13 +172,18 @@ fn schedule<'a>(name: &str, algorithm: &'a str, values: &Values<'a>) -> Option<C
 fn subject_of(name: &str) -> Option<Subject>
     ensures { option_map subject_view result ≡ subject_of name.now }
 {
-    match name {
-        "chart" => Some(Subject::Chart),
-        "trace" => Some(Subject::Trace),
-        "flat" => Some(Subject::Flat),
-        "code" => Some(Subject::Code),
-        "report" => Some(Subject::Report),
-        _ => None,
+    if name == "chart" {
+        Some(Subject::Chart)
+    } else if name == "trace" {
+        Some(Subject::Trace)
+    } else if name == "flat" {
+        Some(Subject::Flat)
+    } else if name == "code" {
+        Some(Subject::Code)
+    } else if name == "report" {
+        Some(Subject::Report)
+    } else {
+        None
     }
 }
 

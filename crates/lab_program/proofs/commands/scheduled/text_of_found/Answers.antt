@@ -7,14 +7,14 @@ use Rattle.lab_program.specs.Found.{problem_of}
 use Rattle.lab_program.proofs.Found.{of_found}
 use Rattle.lab_program.proofs.commands.scheduled.text_of_found.Goals as goal
 
-pub print_program-in-Code-requires : goal.print_program-in-Code-requires
-print_program-in-Code-requires c = c.in_ok-schedule.ensures.valid
+pub print_program-requires : goal.print_program-requires
+print_program-requires c = c.in_ok-schedule.ensures.valid
 
-pub print_numbers-in-Report-requires-clause-durations : goal.print_numbers-in-Report-requires-clause-durations
-print_numbers-in-Report-requires-clause-durations c = c.requires
+pub print_numbers-requires-clause-durations : goal.print_numbers-requires-clause-durations
+print_numbers-requires-clause-durations c = c.requires
 
-pub print_numbers-in-Report-requires-clause-valid : goal.print_numbers-in-Report-requires-clause-valid
-print_numbers-in-Report-requires-clause-valid c = c.in_ok-schedule.ensures.valid
+pub print_numbers-requires-clause-valid : goal.print_numbers-requires-clause-valid
+print_numbers-requires-clause-valid c = c.in_ok-schedule.ensures.valid
 
 pub returns-in_err-schedule : goal.returns-in_err-schedule
 returns-in_err-schedule c =
@@ -24,7 +24,7 @@ returns-in_err-schedule c =
 pub returns-in-Code : goal.returns-in-Code
 returns-in-Code c =
     let effort = effort_view c.args.effort in
-    rw c.in-Code.is (of_found (of_schedule code (problem_of c.args.compilation.now effort)) c.in_ok-schedule.schedule _ c.in_ok-schedule.ensures (c.print_program-in-Code.ensures effort))
+    rw c.in-Code.is (of_found (of_schedule code (problem_of c.args.compilation.now effort)) c.in_ok-schedule.schedule _ c.in_ok-schedule.ensures (c.print_program.ensures effort))
 
 pub returns-in_err-print_chart-in-Chart : goal.returns-in_err-print_chart-in-Chart
 returns-in_err-print_chart-in-Chart c =
