@@ -1,0 +1,5 @@
+mod Rows
+pub mod Bringing
+pub mod Exact
+pub mod Places
+pub mod Texts

@@ -1,0 +1,194 @@
+-- The drawing of a flat graph in the DOT language.
+use Rattle.std.specs.Prelude.{
+  ℕ,
+  suc,
+  Bool,
+  ◌&&◌,
+  nat_eq,
+  List,
+  [],
+  ◌∷◌,
+  ◌++◌,
+  Option,
+  Some,
+  None,
+  option_map,
+  codes,
+}
+use Rattle.std.specs.Fmt.{decimal}
+use Rattle.std.specs.List.{find, flat_map}
+use Rattle.syn_base.specs.Bytes.{Bytes}
+use Rattle.flat_graph.specs.declared.vertex.Source.{Source}
+use Rattle.flat_graph.specs.declared.vertex.Guard.{Guard}
+use Rattle.flat_graph.specs.declared.vertex.Kind.{Kind}
+use Rattle.flat_graph.specs.declared.vertex.Kind.TheVariants.{
+  Sensor,
+  Actuator,
+  Function,
+  Constant,
+  Get,
+  Set,
+  Explode,
+  Implode,
+  Merge,
+}
+use Rattle.flat_graph.specs.declared.vertex.Vertex.{Vertex}
+use Rattle.flat_graph.specs.Graph.{Graph}
+use Rattle.archi_graph.specs.declared.medium.Medium.{Medium}
+use Rattle.archi_graph.specs.Archi.{Architecture}
+use Rattle.schedule.specs.declared.decision.Transfer.{Transfer}
+use Rattle.schedule.specs.declared.decision.Decision.{Decision}
+use Rattle.schedule.specs.declared.decision.Schedule.{Schedule}
+use Rattle.graph_drawing.specs.Colours.{fill_of, stroke_of}
+use Rattle.graph_drawing.specs.Words.{word_text}
+use Rattle.graph_drawing.specs.declared.word.Word.TheVariants as word
+use Rattle.graph_drawing.specs.Statements.{
+  Statement,
+  operation,
+  input,
+  condition,
+  keeps,
+  statements_from,
+}
+
+-- the operator on which an operation runs
+abbrev pub operator_of : List Decision → ℕ → Option ℕ
+operator_of ds v = option_map (λ d. d.operator) (find (λ d. nat_eq d.op v) ds)
+
+-- the transfer brings the value of the source to the operator
+abbrev pub brings : ℕ → Source → Transfer → Bool
+brings o s t = nat_eq t.to o && nat_eq t.source.vertex s.vertex && nat_eq t.source.port s.port
+
+abbrev pub medium_or : Option Transfer → Option ℕ → Option ℕ
+medium_or (Some t) rest = Some t.medium
+medium_or None rest = rest
+
+-- the medium of the first transfer that brings the value of the source to the operator
+abbrev pub medium_to : List Decision → Source → ℕ → Option ℕ
+medium_to [] s o = None
+medium_to (d ∷ ds) s o = medium_or (find (brings o s) d.transfers) (medium_to ds s o)
+
+-- the last medium over which the value of the source comes to operation v
+abbrev pub medium_by : List Decision → Source → Option ℕ → Option ℕ
+medium_by ds s None = None
+medium_by ds s (Some o) = medium_to ds s o
+
+abbrev pub medium_for : List Decision → ℕ → Source → Option ℕ
+medium_for ds v s = medium_by ds s (operator_of ds v)
+
+-- what is coloured, where it has a colour
+abbrev pub filled : Option ℕ → Bytes
+filled None = []
+filled (Some o) = word_text word.Fill ++ (fill_of o ++ word_text word.Quote)
+
+abbrev pub coloured : Option ℕ → Bytes
+coloured None = []
+coloured (Some m) = word_text word.Stroke ++ (stroke_of m ++ word_text word.Quote)
+
+-- what comes from outside or goes there is round, what is kept stands in a cylinder
+abbrev pub shape_of : Kind → Bytes
+shape_of (Sensor i) = codes "ellipse"
+shape_of (Actuator i) = codes "ellipse"
+shape_of (Function b) = codes "box"
+shape_of (Constant z) = codes "note"
+shape_of (Get z) = codes "cylinder"
+shape_of Set = codes "cylinder"
+shape_of Explode = codes "trapezium"
+shape_of Implode = codes "invtrapezium"
+shape_of (Merge values) = codes "diamond"
+
+-- the two ends of an edge between operations
+abbrev pub edge_text : ℕ → ℕ → Bytes
+edge_text u v = word_text word.Operation ++ (decimal u ++ (word_text word.Arrow ++ decimal v))
+
+-- the label is the name over the definition
+abbrev pub label_text : ℕ → Vertex → Bytes
+label_text v x =
+    word_text word.Operation ++ (decimal v ++ (word_text word.Label ++ (x.name ++
+    (word_text word.Line ++ x.def))))
+
+abbrev pub look_text : List Decision → ℕ → Vertex → Bytes
+look_text ds v x =
+    word_text word.Shape ++ (shape_of x.kind ++ (filled (operator_of ds v) ++
+    word_text word.Finish))
+
+abbrev pub operation_text : List Decision → ℕ → Vertex → Bytes
+operation_text ds v x = label_text v x ++ look_text ds v x
+
+-- the numbers of the output and of the input stand at the ends
+abbrev pub ends_text : ℕ → ℕ → Bytes
+ends_text port i =
+    word_text word.Tail ++ (decimal port ++ (word_text word.Head ++ (decimal i ++
+    word_text word.Quote)))
+
+abbrev pub input_text : List Decision → ℕ → ℕ → Source → Bytes
+input_text ds v i s =
+    edge_text s.vertex v ++ (ends_text s.port i ++ (coloured (medium_for ds v s) ++
+    word_text word.Finish))
+
+-- the case that has to be selected
+abbrev pub condition_text : List Decision → ℕ → Guard → Bytes
+condition_text ds v g =
+    edge_text g.source.vertex v ++ (word_text word.Condition ++ (decimal g.case ++
+    (word_text word.Quote ++ (coloured (medium_for ds v g.source) ++ word_text word.Finish))))
+
+abbrev pub keeps_text : ℕ → ℕ → Bytes
+keeps_text v u = edge_text v u ++ word_text word.Delay
+
+abbrev pub statement_text : List Decision → Statement → Bytes
+statement_text ds (operation v x) = operation_text ds v x
+statement_text ds (input v i s) = input_text ds v i s
+statement_text ds (condition v i g) = condition_text ds v g
+statement_text ds (keeps v u) = keeps_text v u
+
+abbrev pub statements_text : List Decision → List Statement → Bytes
+statements_text ds xs = flat_map (statement_text ds) xs
+
+-- an operator or a medium, up to its name
+unfoldable pub named : Bytes → ℕ → Bytes → Bytes
+named kind n name = kind ++ (decimal n ++ (word_text word.Label ++ name))
+
+-- the name of an operator in its colour, and that of a medium
+abbrev pub operator_key : ℕ → Bytes → Bytes
+operator_key o name =
+    named (word_text word.Operator) o name ++
+    (word_text word.OperatorColour ++ (fill_of o ++ word_text word.QuoteFinish))
+
+abbrev pub medium_key : ℕ → Bytes → Bytes
+medium_key m name =
+    named (word_text word.Medium) m name ++
+    (word_text word.MediumColour ++ (stroke_of m ++ word_text word.QuoteFinish))
+
+-- the same of operators and media, of which the first has this number
+abbrev pub operator_keys : ℕ → List Bytes → Bytes
+operator_keys o [] = []
+operator_keys o (name ∷ names) =
+    operator_key o name ++ operator_keys (suc o) names
+
+abbrev pub medium_keys : ℕ → List Medium → Bytes
+medium_keys m [] = []
+medium_keys m (x ∷ xs) =
+    medium_key m x.name ++ medium_keys (suc m) xs
+
+unfoldable pub legend : Architecture → Bytes
+legend a =
+    word_text word.Legend ++
+    (operator_keys 0 a.operators ++ (medium_keys 0 a.media ++ word_text word.LegendFinish))
+
+unfoldable pub opening : Bytes
+opening =
+    codes "digraph flat {\n  rankdir=LR;\n  fontname=\"sans-serif\";\n" ++
+    (codes "  node [shape=box,style=filled,fillcolor=white,fontname=\"sans-serif\"];\n" ++
+    codes "  edge [fontname=\"sans-serif\",fontsize=9,labeldistance=1.5];\n")
+
+unfoldable pub closing : Bytes
+closing = codes "}\n"
+
+-- the operations and edges of a flat graph, without colours
+abbrev pub flat_drawing : Graph → Bytes
+flat_drawing g = opening ++ (statements_text [] (statements_from 0 g.vertices) ++ closing)
+
+-- the same, in the colours of the operators and media that a schedule gives them
+abbrev pub placed_drawing : Graph → Architecture → Schedule → Bytes
+placed_drawing g a s =
+    opening ++ (legend a ++ (statements_text s.decisions (statements_from 0 g.vertices) ++ closing))

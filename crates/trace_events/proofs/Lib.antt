@@ -1,0 +1,4 @@
+pub mod Lanes
+mod Rows
+pub mod Slices
+pub mod Texts

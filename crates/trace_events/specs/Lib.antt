@@ -1,0 +1,5 @@
+pub mod Events
+pub mod Printed
+pub mod Shown
+pub mod Trace
+pub mod Words

@@ -1,0 +1,138 @@
+-- The acts of a schedule as events.
+use Rattle.std.specs.Prelude.{
+  ℕ,
+  suc,
+  ◌+◌,
+  Bool,
+  ◌&&◌,
+  if◌then◌else◌,
+  nat_eq,
+  List,
+  [],
+  ◌∷◌,
+  ◌++◌,
+  slice_get,
+}
+use Rattle.std.specs.Fmt.{decimal}
+use Rattle.std.specs.List.{flat_map, list_any}
+use Rattle.syn_base.specs.Bytes.{Bytes}
+use Rattle.flat_graph.specs.declared.vertex.Source.{Source}
+use Rattle.flat_graph.specs.declared.vertex.Vertex.{Vertex}
+use Rattle.flat_graph.specs.Graph.{Graph}
+use Rattle.archi_graph.specs.declared.medium.Medium.{Medium}
+use Rattle.archi_graph.specs.Archi.{Architecture}
+use Rattle.schedule.specs.declared.decision.Transfer.{Transfer}
+use Rattle.schedule.specs.declared.decision.Decision.{Decision}
+use Rattle.schedule.specs.declared.decision.Schedule.{Schedule}
+use Rattle.schedule.specs.Acts.{Act, carry, run, acts, start_of, end_of, sources_of}
+use Rattle.timing_chart.specs.Chart.{operation_name, operator_name}
+use Rattle.trace_events.specs.declared.event.Moment.{Moment}
+use Rattle.trace_events.specs.declared.event.Reader.{Reader}
+use Rattle.trace_events.specs.Events.{Slice, Event, thread, lasts, leaves, arrives, file_of}
+use Rattle.trace_events.specs.declared.word.Word.TheVariants as word
+use Rattle.trace_events.specs.Words.{word_text}
+
+-- operators have lanes from 1 on, and media, above the sixteen operators that there may be, from 17
+-- on
+abbrev pub operator_lane : ℕ → ℕ
+operator_lane o = o + 1
+
+abbrev pub medium_lane : ℕ → ℕ
+medium_lane m = m + 17
+
+-- the lanes of operators with these names, and of these media, of which the first has this number
+abbrev pub operator_lanes : ℕ → List Bytes → List Event
+operator_lanes o [] = []
+operator_lanes o (name ∷ names) =
+    thread (operator_lane o) (word_text word.Operator) name ∷ operator_lanes (suc o) names
+
+abbrev pub medium_lanes : ℕ → List Medium → List Event
+medium_lanes m [] = []
+medium_lanes m (x ∷ xs) =
+    thread (medium_lane m) (word_text word.Medium) x.name ∷ medium_lanes (suc m) xs
+
+abbrev pub lanes : Architecture → List Event
+lanes a = operator_lanes 0 a.operators ++ medium_lanes 0 a.media
+
+-- the transfer brings the value of the source to the operator
+abbrev pub brings : ℕ → Source → Transfer → Bool
+brings o s t = nat_eq t.to o && nat_eq t.source.vertex s.vertex && nat_eq t.source.port s.port
+
+-- some transfer does
+abbrev pub is_brought : List Decision → ℕ → Source → Bool
+is_brought ds o s = list_any (λ d. list_any (brings o s) d.transfers) ds
+
+abbrev pub lane_of : Act → ℕ
+lane_of (run d) = operator_lane d.operator
+lane_of (carry t) = medium_lane t.medium
+
+-- where it reads: a transfer on the operator from which it carries
+abbrev pub operator_of : Act → ℕ
+operator_of (run d) = d.operator
+operator_of (carry t) = t.from
+
+abbrev pub reader_in : Moment → Act → Reader
+reader_in m x =
+    record { reaction = m.reaction; date = m.start; lane = lane_of x; operator = operator_of x }
+
+-- where the value stands that the transfer brings
+abbrev pub bringer_in : Moment → Transfer → Reader
+bringer_in m t =
+    record { reaction = m.reaction; date = m.start; lane = medium_lane t.medium; operator = t.to }
+
+module _ (vertices : List Vertex) (operators : List Bytes) where
+  -- OPERATION, and of a transfer OPERATION.PORT FROM to TO
+  abbrev pub act_name : Act → Bytes
+  act_name (run d) = operation_name vertices operators d.op
+  act_name (carry t) =
+      operation_name vertices operators t.source.vertex ++ (word_text word.Dot ++
+      (decimal t.source.port ++ (word_text word.Blank ++
+      (operator_name vertices operators t.from ++ (word_text word.To ++
+      operator_name vertices operators t.to)))))
+
+  abbrev pub category_of : Act → Bytes
+  category_of (run d) = word_text word.Operation
+  category_of (carry t) = word_text word.Transfer
+
+  abbrev pub slice_of : Moment → Act → Slice
+  slice_of m x =
+      record { name = act_name x; category = category_of x; lane = lane_of x; moment = m }
+
+  -- what an act reads
+  abbrev pub sources_for : Act → List Source
+  sources_for (run d) = sources_of (slice_get vertices d.op)
+  sources_for (carry t) = t.source ∷ []
+
+-- a value arrives where a transfer has brought it
+abbrev pub arrival : List Decision → Reader → Source → List Event
+arrival ds r s =
+    if is_brought ds r.operator s then arrives (record { source = s; at = r }) ∷ [] else []
+
+abbrev pub arrivals : List Decision → Reader → List Source → List Event
+arrivals ds r sources = flat_map (arrival ds r) sources
+
+-- a transfer's value leaves
+abbrev pub departures : Moment → Act → List Event
+departures m (run d) = []
+departures m (carry t) = leaves (record { source = t.source; at = bringer_in m t }) ∷ []
+
+-- The events of an act: it lasts, where it is a transfer its value leaves, and what was carried to
+-- where it reads
+-- arrives.
+module _ (vertices : List Vertex) (operators : List Bytes) (ds : List Decision) where
+  abbrev pub act_events : Moment → Act → List Event
+  act_events m x =
+      lasts (slice_of vertices operators m x) ∷
+      (departures m x ++ arrivals ds (reader_in m x) (sources_for vertices operators x))
+
+-- an act when the chart says, in reaction 0
+abbrev pub chart_moment : Act → Moment
+chart_moment x = record { reaction = 0; start = start_of x; end = end_of x }
+
+abbrev pub chart_events : Graph → Architecture → Schedule → List Event
+chart_events g a s =
+    flat_map (λ x. act_events g.vertices a.operators s.decisions (chart_moment x) x) (acts s)
+
+-- the trace of a chart
+abbrev pub chart_trace : Graph → Architecture → Schedule → Bytes
+chart_trace g a s = file_of (lanes a ++ chart_events g a s)
