@@ -1,5 +1,5 @@
 mod Worked
 pub mod Whole
-pub mod Alone
+pub mod Lone
 pub mod Timed
 pub mod Way

@@ -1,13 +1,14 @@
 -- How long the operations last that are left.
-use Rattle.std.proofs.Common.{◌≡◌, ℕ, zero, suc, ◌+◌, ◌<◌, ◌≤◌, Bool, true, false, cond, List, [], ◌∷◌, map, Option, Some, refl, ap, subst, arith, ◌∙◌}
+use Rattle.std.proofs.Common.{◌≡◌, ℕ, zero, suc, ◌+◌, ◌<◌, ◌≤◌, Bool, true, false, cond, List, [], ◌∷◌, map, Option, Some, refl, sym, ap, subst, arith, ◌∙◌}
 use Rattle.std.specs.Prelude.{slice_get, sum}
 use Rattle.std.proofs.lemmas.Bool.{false≢true, true≢false}
 use Rattle.std.proofs.lemmas.Option.{same_Some}
+use Rattle.flat_graph.proofs.KindLens.{sum-cons}
 use Rattle.schedule_search.specs.Alone.{time_left}
 
 pub all_left : (f : ℕ → ℕ) (test : ℕ → Bool) → ((x : ℕ) → test x ≡ false) → (xs : List ℕ) → time_left f test xs ≡ sum (map f xs)
 all_left f test none [] = refl
-all_left f test none (x ∷ xs) = ap (λ (b : Bool). cond b (time_left f test xs) (f x + time_left f test xs)) (none x) ∙ ap (λ (n : ℕ). f x + n) (all_left f test none xs)
+all_left f test none (x ∷ xs) = ap (λ (b : Bool). cond b (time_left f test xs) (f x + time_left f test xs)) (none x) ∙ ap (λ (n : ℕ). f x + n) (all_left f test none xs) ∙ sym (sum-cons (f x) (map f xs))
 
 -- where more pass, no more time is left
 no_more : (f : ℕ → ℕ) (g h : ℕ → Bool) → ((x : ℕ) → g x ≡ true → h x ≡ true) → (xs : List ℕ) → time_left f h xs ≤ time_left f g xs

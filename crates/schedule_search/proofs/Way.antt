@@ -1,8 +1,9 @@
 -- Drafts under way: one more decision, and what a draft gives in the end.
-use Rattle.std.proofs.Common.{◌≡◌, ℕ, zero, suc, ◌+◌, ◌<◌, ◌≤◌, Bool, true, false, ◌&&◌, not, List, [], ◌∷◌, ◌++◌, length, Option, Some, None, Ok, Err, refl, sym, ap, subst, arith, ◌∙◌, inl, inr, ◌⊎◌}
-use Rattle.std.specs.Prelude.{All, IfOk, IfSome, IsSome, IsSomeAnd, IsTrue, Result, nat_lt, slice_get}
+use Rattle.std.proofs.Common.{◌≡◌, ℕ, zero, suc, ◌+◌, ◌<◌, ◌≤◌, Bool, true, false, cond, ◌&&◌, not, List, [], ◌∷◌, ◌++◌, length, Option, Some, None, Ok, Err, refl, sym, ap, subst, arith, ◌∙◌, inl, inr, ◌⊎◌}
+use Rattle.std.specs.Prelude.{All, IfOk, IfSome, IsNone, IsSome, IsSomeAnd, IsTrue, Result, nat_lt, slice_get}
 use Rattle.std.specs.List.{filter, list_all, range_with_len}
-use Rattle.std.proofs.lemmas.Bool.{true≢false, and_parts}
+use Rattle.std.proofs.lemmas.Bool.{false≢true, true≢false}
+use Rattle.std.proofs.lemmas.Option.{same_Some}
 use Rattle.std.proofs.lemmas.List.FromFn.{length-range_with_len}
 use Rattle.syn_base.specs.declared.memory.OutOfMemory.{OutOfMemory}
 use Rattle.flat_graph.specs.Valid.{is_flat}
@@ -23,10 +24,10 @@ use Rattle.plan_search.specs.declared.site.Site.{Site}
 use Rattle.pressure_heuristic.specs.Pressure.{operations}
 use Rattle.pressure_heuristic.proofs.Lists.{left, none_left}
 use Rattle.pressure_heuristic.proofs.Whole.{all_of, left_within}
-use Rattle.schedule_search.specs.Alone.{IsAlone, MayAllStandOn, SoFar}
+use Rattle.schedule_search.specs.Alone.{IsAlone, MayAllStandOn, SoFar, when}
 use Rattle.schedule_search.specs.Drafts.{IsDone, IsSite, IsUnderWay, IsValidIn, opened, site_task}
 use Rattle.schedule_search.specs.Found.{time_alone}
-use Rattle.schedule_search.proofs.Alone.{count_left, one_less, still_so}
+use Rattle.schedule_search.proofs.Lone.{at_first, count_left, may_stand_there, one_less, still_so}
 use Rattle.schedule_search.proofs.Whole.{drafts_are_valid, passes_none}
 
 pub begun : (s : Site) → is_flat s.flat.now ≡ true → is_archi s.archi.now.operators s.archi.now.media ≡ true → IsSite s → All (IsRow s.durations.now.operators) s.durations.now.rows → StandBeside s.durations.now
@@ -76,5 +77,54 @@ pub alone_of : (t u : Task) (p : ℕ) (ds : List Decision) → t ≡ u → (MayA
 alone_of t u p ds same done so o some is = subst (λ (x : Task). IsAlone x p o) same (λ all. by o (some (done all)) is (so all))
   where
     by : (o : Option Schedule) → IsSome o → IfSome o (λ s. s.decisions ≡ ds) → SoFar t p ds → IsSomeAnd o (λ s. length_of s ≤ time_alone t.graph t.archi t.ticks p)
-    by None h is so = absurd h
+    by None h is so = absurd (false≢true h)
     by (Some s) h is so = let w = so.within in let e : latest (acts_of s.decisions) ≡ latest (acts_of ds) = ap (λ (l : List Decision). latest (acts_of l)) is in omega arith
+
+-- an operation that is returned where it may be placed may be placed
+pub when_passes : (f : ℕ → Bool) (v : ℕ) (r : Option ℕ) → r ≡ when (f v) v → IfSome r (λ w. IsTrue (f w))
+when_passes f v r e = subst (λ (o : Option ℕ). IfSome o (λ w. IsTrue (f w))) (sym e) (by (f v) refl)
+  where
+    by : (b : Bool) → f v ≡ b → IfSome (cond b (Some v) None) (λ w. IsTrue (f w))
+    by true h = h
+    by false h = tt
+
+-- what stands among those that pass passes
+pub passes_at : {A : Type 0} (test : A → Bool) (xs : List A) (k : ℕ) (y : A) → slice_get (filter test xs) k ≡ Some y → test y ≡ true
+passes_at test [] k y e = absurd cc
+passes_at test (x ∷ xs) k y e = by (test x) refl k e (λ j z. passes_at test xs j y z)
+  where
+    by : (b : Bool) → test x ≡ b → (k : ℕ) → slice_get (cond b (x ∷ filter test xs) (filter test xs)) k ≡ Some y → ((j : ℕ) → slice_get (filter test xs) j ≡ Some y → test y ≡ true) → test y ≡ true
+    by true h zero e later = ap test (sym (same_Some x y e)) ∙ h
+    by true h (suc j) e later = later j e
+    by false h k e later = later k e
+
+-- a candidate that is not returned may not be placed, so not all may stand there
+pub none_returned : (d : Drafted) (v p : ℕ) (r : Option ℕ) → IsUnderWay d → slice_get (filter (is_candidate (task_of d) (acts_of d.decisions)) (range_with_len 0 (length d.graph.vertices))) 0 ≡ Some v
+    → r ≡ when (may_place (task_of d) (acts_of d.decisions) v p) v → IsNone r → SoFar (task_of d) p d.decisions → MayAllStandOn (task_of d) p → IsDone (task_of d) d.decisions
+none_returned d v p r u there is none so all =
+    let can = passes_at (is_candidate (task_of d) (acts_of d.decisions)) (range_with_len 0 (length d.graph.vertices)) 0 v there in
+    let may = may_stand_there (task_of d) u.given d.decisions v p so all can in
+    absurd (by r (is ∙ ap (λ (b : Bool). when b v) may) none)
+  where
+    by : (o : Option ℕ) → o ≡ Some v → IsNone o → ⊥
+    by None e h = cc
+    by (Some w) e h = true≢false h
+
+-- at first all are left, in time
+pub count_first : (t : Task) (ds : List Decision) (n : ℕ) → ds ≡ [] → n ≡ length t.graph.vertices → count_left t ds + 0 ≤ n
+count_first t ds n none all = let l = subst (λ (es : List Decision). count_left t es ≤ length t.graph.vertices) (sym none) (few_left t) in omega arith
+
+pub so_first : (t : Task) (p : ℕ) (ds : List Decision) → ds ≡ [] → SoFar t p ds
+so_first t p ds none = subst (λ (es : List Decision). SoFar t p es) (sym none) (at_first t p)
+
+-- and after one decision more
+pub count_next : (d e : Drafted) (v p n i : ℕ) → e ≡ after_placing d v p → IsUnderWay d → IsTrue (may_place (task_of d) (acts_of d.decisions) v p)
+    → count_left (task_of d) d.decisions + i ≤ n → count_left (task_of e) e.decisions + (i + 1) ≤ n
+count_next d e v p n i is u may l =
+    let less = one_less (task_of d) u.given d.decisions v p may in
+    subst (λ (x : Drafted). count_left (task_of x) x.decisions + (i + 1) ≤ n) (sym is) (omega arith)
+
+pub so_next : (d e : Drafted) (v p : ℕ) → e ≡ after_placing d v p → IsUnderWay d → IsTrue (may_place (task_of d) (acts_of d.decisions) v p)
+    → (MayAllStandOn (task_of d) p → SoFar (task_of d) p d.decisions) → MayAllStandOn (task_of e) p → SoFar (task_of e) p e.decisions
+so_next d e v p is u may so =
+    subst (λ (x : Drafted). MayAllStandOn (task_of x) p → SoFar (task_of x) p x.decisions) (sym is) (λ all. still_so (task_of d) u.given d.decisions v p may (so all))

@@ -8,9 +8,9 @@
 mod alone;
 mod laws;
 mod replay;
-mod search;
+mod seeking;
 mod shorter;
 
 pub use laws::drafts_are_valid;
 pub use plan_search::Effort;
-pub use search::search;
+pub use seeking::search;

@@ -1,5 +1,5 @@
 //! The schedule of a plan, made by a draft.
-ghost use Rattle.std.specs.Prelude.{◌≡◌, IfOk, IfSome, IsNone, IsSome};
+ghost use Rattle.std.specs.Prelude.{◌≡◌, IfOk, IfSome, IsSome, IsTrue};
 ghost use Rattle.comm_routing.specs.Draft.{Drafted, task_of};
 ghost use Rattle.comm_routing.specs.Task.{Task};
 ghost use Rattle.schedule_search.specs.Drafts.{IsDone, IsSite, IsUnderWay, IsValidIn, opened, site_task};
@@ -52,23 +52,33 @@ fn place_all(draft: Draft, plan: &[Stand]) -> Result<Option<Schedule>, OutOfMemo
     Ok(whole(draft))
 }
 
-/// The schedule of a draft in which nothing is left to place.
+/// The schedule of a draft, where nothing is left to place.
 pub(crate) fn whole(draft: Draft) -> Option<Schedule>
     requires { IsUnderWay draft }
     ensures valid { IfSome result (IsValidIn (task_of draft.entry)) }
     ensures same { IfSome result (λ s. s.decisions ≡ draft.entry.decisions) }
     ensures done { IsDone (task_of draft.entry) draft.entry.decisions → IsSome result }
 {
-    if !is_done(&draft) {
-        return None;
+    if is_done(&draft) {
+        return Some(finished(draft));
     }
-    Some(draft.finish())
+    None
+}
+
+/// The schedule of a draft in which nothing is left to place.
+fn finished(draft: Draft) -> Schedule
+    requires under { IsUnderWay draft }
+    requires done { IsDone (task_of draft) draft.decisions }
+    ensures valid { IsValidIn (task_of draft.entry) result }
+    ensures same { result.decisions ≡ draft.entry.decisions }
+{
+    draft.finish()
 }
 
 /// Whether nothing is left to place.
 fn is_done(draft: &Draft) -> bool
-    ensures done { IsDone (task_of draft.now) draft.now.decisions → result ≡ true }
-    ensures only { result ≡ true → IsDone (task_of draft.now) draft.now.decisions }
+    ensures done { IsDone (task_of draft.now) draft.now.decisions → IsTrue result }
+    ensures only { IsTrue result → IsDone (task_of draft.now) draft.now.decisions }
 {
     match draft.ready() {
         [] => true,

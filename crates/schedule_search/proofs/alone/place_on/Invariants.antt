@@ -2,7 +2,7 @@ use Rattle.std.proofs.Common.{◌≡◌, ◌+◌, ◌≤◌}
 use Rattle.comm_routing.specs.Draft.{task_of}
 use Rattle.schedule_search.specs.Alone.{MayAllStandOn, SoFar}
 use Rattle.schedule_search.specs.Drafts.{IsUnderWay}
-use Rattle.schedule_search.proofs.Alone.{count_left}
+use Rattle.schedule_search.proofs.Lone.{count_left}
 use Rattle.schedule_search.proofs.alone.place_on.Given as goal
 
 abbrev pub invariant-loop-decision : goal.invariant-loop-decision
