@@ -15,7 +15,7 @@ use Rattle.chart_picture.specs.Truth.{NamesNeedNoEscape, is_bare}
 module _ (allowed : ℕ → Bool) where
   -- a byte that is allowed is none that is not
   other : (b n : ℕ) → allowed b ≡ true → allowed n ≡ false → (b == n) ≡ false
-  other b n yes no = ne_eqb b n (λ e. false≢true (sym no ∙ ap allowed (sym e) ∙ yes))
+  other b n h k = ne_eqb b n (λ e. false≢true (sym k ∙ ap allowed (sym e) ∙ h))
 
   module _ (quote : allowed 34 ≡ false) (amp : allowed 38 ≡ false) (single : allowed 39 ≡ false) (less : allowed 60 ≡ false) (more : allowed 62 ≡ false) where
     one : (b : ℕ) → allowed b ≡ true → is_bare b ≡ true

@@ -1,5 +1,6 @@
 -- The bars of acts, part by part.
 use Rattle.std.proofs.Common.{◌≡◌, ℕ, suc, ◌+◌, ◌<◌, Bool, true, false, cond, nat_eq, List, [], ◌∷◌, ◌++◌, map, length, drop, get_or, refl, sym, ap, arith, ◌∙◌, drop-cons}
+use Rattle.std.specs.Prelude.{codes}
 use Rattle.std.specs.List.{filter, flat_map}
 use Rattle.std.proofs.lemmas.Bool.{eq-eqb, ne_eqb}
 use Rattle.std.proofs.lemmas.List.{append_assoc}
@@ -11,7 +12,9 @@ use Rattle.schedule.specs.declared.decision.Decision.{Decision}
 use Rattle.schedule.specs.Acts.{Act, carry, run, acts_of, is_on, is_over}
 use Rattle.syn_base.specs.Bytes.{Bytes}
 use Rattle.svg_text.specs.declared.scale.Scale.{Scale}
+use Rattle.archi_graph.specs.declared.medium.Medium.{Medium}
 use Rattle.chart_picture.specs.Bars.{bar_line, bar_of, bars_text}
+use Rattle.chart_picture.specs.Picture.{lane_part, medium_lanes, operator_lanes}
 
 no_runs : (o : ℕ) (ts : List Transfer) → filter (is_on o) (map carry ts) ≡ []
 no_runs o [] = refl
@@ -60,3 +63,18 @@ module _ (g : Graph) (a : Architecture) (scale : Scale) where
       ap (λ (l : List Decision). drawn (filter (is_over m) (acts_of l))) e
       ∙ ap drawn (filter-append (is_over m) (map carry d.transfers) (run d ∷ acts_of (drop (i + 1) ds)))
       ∙ drawn-append (filter (is_over m) (map carry d.transfers)) (filter (is_over m) (acts_of (drop (i + 1) ds)))
+
+  -- one lane more
+  pub operator_step : (xs : List Act) (names : List Bytes) (i : ℕ) (name : Bytes) → i < length names → name ≡ get_or names i name
+      → operator_lanes g a scale xs i (drop i names) ≡ lane_part g a scale (codes "lane") (codes "operator-") name i (is_on i) xs ++ operator_lanes g a scale xs (i + 1) (drop (i + 1) names)
+  operator_step xs names i name h is =
+      let one : suc i ≡ i + 1 = omega arith in
+      ap (λ (l : List Bytes). operator_lanes g a scale xs i l) (drop-cons names i name h)
+      ∙ (λ j. lane_part g a scale (codes "lane") (codes "operator-") (sym is j) i (is_on i) xs ++ operator_lanes g a scale xs (one j) (drop (one j) names))
+
+  pub medium_step : (xs : List Act) (media : List Medium) (i : ℕ) (x : Medium) → i < length media → x ≡ get_or media i x
+      → medium_lanes g a scale xs i (drop i media) ≡ lane_part g a scale (codes "medium") (codes "medium-") x.name (length a.operators + i) (is_over i) xs ++ medium_lanes g a scale xs (i + 1) (drop (i + 1) media)
+  medium_step xs media i x h is =
+      let one : suc i ≡ i + 1 = omega arith in
+      ap (λ (l : List Medium). medium_lanes g a scale xs i l) (drop-cons media i x h)
+      ∙ (λ j. lane_part g a scale (codes "medium") (codes "medium-") (sym is j).name (length a.operators + i) (is_over i) xs ++ medium_lanes g a scale xs (one j) (drop (one j) media))
