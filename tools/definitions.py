@@ -15,8 +15,8 @@ from lexer import blanked
 from repository import TOP, Listing, files, root_of, text_of
 
 PATH = "docs/DEFINITIONS.md"
-# The crates whose public calls a user of the program meets.
-CRATES = ("command_plan", "command_status", "top_plans", "syndex_program")
+# The crates whose public calls a user of the programs meets.
+CRATES = ("command_plan", "command_status", "top_plans", "syndex_program", "lab_words", "lab_plans", "lab_program")
 # An import of definitions: the crate, the file in its specs/, and what is taken from it.
 IMPORT = re.compile(r"ghost use Rattle\.(\w+)\.specs\.([\w.]+)\.\{([^}]*)\}")
 CLAUSE = re.compile(r"\b(?:requires|ensures)\b[^{}]*")

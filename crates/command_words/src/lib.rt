@@ -29,7 +29,7 @@ mod number;
 
 pub use commands::{Command, JobCommand, PlainCommand};
 use given::{Given, given_words};
-use number::number_up_to;
+pub use number::number_up_to;
 use std::alloc::Global;
 use syn_base::OutOfMemory;
 

@@ -1,13 +1,13 @@
 pub mod Loads
 pub mod Checks
 pub mod Schedules
-mod Only
-mod TextRefusals
+pub mod Only
+pub mod TextRefusals
 mod DefinitionRefusals
-mod MarkRefusals
-mod ArchitectureRefusals
-mod DurationRefusals
-mod TableRefusals
+pub mod MarkRefusals
+pub mod ArchitectureRefusals
+pub mod DurationRefusals
+pub mod TableRefusals
 mod CodeRefusals
 pub mod Walk
 pub mod Commands

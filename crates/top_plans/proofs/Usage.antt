@@ -35,7 +35,7 @@ module _ {R A : Type 0} where
   no_stop : (a : A) (b : Ending R) → Ok a ≡ stop b → ⊥
   no_stop a b e = cc
 
-  never_made : (u : R) (old new : Held) (plan : Plan R A) (made : Result A (Ending R)) → RefusesOnly (λ r. ¬ (r ≡ u)) plan → Makes old new plan made → made ≡ Err (refused u) → ⊥
+  pub never_made : (u : R) (old new : Held) (plan : Plan R A) (made : Result A (Ending R)) → RefusesOnly (λ r. ¬ (r ≡ u)) plan → Makes old new plan made → made ≡ Err (refused u) → ⊥
   never_made u old new (give a) made n (gives (inl g, stay)) e = no_stop a (refused u) (sym g ∙ e)
   never_made u old new (give a) made n (gives (inr g, stay)) e = let q = same_stop no_memory (refused u) (sym g ∙ e) in cc
   never_made u old new (refuse r) made n (refuses (inl g, stay)) e = n (same_refused r u (same_stop (refused r) (refused u) (sym g ∙ e)))

@@ -102,21 +102,21 @@ pub record IsTold (r : Refusal) : Type 0 where
   pub no_usage : ¬ (r ≡ usage)
   pub no_want : ¬ (r ≡ wants_memory)
 
-told_above : (fault : LimitFault) → IsTold (above fault)
+pub told_above : (fault : LimitFault) → IsTold (above fault)
 told_above fault = record { no_usage = λ q. cc; no_want = λ q. cc }
 
-told_algorithm : (e : AlgoError) → texts.Stays e → IsTold (of_algorithm e)
+pub told_algorithm : (e : AlgoError) → texts.Stays e → IsTold (of_algorithm e)
 told_algorithm (algorithm.Refused fault) s = record { no_usage = λ q. cc; no_want = λ q. cc }
 told_algorithm (algorithm.Limit fault) s = told_above fault
 told_algorithm algorithm.TooLarge s = absurd s
 told_algorithm algorithm.OutOfMemory s = absurd s
 
-told_architecture : (e : ArchiError) → architectures.Stays e → IsTold (of_architecture e)
+pub told_architecture : (e : ArchiError) → architectures.Stays e → IsTold (of_architecture e)
 told_architecture (architecture.Refused fault) s = record { no_usage = λ q. cc; no_want = λ q. cc }
 told_architecture (architecture.Limit fault) s = told_above fault
 told_architecture architecture.OutOfMemory s = absurd s
 
-told_sensors : (e : SensorError) → tables.Stays e → IsTold (of_sensors e)
+pub told_sensors : (e : SensorError) → tables.Stays e → IsTold (of_sensors e)
 told_sensors (sensors.Refused fault) s = record { no_usage = λ q. cc; no_want = λ q. cc }
 told_sensors (sensors.Limit fault) s = told_above fault
 told_sensors sensors.OutOfMemory s = absurd s
@@ -126,7 +126,7 @@ told_code (macros.Refused fault) s = record { no_usage = λ q. cc; no_want = λ 
 told_code (macros.Limit fault) s = told_above fault
 told_code macros.OutOfMemory s = absurd s
 
-told_durations : (e : ActualError) → durations.Stays e → IsTold (of_durations e)
+pub told_durations : (e : ActualError) → durations.Stays e → IsTold (of_durations e)
 told_durations (actual.Refused fault) s = record { no_usage = λ q. cc; no_want = λ q. cc }
 told_durations (actual.Limit fault) s = told_above fault
 told_durations actual.OutOfMemory s = absurd s

@@ -81,40 +81,41 @@ use Rattle.top_plans.specs.Checks.{lacking}
 abbrev pub Made : Type 0
 Made = Plan Refusal Given
 
+-- The parts of plans, whatever a plan gives in the end.
 -- read a file, or refuse it where it is too long
-abbrev pub read_file : File → Bytes → (Bytes → Made) → Made
+abbrev pub read_file : {A : Type 0} → File → Bytes → (Bytes → Plan Refusal A) → Plan Refusal A
 read_file file name next = read file name (above file_limit) next
 
 -- go on where there is no limit fault
-abbrev pub unless : Option LimitFault → Made → Made
+abbrev pub unless : {A : Type 0} → Option LimitFault → Plan Refusal A → Plan Refusal A
 unless (Some fault) next = refuse (above fault)
 unless None next = next
 
 -- what a text says of an algorithm, and then what its definitions resolve to
-abbrev pub algorithm_in : Bytes → (Defs → Vertex → Made) → Made
+abbrev pub algorithm_in : {A : Type 0} → Bytes → (Defs → Vertex → Plan Refusal A) → Plan Refusal A
 algorithm_in text next =
     after of_algorithm (definitions_of text) (λ defs. after of_algorithm (elaboration_of defs) (next defs))
 
 -- what a text says of an architecture
-abbrev pub described_in : Bytes → (Described → Made) → Made
+abbrev pub described_in : {A : Type 0} → Bytes → (Described → Plan Refusal A) → Plan Refusal A
 described_in text next = after of_architecture (description_of text) next
 
 -- the same, and then the durations of the algorithm's operations
-abbrev pub architecture_in : Bytes → Vertex → (Described → Table → Made) → Made
+abbrev pub architecture_in : {A : Type 0} → Bytes → Vertex → (Described → Table → Plan Refusal A) → Plan Refusal A
 architecture_in text main next = described_in text (λ d. after of_architecture (durations_of (flat_of main) d) (next d))
 
 -- the rows of a table
-abbrev pub table_in : Vertex → Bytes → (Reactions → Made) → Made
+abbrev pub table_in : {A : Type 0} → Vertex → Bytes → (Reactions → Plan Refusal A) → Plan Refusal A
 table_in main table next = after of_sensors (rows_of main (records default_config (strip_bom table))) next
 
 -- the same of files
-abbrev pub algorithm_plan : Bytes → (Defs → Vertex → Made) → Made
+abbrev pub algorithm_plan : {A : Type 0} → Bytes → (Defs → Vertex → Plan Refusal A) → Plan Refusal A
 algorithm_plan a next = read_file Algorithm a (λ text. algorithm_in text next)
 
-abbrev pub architecture_plan : Bytes → Vertex → (Described → Table → Made) → Made
+abbrev pub architecture_plan : {A : Type 0} → Bytes → Vertex → (Described → Table → Plan Refusal A) → Plan Refusal A
 architecture_plan h main next = read_file Architecture h (λ text. architecture_in text main next)
 
-abbrev pub table_plan : Vertex → Bytes → (Reactions → Made) → Made
+abbrev pub table_plan : {A : Type 0} → Vertex → Bytes → (Reactions → Plan Refusal A) → Plan Refusal A
 table_plan main s next = read_file Sensors s (λ table. table_in main table next)
 
 -- both canonical texts, with an empty line between them

@@ -1,21 +1,21 @@
 //! The command `sim A S`: what the actuators take by the synchronous meaning. `commands` calls `sim_text`.
-ghost use Rattle.std.specs.Prelude.{◌≡◌, ◌*◌, sum, IfOk};
-ghost use Rattle.algo_tree.specs.Ends.{sensor_lengths, actuator_lengths};
+ghost use Rattle.std.specs.Prelude.{◌≡◌, IfOk};
+ghost use Rattle.algo_tree.specs.Ends.{sensor_lengths};
 ghost use Rattle.command_plan.specs.Run.{Makes};
 ghost use Rattle.outside.specs.Shelf.{Held, Stays};
 ghost use Rattle.operation_paths.specs.Bounded.{HasBounds};
 ghost use Rattle.operation_paths.specs.Named.{HasNames};
 ghost use Rattle.compiler.specs.Reads.{text_in};
 ghost use Rattle.top_plans.specs.Given.{output_of};
-ghost use Rattle.top_plans.specs.Plans.{excess, rows_plan, sim_plan};
+ghost use Rattle.top_plans.specs.Plans.{rows_plan, sim_plan};
 
 use act_text::acts_text;
 use algo_tree::Tree;
 use command_status::Status;
-use compiler::{read_algorithm, read_table};
+use compiler::{excess, output_width, read_algorithm, read_table};
 use outside::Shelf;
 use std::alloc::Global;
-use syn_base::{LimitFault, LimitKind, OutOfMemory, SensorRows, Shape};
+use syn_base::{OutOfMemory, SensorRows};
 use sync_meaning::simulate;
 
 /// The text of what the actuators take, or why there is none.
@@ -44,33 +44,6 @@ fn text_over(alloc: Global, tree: &Tree, rows: &SensorRows) -> Result<Vec<u8>, S
     match excess(rows.count(), width) {
         Some(limit) => Err(Status::Limit(limit)),
         None => Ok(print_acts(alloc, tree, rows)?),
-    }
-}
-
-/// How many elements the actuators take in a reaction.
-fn output_width(alloc: Global, tree: &Tree) -> Result<usize, OutOfMemory>
-    ensures { IfOk result (λ width. width ≡ sum (actuator_lengths tree.now)) }
-{
-    let lens = tree.actuator_lens(alloc)?;
-    let shape = Shape::new(alloc, &lens)?;
-    Ok(shape.width())
-}
-
-/// Whether this many reactions of this many elements are more than an output may have.
-fn excess(reactions: usize, width: usize) -> Option<LimitFault>
-    ensures { result ≡ excess (reactions * width) }
-{
-    let count = reactions as u128 * width as u128;
-    let which = LimitKind::Output;
-    let bound = which.bound();
-    if count > bound {
-        Some(LimitFault {
-            which,
-            count,
-            bound,
-        })
-    } else {
-        None
     }
 }
 

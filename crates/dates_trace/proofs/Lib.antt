@@ -1,0 +1,3 @@
+pub mod Overlap
+pub mod Shown
+pub mod Told

@@ -1,0 +1,12 @@
+//! The trace of the dates of a schedule's reactions in the Trace Event Format, in the lanes of the
+//! chart's trace.
+//!
+//! `dates_trace` computes the dates and makes their trace.
+#![tactic(auto)]
+
+mod laws;
+mod reaction;
+mod trace;
+
+pub use laws::{dates_do_not_overlap, each_date_is_shown_once};
+pub use trace::dates_trace;

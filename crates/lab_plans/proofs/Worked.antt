@@ -1,0 +1,80 @@
+-- Plans over worked texts, and what is answered of the pressure run.
+use Rattle.std.proofs.Common.{◌≡◌, ℕ, refl, List, [], ◌∷◌, ◌++◌, length, Option, Some, None, Result, Ok, Err, codes}
+use Rattle.std.specs.Fmt.{digits}
+use Rattle.syn_base.specs.Bytes.{Bytes}
+use Rattle.outside.specs.Bytes.{named}
+use Rattle.archi_defs.specs.declared.fault.ArchiCause.TheVariants as archi_cause
+use Rattle.actual_defs.specs.declared.fault.ActualFault.TheVariants.{Longer}
+use Rattle.command_plan.specs.Plan.{outcome}
+use Rattle.command_status.specs.Status.{Refusal, bad_architecture, bad_durations, usage}
+use Rattle.top_plans.specs.Plans.{schedule_of}
+use Rattle.lab_words.specs.Command.{Command, Effort, code, report, schedule, dates}
+use Rattle.lab_plans.specs.Asked.{Asked, of_text, of_schedule, of_dates}
+use Rattle.lab_plans.specs.Answers.{answer}
+use Rattle.lab_plans.specs.Plans.{plan_of}
+
+abbrev text : List Bytes → Bytes
+text [] = []
+text (l ∷ ls) = l ++ 10 ∷ text ls
+
+abbrev algorithm : Bytes
+algorithm = text (codes "algorithm 1" ∷ codes "sensor Sense 1" ∷ codes "actuator Act 1" ∷ codes "graph main" ∷ codes "ref s Sense" ∷ codes "ref a Act" ∷ codes "edge s.o a.i" ∷ codes "end" ∷ [])
+
+abbrev architecture : Bytes
+architecture = text (codes "architecture 1" ∷ codes "operator P" ∷ codes "duration Sense P 1" ∷ codes "duration Act P 2" ∷ [])
+
+-- an actuator that lasts longer
+abbrev longer : Bytes
+longer = text (codes "architecture 1" ∷ codes "operator P" ∷ codes "duration Sense P 1" ∷ codes "duration Act P 3" ∷ [])
+
+-- files `A`, `H`, `L`, and `B` which is no text of any kind
+abbrev told : Bytes → Option Bytes
+told = named ((codes "A", algorithm) ∷ (codes "H", architecture) ∷ (codes "L", longer) ∷ (codes "B", codes "?\n") ∷ [])
+
+abbrev untried : Effort
+untried = record { tries = 0; seed = 1 }
+
+-- what is asked for: the number of operations, and the number of reactions that are dated
+abbrev sizes : Option (Result Asked Refusal) → List ℕ
+sizes (Some (Ok (of_text bytes))) = []
+sizes (Some (Ok (of_schedule subject p))) = length p.graph.vertices ∷ []
+sizes (Some (Ok (of_dates p bytes n))) = length p.graph.vertices ∷ n ∷ []
+sizes (Some (Err r)) = []
+sizes None = []
+
+-- what is answered of the pressure run
+abbrev answered : Option (Result Asked Refusal) → Option (Result Bytes Refusal)
+answered (Some (Ok (of_text bytes))) = Some (Ok bytes)
+answered (Some (Ok (of_schedule subject p))) = Some (answer (of_schedule subject p) (schedule_of p.graph p.archi p.table))
+answered (Some (Ok (of_dates p bytes n))) = Some (answer (of_dates p bytes n) (schedule_of p.graph p.archi p.table))
+answered (Some (Err r)) = Some (Err r)
+answered None = None
+
+abbrev outcome_of : Command → Option (Result Asked Refusal)
+outcome_of command = outcome told (plan_of (Some command))
+
+no_command : outcome told (plan_of None) ≡ Some (Err usage)
+no_command = refl
+
+-- the durations that really occur are read, and not judged, before a schedule is searched
+asked : (sizes (outcome_of (schedule report (codes "A") (codes "H") untried)) ≡ 2 ∷ [])
+    × (sizes (outcome_of (dates (codes "A") (codes "H") (codes "L") 7 untried)) ≡ 2 ∷ 7 ∷ [])
+    × (sizes (outcome_of (dates (codes "A") (codes "H") (codes "X") 7 untried)) ≡ [])
+asked = (refl, refl, refl)
+
+-- an architecture is refused before a file of durations is asked for, which is not told here
+unread : outcome_of (dates (codes "A") (codes "B") (codes "X") 7 untried) ≡ Some (Err (bad_architecture (record { line = 1; cause = archi_cause.BadLine })))
+unread = refl
+
+undated : answered (outcome_of (dates (codes "A") (codes "H") (codes "L") 7 untried)) ≡ Some (Err (bad_durations (Longer (codes "Act"))))
+undated = refl
+
+coded : answered (outcome_of (schedule code (codes "A") (codes "H") untried))
+    ≡ Some (Ok (codes "processor_(P)\nsemaphores_()\nalloc_(b0,1)\nmain_\nloop_\nop s(;b0)\nop a(b0;)\nendloop_\nendmain_\n"))
+unfolding digits
+coded = refl
+
+reported : answered (outcome_of (schedule report (codes "A") (codes "H") untried))
+    ≡ Some (Ok (codes "length 3\noperator P busy 3 share 1.000\nalone P 3 speed-up 1.000\nbound 3 ratio 1.000\n"))
+unfolding digits
+reported = refl

@@ -1,0 +1,40 @@
+-- What a command asks for once all its files are read and accepted, and which schedules may be found for it.
+use Rattle.std.specs.Prelude.{◌≡◌, ◌≢◌, ℕ, IsTrue}
+use Rattle.syn_base.specs.Bytes.{Bytes}
+use Rattle.archi_graph.specs.Archi.{Architecture as Archi}
+use Rattle.durations.specs.Table.{Table, entry_in}
+use Rattle.flat_graph.specs.Graph.{Graph}
+use Rattle.pressure_heuristic.specs.Adequation.{IsPressureRun}
+use Rattle.schedule.specs.declared.decision.Schedule.{Schedule}
+use Rattle.schedule.specs.Valid.{is_valid}
+use Rattle.schedule_search.specs.Found.{IsNoLongerThanAlone, IsNoLongerThanRun}
+use Rattle.lab_words.specs.Command.{Effort, Subject}
+
+-- What is to be scheduled: the operations, the architecture, how long each operation lasts on each operator, and how a
+-- schedule is searched.
+pub record Problem : Type 0 where
+  pub graph : Graph
+  pub archi : Archi
+  pub table : Table
+  pub effort : Effort
+
+-- a text by itself; something of a schedule; or the dates of so many reactions of one, by a text of the durations that
+-- really occur
+pub data Asked : Type 0 where
+  of_text : Bytes → Asked
+  of_schedule : Subject → Problem → Asked
+  of_dates : Problem → Bytes → ℕ → Asked
+
+-- A schedule that a search may find: it is valid, and no longer than the pressure run over the least routes. Where
+-- nothing is tried it is that run; else it is no longer than all operations on one operator.
+pub record IsFound (p : Problem) (s : Schedule) : Type 0 where
+  pub valid : IsTrue (is_valid p.graph p.archi (entry_in p.table) s)
+  pub shorter : IsNoLongerThanRun p.graph p.archi p.table s
+  pub alone : p.effort.tries ≢ 0 → IsNoLongerThanAlone p.graph p.archi (entry_in p.table) s
+  pub none : p.effort.tries ≡ 0 → IsPressureRun p.graph p.archi p.table s
+
+-- the schedule may be found for what is asked for; a text by itself is that of none
+abbrev pub IsFoundFor : Asked → Schedule → Type 0
+IsFoundFor (of_text text) s = Unit {0}
+IsFoundFor (of_schedule subject p) s = IsFound p s
+IsFoundFor (of_dates p text n) s = IsFound p s

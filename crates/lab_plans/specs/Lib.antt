@@ -1,0 +1,7 @@
+pub mod Names
+pub mod Asked
+pub mod Answers
+pub mod Plans
+pub mod Run
+pub mod Refusals
+pub mod Replies

@@ -1,0 +1,22 @@
+//! The plans of the commands of `syndex_lab`, and the laws of what they answer: what each command reads, in which order
+//! it is refused, what it asks for, and what is answered of the schedule that was found. `lab_program` carries them out.
+//!
+//! A plan ends in what is asked for, and not in a text, since a search may find any schedule that is valid and no
+//! longer than others: the text is defined of that one. Each law is the contract of a function that does nothing.
+#![tactic(auto)]
+
+ghost use Rattle.lab_plans.specs.Refusals.{NoAnswerWantsMemory, NoPlanWantsMemory};
+ghost use Rattle.lab_plans.specs.Replies.{CommandsReply};
+
+/// What was carried out of the plan of the words replies.
+pub fn commands_reply()
+    ensures { CommandsReply }
+{}
+
+/// No refusal is that for want of memory, whatever the files hold and whichever schedule is found: words and texts are
+/// refused for what they say alone. So where a refusal is told and no call of the outside world fails, it is that
+/// refusal which is answered, unless memory really ran out.
+pub fn none_wants_memory()
+    ensures plans { NoPlanWantsMemory }
+    ensures answers { NoAnswerWantsMemory }
+{}

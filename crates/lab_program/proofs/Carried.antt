@@ -1,0 +1,105 @@
+-- From a text that was made to what was carried out, part by part.
+use Rattle.std.proofs.Common.{◌≡◌, ◌∙◌, ℕ, [], Result, Ok, Err, inl, inr, refl, subst}
+use Rattle.std.specs.Prelude.{Vec}
+use Rattle.syn_base.specs.Bytes.{Bytes}
+use Rattle.syn_base.specs.Rows.{Reactions}
+use Rattle.outside.specs.Shelf.{Held}
+use Rattle.outside.specs.Sink.{Sunk}
+use Rattle.outside.specs.declared.file.File.TheVariants.{Durations}
+use Rattle.algo_defs.specs.declared.definition.Defs.{Defs}
+use Rattle.algo_text.specs.Text.{definitions_of}
+use Rattle.elaboration.specs.Elaborated.{elaboration_of}
+use Rattle.algo_tree.specs.Tree.{Vertex}
+use Rattle.archi_defs.specs.Text.{Described, description_of}
+use Rattle.csv.specs.Reading.{default_config, records, strip_bom}
+use Rattle.durations.specs.Table.{Table, durations_of}
+use Rattle.flat_laws.specs.FlatOf.{flat_of}
+use Rattle.sensor_table.specs.SensorTable.{rows_of}
+use Rattle.schedule.specs.declared.decision.Schedule.{Schedule}
+use Rattle.command_plan.specs.Plan.{after, give}
+use Rattle.command_plan.specs.Ending.{Ending, no_memory}
+use Rattle.command_plan.specs.Run.{Makes, WasRead, was_read}
+use Rattle.command_plan.proofs.Makes.{after_ok, gave, memory}
+use Rattle.command_status.specs.Status.{Refusal, ending_of, of_algorithm, of_architecture, of_sensors}
+use Rattle.command_status.specs.declared.status.Status.{Status}
+use Rattle.top_plans.specs.Plans.{algorithm_plan, architecture_plan, read_file, table_plan}
+use Rattle.compiler.specs.Compiles.{described}
+use Rattle.compiler.specs.Reads.{ReadsAlgorithm, ReadsCompilation, ReadsTable}
+use Rattle.compiler.specs.declared.stages.Algorithm.{Algorithm}
+use Rattle.compiler.specs.declared.stages.Compilation.{Compilation}
+use Rattle.lab_words.specs.Command.{Effort}
+use Rattle.lab_plans.specs.Asked.{Asked, of_dates}
+use Rattle.lab_plans.specs.Answers.{answer}
+use Rattle.lab_plans.specs.Plans.{Asks, problem}
+use Rattle.lab_plans.specs.Run.{Ends, Ran, Writes}
+use Rattle.lab_program.specs.Texts.{Carries, GivesOfFound, Is, Written}
+
+-- the plan stopped so
+pub stopped : {A : Type 0} (plan : Asks) (old new : Held) (status : Status) → Makes old new plan (Err (ending_of status)) → Carries {A = A} plan old new (Err status)
+stopped plan old new status m = (Err (ending_of status), m, refl)
+
+-- memory ran out
+pub wanted : {A : Type 0} (plan : Asks) (held : Held) (status : Status) → ending_of status ≡ no_memory → Carries {A = A} plan held held (Err status)
+wanted plan held status is = (Err no_memory, memory held plan, is)
+
+-- what is asked for was found
+pub found_so : {A : Type 0} (asked : Asked) (held : Held) (result : Result (Vec ℕ A) Status) → GivesOfFound asked result → Carries (give asked) held held result
+found_so asked held (Err status) (inl is) = wanted (give asked) held status is
+found_so asked held (Ok text) (inl is) = absurd is
+found_so asked held result (inr h) = (Ok asked, gave held asked (Ok asked) refl, h)
+
+-- an algorithm was read, and then the plan went on with it
+pub went_on : {A : Type 0} (name : Bytes) (a b c : Held) (algorithm : Algorithm) (next : Defs → Vertex → Asks) (result : Result (Vec ℕ A) Status)
+    → ReadsAlgorithm name a b (Ok algorithm) → Carries (next algorithm.defs algorithm.tree) b c result → Carries (algorithm_plan name next) a c result
+went_on name a b c algorithm next result (text, read, is) (made, m, h) = (
+  made,
+  was_read b text read (after_ok b c of_algorithm (definitions_of text) (λ defs. after of_algorithm (elaboration_of defs) (next defs)) made algorithm.defs is.says
+      (after_ok b c of_algorithm (elaboration_of algorithm.defs) (next algorithm.defs) made algorithm.tree is.resolves m)),
+  h,
+)
+
+-- a compilation was made from a file, and then the plan went on with it
+pub compiled_on : {A : Type 0} (main : Vertex) (name : Bytes) (a b c : Held) (compilation : Compilation) (next : Described → Table → Asks) (result : Result (Vec ℕ A) Status)
+    → ReadsCompilation main name a b (Ok compilation) → Carries (next (described compilation.text) compilation.durations) b c result → Carries (architecture_plan name main next) a c result
+compiled_on main name a b c compilation next result (text, read, is) (made, m, h) =
+    let d = described compilation.text in (
+      made,
+      was_read b text read (after_ok b c of_architecture (description_of text) (λ d. after of_architecture (durations_of (flat_of main) d) (next d)) made d is.says
+          (after_ok b c of_architecture (durations_of (flat_of main) d) (next d) made compilation.durations is.lasts m)),
+      h,
+    )
+
+-- a table was read, and then the plan went on with its rows
+pub rows_on : {A : Type 0} (main : Vertex) (name : Bytes) (a b c : Held) (rows : Reactions) (next : Reactions → Asks) (result : Result (Vec ℕ A) Status)
+    → ReadsTable main name a b (Ok rows) → Carries (next rows) b c result → Carries (table_plan main name next) a c result
+rows_on main name a b c rows next result (table, read, is) (made, m, h) = (
+  made,
+  was_read b table read (after_ok b c of_sensors (rows_of main (records default_config (strip_bom table))) next made rows is.0 m),
+  h,
+)
+
+-- the text was made, and then it was written
+ends_so : {A : Type 0} (answered : Result Bytes Refusal) (result : Result (Vec ℕ A) Status) (sunk sunk' : Sunk) (ending : Ending Refusal) → Is answered result → Written result sunk sunk' ending → Ends answered sunk sunk' ending
+ends_so (Ok bytes) (Ok text) sunk sunk' ending is h = subst (λ (b : Bytes). Writes b sunk sunk' ending) is h
+ends_so (Err refusal) (Err status) sunk sunk' ending is h = (h.0 ∙ is, h.1)
+ends_so (Ok bytes) (Err status) sunk sunk' ending is h = absurd is
+ends_so (Err refusal) (Ok text) sunk sunk' ending is h = absurd is
+
+pub ran_so : {A : Type 0} (plan : Asks) (held held' : Held) (result : Result (Vec ℕ A) Status) (sunk sunk' : Sunk) (ending : Ending Refusal) → Carries plan held held' result → Written result sunk sunk' ending
+    → Ran plan held held' sunk sunk' ending
+ran_so plan held held' result sunk sunk' ending (Ok asked, m, (s, found, is)) h = (Ok asked, m, (s, found, ends_so (answer asked s) result sunk sunk' ending is h))
+ran_so plan held held' (Err status) sunk sunk' ending (Err stop, m, is) h = (Err stop, m, (h.0 ∙ is, h.1))
+ran_so plan held held' (Ok text) sunk sunk' ending (Err stop, m, is) h = absurd is
+
+-- a text by itself is that of no schedule
+abbrev pub no_schedule : Schedule
+no_schedule = record { decisions = [] }
+
+-- the plan of dates after an architecture
+abbrev pub dates_behind : Bytes → ℕ → Effort → Vertex → Described → Table → Asks
+dates_behind g n effort main d t = read_file Durations g (λ text. give (of_dates (problem main d t effort) text n))
+
+-- a text of durations was read, and then the plan went on with it
+pub read_on : {A : Type 0} (name : Bytes) (a b : Held) (bytes : Bytes) (next : Bytes → Asks) (result : Result (Vec ℕ A) Status)
+    → WasRead Durations name a b bytes → Carries (next bytes) b b result → Carries (read_file Durations name next) a b result
+read_on name a b bytes next result read (made, m, h) = (made, was_read b bytes read m, h)

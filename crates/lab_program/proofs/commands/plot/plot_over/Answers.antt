@@ -1,0 +1,55 @@
+use Rattle.std.proofs.Common.{◌≡◌, ◌∙◌, ◌*◌, ℕ, length, sum, sym, ap, inl, refl, subst}
+use Rattle.std.specs.Prelude.{Ok, Some, None, Option}
+use Rattle.std.proofs.lemmas.Result.{err_from_is_err_and}
+use Rattle.syn_base.specs.declared.limits.LimitFault.{LimitFault}
+use Rattle.algo_tree.specs.Ends.{actuator_lengths}
+use Rattle.act_text.specs.Names.{actuator_names}
+use Rattle.sync_meaning.specs.Simulated.{simulated}
+use Rattle.signal_plot.specs.Plot.{plot}
+use Rattle.command_plan.specs.Ending.{refused}
+use Rattle.command_plan.specs.Plan.{give}
+use Rattle.command_plan.specs.Run.{Makes, refuses}
+use Rattle.command_plan.proofs.Makes.{gave}
+use Rattle.command_status.specs.Status.{above}
+use Rattle.top_plans.specs.Plans.{excess, unless}
+use Rattle.lab_plans.specs.Asked.{of_text}
+use Rattle.lab_plans.specs.Plans.{plotted}
+use Rattle.lab_program.proofs.Carried.{no_schedule, wanted}
+use Rattle.lab_program.proofs.Stops.{other}
+use Rattle.lab_program.proofs.commands.plot.plot_over.Goals as goal
+
+pub returns-in_err-width : goal.returns-in_err-width
+returns-in_err-width c =
+    let p = err_from_is_err_and c.from_residual.result c.from_residual.ensures.1 in
+    rw (p.1, p.2) (λ held. wanted (plotted c.args.tree.now c.args.rows.now) held _ refl)
+
+pub returns-in-Some : goal.returns-in-Some
+returns-in-Some c = λ held.
+    let main = c.args.tree.now in
+    let rows = c.args.rows.now in
+    let counted : c.count.result * c.in_ok-width.width ≡ length rows.reactions * sum (actuator_lengths main) =
+    ap (λ (n : ℕ). n * c.in_ok-width.width) c.count.ensures ∙ ap (λ (n : ℕ). length rows.reactions * n) c.in_ok-width.ensures in
+    let over : excess (length rows.reactions * sum (actuator_lengths main)) ≡ Some c.in-Some.limit = sym (ap excess counted) ∙ sym c.excess.ensures ∙ c.in-Some.is in
+    let ending = refused (above c.in-Some.limit) in (
+      other ending,
+      subst (λ (o : Option LimitFault). Makes held held (unless o (give (of_text (plot (actuator_names main) (simulated main rows))))) (other ending)) (sym over) (refuses (inl refl, λ file name. refl)),
+      refl,
+    )
+
+pub returns-in_err-print_plot-in-None : goal.returns-in_err-print_plot-in-None
+returns-in_err-print_plot-in-None c =
+    let p = err_from_is_err_and c.from_residual-in_err-print_plot-in-None.result c.from_residual-in_err-print_plot-in-None.ensures.1 in
+    rw (p.1, p.2) (λ held. wanted (plotted c.args.tree.now c.args.rows.now) held _ refl)
+
+pub returns-in_ok-print_plot-in-None : goal.returns-in_ok-print_plot-in-None
+returns-in_ok-print_plot-in-None c = λ held.
+    let main = c.args.tree.now in
+    let rows = c.args.rows.now in
+    let counted : c.count.result * c.in_ok-width.width ≡ length rows.reactions * sum (actuator_lengths main) =
+    ap (λ (n : ℕ). n * c.in_ok-width.width) c.count.ensures ∙ ap (λ (n : ℕ). length rows.reactions * n) c.in_ok-width.ensures in
+    let within : excess (length rows.reactions * sum (actuator_lengths main)) ≡ None = sym (ap excess counted) ∙ sym c.excess.ensures ∙ c.in-None.is in
+    let asked = of_text (plot (actuator_names main) (simulated main rows)) in (
+      Ok asked,
+      subst (λ (o : Option LimitFault). Makes held held (unless o (give asked)) (Ok asked)) (sym within) (gave held asked (Ok asked) refl),
+      (no_schedule, tt, c.in_ok-print_plot-in-None.ensures),
+    )

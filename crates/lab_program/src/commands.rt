@@ -1,0 +1,89 @@
+//! The commands, one a module, and which function makes the text of which.
+ghost use Rattle.std.specs.Prelude.{Some};
+ghost use Rattle.command_status.specs.Status.{ending_of};
+ghost use Rattle.lab_plans.specs.Plans.{plan_for};
+ghost use Rattle.lab_plans.specs.Replies.{LeavesUnread};
+ghost use Rattle.lab_plans.specs.Run.{Ran};
+ghost use Rattle.lab_words.specs.View.{view_of};
+ghost use Rattle.outside.specs.Shelf.{Stays};
+ghost use Rattle.lab_program.specs.Counts.{IsCounted};
+ghost use Rattle.lab_program.specs.Texts.{Carries, Written};
+
+pub mod dates;
+pub mod graph;
+pub mod plot;
+pub mod scheduled;
+
+use crate::commands::dates::{Extent, dates_text};
+use crate::commands::graph::graph_text;
+use crate::commands::plot::plot_text;
+use crate::commands::scheduled::schedule_text;
+use command_status::Status;
+use lab_words::Command;
+use outside::{Failed, Shelf, Sink, write_whole};
+use std::alloc::Global;
+
+/// Carries out a command, and returns how it ended.
+pub fn carry_out<S: Shelf, K: Sink>(
+    alloc: Global,
+    command: &Command,
+    shelf: &mut S,
+    out: &mut K,
+) -> Status
+    requires { IsCounted (view_of command.now) }
+    ensures ran { Ran (plan_for (view_of command.now)) (S.held shelf.old) (S.held shelf.new)
+        (K.sunk out.old) (K.sunk out.new) (ending_of result) }
+    ensures stays { Stays (S.held shelf.old) (S.held shelf.new) }
+    ensures unread { LeavesUnread (Some (view_of command.now)) (S.held shelf.old) (S.held shelf.new) }
+{
+    let made = command_text(alloc, command, shelf);
+    write_text(out, made)
+}
+
+/// The text that a command writes, or why there is none.
+fn command_text<S: Shelf>(
+    alloc: Global,
+    command: &Command,
+    shelf: &mut S,
+) -> Result<Vec<u8>, Status>
+    requires { IsCounted (view_of command.now) }
+    ensures carries { Carries (plan_for (view_of command.now)) (S.held shelf.old) (S.held shelf.new) result }
+    ensures stays { Stays (S.held shelf.old) (S.held shelf.new) }
+{
+    match command {
+        Command::Schedule {
+            subject,
+            algorithm,
+            architecture,
+            effort,
+        } => schedule_text(alloc, shelf, algorithm, architecture, *subject, *effort),
+        Command::Graph { algorithm } => graph_text(alloc, shelf, algorithm),
+        Command::Plot { algorithm, sensors } => plot_text(alloc, shelf, algorithm, sensors),
+        Command::Dates {
+            algorithm,
+            architecture,
+            durations,
+            reactions,
+            effort,
+        } => {
+            let extent = Extent {
+                reactions: *reactions,
+                effort: *effort,
+            };
+            dates_text(alloc, shelf, algorithm, architecture, durations, extent)
+        }
+    }
+}
+
+/// Writes the text that was made by one call, or returns why there is none.
+fn write_text<K: Sink>(out: &mut K, made: Result<Vec<u8>, Status>) -> Status
+    ensures { Written made (K.sunk out.old) (K.sunk out.new) (ending_of result) }
+{
+    match made {
+        Err(refused) => refused,
+        Ok(text) => match write_whole(out, &text) {
+            Ok(()) => Status::Done,
+            Err(Failed) => Status::WriteFault,
+        },
+    }
+}

@@ -1,0 +1,64 @@
+//! The command `plot A S`: what the actuators take, as a picture. `commands` calls `plot_text`.
+ghost use Rattle.std.specs.Prelude.{◌≡◌, IfOk};
+ghost use Rattle.act_text.specs.Names.{actuator_names};
+ghost use Rattle.algo_tree.specs.Ends.{sensor_lengths};
+ghost use Rattle.lab_plans.specs.Plans.{plot_plan, plotted};
+ghost use Rattle.operation_paths.specs.Bounded.{HasBounds};
+ghost use Rattle.operation_paths.specs.Named.{HasNames};
+ghost use Rattle.outside.specs.Shelf.{Held, Stays};
+ghost use Rattle.signal_plot.specs.Plot.{plot};
+ghost use Rattle.sync_meaning.specs.Simulated.{simulated};
+ghost use Rattle.lab_program.specs.Texts.{Carries};
+
+use act_text::actuators_of;
+use algo_tree::Tree;
+use command_status::Status;
+use compiler::{excess, output_width, read_algorithm, read_table};
+use outside::Shelf;
+use signal_plot::plot_rows;
+use std::alloc::Global;
+use syn_base::{OutOfMemory, SensorRows};
+use sync_meaning::simulate;
+
+/// What the actuators take over a table, as a picture, or why there is none.
+pub fn plot_text<S: Shelf>(
+    alloc: Global,
+    shelf: &mut S,
+    algorithm: &str,
+    sensors: &str,
+) -> Result<Vec<u8>, Status>
+    ensures stays { Stays (S.held shelf.old) (S.held shelf.new) }
+    ensures carries { Carries (plot_plan algorithm.now sensors.now) (S.held shelf.old) (S.held shelf.new) result }
+{
+    let algorithm = read_algorithm(alloc, shelf, algorithm)?;
+    let rows = read_table(alloc, shelf, sensors, &algorithm.tree)?;
+    plot_over(alloc, &algorithm.tree, &rows)
+}
+
+/// The same over these rows, where it is within its bound.
+fn plot_over(alloc: Global, tree: &Tree, rows: &SensorRows) -> Result<Vec<u8>, Status>
+    requires lens { rows.now.lens ≡ sensor_lengths tree.now }
+    requires names { HasNames tree.now }
+    requires bounds { HasBounds tree.now }
+    ensures { (held : Held) → Carries (plotted tree.now rows.now) held held result }
+{
+    let width = output_width(alloc, tree)?;
+    match excess(rows.count(), width) {
+        Some(limit) => Err(Status::Limit(limit)),
+        None => Ok(print_plot(alloc, tree, rows)?),
+    }
+}
+
+/// The picture of what the actuators take over these rows.
+fn print_plot(alloc: Global, tree: &Tree, rows: &SensorRows) -> Result<Vec<u8>, OutOfMemory>
+    requires lens { rows.now.lens ≡ sensor_lengths tree.now }
+    requires names { HasNames tree.now }
+    requires bounds { HasBounds tree.now }
+    ensures { IfOk result (λ text. text.items ≡ plot (actuator_names tree.now) (simulated tree.now rows.now)) }
+{
+    let Ok(acts) = simulate(alloc, tree, rows) else {
+        return Err(OutOfMemory);
+    };
+    let names = actuators_of(alloc, tree)?;
+    plot_rows(alloc, &names, &acts)
+}

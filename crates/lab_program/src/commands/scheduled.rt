@@ -1,0 +1,178 @@
+//! The commands that write something of a schedule: `chart`, `trace`, `flat`, `code` and `report`.
+ghost use Rattle.std.specs.Prelude.{◌≡◌, IfOk, IsTrue};
+ghost use Rattle.chart_picture.specs.Picture.{picture};
+ghost use Rattle.compiler.specs.Compiles.{HasDurations};
+ghost use Rattle.durations.specs.Table.{entry_in};
+ghost use Rattle.graph_drawing.specs.FlatDrawing.{placed_drawing};
+ghost use Rattle.lab_plans.specs.Answers.{subject_text};
+ghost use Rattle.lab_plans.specs.Asked.{of_schedule};
+ghost use Rattle.lab_plans.specs.Plans.{schedule_plan};
+ghost use Rattle.lab_words.specs.Command.{Effort as Tried, code};
+ghost use Rattle.lab_words.specs.View.{effort_view, subject_view};
+ghost use Rattle.outside.specs.Shelf.{Stays};
+ghost use Rattle.report_text.specs.Text.{report_text};
+ghost use Rattle.schedule.specs.Valid.{is_valid};
+ghost use Rattle.schedule_report.specs.Numbers.{report};
+ghost use Rattle.trace_events.specs.Trace.{chart_trace};
+ghost use Rattle.lab_program.specs.Found.{problem_of};
+ghost use Rattle.lab_program.specs.Texts.{Carries, Gives, GivesOfFound};
+
+use crate::found::{build_program, find_schedule};
+use chart_picture::print_picture;
+use command_status::Status;
+use compiler::{Compilation, read_algorithm, read_architecture};
+use durations::durations_fit;
+use graph_drawing::print_placed_graph;
+use lab_words::{Effort, Subject};
+use macro_code::print_code;
+use outside::Shelf;
+use report_text::print_report;
+use schedule::Schedule;
+use schedule_report::report_of;
+use std::alloc::Global;
+use syn_base::OutOfMemory;
+use trace_events::print_chart_trace;
+
+/// What is written of a schedule of an algorithm on an architecture, or why there is none.
+pub fn schedule_text<S: Shelf>(
+    alloc: Global,
+    shelf: &mut S,
+    algorithm: &str,
+    architecture: &str,
+    subject: Subject,
+    effort: Effort,
+) -> Result<Vec<u8>, Status>
+    ensures stays { Stays (S.held shelf.old) (S.held shelf.new) }
+    ensures carries { Carries (schedule_plan (subject_view subject) algorithm.now architecture.now
+        (effort_view effort)) (S.held shelf.old) (S.held shelf.new) result }
+{
+    let algorithm = read_algorithm(alloc, shelf, algorithm)?;
+    let compilation = read_architecture(alloc, shelf, architecture, &algorithm.tree)?;
+    text_of_found(alloc, &compilation, subject, effort)
+}
+
+/// The same of what was compiled: a schedule is searched.
+fn text_of_found(
+    alloc: Global,
+    compilation: &Compilation,
+    subject: Subject,
+    effort: Effort,
+) -> Result<Vec<u8>, Status>
+    requires { HasDurations compilation.now }
+    ensures { GivesOfFound (of_schedule (subject_view subject)
+        (problem_of compilation.now (effort_view effort))) result }
+{
+    let schedule = find_schedule(alloc, compilation, effort)?;
+    match subject {
+        Subject::Chart => Ok(print_chart(alloc, compilation, &schedule)?),
+        Subject::Trace => Ok(print_trace(alloc, compilation, &schedule)?),
+        Subject::Flat => Ok(print_flat(alloc, compilation, &schedule)?),
+        Subject::Code => print_program(alloc, compilation, &schedule),
+        Subject::Report => Ok(print_numbers(alloc, compilation, &schedule)?),
+    }
+}
+
+/// The chart of a schedule as a picture.
+fn print_chart(
+    alloc: Global,
+    compilation: &Compilation,
+    schedule: &Schedule,
+) -> Result<Vec<u8>, OutOfMemory>
+    ensures { IfOk result (λ text. text.items ≡
+        picture compilation.now.flat compilation.now.text.archi schedule.now) }
+{
+    let mut text = Vec::new(alloc);
+    print_picture(
+        alloc,
+        &compilation.flat,
+        &compilation.text.archi,
+        schedule,
+        &mut text,
+    )?;
+    Ok(text)
+}
+
+/// The chart of a schedule as trace events.
+fn print_trace(
+    alloc: Global,
+    compilation: &Compilation,
+    schedule: &Schedule,
+) -> Result<Vec<u8>, OutOfMemory>
+    ensures { IfOk result (λ text. text.items ≡
+        chart_trace compilation.now.flat compilation.now.text.archi schedule.now) }
+{
+    let mut text = Vec::new(alloc);
+    print_chart_trace(
+        alloc,
+        &compilation.flat,
+        &compilation.text.archi,
+        schedule,
+        &mut text,
+    )?;
+    Ok(text)
+}
+
+/// The flat graph in the colours that a schedule gives it.
+fn print_flat(
+    alloc: Global,
+    compilation: &Compilation,
+    schedule: &Schedule,
+) -> Result<Vec<u8>, OutOfMemory>
+    ensures { IfOk result (λ text. text.items ≡
+        placed_drawing compilation.now.flat compilation.now.text.archi schedule.now) }
+{
+    let mut text = Vec::new(alloc);
+    print_placed_graph(
+        alloc,
+        &compilation.flat,
+        &compilation.text.archi,
+        schedule,
+        &mut text,
+    )?;
+    Ok(text)
+}
+
+/// The macro-code of the program of a schedule, or the limit that it is above.
+fn print_program(
+    alloc: Global,
+    compilation: &Compilation,
+    schedule: &Schedule,
+) -> Result<Vec<u8>, Status>
+    requires { IsTrue (is_valid compilation.now.flat compilation.now.text.archi
+        (entry_in compilation.now.durations) schedule.now) }
+    ensures { (effort : Tried) → Gives (subject_text code (problem_of compilation.now effort) schedule.now) result }
+{
+    let program = build_program(alloc, compilation, schedule)?;
+    let mut text = Vec::new(alloc);
+    print_code(
+        alloc,
+        &program,
+        &compilation.flat,
+        &compilation.text.archi,
+        &mut text,
+    )?;
+    Ok(text)
+}
+
+/// The numbers of a schedule.
+fn print_numbers(
+    alloc: Global,
+    compilation: &Compilation,
+    schedule: &Schedule,
+) -> Result<Vec<u8>, OutOfMemory>
+    requires durations { HasDurations compilation.now }
+    requires valid { IsTrue (is_valid compilation.now.flat compilation.now.text.archi
+        (entry_in compilation.now.durations) schedule.now) }
+    ensures { IfOk result (λ text. text.items ≡ report_text compilation.now.text.archi
+        (report compilation.now.flat compilation.now.text.archi (entry_in compilation.now.durations)
+        schedule.now)) }
+{
+    let flat = &compilation.flat;
+    let archi = &compilation.text.archi;
+    let _operators = archi.operators();
+    durations_fit();
+    let report = report_of(alloc, flat, archi, &compilation.durations, schedule)?;
+    let mut text = Vec::new(alloc);
+    print_report(alloc, archi, &report, &mut text)?;
+    Ok(text)
+}

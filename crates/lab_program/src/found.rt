@@ -1,0 +1,58 @@
+//! What the commands make of a compilation: a schedule that is searched, and its program.
+ghost use Rattle.std.specs.Prelude.{IfOk, IsTrue};
+ghost use Rattle.compiler.specs.Compiles.{HasDurations};
+ghost use Rattle.durations.specs.Table.{entry_in};
+ghost use Rattle.schedule.specs.Valid.{is_valid};
+ghost use Rattle.lab_plans.specs.Asked.{IsFound};
+ghost use Rattle.lab_words.specs.Command.{Effort as Tried};
+ghost use Rattle.lab_words.specs.View.{effort_view};
+ghost use Rattle.lab_program.specs.Found.{Builds, problem_of};
+
+use command_status::Status;
+use compiler::Compilation;
+use durations::durations_fit;
+use executive_program::Program;
+use lab_words::Effort;
+use schedule::Schedule;
+use schedule_search::search;
+use sequence_build::{BuildError, build};
+use std::alloc::Global;
+use syn_base::OutOfMemory;
+
+/// A schedule of what was compiled, by a search of this effort.
+pub fn find_schedule(
+    alloc: Global,
+    compilation: &Compilation,
+    effort: Effort,
+) -> Result<Schedule, OutOfMemory>
+    requires { HasDurations compilation.now }
+    ensures { IfOk result (IsFound (problem_of compilation.now (effort_view effort))) }
+{
+    let flat = &compilation.flat;
+    let archi = &compilation.text.archi;
+    // By this call the proof knows that the architecture is valid, which the law of durations asks for.
+    let _operators = archi.operators();
+    durations_fit();
+    let tried = schedule_search::Effort {
+        tries: effort.tries,
+        seed: u64::from(effort.seed),
+    };
+    search(alloc, flat, archi, &compilation.durations, tried)
+}
+
+/// The program of a schedule, or the first limit that refuses it.
+pub fn build_program(
+    alloc: Global,
+    compilation: &Compilation,
+    schedule: &Schedule,
+) -> Result<Program, Status>
+    requires { IsTrue (is_valid compilation.now.flat compilation.now.text.archi
+        (entry_in compilation.now.durations) schedule.now) }
+    ensures { (effort : Tried) → Builds (problem_of compilation.now effort) schedule.now result }
+{
+    match build(alloc, &compilation.flat, &compilation.text.archi, schedule) {
+        Ok(program) => Ok(program),
+        Err(BuildError::Limit(limit)) => Err(Status::Limit(limit)),
+        Err(BuildError::OutOfMemory) => Err(Status::OutOfMemory),
+    }
+}

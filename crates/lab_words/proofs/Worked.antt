@@ -1,0 +1,60 @@
+-- Worked commands, by what is found in the words.
+use Rattle.std.proofs.Common.{◌≡◌, Some, None, refl}
+use Rattle.std.specs.Prelude.{codes}
+use Rattle.lab_words.specs.Command.{Values, chart, trace, report, schedule, graph, plot, dates, command_by}
+
+abbrev nothing : Values
+nothing = record {
+  algorithm = None;
+  architecture = None;
+  sensors = None;
+  durations = None;
+  reactions = None;
+  tries = None;
+  seed = None;
+}
+
+-- `A H`
+abbrev on_a_board : Values
+on_a_board = record nothing { algorithm = Some (codes "A"); architecture = Some (codes "H") }
+
+untried : command_by (codes "chart") on_a_board ≡ Some (schedule chart (codes "A") (codes "H") (record { tries = 0; seed = 1 }))
+untried = refl
+
+tried : command_by (codes "trace") (record on_a_board { tries = Some (codes "500"); seed = Some (codes "007") })
+    ≡ Some (schedule trace (codes "A") (codes "H") (record { tries = 500; seed = 7 }))
+tried = refl
+
+-- the bounds of numbers
+no_tries : command_by (codes "report") (record on_a_board { tries = Some (codes "0") }) ≡ None
+no_tries = refl
+
+most : command_by (codes "report") (record on_a_board { tries = Some (codes "1000000") })
+    ≡ Some (schedule report (codes "A") (codes "H") (record { tries = 1000000; seed = 1 }))
+most = refl
+
+too_many : command_by (codes "report") (record on_a_board { tries = Some (codes "1000001") }) ≡ None
+too_many = refl
+
+no_number : command_by (codes "report") (record on_a_board { seed = Some (codes "x") }) ≡ None
+no_number = refl
+
+-- a name, and what it takes
+another_name : command_by (codes "charts") on_a_board ≡ None
+another_name = refl
+
+a_graph : command_by (codes "graph") on_a_board ≡ Some (graph (codes "A"))
+a_graph = refl
+
+no_table : command_by (codes "plot") on_a_board ≡ None
+no_table = refl
+
+a_plot : command_by (codes "plot") (record on_a_board { sensors = Some (codes "S") }) ≡ Some (plot (codes "A") (codes "S"))
+a_plot = refl
+
+some_dates : command_by (codes "dates") (record on_a_board { durations = Some (codes "G"); reactions = Some (codes "1000") })
+    ≡ Some (dates (codes "A") (codes "H") (codes "G") 1000 (record { tries = 0; seed = 1 }))
+some_dates = refl
+
+too_many_dates : command_by (codes "dates") (record on_a_board { durations = Some (codes "G"); reactions = Some (codes "1001") }) ≡ None
+too_many_dates = refl

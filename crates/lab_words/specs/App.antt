@@ -1,0 +1,58 @@
+-- The table of commands, as `clap` is told of it.
+use Rattle.std.specs.Prelude.{List, [], ◌∷◌, true, codes, Some}
+use Rattle.clap.specs.Walk.{Rule}
+use Rattle.clap.specs.Simple.{App, new_app, new_rule, with_rule, with_subcommand, on_top}
+use Rattle.syn_base.specs.Bytes.{Bytes}
+use Rattle.lab_words.specs.declared.app.Takes.{Takes}
+use Rattle.lab_words.specs.declared.app.Takes.TheVariants.{Graph, Plot, Schedule, Dates}
+
+-- a plain argument, which has to be there
+abbrev pub needed : Bytes → Rule
+needed id = record (new_rule id) { required = true }
+
+-- an option that may be there, which is named as its value is
+abbrev pub option : Bytes → Rule
+option id = record (new_rule id) { long = Some id }
+
+-- with the options of a search
+abbrev pub searching : App → App
+searching a = with_rule (with_rule a (option (codes "tries"))) (option (codes "seed"))
+
+abbrev pub algorithm_app : Bytes → App
+algorithm_app name = with_rule (new_app name) (needed (codes "algorithm"))
+
+abbrev pub architecture_app : Bytes → App
+architecture_app name = with_rule (algorithm_app name) (needed (codes "architecture"))
+
+abbrev pub plot_app : Bytes → App
+plot_app name = with_rule (algorithm_app name) (needed (codes "sensors"))
+
+abbrev pub schedule_app : Bytes → App
+schedule_app name = searching (architecture_app name)
+
+abbrev pub dates_app : Bytes → App
+dates_app name =
+    searching (with_rule (with_rule (architecture_app name) (needed (codes "durations"))) (needed (codes "reactions")))
+
+-- the command of this name that takes these words
+abbrev pub word_app : Takes → Bytes → App
+word_app Graph name = algorithm_app name
+word_app Plot name = plot_app name
+word_app Schedule name = schedule_app name
+word_app Dates name = dates_app name
+
+abbrev pub bare_app : App
+bare_app =
+    on_top (λ s. record s { disable_help_flag = true; disable_help_subcommand = true; subcommand_required = true })
+    (new_app (codes "syndex_lab"))
+
+-- with these commands added one after another
+abbrev pub with_commands : App → List (Bytes × Takes) → App
+with_commands a [] = a
+with_commands a (c ∷ cs) = with_commands (with_subcommand a (word_app c.1 c.0).top) cs
+
+-- the table
+abbrev pub the_app : App
+the_app = with_commands bare_app (
+    (codes "chart", Schedule) ∷ (codes "trace", Schedule) ∷ (codes "flat", Schedule) ∷ (codes "code", Schedule)
+    ∷ (codes "report", Schedule) ∷ (codes "graph", Graph) ∷ (codes "plot", Plot) ∷ (codes "dates", Dates) ∷ [])

@@ -1,0 +1,190 @@
+//! The table of commands as `clap` is told of it. `given` matches words against it.
+ghost use Rattle.std.specs.Prelude.{◌≡◌, IfOk, map, false};
+ghost use Rattle.clap.specs.Simple.{app_of, with_rule, with_subcommand};
+ghost use Rattle.clap.specs.declared.builder.command.Command.TheViews.{out-Command as fields_of};
+ghost use Rattle.lab_words.specs.App.{
+  algorithm_app,
+  architecture_app,
+  bare_app,
+  dates_app,
+  needed,
+  option,
+  plot_app,
+  schedule_app,
+  searching,
+  the_app,
+  with_commands,
+  word_app,
+};
+
+use clap::{Arg, Command};
+use std::alloc::{AllocError, Global};
+
+/// What the words of a command are, after its name.
+#[derive(Clone, Copy, Drop)]
+enum Takes {
+    /// The algorithm.
+    Graph,
+    /// The algorithm and the sensor table.
+    Plot,
+    /// The algorithm and the architecture, and options of the search.
+    Schedule,
+    /// The algorithm, the architecture, the actual durations and the number of reactions, and options of the
+    /// search.
+    Dates,
+}
+
+/// A command that takes one plain argument more.
+fn with_needed<'a>(
+    alloc: Global,
+    command: Command<'a>,
+    id: &'a str,
+) -> Result<Command<'a>, AllocError>
+    requires { (fields_of command).has_globals ≡ false }
+    ensures app { IfOk result (λ c. app_of c ≡
+        with_rule (app_of command.entry) (needed id.entry.now)) }
+    ensures local { IfOk result (λ c. (fields_of c).has_globals ≡ false) }
+{
+    command.arg(Arg::new(alloc, id).required(true))
+}
+
+/// A command that takes one option more, which is named as its value is.
+fn with_option<'a>(
+    alloc: Global,
+    command: Command<'a>,
+    id: &'a str,
+) -> Result<Command<'a>, AllocError>
+    requires { (fields_of command).has_globals ≡ false }
+    ensures app { IfOk result (λ c. app_of c ≡
+        with_rule (app_of command.entry) (option id.entry.now)) }
+    ensures local { IfOk result (λ c. (fields_of c).has_globals ≡ false) }
+{
+    command.arg(Arg::new(alloc, id).long(id))
+}
+
+/// A command that takes the options of a search too.
+fn searching<'a>(alloc: Global, command: Command<'a>) -> Result<Command<'a>, AllocError>
+    requires { (fields_of command).has_globals ≡ false }
+    ensures app { IfOk result (λ c. app_of c ≡ searching (app_of command.entry)) }
+    ensures local { IfOk result (λ c. (fields_of c).has_globals ≡ false) }
+{
+    let command = with_option(alloc, command, "tries")?;
+    with_option(alloc, command, "seed")
+}
+
+/// A command that takes the algorithm.
+fn algorithm<'a>(alloc: Global, name: &'a str) -> Result<Command<'a>, AllocError>
+    ensures app { IfOk result (λ c. app_of c ≡ algorithm_app name.entry.now) }
+    ensures local { IfOk result (λ c. (fields_of c).has_globals ≡ false) }
+{
+    with_needed(alloc, Command::new(alloc, name), "algorithm")
+}
+
+/// A command that takes the algorithm and the architecture.
+fn architecture<'a>(alloc: Global, name: &'a str) -> Result<Command<'a>, AllocError>
+    ensures app { IfOk result (λ c. app_of c ≡ architecture_app name.entry.now) }
+    ensures local { IfOk result (λ c. (fields_of c).has_globals ≡ false) }
+{
+    let command = algorithm(alloc, name)?;
+    with_needed(alloc, command, "architecture")
+}
+
+/// A command that takes the algorithm and the sensor table.
+fn plot<'a>(alloc: Global, name: &'a str) -> Result<Command<'a>, AllocError>
+    ensures app { IfOk result (λ c. app_of c ≡ plot_app name.entry.now) }
+    ensures local { IfOk result (λ c. (fields_of c).has_globals ≡ false) }
+{
+    let command = algorithm(alloc, name)?;
+    with_needed(alloc, command, "sensors")
+}
+
+/// A command that takes the algorithm and the architecture, and options of the search.
+fn schedule<'a>(alloc: Global, name: &'a str) -> Result<Command<'a>, AllocError>
+    ensures app { IfOk result (λ c. app_of c ≡ schedule_app name.entry.now) }
+    ensures local { IfOk result (λ c. (fields_of c).has_globals ≡ false) }
+{
+    let command = architecture(alloc, name)?;
+    searching(alloc, command)
+}
+
+/// A command that takes the four arguments of dates, and options of the search.
+fn dates<'a>(alloc: Global, name: &'a str) -> Result<Command<'a>, AllocError>
+    ensures app { IfOk result (λ c. app_of c ≡ dates_app name.entry.now) }
+    ensures local { IfOk result (λ c. (fields_of c).has_globals ≡ false) }
+{
+    let command = architecture(alloc, name)?;
+    let command = with_needed(alloc, command, "durations")?;
+    let command = with_needed(alloc, command, "reactions")?;
+    searching(alloc, command)
+}
+
+/// The command of this name that takes these words.
+fn taking<'a>(alloc: Global, name: &'a str, takes: Takes) -> Result<Command<'a>, AllocError>
+    ensures app { IfOk result (λ c. app_of c ≡ word_app takes name.entry.now) }
+    ensures local { IfOk result (λ c. (fields_of c).has_globals ≡ false) }
+{
+    match takes {
+        Takes::Graph => algorithm(alloc, name),
+        Takes::Plot => plot(alloc, name),
+        Takes::Schedule => schedule(alloc, name),
+        Takes::Dates => dates(alloc, name),
+    }
+}
+
+/// The program without its commands. It has no help of its own, and words without a command are refused.
+fn bare<'a>(alloc: Global) -> Command<'a>
+    ensures { app_of result ≡ bare_app }
+{
+    Command::new(alloc, "syndex_lab")
+        .disable_help_flag(true)
+        .disable_help_subcommand(true)
+        .subcommand_required(true)
+}
+
+/// The program with the command of this name besides.
+fn add<'a>(
+    alloc: Global,
+    app: Command<'a>,
+    name: &'a str,
+    takes: Takes,
+) -> Result<Command<'a>, AllocError>
+    ensures { IfOk result (λ c. app_of c ≡
+        with_subcommand (app_of app.entry) (word_app takes name.entry.now).top) }
+{
+    let command = taking(alloc, name, takes)?;
+    app.subcommand(command)
+}
+
+/// The program with commands of these names.
+fn with_commands<'a>(
+    alloc: Global,
+    commands: &[(&'a str, Takes)],
+) -> Result<Command<'a>, AllocError>
+    ensures { IfOk result (λ c. app_of c ≡
+        with_commands bare_app (map (λ p. (p.0.now, p.1)) commands.now)) }
+{
+    let mut app = bare(alloc);
+    for (name, takes) in commands {
+        app = add(alloc, app, name, *takes)?;
+    }
+    Ok(app)
+}
+
+/// The program with all its commands.
+pub fn command<'a>(alloc: Global) -> Result<Command<'a>, AllocError>
+    ensures { IfOk result (λ c. app_of c ≡ the_app) }
+{
+    with_commands(
+        alloc,
+        &[
+            ("chart", Takes::Schedule),
+            ("trace", Takes::Schedule),
+            ("flat", Takes::Schedule),
+            ("code", Takes::Schedule),
+            ("report", Takes::Schedule),
+            ("graph", Takes::Graph),
+            ("plot", Takes::Plot),
+            ("dates", Takes::Dates),
+        ],
+    )
+}

@@ -1,0 +1,56 @@
+//! The commands as types, for the reader of words and for whoever carries them out.
+
+/// How a schedule is searched.
+#[derive(Clone, Copy, Drop)]
+pub struct Effort {
+    /// The number of schedules that are tried, up to 1,000,000. It is 0 where the option is not given, and the
+    /// schedule is that of the pressure run then.
+    pub tries: u32,
+    /// From which number the search draws, 1 to 1,000,000; it is 1 where the option is not given.
+    pub seed: u32,
+}
+
+/// What is written of a schedule.
+#[derive(Clone, Copy, Drop)]
+pub enum Subject {
+    /// `chart A H`: its Gantt chart as a picture.
+    Chart,
+    /// `trace A H`: its chart as trace events.
+    Trace,
+    /// `flat A H`: the flat graph, coloured by the operators of the schedule.
+    Flat,
+    /// `code A H`: the macro-code of its program.
+    Code,
+    /// `report A H`: its numbers.
+    Report,
+}
+
+/// A command, with the names of its files as they are given.
+#[derive(Clone, Copy, Drop)]
+pub enum Command<'a> {
+    /// A command that writes something of a schedule.
+    Schedule {
+        subject: Subject,
+        algorithm: &'a str,
+        architecture: &'a str,
+        effort: Effort,
+    },
+    /// `graph A`: the definitions as a graph.
+    Graph {
+        algorithm: &'a str,
+    },
+    /// `plot A S`: what the actuators take, as a picture.
+    Plot {
+        algorithm: &'a str,
+        sensors: &'a str,
+    },
+    /// `dates A H G N`: the dates of 1 to 1,000 reactions, as a picture, where the durations are those of another
+    /// architecture text.
+    Dates {
+        algorithm: &'a str,
+        architecture: &'a str,
+        durations: &'a str,
+        reactions: u32,
+        effort: Effort,
+    },
+}

@@ -1,0 +1,208 @@
+//! The command of the words, from what `clap` finds in them.
+ghost use Rattle.std.specs.Prelude.{◌≡◌, IfOk, map, option_and_then, option_map};
+ghost use Rattle.std.specs.String.{string_bytes};
+ghost use Rattle.clap.specs.Simple.{subcommand_rows_of};
+ghost use Rattle.clap.specs.Values.{kind_of};
+ghost use Rattle.command_words.specs.Answer.{wants_memory};
+ghost use Rattle.clap.specs.Matches.{found_of};
+ghost use Rattle.clap.specs.Walk.{rows_of};
+ghost use Rattle.lab_words.specs.Command.{
+  command_by,
+  command_in,
+  command_of,
+  dates_given,
+  effort_given,
+  most_tries,
+  number_given,
+  plot,
+  schedule_given,
+  subject_of,
+  values_of,
+};
+ghost use Rattle.lab_words.specs.View.{effort_view, subject_view, values_view, view_of};
+
+use crate::app::command;
+use crate::commands::{Command, Effort, Subject};
+use clap::error::ErrorKind;
+use clap::{ArgMatches, Error};
+use command_words::number_up_to;
+use std::alloc::Global;
+use syn_base::OutOfMemory;
+
+/// The most schedules that a search tries, and the greatest seed.
+const MOST_TRIES: u32 = 1_000_000;
+
+/// The most reactions that are dated.
+const MOST_REACTIONS: u32 = 1000;
+
+/// The values that are given for the arguments and options of a command.
+#[derive(Clone, Copy, Drop)]
+struct Values<'a> {
+    algorithm: Option<&'a str>,
+    architecture: Option<&'a str>,
+    sensors: Option<&'a str>,
+    durations: Option<&'a str>,
+    reactions: Option<&'a str>,
+    tries: Option<&'a str>,
+    seed: Option<&'a str>,
+}
+
+/// The command of these words, if they are one. The first word is the program's name. `OutOfMemory` comes
+/// where an allocation fails.
+pub fn command_of<'a>(
+    alloc: Global,
+    words: &'a [String],
+) -> Result<Option<Command<'a>>, OutOfMemory>
+    ensures { IfOk result (λ c. option_map view_of c ≡ command_of (map string_bytes words.now)) }
+{
+    let command = command(alloc)?;
+    match command.try_get_matches_from(words) {
+        Ok(matches) => Ok(found_in(&matches)),
+        Err(error) => {
+            if is_memory(&error) {
+                Err(OutOfMemory)
+            } else {
+                Ok(None)
+            }
+        }
+    }
+}
+
+/// The command that is found in words which were matched.
+fn found_in<'a>(matches: &ArgMatches<'a>) -> Option<Command<'a>>
+    ensures { option_map view_of result ≡
+        option_and_then command_in (subcommand_rows_of matches.now) }
+{
+    let (name, inner) = matches.subcommand()?;
+    let values = values_in(&inner);
+    command_by(name, &values)
+}
+
+/// Whether an error of `clap` says that an allocation failed.
+fn is_memory(error: &Error) -> bool
+    ensures { result ≡ wants_memory (kind_of error.now) }
+{
+    match error.kind() {
+        ErrorKind::OutOfMemory => true,
+        _ => false,
+    }
+}
+
+/// The values of the arguments and options of a command.
+fn values_in<'a>(matches: &ArgMatches<'a>) -> Values<'a>
+    ensures { values_view result ≡ values_of (rows_of (found_of matches.now)) }
+{
+    let algorithm = matches.get_str("algorithm");
+    let architecture = matches.get_str("architecture");
+    let sensors = matches.get_str("sensors");
+    let durations = matches.get_str("durations");
+    let reactions = matches.get_str("reactions");
+    let tries = matches.get_str("tries");
+    let seed = matches.get_str("seed");
+    Values {
+        algorithm,
+        architecture,
+        sensors,
+        durations,
+        reactions,
+        tries,
+        seed,
+    }
+}
+
+/// The command of this name with these values.
+fn command_by<'a>(name: &str, values: &Values<'a>) -> Option<Command<'a>>
+    ensures { option_map view_of result ≡ command_by name.now (values_view values.now) }
+{
+    let algorithm = values.algorithm?;
+    if name == "graph" {
+        Some(Command::Graph { algorithm })
+    } else if name == "plot" {
+        plot(algorithm, values.sensors)
+    } else if name == "dates" {
+        dates(algorithm, values)
+    } else {
+        schedule(name, algorithm, values)
+    }
+}
+
+/// The command `plot`, where there is a table.
+fn plot<'a>(algorithm: &'a str, sensors: Option<&'a str>) -> Option<Command<'a>>
+    ensures { option_map view_of result ≡
+        option_map (plot algorithm.now) (option_map (λ t. t.now) sensors.entry) }
+{
+    let sensors = sensors?;
+    Some(Command::Plot { algorithm, sensors })
+}
+
+/// The command `dates`, where all is there that it takes.
+fn dates<'a>(algorithm: &'a str, values: &Values<'a>) -> Option<Command<'a>>
+    ensures { option_map view_of result ≡ dates_given algorithm.now (values_view values.now) }
+{
+    let architecture = values.architecture?;
+    let durations = values.durations?;
+    let reactions = values.reactions?;
+    let reactions = number_up_to(MOST_REACTIONS, reactions.as_bytes())?;
+    let effort = effort_of(values.tries, values.seed)?;
+    Some(Command::Dates {
+        algorithm,
+        architecture,
+        durations,
+        reactions,
+        effort,
+    })
+}
+
+/// The command of this name that writes something of a schedule, where all is there that it takes.
+fn schedule<'a>(name: &str, algorithm: &'a str, values: &Values<'a>) -> Option<Command<'a>>
+    ensures { option_map view_of result ≡ schedule_given name.now algorithm.now (values_view values.now) }
+{
+    let architecture = values.architecture?;
+    let subject = subject_of(name)?;
+    let effort = effort_of(values.tries, values.seed)?;
+    Some(Command::Schedule {
+        subject,
+        algorithm,
+        architecture,
+        effort,
+    })
+}
+
+/// What a command of this name writes of a schedule.
+fn subject_of(name: &str) -> Option<Subject>
+    ensures { option_map subject_view result ≡ subject_of name.now }
+{
+    if name == "chart" {
+        Some(Subject::Chart)
+    } else if name == "trace" {
+        Some(Subject::Trace)
+    } else if name == "flat" {
+        Some(Subject::Flat)
+    } else if name == "code" {
+        Some(Subject::Code)
+    } else if name == "report" {
+        Some(Subject::Report)
+    } else {
+        None
+    }
+}
+
+/// The options of a search, if they are numbers within their bounds.
+fn effort_of(tries: Option<&str>, seed: Option<&str>) -> Option<Effort>
+    ensures { option_map effort_view result ≡
+        effort_given (option_map (λ t. t.now) tries.entry) (option_map (λ t. t.now) seed.entry) }
+{
+    let tries = number_given(0, tries)?;
+    let seed = number_given(1, seed)?;
+    Some(Effort { tries, seed })
+}
+
+/// The number of an option, or what stands for it where the option is not given.
+fn number_given(usual: u32, text: Option<&str>) -> Option<u32>
+    ensures { result ≡ number_given most_tries usual (option_map (λ t. t.now) text.entry) }
+{
+    match text {
+        Some(text) => number_up_to(MOST_TRIES, text.as_bytes()),
+        None => Some(usual),
+    }
+}

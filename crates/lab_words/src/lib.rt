@@ -1,0 +1,11 @@
+//! The commands of `syndex_lab`, and which one the words of a command line are, as `clap` reads them. The
+//! program calls `command_of` first; the table of commands stands in `specs/App`, and what their words mean in
+//! `specs/Command`.
+#![tactic(auto)]
+
+mod app;
+mod commands;
+mod given;
+
+pub use commands::{Command, Effort, Subject};
+pub use given::command_of;

@@ -1,0 +1,173 @@
+#!/usr/bin/env python3
+"""Whether other tools take what `syndex_lab` writes of the examples, and whether its numbers are those of the charts.
+
+Each picture is well-formed XML, each trace is JSON whose complete events do not overlap on a thread, and each graph is
+taken by Graphviz where `dot` is there. Without tries the schedule is the one whose chart stands in the example: the
+same length, the same macro-code where the example has it, a bar and an event for each of its lines, and what its lanes
+are busy; with tries it is no longer. The same words give the same bytes, and words that are no command end with
+`usage`.
+
+    tests/lab.py [PROGRAM [TRIES]]      with the program that `./build --program syndex_lab` makes, and 200 tries
+"""
+import collections
+import json
+import os
+import shutil
+import subprocess
+import sys
+from xml.etree import ElementTree
+
+TOP = os.path.dirname(os.path.dirname(os.path.abspath(__file__)))
+PROGRAM = f"{TOP}/crates/syndex_lab/out/syndex_lab"
+USAGE = (
+    ("chart", "A"), ("chart", "A", "H", "S"), ("charts", "A", "H"), ("chart", "A", "H", "--tries", "0"), ("chart", "A", "H", "--tries"),
+    ("chart", "A", "H", "--tries", "1000001"), ("chart", "A", "H", "--tries", "5", "--tries", "5"), ("chart", "A", "H", "--seed", "x"),
+    ("dates", "A", "H", "G"), ("dates", "A", "H", "G", "0"), ("dates", "A", "H", "G", "1001"), ("graph", "A", "--tries", "5"),
+    ("graph", "A", "H"), ("plot", "A"), ("plot", "A", "S", "--seed", "5"), ("--tries", "5", "chart", "A", "H"), ("help",), ("--help",), (),
+)
+
+
+class Wrong(Exception):
+    """Something is not as it should be."""
+
+
+def holds(fact, what):
+    if not fact:
+        raise Wrong(what)
+
+
+def text_of(path):
+    with open(path, encoding="utf-8") as it:
+        return it.read()
+
+
+class Lab:
+    """The program, called with the words of a command."""
+
+    def __init__(self, program):
+        self.program = program
+
+    def run(self, *words):
+        ran = subprocess.run([self.program, *words], capture_output=True, check=False)
+        return ran.returncode, ran.stdout.decode(), ran.stderr.decode()
+
+    def text(self, *words):
+        status, out, err = self.run(*words)
+        holds(status == 0 and not err, f"{' '.join(words)}: status {status}, {err.strip()}")
+        return out
+
+
+class Chart:
+    """What a chart says: its length, how many lines it has between those of its lanes, and how long each lane is busy."""
+
+    def __init__(self, text):
+        self.acts, self.busy, lane = 0, {}, None
+        for line in text.splitlines():
+            words = line.split()
+            if words[0] in ("operator", "medium"):
+                lane = " ".join(words)
+                self.busy[lane] = 0
+            elif words[0] == "length":
+                self.length = int(words[1])
+            else:
+                self.acts += 1
+                self.busy[lane] += int(words[1]) - int(words[0])
+
+    def loads(self):
+        """The lines of a report on the lanes: shares of the length in thousandths, rounded down."""
+        for lane, busy in self.busy.items():
+            share = busy * 1000 // self.length
+            yield f"{lane} busy {busy} share {share // 1000}.{share % 1000:03}"
+
+
+def check_trace(trace, acts):
+    """The complete events are as many as the acts, and those of one thread come one after another."""
+    events = [it for it in json.loads(trace)["traceEvents"] if it["ph"] == "X"]
+    holds(len(events) == acts, f"{len(events)} complete events for {acts} acts")
+    threads = collections.defaultdict(list)
+    for it in events:
+        threads[it["tid"]].append((it["ts"], it["ts"] + it["dur"]))
+    for spans in threads.values():
+        spans.sort()
+        holds(all(a[1] <= b[0] for a, b in zip(spans, spans[1:])), "events of one thread overlap")
+
+
+def check_graph(graph):
+    """Graphviz takes it, where it is there."""
+    if shutil.which("dot"):
+        ran = subprocess.run(["dot", "-Tcanon"], input=graph, capture_output=True, text=True, check=False)
+        holds(ran.returncode == 0 and not ran.stderr, f"dot: {ran.stderr.strip()}")
+
+
+def length_in(report):
+    """The length of which a report tells, which is at least its bound."""
+    lines = [line.split() for line in report.splitlines()]
+    length = int(lines[0][1])
+    holds(lines[0][0] == "length" and lines[-1][0] == "bound" and int(lines[-1][1]) <= length, "the report's length and bound")
+    return length
+
+
+def check_schedule(lab, folder, tries):
+    """What is written of the schedule of an example."""
+    a, h = f"{folder}/algorithm.txt", f"{folder}/architecture.txt"
+    report = lab.text("report", a, h)
+    length = length_in(report)
+    if os.path.exists(f"{folder}/chart.txt"):
+        chart = Chart(text_of(f"{folder}/chart.txt"))
+        loads = [line for line in report.splitlines() if line.startswith(("operator ", "medium "))]
+        holds(length == chart.length and loads == list(chart.loads()), "the report's length and loads")
+        check_trace(lab.text("trace", a, h), chart.acts)
+        titles = lab.text("chart", a, h).count("<title>")
+        holds(titles == chart.acts, f"{titles} titles for {chart.acts} acts")
+    if os.path.exists(f"{folder}/code.txt"):
+        holds(lab.text("code", a, h) == text_of(f"{folder}/code.txt"), "the macro-code")
+    for seed in ("1", "7"):
+        words = (a, h, "--tries", tries, "--seed", seed)
+        holds(length_in(lab.text("report", *words)) <= length, "a search is longer")
+        holds(lab.text("code", *words) == lab.text("code", *words), "the same words give other bytes")
+    ElementTree.fromstring(lab.text("chart", a, h))
+    ElementTree.fromstring(lab.text("dates", a, h, h, "3"))
+    check_graph(lab.text("flat", a, h))
+    return length
+
+
+def check_example(lab, folder, tries):
+    algorithm, sensors = f"{folder}/algorithm.txt", f"{folder}/sensors.csv"
+    if os.path.exists(f"{folder}/architecture.txt"):
+        length = check_schedule(lab, folder, tries)
+    else:
+        length = None
+    if os.path.exists(sensors):
+        check_graph(lab.text("graph", algorithm))
+        ElementTree.fromstring(lab.text("plot", algorithm, sensors))
+    else:
+        holds(lab.run("graph", algorithm)[0] == 5, "a text that is refused")
+    return length
+
+
+def check_words(lab):
+    for words in USAGE:
+        answer = lab.run(*words)
+        holds(answer == (2, "", "usage\n"), f"{' '.join(words)}: {answer}")
+
+
+def main(words):
+    lab = Lab(words[0] if words else PROGRAM)
+    tries = words[1] if len(words) > 1 else "200"
+    wrong = 0
+    for name in sorted(os.listdir(f"{TOP}/examples")):
+        try:
+            print(f"{name}: length {check_example(lab, f'{TOP}/examples/{name}', tries)}")
+        except (Wrong, ValueError, ElementTree.ParseError) as why:
+            print(f"{name}: WRONG: {why}")
+            wrong += 1
+    try:
+        check_words(lab)
+    except Wrong as why:
+        print(f"words: WRONG: {why}")
+        wrong += 1
+    return 1 if wrong else 0
+
+
+if __name__ == "__main__":
+    sys.exit(main(sys.argv[1:]))
