@@ -93,8 +93,9 @@ row_read lens =
 abbrev of_rows : List ℕ → List Row → Reactions
 of_rows lens rows = record { lens = lens; reactions = rows }
 
-pub reads_back : ReadsBack
-reads_back (vertex l us) =
+reads_at : (main : Vertex) → rows_of main (records default_config (strip_bom (template_text main)))
+    ≡ Ok (of_rows (sensor_lengths main) (zero_row (sensor_lengths main) ∷ []))
+reads_at (vertex l us) =
     let main : Vertex = vertex l us in
     let lens : List ℕ = sensor_lengths main in
     let text : Bytes = template_text main in
@@ -106,3 +107,6 @@ reads_back (vertex l us) =
     ∙ ap (rows_of main) all
     ∙ ap (λ (b : Bool). if b then reactions_of lens (zero_record main ∷ []) else Err (refused 0 BadHeader)) (alike (header_of main))
     ∙ ap (λ (r : Result Row SensorError). with_value (of_rows lens) (before r (Ok []))) row
+
+pub reads_back : ReadsBack
+reads_back = reads_at
