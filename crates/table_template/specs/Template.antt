@@ -14,7 +14,8 @@ zero_record main = replicate (length (header_of main)) (codes "0")
 
 -- The header, and below it that record.
 abbrev pub template_text : Vertex → Bytes
-template_text main = row_text default_writer (header_of main) ++ row_text default_writer (zero_record main)
+template_text main =
+    row_text default_writer (header_of main) ++ row_text default_writer (zero_record main)
 
 -- For each sensor as many zeros as it has elements.
 abbrev pub zero_row : List ℕ → Row

@@ -5,7 +5,7 @@
 #![tactic(auto)]
 
 mod laws;
-mod record;
+mod line;
 mod template;
 
 pub use laws::templates_read_back;

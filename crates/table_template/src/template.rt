@@ -3,7 +3,7 @@ ghost use Rattle.std.specs.Prelude.{◌≡◌, ◌++◌, IfOk, codes, length, ma
 ghost use Rattle.csv.specs.Writing.{default_writer, row_text};
 ghost use Rattle.table_template.specs.Template.{template_text};
 
-use crate::record::record_text;
+use crate::line::record_text;
 use algo_tree::Tree;
 use grown_text::append;
 use sensor_table::table_header;
@@ -39,7 +39,8 @@ fn header_text(alloc: Global, header: &[Items<u8>]) -> Result<Vec<u8>, OutOfMemo
 
 /// The line of a record with a 0 for each of this many columns.
 fn zeros_text(alloc: Global, columns: usize) -> Result<Vec<u8>, OutOfMemory>
-    ensures { IfOk result (λ text. text.items ≡ row_text default_writer (replicate columns (codes "0"))) }
+    ensures { IfOk result (λ text. text.items ≡
+        row_text default_writer (replicate columns (codes "0"))) }
 {
     let fields = zeros(alloc, columns)?;
     record_text(alloc, &fields)
@@ -58,7 +59,8 @@ fn fields_of<'a>(alloc: Global, header: &'a [Items<u8>]) -> Result<Vec<&'a [u8]>
 
 /// A 0 for each of this many columns.
 fn zeros(alloc: Global, columns: usize) -> Result<Vec<&'static [u8]>, OutOfMemory>
-    ensures { IfOk result (λ fields. map (λ f. f.now) fields.items ≡ replicate columns (codes "0")) }
+    ensures { IfOk result (λ fields. map (λ f. f.now) fields.items ≡
+        replicate columns (codes "0")) }
 {
     let mut fields = Vec::new(alloc);
     for _ in 0..columns {

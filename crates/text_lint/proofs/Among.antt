@@ -38,8 +38,8 @@ known false h = cc
 -- a name that was added, unless it was there, is among them, and so is what was
 pub added : (old new : List Bytes) (name : Bytes) (r : Bool) → r ≡ not (is_among name old) → new ≡ (if r then old ++ name ∷ [] else old)
     → (w : Bytes) → is_among w new ≡ (is_among w old || bytes_eq w name)
-added old new name true told after w = ap (is_among w) after ∙ at_end w old name
-added old new name false told after w = ap (is_among w) after ∙ again w old name (known (is_among name old) told)
+added old new name true told after w = ap (λ (names : List Bytes). is_among w names) after ∙ at_end w old name
+added old new name false told after w = ap (λ (names : List Bytes). is_among w names) after ∙ again w old name (known (is_among name old) told)
 
 abbrev read : List (Bor (List ℕ)) → List Bytes
 read names = map (λ (v : Bor (List ℕ)). v.now) names

@@ -4,7 +4,7 @@ use Rattle.std.specs.Prelude.{codes}
 use Rattle.std.specs.Fmt.{digits}
 use Rattle.syn_base.specs.Bytes.{Bytes}
 use Rattle.syn_base.specs.declared.arithmetic.Op.TheVariants.{Add}
-use Rattle.body_lang.specs.Expr.{Expr, literal, index, element, apply}
+use Rattle.body_lang.specs.Expr.{Expr, literal, element, apply}
 use Rattle.body_lang.specs.declared.expression.Port.{Port}
 use Rattle.algo_defs.specs.declared.definition.Def.{Def}
 use Rattle.algo_defs.specs.declared.definition.Body.{Body}

@@ -1,4 +1,4 @@
--- What is accepted in the text of an algorithm and probably not meant. `ds` are all its definitions.
+-- What is accepted in the text of an algorithm and probably not meant. `ds` are its definitions.
 use Rattle.std.specs.Prelude.{
   ℕ,
   ℤ,
@@ -39,7 +39,13 @@ use Rattle.body_lang.specs.declared.expression.Port.{Port}
 use Rattle.algo_defs.specs.Words.{is_among}
 use Rattle.algo_defs.specs.declared.definition.Def.{Def}
 use Rattle.algo_defs.specs.declared.definition.Body.{Body}
-use Rattle.algo_defs.specs.declared.definition.Body.TheVariants.{Constant, Delay, Function, Graph, Switch}
+use Rattle.algo_defs.specs.declared.definition.Body.TheVariants.{
+  Constant,
+  Delay,
+  Function,
+  Graph,
+  Switch,
+}
 use Rattle.algo_defs.specs.declared.definition.Case.{Case}
 use Rattle.algo_defs.specs.declared.definition.Edge.{Edge}
 use Rattle.algo_defs.specs.declared.definition.End.{End}
@@ -57,7 +63,9 @@ use Rattle.text_lint.specs.declared.finding.Finding.TheVariants.{
 
 -- 1. A definition that no line names, unless it is `main`.
 abbrev pub unused_by : List Def → Def → List Finding
-unused_by ds d = if is_main d.name || is_among d.name (named_in ds) then [] else UnusedDefinition d.line d.name ∷ []
+unused_by ds d =
+    if is_main d.name || is_among d.name (named_in ds) then [] else
+    UnusedDefinition d.line d.name ∷ []
 
 abbrev pub unused : List Def → List Def → List Finding
 unused ds these = flat_map (unused_by ds) these
@@ -69,7 +77,8 @@ is_outside len (negsuc n) = true
 
 abbrev pub outside_port : Def → ℤ → Option Port → List Finding
 outside_port d n None = []
-outside_port d n (Some p) = if is_outside p.len n then OutsideElement d.line d.name p.name n p.len ∷ [] else []
+outside_port d n (Some p) =
+    if is_outside p.len n then OutsideElement d.line d.name p.name n p.len ∷ [] else []
 
 -- element `at` of input k
 abbrev pub outside_at : Def → List Port → ℕ → Expr → List Finding
@@ -133,7 +142,8 @@ owner_value ds rs (Some owner) = reference_value ds (reference_in rs owner)
 abbrev pub port_value : List Def → List Reference → List Edge → Bytes → Bytes → Option ℤ
 port_value ds rs [] reference port = None
 port_value ds rs (e ∷ es) reference port =
-    if is_port_of reference port e.to then owner_value ds rs e.from.owner else port_value ds rs es reference port
+    if is_port_of reference port e.to then owner_value ds rs e.from.owner else
+    port_value ds rs es reference port
 
 abbrev pub other_value : Reference → ℤ → ℤ → List Finding
 other_value r taken value = if int_eq value taken then [] else NeverTaken r.line r.name value ∷ []
@@ -146,7 +156,8 @@ other_cases r cases None = []
 other_cases r cases (Some taken) = flat_map (other_case r taken) cases
 
 abbrev pub never_body : List Def → List Reference → List Edge → Reference → Body → List Finding
-never_body ds rs es r (Switch on ins outs cases otherwise last) = other_cases r cases (port_value ds rs es r.name on)
+never_body ds rs es r (Switch on ins outs cases otherwise last) =
+    other_cases r cases (port_value ds rs es r.name on)
 never_body ds rs es r _ = []
 
 abbrev pub never_of : List Def → List Reference → List Edge → Reference → Option Def → List Finding
@@ -177,7 +188,8 @@ is_read reference es = list_any (λ e. is_owned_by reference e.from.owner) es
 
 abbrev pub unread_at : List Def → List Edge → Reference → List Finding
 unread_at ds es r =
-    if is_delay_of (definition ds r.def) && not (is_read r.name es) then UnreadDelay r.line r.name ∷ [] else []
+    if is_delay_of (definition ds r.def) && not (is_read r.name es)
+    then UnreadDelay r.line r.name ∷ [] else []
 
 abbrev pub unread_by : List Def → Body → List Finding
 unread_by ds (Graph ins outs references edges) = flat_map (unread_at ds edges) references
@@ -188,7 +200,8 @@ unread ds these = flat_map (λ d. unread_by ds d.body) these
 
 -- All of them at these definitions: kind by kind, and each kind in their order.
 abbrev pub findings_at : List Def → List Def → List Finding
-findings_at ds these = unused ds these ++ (outside these ++ (never_taken ds these ++ unread ds these))
+findings_at ds these =
+    unused ds these ++ (outside these ++ (never_taken ds these ++ unread ds these))
 
 -- Of a text with these definitions.
 abbrev pub algorithm_findings : List Def → List Finding

@@ -69,7 +69,8 @@ duration_by ds operators n line =
 abbrev pub durations_from : List Def → List Bytes → List ℕ → ℕ → List DurationLine → List Finding
 durations_from ds operators numbers i [] = []
 durations_from ds operators numbers i (line ∷ lines) =
-    duration_by ds operators (slice_index_or numbers i 0) line ++ durations_from ds operators numbers (suc i) lines
+    duration_by ds operators (slice_index_or numbers i 0) line ++
+    durations_from ds operators numbers (suc i) lines
 
 -- 6. An operator on which no duration that changes something lets anything stand.
 abbrev pub lets_stand : List Def → ℕ → DurationLine → Bool
@@ -77,7 +78,8 @@ lets_stand ds o line = (line.operator == o) && not (is_some (why_idle ds line.de
 
 abbrev pub operator_by : List Def → List DurationLine → List ℕ → ℕ → Bytes → List Finding
 operator_by ds lines numbers o name =
-    if list_any (lets_stand ds o) lines then [] else IdleOperator (slice_index_or numbers o 0) name ∷ []
+    if list_any (lets_stand ds o) lines then [] else
+    IdleOperator (slice_index_or numbers o 0) name ∷ []
 
 -- these operators, of which the first has number o
 abbrev pub operators_from : List Def → List DurationLine → List ℕ → ℕ → List Bytes → List Finding
@@ -85,7 +87,8 @@ operators_from ds lines numbers o [] = []
 operators_from ds lines numbers o (name ∷ names) =
     operator_by ds lines numbers o name ++ operators_from ds lines numbers (suc o) names
 
--- All of them, where `text` is the text of the architecture: kind by kind, and each kind in the order of the text.
+-- All of them, where `text` is the text of the architecture: kind by kind, and each kind in the
+-- order of the text.
 abbrev pub architecture_findings : List Def → Bytes → Described → List Finding
 architecture_findings ds text d =
     durations_from ds d.archi.operators (numbers_of (codes "duration") text) 0 d.durations ++

@@ -36,7 +36,8 @@ two_names v w = codes " " ++ (v ++ (codes " " ++ w))
 
 -- ` F b[7] 3`: a function, an element of its input, and how many this has.
 abbrev pub element_words : Bytes → Bytes → Bytes → ℕ → Bytes
-element_words def port element len = two_names def port ++ (codes "[" ++ (element ++ (codes "] " ++ decimal len)))
+element_words def port element len =
+    two_names def port ++ (codes "[" ++ (element ++ (codes "] " ++ decimal len)))
 
 abbrev pub finding_head : Finding → Bytes
 finding_head (UnusedDefinition n def) = algorithm_head n (codes "L1 UnusedDefinition")
@@ -48,7 +49,8 @@ finding_head (IdleOperator n operator) = architecture_head n (codes "L6 IdleOper
 
 abbrev pub finding_words : Finding → Bytes
 finding_words (UnusedDefinition n def) = codes " " ++ def
-finding_words (OutsideElement n def port element len) = element_words def port (signed_decimal element) len
+finding_words (OutsideElement n def port element len) =
+    element_words def port (signed_decimal element) len
 finding_words (NeverTaken n reference value) = two_names reference (signed_decimal value)
 finding_words (UnreadDelay n reference) = codes " " ++ reference
 finding_words (IdleDuration n def operator why) = two_names def operator ++ why_word why

@@ -43,7 +43,8 @@ fn append_of_outputs(
     outs: &[Output],
     found: &mut Vec<Finding>,
 ) -> Result<(), OutOfMemory>
-    ensures { OnOk result (found.new.items ≡ found.old.items ++ outside_outputs def.now ins.now outs.now) }
+    ensures { OnOk result (found.new.items ≡
+        found.old.items ++ outside_outputs def.now ins.now outs.now) }
 {
     for output in outs {
         append_of_expression(alloc, def, ins, output.formula.expr(), found)?;
@@ -59,7 +60,8 @@ fn append_of_expression(
     e: &Expr,
     found: &mut Vec<Finding>,
 ) -> Result<(), OutOfMemory>
-    ensures { OnOk result (found.new.items ≡ found.old.items ++ outside_in def.now ins.now (view e.now)) }
+    ensures { OnOk result (found.new.items ≡
+        found.old.items ++ outside_in def.now ins.now (view e.now)) }
 {
     match e {
         Expr::Lit(_) | Expr::Index | Expr::SumOf(_) => Ok(()),
@@ -125,7 +127,8 @@ fn append_if_outside(
     element: i64,
     found: &mut Vec<Finding>,
 ) -> Result<(), OutOfMemory>
-    ensures { OnOk result (found.new.items ≡ found.old.items ++ outside_port def.now element (Some port.now)) }
+    ensures { OnOk result (found.new.items ≡
+        found.old.items ++ outside_port def.now element (Some port.now)) }
 {
     if is_outside(port.len, element) {
         found.push(Finding::OutsideElement {

@@ -78,7 +78,8 @@ fn append_idle_durations(
     found: &mut Vec<Finding>,
 ) -> Result<(), OutOfMemory>
     ensures { OnOk result (found.new.items ≡ found.old.items ++ durations_from known.now
-        described.now.archi.operators (numbers_of (codes "duration") text.now) 0 described.now.lines) }
+        described.now.archi.operators (numbers_of (codes "duration") text.now) 0
+        described.now.lines) }
 {
     let numbers = numbers_of(alloc, b"duration", text)?;
     let operators = described.archi.operators();
@@ -101,7 +102,8 @@ fn append_idle_operators(
     found: &mut Vec<Finding>,
 ) -> Result<(), OutOfMemory>
     ensures { OnOk result (found.new.items ≡ found.old.items ++ operators_from known.now
-        described.now.lines (numbers_of (codes "operator") text.now) 0 described.now.archi.operators) }
+        described.now.lines (numbers_of (codes "operator") text.now) 0
+        described.now.archi.operators) }
 {
     let numbers = numbers_of(alloc, b"operator", text)?;
     let operators = described.archi.operators();

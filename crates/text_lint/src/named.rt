@@ -11,7 +11,8 @@ use syn_base::OutOfMemory;
 
 /// Appends the names that lines of these definitions name.
 pub fn append_named<'a>(named: &mut Vec<&'a [u8]>, defs: &'a [Def]) -> Result<(), OutOfMemory>
-    ensures { OnOk result (map (λ w. w.now) named.new.items ≡ map (λ w. w.now) named.old.items ++ named_in defs.now) }
+    ensures { OnOk result (map (λ w. w.now) named.new.items ≡
+        map (λ w. w.now) named.old.items ++ named_in defs.now) }
 {
     for def in defs {
         append_named_by(named, &def.body)?;
@@ -21,7 +22,8 @@ pub fn append_named<'a>(named: &mut Vec<&'a [u8]>, defs: &'a [Def]) -> Result<()
 
 /// Appends the names that the lines of a definition name.
 fn append_named_by<'a>(named: &mut Vec<&'a [u8]>, body: &'a Body) -> Result<(), OutOfMemory>
-    ensures { OnOk result (map (λ w. w.now) named.new.items ≡ map (λ w. w.now) named.old.items ++ named_by body.now) }
+    ensures { OnOk result (map (λ w. w.now) named.new.items ≡
+        map (λ w. w.now) named.old.items ++ named_by body.now) }
 {
     match body {
         Body::Graph { references, .. } => append_references(named, references.as_slice()),
@@ -65,7 +67,8 @@ fn append_cases<'a>(named: &mut Vec<&'a [u8]>, cases: &'a [Case]) -> Result<(), 
 
 /// Appends a name.
 fn append_name<'a>(named: &mut Vec<&'a [u8]>, name: &'a [u8]) -> Result<(), OutOfMemory>
-    ensures { OnOk result (map (λ w. w.now) named.new.items ≡ map (λ w. w.now) named.old.items ++ name.now ∷ []) }
+    ensures { OnOk result (map (λ w. w.now) named.new.items ≡
+        map (λ w. w.now) named.old.items ++ name.now ∷ []) }
 {
     named.push(name)?;
     Ok(())
@@ -73,7 +76,8 @@ fn append_name<'a>(named: &mut Vec<&'a [u8]>, name: &'a [u8]) -> Result<(), OutO
 
 /// A table of these names, each once.
 pub fn table_of<'a>(alloc: Global, named: &[&'a [u8]]) -> Result<Names<'a>, OutOfMemory>
-    ensures { IfOk result (λ table. (w : Bytes) → is_among w table ≡ is_among w (map (λ v. v.now) named.now)) }
+    ensures { IfOk result (λ table. (w : Bytes) → is_among w table ≡
+        is_among w (map (λ v. v.now) named.now)) }
 {
     let key = TableKey::of_names(named.iter().map(|name| *name));
     let mut table = Names::new(alloc, key);

@@ -32,7 +32,8 @@ fn append_if_begins(
     line: &[u8],
     numbers: &mut Vec<usize>,
 ) -> Result<(), OutOfMemory>
-    ensures { OnOk result (numbers.new.items ≡ numbers.old.items ++ number_by key.now number line.now) }
+    ensures { OnOk result (numbers.new.items ≡
+        numbers.old.items ++ number_by key.now number line.now) }
 {
     if begins_with(alloc, key, text_lines::code(line))? {
         numbers.push(number)?;

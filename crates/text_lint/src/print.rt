@@ -140,7 +140,8 @@ fn append_two(out: &mut Vec<u8>, first: &Name, second: &Name) -> Result<(), OutO
 
 /// Appends a reference and the value of a case.
 fn append_value(out: &mut Vec<u8>, reference: &Name, value: i64) -> Result<(), OutOfMemory>
-    ensures { OnOk result (out.new.items ≡ out.old.items ++ two_names reference.now (signed_decimal value)) }
+    ensures { OnOk result (out.new.items ≡
+        out.old.items ++ two_names reference.now (signed_decimal value)) }
 {
     append_name(out, reference)?;
     append(out, b" ")?;
@@ -172,7 +173,8 @@ fn append_duration(
     operator: &Name,
     why: Why,
 ) -> Result<(), OutOfMemory>
-    ensures { OnOk result (out.new.items ≡ out.old.items ++ (two_names def.now operator.now ++ why_word why)) }
+    ensures { OnOk result (out.new.items ≡
+        out.old.items ++ (two_names def.now operator.now ++ why_word why)) }
 {
     append_two(out, def, operator)?;
     append(out, word_of(why))

@@ -135,7 +135,8 @@ fn append_other_cases(
     value: Option<i64>,
     found: &mut Vec<Finding>,
 ) -> Result<(), OutOfMemory>
-    ensures { OnOk result (found.new.items ≡ found.old.items ++ other_cases reference.now cases.now value) }
+    ensures { OnOk result (found.new.items ≡
+        found.old.items ++ other_cases reference.now cases.now value) }
 {
     match value {
         Some(value) => append_others(alloc, reference, cases, value, found),
@@ -168,7 +169,8 @@ fn append_if_other(
     taken: i64,
     found: &mut Vec<Finding>,
 ) -> Result<(), OutOfMemory>
-    ensures { OnOk result (found.new.items ≡ found.old.items ++ other_value reference.now taken value) }
+    ensures { OnOk result (found.new.items ≡
+        found.old.items ++ other_value reference.now taken value) }
 {
     if value != taken {
         found.push(Finding::NeverTaken {

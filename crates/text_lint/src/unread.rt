@@ -71,7 +71,8 @@ fn append_if_unread(
     reference: &Reference,
     found: &mut Vec<Finding>,
 ) -> Result<(), OutOfMemory>
-    ensures { OnOk result (found.new.items ≡ found.old.items ++ unread_at known.now edges.now reference.now) }
+    ensures { OnOk result (found.new.items ≡
+        found.old.items ++ unread_at known.now edges.now reference.now) }
 {
     if is_delay(known, &reference.def) && !is_read(&reference.name, edges) {
         found.push(Finding::UnreadDelay {

@@ -8,7 +8,8 @@ use syn_base::OutOfMemory;
 
 /// The line of a record with these fields. A writer in memory meets no other fault than want of memory.
 pub fn record_text(alloc: Global, fields: &[&[u8]]) -> Result<Vec<u8>, OutOfMemory>
-    ensures { IfOk result (λ text. text.items ≡ row_text default_writer (map (λ f. f.now) fields.now)) }
+    ensures { IfOk result (λ text. text.items ≡
+        row_text default_writer (map (λ f. f.now) fields.now)) }
 {
     match written(alloc, fields) {
         Ok(text) => Ok(text),
@@ -18,7 +19,8 @@ pub fn record_text(alloc: Global, fields: &[&[u8]]) -> Result<Vec<u8>, OutOfMemo
 
 /// The same, with the error of `csv`.
 fn written(alloc: Global, fields: &[&[u8]]) -> Result<Vec<u8>, Error>
-    ensures { IfOk result (λ text. text.items ≡ row_text default_writer (map (λ f. f.now) fields.now)) }
+    ensures { IfOk result (λ text. text.items ≡
+        row_text default_writer (map (λ f. f.now) fields.now)) }
 {
     let mut writer = WriterBuilder::new().from_writer(Vec::new(alloc));
     writer.write_fields(fields)?;

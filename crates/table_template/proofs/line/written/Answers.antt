@@ -1,6 +1,6 @@
 use Rattle.std.proofs.Common.{◌≢◌, ◌∙◌}
 use Rattle.csv.specs.declared.writer.QuoteStyle.TheVariants as style
-use Rattle.table_template.proofs.record.written.Goals as goal
+use Rattle.table_template.proofs.line.written.Goals as goal
 
 pub returns-in-Ok : goal.returns-in-Ok
 returns-in-Ok c =
