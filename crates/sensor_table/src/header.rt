@@ -18,7 +18,7 @@ use syn_base::{Items, OutOfMemory, len_at, print_int};
 pub fn is_header(alloc: Global, tree: &Tree, fields: &ByteRecord) -> Result<bool, OutOfMemory>
     ensures { IfOk result (λ same. same ≡ is_header tree.now (fields_of fields.now)) }
 {
-    let header = header(alloc, tree)?;
+    let header = table_header(alloc, tree)?;
     Ok(are_fields(fields, &header))
 }
 
@@ -38,7 +38,7 @@ fn are_fields(fields: &ByteRecord, wanted: &[Items<u8>]) -> bool
 }
 
 /// The header of the sensors of this algorithm.
-fn header(alloc: Global, tree: &Tree) -> Result<Vec<Items<u8>>, OutOfMemory>
+pub fn table_header(alloc: Global, tree: &Tree) -> Result<Vec<Items<u8>>, OutOfMemory>
     ensures { IfOk result (λ header. header.items ≡ header_of tree.now) }
 {
     let mut header = Vec::new(alloc);

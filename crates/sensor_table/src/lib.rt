@@ -9,4 +9,5 @@ mod rows;
 mod table;
 
 pub use fault::{SensorCause, SensorError, SensorFault};
+pub use header::table_header;
 pub use table::read_sensors;

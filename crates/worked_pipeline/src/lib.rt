@@ -8,6 +8,8 @@
 #[cfg(test)]
 mod dates;
 #[cfg(test)]
+mod findings;
+#[cfg(test)]
 mod meaning;
 #[cfg(test)]
 mod periods;

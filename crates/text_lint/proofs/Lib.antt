@@ -1,0 +1,4 @@
+pub mod Among
+pub mod Placed
+pub mod Numbering
+mod Worked
