@@ -1,2 +1,7 @@
 pub mod Firsts
+pub mod Places
+pub mod Called
+pub mod Opening
+pub mod Sequenced
+pub mod Exact
 mod Worked
