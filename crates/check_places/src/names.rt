@@ -97,7 +97,13 @@ fn loops_place(program: &Program, known: Known) -> Option<Place>
         (name_place program.now known.operations known.operators Part.Loop s) 0 c.turn) 0 program.now.seqs }
 {
     for (sequence, code) in program.seqs.as_slice().iter().enumerate() {
-        if let Some(place) = list_place(program, known, Part::Loop, sequence, code.turn.as_slice()) {
+        if let Some(place) = list_place(
+            program,
+            known,
+            Part::Loop,
+            sequence,
+            code.turn.as_slice(),
+        ) {
             return Some(place);
         }
     }

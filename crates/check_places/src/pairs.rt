@@ -50,14 +50,18 @@ fn is_signalled_after(sequence: usize, at: usize, signals: &[Mark]) -> bool
 fn are_after(sequence: usize, at: usize, reads: &[Mark]) -> bool
     ensures { result ≡ list_all (λ m. implies (nat_eq m.sequence sequence) (nat_lt at m.at)) reads.now }
 {
-    reads.iter().all(|mark| mark.sequence != sequence || at < mark.at)
+    reads
+        .iter()
+        .all(|mark| mark.sequence != sequence || at < mark.at)
 }
 
 /// Whether those of these reads that are in a sequence stand before a place of it.
 fn are_before(sequence: usize, at: usize, reads: &[Mark]) -> bool
     ensures { result ≡ list_all (λ m. implies (nat_eq m.sequence sequence) (nat_lt m.at at)) reads.now }
 {
-    reads.iter().all(|mark| mark.sequence != sequence || mark.at < at)
+    reads
+        .iter()
+        .all(|mark| mark.sequence != sequence || mark.at < at)
 }
 
 /// Whether these places are one instruction of a sequence, which stands before its reads among those.

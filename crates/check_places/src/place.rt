@@ -26,22 +26,13 @@ pub enum Subject {
     Sequence(usize),
     Operation(usize),
     /// A buffer that the call of an operation reads, counted from 0 in its line.
-    Input {
-        operation: usize,
-        number: usize,
-    },
+    Input { operation: usize, number: usize },
     /// A buffer that the call of an operation writes, counted from 0 in its line.
-    Output {
-        operation: usize,
-        number: usize,
-    },
+    Output { operation: usize, number: usize },
     Buffer(usize),
     Pair(usize),
     /// A transfer of a medium, counted from 0.
-    Transfer {
-        medium: usize,
-        number: usize,
-    },
+    Transfer { medium: usize, number: usize },
 }
 
 /// How a program breaks a rule: what is the case of the subject, and may not be.

@@ -95,11 +95,7 @@ fn place_in(
         signal_place sequence 0 code.now.prologue (pairs_signalled program.now sequence)) }
 {
     let pairs = pairs_signalled(alloc, program, found, sequence)?;
-    Ok(signal_place(
-        sequence,
-        code.prologue.as_slice(),
-        pairs.as_slice(),
-    ))
+    Ok(signal_place(sequence, code.prologue.as_slice(), pairs.as_slice()))
 }
 
 /// The first instruction before a loop that is not the one that its sequence has there. `found` has the buffers with

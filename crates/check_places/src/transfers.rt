@@ -107,9 +107,7 @@ fn subject_of(moved: Moved) -> Subject
 fn is_other(moved: Moved, sequence: usize, medium: Option<u32>) -> bool
     ensures { result ≡ is_other moved.medium moved.ends.sender moved.ends.receiver sequence medium }
 {
-    is_on(moved.medium, medium)
-        && sequence != moved.ends.sender
-        && sequence != moved.ends.receiver
+    is_on(moved.medium, medium) && sequence != moved.ends.sender && sequence != moved.ends.receiver
 }
 
 /// Whether a sequence waits for a transfer, if it is another communicator of its medium.
@@ -173,10 +171,7 @@ fn moved_place(program: &Program, moved: Moved) -> Option<Place>
     let subject = subject_of(moved);
     let ends = moved.ends;
     let count = program.seqs.as_slice().len();
-    let not_sent = unless(
-        ends.sender < count,
-        broken(Rule::NotSent, subject, None),
-    );
+    let not_sent = unless(ends.sender < count, broken(Rule::NotSent, subject, None));
     let not_received = unless(
         ends.receiver < count,
         broken(Rule::NotReceived, subject, None),
@@ -231,11 +226,7 @@ fn first_moved(program: &Program, found: &[Items<Crossing>], media: usize) -> Op
 
 /// Where transfers are wrong first: communications outside communicators, media that are not there, unequal numbers of
 /// communications, and then a single transfer. The table has the transfers.
-pub fn transfers_place(
-    program: &Program,
-    found: &[Items<Crossing>],
-    media: usize,
-) -> Option<Place>
+pub fn transfers_place(program: &Program, found: &[Items<Crossing>], media: usize) -> Option<Place>
     requires { found.now ≡ crossings program.now media }
     ensures { result ≡ transfers_place program.now media }
 {

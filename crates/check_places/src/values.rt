@@ -17,9 +17,7 @@ use crate::first::{broken, first_of, in_loop, unless};
 use crate::place::{Place, Rule, Spot, Subject};
 use executive_program::Program;
 use flat_graph::{Guard, Source, Vertex};
-use macro_check::{
-    Tables, carries, carries_alike, gives_at, is_as_long, is_call, origin_in,
-};
+use macro_check::{Tables, carries, carries_alike, gives_at, is_as_long, is_call, origin_in};
 use program_tables::{Crossing, Mark, call_of, write_of};
 use program_walks::{Stand, turn_of};
 use syn_base::Items;

@@ -255,11 +255,7 @@ pub fn line_at(all: &[SequenceLines], spot: Spot) -> Option<usize>
     ensures { result ≡ line_at all.now spot }
 {
     match all.get(spot.sequence) {
-        Some(lines) => Some(line_or(
-            lines.begin,
-            lines_of_part(spot.part, lines),
-            spot.at,
-        )),
+        Some(lines) => Some(line_or(lines.begin, lines_of_part(spot.part, lines), spot.at)),
         None => None,
     }
 }

@@ -11,10 +11,8 @@ pub fn cause_words(rule: Rule) -> &'static [u8]
 {
     match rule {
         Rule::OtherSequence | Rule::MissingName => b"K1 Sequences",
-        Rule::NotCalled
-        | Rule::CalledAgain
-        | Rule::CalledInThread
-        | Rule::GetNotBeforeSet => b"K2 Calls",
+        Rule::NotCalled | Rule::CalledAgain | Rule::CalledInThread | Rule::GetNotBeforeSet =>
+            b"K2 Calls",
         Rule::OutsideThread
         | Rule::UnknownMedium
         | Rule::UnequalTransfers
@@ -40,12 +38,14 @@ pub fn rule_words(rule: Rule) -> &'static [u8]
     ensures { result.now ≡ rule_words rule }
 {
     match rule {
-        Rule::OtherSequence => b"the main parts and threads are those of the architecture, in its order",
+        Rule::OtherSequence =>
+            b"the main parts and threads are those of the architecture, in its order",
         Rule::MissingName => b"what a line names is there",
         Rule::NotCalled => b"each operation is called once, and this one is not",
         Rule::CalledAgain => b"each operation is called once, and this one again",
         Rule::CalledInThread => b"each operation is called in a loop of a main part",
-        Rule::GetNotBeforeSet => b"both halves of a delay are called in one main part, get before set",
+        Rule::GetNotBeforeSet =>
+            b"both halves of a delay are called in one main part, get before set",
         Rule::OutsideThread => b"transfers stand in loops of threads alone",
         Rule::UnknownMedium => b"each thread is at a medium",
         Rule::UnequalTransfers => b"the threads of a medium have equally many transfers",
@@ -58,20 +58,25 @@ pub fn rule_words(rule: Rule) -> &'static [u8]
         Rule::WrittenAgain => b"each buffer is written once, and this one again",
         Rule::TouchedElsewhere => b"each buffer is touched on its own processor alone",
         Rule::ReadTooEarly => b"in its writer's loop each buffer is read after it is written",
-        Rule::WrongPlaces => b"each buffer has one place where no other loop of its processor reads it",
+        Rule::WrongPlaces =>
+            b"each buffer has one place where no other loop of its processor reads it",
         Rule::NotMade => b"each buffer comes from a call in the end",
-        Rule::UnequalInputs => b"each call reads one buffer for each value that its operation takes",
+        Rule::UnequalInputs =>
+            b"each call reads one buffer for each value that its operation takes",
         Rule::OtherInput => {
             b"each buffer that a call reads has the length and the value that its operation takes"
         }
-        Rule::UnequalOutputs => b"each call writes one buffer for each value that its operation gives",
+        Rule::UnequalOutputs =>
+            b"each call writes one buffer for each value that its operation gives",
         Rule::OtherOutput => {
             b"each buffer that a call writes has the length and the value that its operation gives"
         }
-        Rule::UnequalLengths => b"each buffer that is received has the length of the one that is sent",
+        Rule::UnequalLengths =>
+            b"each buffer that is received has the length of the one that is sent",
         Rule::OtherValue => b"each buffer that is received has the value of the one that is sent",
         Rule::MissingPair => b"there is one pair for each buffer and each other loop that reads it",
-        Rule::PairElsewhere => b"each pair is on its buffer's processor, by buffer and then by loop",
+        Rule::PairElsewhere =>
+            b"each pair is on its buffer's processor, by buffer and then by loop",
         Rule::EmptyNotTaken => b"the writer takes Suc0_ once, before it writes",
         Rule::FullNotSignalled => b"the writer gives Pre1_ once, after it writes",
         Rule::FullNotTaken => b"the reader takes Suc1_ once, before its reads",
@@ -82,6 +87,7 @@ pub fn rule_words(rule: Rule) -> &'static [u8]
         Rule::MissingSignal => {
             b"before a loop stands Pre0_ of each pair that it reads by, once for each place, by number"
         }
-        Rule::FurtherLine => b"before a loop stands nothing but Pre0_ of the pairs that it reads by",
+        Rule::FurtherLine =>
+            b"before a loop stands nothing but Pre0_ of the pairs that it reads by",
     }
 }
