@@ -61,7 +61,7 @@ fn is_carried(
 }
 
 /// Whether the buffer at a place of a list carries a source; false where the list ends before.
-fn carries(
+pub fn carries(
     program: &Program,
     sources: &[Origin],
     vertices: &[Vertex],
@@ -186,7 +186,7 @@ fn is_given(
 }
 
 /// Whether the buffer of an output carries it and has its length; false where there is none.
-fn gives_at(
+pub fn gives_at(
     program: &Program,
     sources: &[Origin],
     operation: usize,

@@ -22,7 +22,7 @@ fn operators_in(operators: usize, instr: &Instr) -> bool
 }
 
 /// Whether all that an instruction names is there.
-fn is_there(program: &Program, operations: usize, operators: usize, instr: &Instr) -> bool
+pub fn is_there(program: &Program, operations: usize, operators: usize, instr: &Instr) -> bool
     ensures { result ≡ all_there program.now operations operators instr.now }
 {
     names_in(program, operations, instr) && operators_in(operators, instr)

@@ -18,7 +18,7 @@ use syn_base::{Items, OutOfMemory};
 use value_check::Origin;
 
 /// Whether what is met is an output of an operation.
-fn is_call(origin: &Origin) -> bool
+pub fn is_call(origin: &Origin) -> bool
     ensures { result ≡ is_call origin.now }
 {
     matches!(origin, Origin::Made { .. })
@@ -32,7 +32,7 @@ fn are_calls(sources: &[Origin]) -> bool
 }
 
 /// Whether a transfer receives into a buffer as long as the one that is sent.
-fn is_as_long(program: &Program, crossing: Crossing) -> bool
+pub fn is_as_long(program: &Program, crossing: Crossing) -> bool
     ensures { result ≡ is_as_long program.now crossing }
 {
     len_of(program, crossing.received as usize) == len_of(program, crossing.sent as usize)
@@ -80,7 +80,7 @@ fn are_one(one: Met, other: Met) -> bool
 }
 
 /// Whether the received buffer of a transfer carries what the sent one does.
-fn carries_alike(sources: &[Origin], crossing: Crossing) -> bool
+pub fn carries_alike(sources: &[Origin], crossing: Crossing) -> bool
     ensures { result ≡ carries_alike sources.now crossing }
 {
     are_one(
