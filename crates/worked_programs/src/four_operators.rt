@@ -139,12 +139,13 @@ fn texts() -> Texts<'static> {
 }
 
 /// The last communicator, which begins with a wait for the first transfer, can make no step at first. So a list
-/// that names it alone leaves all as it was.
+/// that names it alone leaves all as it was: the first that can go on is the communicator that signals before its
+/// loop that its buffer is empty.
 fn wait_at_first(rt: &impl Abort, alloc: Global, job: &Job) -> Result<(), Fail> {
     let mut state = State::new(alloc, job)?;
     wait(rt, job, &mut state, 7);
     let mut named = run_fresh(alloc, job, &[7, 7, 7])?;
-    assert_eq!(rt; first_enabled(job, &named), Some(0));
+    assert_eq!(rt; first_enabled(job, &named), Some(1));
     wait(rt, job, &mut named, 7);
     assert_eq!(rt; named.rows().count(), 1);
     assert_eq!(rt; named.rows().lens(), [1, 1].as_slice());
