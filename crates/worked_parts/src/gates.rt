@@ -18,41 +18,70 @@ fn waits(word: &AtomicU64, least: u64) -> bool {
     false
 }
 
-/// Before their first steps the sequences 0 and 1 wait for each other. So where one thread drives both, the
-/// one that is asked for first waits in vain.
+/// How many sequences a meeting has at most.
+const MOST: usize = 8;
+
+/// Before their first steps the first sequences wait until all of them have come, as many as are to meet. So
+/// where one thread drives two of them, the one that is asked for first waits in vain.
 #[derive(Drop)]
 pub struct Meeting {
-    marks: [AtomicU64; 2],
+    sequences: usize,
+    marks: [AtomicU64; MOST],
     given_up: AtomicU64,
 }
 
 impl Meeting {
-    /// A gate at which no sequence has been asked for a step.
-    pub fn new() -> Meeting {
+    /// A gate at which this many sequences are to meet, eight at most, and none has come.
+    pub fn of(sequences: usize) -> Meeting {
         Meeting {
-            marks: [AtomicU64::new(0), AtomicU64::new(0)],
+            sequences: sequences.min(MOST),
+            marks: [
+                AtomicU64::new(0),
+                AtomicU64::new(0),
+                AtomicU64::new(0),
+                AtomicU64::new(0),
+                AtomicU64::new(0),
+                AtomicU64::new(0),
+                AtomicU64::new(0),
+                AtomicU64::new(0),
+            ],
             given_up: AtomicU64::new(0),
         }
     }
 
-    /// Both were asked for their first steps.
-    pub fn has_marks(&self) -> bool {
-        self.marks[0].load(Ordering::SeqCst) == 1 && self.marks[1].load(Ordering::SeqCst) == 1
+    /// How many of the sequences have come.
+    pub fn came(&self) -> u64 {
+        let mut came = 0u64;
+        for mark in &self.marks {
+            came = came.saturating_add(mark.load(Ordering::SeqCst));
+        }
+        came
     }
 
     /// How often a sequence waited in vain.
     pub fn given_up(&self) -> u64 {
         self.given_up.load(Ordering::SeqCst)
     }
+
+    /// Waits until all have come, and says whether they have.
+    fn waits_for_all(&self) -> bool {
+        for place in 0..self.sequences.min(MOST) {
+            if !waits(&self.marks[place], 1) {
+                return false;
+            }
+        }
+        true
+    }
 }
 
 impl Gate for Meeting {
     fn pass(&self, seq: u32, n: u64) {
-        if seq >= 2 || n > 0 {
+        let place = seq as usize;
+        if place >= self.sequences.min(MOST) || n > 0 {
             return;
         }
-        self.marks[seq as usize].store(1, Ordering::SeqCst);
-        if !waits(&self.marks[1 - seq as usize], 1) {
+        self.marks[place].store(1, Ordering::SeqCst);
+        if !self.waits_for_all() {
             self.given_up.fetch_add(1, Ordering::SeqCst);
         }
     }

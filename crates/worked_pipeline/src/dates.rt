@@ -8,7 +8,7 @@ use crate::texts::DURATIONS;
 use actual_durations::actual_of;
 use dates_text::{actual_are_within, repeated};
 use schedule::Schedule;
-use self_timed::{Dates, dates_of};
+use self_timed::{Actual, Dates, dates_of};
 use std::alloc::Global;
 use std::test::Fail;
 
@@ -69,6 +69,15 @@ fn lasts(dates: &Dates, reaction: usize, entry: usize, start: u64, end: u64) -> 
         && entry < dates.entries(reaction)
         && dates.start(reaction, entry) == start
         && dates.end(reaction, entry) == end
+}
+
+/// The ticks of one reaction after another are taken; what they mean shows in the dates.
+#[test]
+fn ticks_are_taken_reaction_by_reaction(rt: HostRuntime) -> Result<(), Fail> {
+    let mut actual = Actual::new(rt.alloc());
+    assert!(rt; actual.push(&[1, 4, 10, 1, 1, 2]).is_ok());
+    assert!(rt; actual.push(&[1, 3, 10, 1, 1, 2]).is_ok());
+    Ok(())
 }
 
 #[test]

@@ -1,10 +1,13 @@
 //! Tests of calls of the pipeline that take memory, one after another over one small algorithm on two
-//! operators: its definitions, tree, rows, flat graph, routes, schedule, program, macro-code and dates.
+//! operators: its definitions, tree, rows, flat graph, routes, schedule, program, macro-code and dates; and the
+//! commands that start no thread.
 //!
 //! What each stage returns is compared with values that were worked by hand. The crate has tests alone, which
 //! stand apart from the crates that they call, so that those are proved once.
 #![tactic(auto)]
 
+#[cfg(test)]
+mod commands;
 #[cfg(test)]
 mod dates;
 #[cfg(test)]

@@ -189,7 +189,7 @@ fn texts() -> Texts<'static> {
     }
 }
 
-/// Runs a job of the program over its one reaction, and compares what the actuators took.
+/// Runs a job of these copies over its one reaction, and compares what the actuators took.
 fn run_job<R: Abort + Threads + Wait + Sync>(
     rt: &R,
     alloc: Global,
@@ -218,8 +218,8 @@ fn run<R: Abort + Threads + Wait + Sync>(
     run_job(rt, alloc, &job, by)
 }
 
-/// Runs what was read of the program by one driver alone, by one worker and by four.
-fn run_by_all<R: Abort + Threads + Wait + Sync>(
+/// Runs what was read of a program of these copies by one driver alone, by one worker and by four.
+pub(crate) fn run_by_all<R: Abort + Threads + Wait + Sync>(
     rt: &R,
     alloc: Global,
     worked: &Worked,

@@ -6,7 +6,11 @@
 #[cfg(test)]
 mod copies;
 #[cfg(test)]
+mod copies_apart;
+#[cfg(test)]
 mod four_operators;
+#[cfg(test)]
+mod limits;
 #[cfg(test)]
 mod runs;
 #[cfg(test)]

@@ -90,11 +90,21 @@ fn whoever_drives_the_end_is_the_same(rt: HostRuntime) -> Result<(), Fail> {
 #[test]
 fn two_sequences_of_two_workers_meet(rt: HostRuntime) -> Result<(), Fail> {
     for (by, given_up) in [(By::Workers(4), 0), (By::Workers(1), 1), (By::Alone, 1)] {
-        let gate = Meeting::new();
+        let gate = Meeting::of(2);
         run(&rt, rt.alloc(), &gate, by)?;
-        assert!(rt; gate.has_marks());
+        assert_eq!(rt; gate.came(), 2);
         assert_eq!(rt; gate.given_up(), given_up, "{by:?}");
     }
+    Ok(())
+}
+
+/// Two threads do not suffice: a gate gives up where one of them drives two of the sequences.
+#[test]
+fn four_sequences_of_four_workers_meet(rt: HostRuntime) -> Result<(), Fail> {
+    let gate = Meeting::of(4);
+    run(&rt, rt.alloc(), &gate, By::Workers(4))?;
+    assert_eq!(rt; gate.came(), 4);
+    assert_eq!(rt; gate.given_up(), 0);
     Ok(())
 }
 

@@ -21,7 +21,7 @@ use semaphore_core::{Job, opening_of, sensor_lens};
 use std::alloc::Global;
 use std::process::Abort;
 use std::test::Fail;
-use syn_base::{OutOfMemory, SensorRows, Shape};
+use syn_base::{LimitFault, OutOfMemory, SensorRows, Shape};
 
 /// The texts of a program, a serial order of it, with a digit for each sequence, and what its sensors give,
 /// reaction by reaction.
@@ -158,8 +158,12 @@ impl Worked {
         })
     }
 
-    /// The job of the program, which its serial order shows to be well formed.
-    pub(crate) fn job<'a>(&'a self, rt: &impl Abort, alloc: Global) -> Result<Job<'a>, Fail> {
+    /// The job of the program, which its serial order shows to be well formed, or the limit that refuses it.
+    pub(crate) fn limited_job<'a>(
+        &'a self,
+        rt: &impl Abort,
+        alloc: Global,
+    ) -> Result<Result<Job<'a>, LimitFault>, Fail> {
         let Worked {
             flat,
             architecture,
@@ -172,6 +176,11 @@ impl Worked {
         assert!(rt; is_order(program, flat, archi, order.as_slice()));
         assert!(rt; rows.count() <= 10_000);
         let opening = opening_of(alloc, flat)?;
-        Ok(Job::new(program, flat, archi, rows, opening)?)
+        Ok(Job::new(program, flat, archi, rows, opening))
+    }
+
+    /// The job of the program, which no limit refuses.
+    pub(crate) fn job<'a>(&'a self, rt: &impl Abort, alloc: Global) -> Result<Job<'a>, Fail> {
+        Ok(self.limited_job(rt, alloc)??)
     }
 }

@@ -6,6 +6,7 @@ ghost use Rattle.word_table.specs.Driver.{AreDrivers};
 
 use crate::texts::{Texts, Worked};
 use crate::two_operators::make;
+use progress_laws::first_enabled;
 use semaphore_core::{Job, State, StepAnswer, try_step};
 use std::alloc::Global;
 use std::process::Abort;
@@ -260,11 +261,14 @@ struct Ahead {
     computation: u32,
     communicator: u32,
     take: u32,
+    /// The first sequence that can go on in the end.
+    next: u32,
 }
 
 /// When both communicators have signalled, the computation makes as many reactions as its buffer has places,
-/// and no more. When one of them has sent, it takes that one's signal and waits for the other's, which is the
-/// first sequence that can go on then: the one that has sent waits for the computation.
+/// and no more. When one of them has sent, it takes that one's signal and waits for the other's. The first
+/// sequence that can go on then is the other one, where the one that has sent waits for the computation, and
+/// else the one that has sent, which finds another value.
 fn run_ahead(rt: &impl Abort, alloc: Global, job: &Job, ahead: Ahead) -> Result<(), Fail> {
     let mut state = State::new(alloc, job)?;
     make_all(rt, job, &mut state, 1, ahead.depth);
@@ -275,6 +279,7 @@ fn run_ahead(rt: &impl Abort, alloc: Global, job: &Job, ahead: Ahead) -> Result<
     make_all(rt, job, &mut state, 1, ahead.communicator);
     make_all(rt, job, &mut state, 0, ahead.take);
     wait(rt, job, &mut state, 0);
+    assert_eq!(rt; first_enabled(job, &state), Some(ahead.next));
     Ok(())
 }
 
@@ -358,6 +363,7 @@ fn a_computation_runs_one_reaction_ahead(rt: HostRuntime) -> Result<(), Fail> {
         computation: 8,
         communicator: 6,
         take: 1,
+        next: 2,
     };
     run(&rt, rt.alloc(), &texts(), ahead)
 }
@@ -369,6 +375,7 @@ fn with_two_places_it_runs_two_reactions_ahead(rt: HostRuntime) -> Result<(), Fa
         computation: 10,
         communicator: 7,
         take: 2,
+        next: 1,
     };
     run(&rt, rt.alloc(), &texts_of_two_places(), ahead)
 }

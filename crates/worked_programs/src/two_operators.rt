@@ -6,7 +6,7 @@ use crate::texts::{Texts, Worked};
 use crate::words::{End, drive};
 use phase_laws::run_fresh;
 use progress_laws::{first_enabled, steps_in_all};
-use semaphore_core::{Job, State, StepAnswer, try_step};
+use semaphore_core::{Job, State, StepAnswer, run_list, try_step};
 use std::alloc::Global;
 use std::process::Abort;
 use std::test::Fail;
@@ -141,14 +141,63 @@ fn greatest_list(rt: &impl Abort, alloc: Global, job: &Job) -> Result<Vec<u32>, 
     Ok(list)
 }
 
-/// Runs a job to its end, the greatest enabled sequence first, after which none is enabled.
+/// A sequence has made all its micro-steps.
+fn finish(rt: &impl Abort, job: &Job, state: &mut State, seq: u32)
+    requires { IsOpened job.now state.old }
+    ensures { IsOpened job.now state.new }
+{
+    assert!(rt; seq < job.sequences());
+    assert_eq!(rt; try_step(job, state, seq), StepAnswer::Finished);
+}
+
+/// All is done: none of the four sequences is enabled, and each answers that it is finished.
+fn expect_all_done(rt: &impl Abort, job: &Job, state: &mut State)
+    requires { IsOpened job.now state.old }
+{
+    assert_eq!(rt; first_enabled(job, state), None);
+    finish(rt, job, state, 0);
+    finish(rt, job, state, 1);
+    finish(rt, job, state, 2);
+    finish(rt, job, state, 3);
+    expect(rt, state.rows(), &TAKEN);
+}
+
+/// Runs a job to its end, the greatest enabled sequence first.
 fn the_greatest_first(rt: &impl Abort, alloc: Global, job: &Job, steps: u64) -> Result<(), Fail> {
     assert_eq!(rt; steps_in_all(job), steps);
     let list = greatest_list(rt, alloc, job)?;
-    let state = run_fresh(alloc, job, list.as_slice())?;
-    assert_eq!(rt; first_enabled(job, &state), None);
-    expect(rt, state.rows(), &TAKEN);
+    let mut state = run_fresh(alloc, job, list.as_slice())?;
+    expect_all_done(rt, job, &mut state);
     Ok(())
+}
+
+/// Micro-step by micro-step the sequences as the serial order of one reaction names them: the sensor and the first
+/// function, the send, the receive, the other function with its actuator, and the first actuator.
+const REACTION: &[u32] = &[
+    0, 0, 0, 0, 0, 1, 1, 1, 1, 1, 1, 3, 3, 3, 3, 3, 3, 2, 2, 2, 2, 2, 0,
+];
+
+/// Runs a job to its end by its serial order: both prologues, and then three reactions.
+fn in_serial_order(rt: &impl Abort, alloc: Global, job: &Job) -> Result<(), Fail> {
+    let mut state = State::new(alloc, job)?;
+    run_list(job, &mut state, &[1, 2]);
+    run_list(job, &mut state, REACTION);
+    run_list(job, &mut state, REACTION);
+    run_list(job, &mut state, REACTION);
+    expect_all_done(rt, job, &mut state);
+    Ok(())
+}
+
+/// As `in_serial_order`, on what was read of a program.
+fn run_in_serial_order(rt: &impl Abort, alloc: Global, worked: &Worked) -> Result<(), Fail> {
+    let job = worked.job(rt, alloc)?;
+    in_serial_order(rt, alloc, &job)
+}
+
+#[test]
+fn the_serial_order_leads_to_the_end(rt: HostRuntime) -> Result<(), Fail> {
+    let worked = Worked::read(&rt, rt.alloc(), &texts())?;
+    run_in_serial_order(&rt, rt.alloc(), &worked)
 }
 
 /// Runs a job on tables of words, by one driver, by two, three and four, and by 80.

@@ -16,39 +16,32 @@ pub(crate) struct End<'a> {
     pub(crate) words: &'a [u64],
 }
 
-/// How many micro-steps a try made.
-fn made(answer: MicroAnswer) -> u64 {
-    match answer {
-        MicroAnswer::Stepped => 1,
-        MicroAnswer::NotYet | MicroAnswer::Finished => 0,
-    }
-}
-
-/// Tries each sequence of a driver once, and counts the micro-steps that were made.
-fn turn<'a>(fabric: &Fabric<'a>, driver: &mut Driver<'a>) -> u64
+/// Tries each sequence of a driver once, and counts the tries that have this answer.
+fn turn<'a>(fabric: &Fabric<'a>, driver: &mut Driver<'a>, wanted: MicroAnswer) -> u64
     requires { driver.old.fabric ≡ fabric.now }
     ensures fabric { driver.new.fabric ≡ driver.old.fabric }
     ensures group { driver.new.group ≡ driver.old.group }
 {
-    let mut steps: u64 = 0;
+    let mut count: u64 = 0;
     for seq in 0..fabric.sequences() {
         if fabric.groups() > 0 && seq % fabric.groups() == driver.group() {
-            steps = steps.saturating_add(made(fabric.try_micro(driver, seq)));
+            let answer = fabric.try_micro(driver, seq);
+            count = count.saturating_add(u64::from(answer == wanted));
         }
     }
-    steps
+    count
 }
 
-/// Tries each sequence once, driver by driver, and counts the micro-steps that were made.
-fn round<'a>(fabric: &Fabric<'a>, drivers: &mut Vec<Driver<'a>>) -> u64
+/// Tries each sequence once, driver by driver, and counts the tries that have this answer.
+fn round<'a>(fabric: &Fabric<'a>, drivers: &mut Vec<Driver<'a>>, wanted: MicroAnswer) -> u64
     requires { AreDrivers fabric.now drivers.old.items }
     ensures { AreDrivers fabric.now drivers.new.items }
 {
-    let mut steps: u64 = 0;
+    let mut count: u64 = 0;
     for g in 0..drivers.len() {
-        steps = steps.saturating_add(turn(fabric, &mut drivers[g]));
+        count = count.saturating_add(turn(fabric, &mut drivers[g], wanted));
     }
-    steps
+    count
 }
 
 /// The counts and the words are those.
@@ -57,7 +50,7 @@ pub(crate) fn expect_end(rt: &impl Abort, driven: &Driven, end: &End) {
     assert_eq!(rt; driven.words(), end.words);
 }
 
-/// Drives a job in groups of sequences, by a driver each.
+/// Drives a job in groups of sequences, by a driver each. In the end each sequence answers that it is finished.
 pub(crate) fn drive(
     rt: &impl Abort,
     alloc: Global,
@@ -69,8 +62,10 @@ pub(crate) fn drive(
     let (fabric, mut drivers) = weave(alloc, job, groups)?;
     let mut steps: u64 = 0;
     for _ in 0..200 {
-        steps = steps.saturating_add(round(&fabric, &mut drivers));
+        steps = steps.saturating_add(round(&fabric, &mut drivers, MicroAnswer::Stepped));
     }
+    let finished = round(&fabric, &mut drivers, MicroAnswer::Finished);
+    assert_eq!(rt; finished, u64::from(fabric.sequences()));
     let mut driven = Driven::new(alloc);
     let closed = fabric.close(drivers, &mut driven);
     assert_eq!(rt; driven.number(), steps);

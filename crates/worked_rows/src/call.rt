@@ -6,7 +6,7 @@ use crate::faults::call_faults;
 use crate::file::{File, bytes_of};
 use crate::gate::answered_at;
 use crate::spoilt::call_spoilt;
-use outside::{Gate, ShelfMem, SinkMem};
+use outside::{Gate, GateFree, ShelfMem, SinkMem};
 use std::alloc::{AllocError, Global};
 use std::io::Write;
 use std::rt::Files;
@@ -16,6 +16,7 @@ use std::{io, str};
 use syn_base::Items;
 use syndex_program::syndex;
 use word_table::Driven;
+use worked_parts::ByteShelf;
 
 /// What a call reads and writes, and what it drives.
 #[derive(Drop)]
@@ -91,6 +92,40 @@ pub fn answered<R: AllocGlobal + Threads + Wait + Sync, G: Gate>(
         driven,
     } = outside;
     syndex(rt, alloc, words, shelf, out, err, gate, driven).number()
+}
+
+/// As `answered` without a gate, where each call on the shelf gives one byte at most; with the outside after it.
+pub fn answered_by_bytes<R: AllocGlobal + Threads + Wait + Sync>(
+    rt: &R,
+    words: &[String],
+    outside: Outside,
+) -> (u8, Outside) {
+    let alloc = rt.alloc();
+    let Outside {
+        shelf,
+        mut out,
+        mut err,
+        mut driven,
+    } = outside;
+    let mut shelf = ByteShelf { shelf };
+    let status = syndex(
+        rt,
+        alloc,
+        words,
+        &mut shelf,
+        &mut out,
+        &mut err,
+        &GateFree,
+        &mut driven,
+    );
+    let ByteShelf { shelf } = shelf;
+    let outside = Outside {
+        shelf,
+        out,
+        err,
+        driven,
+    };
+    (status.number(), outside)
 }
 
 /// Writes the output of a call, its line, its status, and what else is asked for.

@@ -1,11 +1,12 @@
 //! A call for each call of its outside, which fails there.
 //!
 //! First calls on the shelf fail, from call 0 on until there is none that would: where the answers of several
-//! are equal, one line tells them as `cuts` does it, and the last line is of the call without a fault. Then calls
-//! on the output fail, which takes all that it is given, or one byte a call, and calls on the error stream, where
-//! the output fails at once. A line tells of each of these three how many runs met the fault, and of how many
-//! this holds: what stands there is a beginning, with a byte for each call before where each takes one byte, and
-//! the status is that of a failed write, or by the error stream what it was. The last run meets no fault.
+//! are equal, one line tells them as `cuts` does it, and the last line is of the call without a fault. A line says
+//! whether the answer is the same where a call on the shelf gives one byte at most. Then calls on the output fail,
+//! which takes all that it is given, or one byte a call, and calls on the error stream, where the output fails at
+//! once. A line tells of each of these three how many runs met the fault, and of how many this holds: what stands
+//! there is a beginning, with a byte for each call before where each takes one byte, and the status is that of a
+//! failed write, or by the error stream what it was. The last run meets no fault.
 
 use crate::answer::{Answer, Span};
 use crate::call::{Outside, outside_for};
@@ -105,6 +106,15 @@ fn is_write_fault(answer: &Answer) -> bool {
     answer.number == 4 && answer.line.as_slice() == b"cannot write\n".as_slice()
 }
 
+/// What is told of an answer where no call fails.
+fn end_of(answer: &Answer, usual: &Answer) -> &'static str {
+    if answer.is_same(usual) {
+        "as ever"
+    } else {
+        "otherwise"
+    }
+}
+
 /// Whether the first bytes of the whole are these, and not all of it.
 fn begins(bytes: &[u8], whole: &[u8]) -> bool {
     bytes.len() < whole.len() && whole.starts_with(bytes)
@@ -123,6 +133,7 @@ pub fn call_faults<R: Files + Print + AllocGlobal + Threads + Wait + Sync>(
         holds,
     };
     called.tell_shelf(rt)?;
+    called.tell_bytes(rt)?;
     for part in [Part::Out, Part::OutBytes, Part::ErrBytes] {
         called.tell_sink(rt, part)?;
     }
@@ -170,6 +181,19 @@ impl<'a> Called<'a> {
         span.write(rt, self.files, self.holds)
     }
 
+    /// Tells whether the answer is the usual one where each call on the shelf gives one byte at most.
+    fn tell_bytes<R: Files + Print + AllocGlobal + Threads + Wait + Sync>(
+        &self,
+        rt: &R,
+    ) -> io::Result<()> {
+        let (usual, _) = self.answer(rt, Part::Shelf, None)?;
+        let holds = Conditions::new(rt.alloc());
+        let outside = outside_for(rt, self.files, self.words, &holds)?;
+        let answer = Answer::by_bytes(rt, self.words, outside)?;
+        let end = end_of(&answer, &usual);
+        println!(rt; "shelf by bytes: {end}")
+    }
+
     /// Tells how many runs met a fault of this sink, and how many of these answered what they may.
     fn tell_sink<R: Files + Print + AllocGlobal + Threads + Wait + Sync>(
         &self,
@@ -182,11 +206,7 @@ impl<'a> Called<'a> {
         for call in 0..MOST {
             let (answer, failed) = self.answer(rt, part, Some(call))?;
             if !failed {
-                let end = if answer.is_same(&usual) {
-                    "as ever"
-                } else {
-                    "otherwise"
-                };
+                let end = end_of(&answer, &usual);
                 return println!(rt; "{name}: {call} faults, {admitted} as told, then {end}");
             }
             if part.admits(call, &answer, &usual) {

@@ -13,8 +13,8 @@ use worked_parts::{Counting, Holding, Meeting};
 pub enum Seen {
     /// Nothing is told of it.
     Nothing,
-    /// Whether sequences 0 and 1 were both asked for their first steps, and how often one waited in vain.
-    Meeting { both: bool, given_up: u64 },
+    /// How many of the sequences that were to meet have come, and how often one waited in vain.
+    Meeting { came: u64, given_up: u64 },
     /// How many steps it was asked for of each sequence, and how many of these came out of turn.
     Counting { asked: [u64; 4], out_of_turn: u64 },
     /// For which step sequence 0 was asked last when sequence 1 was let go.
@@ -26,14 +26,9 @@ impl Seen {
     pub fn write(&self, rt: &impl Print) -> io::Result<()> {
         match self {
             Seen::Nothing => Ok(()),
-            Seen::Meeting {
-                both: true,
-                given_up,
-            } => println!(rt; "gate: both came, {given_up} gave up"),
-            Seen::Meeting {
-                both: false,
-                given_up,
-            } => println!(rt; "gate: one came, {given_up} gave up"),
+            Seen::Meeting { came, given_up } => {
+                println!(rt; "gate: {came} came, {given_up} gave up")
+            }
             Seen::Counting {
                 asked: [a, b, c, d],
                 out_of_turn,
@@ -52,22 +47,23 @@ pub fn answered_at<R: AllocGlobal + Threads + Wait + Sync>(
 ) -> (u8, Seen) {
     match kind {
         GateKind::Free => (answered(rt, words, outside, &GateFree), Seen::Nothing),
-        GateKind::Meeting => answered_at_meeting(rt, words, outside),
+        GateKind::Meeting(sequences) => answered_at_meeting(rt, words, outside, sequences),
         GateKind::Counting => answered_at_counting(rt, words, outside),
         GateKind::Holding => answered_at_holding(rt, words, outside),
     }
 }
 
-/// As `answered_at`, with a gate at which sequences 0 and 1 wait for each other.
+/// As `answered_at`, with a gate at which this many sequences wait for each other.
 fn answered_at_meeting<R: AllocGlobal + Threads + Wait + Sync>(
     rt: &R,
     words: &[String],
     outside: &mut Outside,
+    sequences: usize,
 ) -> (u8, Seen) {
-    let gate = Meeting::new();
+    let gate = Meeting::of(sequences);
     let number = answered(rt, words, outside, &gate);
-    let (both, given_up) = (gate.has_marks(), gate.given_up());
-    (number, Seen::Meeting { both, given_up })
+    let (came, given_up) = (gate.came(), gate.given_up());
+    (number, Seen::Meeting { came, given_up })
 }
 
 /// As `answered_at`, with a gate that counts steps.

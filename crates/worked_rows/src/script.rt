@@ -38,8 +38,8 @@ pub enum Edit<'a> {
 pub enum GateKind {
     /// One that holds nothing back.
     Free,
-    /// One at which sequences 0 and 1 wait for each other before their first steps.
-    Meeting,
+    /// One at which this many sequences, from 0 on, wait for each other before their first steps.
+    Meeting(usize),
     /// One that counts the steps of sequences 0 to 3 that it is asked for.
     Counting,
     /// One that holds sequence 1 before its step 1 until sequence 0 was asked for its step 6.
@@ -69,8 +69,8 @@ pub enum Condition<'a> {
     Words,
     /// `tell sum`: the sum of all values in the output is written in the place of the output.
     Sum,
-    /// `gate KIND`, with `meeting`, `counting` or `holding`: this gate is asked before each step, and what it
-    /// has seen is written.
+    /// `gate KIND`, with `meeting N`, of 8 sequences at most, `counting` or `holding`: this gate is asked before
+    /// each step, and what it has seen is written.
     Gate(GateKind),
     /// `output NAME`: where the output is what this file holds, its name stands in the transcript.
     Output(&'a str),
@@ -160,8 +160,10 @@ fn told_by(name: &str) -> Option<Condition<'static>> {
 
 /// The gate of this name.
 fn gate_of(name: &str) -> Option<GateKind> {
+    if let Some(("meeting", number)) = name.split_once(' ') {
+        return Some(GateKind::Meeting(number.parse::<usize>().ok()?));
+    }
     match name {
-        "meeting" => Some(GateKind::Meeting),
         "counting" => Some(GateKind::Counting),
         "holding" => Some(GateKind::Holding),
         _ => None,
