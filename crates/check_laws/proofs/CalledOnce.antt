@@ -28,7 +28,7 @@ module _ (p : Program) where
         twins = twins_of p s a x.kind x.twin twin.1;
       }
 
-  of_once : (v : ℕ) (x : Vertex) → IsCalledOnce p v x → is_called p v x ≡ true
+  pub of_once : (v : ℕ) (x : Vertex) → IsCalledOnce p v x → is_called p v x ≡ true
   of_once v x r =
       let s = caller_of p v in
       let a = called_at p v in

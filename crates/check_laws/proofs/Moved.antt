@@ -12,7 +12,7 @@ use Rattle.check_laws.specs.Items.{IsTransferred}
 use Rattle.check_laws.specs.Tests.{waits_between, is_moved, are_moved}
 
 module _ (p : Program) where
-  moved_of : (m t : ℕ) → is_moved p m t ≡ true → IsTransferred p m t
+  pub moved_of : (m t : ℕ) → is_moved p m t ≡ true → IsTransferred p m t
   moved_of m t h =
       let s = sender_of p m t in
       let r = receiver_of p m t in
@@ -24,7 +24,7 @@ module _ (p : Program) where
         others = λ u a x c d e. (others_of p (λ v b. true) m t s r others.1 u a x c d e).0;
       }
 
-  of_moved : (m t : ℕ) → IsTransferred p m t → is_moved p m t ≡ true
+  pub of_moved : (m t : ℕ) → IsTransferred p m t → is_moved p m t ≡ true
   of_moved m t i =
       let s = sender_of p m t in
       let r = receiver_of p m t in

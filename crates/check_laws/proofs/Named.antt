@@ -46,7 +46,7 @@ module _ (p : Program) (operations operators : ℕ) where
   names_of (Recv b o) h = let r = and_parts (nat_lt b (length p.buffers)) (nat_lt o operators) h in (ltb-true b (length p.buffers) r.0, ltb-true o operators r.1)
   names_of (Sync o q) h = let r = and_parts (nat_lt o operators) (nat_lt q operators) h in (ltb-true o operators r.0, ltb-true q operators r.1)
 
-  of_names : (x : Instr) → NamesThere p operations operators x → all_there p operations operators x ≡ true
+  pub of_names : (x : Instr) → NamesThere p operations operators x → all_there p operations operators x ≡ true
   of_names (Suc0 q) h = both_true (lt-ltb q (length p.pairs) h) refl
   of_names (Suc1 q) h = both_true (lt-ltb q (length p.pairs) h) refl
   of_names (Pre0 q) h = both_true (lt-ltb q (length p.pairs) h) refl

@@ -145,7 +145,7 @@ module _ (p : Program) (order : List ℕ) (g : Graph) where
       (from_zero (λ (k : ℕ) (d : Guard). carries p g.vertices d.source (slice_get ins k)) ds guards.1)
       (from_zero (λ (k : ℕ) (x : Source). carries p g.vertices x (slice_get (drop (length ds) ins) k)) xs inputs.1)
 
-  of_takes : (ins : List ℕ) (ds : List Guard) (xs : List Source) → CarryInOrder p order (places p) (carried p) g ins (map (λ d. d.source) ds ++ xs) → takes p g.vertices ins ds xs ≡ true
+  pub of_takes : (ins : List ℕ) (ds : List Guard) (xs : List Source) → CarryInOrder p order (places p) (carried p) g ins (map (λ d. d.source) ds ++ xs) → takes p g.vertices ins ds xs ≡ true
   of_takes ins ds xs h =
       both_true (both_true (eq-eqb (length ins) (length ds + length xs) (long_take ins ds xs h))
       (to_zero (λ (k : ℕ) (d : Guard). carries p g.vertices d.source (slice_get ins k)) ds (each_guard ins ds xs h)))
@@ -194,7 +194,7 @@ module _ (p : Program) (order : List ℕ) (g : Graph) where
       give_of v 0 bs ns (eqb-true (length bs) (length ns) parts.0)
       (λ k n e. subst (λ (q : ℕ). gives_at p v q n (slice_get bs k) ≡ true) (sym (zero-add k)) (from_zero (λ (k n : ℕ). gives_at p v k n (slice_get bs k)) ns parts.1 k n e))
 
-  of_gives : (v : ℕ) (bs ns : List ℕ) → CarryOutputs p order (places p) (carried p) g v 0 bs ns → gives p v bs ns ≡ true
+  pub of_gives : (v : ℕ) (bs ns : List ℕ) → CarryOutputs p order (places p) (carried p) g v 0 bs ns → gives p v bs ns ≡ true
   of_gives v bs ns h =
       both_true (eq-eqb (length bs) (length ns) (long_give v 0 bs ns h))
       (to_zero (λ (k n : ℕ). gives_at p v k n (slice_get bs k)) ns (λ k n e. subst (λ (q : ℕ). gives_at p v q n (slice_get bs k) ≡ true) (zero-add k) (each_give v 0 bs ns h k n e)))
