@@ -6,6 +6,7 @@ use crate::faults::call_faults;
 use crate::file::{File, bytes_of};
 use crate::gate::answered_at;
 use crate::spoilt::call_spoilt;
+use lab_program::syndex_lab;
 use outside::{Gate, GateFree, ShelfMem, SinkMem};
 use std::alloc::{AllocError, Global};
 use std::io::Write;
@@ -27,21 +28,23 @@ pub struct Outside {
     driven: Driven,
 }
 
-/// Calls the program with these words, and writes the call and its answers into the transcript.
+/// Calls the program with these words, and writes the call and its answers into the transcript. What is to be kept of a
+/// call that is made once is returned as a file.
 pub fn call<R: Files + Print + AllocGlobal + Threads + Wait + Sync>(
     rt: &R,
     files: &[File],
     words: &str,
     holds: &Conditions,
-) -> io::Result<()> {
+) -> io::Result<Option<File>> {
     println!(rt; "$ {words}")?;
     let given = words_of(rt.alloc(), words)?;
     match &holds.sweep {
-        Sweep::Once => call_once(rt, files, &given, holds),
-        Sweep::Cuts(name) => call_cuts(rt, files, &given, holds, name.as_str()),
-        Sweep::Spoilt(name) => call_spoilt(rt, files, &given, holds, name.as_str()),
-        Sweep::Faults => call_faults(rt, files, &given, holds),
+        Sweep::Once => return call_once(rt, files, &given, holds),
+        Sweep::Cuts(name) => call_cuts(rt, files, &given, holds, name.as_str())?,
+        Sweep::Spoilt(name) => call_spoilt(rt, files, &given, holds, name.as_str())?,
+        Sweep::Faults => call_faults(rt, files, &given, holds)?,
     }
+    Ok(None)
 }
 
 /// Calls the program with these words, and writes its answers into the transcript.
@@ -50,11 +53,22 @@ fn call_once<R: Files + Print + AllocGlobal + Threads + Wait + Sync>(
     files: &[File],
     words: &[String],
     holds: &Conditions,
-) -> io::Result<()> {
+) -> io::Result<Option<File>> {
     let mut outside = outside_for(rt, files, words, holds)?;
     let (number, seen) = answered_at(rt, words, &mut outside, holds.gate);
     write_answers(rt, files, holds, &outside, number)?;
-    seen.write(rt)
+    seen.write(rt)?;
+    match &holds.keep {
+        Some(name) => Ok(Some(kept_as(rt.alloc(), name.as_str(), outside.out.bytes())?)),
+        None => Ok(None),
+    }
+}
+
+/// A file of this name with these bytes.
+fn kept_as(alloc: Global, name: &str, bytes: &[u8]) -> Result<File, AllocError> {
+    let mut file = File::new(alloc, name)?;
+    file.bytes.extend_from_slice(bytes)?;
+    Ok(file)
 }
 
 /// The files that the words name, and sinks of which this is said.
@@ -91,6 +105,9 @@ pub fn answered<R: AllocGlobal + Threads + Wait + Sync, G: Gate>(
         err,
         driven,
     } = outside;
+    if words.first().is_some_and(|word| word.as_str() == "syndex_lab") {
+        return syndex_lab(alloc, words, shelf, out, err).number();
+    }
     syndex(rt, alloc, words, shelf, out, err, gate, driven).number()
 }
 
@@ -190,6 +207,10 @@ pub fn write_output<R: Files + Print + AllocGlobal>(
     holds: &Conditions,
     output: &[u8],
 ) -> io::Result<()> {
+    if let Some(name) = &holds.keep {
+        let name = name.as_str();
+        return println!(rt; "(kept as {name})");
+    }
     if let Some(name) = &holds.output {
         if let Some(wanted) = bytes_of(rt, files, name.as_str())? {
             if wanted.as_slice() == output {

@@ -36,8 +36,11 @@ impl Player {
             Line::Comment => println!(rt; "{text}"),
             Line::Unknown => println!(rt; "? {text}"),
             Line::Call(words) => {
-                call(rt, &self.files, words, &self.holds)?;
+                let kept = call(rt, &self.files, words, &self.holds)?;
                 self.holds = Conditions::new(rt.alloc());
+                if let Some(file) = kept {
+                    self.files.insert(0, file)?;
+                }
                 Ok(())
             }
             Line::Condition(condition) => Ok(self.holds.add(rt.alloc(), condition)?),

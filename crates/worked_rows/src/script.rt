@@ -6,7 +6,8 @@
 pub enum Line<'a> {
     /// An empty line, or a comment after `#`: it goes into the transcript.
     Comment,
-    /// `$ WORDS`: a call of the program with these words, of which the first is its own name.
+    /// `$ WORDS`: a call of the program with these words, of which the first is its own name: `syndex_lab`, or any other
+    /// word for `syndex`.
     Call(&'a str),
     /// `file NAME`: the lines up to the next such one write this file, in place of an earlier one.
     File(&'a str),
@@ -77,6 +78,8 @@ pub enum Condition<'a> {
     /// `has NAME`: where the lines of this file are among those of the output, in the same order, `(has NAME)`
     /// stands in the transcript.
     Has(&'a str),
+    /// `keep NAME`: what is written becomes a file of this name, and `(kept as NAME)` stands in the transcript.
+    Keep(&'a str),
     /// `cuts NAME`: the call is made once for each length of this file, from 0 up to the whole, with the file
     /// cut there. `cuts` has what then stands in the transcript. Nothing is held back, and nothing else is written.
     Cuts(&'a str),
@@ -135,6 +138,7 @@ fn condition_of<'a>(word: &str, rest: &'a str) -> Option<Condition<'a>> {
     match word {
         "output" => Some(Condition::Output(rest)),
         "has" => Some(Condition::Has(rest)),
+        "keep" => Some(Condition::Keep(rest)),
         "cuts" => Some(Condition::Cuts(rest)),
         "spoilt" => Some(Condition::Spoilt(rest)),
         "faults" => Some(Condition::Faults),
