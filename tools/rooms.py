@@ -64,9 +64,8 @@ def room_table(listing):
 
 
 MADE = {"README.md": room_table, "docs/ARCHITECTURE.md": room_list}
-# Pages that are written by hand in the order of the rooms: what their headings begin with, and the
-# heading at which the rooms end.
-BY_ROOM = {"docs/DEFINITIONS.md": ("## ", None), "docs/PROOFS.md": ("### ", "## Tricks")}
+# Pages that are written by hand in the order of the rooms, which are their headings.
+BY_ROOM = ("docs/DEFINITIONS.md", "docs/PROOFS_BY_CRATE.md")
 
 
 def written(listing, path, make):
@@ -78,15 +77,13 @@ def written(listing, path, make):
     return text, f"{before}{BEGIN}\n\n{make(listing)}\n\n{END}{rest.partition(END)[2]}"
 
 
-def of_headings(listing, path, begins, end):
+def of_headings(listing, path):
     """Headings of a page by rooms that name none, or not in their order."""
     rooms, last = [it.name for it in listing.rooms], -1
     for number, line in enumerate(text_of(f"{listing.top}/{path}").split("\n"), 1):
-        if end and line.startswith(end):
-            return
-        if not line.startswith(begins):
+        if not line.startswith("## "):
             continue
-        room = line[len(begins):].strip()
+        room = line[3:].strip()
         if room not in rooms:
             yield f"{path}:{number}: {room} is no room of crates.txt"
         elif rooms.index(room) < last:
@@ -106,8 +103,8 @@ def faults():
             yield f"{path}: it needs one line {BEGIN} and after it one line {END}"
         elif made != text:
             yield f"{path}: its rooms are not those of crates.txt and the crates: run tools/rooms.py"
-    for path, (begins, end) in BY_ROOM.items():
-        yield from of_headings(listing, path, begins, end)
+    for path in BY_ROOM:
+        yield from of_headings(listing, path)
 
 
 def main(words):

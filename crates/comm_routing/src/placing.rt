@@ -32,22 +32,23 @@ pub(crate) struct Placement<'a> {
 pub(crate) fn decide(
     alloc: Global,
     site: &Site,
-    placement: Placement,
+    placement: &Placement,
     board: &Board,
 ) -> Result<Decision, OutOfMemory>
     requires few { length site.now.archi.now.media ≤ 16 }
-    requires operator { (placement.operator < site.now.routes.now.operators) ×
-        (placement.operator < 16) }
-    requires operation { placement.op < length site.now.flat.now.vertices }
-    requires reads { placement.reads.now ≡ distinct (sources (routing_on site.now) placement.op) }
+    requires operator { (placement.now.operator < site.now.routes.now.operators) ×
+        (placement.now.operator < 16) }
+    requires operation { placement.now.op < length site.now.flat.now.vertices }
+    requires reads { placement.now.reads.now ≡ distinct
+        (sources (routing_on site.now) placement.now.op) }
     requires ways { All (HasWay site.now.archi.now.media board.now (route_in site.now.routes.now)
-        site.now.routes.now.operators placement.operator) placement.reads.now }
+        site.now.routes.now.operators placement.now.operator) placement.now.reads.now }
     requires fits { FitsAll site.now.archi.now.media board.now (route_in site.now.routes.now)
-        placement.operator placement.reads.now (walk board.now.ends 0) }
-    requires ends { start_in (routing_on site.now) board.now placement.op placement.operator +
-        placement.ticks < 2 ^ 64 }
+        placement.now.operator placement.now.reads.now (walk board.now.ends 0) }
+    requires ends { start_in (routing_on site.now) board.now placement.now.op
+        placement.now.operator + placement.now.ticks < 2 ^ 64 }
     ensures { IfOk result (λ d. d ≡ decision_in (routing_on site.now) board.now
-        placement.op placement.operator placement.ticks) }
+        placement.now.op placement.now.operator placement.now.ticks) }
 {
     let network = Network {
         board,
@@ -55,7 +56,12 @@ pub(crate) fn decide(
         routes: site.routes,
     };
     let mut transfers = Vec::new(alloc);
-    let arrival = list_all(network, placement.reads, placement.operator, &mut transfers)?;
+    let arrival = list_all(
+        &network,
+        placement.reads,
+        placement.operator,
+        &mut transfers,
+    )?;
     let vertex = &site.flat.vertices()[placement.op as usize];
     let start = start(
         board,
@@ -94,38 +100,39 @@ pub(crate) fn apply(board: &mut Board, decision: &Decision, outs: &[u32])
 pub(crate) fn place(
     alloc: Global,
     site: &Site,
-    placement: Placement,
+    placement: &Placement,
     board: &mut Board,
     decisions: &mut Vec<Decision>,
 ) -> Result<bool, OutOfMemory>
     requires few { length site.now.archi.now.media ≤ 16 }
-    requires operator { (placement.operator < site.now.routes.now.operators) ×
-        (placement.operator < 16) }
-    requires operation { (placement.op < length site.now.flat.now.vertices) ×
-        (placement.op < length board.old.first) × (placement.op < length board.old.places) ×
-        (placement.op < length board.old.ended) }
-    requires reads { placement.reads.now ≡ distinct (sources (routing_on site.now) placement.op) }
+    requires operator { (placement.now.operator < site.now.routes.now.operators) ×
+        (placement.now.operator < 16) }
+    requires operation { (placement.now.op < length site.now.flat.now.vertices) ×
+        (placement.now.op < length board.old.first) × (placement.now.op < length board.old.places)
+        × (placement.now.op < length board.old.ended) }
+    requires reads { placement.now.reads.now ≡ distinct
+        (sources (routing_on site.now) placement.now.op) }
     requires ways { All (HasWay site.now.archi.now.media board.old (route_in site.now.routes.now)
-        site.now.routes.now.operators placement.operator) placement.reads.now }
+        site.now.routes.now.operators placement.now.operator) placement.now.reads.now }
     requires fits { FitsAll site.now.archi.now.media board.old (route_in site.now.routes.now)
-        placement.operator placement.reads.now (walk board.old.ends 0) }
-    requires ends { start_in (routing_on site.now) board.old placement.op placement.operator +
-        placement.ticks < 2 ^ 64 }
+        placement.now.operator placement.now.reads.now (walk board.old.ends 0) }
+    requires ends { start_in (routing_on site.now) board.old placement.now.op
+        placement.now.operator + placement.now.ticks < 2 ^ 64 }
     requires lands { All (λ c. HasPlace board.old (copy c.to c.source) × (c.medium < 16))
-        (transfers_in (routing_on site.now) board.old placement.op placement.operator) }
-    requires outputs { (j : ℕ) → j < length (outs_of (routing_on site.now) placement.op) →
-        (slice_index_or board.old.first placement.op 0 + j) * board.old.operators +
-        placement.operator < length board.old.held }
+        (transfers_in (routing_on site.now) board.old placement.now.op placement.now.operator) }
+    requires outputs { (j : ℕ) → j < length (outs_of (routing_on site.now) placement.now.op) →
+        (slice_index_or board.old.first placement.now.op 0 + j) * board.old.operators +
+        placement.now.operator < length board.old.held }
     ensures decided { OnOk result (decisions.new.items ≡ decisions.old.items ++
-        decision_in (routing_on site.now) board.old placement.op placement.operator
-        placement.ticks ∷ []) }
+        decision_in (routing_on site.now) board.old placement.now.op placement.now.operator
+        placement.now.ticks ∷ []) }
     ensures tables { OnOk result (board.new ≡ after_operation
         (after_transfers board.old (transfers_in (routing_on site.now) board.old
-        placement.op placement.operator)) (outs_of (routing_on site.now) placement.op)
-        (decision_in (routing_on site.now) board.old placement.op placement.operator
-        placement.ticks)) }
-    ensures quiet { IfOk result (λ quiet. IsTrue quiet →
-        transfers_in (routing_on site.now) board.old placement.op placement.operator ≡ []) }
+        placement.now.op placement.now.operator)) (outs_of (routing_on site.now) placement.now.op)
+        (decision_in (routing_on site.now) board.old placement.now.op placement.now.operator
+        placement.now.ticks)) }
+    ensures quiet { IfOk result (λ quiet. IsTrue quiet → transfers_in (routing_on site.now)
+        board.old placement.now.op placement.now.operator ≡ []) }
     ensures refused { OnErr result ((decisions.new.items ≡ decisions.old.items) ×
         (board.new ≡ board.old)) }
 {

@@ -83,7 +83,7 @@ pub(crate) fn place_next(
     let quiet = place(
         alloc,
         site,
-        placement,
+        &placement,
         &mut progress.board,
         &mut progress.decisions,
     )?;

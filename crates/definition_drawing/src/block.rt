@@ -5,7 +5,7 @@ ghost use Rattle.definition_drawing.specs.Drawing.{cases_from, edge_text, fronti
 
 use crate::frontier::{append_frontier, append_rest_id};
 use crate::line::{append_case, append_in, append_link, append_on, append_out, append_reference};
-use crate::piece::{append_in_id, begin, begin_label, begin_target, finish};
+use crate::piece::{append_in_id, begin, begin_label, begin_target, finish, finish_dotted};
 use crate::word::{Word, append_word};
 use algo_defs::{Case, Def, Edge, FrontierLine, Reference};
 use body_lang::Port;
@@ -111,9 +111,7 @@ fn append_otherwise_edge(out: &mut Vec<u8>, def: &[u8], on: &[u8]) -> Result<(),
     append_in_id(out, def, on)?;
     begin_target(out)?;
     append_rest_id(out, def)?;
-    append_word(out, Word::Attributes)?;
-    append_word(out, Word::Dotted)?;
-    finish(out)
+    finish_dotted(out)
 }
 
 /// Appends the frontier lines of a repetition.

@@ -291,6 +291,14 @@ fn begin_frame(out: &mut Vec<u8>, kind: &[u8], name: &[u8]) -> Result<(), OutOfM
     append_word(out, Word::Frame)?;
     append(out, name)?;
     append_word(out, Word::FrameLabel)?;
+    append_title(out, kind, name)
+}
+
+/// Appends the title of a frame: its word and its name.
+fn append_title(out: &mut Vec<u8>, kind: &[u8], name: &[u8]) -> Result<(), OutOfMemory>
+    ensures { OnOk result (out.new.items ≡ out.old.items ++
+        (kind.now ++ (word_text Word.Blank ++ (name.now ++ word_text Word.TitleEnd)))) }
+{
     append(out, kind)?;
     append_word(out, Word::Blank)?;
     append(out, name)?;

@@ -2,6 +2,7 @@
 //! them.
 ghost use Rattle.definition_drawing.specs.Words.{word_text};
 ghost use Rattle.std.specs.Prelude.{◌≡◌, ◌++◌, OnOk};
+ghost use Rattle.std.specs.Fmt.{decimal};
 ghost use Rattle.definition_drawing.specs.Drawing.{copies_text, edge_text, feed_text, frontier_text, give_text, in_id, out_id, outer_in, outer_out, rest_id};
 
 use crate::piece::{append_in_id, append_out_id, begin, begin_label, begin_target, finish};
@@ -22,11 +23,19 @@ pub fn append_copies(
     begin(out)?;
     append_rest_id(out, def)?;
     begin_label(out)?;
+    append_copies_label(out, copies, of)?;
+    finish(out)
+}
+
+/// Appends the label of copies: how many there are, and of which definition.
+fn append_copies_label(out: &mut Vec<u8>, copies: u32, of: &[u8]) -> Result<(), OutOfMemory>
+    ensures { OnOk result (out.new.items ≡ out.old.items ++
+        (decimal copies ++ (word_text Word.Copies ++ (of.now ++ word_text Word.Double)))) }
+{
     append_count(out, copies as usize)?;
     append_word(out, Word::Copies)?;
     append(out, of)?;
-    append_word(out, Word::Double)?;
-    finish(out)
+    append_word(out, Word::Double)
 }
 
 /// Appends what a frontier line says: its outer ports, and an edge to the copies or from them.

@@ -6,6 +6,7 @@ ghost use Rattle.definition_drawing.specs.Drawing.{case_text, edge_text, from_id
 
 use crate::piece::{
     append_in_id, append_out_id, append_ref_id, begin, begin_label, begin_target, finish,
+    finish_dotted,
 };
 use crate::word::{Word, append_word};
 use algo_defs::{Body, Case, Def, Edge, End, Reference};
@@ -244,9 +245,7 @@ fn append_case_edge(
     append_in_id(out, def, on)?;
     begin_target(out)?;
     append_case_id(out, def, number)?;
-    append_word(out, Word::Attributes)?;
-    append_word(out, Word::Dotted)?;
-    finish(out)
+    finish_dotted(out)
 }
 
 /// Appends the identifier of a case.

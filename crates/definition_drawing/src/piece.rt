@@ -58,6 +58,16 @@ pub fn begin_target(out: &mut Vec<u8>) -> Result<(), OutOfMemory>
     append_word(out, Word::Target)
 }
 
+/// Appends the end of an edge that is dotted and has no label.
+pub fn finish_dotted(out: &mut Vec<u8>) -> Result<(), OutOfMemory>
+    ensures { OnOk result (out.new.items ≡ out.old.items ++
+        (word_text Word.Attributes ++ (word_text Word.Dotted ++ word_text Word.Finish))) }
+{
+    append_word(out, Word::Attributes)?;
+    append_word(out, Word::Dotted)?;
+    finish(out)
+}
+
 /// Appends the end of a statement.
 pub fn finish(out: &mut Vec<u8>) -> Result<(), OutOfMemory>
     ensures { OnOk result (out.new.items ≡ out.old.items ++ word_text Word.Finish) }

@@ -29,11 +29,12 @@ pub struct SwitchParts<'a> {
 
 /// Whether the cases of a switch have values of their own and its ports, in names, lengths and
 /// order, and `otherwise` likewise. BadCase comes at the first line that fails. It takes no memory.
-pub fn check_switch(switch: SwitchParts) -> Result<(), AlgoError>
-    requires placed { ArePlaced switch.defs.now switch.table.now
-        (map (λ c. c.def) switch.cases.now ++ switch.otherwise.now ∷ []) switch.places.now }
-    ensures { Checks result (switch_fault (ports_of switch.defs.now) switch.ins.now switch.outs.now
-        switch.cases.now switch.otherwise.now switch.otherwise_line) }
+pub fn check_switch(switch: &SwitchParts) -> Result<(), AlgoError>
+    requires placed { ArePlaced switch.now.defs.now switch.now.table.now (map (λ c. c.def)
+        switch.now.cases.now ++ switch.now.otherwise.now ∷ []) switch.now.places.now }
+    ensures { Checks result (switch_fault (ports_of switch.now.defs.now) switch.now.ins.now
+        switch.now.outs.now switch.now.cases.now switch.now.otherwise.now
+        switch.now.otherwise_line) }
 {
     let SwitchParts {
         ins,
@@ -42,7 +43,7 @@ pub fn check_switch(switch: SwitchParts) -> Result<(), AlgoError>
         table,
         places,
         ..
-    } = switch;
+    } = *switch;
     for (at, case) in cases.iter().enumerate() {
         let ports = ports_at(table, places[at]);
         check_case(ins, outs, &cases[..at], case, ports)?;

@@ -1,5 +1,5 @@
 //! Desks as `semaphore_core` lays them out when it opens a state: one for each operation that is to be computed.
-ghost use Rattle.std.specs.Prelude.{◌≡◌, ◌+◌, ◌^◌, ◌<◌, ◌++◌, ◌≤◌, cond, false, true, map, length, slice_get, slice_index_or, Some, IfOk, OnOk, IsTrue, option_map};
+ghost use Rattle.std.specs.Prelude.{◌≡◌, ◌+◌, ◌^◌, ◌<◌, ◌++◌, ◌≤◌, cond, false, true, map, length, replicate, slice_get, slice_index_or, Some, IfOk, OnOk, IsTrue, option_map};
 ghost use Rattle.flat_graph.specs.Meaning.{delay_number};
 ghost use Rattle.operation_desks.specs.Operation.{delay_by, delay_of};
 ghost use Rattle.flat_graph.specs.Valid.{is_flat};
@@ -151,13 +151,19 @@ pub fn desks_for(
     Ok(desks)
 }
 
+/// This many operations, each of which is to be computed.
+fn each_mine(alloc: Global, count: usize) -> Result<Vec<bool>, OutOfMemory>
+    ensures { IfOk result (λ mine. mine.items ≡ replicate count true) }
+{
+    Ok(vec![in alloc; true; count]?)
+}
+
 /// The desks of all operations.
 pub fn desks_of(alloc: Global, flat: &Flat) -> Result<Vec<Option<Desk>>, OutOfMemory>
     ensures desks { IfOk result (λ s. AreDesks flat.now (λ v. true) (length flat.now.vertices)
         (map (option_map lens_of_desk) s.items)) }
     ensures valid { IsTrue (is_flat flat.now) }
 {
-    let all = vec![in alloc; true; flat.vertices().len()]?;
-    let desks = desks_for(alloc, flat, all.as_slice())?;
-    Ok(desks)
+    let mine = each_mine(alloc, flat.vertices().len())?;
+    desks_for(alloc, flat, mine.as_slice())
 }

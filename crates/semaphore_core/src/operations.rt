@@ -118,8 +118,10 @@ fn operate(
         map (λ c. c.items) cells.new.items ≡
         (computed_by job.now call.entry.vertex call.entry.x.now call.entry.reaction own).cells }
     ensures rows { let own = own_with registers.old (map (λ c. c.items) cells.old.items) rows.old in
-        rows.new ≡ record rows.old { reactions =
-        (computed_by job.now call.entry.vertex call.entry.x.now call.entry.reaction own).rows } }
+        rows.new ≡ record rows.old {
+          reactions =
+              (computed_by job.now call.entry.vertex call.entry.x.now call.entry.reaction own).rows;
+        } }
     ensures desk { lens_of_desk desk.new ≡ lens_of_desk desk.old }
 {
     let Call {

@@ -2,6 +2,7 @@
 
 /// The style block, and the head of an arrow. The fills are the eight colours of Okabe and Ito, which
 /// readers with any kind of colour blindness tell apart. Dark pages have other inks, and the same fills.
+/// What takes no time has a bar without a width, so its outline has its colour.
 pub const STYLE: &[u8] = b"<style>
 text{font:11px ui-monospace,Menlo,Consolas,'DejaVu Sans Mono',monospace;fill:#24292f}
 path{stroke:#111;stroke-opacity:.45}
@@ -42,6 +43,10 @@ path{stroke:#111;stroke-opacity:.45}
 .transfer,.shade6{fill:#d55e00}
 .shade7{fill:#4c8fd0}
 .constant,.shade8{fill:#b4b9bf}
+.delay,.route,.constant{stroke-opacity:1;stroke-width:3}
+.delay{stroke:#b3a500}
+.route{stroke:#cc79a7}
+.constant{stroke:#8a9097}
 @media (prefers-color-scheme:dark){
 text{fill:#e6edf3}
 path{stroke:#e6edf3}
@@ -53,6 +58,8 @@ path{stroke:#e6edf3}
 .end{stroke:#e6edf3}
 .arrow{stroke:#9198a1}
 .head{fill:#9198a1}
+.line1{stroke:#4aa3dd}
+.ink1{fill:#4aa3dd}
 }
 </style>
 <marker id=\"head\" viewBox=\"0 0 8 8\" refX=\"7\" refY=\"4\" markerWidth=\"6\" markerHeight=\"6\" orient=\"auto\">
