@@ -33,8 +33,8 @@ CHECKS = {
 
 
 def is_data(name):
-    """Whether a file of an example is one that rows may read: neither its page nor a picture is."""
-    return name != "README.md" and not name.endswith(".svg")
+    """Whether a file of an example is one that rows read or compare with: its page is none."""
+    return name != "README.md"
 
 
 def examples(left=f"{TOP}/examples", right=f"{TOP}/crates/worked_rows/data"):

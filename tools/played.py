@@ -1,11 +1,11 @@
 #!/usr/bin/env python3
-"""Holds the commands in documents against the worked rows: each line `$ ./syndex WORDS` in an indented part of a
-document has to be a call of `crates/worked_rows`, and the lines after it have to be what the transcript has.
+"""Holds the commands in documents against the worked rows: each line `$ ./syndex WORDS` or `$ ./syndex_lab WORDS` in an
+indented part of a document has to be a call of `crates/worked_rows`, and the lines after it have to be what the transcript has.
 
 A line `(FILE)` there says that the output is that file, `(among others the lines of FILE)` that its lines are in
 the output in this order, and `! LINE` is the line on the error stream. What follows an empty line belongs to no
 command. `tools/check.py played` runs it; it runs no program, since the gate compares the transcript with the
-program. The commands of `syndex_lab` are tried by `tests/lab.py`."""
+program."""
 import glob
 import os
 import re
@@ -14,7 +14,7 @@ import sys
 from repository import TOP, text_of
 
 DOCUMENTS = ["README.md", *(f"docs/{it}.md" for it in ("MANUAL", "TUTORIAL", "CALLING")), "examples/*/README.md"]
-PROMPT = "    $ ./syndex "
+PROMPT = "    $ ./"
 
 
 def whole(told):
@@ -28,10 +28,10 @@ def calls():
     """What the transcript has of each call, by its words: its lines without the status, of every time it stands there."""
     found, lines = {}, text_of(f"{TOP}/crates/worked_rows/stdout").splitlines()
     for at, line in enumerate(lines):
-        if not line.startswith("$ syndex "):
+        if not line.startswith(("$ syndex ", "$ syndex_lab ")):
             continue
         end = next(it for it in range(at + 1, len(lines)) if lines[it].startswith("= "))
-        found.setdefault(line[len("$ syndex "):], []).append(lines[at + 1:end])
+        found.setdefault(line[len("$ "):], []).append(lines[at + 1:end])
     return found
 
 
@@ -44,7 +44,7 @@ def commands(text, prompt=PROMPT):
     """The commands of a document, each with the number of its line and with the lines after it."""
     lines = text.splitlines()
     for at, line in enumerate(lines):
-        if line.startswith(prompt):
+        if line.startswith((f"{prompt}syndex ", f"{prompt}syndex_lab ")):
             after = []
             for more in lines[at + 1:]:
                 if not more.startswith("    ") or more.startswith("    $"):
@@ -67,9 +67,9 @@ def faults():
             where = f"{path[len(TOP) + 1:]}:{number}"
             told = known.get(words.replace("examples/", ""))
             if told is None:
-                yield f"{where}: no worked row calls syndex {words}"
+                yield f"{where}: no worked row calls {words}"
             elif after and not any([as_told(line) for line in after] in (it, whole(it)) for it in told):
-                yield f"{where}: the worked row of syndex {words} has another answer"
+                yield f"{where}: the worked row of {words} has another answer"
 
 
 if __name__ == "__main__":
