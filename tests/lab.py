@@ -4,7 +4,8 @@
 Each picture is well-formed XML, each trace is JSON whose complete events do not overlap on a thread, and each graph is
 taken by Graphviz where `dot` is there. Without tries the schedule is the one whose chart stands in the example: the
 same length, the same macro-code where the example has it, a bar and an event for each of its lines, and what its lanes
-are busy; with tries it is no longer. The same words give the same bytes, and words that are no command end with
+are busy; with tries it is no longer. The pictures of the examples, and the answers to commands
+in documents, are what the program writes. The same words give the same bytes, and words that are no command end with
 `usage`.
 
     tests/lab.py [PROGRAM [TRIES]]      with the program that `./build --program syndex_lab` makes, and 200 tries
@@ -18,6 +19,10 @@ import sys
 from xml.etree import ElementTree
 
 TOP = os.path.dirname(os.path.dirname(os.path.abspath(__file__)))
+sys.path.insert(0, f"{TOP}/tools")
+import pictures
+import played
+
 PROGRAM = f"{TOP}/crates/syndex_lab/out/syndex_lab"
 USAGE = (
     ("chart", "A"), ("chart", "A", "H", "S"), ("charts", "A", "H"), ("chart", "A", "H", "--tries", "0"), ("chart", "A", "H", "--tries"),
@@ -145,6 +150,15 @@ def check_example(lab, folder, tries):
     return length
 
 
+def of_documents(lab):
+    """Commands in documents that have another answer."""
+    for path in played.documents():
+        for number, words, after in played.commands(text_of(path), "    $ ./syndex_lab "):
+            placed = [f"{TOP}/{it}" if it.startswith("examples/") else it for it in words.split()]
+            if lab.text(*placed).splitlines() != after:
+                yield f"{os.path.relpath(path, TOP)}:{number}: syndex_lab {words} has another answer"
+
+
 def check_words(lab):
     for words in USAGE:
         answer = lab.run(*words)
@@ -161,7 +175,13 @@ def main(words):
         except (Wrong, ValueError, ElementTree.ParseError) as why:
             print(f"{name}: WRONG: {why}")
             wrong += 1
+    for fault in pictures.faults(os.path.abspath(lab.program)):
+        print(f"pictures: WRONG: {fault}")
+        wrong += 1
     try:
+        for fault in of_documents(lab):
+            print(f"documents: WRONG: {fault}")
+            wrong += 1
         check_words(lab)
     except Wrong as why:
         print(f"words: WRONG: {why}")
