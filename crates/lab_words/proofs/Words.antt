@@ -1,5 +1,6 @@
 -- From what `clap` finds to the command.
-use Rattle.std.proofs.Common.{◌≡◌, ◌∙◌, Bool, List, [], ◌∷◌, Option, Some, None, refl, sym, subst, ap, inl, inr, true, false}
+use Rattle.std.proofs.Common.{◌≡◌, ◌∙◌, suc, Bool, List, [], ◌∷◌, length, Option, Some, None, refl, sym, subst, ap, arith, inl, inr, true, false}
+use Rattle.std.proofs.lemmas.Bool.{ne_eqb}
 use Rattle.std.specs.Prelude.{if◌then◌else◌, option_and_then, option_map}
 use Rattle.clap.specs.Simple.{App, HasMatchesOf, is_simple, subcommand_of, subcommand_rows_of}
 use Rattle.clap.specs.Faults.{fault_of, is_simple_and_free}
@@ -27,7 +28,7 @@ told words none = if none then option_and_then command_in (subcommand_of the_app
 
 not_empty : (k : ErrorKind) (faults : Kinds) → IsAmong k faults → is_empty faults ≡ false
 not_empty k [] h = absurd h
-not_empty k (x ∷ xs) h = refl
+not_empty k (x ∷ xs) h = ne_eqb (suc (length xs)) 0 (λ e. omega arith)
 
 memory : (k : ErrorKind) → k ≡ kind.OutOfMemory → wants_memory k ≡ true
 memory k e = ap wants_memory e

@@ -1,15 +1,18 @@
 use Rattle.std.proofs.Common.{◌∙◌, ap, sym}
-use Rattle.std.specs.Prelude.{option_and_then}
+use Rattle.std.specs.Prelude.{option_and_then, option_map}
 use Rattle.clap.specs.Matches.{found_of}
 use Rattle.clap.specs.Simple.{subcommand_rows_of}
 use Rattle.clap.specs.Walk.{rows_of}
 use Rattle.command_words.proofs.Values.{name_is}
 use Rattle.lab_words.specs.Command.{command_by, command_in}
+use Rattle.lab_words.specs.View.{view_of}
 use Rattle.lab_words.proofs.Words.{both, neither}
 use Rattle.lab_words.proofs.given.found_in.Goals as goal
 
 pub returns-in_err-name : goal.returns-in_err-name
-returns-in_err-name c = sym (ap (option_and_then command_in) (neither (subcommand_rows_of c.args.matches.now) c.in_err-name.ensures.rows))
+returns-in_err-name c =
+    ap (option_map view_of) c.from_residual.ensures
+    ∙ sym (ap (option_and_then command_in) (neither (subcommand_rows_of c.args.matches.now) c.in_err-name.ensures.rows))
 
 pub returns : goal.returns
 returns c =

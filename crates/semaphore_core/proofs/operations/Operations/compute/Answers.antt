@@ -41,6 +41,13 @@ operate-requires-clause-desk c =
     subst (λ (o : Option DeskData). HasDesk c.args.job.now.graph c.args.vertex c.index-vertices-vertex.result (option_map lens_of_desk o)) c.in-Some.is
     (stands c.args.job.now c.args.self.now.lens c.args.self.now.desks c.self.inside.desks.items c.args.vertex c.index-vertices-vertex.result c.index_mut.result.now (ap (λ (k : Kept). k.desks) c.self.view_is) c.requires.laid r.desks_there r.valid is c.index_mut.ensures.value)
 
+pub unreachable-requires : goal.unreachable-requires
+unreachable-requires c =
+    let is : slice_get c.args.job.now.graph.vertices c.args.vertex ≡ Some c.index-vertices-vertex.result = found c.vertices-vertices.result.now c.flat.result.now c.args.job.now.graph c.args.vertex c.index-vertices-vertex.result c.vertices-vertices.ensures.same c.flat.ensures c.if-vertex-vertices.true c.index-vertices-vertex.is in
+    let r = c.requires.ready in
+    subst (λ (o : Option DeskData). HasDesk c.args.job.now.graph c.args.vertex c.index-vertices-vertex.result (option_map lens_of_desk o)) c.in-None.is
+    (stands c.args.job.now c.args.self.now.lens c.args.self.now.desks c.self.inside.desks.items c.args.vertex c.index-vertices-vertex.result c.index_mut.result.now (ap (λ (k : Kept). k.desks) c.self.view_is) c.requires.laid r.desks_there r.valid is c.index_mut.ensures.value)
+
 pub operate-requires-clause-cell : goal.operate-requires-clause-cell
 operate-requires-clause-cell c =
     let is : slice_get c.args.job.now.graph.vertices c.args.vertex ≡ Some c.index-vertices-vertex.result = found c.vertices-vertices.result.now c.flat.result.now c.args.job.now.graph c.args.vertex c.index-vertices-vertex.result c.vertices-vertices.ensures.same c.flat.ensures c.if-vertex-vertices.true c.index-vertices-vertex.is in
@@ -68,13 +75,13 @@ returns-else-vertex-vertices-clause-kept c =
     let is : slice_get c.args.job.now.graph.vertices c.args.vertex ≡ None = past c.vertices-vertices.result.now c.flat.result.now c.args.job.now.graph c.args.vertex c.vertices-vertices.ensures.same c.flat.ensures c.if-vertex-vertices.false in
     ap (λ (o : Option Vertex). with_kept c.args.self.now (compute_by c.args.job.now.graph c.args.job.now.sensors c.args.vertex c.args.reaction c.args.registers.now.values (own_of c.args.registers.now c.args.self.now) o)) (sym is)
 
-pub returns-then-vertex-vertices-clause-registers : goal.returns-then-vertex-vertices-clause-registers
-returns-then-vertex-vertices-clause-registers c =
+pub returns-in-Some-clause-registers : goal.returns-in-Some-clause-registers
+returns-in-Some-clause-registers c =
     let is : slice_get c.args.job.now.graph.vertices c.args.vertex ≡ Some c.index-vertices-vertex.result = found c.vertices-vertices.result.now c.flat.result.now c.args.job.now.graph c.args.vertex c.index-vertices-vertex.result c.vertices-vertices.ensures.same c.flat.ensures c.if-vertex-vertices.true c.index-vertices-vertex.is in
     c.operate.ensures.registers ∙ (λ i. with_values c.args.registers.now (compute_by c.args.job.now.graph c.args.job.now.sensors c.args.vertex c.args.reaction c.args.registers.now.values (own_of c.args.registers.now (c.self.view_is i)) (sym is i)))
 
-pub returns-then-vertex-vertices-clause-kept : goal.returns-then-vertex-vertices-clause-kept
-returns-then-vertex-vertices-clause-kept c =
+pub returns-in-Some-clause-kept : goal.returns-in-Some-clause-kept
+returns-in-Some-clause-kept c =
     let is : slice_get c.args.job.now.graph.vertices c.args.vertex ≡ Some c.index-vertices-vertex.result = found c.vertices-vertices.result.now c.flat.result.now c.args.job.now.graph c.args.vertex c.index-vertices-vertex.result c.vertices-vertices.ensures.same c.flat.ensures c.if-vertex-vertices.true c.index-vertices-vertex.is in
     let same : map (option_map lens_of_desk) (with_item c.self.inside.desks c.args.vertex (Some c.operate.new.desk)).items ≡ map (option_map lens_of_desk) c.self.inside.desks.items = map-set_same (option_map lens_of_desk) c.self.inside.desks.items c.args.vertex (Some c.operate.new.desk) c.index_mut.result.now
     (ap (λ (d : DeskLens). Some d) c.operate.ensures.desk ∙ ap (option_map lens_of_desk) (sym c.in-Some.is) ∙ ap (option_map lens_of_desk) c.index_mut.ensures.value) in
