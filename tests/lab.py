@@ -1,10 +1,12 @@
 #!/usr/bin/env python3
 """Whether other tools take what `syndex_lab` writes of the examples, and whether its numbers are those of the charts.
 
-Each picture is well-formed XML, each trace is JSON whose complete events do not overlap on a thread, and each graph is
+The chart, its trace, the drawing of its operations and the plot are what a plain program makes of the listing, the chart and
+the rows (`plain/pictures.py`). Each picture is well-formed XML, each trace is JSON whose complete events do not overlap on a thread, and each graph is
 taken by Graphviz where `dot` is there. Without tries the schedule is the one whose chart stands in the example: the
 same length, the same macro-code where the example has it, a bar and an event for each of its lines, and what its lanes
-are busy; with tries it is no longer. The same words give the same bytes, and words that are no command end with
+are busy; with tries it is no longer. The pictures of the examples, and the answers to commands
+in documents, are what the program writes. The same words give the same bytes, and words that are no command end with
 `usage`.
 
     tests/lab.py [PROGRAM [TRIES]]      with the program that `./build --program syndex_lab` makes, and 200 tries
@@ -17,7 +19,14 @@ import subprocess
 import sys
 from xml.etree import ElementTree
 
+from plain import pictures
+from plain.pictures import Design
+
 TOP = os.path.dirname(os.path.dirname(os.path.abspath(__file__)))
+sys.path.insert(0, f"{TOP}/tools")
+import pictures
+import played
+
 PROGRAM = f"{TOP}/crates/syndex_lab/out/syndex_lab"
 USAGE = (
     ("chart", "A"), ("chart", "A", "H", "S"), ("charts", "A", "H"), ("chart", "A", "H", "--tries", "0"), ("chart", "A", "H", "--tries"),
@@ -107,6 +116,34 @@ def length_in(report):
     return length
 
 
+def arranged(text):
+    """The lines, in order of their text where they are arrows or events: those stand in the order of decisions, which no
+    chart shows."""
+    lines = text.replace(",\n", "\n").splitlines()
+    apart = [it.startswith(('<path class="arrow"', "{")) for it in lines]
+    return [it for it, move in zip(lines, apart) if not move], sorted(it for it, move in zip(lines, apart) if move)
+
+
+def check_pictures(lab, a, h, design):
+    """What a plain program makes of the listing and the chart is what is written."""
+    holds(arranged(lab.text("chart", a, h)) == arranged(pictures.chart(design)), "the picture of the chart")
+    holds(arranged(lab.text("trace", a, h)) == arranged(pictures.trace(design)), "the trace")
+    holds(lab.text("flat", a, h) == pictures.drawing(design), "the drawing of the operations")
+
+
+def rows_of(text):
+    """The names of the actuators, and in each reaction their vectors, of what `syndex sim` writes."""
+    names, rows = [], []
+    for line in text.splitlines():
+        k, name, *values = line.split(" ")
+        if int(k) == len(rows):
+            rows.append([])
+        if name not in names:
+            names.append(name)
+        rows[int(k)].append([int(it) for it in values])
+    return names, rows
+
+
 def check_schedule(lab, folder, tries):
     """What is written of the schedule of an example."""
     a, h = f"{folder}/algorithm.txt", f"{folder}/architecture.txt"
@@ -119,6 +156,8 @@ def check_schedule(lab, folder, tries):
         check_trace(lab.text("trace", a, h), chart.acts)
         titles = lab.text("chart", a, h).count("<title>")
         holds(titles == chart.acts, f"{titles} titles for {chart.acts} acts")
+        if os.path.exists(f"{folder}/flat.txt"):
+            check_pictures(lab, a, h, Design(text_of(f"{folder}/flat.txt"), text_of(f"{folder}/chart.txt")))
     if os.path.exists(f"{folder}/code.txt"):
         holds(lab.text("code", a, h) == text_of(f"{folder}/code.txt"), "the macro-code")
     for seed in ("1", "7"):
@@ -139,10 +178,22 @@ def check_example(lab, folder, tries):
         length = None
     if os.path.exists(sensors):
         check_graph(lab.text("graph", algorithm))
-        ElementTree.fromstring(lab.text("plot", algorithm, sensors))
+        picture = lab.text("plot", algorithm, sensors)
+        ElementTree.fromstring(picture)
+        if os.path.exists(f"{folder}/sim.txt"):
+            holds(picture == pictures.plot(*rows_of(text_of(f"{folder}/sim.txt"))), "the plot")
     else:
         holds(lab.run("graph", algorithm)[0] == 5, "a text that is refused")
     return length
+
+
+def of_documents(lab):
+    """Commands in documents that have another answer."""
+    for path in played.documents():
+        for number, words, after in played.commands(text_of(path), "    $ ./syndex_lab "):
+            placed = [f"{TOP}/{it}" if it.startswith("examples/") else it for it in words.split()]
+            if lab.text(*placed).splitlines() != after:
+                yield f"{os.path.relpath(path, TOP)}:{number}: syndex_lab {words} has another answer"
 
 
 def check_words(lab):
@@ -161,7 +212,13 @@ def main(words):
         except (Wrong, ValueError, ElementTree.ParseError) as why:
             print(f"{name}: WRONG: {why}")
             wrong += 1
+    for fault in pictures.faults(os.path.abspath(lab.program)):
+        print(f"pictures: WRONG: {fault}")
+        wrong += 1
     try:
+        for fault in of_documents(lab):
+            print(f"documents: WRONG: {fault}")
+            wrong += 1
         check_words(lab)
     except Wrong as why:
         print(f"words: WRONG: {why}")

@@ -32,11 +32,16 @@ CHECKS = {
 }
 
 
+def is_data(name):
+    """Whether a file of an example is one that rows may read: neither its page nor a picture is."""
+    return name != "README.md" and not name.endswith(".svg")
+
+
 def examples(left=f"{TOP}/examples", right=f"{TOP}/crates/worked_rows/data"):
     """The files of the worked rows are the examples: the data of a crate may be no link, so they
     stand twice."""
     found = filecmp.dircmp(left, right, ignore=[])
-    for name in sorted(found.left_only + found.right_only):
+    for name in sorted([*filter(is_data, found.left_only), *found.right_only]):
         yield f"{os.path.relpath(left, TOP)}/{name}: it stands on one side of the two alone"
     _, differ, unread = filecmp.cmpfiles(left, right, found.common_files, shallow=False)
     for name in sorted(differ + unread):

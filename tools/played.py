@@ -5,7 +5,7 @@ document has to be a call of `crates/worked_rows`, and the lines after it have t
 A line `(FILE)` there says that the output is that file, `(among others the lines of FILE)` that its lines are in
 the output in this order, and `! LINE` is the line on the error stream. What follows an empty line belongs to no
 command. `tools/check.py played` runs it; it runs no program, since the gate compares the transcript with the
-program."""
+program. The commands of `syndex_lab` are tried by `tests/lab.py`."""
 import glob
 import os
 import re
@@ -35,17 +35,22 @@ def calls():
     return found
 
 
-def commands(text):
+def documents():
+    """The documents that have commands."""
+    return sorted(it for name in DOCUMENTS for it in glob.glob(f"{TOP}/{name}"))
+
+
+def commands(text, prompt=PROMPT):
     """The commands of a document, each with the number of its line and with the lines after it."""
     lines = text.splitlines()
     for at, line in enumerate(lines):
-        if line.startswith(PROMPT):
+        if line.startswith(prompt):
             after = []
             for more in lines[at + 1:]:
                 if not more.startswith("    ") or more.startswith("    $"):
                     break
                 after.append(more[4:])
-            yield at + 1, line[len(PROMPT):], after
+            yield at + 1, line[len(prompt):], after
 
 
 def as_told(line):
@@ -57,7 +62,7 @@ def as_told(line):
 def faults():
     """Commands of documents that the gate does not play, or that are answered otherwise."""
     known = calls()
-    for path in sorted(it for name in DOCUMENTS for it in glob.glob(f"{TOP}/{name}")):
+    for path in documents():
         for number, words, after in commands(text_of(path)):
             where = f"{path[len(TOP) + 1:]}:{number}"
             told = known.get(words.replace("examples/", ""))
