@@ -1,7 +1,8 @@
 #!/usr/bin/env python3
 """Whether other tools take what `syndex_lab` writes of the examples, and whether its numbers are those of the charts.
 
-Each picture is well-formed XML, each trace is JSON whose complete events do not overlap on a thread, and each graph is
+The chart, its trace, the drawing of its operations and the plot are what a plain program makes of the listing, the chart and
+the rows (`plain/pictures.py`). Each picture is well-formed XML, each trace is JSON whose complete events do not overlap on a thread, and each graph is
 taken by Graphviz where `dot` is there. Without tries the schedule is the one whose chart stands in the example: the
 same length, the same macro-code where the example has it, a bar and an event for each of its lines, and what its lanes
 are busy; with tries it is no longer. The pictures of the examples, and the answers to commands
@@ -17,6 +18,9 @@ import shutil
 import subprocess
 import sys
 from xml.etree import ElementTree
+
+from plain import pictures
+from plain.pictures import Design
 
 TOP = os.path.dirname(os.path.dirname(os.path.abspath(__file__)))
 sys.path.insert(0, f"{TOP}/tools")
@@ -112,6 +116,34 @@ def length_in(report):
     return length
 
 
+def arranged(text):
+    """The lines, in order of their text where they are arrows or events: those stand in the order of decisions, which no
+    chart shows."""
+    lines = text.replace(",\n", "\n").splitlines()
+    apart = [it.startswith(('<path class="arrow"', "{")) for it in lines]
+    return [it for it, move in zip(lines, apart) if not move], sorted(it for it, move in zip(lines, apart) if move)
+
+
+def check_pictures(lab, a, h, design):
+    """What a plain program makes of the listing and the chart is what is written."""
+    holds(arranged(lab.text("chart", a, h)) == arranged(pictures.chart(design)), "the picture of the chart")
+    holds(arranged(lab.text("trace", a, h)) == arranged(pictures.trace(design)), "the trace")
+    holds(lab.text("flat", a, h) == pictures.drawing(design), "the drawing of the operations")
+
+
+def rows_of(text):
+    """The names of the actuators, and in each reaction their vectors, of what `syndex sim` writes."""
+    names, rows = [], []
+    for line in text.splitlines():
+        k, name, *values = line.split(" ")
+        if int(k) == len(rows):
+            rows.append([])
+        if name not in names:
+            names.append(name)
+        rows[int(k)].append([int(it) for it in values])
+    return names, rows
+
+
 def check_schedule(lab, folder, tries):
     """What is written of the schedule of an example."""
     a, h = f"{folder}/algorithm.txt", f"{folder}/architecture.txt"
@@ -124,6 +156,8 @@ def check_schedule(lab, folder, tries):
         check_trace(lab.text("trace", a, h), chart.acts)
         titles = lab.text("chart", a, h).count("<title>")
         holds(titles == chart.acts, f"{titles} titles for {chart.acts} acts")
+        if os.path.exists(f"{folder}/flat.txt"):
+            check_pictures(lab, a, h, Design(text_of(f"{folder}/flat.txt"), text_of(f"{folder}/chart.txt")))
     if os.path.exists(f"{folder}/code.txt"):
         holds(lab.text("code", a, h) == text_of(f"{folder}/code.txt"), "the macro-code")
     for seed in ("1", "7"):
@@ -144,7 +178,10 @@ def check_example(lab, folder, tries):
         length = None
     if os.path.exists(sensors):
         check_graph(lab.text("graph", algorithm))
-        ElementTree.fromstring(lab.text("plot", algorithm, sensors))
+        picture = lab.text("plot", algorithm, sensors)
+        ElementTree.fromstring(picture)
+        if os.path.exists(f"{folder}/sim.txt"):
+            holds(picture == pictures.plot(*rows_of(text_of(f"{folder}/sim.txt"))), "the plot")
     else:
         holds(lab.run("graph", algorithm)[0] == 5, "a text that is refused")
     return length
