@@ -42,7 +42,7 @@ pub fn check_body(
             otherwise,
             otherwise_line,
             ..
-        } => check_switch(SwitchParts {
+        } => check_switch(&SwitchParts {
             ins: ins.as_slice(),
             outs: outs.as_slice(),
             cases: cases.as_slice(),
@@ -59,7 +59,7 @@ pub fn check_body(
             edges,
         } => check_graph(
             alloc,
-            GraphParts {
+            &GraphParts {
                 line,
                 ins: ins.as_slice(),
                 outs: outs.as_slice(),

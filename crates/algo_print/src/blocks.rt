@@ -167,10 +167,10 @@ pub(crate) struct SwitchParts<'a> {
 }
 
 /// Appends the lines of a switch.
-pub(crate) fn print_switch(switch: SwitchParts, text: &mut Vec<u8>) -> Result<(), OutOfMemory>
-    ensures { OnOk result (text.new.items ≡ text.old.items ++
-        text_of (whole_switch switch.name.now switch.on.now switch.ins.now switch.outs.now
-        switch.cases.now switch.otherwise.now)) }
+pub(crate) fn print_switch(switch: &SwitchParts, text: &mut Vec<u8>) -> Result<(), OutOfMemory>
+    ensures { OnOk result (text.new.items ≡ text.old.items ++ text_of (whole_switch
+        switch.now.name.now switch.now.on.now switch.now.ins.now switch.now.outs.now
+        switch.now.cases.now switch.now.otherwise.now)) }
 {
     print_named(b"switch", switch.name, text)?;
     print_inputs_and_cases(switch, text)?;
@@ -179,9 +179,9 @@ pub(crate) fn print_switch(switch: SwitchParts, text: &mut Vec<u8>) -> Result<()
 }
 
 /// Appends the lines of a switch between its first and the one with `otherwise`.
-fn print_inputs_and_cases(switch: SwitchParts, text: &mut Vec<u8>) -> Result<(), OutOfMemory>
-    ensures { OnOk result (text.new.items ≡ text.old.items ++
-        text_of (switch_lines switch.on.now switch.ins.now switch.outs.now switch.cases.now)) }
+fn print_inputs_and_cases(switch: &SwitchParts, text: &mut Vec<u8>) -> Result<(), OutOfMemory>
+    ensures { OnOk result (text.new.items ≡ text.old.items ++ text_of (switch_lines
+        switch.now.on.now switch.now.ins.now switch.now.outs.now switch.now.cases.now)) }
 {
     print_named(b"on", switch.on, text)?;
     print_ports(b"in", switch.ins, text)?;

@@ -86,7 +86,7 @@ fn print_definition(
             otherwise,
             ..
         } => print_switch(
-            SwitchParts {
+            &SwitchParts {
                 name,
                 on: on.as_bytes(),
                 ins: ins.as_slice(),

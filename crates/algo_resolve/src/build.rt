@@ -236,7 +236,12 @@ fn inner_seat(number: u32, ins: Shared<Source>) -> Seat
 
 /// Where the case of this number stands: it takes the inputs after the conditioning one.
 fn case_seat(number: usize, ins: &Shared<Source>) -> Result<Seat, OutOfMemory>
-    ensures { IfOk result (λ s. s ≡ record { part = Numbered number; ins = ins.now; sensor = 0; actuator = 0 }) }
+    ensures { IfOk result (λ s. s ≡ record {
+      part = Numbered number;
+      ins = ins.now;
+      sensor = 0;
+      actuator = 0;
+    }) }
 {
     Ok(inner_seat(to_u32(number)?, ins.share()?))
 }

@@ -18,8 +18,8 @@ use syn_base::OutOfMemory;
 
 /// A reaction that is drawn, by its number, and all dates.
 #[derive(Clone, Copy)]
-pub struct Reaction<'a> {
-    pub sheet: &'a Sheet<'a>,
+pub struct Reaction<'a, 's> {
+    pub sheet: &'a Sheet<'s>,
     pub dates: &'a Dates,
     pub number: usize,
 }

@@ -12,13 +12,7 @@ impl Shelf for ByteShelf {
 
     ghost held = { λ s. memory_held s.shelf };
 
-    fn piece(
-        &mut self,
-        file: File,
-        name: &str,
-        at: u64,
-        into: &mut [u8],
-    ) -> Result<usize, Failed> {
+    fn piece(&mut self, file: File, name: &str, at: u64, into: &mut [u8]) -> Result<usize, Failed> {
         let room = into.len().min(1);
         self.shelf.piece(file, name, at, &mut into[..room])
     }

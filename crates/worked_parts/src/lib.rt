@@ -8,4 +8,4 @@ mod texts;
 
 pub use bytes::ByteShelf;
 pub use gates::{Counting, Holding, Meeting};
-pub use texts::{COPIES, TWICE, TWICE_CODE};
+pub use texts::{BUS, COPIES, TWICE, TWICE_CODE};

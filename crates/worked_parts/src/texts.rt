@@ -1,5 +1,14 @@
 //! Texts that tests of several crates read.
 
+/// Two operators at a bus.
+pub const BUS: &[u8] = b"architecture 1
+operator P
+operator Q
+medium bus p2p 1 1
+connect bus P
+connect bus Q
+";
+
 /// Four copies of a body that gives (acc + v) * w: v is forked, w is 2 in each, and the result is iterated
 /// from 10 on. One actuator takes the last result, the other one all four.
 pub const COPIES: &[u8] = b"algorithm 1

@@ -1,10 +1,11 @@
 //! The commands that start no thread, over a shelf and sinks in memory.
-use crate::texts::{ALGORITHM, ARCHITECTURE, CHART, CODE, SENSORS};
+use crate::texts::{ARCHITECTURE, CHART, SENSORS};
 use outside::{ShelfMem, SinkMem};
 use std::alloc::Global;
 use std::test::Fail;
 use syn_base::Items;
 use syndex_program::plain_command;
+use worked_parts::{TWICE, TWICE_CODE};
 
 /// A name, and the bytes of its file.
 fn file(alloc: Global, name: &[u8], bytes: &[u8]) -> Result<(Items<u8>, Items<u8>), Fail> {
@@ -16,13 +17,10 @@ fn file(alloc: Global, name: &[u8], bytes: &[u8]) -> Result<(Items<u8>, Items<u8
 /// A shelf with an algorithm, an architecture and a table.
 fn shelf(alloc: Global) -> Result<ShelfMem, Fail> {
     let mut files = Vec::new(alloc);
-    files.push(file(alloc, b"a", ALGORITHM)?)?;
+    files.push(file(alloc, b"a", TWICE)?)?;
     files.push(file(alloc, b"h", ARCHITECTURE)?)?;
     files.push(file(alloc, b"s", SENSORS)?)?;
-    Ok(ShelfMem::new(
-        Items::new(files),
-        Items::new(Vec::new(alloc)),
-    ))
+    Ok(ShelfMem::new(Items::new(files), Items::new(Vec::new(alloc))))
 }
 
 /// A sink with room for all that is written here.
@@ -86,7 +84,7 @@ fn a_command_writes_its_text(rt: HostRuntime) -> Result<(), Fail> {
     assert!(rt; chart.line.is_empty());
     let code = answer(rt.alloc(), "code a h")?;
     assert_eq!(rt; code.number, Some(0));
-    assert!(rt; code.output.as_slice() == CODE);
+    assert!(rt; code.output.as_slice() == TWICE_CODE);
     Ok(())
 }
 

@@ -2,12 +2,13 @@
 ghost use Rattle.std.specs.Prelude.{◌≤◌, length};
 
 use crate::stages::{read_architecture, read_defs, read_tree};
-use crate::texts::{ALGORITHM, ARCHITECTURE, ODD_ALGORITHM, ODD_ARCHITECTURE};
+use crate::texts::{ARCHITECTURE, ODD_ALGORITHM, ODD_ARCHITECTURE};
 use std::alloc::Global;
 use std::test::Fail;
 use syn_base::OutOfMemory;
 use table_template::template_text;
 use text_lint::{Finding, algorithm_findings, architecture_findings, print_findings};
+use worked_parts::TWICE;
 
 /// The lines of findings.
 fn printed(alloc: Global, found: &[Finding]) -> Result<Vec<u8>, OutOfMemory> {
@@ -38,10 +39,10 @@ fn told_beside(alloc: Global, algorithm: &[u8], text: &[u8]) -> Result<Vec<u8>, 
 
 #[test]
 fn what_is_meant_is_not_told(rt: HostRuntime) -> Result<(), Fail> {
-    assert!(rt; ALGORITHM.len() <= 4000);
+    assert!(rt; TWICE.len() <= 4000);
     assert!(rt; ARCHITECTURE.len() <= 4000);
-    assert!(rt; told_of(rt.alloc(), ALGORITHM)?.is_empty());
-    assert!(rt; told_beside(rt.alloc(), ALGORITHM, ARCHITECTURE)?.is_empty());
+    assert!(rt; told_of(rt.alloc(), TWICE)?.is_empty());
+    assert!(rt; told_beside(rt.alloc(), TWICE, ARCHITECTURE)?.is_empty());
     Ok(())
 }
 

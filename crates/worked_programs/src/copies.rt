@@ -3,7 +3,6 @@
 //! bus twice in each copy.
 use crate::runs::{By, end_of};
 use crate::texts::{Texts, Worked};
-use crate::two_operators::BUS;
 use outside::GateFree;
 use progress_laws::steps_in_all;
 use semaphore_core::Job;
@@ -13,7 +12,7 @@ use std::sync::Wait;
 use std::test::Fail;
 use std::thread::Threads;
 use word_table::Driven;
-use worked_parts::COPIES;
+use worked_parts::{BUS, COPIES};
 
 /// On the first operator stand the sensor, the copies' parts, the sums and the received products, on the second
 /// the received sums and the products.

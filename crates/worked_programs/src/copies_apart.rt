@@ -3,57 +3,7 @@
 use crate::copies::run_by_all;
 use crate::texts::{Texts, Worked};
 use std::test::Fail;
-
-/// Each copy gives (acc + v) * w, from the result of the one before.
-const ALGORITHM: &[u8] = b"algorithm 1
-sensor V 4
-actuator T 1
-actuator P 4
-constant Two = 2
-constant Ten = 10
-function Add
-in a 1
-in b 1
-out c 1 = add(a[0],b[0])
-end
-function Mul
-in a 1
-in b 1
-out c 1 = mul(a[0],b[0])
-end
-graph Cell
-in v 1
-in w 1
-in acc 1
-out r 1
-ref f Add
-ref g Mul
-edge acc f.a
-edge v f.b
-edge f.c g.a
-edge w g.b
-edge g.c r
-end
-repeat Chain 4 Cell
-fork v v
-diffuse w w
-iterate z acc r t
-join r p
-end
-graph main
-ref s V
-ref w Two
-ref z Ten
-ref c Chain
-ref a T
-ref b P
-edge s.o c.v
-edge w.o c.w
-edge z.o c.z
-edge c.t a.i
-edge c.p b.i
-end
-";
+use worked_parts::COPIES;
 
 const ARCHITECTURE: &[u8] = b"architecture 1
 operator P
@@ -208,27 +158,27 @@ loop_
 op z(;b5)
 Suc1_(4)
 Suc0_(5)
-op c.0/f(b5,b6;b7)
+op c.0/p(b5,b6;b7)
 Pre0_(4)
 Pre1_(5)
 Suc1_(8)
 Suc1_(9)
 Suc0_(10)
-op c.1/f(b11,b12;b13)
+op c.1/p(b11,b12;b13)
 Pre0_(8)
 Pre0_(9)
 Pre1_(10)
 Suc1_(13)
 Suc1_(14)
 Suc0_(15)
-op c.2/f(b16,b17;b18)
+op c.2/p(b16,b17;b18)
 Pre0_(13)
 Pre0_(14)
 Pre1_(15)
 Suc1_(18)
 Suc1_(19)
 Suc0_(20)
-op c.3/f(b21,b22;b23)
+op c.3/p(b21,b22;b23)
 Pre0_(18)
 Pre0_(19)
 Pre1_(20)
@@ -299,22 +249,22 @@ loop_
 op w(;b8)
 Suc1_(6)
 Suc0_(7)
-op c.0/g(b9,b8;b10)
+op c.0/q(b9,b8;b10)
 Pre0_(6)
 Pre1_(7)
 Suc1_(11)
 Suc0_(12)
-op c.1/g(b14,b8;b15)
+op c.1/q(b14,b8;b15)
 Pre0_(11)
 Pre1_(12)
 Suc1_(16)
 Suc0_(17)
-op c.2/g(b19,b8;b20)
+op c.2/q(b19,b8;b20)
 Pre0_(16)
 Pre1_(17)
 Suc1_(21)
 Suc0_(22)
-op c.3/g(b24,b8;b25)
+op c.3/q(b24,b8;b25)
 Pre0_(21)
 Pre1_(22)
 Suc0_(24)
@@ -329,7 +279,7 @@ endmain_
 /// In its order each sequence goes on as far as it can, the first one first.
 fn texts() -> Texts<'static> {
     Texts {
-        algorithm: ALGORITHM,
+        algorithm: COPIES,
         architecture: ARCHITECTURE,
         code: CODE,
         order: b"0000000000111123441114333334411144411444455556777666667755333333355557777666667755333333355557777666667755333333355577776666666688220002888220008",

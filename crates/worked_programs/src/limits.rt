@@ -144,7 +144,11 @@ fn refused(rt: &impl Abort, alloc: Global, texts: &Texts) -> Result<Option<Limit
 }
 
 /// As `refused`, of what was read of a program.
-fn refused_job(rt: &impl Abort, alloc: Global, worked: &Worked) -> Result<Option<LimitFault>, Fail> {
+fn refused_job(
+    rt: &impl Abort,
+    alloc: Global,
+    worked: &Worked,
+) -> Result<Option<LimitFault>, Fail> {
     Ok(worked.limited_job(rt, alloc)?.err())
 }
 

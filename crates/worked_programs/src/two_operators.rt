@@ -11,16 +11,7 @@ use std::alloc::Global;
 use std::process::Abort;
 use std::test::Fail;
 use syn_base::ActRows;
-use worked_parts::{TWICE, TWICE_CODE};
-
-/// Two operators at a bus.
-pub(crate) const BUS: &[u8] = b"architecture 1
-operator P
-operator Q
-medium bus p2p 1 1
-connect bus P
-connect bus Q
-";
+use worked_parts::{BUS, TWICE, TWICE_CODE};
 
 const CODE_OF_TWO_PLACES: &[u8] = b"processor_(P)
 semaphores_(0)

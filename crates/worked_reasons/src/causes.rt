@@ -3,34 +3,7 @@ use crate::reasons::{Texts, assert_reason};
 use std::alloc::Global;
 use std::process::Abort;
 use std::test::Fail;
-
-const ALGORITHM: &[u8] = b"algorithm 1
-sensor Sense 1
-actuator Act 1
-function F
-in x 1
-out y 1 = add(x[0],1)
-end
-graph main
-ref s Sense
-ref f F
-ref g F
-ref a Act
-ref b Act
-edge s.o f.x
-edge s.o g.x
-edge f.y a.i
-edge g.y b.i
-end
-";
-
-const BUS: &[u8] = b"architecture 1
-operator P
-operator Q
-medium bus p2p 1 1
-connect bus P
-connect bus Q
-";
+use worked_parts::{BUS, TWICE};
 
 /// Lines 1 to 12.
 const SENDER: &[u8] = b"processor_(P)
@@ -97,7 +70,7 @@ fn assert_refused(
     expected: &[u8],
 ) -> Result<(), Fail> {
     let texts = Texts {
-        algorithm: ALGORITHM,
+        algorithm: TWICE,
         architecture: BUS,
         code,
     };

@@ -1,6 +1,7 @@
 //! A program whose transfers stand in an order that its operations cannot keep: what each sequence waits for.
 use crate::reasons::{Texts, assert_reason};
 use std::test::Fail;
+use worked_parts::BUS;
 
 const ALGORITHM: &[u8] = b"algorithm 1
 sensor Sense 1
@@ -16,14 +17,6 @@ ref a Act
 edge s.o f.x
 edge f.y a.i
 end
-";
-
-const BUS: &[u8] = b"architecture 1
-operator P
-operator Q
-medium bus p2p 1 1
-connect bus P
-connect bus Q
 ";
 
 /// Lines 1 to 28.

@@ -10,6 +10,6 @@ depths_of-requires-clause-links c = subst (λ (links : Links). AreInside links) 
 
 pub recursive-requires : goal.recursive-requires
 recursive-requires c =
-    let low = recursive_inside c.args.links.now c.in-Ok-Recursive.place (subst (λ (d : Depths). AreDepths c.args.links.now d) c.in-Ok-Recursive.field-0-is c.in-Ok-Recursive.ensures) in
+    let low = recursive_inside c.args.links.now c.in-Recursive.place (subst (λ (d : Depths). AreDepths c.args.links.now d) c.in-Recursive.is c.in_ok-depths.ensures) in
     let many = ap (λ (links : Links). length links) c.requires.links ∙ links_count c.args.defs.now in
     omega (arith, low, many)

@@ -1,22 +1,30 @@
-use Rattle.std.proofs.Common.{◌≡◌, ◌≤◌, ◌+◌, ◌-◌, ◌∷◌, ◌++◌, [], suc, ℕ, List, Some, get_or, length, map, refl, sym, ap, ◌∙◌, arith, rules, length-append}
+use Rattle.std.proofs.Common.{◌≡◌, ◌≤◌, ◌+◌, ◌-◌, ◌∷◌, ◌++◌, [], suc, ℕ, List, Some, get_or, length, map, refl, sym, ap, subst, ◌∙◌, arith, rules, length-append}
 use Rattle.std.proofs.lemmas.List.{length-map}
 use Rattle.std.proofs.lemmas.Option.{slice_get-get_or}
+use Rattle.std.specs.Global.{Vec}
+use Rattle.body_lang.specs.declared.expression.Port.{Port}
 use Rattle.level_meaning.specs.declared.source.Source.{Source}
 use Rattle.level_meaning.specs.declared.part.Part.TheVariants.{Named}
+use Rattle.algo_defs.specs.declared.definition.Body.{Body}
+use Rattle.algo_defs.specs.declared.definition.Body.TheVariants.{Switch}
 use Rattle.algo_defs.specs.declared.definition.Case.{Case}
+use Rattle.algo_defs.specs.declared.definition.Def.{Def}
+use Rattle.algo_links.specs.Linked.{named}
 use Rattle.syn_base.specs.Bytes.{Bytes}
 use Rattle.algo_rules.specs.Links.{definition}
+use Rattle.algo_rules.specs.Placed.{ArePlaced}
 use Rattle.algo_rules.specs.Ports.{ports_of}
-use Rattle.algo_rules.specs.Resolved.{is_actuator, is_sensor, sources_to, vertex, vertex_within}
+use Rattle.algo_rules.specs.Resolved.{cases_from, inner_by, is_actuator, is_sensor, owns, sources_to, vertex, vertex_within}
 use Rattle.algo_tree.specs.View.{kind_view, view}
 use Rattle.algo_tree.specs.declared.vertex.Vertex.{Vertex}
 use Rattle.algo_resolve.specs.declared.build.Seat.{Seat}
 use Rattle.algo_resolve.specs.declared.plan.Plan.{Plan}
 use Rattle.frontier_check.proofs.Places.{one_more}
 use Rattle.algo_resolve.proofs.Placed.{def_at, place_at, place_there}
-use Rattle.algo_resolve.specs.Plans.{Planned}
+use Rattle.algo_resolve.specs.Plans.{Planned, wires_by}
 use Rattle.algo_resolve.proofs.Planned.{beside, plan_at, planned_kind, shared_by}
 use Rattle.algo_resolve.proofs.Steps.{all_cases, inner_at, named_at, one_case, one_copy, one_reference, only_wire, owns_itself, owns_long, vertex_step}
+use Rattle.algo_resolve.proofs.Told.{retold}
 use Rattle.algo_resolve.proofs.build.+build.Goals as goal
 
 pub build_cases-name-name-requires : goal.build_cases-name-name-requires
@@ -123,16 +131,40 @@ build_vertex-returns t c =
     ∙ vertex_step ds c.args.fuel inner seat.part w seat.ins seat.sensor seat.actuator d own c.in_ok-label.label.kind c.in_ok-inner.inner.items
     fuel def refl (c.in_ok-label.ensures.kind ds (vertex_within ds inner) own kind) c.in_ok-inner.ensures
 
+-- the one list of sources of a switch: its own inputs after the conditioning one
+switch_wire : (ds : List Def) (body : Body) (on : Bytes) (ins outs : List Port) (cases : List Case) (otherwise : Bytes) (last : ℕ) (wires : List (List Source)) (wire : List Source)
+    → body ≡ Switch on ins outs cases otherwise last → wires ≡ wires_by ds body → wire ≡ get_or wires 0 wire → wire ≡ owns 1 (length ins)
+switch_wire ds body on ins outs cases otherwise last wires wire is planned here =
+    only_wire wires wire (owns 1 (length ins)) (planned ∙ ap (wires_by ds) is) here
+
 pub build_inner-build_cases-requires : goal.build_inner-build_cases-requires
-build_inner-build_cases-requires t c = ?
+build_inner-build_cases-requires t c =
+    let b = c.args.builder.now in
+    let ps = c.args.places.now in
+    let otherwise = c.in-Switch.otherwise in
+    let wire = switch_wire b.defs.now c.args.body.now _ _ _ _ _ _ c.args.wires.now c.index-wires-0.result c.in-Switch.is c.requires.wires c.index-wires-0.is in
+    let placed =
+    subst (λ (cs : List Case). ArePlaced b.defs.now b.table.now (map (λ x. x.def) cs ++ otherwise ∷ []) ps) (sym c.as_slice-in-Switch.ensures)
+    (subst (λ (x : Body). ArePlaced b.defs.now b.table.now (named x) ps) c.in-Switch.is c.requires.placed) in
+    (search (rules), (c.requires.planned, (placed, owns_itself 1 (length c.in-Switch.ins) c.index-wires-0.result wire)))
 
 pub build_inner-returns-in-Switch : goal.build_inner-returns-in-Switch
-build_inner-returns-in-Switch t c = ?
+build_inner-returns-in-Switch t c =
+    let ds = c.args.builder.now.defs.now in
+    let make = vertex_within ds c.args.fuel in
+    let ins = c.in-Switch.ins in
+    let otherwise = c.in-Switch.otherwise in
+    let wire = switch_wire ds c.args.body.now _ _ _ _ _ _ c.args.wires.now c.index-wires-0.result c.in-Switch.is c.requires.wires c.index-wires-0.is in
+    let same =
+    ap (λ (k : ℕ). cases_from ds make k 0 (map (λ x. x.def) c.as_slice-in-Switch.result.now ++ otherwise ∷ [])) (owns_long 1 (length ins) c.index-wires-0.result wire)
+    ∙ ap (λ (cs : List Case). cases_from ds make (length ins) 0 (map (λ x. x.def) cs ++ otherwise ∷ [])) c.as_slice-in-Switch.ensures
+    ∙ sym (ap (inner_by ds make) c.in-Switch.is) in
+    retold (λ (us : Vec Vertex). map view us.items) c.build_cases.result _ (inner_by ds make c.args.body.now) same c.build_cases.ensures
 
 pub build_copy-returns : goal.build_copy-returns
 build_copy-returns t c =
     one_copy c.args.builder.now.defs.now c.args.fuel c.args.name.now c.args.wires.now c.index-wires-0.result c.in_ok-ins.ins c.inner_seat-seat.result c.in_ok-build_vertex.field-0 _
-    c.requires.wires c.index-wires-0.is (c.in_ok-ins.ensures ∙ sym c.index-wires-0.is) c.inner_seat-seat.ensures c.in_ok-build_vertex.ensures
+    c.requires.wires c.index-wires-0.is c.in_ok-ins.ensures c.inner_seat-seat.ensures c.in_ok-build_vertex.ensures
     (c.in_ok-push.ensures.items ∙ ap (λ (us : List Vertex). us ++ c.in_ok-build_vertex.field-0 ∷ []) c.new-inner.ensures.items)
 
 pub build_cases-loop-number-preserved : goal.build_cases-loop-number-preserved

@@ -22,7 +22,7 @@ loop-number-preserved c =
       | then-number-list+in_ok-append_if_alone w ↦
           ap (λ v. v.items ++ rest) w.out-is ∙ ap (λ l. l ++ rest) w.in_ok-append_if_alone.ensures
           ∙ append_assoc out (text_of (alone_lines (w.as_bytes.result.now ∷ []) (get_or xs i none ∷ []))) rest
-          ∙ ap (λ (b : Bytes). out ++ (text_of (alone_lines (b ∷ []) (get_or xs i none ∷ [])) ++ rest)) w.as_bytes.ensures
+          ∙ ap (λ (b : Bytes). out ++ (text_of (alone_lines (b ∷ []) (get_or xs i none ∷ [])) ++ rest)) w.as_bytes.ensures.same
           ∙ ap (λ l. out ++ l) (sym (alone_here xs i (drop i ns) next n none left w.if-number-list.true))
           ∙ c.loop-number.invariant
       | else-number-list w ↦

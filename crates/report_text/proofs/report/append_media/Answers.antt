@@ -25,7 +25,7 @@ loop-number-preserved c =
       | then-number-loads+in_ok-append_load w ↦
           ap (λ v. v.items ++ rest) w.out-is ∙ ap (λ l. l ++ rest) w.in_ok-append_load.ensures
           ∙ append_assoc out (line_text (load_line word w.as_bytes.result.now (get_or ls i none))) rest
-          ∙ ap (λ (b : Bytes). out ++ (line_text (load_line word b (get_or ls i none)) ++ rest)) w.as_bytes.ensures
+          ∙ ap (λ (b : Bytes). out ++ (line_text (load_line word b (get_or ls i none)) ++ rest)) w.as_bytes.ensures.same
           ∙ ap (λ l. out ++ l) (sym (load_here word ls i (names (drop i ms)) next m.name none left w.if-number-loads.true))
           ∙ c.loop-number.invariant
       | else-number-loads w ↦
