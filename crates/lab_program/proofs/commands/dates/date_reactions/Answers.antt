@@ -12,7 +12,7 @@ use Rattle.compiler.proofs.Sizes.{few_lines}
 use Rattle.lab_plans.specs.Answers.{dates_by}
 use Rattle.lab_program.specs.Found.{problem_of}
 use Rattle.lab_program.specs.Texts.{Gives}
-use Rattle.lab_program.proofs.Found.{built, durations_refused, not_built}
+use Rattle.lab_program.proofs.Schedules.{built, durations_refused, not_built}
 use Rattle.lab_program.proofs.commands.dates.date_reactions.Goals as goal
 
 pub actual_of-requires-clause-short : goal.actual_of-requires-clause-short

@@ -5,7 +5,7 @@ use Rattle.executive_program.specs.declared.program.Program.{Program}
 use Rattle.macro_code.specs.Text.{macro_code}
 use Rattle.lab_plans.specs.Answers.{program}
 use Rattle.lab_program.specs.Found.{problem_of}
-use Rattle.lab_program.proofs.Found.{built, not_built}
+use Rattle.lab_program.proofs.Schedules.{built, not_built}
 use Rattle.lab_program.proofs.commands.scheduled.print_program.Goals as goal
 
 pub returns-in_err-program : goal.returns-in_err-program

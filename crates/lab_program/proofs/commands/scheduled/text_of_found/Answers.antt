@@ -4,7 +4,7 @@ use Rattle.lab_words.specs.Command.{chart, code, flat, report, trace}
 use Rattle.lab_words.specs.View.{effort_view}
 use Rattle.lab_plans.specs.Asked.{of_schedule}
 use Rattle.lab_program.specs.Found.{problem_of}
-use Rattle.lab_program.proofs.Found.{of_found}
+use Rattle.lab_program.proofs.Schedules.{of_found}
 use Rattle.lab_program.proofs.commands.scheduled.text_of_found.Goals as goal
 
 pub print_program-requires : goal.print_program-requires
