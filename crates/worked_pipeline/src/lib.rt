@@ -11,8 +11,6 @@ mod commands;
 #[cfg(test)]
 mod dates;
 #[cfg(test)]
-mod findings;
-#[cfg(test)]
 mod meaning;
 #[cfg(test)]
 mod periods;
@@ -26,5 +24,7 @@ mod reading;
 mod routes;
 #[cfg(test)]
 mod stages;
+#[cfg(test)]
+mod templates;
 #[cfg(test)]
 mod texts;

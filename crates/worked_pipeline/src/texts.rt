@@ -94,80 +94,23 @@ connect m3 C
 connect m3 D
 ";
 
-/// An accepted algorithm of which much is probably not meant: two definitions that nothing names, three elements
-/// outside their ports, two cases of the switch at `w`, which a constant selects, and a delay that nobody reads.
-pub const ODD_ALGORITHM: &[u8] = b"algorithm 2
-
-sensor Sense 3   # three of them
+/// An algorithm of two sensors of unequal lengths, the longer one first among the definitions and last in `main`.
+pub const TWO_SENSORS: &[u8] = b"algorithm 1
+sensor Wide 2
+sensor Narrow 1
 actuator Act 1
-actuator Second 1
-constant Two = 2
-delay Mem 1 = 0
-function Gain
-in b 3
-in c 1
-out y 1 = add(b[7],select(c[0],b[neg(1)],c[-1]))
-out z 1 = b[c[1]]
-end
-function Same
-in x 1
-out y 1 = x[0]
-end
-function Spare
-in x 1
-out y 1 = x[j]
-end
-switch Sw
-on c
-in x 1
-out y 1
-case 0 Same
-case 2 Same
-case 3 Same
-otherwise Same
-end
-repeat Two_of 2 Same
-diffuse x x
-join y y
+function Join
+in x 2
+in y 1
+out z 1 = add(x[1],y[0])
 end
 graph main
-ref s Sense
-ref g Gain
-ref k Two
-ref m Mem
-ref w Sw
-ref v Sw
+ref n Narrow
+ref w Wide
+ref f Join
 ref a Act
-ref b Second
-edge s.o g.b
-edge k.o g.c
-edge k.o w.c
-edge g.y w.x
-edge g.y v.x
-edge g.z v.c
-edge w.y m.i
-edge v.y a.i
-edge w.y b.i
+edge w.o f.x
+edge n.o f.y
+edge f.z a.i
 end
-";
-
-/// An architecture for it, in which five durations change nothing and nothing may stand on Q.
-pub const ODD_ARCHITECTURE: &[u8] = b"architecture 1
-operator P
-# nothing stands on Q
-operator Q
-medium bus p2p 1 1
-connect bus P
-connect bus Q
-duration Sense P 1
-
-duration Gain P 1
-duration Same P 1
-duration Act P 1
-duration Second P 1
-duration Spare Q 1
-duration Two Q 1
-duration Mem P 1
-duration Sw P 1
-duration Lost Q 1
 ";

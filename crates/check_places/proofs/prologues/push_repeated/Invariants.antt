@@ -1,6 +1,0 @@
-use Rattle.std.proofs.Common.{◌≡◌, ◌++◌}
-use Rattle.executive_program.specs.Blocks.{repeated}
-use Rattle.check_places.proofs.prologues.push_repeated.Given as goal
-
-abbrev pub invariant-loop-_place : goal.invariant-loop-_place
-invariant-loop-_place l = l.pairs.items ≡ l.initial.pairs.items ++ repeated l.pair l._place

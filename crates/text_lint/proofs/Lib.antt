@@ -1,4 +1,0 @@
-pub mod Among
-pub mod Placed
-pub mod Numbering
-mod Worked

@@ -1,4 +1,0 @@
-pub mod Lines
-pub mod Views
-pub mod Text
-pub mod Said
