@@ -105,7 +105,10 @@ pub fn answered<R: AllocGlobal + Threads + Wait + Sync, G: Gate>(
         err,
         driven,
     } = outside;
-    if words.first().is_some_and(|word| word.as_str() == "syndex_lab") {
+    if words
+        .first()
+        .is_some_and(|word| word.as_str() == "syndex_lab")
+    {
         return syndex_lab(alloc, words, shelf, out, err).number();
     }
     syndex(rt, alloc, words, shelf, out, err, gate, driven).number()
