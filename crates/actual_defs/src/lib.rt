@@ -1,4 +1,5 @@
-//! Why a text of actual durations is refused beside the architecture whose schedule is dated.
+//! The causes for which a text of actual durations is refused beside an architecture and its
+//! schedule.
 //!
 //! The rules stand in `actual_durations`, and the lines that `syndex` prints are made in
 //! `command_status`.

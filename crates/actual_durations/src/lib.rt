@@ -1,5 +1,5 @@
-//! How long each operation and each transfer of a schedule really lasts, by a text of actual
-//! durations beside the architecture, or why that text is refused.
+//! Reads a text of actual durations beside an architecture: how long each operation and each
+//! transfer of a schedule really lasts, or why the text is refused.
 //!
 //! `actual_of` reads the text; `self_timed` dates a schedule by what it returns.
 #![tactic(auto)]

@@ -1,5 +1,6 @@
-//! The definitions of an algorithm as its text has them, and why a text is refused: the types that the reader of texts
-//! makes, the printer writes, and every check and the resolver read.
+//! The types of an algorithm's definitions, as its text has them, and of the causes for which a
+//! text is refused. The reader of texts makes them, the printer writes them, and every check and
+//! the resolver read them.
 //!
 //! What the bytes of a text say stands above, in `algo_text`. `specs/Returned` says how what a call returned stands to
 //! what is defined, in all crates above.

@@ -1,5 +1,6 @@
-//! Finds which definitions the definitions of a text name, and whether they may stand there, in time proportional
-//! to the text: `links_of` returns their places, or the first line that names none or one that may not stand there.
+//! Finds which definitions the definitions of a text name, in time proportional to the text:
+//! `links_of` returns their places, or the first line that names an unknown definition or one
+//! that may not stand there.
 #![tactic(auto)]
 
 mod fault;

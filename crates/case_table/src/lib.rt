@@ -1,4 +1,5 @@
-//! Named cases, found by name: the words of expressions and of macro-code.
+//! A list of distinct names, in which a name is found: it has the words of expressions and of
+//! macro-code.
 //!
 //! A `CaseTable` gives the place of a name, and `case_arms!` the case that stands at a place.
 #![tactic(auto)]

@@ -1,5 +1,6 @@
-//! The laws of checking: what is asked of a program whatever the order in which its sequences take turns, and why one
-//! run of it finds a serial order or shows that there is none.
+//! Laws of checking macro-code from any source: which conditions on a program do not depend on
+//! the order in which its sequences take turns, and why a single run finds a serial order or
+//! shows that there is none.
 //!
 //! What is asked comes in the order in which a program is refused for it. The functions do nothing: their contracts
 //! are the laws. `macro_check`, which checks programs, stands on them.

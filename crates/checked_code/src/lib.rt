@@ -1,4 +1,5 @@
-//! Reads and checks macro-code of any origin: `read_checked` returns the program of a text if it is well formed.
+//! Reads and checks macro-code from any source: `read_checked` returns the program of a text if
+//! it is well formed.
 //!
 //! All that is proved of well-formed programs then holds of it. Else it returns the first refusal of the text, or the
 //! first that its program lacks.

@@ -1,5 +1,5 @@
-//! What a command does to the outside world, as a plan of reads and refusals that gives what is to be made; and what
-//! each ending of a plan that was carried out means.
+//! Describes what a command does to the outside world as a plan: what it reads, when it is
+//! refused, and what it makes. Defines what each ending of a plan that was carried out means.
 //!
 //! A plan says which file a command reads next, under which name, and in the end what is to be made or
 //! its first refusal. What is to be made is a list of stages: jobs that are run to their ends, and then

@@ -1,5 +1,5 @@
-//! The second pass of flattening: `guard` makes of a tree without repetitions one without cases, of the same
-//! meaning.
+//! The second pass of flattening: `guard` turns a tree without repetitions into one without cases
+//! that has the same meaning.
 //!
 //! `conditioning_laws` says which tree that is, and that it has the same meaning. `hierarchy` calls `guard`.
 #![tactic(auto)]

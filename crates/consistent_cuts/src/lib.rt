@@ -1,5 +1,5 @@
-//! Consistent cuts of a precedence of events: sequences that wait for each other's events, how far
-//! each has come, and when one more event keeps the cut consistent.
+//! Theory of sequences that wait for each other's events: how far each of them may have come (a
+//! consistent cut), and when one more event keeps the cut consistent.
 //!
 //! After Lamport (CACM 1978) and Mattern (1989). The crate names no graph, program or value: its laws
 //! are the contracts of functions that do nothing.

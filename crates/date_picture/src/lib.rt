@@ -1,5 +1,6 @@
-//! The dates of a schedule's reactions as a picture in SVG: when each operation and each transfer
-//! starts and ends in each reaction, a shade for each reaction, beside the chart repeated.
+//! Draws the dates of a schedule's reactions in SVG: when each operation and each transfer starts
+//! and ends in each reaction, with a colour for each reaction, and dashed lines where each
+//! repetition of the chart would end.
 //!
 //! `dates_picture` computes the dates and draws them.
 #![tactic(auto)]

@@ -1,5 +1,5 @@
-//! The trace of the dates of a schedule's reactions in the Trace Event Format, in the lanes of the
-//! chart's trace.
+//! Writes the dates of a schedule's reactions in the Trace Event Format, in the same lanes as the
+//! trace of a chart.
 //!
 //! `dates_trace` computes the dates and makes their trace.
 #![tactic(auto)]

@@ -1,5 +1,5 @@
-//! Makes the tree that an algorithm text means: what its definitions resolve to, in which each reference that runs in
-//! every nth reaction has become a graph.
+//! Makes the tree that an algorithm text means: the one to which its definitions resolve, with a
+//! graph in the place of each reference that runs in every nth reaction.
 //!
 //! `elaborate` makes it of the definitions that were read, and the law says what the tree of an accepted text is.
 //! `syndex_program` calls it, and `accepted_laws` stands on the law.

@@ -1,5 +1,5 @@
-//! Programs of an executive: instructions by sequence, their micro-steps, where things stand in a program, and
-//! when it is well formed. No state, job or run is spoken of here.
+//! Programs of an executive: the instructions of each sequence, their micro-steps, where things
+//! stand in a program, and when it is well formed. States, jobs and runs are defined above it.
 //!
 //! `micro_steps_of` lays the micro-steps of a program out; `turn_micros` counts those of one reaction without
 //! laying them out, and `pair_depths` tells how many places the buffer of each pair has. `plain_prologues`,

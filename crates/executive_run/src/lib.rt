@@ -1,4 +1,4 @@
-//! The runner of a job: it drives the fabric of the job to its end, by threads or by one driver alone.
+//! Runs a job to its end: it drives the fabric of the job, by threads or by one driver alone.
 //!
 //! `prepare` takes all memory that a run takes; `run_ready` drives the groups of sequences by at most as many
 //! workers as sequences have an instruction, of whom the caller is the first, and who share all groups; `run_alone`

@@ -1,5 +1,5 @@
-//! The first pass of flattening: `unroll` makes of the tree of an algorithm one without repetitions, of the same
-//! meaning.
+//! The first pass of flattening: `unroll` turns the tree of an algorithm into one without
+//! repetitions that has the same meaning.
 //!
 //! `factorisation_laws` says which tree that is, and that it has the same meaning. `hierarchy` calls `unroll`.
 #![tactic(auto)]

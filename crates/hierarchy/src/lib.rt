@@ -1,4 +1,5 @@
-//! Flattening: `flatten` makes of the tree of an algorithm its flat graph, of the same meaning.
+//! Flattening: `flatten` turns the tree of an algorithm into its flat graph, which has the same
+//! meaning.
 //!
 //! What flattening is, and what is proved of it, in the order in which a reader wants it:
 //!

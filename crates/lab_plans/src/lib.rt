@@ -1,5 +1,6 @@
-//! The plans of the commands of `syndex_lab`, and the laws of what they answer: what each command reads, in which order
-//! it is refused, what it asks for, and what is answered of the schedule that was found. `lab_program` carries them out.
+//! The plans of the commands of `syndex_lab`: what each command reads, in which order it is
+//! refused, and what it asks for. Laws on what is answered of the schedule that was found.
+//! `lab_program` carries the plans out.
 //!
 //! A plan ends in what is asked for, and not in a text, since a search may find any schedule that is valid and no
 //! longer than others: the text is defined of that one. Each law is the contract of a function that does nothing.

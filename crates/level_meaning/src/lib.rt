@@ -1,5 +1,5 @@
-//! What one level of an algorithm does in a reaction, from what its nodes do: the meaning that a
-//! resolved tree and a flat graph share.
+//! Defines what one level of an algorithm computes in a reaction, from what its nodes compute.
+//! Resolved trees and flat graphs share this definition.
 //!
 //! `Part`, `Source`, `Guard`, `Feed` and `Give` are the parts of both. The laws say when the values
 //! of a level are determined: more fuel changes none (`enough_fuel`), one table has them

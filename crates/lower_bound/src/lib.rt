@@ -1,5 +1,5 @@
-//! A bound below the length of every schedule of a flat graph on an architecture: how far a
-//! schedule is at most from the best one.
+//! Computes a bound below the length of every schedule of a flat graph on an architecture, which
+//! tells how far a schedule is at most from the best one.
 //!
 //! `lower_bound` computes it, and the law says that no valid schedule is shorter. Reports write it
 //! beside the length of a schedule.

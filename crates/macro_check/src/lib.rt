@@ -1,5 +1,6 @@
-//! The exact check of programs of any origin: `macro_check` returns a serial order of one reaction, or the first that
-//! the program lacks to be well formed for a flat graph and an architecture.
+//! The exact check of programs from any source: `macro_check` returns a serial order of one
+//! reaction, or the first cause for which the program is not well formed for a flat graph and an
+//! architecture.
 //!
 //! Whoever runs macro-code that this compiler did not make asks it first. It takes time in proportion to the program,
 //! by tables of where operations, buffers and pairs are named and a list of the sequences to look at. `find_tables`

@@ -1,5 +1,5 @@
-//! What the operations of a flat graph are computed with, laid out before a run begins: registers, a desk for each
-//! operation, the cells of the delays and the rows of the actuators.
+//! The memory in which the operations of a flat graph are computed, laid out before a run begins:
+//! registers, a desk for each operation, the cells of the delays and the rows of the actuators.
 //!
 //! A micro-step that loads puts an element in the registers of its sequence, a desk reads them (`Desk::read`), computes
 //! its operation (`Desk::fire`) and gives the outputs back to them (`Desk::give`), and none of it takes memory.

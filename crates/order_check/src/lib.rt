@@ -1,5 +1,5 @@
-//! The exact check of a serial order of one reaction: `is_order` tells whether a program is well formed by it, for a
-//! flat graph and an architecture, without memory.
+//! The exact check of a serial order of one reaction: `is_order` returns whether a program is
+//! well formed by it, for a flat graph and an architecture. It allocates no memory.
 //!
 //! Whoever builds a program of its own and wants to run it asks it first. The sequences, the loops and what
 //! instructions name are checked here; buffers with their pairs and prologues in `buffer_check`, calls and transfers

@@ -1,4 +1,5 @@
-//! What every pass of flattening keeps: the meaning of the algorithm, and the kept values path by path.
+//! Defines what every pass of flattening preserves: the meaning of the algorithm, and the values
+//! that are kept, path by path.
 //!
 //! `KeepsMeaning` says both. Beside it stands what the laws of several passes share: trees without
 //! repetitions, vertices of which the kind alone is changed, lists and the parts of a level.

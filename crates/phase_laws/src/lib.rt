@@ -1,5 +1,6 @@
-//! The laws of every run of a job, from the theory of interleavings: each state is what its counts tell, no load finds
-//! another round than its own, some sequence is enabled until all is done, and then each actuator has its values.
+//! Laws of every run of a job, from the theory of interleavings: each state is determined by its
+//! counts of steps, each load finds the value of its own round, some sequence is enabled until
+//! all is done, and then each actuator has its values.
 //!
 //! A well-formed program is a system of sequences that share semaphores, buffers and media; this crate
 //! shows how it is synchronized, and that the core's runs are those of the theory. Its laws are the

@@ -1,5 +1,5 @@
-//! Names stand in texts of other tools as they are: laws, which the crates of pictures rest on when
-//! they put names between quotes.
+//! Laws: names, and paths of operations, need no escape between quotes in JSON, DOT and XML. The
+//! crates that write pictures, traces and graphs rely on them.
 #![tactic(auto)]
 
 ghost use Rattle.std.specs.Prelude.{All, IsTrue};

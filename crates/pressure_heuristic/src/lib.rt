@@ -1,5 +1,6 @@
-//! The pressure run: a schedule of a flat graph on an architecture by greedy choice, which is valid
-//! and tight.
+//! Computes the pressure run: a schedule of a flat graph on an architecture that is made by
+//! greedy choices, one operation at a time. It is valid, and tight: nothing waits longer than for
+//! what it needs.
 //!
 //! `adequation` computes it, and the commands that need a schedule call it. The laws say which list
 //! of decisions it is.

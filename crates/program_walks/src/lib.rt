@@ -1,5 +1,6 @@
-//! Walks over a program, without memory: what an instruction is, reads and writes, and where instructions stand that
-//! write a buffer, call an operation or act on a pair of semaphores.
+//! Walks over a program that allocate no memory: what an instruction is, reads and writes, and
+//! where the instructions stand that write a buffer, call an operation or act on a pair of
+//! semaphores.
 //!
 //! They also find places in a serial order. The checks of programs are made of them.
 #![tactic(auto)]

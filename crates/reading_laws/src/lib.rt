@@ -1,4 +1,5 @@
-//! The laws of what the definitions of every accepted text keep, before any of them is linked to another.
+//! Laws about the definitions of every accepted text that hold before any of them is linked to
+//! another: their bounds, their number, and that each name is given once.
 //!
 //! Whoever reads a text and resolves its definitions has by these laws all that `resolve` asks for.
 //!

@@ -1,5 +1,5 @@
-//! The real outside world: files, standard output and standard error. None of them tells what it holds,
-//! and each counts its faults.
+//! The real outside world: files, standard output and standard error. Their contracts do not tell
+//! what they hold, and each counts its failed calls.
 //!
 //! Nothing here is proved beyond that: what a file gives and what a terminal takes is trusted. `main` makes
 //! a `FileShelf`, a `StdSink` and an `ErrSink`, and hands them to the program.

@@ -1,4 +1,5 @@
-//! Finds which of some vertices that refer to one another by number reach themselves, and how deep each is.
+//! Takes vertices that refer to one another by number, and finds which of them reach themselves,
+//! and how deep each one is.
 //!
 //! The checks of definitions and of graphs call it.
 #![tactic(auto)]

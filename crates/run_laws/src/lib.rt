@@ -1,5 +1,5 @@
-//! The laws of a run in windows: the first reaction of each window, the jobs and the lines of the windows, and what
-//! they leave of what is driven.
+//! Laws of a run in windows: the first reaction of each window, the jobs and the lines of the
+//! windows, and which counts of steps they leave.
 //!
 //! Each law is the contract of a function that does nothing. That the windows make the run is a law of `phase_laws`.
 //! The plans of the commands that run jobs stand on this crate, and so does the loop that runs and writes windows.

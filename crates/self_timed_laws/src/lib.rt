@@ -1,6 +1,6 @@
 //! Self-timed dates, as equations with laws: when each act of a schedule starts and ends in each
-//! reaction, where it waits for nothing but what must precede it, and the acts last as long as they
-//! really do.
+//! reaction, where it waits only for what has to come before it, and lasts as long as it really
+//! does.
 //!
 //! An act waits for the act before it on its operator or medium, for those that make what it reads,
 //! and for those that read in another sequence what it made as many reactions before as the buffer

@@ -1,5 +1,5 @@
-//! Pictures in SVG: their elements, one a line, how dates become places, and the colours, which
-//! colour-blind readers tell apart.
+//! Writes pictures in SVG: their elements, one a line, the places of dates, and the colours,
+//! which colour-blind readers tell apart.
 //!
 //! `chart_picture`, `date_picture` and `signal_plot` put their pictures together with it.
 #![tactic(auto)]

@@ -1,5 +1,6 @@
-//! The commands from bytes to bytes, and the top call: `syndex` carries out the command of the words, and
-//! `plain_command` only those that run no job, without a thread.
+//! Carries out the commands, from the bytes of the files to the bytes of the output. `syndex` is
+//! the top call and carries out every command; `plain_command` carries out those that run no job,
+//! without a thread.
 #![tactic(auto)]
 
 ghost use Rattle.std.specs.Prelude.{◌≡◌, map, IfSome};

@@ -1,5 +1,5 @@
-//! The lines of a text and the words of a line: what the readers of algorithm, architecture and code texts begin
-//! with.
+//! Splits a text into lines, and a line into words. The readers of algorithm, architecture and
+//! macro-code texts begin with it.
 //!
 //! Lines end at a line feed; the last line may lack one. Tab, carriage return and space are blanks
 //! (`is_blank_byte`). From `#` on a line is comment. `line_end` finds the end of a line, `code` cuts off its

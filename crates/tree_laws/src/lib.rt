@@ -1,5 +1,5 @@
-//! The laws of resolving: definitions of an algorithm text that are not refused make a valid tree, of a size that is
-//! counted without making it.
+//! Laws of resolving: definitions of an algorithm text that are not refused make a valid tree,
+//! and its size can be counted before it is made.
 //!
 //! `algo_resolve` calls them where it makes the tree, and the laws of marks and of elaborated trees stand on them.
 #![tactic(auto)]

@@ -1,4 +1,5 @@
-//! Exact checks of the calls and transfers of a program, and of the values that they move, without memory.
+//! Exact checks of the calls and transfers of a program, and of the values that they move. They
+//! allocate no memory.
 //!
 //! Each is a part of what makes the program well formed by a serial order: each operation is called once on what
 //! carries its sources (`operations_are_called`), each transfer has its send, its receive and its waits in order

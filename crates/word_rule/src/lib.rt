@@ -1,4 +1,5 @@
-//! The rule on the table of a job, and the steps that keep it: the core of the executive on shared atomic words.
+//! What always holds of the table of shared atomic words on which a job runs (the rule), and the
+//! steps that keep it.
 //!
 //! A table has a word for each semaphore, turn and element of a job. What a seat of it knows is its view: the
 //! sequences that it drives with the micro-steps that each has made, and its last look. The rule says that the

@@ -1,5 +1,6 @@
-//! The core on atomic words: a fabric is the table of a job, and its drivers make its micro-steps, each by one
-//! atomic step on one word. Whoever has threads gives each a driver.
+//! The core of the executive on atomic words. A fabric is the table of a job; its drivers make
+//! the micro-steps, each by one atomic step on one word. A program with threads gives each thread
+//! a driver.
 //!
 //! `weave` makes a fabric with its drivers; `Fabric::try_micro` tries a sequence of a driver, which takes no
 //! memory and waits for nobody; `Fabric::close` ends a fabric with all its drivers, and leaves a `Closed` with

@@ -1,4 +1,5 @@
-//! Tests of worked programs on the core, from texts: their runs by threads and without, step by step and to the end.
+//! Tests of worked programs on the core, made from texts: they are run by threads and without,
+//! step by step and to the end.
 //!
 //! The crate has tests alone, so that the crates below are proved once.
 #![tactic(auto)]

@@ -1,4 +1,5 @@
-//! Plays a script of commands, so that what the program answers is held against values worked by hand.
+//! Plays a script of commands, and compares what the program answers with values that were worked
+//! by hand.
 //!
 //! The script comes on standard input. It writes files, says what fails in the next call, and calls
 //! the program: each line `$ WORDS` goes through the top call over a shelf and sinks in memory. A file

@@ -33,7 +33,7 @@ returns c =
     opening (text_of (lanes a)) (told vs os ds (dates_up_to dates (length vs) (acts_of ds) n)) closing
     c.new-text.ensures.items c.in_ok-append_opening.ensures c.in_ok-append_lanes.ensures c.in_ok-append_reactions.ensures c.in_ok-append_closing.ensures
     ∙ (λ i. opening ++ (text_of (lanes a) ++ (told (c.vertices.ensures.same i) (c.operators.ensures.same i) (c.as_slice.ensures i)
-        (dates_up_to dates (length (c.vertices.ensures.same i)) (acts_of (c.as_slice.ensures i)) n) ++ closing)))
+    (dates_up_to dates (length (c.vertices.ensures.same i)) (acts_of (c.as_slice.ensures i)) n) ++ closing)))
     ∙ ap (λ (xs : List Dated). opening ++ (text_of (lanes a) ++ (told g.vertices a.operators s.decisions xs ++ closing)))
     (told_is g s dates (entry_span g s dates) n (λ k l i x e. refl))
     ∙ sym (whole g a s (dated_in (entry_span g s dates) n (acts s)))
