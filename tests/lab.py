@@ -1,13 +1,13 @@
 #!/usr/bin/env python3
 """Whether other tools take what `syndex_lab` writes of the examples, and whether its numbers are those of the charts.
 
-The chart, its trace, the drawing of its operations and the plot are what a plain program makes of the listing, the chart and
-the rows (`plain/pictures.py`). Each picture is well-formed XML, each trace is JSON whose complete events do not overlap on a thread, and each graph is
-taken by Graphviz where `dot` is there. Without tries the schedule is the one whose chart stands in the example: the
-same length, the same macro-code where the example has it, a bar and an event for each of its lines, and what its lanes
-are busy; with tries it is no longer. The pictures of the examples, and the answers to commands
-in documents, are what the program writes. The same words give the same bytes, and words that are no command end with
-`usage`.
+The chart, its trace, the drawing of its operations and the plot are what a plain program makes of the listing, the
+chart and the rows (`plain/pictures.py`). Each picture is well-formed XML, each trace is JSON whose complete events do
+not overlap on a thread, and each graph is taken by Graphviz where `dot` is there. Without tries the schedule is the one
+whose chart stands in the example: the same length, the same macro-code where the example has it, a bar and an event for
+each of its lines, and what its lanes are busy; with tries it is no longer. The pictures of the examples
+(`tools/draw.py`), and the answers to commands in documents, are what the program writes. The same words give the same
+bytes, and words that are no command end with `usage`.
 
     tests/lab.py [PROGRAM [TRIES]]      with the program that `./build --program syndex_lab` makes, and 200 tries
 """
@@ -24,7 +24,7 @@ from plain.pictures import Design
 
 TOP = os.path.dirname(os.path.dirname(os.path.abspath(__file__)))
 sys.path.insert(0, f"{TOP}/tools")
-import pictures
+import draw
 import played
 
 PROGRAM = f"{TOP}/crates/syndex_lab/out/syndex_lab"
@@ -212,7 +212,7 @@ def main(words):
         except (Wrong, ValueError, ElementTree.ParseError) as why:
             print(f"{name}: WRONG: {why}")
             wrong += 1
-    for fault in pictures.faults(os.path.abspath(lab.program)):
+    for fault in draw.faults(os.path.abspath(lab.program)):
         print(f"pictures: WRONG: {fault}")
         wrong += 1
     try:

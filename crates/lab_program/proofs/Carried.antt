@@ -1,5 +1,5 @@
 -- From a text that was made to what was carried out, part by part.
-use Rattle.std.proofs.Common.{◌≡◌, ◌∙◌, ℕ, [], Result, Ok, Err, inl, inr, refl, subst}
+use Rattle.std.proofs.Common.{◌≡◌, ◌∙◌, ℕ, [], Option, Some, None, Result, Ok, Err, inl, inr, refl, subst}
 use Rattle.std.specs.Prelude.{Vec}
 use Rattle.syn_base.specs.Bytes.{Bytes}
 use Rattle.syn_base.specs.Rows.{Reactions}
@@ -27,10 +27,11 @@ use Rattle.compiler.specs.Compiles.{described}
 use Rattle.compiler.specs.Reads.{ReadsAlgorithm, ReadsCompilation, ReadsTable}
 use Rattle.compiler.specs.declared.stages.Algorithm.{Algorithm}
 use Rattle.compiler.specs.declared.stages.Compilation.{Compilation}
-use Rattle.lab_words.specs.Command.{Effort}
+use Rattle.lab_words.specs.Command.{Command, Effort}
 use Rattle.lab_plans.specs.Asked.{Asked, of_dates}
 use Rattle.lab_plans.specs.Answers.{answer}
 use Rattle.lab_plans.specs.Plans.{Asks, problem}
+use Rattle.lab_plans.specs.Replies.{LeavesUnread}
 use Rattle.lab_plans.specs.Run.{Ends, Ran, Writes}
 use Rattle.lab_program.specs.Texts.{Carries, GivesOfFound, Is, Written}
 
@@ -103,3 +104,8 @@ dates_behind g n effort main d t = read_file Durations g (λ text. give (of_date
 pub read_on : {A : Type 0} (name : Bytes) (a b : Held) (bytes : Bytes) (next : Bytes → Asks) (result : Result (Vec ℕ A) Status)
     → WasRead Durations name a b bytes → Carries (next bytes) b b result → Carries (read_file Durations name next) a b result
 read_on name a b bytes next result read (made, m, h) = (made, was_read b bytes read m, h)
+
+-- nothing was read, whatever the words are
+pub unread_so : (command : Option Command) (held : Held) → LeavesUnread command held held
+unread_so None held = refl
+unread_so (Some command) held = tt

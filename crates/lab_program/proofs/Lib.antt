@@ -1,4 +1,4 @@
 pub mod Stops
 pub mod Carried
 pub mod Counts
-pub mod Found
+pub mod Schedules

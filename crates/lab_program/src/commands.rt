@@ -3,7 +3,7 @@ ghost use Rattle.std.specs.Prelude.{Some};
 ghost use Rattle.command_status.specs.Status.{ending_of};
 ghost use Rattle.lab_plans.specs.Plans.{plan_for};
 ghost use Rattle.lab_plans.specs.Replies.{LeavesUnread};
-ghost use Rattle.lab_plans.specs.Run.{Ran};
+ghost use Rattle.lab_plans.specs.Run.{Ran, Writes};
 ghost use Rattle.lab_words.specs.View.{view_of};
 ghost use Rattle.outside.specs.Shelf.{Stays};
 ghost use Rattle.lab_program.specs.Counts.{IsCounted};
@@ -81,9 +81,16 @@ fn write_text<K: Sink>(out: &mut K, made: Result<Vec<u8>, Status>) -> Status
 {
     match made {
         Err(refused) => refused,
-        Ok(text) => match write_whole(out, &text) {
-            Ok(()) => Status::Done,
-            Err(Failed) => Status::WriteFault,
-        },
+        Ok(text) => put_text(out, &text),
+    }
+}
+
+/// Writes a text by one call.
+fn put_text<K: Sink>(out: &mut K, text: &[u8]) -> Status
+    ensures { Writes text.now (K.sunk out.old) (K.sunk out.new) (ending_of result) }
+{
+    match write_whole(out, text) {
+        Ok(()) => Status::Done,
+        Err(Failed) => Status::WriteFault,
     }
 }

@@ -10,6 +10,7 @@ use Rattle.lab_words.specs.View.{view_of}
 use Rattle.lab_plans.specs.Plans.{plan_of}
 use Rattle.lab_plans.specs.Replies.{Replies}
 use Rattle.lab_program.specs.Counts.{AreCounted}
+use Rattle.lab_program.proofs.Carried.{unread_so}
 use Rattle.lab_program.proofs.Counts.{counted_words}
 use Rattle.lab_program.proofs.ending.Goals as goal
 
@@ -37,3 +38,6 @@ returns-in-Err-clause-replies g c =
     let sunk = g.K.Sink.sunk c.args.out.now in
     let o = command_of (map string_bytes c.args.words.now) in
     c.commands_reply.ensures o held held sunk sunk no_memory (Err no_memory, memory held (plan_of o), (refl, refl))
+
+pub returns-in-Err-clause-unread : goal.returns-in-Err-clause-unread
+returns-in-Err-clause-unread g c = unread_so (command_of (map string_bytes c.args.words.now)) (g.S.Shelf.held c.args.shelf.now)

@@ -1,15 +1,20 @@
-use Rattle.std.proofs.Common.{inl, inr, refl}
+use Rattle.std.proofs.Common.{◌≡◌, inl, inr, length, refl, subst}
+use Rattle.std.specs.Prelude.{None}
 use Rattle.durations.specs.Table.{entry_in}
+use Rattle.executive_program.specs.declared.program.Program.{Program}
+use Rattle.sequence_build.specs.Limit.{program_limit}
 use Rattle.lab_program.proofs.found.build_program.Goals as goal
 
 pub build-requires : goal.build-requires
 build-requires c = (entry_in c.args.compilation.now.durations, c.requires)
 
 pub returns-in-Ok : goal.returns-in-Ok
-returns-in-Ok c = λ effort. (c.in-Ok.ensures.ok.is, c.in-Ok.ensures.ok.within)
+returns-in-Ok c = λ effort.
+    let ok = c.in-Ok.ensures.ok in
+    (ok.is, subst (λ (p : Program). program_limit p (length c.args.compilation.now.text.archi.media) ≡ None) ok.is ok.within)
 
 pub returns-in-Err-Limit : goal.returns-in-Err-Limit
-returns-in-Err-Limit c = λ effort. inr (c.in-Err-Limit.limit, (rw c.in-Err-Limit.field-0-is at c.in-Err-Limit.ensures.err, refl))
+returns-in-Err-Limit c = λ effort. inr (c.in-Err-Limit.limit, rw c.in-Err-Limit.field-0-is at c.in-Err-Limit.ensures.err, refl)
 
 pub returns-in-Err-OutOfMemory : goal.returns-in-Err-OutOfMemory
 returns-in-Err-OutOfMemory c = λ effort. inl refl

@@ -1,4 +1,4 @@
-use Rattle.std.proofs.Common.{◌∙◌, ℕ, List, Result, Err, ap, inl, refl, replicate, subst, sym}
+use Rattle.std.proofs.Common.{◌∙◌, ℕ, List, Result, Global, ap, inl, refl, replicate, subst, sym}
 use Rattle.std.specs.Prelude.{Vec}
 use Rattle.std.proofs.lemmas.Result.{err_from_is_err_and}
 use Rattle.schedule.specs.Acts.{acts}
@@ -9,10 +9,8 @@ use Rattle.actual_durations.specs.Actual.{actual_of}
 use Rattle.actual_durations.specs.Answers as answers
 use Rattle.date_picture.specs.Picture.{dates_picture}
 use Rattle.compiler.proofs.Sizes.{few_lines}
-use Rattle.lab_plans.specs.Answers.{dates_by}
 use Rattle.lab_program.specs.Found.{problem_of}
-use Rattle.lab_program.specs.Texts.{Gives}
-use Rattle.lab_program.proofs.Found.{built, durations_refused, not_built}
+use Rattle.lab_program.proofs.Schedules.{dated, durations_refused, undated}
 use Rattle.lab_program.proofs.commands.dates.date_reactions.Goals as goal
 
 pub actual_of-requires-clause-short : goal.actual_of-requires-clause-short
@@ -39,19 +37,14 @@ pub returns-in_err-ticks : goal.returns-in_err-ticks
 returns-in_err-ticks c =
     let x = c.args.compilation.now in
     let p = err_from_is_err_and c.from_residual.result c.from_residual.ensures.1 in
-    let says = subst (λ (r : Result (Vec ℕ _) ActualError). answers.Gives r (actual_of x.flat x.text.archi x.durations c.args.schedule.now c.args.text.now)) c.in_err-ticks.was c.actual_of.ensures in
-    rw (p.1, p.2) (λ effort. durations_refused (problem_of x effort) c.args.reactions c.args.schedule.now _ c.in_err-ticks.field-0.0 says)
+    let says = subst (λ (r : Result (Vec ℕ Global) ActualError). answers.Gives r (actual_of x.flat x.text.archi x.durations c.args.schedule.now c.args.text.now)) c.in_err-ticks.was c.actual_of.ensures in
+    rw (p.1, p.2) (λ effort. durations_refused Global (problem_of x effort) c.args.reactions c.args.schedule.now _ c.in_err-ticks.field-0.0 says)
 
 pub returns-in_err-program : goal.returns-in_err-program
 returns-in_err-program c =
     let x = c.args.compilation.now in
-    let s = c.args.schedule.now in
-    let n = c.args.reactions in
-    let ticks = c.in_ok-ticks.ticks.items in
     let p = err_from_is_err_and c.from_residual-in_err-program.result c.from_residual-in_err-program.ensures.1 in
-    rw (p.1, p.2) (λ effort. let q = problem_of x effort in
-    subst (λ (r : Result (List ℕ) ActualError). Gives (dates_by q n s r) (Err c.in_err-program.field-0.0)) (sym c.in_ok-ticks.ensures)
-    (not_built q s (dates_picture x.flat x.text.archi s (replicate n ticks)) c.in_err-program.field-0.0 (c.in_err-program.ensures effort)))
+    rw (p.1, p.2) (λ effort. undated Global (problem_of x effort) c.args.reactions c.args.schedule.now _ c.in_ok-ticks.ticks.items c.in_err-program.field-0.0 c.in_ok-ticks.ensures (c.in_err-program.ensures effort))
 
 pub returns-in_err-draw_reactions : goal.returns-in_err-draw_reactions
 returns-in_err-draw_reactions c =
@@ -63,8 +56,5 @@ returns c = λ effort.
     let x = c.args.compilation.now in
     let s = c.args.schedule.now in
     let n = c.args.reactions in
-    let q = problem_of x effort in
-    let ticks = c.in_ok-ticks.ticks.items in
     let made = c.in_ok-draw_reactions.ensures ∙ ap (λ (row : List ℕ). dates_picture x.flat x.text.archi s (replicate n row)) c.deref.ensures.value in
-    subst (λ (r : Result (List ℕ) ActualError). Gives (dates_by q n s r) _) (sym c.in_ok-ticks.ensures)
-    (built q s (dates_picture x.flat x.text.archi s (replicate n ticks)) _ (c.in_ok-program.ensures effort).1 made)
+    dated (problem_of x effort) n s _ c.in_ok-ticks.ticks.items _ c.in_ok-ticks.ensures (c.in_ok-program.ensures effort).1 made

@@ -3,7 +3,7 @@ use Rattle.std.proofs.lemmas.Result.{err_from_is_err_and}
 use Rattle.lab_words.specs.View.{effort_view}
 use Rattle.lab_plans.specs.Asked.{of_dates}
 use Rattle.lab_program.specs.Found.{problem_of}
-use Rattle.lab_program.proofs.Found.{of_found}
+use Rattle.lab_program.proofs.Schedules.{of_found}
 use Rattle.lab_program.proofs.commands.dates.dates_of_found.Goals as goal
 
 pub date_reactions-requires-clause-valid : goal.date_reactions-requires-clause-valid

@@ -1,11 +1,11 @@
-use Rattle.std.proofs.Common.{◌∙◌, ◌++◌, ap, inl, refl}
+use Rattle.std.proofs.Common.{◌∙◌, ◌++◌, Global, ap, inl, refl}
 use Rattle.std.proofs.lemmas.Result.{err_from_is_err_and}
 use Rattle.syn_base.specs.Bytes.{Bytes}
 use Rattle.executive_program.specs.declared.program.Program.{Program}
 use Rattle.macro_code.specs.Text.{macro_code}
 use Rattle.lab_plans.specs.Answers.{program}
 use Rattle.lab_program.specs.Found.{problem_of}
-use Rattle.lab_program.proofs.Found.{built, not_built}
+use Rattle.lab_program.proofs.Schedules.{built, not_built}
 use Rattle.lab_program.proofs.commands.scheduled.print_program.Goals as goal
 
 pub returns-in_err-program : goal.returns-in_err-program
@@ -13,7 +13,7 @@ returns-in_err-program c =
     let p = err_from_is_err_and c.from_residual.result c.from_residual.ensures.1 in
     let given = c.args.compilation.now in
     rw (p.1, p.2) (λ effort. let q = problem_of given effort in
-    not_built q c.args.schedule.now (macro_code (program q c.args.schedule.now) given.flat given.text.archi) c.in_err-program.field-0.0 (c.in_err-program.ensures effort))
+    not_built Global q c.args.schedule.now (macro_code (program q c.args.schedule.now) given.flat given.text.archi) c.in_err-program.field-0.0 (c.in_err-program.ensures effort))
 
 pub returns-in_err-print_code : goal.returns-in_err-print_code
 returns-in_err-print_code c =

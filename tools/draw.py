@@ -2,8 +2,8 @@
 """The pictures of the examples, as `syndex_lab` writes them: `chart.svg` in each folder that has an
 architecture, and those of the table below. No other file of examples/ ends in `.svg`.
 
-    tools/pictures.py [PROGRAM]           writes them anew
-    tools/pictures.py --check [PROGRAM]   tells which the program writes otherwise, with status 1
+    tools/draw.py [PROGRAM]           writes them anew
+    tools/draw.py --check [PROGRAM]   tells which the program writes otherwise, with status 1
 
 PROGRAM is the one that `./build --program syndex_lab` makes, where no other one is named."""
 import glob
@@ -56,7 +56,7 @@ def faults(program=PROGRAM):
     for path, words in known.items():
         file = f"{EXAMPLES}/{path}"
         if not os.path.exists(file):
-            yield f"examples/{path}: it is not there: run tools/pictures.py"
+            yield f"examples/{path}: it is not there: run tools/draw.py"
             continue
         try:
             made = drawn(program, path, words)
@@ -65,10 +65,10 @@ def faults(program=PROGRAM):
             continue
         with open(file, "rb") as it:
             if it.read() != made:
-                yield f"examples/{path}: syndex_lab {words} writes another picture: run tools/pictures.py"
+                yield f"examples/{path}: syndex_lab {words} writes another picture: run tools/draw.py"
     for file in sorted(glob.glob(f"{EXAMPLES}/*/*.svg")):
         if os.path.relpath(file, EXAMPLES) not in known:
-            yield f"{os.path.relpath(file, TOP)}: tools/pictures.py does not write it"
+            yield f"{os.path.relpath(file, TOP)}: tools/draw.py does not write it"
 
 
 def main(words):

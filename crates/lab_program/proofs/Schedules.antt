@@ -1,0 +1,56 @@
+-- What is made of a compilation: programs and dates of a schedule that was found.
+use Rattle.std.proofs.Common.{◌≡◌, ℕ, List, Option, None, Result, Ok, Err, inl, inr, refl, sym, ap, replicate, subst}
+use Rattle.std.specs.Prelude.{Vec}
+use Rattle.syn_base.specs.Bytes.{Bytes}
+use Rattle.syn_base.specs.declared.limits.LimitFault.{LimitFault}
+use Rattle.schedule.specs.declared.decision.Schedule.{Schedule}
+use Rattle.actual_defs.specs.declared.fault.ActualError.{ActualError}
+use Rattle.actual_defs.specs.declared.fault.ActualError.TheVariants as error
+use Rattle.actual_durations.specs.Answers as durations
+use Rattle.date_picture.specs.Picture.{dates_picture}
+use Rattle.command_status.specs.Status.{ending_of, status_of_durations}
+use Rattle.command_status.specs.declared.status.Status.{Status}
+use Rattle.lab_plans.specs.Asked.{Asked, IsFoundFor, Problem}
+use Rattle.lab_plans.specs.Answers.{answer, dates_by, limit, within}
+use Rattle.lab_program.specs.Found.{Builds}
+use Rattle.lab_program.specs.Texts.{Gives, GivesOfFound, Is}
+
+module _ (A : Type 0) where
+  -- the program of a schedule was refused, or memory ran out
+  pub not_built : (p : Problem) (s : Schedule) (text : Bytes) (status : Status) → Builds p s (Err status) → Gives {A = A} (within (limit p s) text) (Err status)
+  not_built p s text status (inl is) = inl (ap ending_of is)
+  not_built p s text status (inr (fault, over, is)) =
+      inr (subst (λ (o : Option LimitFault). Is {A = A} (within o text) (Err status)) (sym over) (ap ending_of is))
+
+  -- so there are no dates
+  pub undated : (p : Problem) (n : ℕ) (s : Schedule) (r : Result (List ℕ) ActualError) (ticks : List ℕ) (status : Status) → r ≡ Ok ticks → Builds p s (Err status)
+      → Gives {A = A} (dates_by p n s r) (Err status)
+  undated p n s r ticks status is failed =
+      subst (λ (x : Result (List ℕ) ActualError). Gives {A = A} (dates_by p n s x) (Err status)) (sym is)
+      (not_built p s (dates_picture p.graph p.archi s (replicate n ticks)) status failed)
+
+  -- a text of actual durations was refused, or memory ran out
+  pub durations_refused : (p : Problem) (n : ℕ) (s : Schedule) (ticks : Result (List ℕ) ActualError) (e : ActualError) → durations.Gives {A = A} (Err e) ticks
+      → Gives {A = A} (dates_by p n s ticks) (Err (status_of_durations e))
+  durations_refused p n s ticks (error.Refused fault) h =
+      inr (subst (λ (x : Result (List ℕ) ActualError). Is {A = A} (dates_by p n s x) (Err (status_of_durations (error.Refused fault)))) (sym h) refl)
+  durations_refused p n s ticks (error.Limit fault) h =
+      inr (subst (λ (x : Result (List ℕ) ActualError). Is {A = A} (dates_by p n s x) (Err (status_of_durations (error.Limit fault)))) (sym h) refl)
+  durations_refused p n s ticks error.OutOfMemory h = inl refl
+
+module _ {A : Type 0} where
+  -- its text stands within the limits
+  pub built : (p : Problem) (s : Schedule) (bytes : Bytes) (text : Vec ℕ A) → limit p s ≡ None → text.items ≡ bytes → Gives (within (limit p s) bytes) (Ok text)
+  built p s bytes text is same = inr (subst (λ (o : Option LimitFault). Is (within o bytes) (Ok text)) (sym is) same)
+
+  -- and so does the picture of its dates
+  pub dated : (p : Problem) (n : ℕ) (s : Schedule) (r : Result (List ℕ) ActualError) (ticks : List ℕ) (text : Vec ℕ A) → r ≡ Ok ticks → limit p s ≡ None
+      → text.items ≡ dates_picture p.graph p.archi s (replicate n ticks) → Gives (dates_by p n s r) (Ok text)
+  dated p n s r ticks text is low same =
+      subst (λ (x : Result (List ℕ) ActualError). Gives (dates_by p n s x) (Ok text)) (sym is)
+      (built p s (dates_picture p.graph p.archi s (replicate n ticks)) text low same)
+
+  -- what is answered of a schedule that was found
+  pub of_found : (asked : Asked) (s : Schedule) (result : Result (Vec ℕ A) Status) → IsFoundFor asked s → Gives (answer asked s) result → GivesOfFound asked result
+  of_found asked s result found (inl is) = inl is
+  of_found asked s result found (inr h) = inr (s, found, h)
