@@ -28,7 +28,7 @@ fn sink(alloc: Global) -> Result<SinkMem, Fail> {
     Ok(SinkMem::new(alloc, 4096, 4096, Vec::new(alloc))?)
 }
 
-/// The words of a command line.
+/// The words of a command line, which begins with the name of the program.
 fn words_of(alloc: Global, line: &str) -> Result<Vec<String>, Fail> {
     let mut words = Vec::new(alloc);
     for word in line.split_whitespace() {
@@ -62,7 +62,7 @@ struct Answer {
 }
 
 /// What the command of a line answers over the texts here.
-fn answer(alloc: Global, line: &str) -> Result<Answer, Fail> {
+fn answer_to(alloc: Global, line: &str) -> Result<Answer, Fail> {
     let words = words_of(alloc, line)?;
     let mut shelf = shelf(alloc)?;
     let mut out = sink(alloc)?;
@@ -78,11 +78,11 @@ fn answer(alloc: Global, line: &str) -> Result<Answer, Fail> {
 
 #[test]
 fn a_command_writes_its_text(rt: HostRuntime) -> Result<(), Fail> {
-    let chart = answer(rt.alloc(), "chart a h")?;
+    let chart = answer_to(rt.alloc(), "syndex chart a h")?;
     assert_eq!(rt; chart.number, Some(0));
     assert!(rt; chart.output.as_slice() == CHART);
     assert!(rt; chart.line.is_empty());
-    let code = answer(rt.alloc(), "code a h")?;
+    let code = answer_to(rt.alloc(), "syndex code a h")?;
     assert_eq!(rt; code.number, Some(0));
     assert!(rt; code.output.as_slice() == TWICE_CODE);
     Ok(())
@@ -91,7 +91,7 @@ fn a_command_writes_its_text(rt: HostRuntime) -> Result<(), Fail> {
 /// Of both files that it names the second one is not there.
 #[test]
 fn a_command_says_which_file_is_not_read(rt: HostRuntime) -> Result<(), Fail> {
-    let told = answer(rt.alloc(), "sim a nowhere")?;
+    let told = answer_to(rt.alloc(), "syndex sim a nowhere")?;
     assert_eq!(rt; told.number, Some(3));
     assert!(rt; told.output.is_empty());
     assert!(rt; told.line.as_slice() == b"cannot read sensors\n".as_slice());
@@ -100,7 +100,7 @@ fn a_command_says_which_file_is_not_read(rt: HostRuntime) -> Result<(), Fail> {
 
 #[test]
 fn words_that_are_no_command_read_nothing(rt: HostRuntime) -> Result<(), Fail> {
-    let told = answer(rt.alloc(), "simulate a s")?;
+    let told = answer_to(rt.alloc(), "syndex simulate a s")?;
     assert_eq!(rt; told.number, Some(2));
     assert!(rt; told.output.is_empty());
     assert_eq!(rt; told.calls, 0);
@@ -109,8 +109,8 @@ fn words_that_are_no_command_read_nothing(rt: HostRuntime) -> Result<(), Fail> {
 
 #[test]
 fn a_command_that_runs_jobs_is_left(rt: HostRuntime) -> Result<(), Fail> {
-    for line in ["run a h s", "exec a h c s", "load 1"] {
-        let told = answer(rt.alloc(), line)?;
+    for line in ["syndex run a h s", "syndex exec a h c s", "syndex load 1"] {
+        let told = answer_to(rt.alloc(), line)?;
         assert_eq!(rt; told.number, None, "{line}");
         assert!(rt; told.output.is_empty() && told.line.is_empty(), "{line}");
         assert_eq!(rt; told.calls, 0, "{line}");

@@ -126,20 +126,24 @@ endmain_
 /// What no sensor gives in a reaction.
 const NOTHING: &[i64] = &[];
 
-/// A program on one operator, over as many reactions as a table may have, of no sensor.
-fn texts(algorithm: &'static [u8], code: &'static [u8], order: &'static [u8]) -> Texts<'static> {
-    Texts {
+/// The limit by which the job of a program is refused. The program is for one operator and runs over as many
+/// reactions as a table may have, in which no sensor gives anything.
+fn refused(
+    rt: &impl Abort,
+    alloc: Global,
+    algorithm: &[u8],
+    code: &[u8],
+    order: &[u8],
+) -> Result<Option<LimitFault>, Fail> {
+    let rows = vec![in alloc; NOTHING; 10_000]?;
+    let texts = Texts {
         algorithm,
         architecture: b"architecture 1\noperator P\n",
         code,
         order,
-        rows: &[NOTHING; 10_000],
-    }
-}
-
-/// The limit by which the job of a program is refused.
-fn refused(rt: &impl Abort, alloc: Global, texts: &Texts) -> Result<Option<LimitFault>, Fail> {
-    let worked = Worked::read(rt, alloc, texts)?;
+        rows: rows.as_slice(),
+    };
+    let worked = Worked::read(rt, alloc, &texts)?;
     refused_job(rt, alloc, &worked)
 }
 
@@ -154,7 +158,7 @@ fn refused_job(
 
 #[test]
 fn a_job_of_too_many_steps_is_refused(rt: HostRuntime) -> Result<(), Fail> {
-    let limit = refused(&rt, rt.alloc(), &texts(BUSY, BUSY_CODE, b"00"))?;
+    let limit = refused(&rt, rt.alloc(), BUSY, BUSY_CODE, b"00")?;
     let wanted = LimitFault {
         which: LimitKind::Total,
         count: 20_490_000,
@@ -166,7 +170,7 @@ fn a_job_of_too_many_steps_is_refused(rt: HostRuntime) -> Result<(), Fail> {
 
 #[test]
 fn a_job_of_too_much_output_is_refused(rt: HostRuntime) -> Result<(), Fail> {
-    let limit = refused(&rt, rt.alloc(), &texts(BROAD, BROAD_CODE, b"00000"))?;
+    let limit = refused(&rt, rt.alloc(), BROAD, BROAD_CODE, b"00000")?;
     let wanted = LimitFault {
         which: LimitKind::Output,
         count: 2_560_000,
