@@ -11,6 +11,7 @@ use std::process::Abort;
 use std::sync::Wait;
 use std::test::Fail;
 use std::thread::Threads;
+use syn_base::ActRows;
 use word_table::Driven;
 use worked_parts::Meeting;
 
@@ -147,11 +148,16 @@ fn wait_at_first(rt: &impl Abort, alloc: Global, job: &Job) -> Result<(), Fail> 
     let mut named = run_fresh(alloc, job, &[7, 7, 7])?;
     assert_eq!(rt; first_enabled(job, &named), Some(1));
     wait(rt, job, &mut named, 7);
-    assert_eq!(rt; named.rows().count(), 1);
-    assert_eq!(rt; named.rows().lens(), [1, 1].as_slice());
-    assert_eq!(rt; named.rows().vector(0, 0), [0].as_slice());
-    assert_eq!(rt; named.rows().vector(0, 1), [0].as_slice());
+    hold_zeros(rt, named.rows());
     Ok(())
+}
+
+/// One reaction of two actuators, whose one element each is 0.
+fn hold_zeros(rt: &impl Abort, rows: &ActRows) {
+    assert_eq!(rt; rows.count(), 1);
+    assert_eq!(rt; rows.lens(), [1, 1].as_slice());
+    assert_eq!(rt; rows.vector(0, 0), [0].as_slice());
+    assert_eq!(rt; rows.vector(0, 1), [0].as_slice());
 }
 
 /// As `wait_at_first`, on what was read of the program.
