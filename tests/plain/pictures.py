@@ -277,7 +277,7 @@ def curve(scale, low, high, name, number, values):
     raised = lambda value: 120 - 120 * (value - low) // max(1, high - low)
     colour = number % 8 + 1
     steps = "".join(f"H{scale.place(k)}V{raised(value)}" for k, value in enumerate(values))
-    key = f'<text class="ink{colour}" x="{40 * number}" y="-4">{number}</text>\n'
+    key = f'<text class="ink{colour}" x="{16 * number}" y="134">{number}</text>\n'
     begin = f'<path class="curve line{colour}" d="M0 {raised(values[0]) if values else raised(0)}'
     return key + begin + f'{steps}H{scale.width}"><title>{name}[{number}]</title></path>\n'
 

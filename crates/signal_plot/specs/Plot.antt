@@ -67,12 +67,12 @@ curve_text scale r name a j rows =
     begin_text j (level r (element rows 0 a j)) ++
     (steps_text scale r a j 0 rows ++ end_text scale.width name j)
 
--- the number of an element above its panel, in its colour
+-- the number of an element below its panel, in its colour: 64 of them have room
 unfoldable pub key_text : ℕ → Bytes
 key_text j =
     codes "<text class=\"ink" ++
     (decimal (colour j) ++
-    (codes "\" x=\"" ++ (decimal (40 * j) ++ (codes "\" y=\"-4\">" ++ (decimal j ++ words_end)))))
+    (codes "\" x=\"" ++ (decimal (16 * j) ++ (codes "\" y=\"134\">" ++ (decimal j ++ words_end)))))
 
 unfoldable pub element_text : Scale → Range → Bytes → ℕ → List (List (List ℤ)) → ℕ → Bytes
 element_text scale r name a rows j = key_text j ++ curve_text scale r name a j rows

@@ -19,7 +19,7 @@ pub struct Panel<'a> {
     pub scale: Scale,
 }
 
-/// Appends an element: its number above the panel, and its line.
+/// Appends an element: its number below the panel, and its line.
 pub fn append_element(out: &mut Vec<u8>, panel: &Panel, place: usize) -> Result<(), OutOfMemory>
     requires number { panel.now.number < length panel.now.rows.now.lens }
     requires place { place < 2 ^ 32 }
@@ -38,8 +38,8 @@ fn append_key(out: &mut Vec<u8>, place: usize) -> Result<(), OutOfMemory>
     append(out, b"<text class=\"ink")?;
     append_count(out, place % 8 + 1)?;
     append(out, b"\" x=\"")?;
-    append_count(out, 40 * place)?;
-    append(out, b"\" y=\"-4\">")?;
+    append_count(out, 16 * place)?;
+    append(out, b"\" y=\"134\">")?;
     append_count(out, place)?;
     end_text(out)
 }
