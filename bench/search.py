@@ -187,6 +187,15 @@ def chain(operations, lanes):
     return Design(f"{lanes} lanes", text, ops, edges)
 
 
+def links(operators):
+    """Each two operators, or where that is more than the 16 media that there may be, those whose numbers differ in one
+    bit, or else neighbours in a ring."""
+    pairs = [(a, b) for a in range(operators) for b in range(a + 1, operators)]
+    near = [(a, b) for a, b in pairs if (a ^ b).bit_count() == 1]
+    ring = [(k, (k + 1) % operators) for k in range(operators)]
+    return next(it for it in (pairs, near, ring) if len(it) <= 16)
+
+
 class Machine:
     """Operators that are joined somehow, with how long each definition lasts on each."""
 
@@ -201,7 +210,7 @@ class Machine:
         elif joined == "ring" and operators > 2:
             self.media = [(k, (k + 1) % operators) for k in range(operators)]
         else:
-            self.media = [(a, b) for a in range(operators) for b in range(a + 1, operators)]
+            self.media = links(operators)
         self.name = f"{operators} by {'a bus' if joined == 'bus' else 'a ring' if joined == 'ring' else 'links'}, {fixed}"
 
     def ticks(self, definition, operator):
