@@ -8,21 +8,35 @@ ghost use Rattle.clap.specs.Matches.{found_of};
 ghost use Rattle.clap.specs.Walk.{rows_of};
 ghost use Rattle.lab_words.specs.Command.{
   command_by,
+  command_for,
   command_in,
   command_of,
+  command_on,
   dates_given,
   effort_given,
-  most_tries,
+  goal_given,
+  goal_named,
+  is_help,
   number_given,
   plot,
+  report_given,
   schedule_given,
   subject_of,
+  trace_given,
   values_of,
+  why,
 };
-ghost use Rattle.lab_words.specs.View.{effort_view, subject_view, values_view, view_of};
+ghost use Rattle.lab_words.specs.View.{
+  effort_view,
+  form_view,
+  goal_view,
+  subject_view,
+  values_view,
+  view_of,
+};
 
 use crate::app::command;
-use crate::commands::{Command, Effort, Subject};
+use crate::commands::{Command, Effort, Form, Goal, Subject};
 use clap::error::ErrorKind;
 use clap::{ArgMatches, Error};
 use command_words::number_up_to;
@@ -32,19 +46,24 @@ use syn_base::OutOfMemory;
 /// The most schedules that a search tries, and the greatest seed.
 const MOST_TRIES: u32 = 1_000_000;
 
-/// The most reactions that are dated.
+/// The most reactions that are dated or counted.
 const MOST_REACTIONS: u32 = 1000;
+
+/// The number of reactions that a report counts where none is given.
+const USUAL_REACTIONS: u32 = 50;
 
 /// The values that are given for the arguments and options of a command.
 #[derive(Clone, Copy, Drop)]
 struct Values<'a> {
     algorithm: Option<&'a str>,
     architecture: Option<&'a str>,
+    macros: Option<&'a str>,
     sensors: Option<&'a str>,
     durations: Option<&'a str>,
     reactions: Option<&'a str>,
     tries: Option<&'a str>,
     seed: Option<&'a str>,
+    goal: Option<&'a str>,
 }
 
 /// The command of these words, if they are one. The first word is the program's name. `OutOfMemory` comes
@@ -94,19 +113,23 @@ fn values_in<'a>(matches: &ArgMatches<'a>) -> Values<'a>
 {
     let algorithm = matches.get_str("algorithm");
     let architecture = matches.get_str("architecture");
+    let macros = matches.get_str("code");
     let sensors = matches.get_str("sensors");
     let durations = matches.get_str("durations");
     let reactions = matches.get_str("reactions");
     let tries = matches.get_str("tries");
     let seed = matches.get_str("seed");
+    let goal = matches.get_str("for");
     Values {
         algorithm,
         architecture,
+        macros,
         sensors,
         durations,
         reactions,
         tries,
         seed,
+        goal,
     }
 }
 
@@ -114,15 +137,61 @@ fn values_in<'a>(matches: &ArgMatches<'a>) -> Values<'a>
 fn command_by<'a>(name: &str, values: &Values<'a>) -> Option<Command<'a>>
     ensures { option_map view_of result ≡ command_by name.now (values_view values.now) }
 {
+    if is_help(name) {
+        return Some(Command::Help);
+    }
     let algorithm = values.algorithm?;
+    command_for(name, algorithm, values)
+}
+
+/// Whether a command of this name lists the commands.
+fn is_help(name: &str) -> bool
+    ensures { result ≡ is_help name.now }
+{
+    name == "help" || name == "--help"
+}
+
+/// The command of this name of an algorithm.
+fn command_for<'a>(name: &str, algorithm: &'a str, values: &Values<'a>) -> Option<Command<'a>>
+    ensures { option_map view_of result ≡ command_for name.now algorithm.now (values_view values.now) }
+{
     if name == "graph" {
         Some(Command::Graph { algorithm })
+    } else if name == "table" {
+        Some(Command::Table { algorithm })
+    } else if name == "lint" {
+        let architecture = values.architecture;
+        Some(Command::Lint {
+            algorithm,
+            architecture,
+        })
     } else if name == "plot" {
         plot(algorithm, values.sensors)
-    } else if name == "dates" {
-        dates(algorithm, values)
     } else {
-        schedule(name, algorithm, values)
+        let architecture = values.architecture?;
+        command_on(name, algorithm, architecture, values)
+    }
+}
+
+/// The command of this name of an algorithm on an architecture.
+fn command_on<'a>(
+    name: &str,
+    algorithm: &'a str,
+    architecture: &'a str,
+    values: &Values<'a>,
+) -> Option<Command<'a>>
+    ensures { option_map view_of result ≡
+        command_on name.now algorithm.now architecture.now (values_view values.now) }
+{
+    if name == "why" {
+        why(algorithm, architecture, values.macros)
+    } else if name == "dates" {
+        dates(Form::Drawn, algorithm, architecture, values)
+    } else if name == "trace" {
+        trace(algorithm, architecture, values)
+    } else {
+        let subject = subject_of(name, values);
+        schedule(subject, algorithm, architecture, values)
     }
 }
 
@@ -135,16 +204,39 @@ fn plot<'a>(algorithm: &'a str, sensors: Option<&'a str>) -> Option<Command<'a>>
     Some(Command::Plot { algorithm, sensors })
 }
 
-/// The command `dates`, where all is there that it takes.
-fn dates<'a>(algorithm: &'a str, values: &Values<'a>) -> Option<Command<'a>>
-    ensures { option_map view_of result ≡ dates_given algorithm.now (values_view values.now) }
+/// The command `why`, where there is macro-code.
+fn why<'a>(
+    algorithm: &'a str,
+    architecture: &'a str,
+    macros: Option<&'a str>,
+) -> Option<Command<'a>>
+    ensures { option_map view_of result ≡
+        option_map (why algorithm.now architecture.now) (option_map (λ t. t.now) macros.entry) }
 {
-    let architecture = values.architecture?;
+    let code = macros?;
+    Some(Command::Why {
+        algorithm,
+        architecture,
+        code,
+    })
+}
+
+/// Dates in this form, where all is there that they take.
+fn dates<'a>(
+    form: Form,
+    algorithm: &'a str,
+    architecture: &'a str,
+    values: &Values<'a>,
+) -> Option<Command<'a>>
+    ensures { option_map view_of result ≡
+        dates_given (form_view form) algorithm.now architecture.now (values_view values.now) }
+{
     let durations = values.durations?;
     let reactions = values.reactions?;
     let reactions = number_up_to(MOST_REACTIONS, reactions.as_bytes())?;
-    let effort = effort_of(values.tries, values.seed)?;
+    let effort = effort_of(values)?;
     Some(Command::Dates {
+        form,
         algorithm,
         architecture,
         durations,
@@ -153,13 +245,30 @@ fn dates<'a>(algorithm: &'a str, values: &Values<'a>) -> Option<Command<'a>>
     })
 }
 
-/// The command of this name that writes something of a schedule, where all is there that it takes.
-fn schedule<'a>(name: &str, algorithm: &'a str, values: &Values<'a>) -> Option<Command<'a>>
-    ensures { option_map view_of result ≡ schedule_given name.now algorithm.now (values_view values.now) }
+/// The trace of dates where there are actual durations, and else that of a schedule.
+fn trace<'a>(algorithm: &'a str, architecture: &'a str, values: &Values<'a>) -> Option<Command<'a>>
+    ensures { option_map view_of result ≡
+        trace_given algorithm.now architecture.now (values_view values.now) }
 {
-    let architecture = values.architecture?;
-    let subject = subject_of(name)?;
-    let effort = effort_of(values.tries, values.seed)?;
+    if values.durations.is_some() {
+        dates(Form::Traced, algorithm, architecture, values)
+    } else {
+        schedule(Some(Subject::Trace), algorithm, architecture, values)
+    }
+}
+
+/// The command that writes this of a schedule, where all is there that it takes.
+fn schedule<'a>(
+    subject: Option<Subject>,
+    algorithm: &'a str,
+    architecture: &'a str,
+    values: &Values<'a>,
+) -> Option<Command<'a>>
+    ensures { option_map view_of result ≡ schedule_given (option_map subject_view subject)
+        algorithm.now architecture.now (values_view values.now) }
+{
+    let subject = subject?;
+    let effort = effort_of(values)?;
     Some(Command::Schedule {
         subject,
         algorithm,
@@ -168,41 +277,70 @@ fn schedule<'a>(name: &str, algorithm: &'a str, values: &Values<'a>) -> Option<C
     })
 }
 
-/// What a command of this name writes of a schedule.
-fn subject_of(name: &str) -> Option<Subject>
-    ensures { option_map subject_view result ≡ subject_of name.now }
+/// What a command of this name writes of a schedule, but for traces.
+fn subject_of(name: &str, values: &Values) -> Option<Subject>
+    ensures { option_map subject_view result ≡ subject_of name.now (values_view values.now) }
 {
     if name == "chart" {
         Some(Subject::Chart)
-    } else if name == "trace" {
-        Some(Subject::Trace)
     } else if name == "flat" {
         Some(Subject::Flat)
     } else if name == "code" {
         Some(Subject::Code)
     } else if name == "report" {
-        Some(Subject::Report)
+        report(values)
     } else {
         None
     }
 }
 
-/// The options of a search, if they are numbers within their bounds.
-fn effort_of(tries: Option<&str>, seed: Option<&str>) -> Option<Effort>
-    ensures { option_map effort_view result ≡
-        effort_given (option_map (λ t. t.now) tries.entry) (option_map (λ t. t.now) seed.entry) }
+/// A report of so many reactions as are given.
+fn report(values: &Values) -> Option<Subject>
+    ensures { option_map subject_view result ≡ report_given (values_view values.now) }
 {
-    let tries = number_given(0, tries)?;
-    let seed = number_given(1, seed)?;
-    Some(Effort { tries, seed })
+    let reactions = number_given(MOST_REACTIONS, USUAL_REACTIONS, values.reactions)?;
+    Some(Subject::Report(reactions))
+}
+
+/// The options of a search, if they are numbers within their bounds and a goal.
+fn effort_of(values: &Values) -> Option<Effort>
+    ensures { option_map effort_view result ≡ effort_given (values_view values.now) }
+{
+    let tries = number_given(MOST_TRIES, 0, values.tries)?;
+    let seed = number_given(MOST_TRIES, 1, values.seed)?;
+    let goal = goal_given(values.goal)?;
+    Some(Effort { tries, seed, goal })
 }
 
 /// The number of an option, or what stands for it where the option is not given.
-fn number_given(usual: u32, text: Option<&str>) -> Option<u32>
-    ensures { result ≡ number_given most_tries usual (option_map (λ t. t.now) text.entry) }
+fn number_given(most: u32, usual: u32, text: Option<&str>) -> Option<u32>
+    ensures { result ≡ number_given most usual (option_map (λ t. t.now) text.entry) }
 {
     match text {
-        Some(text) => number_up_to(MOST_TRIES, text.as_bytes()),
+        Some(text) => number_up_to(most, text.as_bytes()),
         None => Some(usual),
+    }
+}
+
+/// What is to be made small: the length, where the option is not given.
+fn goal_given(text: Option<&str>) -> Option<Goal>
+    ensures { option_map goal_view result ≡ goal_given (option_map (λ t. t.now) text.entry) }
+{
+    match text {
+        Some(text) => goal_named(text),
+        None => Some(Goal::Length),
+    }
+}
+
+/// The goal of this name.
+fn goal_named(text: &str) -> Option<Goal>
+    ensures { option_map goal_view result ≡ goal_named text.now }
+{
+    if text == "length" {
+        Some(Goal::Length)
+    } else if text == "period" {
+        Some(Goal::Period)
+    } else {
+        None
     }
 }
