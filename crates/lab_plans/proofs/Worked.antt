@@ -8,7 +8,8 @@ use Rattle.actual_defs.specs.declared.fault.ActualFault.TheVariants.{Longer}
 use Rattle.command_plan.specs.Plan.{outcome}
 use Rattle.command_status.specs.Status.{Refusal, bad_architecture, bad_durations, usage}
 use Rattle.top_plans.specs.Plans.{schedule_of}
-use Rattle.lab_words.specs.Command.{Command, Effort, code, report, schedule, dates}
+use Rattle.lab_words.specs.Command.{Command, Effort, for_length, code, report, drawn, traced, help, schedule, table, dates}
+use Rattle.lab_words.specs.Help.{help_text}
 use Rattle.lab_plans.specs.Asked.{Asked, of_text, of_schedule, of_dates}
 use Rattle.lab_plans.specs.Answers.{answer}
 use Rattle.lab_plans.specs.Plans.{plan_of}
@@ -32,13 +33,13 @@ abbrev told : Bytes → Option Bytes
 told = named ((codes "A", algorithm) ∷ (codes "H", architecture) ∷ (codes "L", longer) ∷ (codes "B", codes "?\n") ∷ [])
 
 abbrev untried : Effort
-untried = record { tries = 0; seed = 1 }
+untried = record { tries = 0; seed = 1; goal = for_length }
 
 -- what is asked for: the number of operations, and the number of reactions that are dated
 abbrev sizes : Option (Result Asked Refusal) → List ℕ
 sizes (Some (Ok (of_text bytes))) = []
 sizes (Some (Ok (of_schedule subject p))) = length p.graph.vertices ∷ []
-sizes (Some (Ok (of_dates p bytes n))) = length p.graph.vertices ∷ n ∷ []
+sizes (Some (Ok (of_dates form p bytes n))) = length p.graph.vertices ∷ n ∷ []
 sizes (Some (Err r)) = []
 sizes None = []
 
@@ -46,7 +47,7 @@ sizes None = []
 abbrev answered : Option (Result Asked Refusal) → Option (Result Bytes Refusal)
 answered (Some (Ok (of_text bytes))) = Some (Ok bytes)
 answered (Some (Ok (of_schedule subject p))) = Some (answer (of_schedule subject p) (schedule_of p.graph p.archi p.table))
-answered (Some (Ok (of_dates p bytes n))) = Some (answer (of_dates p bytes n) (schedule_of p.graph p.archi p.table))
+answered (Some (Ok (of_dates form p bytes n))) = Some (answer (of_dates form p bytes n) (schedule_of p.graph p.archi p.table))
 answered (Some (Err r)) = Some (Err r)
 answered None = None
 
@@ -57,16 +58,16 @@ no_command : outcome told (plan_of None) ≡ Some (Err usage)
 no_command = refl
 
 -- the durations that really occur are read, and not judged, before a schedule is searched
-asked : (sizes (outcome_of (schedule report (codes "A") (codes "H") untried)) ≡ 2 ∷ [])
-    × (sizes (outcome_of (dates (codes "A") (codes "H") (codes "L") 7 untried)) ≡ 2 ∷ 7 ∷ [])
-    × (sizes (outcome_of (dates (codes "A") (codes "H") (codes "X") 7 untried)) ≡ [])
+asked : (sizes (outcome_of (schedule (report 50) (codes "A") (codes "H") untried)) ≡ 2 ∷ [])
+    × (sizes (outcome_of (dates drawn (codes "A") (codes "H") (codes "L") 7 untried)) ≡ 2 ∷ 7 ∷ [])
+    × (sizes (outcome_of (dates drawn (codes "A") (codes "H") (codes "X") 7 untried)) ≡ [])
 asked = (refl, refl, refl)
 
 -- an architecture is refused before a file of durations is asked for, which is not told here
-unread : outcome_of (dates (codes "A") (codes "B") (codes "X") 7 untried) ≡ Some (Err (bad_architecture (record { line = 1; cause = archi_cause.BadLine })))
+unread : outcome_of (dates drawn (codes "A") (codes "B") (codes "X") 7 untried) ≡ Some (Err (bad_architecture (record { line = 1; cause = archi_cause.BadLine })))
 unread = refl
 
-undated : answered (outcome_of (dates (codes "A") (codes "H") (codes "L") 7 untried)) ≡ Some (Err (bad_durations (Longer (codes "Act"))))
+undated : answered (outcome_of (dates drawn (codes "A") (codes "H") (codes "L") 7 untried)) ≡ Some (Err (bad_durations (Longer (codes "Act"))))
 undated = refl
 
 coded : answered (outcome_of (schedule code (codes "A") (codes "H") untried))
@@ -74,7 +75,18 @@ coded : answered (outcome_of (schedule code (codes "A") (codes "H") untried))
 unfolding digits
 coded = refl
 
-reported : answered (outcome_of (schedule report (codes "A") (codes "H") untried))
+reported : answered (outcome_of (schedule (report 50) (codes "A") (codes "H") untried))
     ≡ Some (Ok (codes "length 3\noperator P busy 3 share 1.000\nalone P 3 speed-up 1.000\nbound 3 ratio 1.000\n"))
 unfolding digits
 reported = refl
+
+-- a trace of dates is refused as their picture is
+untraced : answered (outcome_of (dates traced (codes "A") (codes "H") (codes "L") 7 untried)) ≡ Some (Err (bad_durations (Longer (codes "Act"))))
+untraced = refl
+
+-- help reads nothing, and a table reads the algorithm alone
+helped : answered (outcome_of help) ≡ Some (Ok help_text)
+helped = refl
+
+tabled : answered (outcome_of (table (codes "A"))) ≡ Some (Ok (codes "k,s.0\n0,0\n"))
+tabled = refl
