@@ -1,13 +1,12 @@
 -- Worked commands, by what is found in the words.
 use Rattle.std.proofs.Common.{◌≡◌, Some, None, refl}
 use Rattle.std.specs.Prelude.{codes}
-use Rattle.lab_words.specs.Command.{Effort, Values, for_length, for_period, chart, trace, report, drawn, traced, flat, code, help, schedule, graph, table, lint, why, plot, dates, command_by}
+use Rattle.lab_words.specs.Command.{Effort, Values, for_length, for_period, chart, trace, report, drawn, traced, flat, code, help, schedule, graph, table, lint, plot, dates, command_by}
 
 abbrev nothing : Values
 nothing = record {
   algorithm = None;
   architecture = None;
-  macros = None;
   sensors = None;
   durations = None;
   reactions = None;
@@ -99,12 +98,6 @@ a_lint = refl
 
 a_lint_of_both : command_by (codes "lint") on_a_board ≡ Some (lint (codes "A") (Some (codes "H")))
 a_lint_of_both = refl
-
-no_code : command_by (codes "why") on_a_board ≡ None
-no_code = refl
-
-a_why : command_by (codes "why") (record on_a_board { macros = Some (codes "C") }) ≡ Some (why (codes "A") (codes "H") (codes "C"))
-a_why = refl
 
 -- help, by both of its names
 helped : command_by (codes "help") nothing ≡ Some help

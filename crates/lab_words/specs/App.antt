@@ -4,7 +4,7 @@ use Rattle.clap.specs.Walk.{Rule}
 use Rattle.clap.specs.Simple.{App, new_app, new_rule, with_rule, with_subcommand, on_top}
 use Rattle.syn_base.specs.Bytes.{Bytes}
 use Rattle.lab_words.specs.declared.app.Takes.{Takes}
-use Rattle.lab_words.specs.declared.app.Takes.TheVariants.{Help, Graph, Lint, Plot, Schedule, Report, Trace, Why, Dates}
+use Rattle.lab_words.specs.declared.app.Takes.TheVariants.{Help, Graph, Lint, Plot, Schedule, Report, Trace, Dates}
 
 -- a plain argument, which has to be there
 abbrev pub needed : Bytes → Rule
@@ -31,9 +31,6 @@ architecture_app name = with_rule (algorithm_app name) (needed (codes "architect
 
 abbrev pub lint_app : Bytes → App
 lint_app name = with_rule (algorithm_app name) (optional (codes "architecture"))
-
-abbrev pub why_app : Bytes → App
-why_app name = with_rule (architecture_app name) (needed (codes "code"))
 
 abbrev pub plot_app : Bytes → App
 plot_app name = with_rule (algorithm_app name) (needed (codes "sensors"))
@@ -62,7 +59,6 @@ word_app Plot name = plot_app name
 word_app Schedule name = schedule_app name
 word_app Report name = report_app name
 word_app Trace name = trace_app name
-word_app Why name = why_app name
 word_app Dates name = dates_app name
 
 abbrev pub bare_app : App
@@ -80,5 +76,5 @@ abbrev pub the_app : App
 the_app = with_commands bare_app (
     (codes "help", Help) ∷ (codes "--help", Help) ∷ (codes "chart", Schedule) ∷ (codes "trace", Trace)
     ∷ (codes "flat", Schedule) ∷ (codes "code", Schedule) ∷ (codes "report", Report) ∷ (codes "graph", Graph)
-    ∷ (codes "table", Graph) ∷ (codes "lint", Lint) ∷ (codes "why", Why) ∷ (codes "plot", Plot)
+    ∷ (codes "table", Graph) ∷ (codes "lint", Lint) ∷ (codes "plot", Plot)
     ∷ (codes "dates", Dates) ∷ [])

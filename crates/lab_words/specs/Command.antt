@@ -49,8 +49,6 @@ pub data Command : Type 0 where
   graph table : Bytes → Command
   -- what is accepted and probably not meant, in the algorithm and in an architecture beside it
   lint : Bytes → Option Bytes → Command
-  -- where macro-code fails that is checked for the algorithm on the architecture
-  why : Bytes → Bytes → Bytes → Command
   -- the algorithm and the sensor table
   plot : Bytes → Bytes → Command
   -- the algorithm, the architecture, the actual durations, and the number of reactions
@@ -86,7 +84,6 @@ effort_by _ _ _ = None
 pub record Values : Type 0 where
   pub algorithm : Option Bytes
   pub architecture : Option Bytes
-  pub macros : Option Bytes
   pub sensors : Option Bytes
   pub durations : Option Bytes
   pub reactions : Option Bytes
@@ -98,7 +95,6 @@ abbrev pub values_of : List Row → Values
 values_of rows = record {
   algorithm = first_of (codes "algorithm") rows;
   architecture = first_of (codes "architecture") rows;
-  macros = first_of (codes "code") rows;
   sensors = first_of (codes "sensors") rows;
   durations = first_of (codes "durations") rows;
   reactions = first_of (codes "reactions") rows;
@@ -149,7 +145,6 @@ trace_given a h v =
 -- the command of this name of an algorithm on an architecture
 abbrev pub command_on : Bytes → Bytes → Bytes → Values → Option Command
 command_on name a h v =
-    if bytes_eq name (codes "why") then option_map (why a h) v.macros else
     if bytes_eq name (codes "dates") then dates_given drawn a h v else
     if bytes_eq name (codes "trace") then trace_given a h v else
     schedule_given (subject_of name v) a h v

@@ -29,7 +29,6 @@ text_lines =
     codes "  graph ALGORITHM                        the definitions, for Graphviz (DOT)"
     ∷ codes "  table ALGORITHM                        the sensor table that it wants, with a reaction of zeros"
     ∷ codes "  lint ALGORITHM [ARCHITECTURE]          what is accepted and probably not meant, with lines"
-    ∷ codes "  why ALGORITHM ARCHITECTURE CODE        where macro-code from another source fails"
     ∷ codes "  plot ALGORITHM SENSORS                 what the actuators take, as a picture (SVG)"
     ∷ codes "  help                                   this list" ∷ []
 

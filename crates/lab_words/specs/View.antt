@@ -9,7 +9,6 @@ use Rattle.lab_words.specs.declared.commands.Command.TheVariants.{
   Graph,
   Table,
   Lint,
-  Why,
   Plot,
   Dates,
 }
@@ -45,7 +44,6 @@ view_of (Schedule subject a h effort) = table.schedule (subject_view subject) a.
 view_of (Graph a) = table.graph a.now
 view_of (Table a) = table.table a.now
 view_of (Lint a h) = table.lint a.now (option_map (λ t. t.now) h)
-view_of (Why a h c) = table.why a.now h.now c.now
 view_of (Plot a s) = table.plot a.now s.now
 view_of (Dates form a h g n effort) = table.dates (form_view form) a.now h.now g.now n (effort_view effort)
 
@@ -53,7 +51,6 @@ abbrev pub values_view : Values → table.Values
 values_view v = record {
   algorithm = option_map (λ t. t.now) v.algorithm;
   architecture = option_map (λ t. t.now) v.architecture;
-  macros = option_map (λ t. t.now) v.macros;
   sensors = option_map (λ t. t.now) v.sensors;
   durations = option_map (λ t. t.now) v.durations;
   reactions = option_map (λ t. t.now) v.reactions;

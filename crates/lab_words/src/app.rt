@@ -17,7 +17,6 @@ ghost use Rattle.lab_words.specs.App.{
   searching,
   the_app,
   trace_app,
-  why_app,
   with_commands,
   word_app,
 };
@@ -42,8 +41,6 @@ enum Takes {
     Report,
     /// The same as for a schedule, and the actual durations and the number of reactions if they are there.
     Trace,
-    /// The algorithm, the architecture and the macro-code.
-    Why,
     /// The algorithm, the architecture, the actual durations and the number of reactions, and options of the
     /// search.
     Dates,
@@ -128,15 +125,6 @@ fn lint<'a>(alloc: Global, name: &'a str) -> Result<Command<'a>, AllocError>
     with_optional(alloc, command, "architecture")
 }
 
-/// A command that takes the algorithm, the architecture and the macro-code.
-fn why<'a>(alloc: Global, name: &'a str) -> Result<Command<'a>, AllocError>
-    ensures app { IfOk result (λ c. app_of c ≡ why_app name.entry.now) }
-    ensures local { IfOk result (λ c. (fields_of c).has_globals ≡ false) }
-{
-    let command = architecture(alloc, name)?;
-    with_needed(alloc, command, "code")
-}
-
 /// A command that takes the algorithm and the sensor table.
 fn plot<'a>(alloc: Global, name: &'a str) -> Result<Command<'a>, AllocError>
     ensures app { IfOk result (λ c. app_of c ≡ plot_app name.entry.now) }
@@ -200,7 +188,6 @@ fn taking<'a>(alloc: Global, name: &'a str, takes: Takes) -> Result<Command<'a>,
         Takes::Schedule => schedule(alloc, name),
         Takes::Report => report(alloc, name),
         Takes::Trace => trace(alloc, name),
-        Takes::Why => why(alloc, name),
         Takes::Dates => dates(alloc, name),
     }
 }
@@ -261,7 +248,6 @@ pub fn command<'a>(alloc: Global) -> Result<Command<'a>, AllocError>
             ("graph", Takes::Graph),
             ("table", Takes::Graph),
             ("lint", Takes::Lint),
-            ("why", Takes::Why),
             ("plot", Takes::Plot),
             ("dates", Takes::Dates),
         ],

@@ -71,12 +71,6 @@ pub enum Command<'a> {
         algorithm: &'a str,
         architecture: Option<&'a str>,
     },
-    /// `why A H C`: where macro-code from another source fails, and what was expected there.
-    Why {
-        algorithm: &'a str,
-        architecture: &'a str,
-        code: &'a str,
-    },
     /// `plot A S`: what the actuators take, as a picture.
     Plot {
         algorithm: &'a str,

@@ -24,7 +24,6 @@ ghost use Rattle.lab_words.specs.Command.{
   subject_of,
   trace_given,
   values_of,
-  why,
 };
 ghost use Rattle.lab_words.specs.View.{
   effort_view,
@@ -57,7 +56,6 @@ const USUAL_REACTIONS: u32 = 50;
 struct Values<'a> {
     algorithm: Option<&'a str>,
     architecture: Option<&'a str>,
-    macros: Option<&'a str>,
     sensors: Option<&'a str>,
     durations: Option<&'a str>,
     reactions: Option<&'a str>,
@@ -113,7 +111,6 @@ fn values_in<'a>(matches: &ArgMatches<'a>) -> Values<'a>
 {
     let algorithm = matches.get_str("algorithm");
     let architecture = matches.get_str("architecture");
-    let macros = matches.get_str("code");
     let sensors = matches.get_str("sensors");
     let durations = matches.get_str("durations");
     let reactions = matches.get_str("reactions");
@@ -123,7 +120,6 @@ fn values_in<'a>(matches: &ArgMatches<'a>) -> Values<'a>
     Values {
         algorithm,
         architecture,
-        macros,
         sensors,
         durations,
         reactions,
@@ -183,9 +179,7 @@ fn command_on<'a>(
     ensures { option_map view_of result ≡
         command_on name.now algorithm.now architecture.now (values_view values.now) }
 {
-    if name == "why" {
-        why(algorithm, architecture, values.macros)
-    } else if name == "dates" {
+    if name == "dates" {
         dates(Form::Drawn, algorithm, architecture, values)
     } else if name == "trace" {
         trace(algorithm, architecture, values)
@@ -202,23 +196,6 @@ fn plot<'a>(algorithm: &'a str, sensors: Option<&'a str>) -> Option<Command<'a>>
 {
     let sensors = sensors?;
     Some(Command::Plot { algorithm, sensors })
-}
-
-/// The command `why`, where there is macro-code.
-fn why<'a>(
-    algorithm: &'a str,
-    architecture: &'a str,
-    macros: Option<&'a str>,
-) -> Option<Command<'a>>
-    ensures { option_map view_of result ≡
-        option_map (why algorithm.now architecture.now) (option_map (λ t. t.now) macros.entry) }
-{
-    let code = macros?;
-    Some(Command::Why {
-        algorithm,
-        architecture,
-        code,
-    })
 }
 
 /// Dates in this form, where all is there that they take.

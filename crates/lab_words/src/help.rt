@@ -27,7 +27,6 @@ pub fn help_text(alloc: Global) -> Result<Vec<u8>, OutOfMemory>
             "  graph ALGORITHM                        the definitions, for Graphviz (DOT)",
             "  table ALGORITHM                        the sensor table that it wants, with a reaction of zeros",
             "  lint ALGORITHM [ARCHITECTURE]          what is accepted and probably not meant, with lines",
-            "  why ALGORITHM ARCHITECTURE CODE        where macro-code from another source fails",
             "  plot ALGORITHM SENSORS                 what the actuators take, as a picture (SVG)",
             "  help                                   this list",
             "",
