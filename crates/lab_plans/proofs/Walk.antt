@@ -116,7 +116,7 @@ answer_told (of_schedule chart p) s r e = absurd (no_stop _ r e)
 answer_told (of_schedule trace p) s r e = absurd (no_stop _ r e)
 answer_told (of_schedule flat p) s r e = absurd (no_stop _ r e)
 answer_told (of_schedule code p) s r e = within_told (limit p s) _ r e
-answer_told (of_schedule (report n) p) s r e = absurd (no_stop _ r e)
+answer_told (of_schedule report p) s r e = absurd (no_stop _ r e)
 answer_told (of_dates form p text n) s r e =
     dates_told form p n s (actual_of p.graph p.archi p.table s text) (durations.actual_safe p.graph p.archi p.table s text) r e
 

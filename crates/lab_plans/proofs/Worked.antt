@@ -58,7 +58,7 @@ no_command : outcome told (plan_of None) ≡ Some (Err usage)
 no_command = refl
 
 -- the durations that really occur are read, and not judged, before a schedule is searched
-asked : (sizes (outcome_of (schedule (report 50) (codes "A") (codes "H") untried)) ≡ 2 ∷ [])
+asked : (sizes (outcome_of (schedule report (codes "A") (codes "H") untried)) ≡ 2 ∷ [])
     × (sizes (outcome_of (dates drawn (codes "A") (codes "H") (codes "L") 7 untried)) ≡ 2 ∷ 7 ∷ [])
     × (sizes (outcome_of (dates drawn (codes "A") (codes "H") (codes "X") 7 untried)) ≡ [])
 asked = (refl, refl, refl)
@@ -75,7 +75,7 @@ coded : answered (outcome_of (schedule code (codes "A") (codes "H") untried))
 unfolding digits
 coded = refl
 
-reported : answered (outcome_of (schedule (report 50) (codes "A") (codes "H") untried))
+reported : answered (outcome_of (schedule report (codes "A") (codes "H") untried))
     ≡ Some (Ok (codes "length 3\noperator P busy 3 share 1.000\nalone P 3 speed-up 1.000\nbound 3 ratio 1.000\n"))
 unfolding digits
 reported = refl

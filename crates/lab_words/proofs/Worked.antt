@@ -34,7 +34,7 @@ no_tries : command_by (codes "report") (record on_a_board { tries = Some (codes 
 no_tries = refl
 
 most : command_by (codes "report") (record on_a_board { tries = Some (codes "1000000") })
-    ≡ Some (schedule (report 50) (codes "A") (codes "H") (record { tries = 1000000; seed = 1; goal = for_length }))
+    ≡ Some (schedule report (codes "A") (codes "H") (record { tries = 1000000; seed = 1; goal = for_length }))
 most = refl
 
 too_many : command_by (codes "report") (record on_a_board { tries = Some (codes "1000001") }) ≡ None
@@ -81,13 +81,6 @@ traced_dates = refl
 
 half_traced : command_by (codes "trace") (record on_a_board { durations = Some (codes "G") }) ≡ None
 half_traced = refl
-
--- how many reactions a report counts
-three_reactions : command_by (codes "report") (record on_a_board { reactions = Some (codes "3") }) ≡ Some (schedule (report 3) (codes "A") (codes "H") untold)
-three_reactions = refl
-
-no_reactions : command_by (codes "report") (record on_a_board { reactions = Some (codes "0") }) ≡ None
-no_reactions = refl
 
 -- what takes no architecture, or one if it is there
 a_table : command_by (codes "table") (record nothing { algorithm = Some (codes "A") }) ≡ Some (table (codes "A"))

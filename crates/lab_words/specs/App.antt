@@ -4,7 +4,7 @@ use Rattle.clap.specs.Walk.{Rule}
 use Rattle.clap.specs.Simple.{App, new_app, new_rule, with_rule, with_subcommand, on_top}
 use Rattle.syn_base.specs.Bytes.{Bytes}
 use Rattle.lab_words.specs.declared.app.Takes.{Takes}
-use Rattle.lab_words.specs.declared.app.Takes.TheVariants.{Help, Graph, Lint, Plot, Schedule, Report, Trace, Dates}
+use Rattle.lab_words.specs.declared.app.Takes.TheVariants.{Help, Graph, Lint, Plot, Schedule, Trace, Dates}
 
 -- a plain argument, which has to be there
 abbrev pub needed : Bytes → Rule
@@ -38,9 +38,6 @@ plot_app name = with_rule (algorithm_app name) (needed (codes "sensors"))
 abbrev pub schedule_app : Bytes → App
 schedule_app name = searching (architecture_app name)
 
-abbrev pub report_app : Bytes → App
-report_app name = searching (with_rule (architecture_app name) (optional (codes "reactions")))
-
 abbrev pub trace_app : Bytes → App
 trace_app name =
     searching (with_rule (with_rule (architecture_app name) (optional (codes "durations")))
@@ -57,7 +54,6 @@ word_app Graph name = algorithm_app name
 word_app Lint name = lint_app name
 word_app Plot name = plot_app name
 word_app Schedule name = schedule_app name
-word_app Report name = report_app name
 word_app Trace name = trace_app name
 word_app Dates name = dates_app name
 
@@ -75,6 +71,6 @@ with_commands a (c ∷ cs) = with_commands (with_subcommand a (word_app c.1 c.0)
 abbrev pub the_app : App
 the_app = with_commands bare_app (
     (codes "help", Help) ∷ (codes "--help", Help) ∷ (codes "chart", Schedule) ∷ (codes "trace", Trace)
-    ∷ (codes "flat", Schedule) ∷ (codes "code", Schedule) ∷ (codes "report", Report) ∷ (codes "graph", Graph)
+    ∷ (codes "flat", Schedule) ∷ (codes "code", Schedule) ∷ (codes "report", Schedule) ∷ (codes "graph", Graph)
     ∷ (codes "table", Graph) ∷ (codes "lint", Lint) ∷ (codes "plot", Plot)
     ∷ (codes "dates", Dates) ∷ [])

@@ -31,10 +31,9 @@ pub record Effort : Type 0 where
   pub seed : ℕ
   pub goal : Goal
 
--- what is written of a schedule; a report counts so many reactions
+-- what is written of a schedule
 pub data Subject : Type 0 where
-  chart trace flat code : Subject
-  report : ℕ → Subject
+  chart trace flat code report : Subject
 
 -- dates as a picture, or as trace events
 pub data Form : Type 0 where
@@ -58,7 +57,7 @@ pub data Command : Type 0 where
 abbrev pub most_tries : ℕ
 most_tries = 1000000
 
--- the most reactions that are dated or counted
+-- the most reactions that are dated
 abbrev pub most_reactions : ℕ
 most_reactions = 1000
 
@@ -107,17 +106,13 @@ values_of rows = record {
 abbrev pub effort_given : Values → Option Effort
 effort_given v = effort_by (number_given most_tries 0 v.tries) (number_given most_tries 1 v.seed) (goal_given v.goal)
 
--- a report, of 50 reactions where no number is given
-abbrev pub report_given : Values → Option Subject
-report_given v = option_map (λ n. report n) (number_given most_reactions 50 v.reactions)
-
 -- what a command of this name writes of a schedule, but for traces
-abbrev pub subject_of : Bytes → Values → Option Subject
-subject_of name v =
+abbrev pub subject_of : Bytes → Option Subject
+subject_of name =
     if bytes_eq name (codes "chart") then Some chart else
     if bytes_eq name (codes "flat") then Some flat else
     if bytes_eq name (codes "code") then Some code else
-    if bytes_eq name (codes "report") then report_given v else None
+    if bytes_eq name (codes "report") then Some report else None
 
 abbrev pub dates_by : Form → Bytes → Bytes → Bytes → Option ℕ → Option Effort → Option Command
 dates_by form a h g (Some n) (Some effort) = Some (dates form a h g n effort)
@@ -147,7 +142,7 @@ abbrev pub command_on : Bytes → Bytes → Bytes → Values → Option Command
 command_on name a h v =
     if bytes_eq name (codes "dates") then dates_given drawn a h v else
     if bytes_eq name (codes "trace") then trace_given a h v else
-    schedule_given (subject_of name v) a h v
+    schedule_given (subject_of name) a h v
 
 -- the command of this name of an algorithm
 abbrev pub command_for : Bytes → Bytes → Values → Option Command

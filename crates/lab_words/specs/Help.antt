@@ -17,7 +17,7 @@ schedule_lines =
     ∷ codes "  trace ALGORITHM ARCHITECTURE           the same as a trace, for Perfetto or chrome://tracing (JSON)"
     ∷ codes "  flat ALGORITHM ARCHITECTURE            the operations in the colours of their operators (DOT)"
     ∷ codes "  code ALGORITHM ARCHITECTURE            the macro-code of its program"
-    ∷ codes "  report ALGORITHM ARCHITECTURE [N]      its numbers, a bound, and the period over N reactions"
+    ∷ codes "  report ALGORITHM ARCHITECTURE          its numbers, and a bound below every schedule"
     ∷ codes "  dates ALGORITHM ARCHITECTURE DURATIONS N"
     ∷ codes "                                         when all happens in N reactions, as a picture (SVG)"
     ∷ codes "  trace ALGORITHM ARCHITECTURE DURATIONS N"

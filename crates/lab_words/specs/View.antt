@@ -32,7 +32,7 @@ subject_view Chart = table.chart
 subject_view Trace = table.trace
 subject_view Flat = table.flat
 subject_view Code = table.code
-subject_view (Report n) = table.report n
+subject_view Report = table.report
 
 abbrev pub form_view : Form → table.Form
 form_view Drawn = table.drawn

@@ -12,7 +12,6 @@ ghost use Rattle.lab_words.specs.App.{
   option,
   optional,
   plot_app,
-  report_app,
   schedule_app,
   searching,
   the_app,
@@ -37,8 +36,6 @@ enum Takes {
     Plot,
     /// The algorithm and the architecture, and options of the search.
     Schedule,
-    /// The same, and the number of reactions if it is there.
-    Report,
     /// The same as for a schedule, and the actual durations and the number of reactions if they are there.
     Trace,
     /// The algorithm, the architecture, the actual durations and the number of reactions, and options of the
@@ -143,16 +140,6 @@ fn schedule<'a>(alloc: Global, name: &'a str) -> Result<Command<'a>, AllocError>
     searching(alloc, command)
 }
 
-/// A command that takes the same, and the number of reactions if it is there.
-fn report<'a>(alloc: Global, name: &'a str) -> Result<Command<'a>, AllocError>
-    ensures app { IfOk result (λ c. app_of c ≡ report_app name.entry.now) }
-    ensures local { IfOk result (λ c. (fields_of c).has_globals ≡ false) }
-{
-    let command = architecture(alloc, name)?;
-    let command = with_optional(alloc, command, "reactions")?;
-    searching(alloc, command)
-}
-
 /// A command that takes the arguments of dates, of which the last two need not be there, and options of the search.
 fn trace<'a>(alloc: Global, name: &'a str) -> Result<Command<'a>, AllocError>
     ensures app { IfOk result (λ c. app_of c ≡ trace_app name.entry.now) }
@@ -186,7 +173,6 @@ fn taking<'a>(alloc: Global, name: &'a str, takes: Takes) -> Result<Command<'a>,
         Takes::Lint => lint(alloc, name),
         Takes::Plot => plot(alloc, name),
         Takes::Schedule => schedule(alloc, name),
-        Takes::Report => report(alloc, name),
         Takes::Trace => trace(alloc, name),
         Takes::Dates => dates(alloc, name),
     }
@@ -244,7 +230,7 @@ pub fn command<'a>(alloc: Global) -> Result<Command<'a>, AllocError>
             ("trace", Takes::Trace),
             ("flat", Takes::Schedule),
             ("code", Takes::Schedule),
-            ("report", Takes::Report),
+            ("report", Takes::Schedule),
             ("graph", Takes::Graph),
             ("table", Takes::Graph),
             ("lint", Takes::Lint),

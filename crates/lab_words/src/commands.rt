@@ -32,9 +32,8 @@ pub enum Subject {
     Flat,
     /// `code A H`: the macro-code of its program.
     Code,
-    /// `report A H [N]`: its numbers, and those of 1 to 1,000 reactions that follow one another; they are 50 where no
-    /// number is given.
-    Report(u32),
+    /// `report A H`: its numbers.
+    Report,
 }
 
 /// How dates are written.

@@ -19,7 +19,6 @@ ghost use Rattle.lab_words.specs.Command.{
   is_help,
   number_given,
   plot,
-  report_given,
   schedule_given,
   subject_of,
   trace_given,
@@ -45,11 +44,8 @@ use syn_base::OutOfMemory;
 /// The most schedules that a search tries, and the greatest seed.
 const MOST_TRIES: u32 = 1_000_000;
 
-/// The most reactions that are dated or counted.
+/// The most reactions that are dated.
 const MOST_REACTIONS: u32 = 1000;
-
-/// The number of reactions that a report counts where none is given.
-const USUAL_REACTIONS: u32 = 50;
 
 /// The values that are given for the arguments and options of a command.
 #[derive(Clone, Copy, Drop)]
@@ -184,7 +180,7 @@ fn command_on<'a>(
     } else if name == "trace" {
         trace(algorithm, architecture, values)
     } else {
-        let subject = subject_of(name, values);
+        let subject = subject_of(name);
         schedule(subject, algorithm, architecture, values)
     }
 }
@@ -255,8 +251,8 @@ fn schedule<'a>(
 }
 
 /// What a command of this name writes of a schedule, but for traces.
-fn subject_of(name: &str, values: &Values) -> Option<Subject>
-    ensures { option_map subject_view result ≡ subject_of name.now (values_view values.now) }
+fn subject_of(name: &str) -> Option<Subject>
+    ensures { option_map subject_view result ≡ subject_of name.now }
 {
     if name == "chart" {
         Some(Subject::Chart)
@@ -265,18 +261,10 @@ fn subject_of(name: &str, values: &Values) -> Option<Subject>
     } else if name == "code" {
         Some(Subject::Code)
     } else if name == "report" {
-        report(values)
+        Some(Subject::Report)
     } else {
         None
     }
-}
-
-/// A report of so many reactions as are given.
-fn report(values: &Values) -> Option<Subject>
-    ensures { option_map subject_view result ≡ report_given (values_view values.now) }
-{
-    let reactions = number_given(MOST_REACTIONS, USUAL_REACTIONS, values.reactions)?;
-    Some(Subject::Report(reactions))
 }
 
 /// The options of a search, if they are numbers within their bounds and a goal.

@@ -19,7 +19,7 @@ pub fn help_text(alloc: Global) -> Result<Vec<u8>, OutOfMemory>
             "  trace ALGORITHM ARCHITECTURE           the same as a trace, for Perfetto or chrome://tracing (JSON)",
             "  flat ALGORITHM ARCHITECTURE            the operations in the colours of their operators (DOT)",
             "  code ALGORITHM ARCHITECTURE            the macro-code of its program",
-            "  report ALGORITHM ARCHITECTURE [N]      its numbers, a bound, and the period over N reactions",
+            "  report ALGORITHM ARCHITECTURE          its numbers, and a bound below every schedule",
             "  dates ALGORITHM ARCHITECTURE DURATIONS N",
             "                                         when all happens in N reactions, as a picture (SVG)",
             "  trace ALGORITHM ARCHITECTURE DURATIONS N",
