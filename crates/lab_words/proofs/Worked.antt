@@ -1,7 +1,7 @@
 -- Worked commands, by what is found in the words.
 use Rattle.std.proofs.Common.{◌≡◌, Some, None, refl}
 use Rattle.std.specs.Prelude.{codes}
-use Rattle.lab_words.specs.Command.{Effort, Values, for_length, for_period, chart, trace, report, drawn, traced, flat, code, help, schedule, graph, table, lint, plot, dates, command_by}
+use Rattle.lab_words.specs.Command.{Effort, Values, for_length, for_period, chart, trace, report, drawn, traced, flat, code, help, schedule, graph, table, plot, dates, command_by}
 
 abbrev nothing : Values
 nothing = record {
@@ -82,15 +82,9 @@ traced_dates = refl
 half_traced : command_by (codes "trace") (record on_a_board { durations = Some (codes "G") }) ≡ None
 half_traced = refl
 
--- what takes no architecture, or one if it is there
+-- what takes no architecture
 a_table : command_by (codes "table") (record nothing { algorithm = Some (codes "A") }) ≡ Some (table (codes "A"))
 a_table = refl
-
-a_lint : command_by (codes "lint") (record nothing { algorithm = Some (codes "A") }) ≡ Some (lint (codes "A") None)
-a_lint = refl
-
-a_lint_of_both : command_by (codes "lint") on_a_board ≡ Some (lint (codes "A") (Some (codes "H")))
-a_lint_of_both = refl
 
 -- help, by both of its names
 helped : command_by (codes "help") nothing ≡ Some help

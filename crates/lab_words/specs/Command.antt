@@ -46,8 +46,6 @@ pub data Command : Type 0 where
   schedule : Subject → Bytes → Bytes → Effort → Command
   -- of the algorithm: its definitions as a graph, and the sensor table that it wants
   graph table : Bytes → Command
-  -- what is accepted and probably not meant, in the algorithm and in an architecture beside it
-  lint : Bytes → Option Bytes → Command
   -- the algorithm and the sensor table
   plot : Bytes → Bytes → Command
   -- the algorithm, the architecture, the actual durations, and the number of reactions
@@ -149,7 +147,6 @@ abbrev pub command_for : Bytes → Bytes → Values → Option Command
 command_for name a v =
     if bytes_eq name (codes "graph") then Some (graph a) else
     if bytes_eq name (codes "table") then Some (table a) else
-    if bytes_eq name (codes "lint") then Some (lint a v.architecture) else
     if bytes_eq name (codes "plot") then option_map (plot a) v.sensors else
     option_and_then (λ h. command_on name a h v) v.architecture
 
