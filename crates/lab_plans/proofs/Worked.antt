@@ -8,7 +8,7 @@ use Rattle.actual_defs.specs.declared.fault.ActualFault.TheVariants.{Longer}
 use Rattle.command_plan.specs.Plan.{outcome}
 use Rattle.command_status.specs.Status.{Refusal, bad_architecture, bad_durations, usage}
 use Rattle.top_plans.specs.Plans.{schedule_of}
-use Rattle.lab_words.specs.Command.{Command, Effort, for_length, code, report, drawn, traced, help, schedule, table, dates}
+use Rattle.lab_words.specs.Command.{Command, Effort, code, report, drawn, traced, help, schedule, table, dates}
 use Rattle.lab_words.specs.Help.{help_text}
 use Rattle.lab_plans.specs.Asked.{Asked, of_text, of_schedule, of_dates}
 use Rattle.lab_plans.specs.Answers.{answer}
@@ -33,7 +33,7 @@ abbrev told : Bytes → Option Bytes
 told = named ((codes "A", algorithm) ∷ (codes "H", architecture) ∷ (codes "L", longer) ∷ (codes "B", codes "?\n") ∷ [])
 
 abbrev untried : Effort
-untried = record { tries = 0; seed = 1; goal = for_length }
+untried = record { tries = 0; seed = 1 }
 
 -- what is asked for: the number of operations, and the number of reactions that are dated
 abbrev sizes : Option (Result Asked Refusal) → List ℕ

@@ -1,7 +1,7 @@
 -- Worked commands, by what is found in the words.
 use Rattle.std.proofs.Common.{◌≡◌, Some, None, refl}
 use Rattle.std.specs.Prelude.{codes}
-use Rattle.lab_words.specs.Command.{Effort, Values, for_length, for_period, chart, trace, report, drawn, traced, flat, code, help, schedule, graph, table, plot, dates, command_by}
+use Rattle.lab_words.specs.Command.{Effort, Values, chart, trace, report, drawn, traced, help, schedule, graph, table, plot, dates, command_by}
 
 abbrev nothing : Values
 nothing = record {
@@ -12,11 +12,10 @@ nothing = record {
   reactions = None;
   tries = None;
   seed = None;
-  goal = None;
 }
 
 abbrev untold : Effort
-untold = record { tries = 0; seed = 1; goal = for_length }
+untold = record { tries = 0; seed = 1 }
 
 -- `A H`
 abbrev on_a_board : Values
@@ -26,7 +25,7 @@ untried : command_by (codes "chart") on_a_board ≡ Some (schedule chart (codes 
 untried = refl
 
 tried : command_by (codes "trace") (record on_a_board { tries = Some (codes "500"); seed = Some (codes "007") })
-    ≡ Some (schedule trace (codes "A") (codes "H") (record { tries = 500; seed = 7; goal = for_length }))
+    ≡ Some (schedule trace (codes "A") (codes "H") (record { tries = 500; seed = 7 }))
 tried = refl
 
 -- the bounds of numbers
@@ -34,7 +33,7 @@ no_tries : command_by (codes "report") (record on_a_board { tries = Some (codes 
 no_tries = refl
 
 most : command_by (codes "report") (record on_a_board { tries = Some (codes "1000000") })
-    ≡ Some (schedule report (codes "A") (codes "H") (record { tries = 1000000; seed = 1; goal = for_length }))
+    ≡ Some (schedule report (codes "A") (codes "H") (record { tries = 1000000; seed = 1 }))
 most = refl
 
 too_many : command_by (codes "report") (record on_a_board { tries = Some (codes "1000001") }) ≡ None
@@ -42,17 +41,6 @@ too_many = refl
 
 no_number : command_by (codes "report") (record on_a_board { seed = Some (codes "x") }) ≡ None
 no_number = refl
-
--- the goal
-for_a_period : command_by (codes "flat") (record on_a_board { goal = Some (codes "period") })
-    ≡ Some (schedule flat (codes "A") (codes "H") (record { tries = 0; seed = 1; goal = for_period }))
-for_a_period = refl
-
-for_a_length : command_by (codes "code") (record on_a_board { goal = Some (codes "length") }) ≡ Some (schedule code (codes "A") (codes "H") untold)
-for_a_length = refl
-
-no_goal : command_by (codes "code") (record on_a_board { goal = Some (codes "time") }) ≡ None
-no_goal = refl
 
 -- a name, and what it takes
 another_name : command_by (codes "charts") on_a_board ≡ None

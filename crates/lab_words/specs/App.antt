@@ -20,8 +20,7 @@ option id = record (new_rule id) { long = Some id }
 
 -- with the options of a search
 abbrev pub searching : App → App
-searching a =
-    with_rule (with_rule (with_rule a (option (codes "tries"))) (option (codes "seed"))) (option (codes "for"))
+searching a = with_rule (with_rule a (option (codes "tries"))) (option (codes "seed"))
 
 abbrev pub algorithm_app : Bytes → App
 algorithm_app name = with_rule (new_app name) (needed (codes "algorithm"))

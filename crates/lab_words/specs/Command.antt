@@ -21,15 +21,10 @@ use Rattle.syn_base.specs.Bytes.{Bytes}
 use Rattle.command_words.specs.Command.{number_up_to}
 use Rattle.lab_words.specs.App.{the_app}
 
--- what a search makes small: the length of the schedule, or its period
-pub data Goal : Type 0 where
-  for_length for_period : Goal
-
--- how a schedule is searched: the number of schedules that are tried, from which number the search draws, and for what
+-- how a schedule is searched: the number of schedules that are tried, and from which number the search draws
 pub record Effort : Type 0 where
   pub tries : ℕ
   pub seed : ℕ
-  pub goal : Goal
 
 -- what is written of a schedule
 pub data Subject : Type 0 where
@@ -64,18 +59,9 @@ abbrev pub number_given : ℕ → ℕ → Option Bytes → Option ℕ
 number_given most usual None = Some usual
 number_given most usual (Some w) = number_up_to most w
 
-abbrev pub goal_named : Bytes → Option Goal
-goal_named w =
-    if bytes_eq w (codes "length") then Some for_length else
-    if bytes_eq w (codes "period") then Some for_period else None
-
-abbrev pub goal_given : Option Bytes → Option Goal
-goal_given None = Some for_length
-goal_given (Some w) = goal_named w
-
-abbrev pub effort_by : Option ℕ → Option ℕ → Option Goal → Option Effort
-effort_by (Some tries) (Some seed) (Some goal) = Some (record { tries = tries; seed = seed; goal = goal })
-effort_by _ _ _ = None
+abbrev pub effort_by : Option ℕ → Option ℕ → Option Effort
+effort_by (Some tries) (Some seed) = Some (record { tries = tries; seed = seed })
+effort_by _ _ = None
 
 -- the values that were given for the arguments and options of a command
 pub record Values : Type 0 where
@@ -86,7 +72,6 @@ pub record Values : Type 0 where
   pub reactions : Option Bytes
   pub tries : Option Bytes
   pub seed : Option Bytes
-  pub goal : Option Bytes
 
 abbrev pub values_of : List Row → Values
 values_of rows = record {
@@ -97,12 +82,11 @@ values_of rows = record {
   reactions = first_of (codes "reactions") rows;
   tries = first_of (codes "tries") rows;
   seed = first_of (codes "seed") rows;
-  goal = first_of (codes "for") rows;
 }
 
 -- the options of a search: without them nothing is tried
 abbrev pub effort_given : Values → Option Effort
-effort_given v = effort_by (number_given most_tries 0 v.tries) (number_given most_tries 1 v.seed) (goal_given v.goal)
+effort_given v = effort_by (number_given most_tries 0 v.tries) (number_given most_tries 1 v.seed)
 
 -- what a command of this name writes of a schedule, but for traces
 abbrev pub subject_of : Bytes → Option Subject

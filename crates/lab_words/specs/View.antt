@@ -14,17 +14,11 @@ use Rattle.lab_words.specs.declared.commands.Command.TheVariants.{
 use Rattle.lab_words.specs.declared.commands.Effort.{Effort}
 use Rattle.lab_words.specs.declared.commands.Form.{Form}
 use Rattle.lab_words.specs.declared.commands.Form.TheVariants.{Drawn, Traced}
-use Rattle.lab_words.specs.declared.commands.Goal.{Goal}
-use Rattle.lab_words.specs.declared.commands.Goal.TheVariants.{Length, Period}
 use Rattle.lab_words.specs.declared.commands.Subject.{Subject}
 use Rattle.lab_words.specs.declared.commands.Subject.TheVariants.{Chart, Trace, Flat, Code, Report}
 
-abbrev pub goal_view : Goal → table.Goal
-goal_view Length = table.for_length
-goal_view Period = table.for_period
-
 abbrev pub effort_view : Effort → table.Effort
-effort_view effort = record { tries = effort.tries; seed = effort.seed; goal = goal_view effort.goal }
+effort_view effort = record { tries = effort.tries; seed = effort.seed }
 
 abbrev pub subject_view : Subject → table.Subject
 subject_view Chart = table.chart
@@ -54,5 +48,4 @@ values_view v = record {
   reactions = option_map (λ t. t.now) v.reactions;
   tries = option_map (λ t. t.now) v.tries;
   seed = option_map (λ t. t.now) v.seed;
-  goal = option_map (λ t. t.now) v.goal;
 }

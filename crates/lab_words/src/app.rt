@@ -89,8 +89,7 @@ fn searching<'a>(alloc: Global, command: Command<'a>) -> Result<Command<'a>, All
     ensures local { IfOk result (λ c. (fields_of c).has_globals ≡ false) }
 {
     let command = with_option(alloc, command, "tries")?;
-    let command = with_option(alloc, command, "seed")?;
-    with_option(alloc, command, "for")
+    with_option(alloc, command, "seed")
 }
 
 /// A command that takes the algorithm.

@@ -1,14 +1,5 @@
 //! The commands as types, for the reader of words and for whoever carries them out.
 
-/// What a search makes small.
-#[derive(Clone, Copy, Drop)]
-pub enum Goal {
-    /// The length of the schedule.
-    Length,
-    /// The time that a reaction takes where many of them follow one another, each as early as it may.
-    Period,
-}
-
 /// How a schedule is searched.
 #[derive(Clone, Copy, Drop)]
 pub struct Effort {
@@ -17,8 +8,6 @@ pub struct Effort {
     pub tries: u32,
     /// From which number the search draws, 1 to 1,000,000; it is 1 where the option is not given.
     pub seed: u32,
-    /// What is made small; it is the length where the option is not given.
-    pub goal: Goal,
 }
 
 /// What is written of a schedule.

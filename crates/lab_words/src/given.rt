@@ -14,8 +14,6 @@ ghost use Rattle.lab_words.specs.Command.{
   command_on,
   dates_given,
   effort_given,
-  goal_given,
-  goal_named,
   is_help,
   number_given,
   plot,
@@ -27,14 +25,13 @@ ghost use Rattle.lab_words.specs.Command.{
 ghost use Rattle.lab_words.specs.View.{
   effort_view,
   form_view,
-  goal_view,
   subject_view,
   values_view,
   view_of,
 };
 
 use crate::app::command;
-use crate::commands::{Command, Effort, Form, Goal, Subject};
+use crate::commands::{Command, Effort, Form, Subject};
 use clap::error::ErrorKind;
 use clap::{ArgMatches, Error};
 use command_words::number_up_to;
@@ -57,7 +54,6 @@ struct Values<'a> {
     reactions: Option<&'a str>,
     tries: Option<&'a str>,
     seed: Option<&'a str>,
-    goal: Option<&'a str>,
 }
 
 /// The command of these words, if they are one. The first word is the program's name. `OutOfMemory` comes
@@ -112,7 +108,6 @@ fn values_in<'a>(matches: &ArgMatches<'a>) -> Values<'a>
     let reactions = matches.get_str("reactions");
     let tries = matches.get_str("tries");
     let seed = matches.get_str("seed");
-    let goal = matches.get_str("for");
     Values {
         algorithm,
         architecture,
@@ -121,7 +116,6 @@ fn values_in<'a>(matches: &ArgMatches<'a>) -> Values<'a>
         reactions,
         tries,
         seed,
-        goal,
     }
 }
 
@@ -261,14 +255,13 @@ fn subject_of(name: &str) -> Option<Subject>
     }
 }
 
-/// The options of a search, if they are numbers within their bounds and a goal.
+/// The options of a search, if they are numbers within their bounds.
 fn effort_of(values: &Values) -> Option<Effort>
     ensures { option_map effort_view result ≡ effort_given (values_view values.now) }
 {
     let tries = number_given(MOST_TRIES, 0, values.tries)?;
     let seed = number_given(MOST_TRIES, 1, values.seed)?;
-    let goal = goal_given(values.goal)?;
-    Some(Effort { tries, seed, goal })
+    Some(Effort { tries, seed })
 }
 
 /// The number of an option, or what stands for it where the option is not given.
@@ -278,28 +271,5 @@ fn number_given(most: u32, usual: u32, text: Option<&str>) -> Option<u32>
     match text {
         Some(text) => number_up_to(most, text.as_bytes()),
         None => Some(usual),
-    }
-}
-
-/// What is to be made small: the length, where the option is not given.
-fn goal_given(text: Option<&str>) -> Option<Goal>
-    ensures { option_map goal_view result ≡ goal_given (option_map (λ t. t.now) text.entry) }
-{
-    match text {
-        Some(text) => goal_named(text),
-        None => Some(Goal::Length),
-    }
-}
-
-/// The goal of this name.
-fn goal_named(text: &str) -> Option<Goal>
-    ensures { option_map goal_view result ≡ goal_named text.now }
-{
-    if text == "length" {
-        Some(Goal::Length)
-    } else if text == "period" {
-        Some(Goal::Period)
-    } else {
-        None
     }
 }

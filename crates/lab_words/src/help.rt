@@ -29,8 +29,7 @@ pub fn help_text(alloc: Global) -> Result<Vec<u8>, OutOfMemory>
             "  plot ALGORITHM SENSORS                 what the actuators take, as a picture (SVG)",
             "  help                                   this list",
             "",
-            "What shows a schedule takes --tries N, which searches one by N tries, --seed S, which fixes its chances,",
-            "and --for length or --for period, which says what the search makes small.",
+            "What shows a schedule takes --tries N, which searches one by N tries, and --seed S, which fixes its chances.",
             "The manual is docs/MANUAL.md.",
         ],
     )?;

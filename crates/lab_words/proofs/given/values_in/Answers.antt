@@ -14,5 +14,4 @@ returns c =
       reactions = (c.get_str-reactions.ensures ∙ first_value-rows f (codes "reactions")) i;
       tries = (c.get_str-tries.ensures ∙ first_value-rows f (codes "tries")) i;
       seed = (c.get_str-seed.ensures ∙ first_value-rows f (codes "seed")) i;
-      goal = (c.get_str-goal.ensures ∙ first_value-rows f (codes "for")) i;
     }
