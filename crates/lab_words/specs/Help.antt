@@ -33,7 +33,8 @@ text_lines =
 
 abbrev pub option_lines : List Bytes
 option_lines =
-    codes "What shows a schedule takes --tries N, which searches one by N tries, and --seed S, which fixes its chances." ∷ []
+    codes "What shows a schedule takes --tries N, which searches one by N tries,"
+    ∷ codes "and --seed S, which fixes its chances." ∷ []
 
 abbrev pub help_text : Bytes
 help_text = lines_text (

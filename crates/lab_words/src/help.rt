@@ -29,7 +29,8 @@ pub fn help_text(alloc: Global) -> Result<Vec<u8>, OutOfMemory>
             "  plot ALGORITHM SENSORS                 what the actuators take, as a picture (SVG)",
             "  help                                   this list",
             "",
-            "What shows a schedule takes --tries N, which searches one by N tries, and --seed S, which fixes its chances.",
+            "What shows a schedule takes --tries N, which searches one by N tries,",
+            "and --seed S, which fixes its chances.",
             "The manual is docs/MANUAL.md.",
         ],
     )?;
