@@ -7,7 +7,6 @@ use Rattle.std.specs.Prelude.{
   Option,
   Some,
   None,
-  is_some,
   option_and_then,
   option_map,
   if◌then◌else◌,
@@ -115,16 +114,20 @@ abbrev pub schedule_given : Option Subject → Bytes → Bytes → Values → Op
 schedule_given subject a h v = schedule_by subject a h (effort_given v)
 
 -- a trace is that of dates where there are actual durations, and else that of the schedule
-abbrev pub trace_given : Bytes → Bytes → Values → Option Command
-trace_given a h v =
-    if is_some v.durations then dates_given traced a h v else schedule_given (Some trace) a h v
+abbrev pub trace_by : Option Bytes → Bytes → Bytes → Values → Option Command
+trace_by None a h v = schedule_given (Some trace) a h v
+trace_by (Some g) a h v = dates_given traced a h v
 
 -- the command of this name of an algorithm on an architecture
 abbrev pub command_on : Bytes → Bytes → Bytes → Values → Option Command
 command_on name a h v =
     if bytes_eq name (codes "dates") then dates_given drawn a h v else
-    if bytes_eq name (codes "trace") then trace_given a h v else
+    if bytes_eq name (codes "trace") then trace_by v.durations a h v else
     schedule_given (subject_of name) a h v
+
+-- the same, where there is an architecture
+abbrev pub placed_given : Bytes → Bytes → Values → Option Command
+placed_given name a v = option_and_then (λ h. command_on name a h v) v.architecture
 
 -- the command of this name of an algorithm
 abbrev pub command_for : Bytes → Bytes → Values → Option Command
@@ -132,15 +135,18 @@ command_for name a v =
     if bytes_eq name (codes "graph") then Some (graph a) else
     if bytes_eq name (codes "table") then Some (table a) else
     if bytes_eq name (codes "plot") then option_map (plot a) v.sensors else
-    option_and_then (λ h. command_on name a h v) v.architecture
+    placed_given name a v
 
 abbrev pub is_help : Bytes → Bool
 is_help name = bytes_eq name (codes "help") || bytes_eq name (codes "--help")
 
+-- the command of this name, where there is an algorithm
+abbrev pub algorithm_given : Bytes → Values → Option Command
+algorithm_given name v = option_and_then (λ a. command_for name a v) v.algorithm
+
 -- the command of this name with these values
 abbrev pub command_by : Bytes → Values → Option Command
-command_by name v =
-    if is_help name then Some help else option_and_then (λ a. command_for name a v) v.algorithm
+command_by name v = if is_help name then Some help else algorithm_given name v
 
 -- the command of what was found: the name of a command, and what was given for its arguments and options
 abbrev pub command_in : Bytes × List Row → Option Command
