@@ -1,6 +1,6 @@
 -- Words give numbers of reactions from 1 to 1,000.
 use Rattle.std.proofs.Common.{◌≡◌, ℕ, ◌≤◌, Bool, true, false, ◌&&◌, List, length, Option, Some, None, refl}
-use Rattle.std.specs.Prelude.{codes, if◌then◌else◌, is_some, nat_le, option_and_then, option_map}
+use Rattle.std.specs.Prelude.{codes, if◌then◌else◌, nat_le, option_and_then, option_map}
 use Rattle.std.specs.List.{list_all}
 use Rattle.std.specs.Str.{bytes_eq}
 use Rattle.std.proofs.lemmas.Bool.{leb-true}
@@ -32,7 +32,7 @@ use Rattle.lab_words.specs.Command.{
   is_help,
   schedule_by,
   subject_of,
-  trace_given,
+  trace_by,
   values_of,
 }
 use Rattle.lab_program.specs.Counts.{AreCounted}
@@ -72,8 +72,9 @@ of_schedule (Some subject) a h None = tt
 of_schedule None a h (Some effort) = tt
 of_schedule None a h None = tt
 
-of_trace : (a h : Bytes) (v : Values) → AreCounted (trace_given a h v)
-of_trace a h v = either AreCounted (is_some v.durations) _ _ (of_given traced a h v) (of_schedule (Some trace) a h (effort_given v))
+of_trace : (o : Option Bytes) (a h : Bytes) (v : Values) → AreCounted (trace_by o a h v)
+of_trace None a h v = of_schedule (Some trace) a h (effort_given v)
+of_trace (Some g) a h v = of_given traced a h v
 
 of_plot : (a : Bytes) (o : Option Bytes) → AreCounted (option_map (plot a) o)
 of_plot a None = tt
@@ -82,7 +83,7 @@ of_plot a (Some s) = tt
 on_board : (name a h : Bytes) (v : Values) → AreCounted (command_on name a h v)
 on_board name a h v =
     either AreCounted (bytes_eq name (codes "dates")) _ _ (of_given drawn a h v)
-    (either AreCounted (bytes_eq name (codes "trace")) _ _ (of_trace a h v) (of_schedule (subject_of name) a h (effort_given v)))
+    (either AreCounted (bytes_eq name (codes "trace")) _ _ (of_trace v.durations a h v) (of_schedule (subject_of name) a h (effort_given v)))
 
 by_name : (name a : Bytes) (v : Values) → AreCounted (command_for name a v)
 by_name name a v =

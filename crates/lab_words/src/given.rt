@@ -7,6 +7,7 @@ ghost use Rattle.command_words.specs.Answer.{wants_memory};
 ghost use Rattle.clap.specs.Matches.{found_of};
 ghost use Rattle.clap.specs.Walk.{rows_of};
 ghost use Rattle.lab_words.specs.Command.{
+  algorithm_given,
   command_by,
   command_for,
   command_in,
@@ -16,10 +17,11 @@ ghost use Rattle.lab_words.specs.Command.{
   effort_given,
   is_help,
   number_given,
+  placed_given,
   plot,
   schedule_given,
   subject_of,
-  trace_given,
+  trace_by,
   values_of,
 };
 ghost use Rattle.lab_words.specs.View.{
@@ -124,10 +126,10 @@ fn command_by<'a>(name: &str, values: &Values<'a>) -> Option<Command<'a>>
     ensures { option_map view_of result ≡ command_by name.now (values_view values.now) }
 {
     if is_help(name) {
-        return Some(Command::Help);
+        Some(Command::Help)
+    } else {
+        of_algorithm(name, values)
     }
-    let algorithm = values.algorithm?;
-    command_for(name, algorithm, values)
 }
 
 /// Whether a command of this name lists the commands.
@@ -135,6 +137,14 @@ fn is_help(name: &str) -> bool
     ensures { result ≡ is_help name.now }
 {
     name == "help" || name == "--help"
+}
+
+/// The command of this name, where there is an algorithm.
+fn of_algorithm<'a>(name: &str, values: &Values<'a>) -> Option<Command<'a>>
+    ensures { option_map view_of result ≡ algorithm_given name.now (values_view values.now) }
+{
+    let algorithm = values.algorithm?;
+    command_for(name, algorithm, values)
 }
 
 /// The command of this name of an algorithm.
@@ -148,9 +158,16 @@ fn command_for<'a>(name: &str, algorithm: &'a str, values: &Values<'a>) -> Optio
     } else if name == "plot" {
         plot(algorithm, values.sensors)
     } else {
-        let architecture = values.architecture?;
-        command_on(name, algorithm, architecture, values)
+        placed(name, algorithm, values)
     }
+}
+
+/// The command of this name of an algorithm, where there is an architecture.
+fn placed<'a>(name: &str, algorithm: &'a str, values: &Values<'a>) -> Option<Command<'a>>
+    ensures { option_map view_of result ≡ placed_given name.now algorithm.now (values_view values.now) }
+{
+    let architecture = values.architecture?;
+    command_on(name, algorithm, architecture, values)
 }
 
 /// The command of this name of an algorithm on an architecture.
@@ -166,7 +183,7 @@ fn command_on<'a>(
     if name == "dates" {
         dates(Form::Drawn, algorithm, architecture, values)
     } else if name == "trace" {
-        trace(algorithm, architecture, values)
+        trace(algorithm, architecture, values.durations, values)
     } else {
         let subject = subject_of(name);
         schedule(subject, algorithm, architecture, values)
@@ -207,14 +224,18 @@ fn dates<'a>(
 }
 
 /// The trace of dates where there are actual durations, and else that of a schedule.
-fn trace<'a>(algorithm: &'a str, architecture: &'a str, values: &Values<'a>) -> Option<Command<'a>>
-    ensures { option_map view_of result ≡
-        trace_given algorithm.now architecture.now (values_view values.now) }
+fn trace<'a>(
+    algorithm: &'a str,
+    architecture: &'a str,
+    durations: Option<&'a str>,
+    values: &Values<'a>,
+) -> Option<Command<'a>>
+    ensures { option_map view_of result ≡ trace_by (option_map (λ t. t.now) durations.entry)
+        algorithm.now architecture.now (values_view values.now) }
 {
-    if values.durations.is_some() {
-        dates(Form::Traced, algorithm, architecture, values)
-    } else {
-        schedule(Some(Subject::Trace), algorithm, architecture, values)
+    match durations {
+        Some(_) => dates(Form::Traced, algorithm, architecture, values),
+        None => schedule(Some(Subject::Trace), algorithm, architecture, values),
     }
 }
 
