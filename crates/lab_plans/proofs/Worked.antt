@@ -1,6 +1,7 @@
 -- Plans over worked texts, and what is answered of the pressure run.
 use Rattle.std.proofs.Common.{◌≡◌, ℕ, refl, List, [], ◌∷◌, ◌++◌, length, Option, Some, None, Result, Ok, Err, codes}
 use Rattle.std.specs.Fmt.{digits}
+use Rattle.csv.specs.Writing.{fields_text, is_blank}
 use Rattle.syn_base.specs.Bytes.{Bytes}
 use Rattle.outside.specs.Bytes.{named}
 use Rattle.archi_defs.specs.declared.fault.ArchiCause.TheVariants as archi_cause
@@ -89,4 +90,5 @@ helped : answered (outcome_of help) ≡ Some (Ok help_text)
 helped = refl
 
 tabled : answered (outcome_of (table (codes "A"))) ≡ Some (Ok (codes "k,s.0\n0,0\n"))
+unfolding digits fields_text is_blank
 tabled = refl
