@@ -16,6 +16,7 @@ ghost use Rattle.lab_words.specs.Command.{
   dates_given,
   effort_given,
   is_help,
+  most_tries,
   number_given,
   placed_given,
   plot,
@@ -280,17 +281,17 @@ fn subject_of(name: &str) -> Option<Subject>
 fn effort_of(values: &Values) -> Option<Effort>
     ensures { option_map effort_view result ≡ effort_given (values_view values.now) }
 {
-    let tries = number_given(MOST_TRIES, 0, values.tries)?;
-    let seed = number_given(MOST_TRIES, 1, values.seed)?;
+    let tries = number_given(0, values.tries)?;
+    let seed = number_given(1, values.seed)?;
     Some(Effort { tries, seed })
 }
 
 /// The number of an option, or what stands for it where the option is not given.
-fn number_given(most: u32, usual: u32, text: Option<&str>) -> Option<u32>
-    ensures { result ≡ number_given most usual (option_map (λ t. t.now) text.entry) }
+fn number_given(usual: u32, text: Option<&str>) -> Option<u32>
+    ensures { result ≡ number_given most_tries usual (option_map (λ t. t.now) text.entry) }
 {
     match text {
-        Some(text) => number_up_to(most, text.as_bytes()),
+        Some(text) => number_up_to(MOST_TRIES, text.as_bytes()),
         None => Some(usual),
     }
 }
