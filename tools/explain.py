@@ -34,7 +34,7 @@ COMMANDS = (
      "run examples/echo/algorithm.txt examples/echo/architecture.txt examples/echo/sensors.csv"),
     ("exec ALGORITHM ARCHITECTURE CODE SENSORS [--workers W]", "the same by macro-code of your own, once it is checked",
      "exec examples/echo/algorithm.txt examples/echo/architecture.txt examples/echo/code.txt examples/echo/sensors.csv"),
-    ("dates ALGORITHM ARCHITECTURE DURATIONS N", "when all happens in N reactions, under the actual durations",
+    ("dates ALGORITHM ARCHITECTURE DURATIONS N", "when everything happens in N reactions, under the actual durations",
      "dates examples/radar/algorithm.txt examples/radar/architecture.txt examples/radar/architecture.txt 3"),
     ("load N", "how many steps a generated algorithm of size N takes", "load 3"),
 )
