@@ -212,7 +212,8 @@ def check_words(lab):
         answer = lab.run(*words)
         holds(answer == (2, "", "usage\n"), f"{' '.join(words)}: {answer}")
     told = subprocess.run([f"{TOP}/syndex_lab", "help"], capture_output=True, text=True, check=True).stdout
-    holds(lab.text("help") == told and lab.text("--help") == told, "the script lists other commands")
+    listed = lab.text("help")
+    holds(told.startswith(listed) and lab.text("--help") == listed, "the script lists other commands")
 
 
 def main(words):

@@ -19,7 +19,7 @@ schedule_lines =
     ∷ codes "  code ALGORITHM ARCHITECTURE            the macro-code of its program"
     ∷ codes "  report ALGORITHM ARCHITECTURE          its numbers, and a bound below every schedule"
     ∷ codes "  dates ALGORITHM ARCHITECTURE DURATIONS N"
-    ∷ codes "                                         when all happens in N reactions, as a picture (SVG)"
+    ∷ codes "                                         when everything happens in N reactions, as a picture (SVG)"
     ∷ codes "  trace ALGORITHM ARCHITECTURE DURATIONS N"
     ∷ codes "                                         the same as a trace (JSON)" ∷ []
 

@@ -21,7 +21,7 @@ pub fn help_text(alloc: Global) -> Result<Vec<u8>, OutOfMemory>
             "  code ALGORITHM ARCHITECTURE            the macro-code of its program",
             "  report ALGORITHM ARCHITECTURE          its numbers, and a bound below every schedule",
             "  dates ALGORITHM ARCHITECTURE DURATIONS N",
-            "                                         when all happens in N reactions, as a picture (SVG)",
+            "                                         when everything happens in N reactions, as a picture (SVG)",
             "  trace ALGORITHM ARCHITECTURE DURATIONS N",
             "                                         the same as a trace (JSON)",
             "  graph ALGORITHM                        the definitions, for Graphviz (DOT)",
