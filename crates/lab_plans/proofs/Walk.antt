@@ -55,9 +55,9 @@ module _ (Q : Asks → Type 0) (refused : (r : Refusal) → IsTold r → Q (refu
       after_so of_architecture told_architecture (description_of text) (architectures.description_safe text) (λ d. after of_architecture (durations_of (flat_of main) d) (next d))
       (λ d. after_so of_architecture told_architecture (durations_of (flat_of main) d) (durations.durations_safe (flat_of main) d) (next d) (h d))
 
-  table_so : (main : Vertex) (table : Bytes) (next : Reactions → Asks) → ((rows : Reactions) → Q (next rows)) → Q (table_in main table next)
-  table_so main table next h =
-      after_so of_sensors told_sensors (rows_of main (records default_config (strip_bom table))) (tables.table_safe main (records default_config (strip_bom table))) next h
+  table_so : (main : Vertex) (text : Bytes) (next : Reactions → Asks) → ((rows : Reactions) → Q (next rows)) → Q (table_in main text next)
+  table_so main text next h =
+      after_so of_sensors told_sensors (rows_of main (records default_config (strip_bom text))) (tables.table_safe main (records default_config (strip_bom text))) next h
 
   abbrev Reads : (File → Option Bytes) → Type 0
   Reads names = (file : File) (name : Bytes) (next : Bytes → Asks) → names file ≡ Some name → ((bytes : Bytes) → Q (next bytes)) → Q (read_file file name next)
@@ -73,7 +73,7 @@ module _ (Q : Asks → Type 0) (refused : (r : Refusal) → IsTold r → Q (refu
   walk (lint a (Some h)) reads gives = reads Algorithm a _ refl (λ text. algorithm_so text _ (λ defs main.
       reads Architecture h _ refl (λ lines. architecture_so lines main _ (λ d t. gives _))))
   walk (plot a s) reads gives = reads Algorithm a _ refl (λ text. algorithm_so text _ (λ defs main.
-      reads Sensors s _ refl (λ table. table_so main table _ (λ rows. unless_within (excess _) _ (gives _)))))
+      reads Sensors s _ refl (λ lines. table_so main lines _ (λ rows. unless_within (excess _) _ (gives _)))))
   walk (dates form a h g n effort) reads gives = reads Algorithm a _ refl (λ text. algorithm_so text _ (λ defs main.
       reads Architecture h _ refl (λ lines. architecture_so lines main _ (λ d t. reads Durations g _ refl (λ bytes. gives _)))))
 
