@@ -28,7 +28,7 @@ use Rattle.top_plans.proofs.ArchitectureRefusals as architectures
 use Rattle.top_plans.proofs.DurationRefusals as durations
 use Rattle.top_plans.proofs.TableRefusals as tables
 use Rattle.top_plans.proofs.Walk.{IsTold, told_above, told_algorithm, told_architecture, told_durations, told_sensors}
-use Rattle.lab_words.specs.Command.{Command, Form, help, schedule, graph, table, plot, dates, chart, trace, flat, code, report}
+use Rattle.lab_words.specs.Command.{Command, Form, help, schedule, graph, table, lint, plot, dates, chart, trace, flat, code, report}
 use Rattle.lab_plans.specs.Names.{names_for, names_of}
 use Rattle.lab_plans.specs.Asked.{Asked, Problem, of_text, of_schedule, of_dates}
 use Rattle.lab_plans.specs.Answers.{answer, dates_by, limit, within}
@@ -69,6 +69,9 @@ module _ (Q : Asks → Type 0) (refused : (r : Refusal) → IsTold r → Q (refu
       reads Architecture h _ refl (λ lines. architecture_so lines main _ (λ d t. gives _))))
   walk (graph a) reads gives = reads Algorithm a _ refl (λ text. algorithm_so text _ (λ defs main. gives _))
   walk (table a) reads gives = reads Algorithm a _ refl (λ text. algorithm_so text _ (λ defs main. gives _))
+  walk (lint a None) reads gives = reads Algorithm a _ refl (λ text. algorithm_so text _ (λ defs main. gives _))
+  walk (lint a (Some h)) reads gives = reads Algorithm a _ refl (λ text. algorithm_so text _ (λ defs main.
+      reads Architecture h _ refl (λ lines. architecture_so lines main _ (λ d t. gives _))))
   walk (plot a s) reads gives = reads Algorithm a _ refl (λ text. algorithm_so text _ (λ defs main.
       reads Sensors s _ refl (λ lines. table_so main lines _ (λ rows. unless_within (excess _) _ (gives _)))))
   walk (dates form a h g n effort) reads gives = reads Algorithm a _ refl (λ text. algorithm_so text _ (λ defs main.

@@ -1,8 +1,9 @@
 -- The plan of each command: which files it reads, in which order it is refused, and what it asks for.
-use Rattle.std.specs.Prelude.{◌*◌, ℕ, length, sum, Option, Some, None}
+use Rattle.std.specs.Prelude.{◌++◌, ◌*◌, ℕ, length, sum, Option, Some, None}
 use Rattle.syn_base.specs.Bytes.{Bytes}
 use Rattle.syn_base.specs.Rows.{Reactions}
-use Rattle.outside.specs.declared.file.File.TheVariants.{Durations}
+use Rattle.outside.specs.declared.file.File.TheVariants.{Architecture, Durations}
+use Rattle.algo_defs.specs.declared.definition.Defs.{Defs}
 use Rattle.algo_tree.specs.Tree.{Vertex}
 use Rattle.algo_tree.specs.Ends.{actuator_lengths}
 use Rattle.archi_defs.specs.Text.{Described}
@@ -12,10 +13,21 @@ use Rattle.act_text.specs.Names.{actuator_names}
 use Rattle.sync_meaning.specs.Simulated.{simulated}
 use Rattle.definition_drawing.specs.Drawing.{drawing}
 use Rattle.table_template.specs.Template.{template_text}
+use Rattle.text_lint.specs.Algorithm.{algorithm_findings}
+use Rattle.text_lint.specs.Architecture.{architecture_findings}
+use Rattle.text_lint.specs.Printed.{findings_text}
 use Rattle.signal_plot.specs.Plot as signal
 use Rattle.command_plan.specs.Plan.{Plan, give, refuse}
 use Rattle.command_status.specs.Status.{Refusal, usage}
-use Rattle.top_plans.specs.Plans.{algorithm_plan, architecture_plan, table_plan, read_file, unless, excess}
+use Rattle.top_plans.specs.Plans.{
+  algorithm_plan,
+  architecture_in,
+  architecture_plan,
+  table_plan,
+  read_file,
+  unless,
+  excess,
+}
 use Rattle.lab_words.specs.Command.{
   Command,
   Effort,
@@ -25,6 +37,7 @@ use Rattle.lab_words.specs.Command.{
   schedule,
   graph,
   table,
+  lint,
   plot,
   dates,
 }
@@ -52,6 +65,22 @@ graph_plan a = algorithm_plan a (λ defs main. give (of_text (drawing defs)))
 abbrev pub template_plan : Bytes → Asks
 template_plan a = algorithm_plan a (λ defs main. give (of_text (template_text main)))
 
+-- what is accepted and probably not meant, in definitions, and in the text of an architecture beside them
+abbrev pub lint_of_algorithm : Defs → Bytes
+lint_of_algorithm defs = findings_text (algorithm_findings defs.defs)
+
+abbrev pub lint_of_both : Defs → Bytes → Described → Bytes
+lint_of_both defs text d = lint_of_algorithm defs ++ findings_text (architecture_findings defs.defs text d)
+
+-- after an algorithm, with an architecture beside it where one is named
+abbrev pub lint_behind : Option Bytes → Defs → Vertex → Asks
+lint_behind None defs main = give (of_text (lint_of_algorithm defs))
+lint_behind (Some h) defs main =
+    read_file Architecture h (λ text. architecture_in text main (λ d t. give (of_text (lint_of_both defs text d))))
+
+abbrev pub lint_plan : Bytes → Option Bytes → Asks
+lint_plan a h = algorithm_plan a (lint_behind h)
+
 -- what the actuators take, as a picture, where it is within its bound
 abbrev pub plotted : Vertex → Reactions → Asks
 plotted main rows =
@@ -73,6 +102,7 @@ plan_for help = give (of_text help_text)
 plan_for (schedule subject a h effort) = schedule_plan subject a h effort
 plan_for (graph a) = graph_plan a
 plan_for (table a) = template_plan a
+plan_for (lint a h) = lint_plan a h
 plan_for (plot a s) = plot_plan a s
 plan_for (dates form a h g n effort) = dates_plan form a h g n effort
 

@@ -5,6 +5,7 @@ use Rattle.syn_base.specs.Bytes.{Bytes}
 use Rattle.syn_base.specs.Rows.{Reactions}
 use Rattle.outside.specs.Shelf.{Held}
 use Rattle.outside.specs.Sink.{Sunk}
+use Rattle.outside.specs.declared.file.File.{File}
 use Rattle.outside.specs.declared.file.File.TheVariants.{Durations}
 use Rattle.algo_defs.specs.declared.definition.Defs.{Defs}
 use Rattle.algo_text.specs.Text.{definitions_of}
@@ -22,8 +23,8 @@ use Rattle.command_plan.specs.Run.{Makes, WasRead, was_read}
 use Rattle.command_plan.proofs.Makes.{after_ok, gave, memory}
 use Rattle.command_status.specs.Status.{Refusal, ending_of, of_algorithm, of_architecture, of_sensors}
 use Rattle.command_status.specs.declared.status.Status.{Status}
-use Rattle.top_plans.specs.Plans.{algorithm_plan, architecture_plan, read_file, table_plan}
-use Rattle.compiler.specs.Compiles.{described}
+use Rattle.top_plans.specs.Plans.{algorithm_plan, architecture_in, architecture_plan, read_file, table_plan}
+use Rattle.compiler.specs.Compiles.{IsCompilation, described}
 use Rattle.compiler.specs.Reads.{ReadsAlgorithm, ReadsCompilation, ReadsTable}
 use Rattle.compiler.specs.declared.stages.Algorithm.{Algorithm}
 use Rattle.compiler.specs.declared.stages.Compilation.{Compilation}
@@ -58,6 +59,17 @@ went_on name a b c algorithm next result (text, read, is) (made, m, h) = (
       (after_ok b c of_algorithm (elaboration_of algorithm.defs) (next algorithm.defs) made algorithm.tree is.resolves m)),
   h,
 )
+
+-- a compilation was made of a text, and then the plan went on with it
+pub compiled_in : {A : Type 0} (main : Vertex) (text : Bytes) (held : Held) (compilation : Compilation) (next : Described → Table → Asks) (result : Result (Vec ℕ A) Status)
+    → IsCompilation main text compilation → Carries (next (described compilation.text) compilation.durations) held held result → Carries (architecture_in text main next) held held result
+compiled_in main text held compilation next result is (made, m, h) =
+    let d = described compilation.text in (
+      made,
+      after_ok held held of_architecture (description_of text) (λ d. after of_architecture (durations_of (flat_of main) d) (next d)) made d is.says
+          (after_ok held held of_architecture (durations_of (flat_of main) d) (next d) made compilation.durations is.lasts m),
+      h,
+    )
 
 -- a compilation was made from a file, and then the plan went on with it
 pub compiled_on : {A : Type 0} (main : Vertex) (name : Bytes) (a b c : Held) (compilation : Compilation) (next : Described → Table → Asks) (result : Result (Vec ℕ A) Status)
@@ -100,10 +112,10 @@ no_schedule = record { decisions = [] }
 abbrev pub dates_behind : Form → Bytes → ℕ → Effort → Vertex → Described → Table → Asks
 dates_behind form g n effort main d t = read_file Durations g (λ text. give (of_dates form (problem main d t effort) text n))
 
--- a text of durations was read, and then the plan went on with it
-pub read_on : {A : Type 0} (name : Bytes) (a b : Held) (bytes : Bytes) (next : Bytes → Asks) (result : Result (Vec ℕ A) Status)
-    → WasRead Durations name a b bytes → Carries (next bytes) b b result → Carries (read_file Durations name next) a b result
-read_on name a b bytes next result read (made, m, h) = (made, was_read b bytes read m, h)
+-- a file was read, and then the plan went on with its text
+pub read_on : {A : Type 0} (file : File) (name : Bytes) (a b : Held) (bytes : Bytes) (next : Bytes → Asks) (result : Result (Vec ℕ A) Status)
+    → WasRead file name a b bytes → Carries (next bytes) b b result → Carries (read_file file name next) a b result
+read_on file name a b bytes next result read (made, m, h) = (made, was_read b bytes read m, h)
 
 -- nothing was read, whatever the words are
 pub unread_so : (command : Option Command) (held : Held) → LeavesUnread command held held

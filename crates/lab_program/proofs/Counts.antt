@@ -89,7 +89,8 @@ by_name : (name a : Bytes) (v : Values) → AreCounted (command_for name a v)
 by_name name a v =
     either AreCounted (bytes_eq name (codes "graph")) _ _ tt
     (either AreCounted (bytes_eq name (codes "table")) _ _ tt
-    (either AreCounted (bytes_eq name (codes "plot")) _ _ (of_plot a v.sensors) (with_some _ (λ h. on_board name a h v) v.architecture)))
+    (either AreCounted (bytes_eq name (codes "lint")) _ _ tt
+    (either AreCounted (bytes_eq name (codes "plot")) _ _ (of_plot a v.sensors) (with_some _ (λ h. on_board name a h v) v.architecture))))
 
 by_found : (found : Bytes × List Row) → AreCounted (command_in found)
 by_found (name, rows) = either AreCounted (is_help name) _ _ tt (with_some _ (λ a. by_name name a (values_of rows)) (values_of rows).algorithm)

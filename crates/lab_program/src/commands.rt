@@ -12,6 +12,7 @@ ghost use Rattle.lab_program.specs.Texts.{Carries, Written};
 pub mod dates;
 pub mod graph;
 pub mod help;
+pub mod lint;
 pub mod plot;
 pub mod scheduled;
 pub mod table;
@@ -19,6 +20,7 @@ pub mod table;
 use crate::commands::dates::{Extent, dates_text};
 use crate::commands::graph::graph_text;
 use crate::commands::help::list_text;
+use crate::commands::lint::lint_text;
 use crate::commands::plot::plot_text;
 use crate::commands::scheduled::schedule_text;
 use crate::commands::table::table_text;
@@ -64,6 +66,10 @@ fn command_text<S: Shelf>(
         } => schedule_text(alloc, shelf, algorithm, architecture, *subject, *effort),
         Command::Graph { algorithm } => graph_text(alloc, shelf, algorithm),
         Command::Table { algorithm } => table_text(alloc, shelf, algorithm),
+        Command::Lint {
+            algorithm,
+            architecture,
+        } => lint_text(alloc, shelf, algorithm, *architecture),
         Command::Plot { algorithm, sensors } => plot_text(alloc, shelf, algorithm, sensors),
         Command::Dates {
             form,

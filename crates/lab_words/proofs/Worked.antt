@@ -1,7 +1,7 @@
 -- Worked commands, by what is found in the words.
 use Rattle.std.proofs.Common.{◌≡◌, Some, None, refl}
 use Rattle.std.specs.Prelude.{codes}
-use Rattle.lab_words.specs.Command.{Effort, Values, chart, trace, report, drawn, traced, help, schedule, graph, table, plot, dates, command_by}
+use Rattle.lab_words.specs.Command.{Effort, Values, chart, trace, report, drawn, traced, help, schedule, graph, table, lint, plot, dates, command_by}
 
 abbrev nothing : Values
 nothing = record {
@@ -70,9 +70,15 @@ traced_dates = refl
 half_traced : command_by (codes "trace") (record on_a_board { durations = Some (codes "G") }) ≡ None
 half_traced = refl
 
--- what takes no architecture
+-- what takes no architecture, or one if it is there
 a_table : command_by (codes "table") (record nothing { algorithm = Some (codes "A") }) ≡ Some (table (codes "A"))
 a_table = refl
+
+a_lint : command_by (codes "lint") (record nothing { algorithm = Some (codes "A") }) ≡ Some (lint (codes "A") None)
+a_lint = refl
+
+a_lint_of_both : command_by (codes "lint") on_a_board ≡ Some (lint (codes "A") (Some (codes "H")))
+a_lint_of_both = refl
 
 -- help, by both of its names
 helped : command_by (codes "help") nothing ≡ Some help

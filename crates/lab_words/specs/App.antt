@@ -4,7 +4,7 @@ use Rattle.clap.specs.Walk.{Rule}
 use Rattle.clap.specs.Simple.{App, new_app, new_rule, with_rule, with_subcommand, on_top}
 use Rattle.syn_base.specs.Bytes.{Bytes}
 use Rattle.lab_words.specs.declared.app.Takes.{Takes}
-use Rattle.lab_words.specs.declared.app.Takes.TheVariants.{Help, Graph, Plot, Schedule, Trace, Dates}
+use Rattle.lab_words.specs.declared.app.Takes.TheVariants.{Help, Graph, Lint, Plot, Schedule, Trace, Dates}
 
 -- a plain argument, which has to be there
 abbrev pub needed : Bytes → Rule
@@ -28,6 +28,9 @@ algorithm_app name = with_rule (new_app name) (needed (codes "algorithm"))
 abbrev pub architecture_app : Bytes → App
 architecture_app name = with_rule (algorithm_app name) (needed (codes "architecture"))
 
+abbrev pub lint_app : Bytes → App
+lint_app name = with_rule (algorithm_app name) (optional (codes "architecture"))
+
 abbrev pub plot_app : Bytes → App
 plot_app name = with_rule (algorithm_app name) (needed (codes "sensors"))
 
@@ -47,6 +50,7 @@ dates_app name =
 abbrev pub word_app : Takes → Bytes → App
 word_app Help name = new_app name
 word_app Graph name = algorithm_app name
+word_app Lint name = lint_app name
 word_app Plot name = plot_app name
 word_app Schedule name = schedule_app name
 word_app Trace name = trace_app name
@@ -67,5 +71,5 @@ abbrev pub the_app : App
 the_app = with_commands bare_app (
     (codes "help", Help) ∷ (codes "--help", Help) ∷ (codes "chart", Schedule) ∷ (codes "trace", Trace)
     ∷ (codes "flat", Schedule) ∷ (codes "code", Schedule) ∷ (codes "report", Schedule) ∷ (codes "graph", Graph)
-    ∷ (codes "table", Graph) ∷ (codes "plot", Plot)
+    ∷ (codes "table", Graph) ∷ (codes "lint", Lint) ∷ (codes "plot", Plot)
     ∷ (codes "dates", Dates) ∷ [])

@@ -40,6 +40,8 @@ pub data Command : Type 0 where
   schedule : Subject → Bytes → Bytes → Effort → Command
   -- of the algorithm: its definitions as a graph, and the sensor table that it wants
   graph table : Bytes → Command
+  -- what is accepted and probably not meant, in the algorithm and in an architecture beside it
+  lint : Bytes → Option Bytes → Command
   -- the algorithm and the sensor table
   plot : Bytes → Bytes → Command
   -- the algorithm, the architecture, the actual durations, and the number of reactions
@@ -134,6 +136,7 @@ abbrev pub command_for : Bytes → Bytes → Values → Option Command
 command_for name a v =
     if bytes_eq name (codes "graph") then Some (graph a) else
     if bytes_eq name (codes "table") then Some (table a) else
+    if bytes_eq name (codes "lint") then Some (lint a v.architecture) else
     if bytes_eq name (codes "plot") then option_map (plot a) v.sensors else
     placed_given name a v
 

@@ -28,6 +28,7 @@ abbrev pub text_lines : List Bytes
 text_lines =
     codes "  graph ALGORITHM                        the definitions, for Graphviz (DOT)"
     ∷ codes "  table ALGORITHM                        the sensor table that it wants, with a reaction of zeros"
+    ∷ codes "  lint ALGORITHM [ARCHITECTURE]          what is accepted and probably not meant, with lines"
     ∷ codes "  plot ALGORITHM SENSORS                 what the actuators take, as a picture (SVG)"
     ∷ codes "  help                                   this list" ∷ []
 

@@ -8,6 +8,7 @@ use Rattle.lab_words.specs.declared.commands.Command.TheVariants.{
   Schedule,
   Graph,
   Table,
+  Lint,
   Plot,
   Dates,
 }
@@ -36,6 +37,7 @@ view_of Help = table.help
 view_of (Schedule subject a h effort) = table.schedule (subject_view subject) a.now h.now (effort_view effort)
 view_of (Graph a) = table.graph a.now
 view_of (Table a) = table.table a.now
+view_of (Lint a h) = table.lint a.now (option_map (λ t. t.now) h)
 view_of (Plot a s) = table.plot a.now s.now
 view_of (Dates form a h g n effort) = table.dates (form_view form) a.now h.now g.now n (effort_view effort)
 

@@ -7,6 +7,7 @@ ghost use Rattle.lab_words.specs.App.{
   architecture_app,
   bare_app,
   dates_app,
+  lint_app,
   needed,
   option,
   optional,
@@ -29,6 +30,8 @@ enum Takes {
     Help,
     /// The algorithm.
     Graph,
+    /// The algorithm, and the architecture if it is there.
+    Lint,
     /// The algorithm and the sensor table.
     Plot,
     /// The algorithm and the architecture, and options of the search.
@@ -109,6 +112,15 @@ fn architecture<'a>(alloc: Global, name: &'a str) -> Result<Command<'a>, AllocEr
     with_needed(alloc, command, "architecture")
 }
 
+/// A command that takes the algorithm, and the architecture if it is there.
+fn lint<'a>(alloc: Global, name: &'a str) -> Result<Command<'a>, AllocError>
+    ensures app { IfOk result (λ c. app_of c ≡ lint_app name.entry.now) }
+    ensures local { IfOk result (λ c. (fields_of c).has_globals ≡ false) }
+{
+    let command = algorithm(alloc, name)?;
+    with_optional(alloc, command, "architecture")
+}
+
 /// A command that takes the algorithm and the sensor table.
 fn plot<'a>(alloc: Global, name: &'a str) -> Result<Command<'a>, AllocError>
     ensures app { IfOk result (λ c. app_of c ≡ plot_app name.entry.now) }
@@ -157,6 +169,7 @@ fn taking<'a>(alloc: Global, name: &'a str, takes: Takes) -> Result<Command<'a>,
     match takes {
         Takes::Help => Ok(Command::new(alloc, name)),
         Takes::Graph => algorithm(alloc, name),
+        Takes::Lint => lint(alloc, name),
         Takes::Plot => plot(alloc, name),
         Takes::Schedule => schedule(alloc, name),
         Takes::Trace => trace(alloc, name),
@@ -219,6 +232,7 @@ pub fn command<'a>(alloc: Global) -> Result<Command<'a>, AllocError>
             ("report", Takes::Schedule),
             ("graph", Takes::Graph),
             ("table", Takes::Graph),
+            ("lint", Takes::Lint),
             ("plot", Takes::Plot),
             ("dates", Takes::Dates),
         ],

@@ -54,6 +54,11 @@ pub enum Command<'a> {
     Table {
         algorithm: &'a str,
     },
+    /// `lint A [H]`: what is accepted and probably not meant in a text, and in that of an architecture beside it.
+    Lint {
+        algorithm: &'a str,
+        architecture: Option<&'a str>,
+    },
     /// `plot A S`: what the actuators take, as a picture.
     Plot {
         algorithm: &'a str,

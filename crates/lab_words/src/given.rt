@@ -156,6 +156,12 @@ fn command_for<'a>(name: &str, algorithm: &'a str, values: &Values<'a>) -> Optio
         Some(Command::Graph { algorithm })
     } else if name == "table" {
         Some(Command::Table { algorithm })
+    } else if name == "lint" {
+        let architecture = values.architecture;
+        Some(Command::Lint {
+            algorithm,
+            architecture,
+        })
     } else if name == "plot" {
         plot(algorithm, values.sensors)
     } else {

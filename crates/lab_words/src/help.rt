@@ -26,6 +26,7 @@ pub fn help_text(alloc: Global) -> Result<Vec<u8>, OutOfMemory>
             "                                         the same as a trace (JSON)",
             "  graph ALGORITHM                        the definitions, for Graphviz (DOT)",
             "  table ALGORITHM                        the sensor table that it wants, with a reaction of zeros",
+            "  lint ALGORITHM [ARCHITECTURE]          what is accepted and probably not meant, with lines",
             "  plot ALGORITHM SENSORS                 what the actuators take, as a picture (SVG)",
             "  help                                   this list",
             "",

@@ -2,6 +2,7 @@ use Rattle.std.proofs.Common.{◌≡◌, subst, sym}
 use Rattle.std.specs.Prelude.{Ok}
 use Rattle.std.proofs.lemmas.Result.{err_from_is_err_and}
 use Rattle.syn_base.specs.Bytes.{Bytes}
+use Rattle.outside.specs.declared.file.File.TheVariants.{Durations}
 use Rattle.algo_defs.specs.declared.definition.Defs.{Defs}
 use Rattle.algo_tree.specs.Tree.{Vertex}
 use Rattle.durations.specs.Table.{durations_of}
@@ -80,7 +81,7 @@ returns-clause-carries g c =
     (λ (defs : Defs) (main : Vertex). architecture_plan c.args.architecture.now main (dates_behind form c.args.durations.now n effort main)) result c.in_ok-algorithm.ensures.reads
     (compiled_on algorithm.tree c.args.architecture.now (H c.read_algorithm.new.shelf) (H c.read_architecture.new.shelf) held given
     (dates_behind form c.args.durations.now n effort algorithm.tree) result c.in_ok-compilation.ensures.reads
-    (read_on c.args.durations.now (H c.read_architecture.new.shelf) held text _ result c.in_ok-text.ensures.read
+    (read_on Durations c.args.durations.now (H c.read_architecture.new.shelf) held text _ result c.in_ok-text.ensures.read
     (subst (λ (f : Graph). Carries (give (of_dates form (record { graph = f; archi = given.text.archi; table = given.durations; effort = effort }) text n)) held held result) c.in_ok-compilation.ensures.reads.2.flattens
     (found_so (of_dates form (problem_of given effort) text n) held result
     (subst (λ (b : Bytes). GivesOfFound (of_dates form (problem_of given effort) b n) result) c.deref.ensures.value c.dates_of_found.ensures)))))
