@@ -36,6 +36,7 @@ pub fn find_schedule(
     let tried = schedule_search::Effort {
         tries: effort.tries,
         seed: u64::from(effort.seed),
+        goal: schedule_search::Goal::Length,
     };
     search(alloc, flat, archi, &compilation.durations, tried)
 }

@@ -23,4 +23,4 @@ mod stands;
 mod tables;
 
 pub use proposal::propose;
-pub use site::{Effort, Site, Stand};
+pub use site::{Effort, Goal, Site, Stand};

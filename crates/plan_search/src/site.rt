@@ -15,11 +15,21 @@ pub struct Site<'a> {
     pub routes: &'a Routes,
 }
 
-/// How long to search: so many plans are tried, by the chances of a seed.
+/// What is to become short.
+#[derive(Clone, Copy, Debug, PartialEq, Eq)]
+pub enum Goal {
+    /// The time from the start of a reaction to its end.
+    Length,
+    /// The time from one reaction to the next, where each operation and each transfer starts as soon as it may.
+    Period,
+}
+
+/// How long to search, and for what: so many plans are tried, by the chances of a seed.
 #[derive(Clone, Copy, Debug, PartialEq, Eq)]
 pub struct Effort {
     pub tries: u32,
     pub seed: u64,
+    pub goal: Goal,
 }
 
 /// An operation on an operator. A plan is a list of these, in the order in which they are placed.

@@ -12,5 +12,5 @@ mod seeking;
 mod shorter;
 
 pub use laws::drafts_are_valid;
-pub use plan_search::Effort;
+pub use plan_search::{Effort, Goal};
 pub use seeking::search;
