@@ -59,7 +59,7 @@ returns-clause-carries g c =
     let text = c.in_ok-text.text.items in
     let given = c.in_ok-compilation.compilation in
     let is = subst (λ (t : Bytes). IsCompilation main t given) c.deref.ensures.value c.in_ok-compilation.ensures in
-    let same = c.in_ok-print_both.ensures ∙ ap (λ (t : Bytes). lint_of_both defs t (described given.text)) c.deref.ensures.value in
+    let same = c.in_ok-print_both.ensures ∙ ap (λ (t : Bytes). lint_of_both defs t (described given.text)) c.deref-2.ensures.value in
     read_on Architecture c.args.name.now (H c.args.shelf.now) held text
     (λ (text : Bytes). architecture_in text main (λ (d : Described) (t : Table). give (of_text (lint_of_both defs text d)))) _ c.in_ok-text.ensures.read
     (compiled_in main text held given (λ (d : Described) (t : Table). give (of_text (lint_of_both defs text d))) _ is

@@ -15,7 +15,7 @@ returns-in_err-print_algorithm-in-None-clause-carries g c =
     let p = err_from_is_err_and c.from_residual.result c.from_residual.ensures.1 in
     rw (p.1, p.2, c.in-None.is) (wanted _ (g.S.Shelf.held c.args.shelf.now) _ refl)
 
-pub returns-clause-carries : goal.returns-clause-carries
-returns-clause-carries g c =
+pub returns-in_ok-print_algorithm-in-None-clause-carries : goal.returns-in_ok-print_algorithm-in-None-clause-carries
+returns-in_ok-print_algorithm-in-None-clause-carries g c =
     rw c.in-None.is
     (Ok (of_text (lint_of_algorithm c.args.algorithm.now.defs)), gave (g.S.Shelf.held c.args.shelf.now) _ _ refl, (no_schedule, tt, c.in_ok-print_algorithm-in-None.ensures))
