@@ -2,7 +2,7 @@
 """Times `syndex chart`, or with the word `code` `syndex code`, over 512, 1,024 and 2,048 operations on 1, 4 and 16
 operators: a chain of functions, functions that all read one sensor, and functions that all read the same 32 values at 64
 inputs. The operators stand in a ring or at one bus. Then over four texts most of whose operations have something carried for them,
-on 16 operators. A plain program (`bench/plain/code.c`, built here by `cc -O2`) does the
+on 16 operators, and `code` over one that has too many transfers and is refused. A plain program (`bench/plain/code.c`, built here by `cc -O2`) does the
 same, and has to write the same bytes where `syndex` meets no limit. Prints the status, the seconds of the processor, the
 ratio to the plain program's, and the ratio to those of half as many operations."""
 import os
@@ -12,7 +12,7 @@ import sys
 import tempfile
 
 from program import built_program, written, TOP
-from shapes import carrying
+from shapes import all_across, carrying
 
 PROGRAM = built_program()
 SIZES = (512, 1024, 2048)
@@ -129,6 +129,10 @@ def main():
                         before = compared(plain, [algorithm, archi], command, what, before)
         for what, (algorithm, archi) in carrying().items():
             compared(plain, [written(room, "a", algorithm), written(room, "h", archi)], command, what, None)
+        algorithm, archi = all_across()
+        for other in ("chart", "code"):
+            took, status, _ = seconds([PROGRAM, other, written(room, "a", algorithm), written(room, "h", archi)])
+            print(f"{other}, 126,978 transfers over a bus: status {status}, {took:.3f} s", flush=True)
 
 
 if __name__ == "__main__":

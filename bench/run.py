@@ -22,7 +22,7 @@ import time
 import shapes
 from flat import algorithm as chain
 from program import built_program, written, TOP
-from shapes import lanes, operators_for, table
+from shapes import delays, first_of_many, lanes, operators_for, table
 
 PROGRAM = built_program()
 RUNS = 5

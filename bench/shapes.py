@@ -267,6 +267,30 @@ def sixteen(fixed, per, ring, durations):
     return "\n".join(lines + [""])
 
 
+def passing_all(name):
+    """A function of 64 inputs that gives each of them."""
+    ins = "".join(f"in x{k} 1\n" for k in range(64))
+    outs = "".join(f"out y{k} 1 = x{k}[0]\n" for k in range(64))
+    return f"function {name}\n{ins}{outs}end\n"
+
+
+def all_across(operators=16):
+    """2,016 functions in a chain that read 64 values each and stand on two operators in turn, and an architecture in which these
+    two and others stand at one bus: 126,978 transfers, far more than a program may have words for."""
+    count, wide = 63, range(64)
+    ends = [("x{}", "f0.x{}"), *((f"f{i}.y{{}}", f"f{i + 1}.x{{}}") for i in range(count - 1)), (f"f{count - 1}.y{{}}", "z{}")]
+    part = "graph P\n" + "".join(f"in x{k} 1\n" for k in wide) + "".join(f"out z{k} 1\n" for k in wide)
+    part += "".join(f"ref f{i} {'FG'[i % 2]}\n" for i in range(count))
+    part += "".join(f"edge {a.format(k)} {b.format(k)}\n" for a, b in ends for k in wide) + "end\n"
+    main = "graph main\nref s S\n" + "".join(f"ref g{g} P\n" for g in range(32))
+    main += "".join(f"edge s.o g0.x{k}\n" for k in wide)
+    main += "".join(f"edge g{g}.z{k} g{g + 1}.x{k}\n" for g in range(31) for k in wide) + "end\n"
+    archi = "architecture 1\n" + "".join(f"operator o{k}\n" for k in range(operators)) + "medium bus multi 1 1\n"
+    archi += "".join(f"connect bus o{k}\n" for k in range(operators))
+    archi += "duration S o0 1\nduration F o0 1\nduration G o1 1\n"
+    return HEAD + "sensor S 1\n" + passing_all("F") + passing_all("G") + part + main, archi
+
+
 def carrying():
     """By name, algorithms most of whose operations have something carried for them, with their architectures."""
     falling = [(f"F{j}", 100 - j) for j in range(63)]

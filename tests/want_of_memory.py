@@ -6,20 +6,28 @@ Then each start of a thread fails in turn, and then all of them: the answer has 
 other threads drive all groups. Prints a line a command with the number of its calls; ends with status 1 where
 an answer is wrong, or where no call for memory or no start of a thread was seen.
 
+    tests/want_of_memory.py [PROGRAM] [--jobs N] [--only WORD]
+
+Of the runs N are made side by side, one where it is left out. With --only it tries the commands whose line has
+this word.
+
 The program is the one that ./build makes. A small library in C, compiled with `cc` and loaded before the C
 library, lets the Nth call of a kind fail: `malloc`, `calloc`, `realloc`, `aligned_alloc`, `posix_memalign`
 and `mmap` ask for memory, `pthread_create` starts a thread. What the C library asks of itself is not seen. The
 unproved program of `./build --quick` has an allocator of its own: over it no call for memory is seen, and the
 script ends with status 1."""
+import argparse
+import concurrent.futures
 import os
 import subprocess
 import sys
 import tempfile
+import threading
 
 from plain.script import Script
 
 TOP = os.path.dirname(os.path.dirname(os.path.abspath(__file__)))
-PROGRAM = sys.argv[1] if sys.argv[1:] else f"{TOP}/crates/syndex/out/syndex"
+PROGRAM = f"{TOP}/crates/syndex/out/syndex"
 WANT = (9, b"out of memory\n")
 WINDOW = 256
 LIBRARY = r"""
@@ -193,20 +201,26 @@ def rows(room):
 class Runs:
     """Runs of the program with the library in front."""
 
-    def __init__(self, room):
-        self.library, self.count = f"{room}/failing.so", f"{room}/calls"
+    def __init__(self, room, jobs):
+        self.room, self.library = room, f"{room}/failing.so"
+        self.pool = concurrent.futures.ThreadPoolExecutor(jobs)
         with open(f"{room}/failing.c", "w", encoding="utf-8") as it:
             it.write(LIBRARY)
         subprocess.run(["cc", "-O1", "-shared", "-fPIC", "-o", self.library, f"{room}/failing.c", "-ldl"], check=True)
 
     def answer(self, words, failing=0, start=0):
         """The status, the output and the line of a run in which these calls fail, and how many it made of each kind."""
-        env = {**os.environ, "LD_PRELOAD": self.library, "CALLS_FILE": self.count}
+        count = f"{self.room}/calls-{threading.get_ident()}"
+        env = {**os.environ, "LD_PRELOAD": self.library, "CALLS_FILE": count}
         env.update(FAILING_CALL=str(failing), FAILING_START=str(start))
         done = subprocess.run([PROGRAM, *words], capture_output=True, env=env, stdin=subprocess.DEVNULL, check=False)
-        with open(self.count, encoding="ascii") as it:
+        with open(count, encoding="ascii") as it:
             calls, starts = map(int, it.read().split())
         return (done.returncode, done.stdout, done.stderr), calls, starts
+
+    def where_each_fails(self, words, calls):
+        """The answer where the first call for memory fails, where the second one does, and so on."""
+        return self.pool.map(lambda number: self.answer(words, failing=number)[0], range(1, calls + 1))
 
 
 def windows(words, output):
@@ -239,8 +253,7 @@ def tried(runs, words):
     and how many threads it started."""
     right, calls, starts = runs.answer(words)
     wants = wrong = 0
-    for number in range(1, calls + 1):
-        got = runs.answer(words, failing=number)[0]
+    for number, got in enumerate(runs.where_each_fails(words, calls), start=1):
         wanted = is_want(words, got, right)
         wants += wanted
         if got != right and not wanted:
@@ -256,11 +269,23 @@ def tried(runs, words):
     return wrong, calls, starts
 
 
+def options():
+    """The program, how many runs are made side by side, and which commands are tried."""
+    made = argparse.ArgumentParser(description=__doc__, formatter_class=argparse.RawDescriptionHelpFormatter)
+    made.add_argument("program", nargs="?", default=PROGRAM)
+    made.add_argument("--jobs", type=int, default=1)
+    made.add_argument("--only", default="")
+    return made.parse_args()
+
+
 def main():
+    global PROGRAM
+    given = options()
+    PROGRAM = given.program
     wrong = calls = threads = 0
     with tempfile.TemporaryDirectory() as room:
-        runs = Runs(room)
-        for words in [*commands(room), *rows(room)]:
+        runs = Runs(room, given.jobs)
+        for words in [it for it in [*commands(room), *rows(room)] if given.only in shown(it)]:
             bad, asked, starts = tried(runs, words)
             wrong, calls, threads = wrong + bad, calls + asked, threads + starts
     print(f"{wrong} wrong answers, {calls} calls for memory, {threads} starts of threads")
