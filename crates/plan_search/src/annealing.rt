@@ -1,8 +1,9 @@
-//! Threshold accepting: random changes of a plan, of which those are kept that make it shorter, and those
-//! that make it longer by less than a threshold, which falls to nothing.
-use crate::dates::Dates;
+//! Threshold accepting: random changes of a plan, of which those are kept by which it costs less, and those
+//! by which it costs more by less than a threshold, which falls to nothing.
+use crate::chain::Chain;
+use crate::judge::Judge;
 use crate::moves::change;
-use crate::numbers::{NOBODY, number_at, put_number};
+use crate::numbers::NOBODY;
 use crate::plan::Plan;
 use crate::random::Chances;
 use crate::tables::Tables;
@@ -20,27 +21,25 @@ const ROUNDS: u32 = 8;
 pub(crate) struct Annealing {
     current: Plan,
     trial: Plan,
-    /// The length of the current plan.
-    length: u64,
-    /// The chain of operations that fixes this length, the last one first.
-    chain: Vec<u32>,
-    /// How many of the chain's places are used.
-    links: u32,
+    /// What the current plan costs.
+    cost: u64,
+    /// The chain of operations that fixes this cost.
+    chain: Chain,
 }
 
-/// The best plan so far, with its length.
+/// The best plan so far, with what it costs.
 #[derive(Drop)]
 pub(crate) struct Best {
     pub plan: Plan,
-    pub length: u64,
+    pub cost: u64,
 }
 
 impl Best {
-    /// Notes a plan that is shorter than the best one.
-    pub fn note(&mut self, plan: &Plan, length: u64) {
-        if length < self.length {
+    /// Notes a plan that costs less than the best one.
+    pub fn note(&mut self, plan: &Plan, cost: u64) {
+        if cost < self.cost {
             self.plan.copy(plan);
-            self.length = length;
+            self.cost = cost;
         }
     }
 }
@@ -50,58 +49,42 @@ impl Annealing {
     pub fn new(alloc: Global, operations: usize) -> Result<Annealing, OutOfMemory> {
         let current = Plan::new(alloc, operations)?;
         let trial = Plan::new(alloc, operations)?;
-        let chain = vec![in alloc; NOBODY; operations]?;
+        let chain = Chain::new(alloc, operations)?;
         Ok(Annealing {
             current,
             trial,
-            length: u64::MAX,
+            cost: u64::MAX,
             chain,
-            links: 0,
         })
     }
 
     /// Begins again from a plan.
-    fn begin(&mut self, tables: &Tables, dates: &mut Dates, plan: &Plan) {
+    fn begin(&mut self, tables: &Tables, judge: &mut Judge, plan: &Plan) {
         self.trial.copy(plan);
-        let length = dates.follow(tables, &self.trial);
-        self.accept(dates, length);
+        let cost = judge.cost(tables, &self.trial);
+        self.accept(judge, cost);
     }
 
     /// The trial becomes the current plan.
-    fn accept(&mut self, dates: &Dates, length: u64) {
+    fn accept(&mut self, judge: &Judge, cost: u64) {
         self.current.copy(&self.trial);
-        self.length = length;
-        self.find_chain(dates);
+        self.cost = cost;
+        judge.find_chain(&self.current, &mut self.chain);
     }
 
-    /// Finds the chain of operations that fixes the length: the one that ends last, then each that made the
-    /// one before it start so late.
-    fn find_chain(&mut self, dates: &Dates) {
-        let mut op = last_to_end(dates, self.current.order.as_slice());
-        self.links = 0;
-        for _link in 0..self.chain.len() {
-            if op == NOBODY {
-                return;
-            }
-            put_number(self.chain.as_mut_slice(), self.links, op);
-            self.links = self.links.saturating_add(1);
-            op = dates.cause(op);
-        }
-    }
-
-    /// Tries one change: it is kept where the plan becomes longer by at most the threshold.
+    /// Tries one change: it is kept where the plan costs more by at most the threshold.
     fn step(
         &mut self,
         tables: &Tables,
-        dates: &mut Dates,
+        judge: &mut Judge,
         chances: &mut Chances,
         threshold: u32,
         best: &mut Best,
     ) {
         self.trial.copy(&self.current);
         let link = self.link(chances);
-        let op = number_at(self.chain.as_slice(), link);
-        let cause = number_at(self.chain.as_slice(), link.saturating_add(1));
+        let op = self.chain.op(link);
+        let cause = self.chain.op(link.saturating_add(1));
         let any = chances.holds(30) || op == NOBODY;
         let op = if any {
             chances.below(tables.operations)
@@ -110,35 +93,24 @@ impl Annealing {
         };
         let cause = if any { NOBODY } else { cause };
         if change(tables, &mut self.trial, chances, op, cause) {
-            let length = dates.follow(tables, &self.trial);
-            if length <= self.allowed(chances, threshold) {
-                self.accept(dates, length);
-                best.note(&self.current, length);
+            let cost = judge.cost(tables, &self.trial);
+            if cost <= self.allowed(chances, threshold) {
+                self.accept(judge, cost);
+                best.note(&self.current, cost);
             }
         }
     }
 
     /// A place of the chain.
     fn link(&self, chances: &mut Chances) -> u32 {
-        chances.below(self.links)
+        chances.below(self.chain.links)
     }
 
-    /// The greatest length that is accepted, by chance.
+    /// The greatest cost that is accepted, by chance.
     fn allowed(&self, chances: &mut Chances, threshold: u32) -> u64 {
         let more = chances.below(threshold.saturating_add(1));
-        self.length.saturating_add(u64::from(more))
+        self.cost.saturating_add(u64::from(more))
     }
-}
-
-/// The operation that ends last, or `NOBODY`.
-fn last_to_end(dates: &Dates, order: &[u32]) -> u32 {
-    let mut last = NOBODY;
-    for op in order {
-        if dates.end(*op) == dates.length {
-            last = *op;
-        }
-    }
-    last
 }
 
 /// This many tries from the best plan, in rounds, each of which begins from the best plan so far.
@@ -146,7 +118,7 @@ pub(crate) fn anneal(
     tables: &Tables,
     tries: u32,
     annealing: &mut Annealing,
-    dates: &mut Dates,
+    judge: &mut Judge,
     chances: &mut Chances,
     best: &mut Best,
 ) {
@@ -155,18 +127,18 @@ pub(crate) fn anneal(
     for number in 0..tries {
         let done = number % span;
         if done == 0 {
-            annealing.begin(tables, dates, &best.plan);
+            annealing.begin(tables, judge, &best.plan);
         }
-        let threshold = threshold(best.length, tables.operations, span - done, span);
-        annealing.step(tables, dates, chances, threshold, best);
+        let threshold = threshold(best.cost, tables.operations, span - done, span);
+        annealing.step(tables, judge, chances, threshold, best);
     }
 }
 
-/// The threshold where this many tries of a round are left: at first the length over the number of
+/// The threshold where this many tries of a round are left: at first the cost over the number of
 /// operations, then less by the square of what is left.
-fn threshold(length: u64, operations: u32, left: u32, span: u32) -> u32 {
+fn threshold(cost: u64, operations: u32, left: u32, span: u32) -> u32 {
     let step = u64::from(left).saturating_mul(STEPS) / u64::from(span.max(1));
-    let part = length / u64::from(operations.max(1));
+    let part = cost / u64::from(operations.max(1));
     let now = part.saturating_mul(step).saturating_mul(step) / (STEPS * STEPS);
     u32::try_from(now).unwrap_or(NOBODY)
 }

@@ -62,7 +62,7 @@ fn put_sources(
 }
 
 /// The operator, or the first one on which the operation may stand.
-fn beside(tables: &Tables, op: u32, operator: u32) -> u32 {
+pub(crate) fn beside(tables: &Tables, op: u32, operator: u32) -> u32 {
     if tables.stands.may_stand(op, operator) {
         return operator;
     }

@@ -27,6 +27,15 @@ impl Lists {
         &[]
     }
 
+    /// How many items all lists have.
+    pub fn total(&self) -> usize {
+        let mut total = 0usize;
+        for list in &self.lists {
+            total = total.saturating_add(list.len());
+        }
+        total
+    }
+
     /// Adds an item at the end of the list of a number, unless it is there.
     pub fn add(&mut self, number: u32, item: u32) -> Result<(), OutOfMemory> {
         let place = number as usize;

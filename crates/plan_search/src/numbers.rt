@@ -44,6 +44,13 @@ pub(crate) fn put_dates(dates: &mut [u64], date: u64) {
     }
 }
 
+/// Writes the same number at each place.
+pub(crate) fn put_numbers(numbers: &mut [u32], number: u32) {
+    for it in numbers.iter_mut() {
+        *it = number;
+    }
+}
+
 /// Copies numbers over as many others.
 pub(crate) fn copy_numbers(numbers: &mut [u32], others: &[u32]) {
     if numbers.len() == others.len() {

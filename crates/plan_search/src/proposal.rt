@@ -1,12 +1,13 @@
 //! The proposal: a plan that the search has found. Nothing is said of it, since a draft makes its schedule
 //! and refuses what cannot be placed.
 use crate::annealing::{Annealing, Best, anneal};
-use crate::dates::Dates;
+use crate::judge::Judge;
 use crate::listing::{bit, list};
+use crate::pipelines::try_pipelines;
 use crate::plan::Plan;
 use crate::random::Chances;
 use crate::ranks::by_rank;
-use crate::site::{Effort, Site, Stand};
+use crate::site::{Effort, Goal, Site, Stand};
 use crate::tables::Tables;
 use archi_graph::Medium;
 use std::alloc::Global;
@@ -15,13 +16,17 @@ use syn_base::OutOfMemory;
 /// How many quarters of the mean time of what is carried count in ranks.
 const QUARTERS: [u64; 3] = [0, 4, 8];
 
-/// A plan that is likely short: of the lists and of the changes of the best of them.
+/// A plan that likely costs little by the goal: of the lists, where the period is to become short of the
+/// pipelines too, and of the changes of the best of them.
 pub fn propose(site: &Site, start: &[Stand], effort: Effort) -> Result<Vec<Stand>, OutOfMemory> {
     let tables = Tables::new(site)?;
     let operators = groups(site.alloc, site.archi.media(), tables.stands.operators())?;
-    let mut dates = Dates::new(site.alloc, &tables)?;
-    let mut best = first(site.alloc, &tables, start, &mut dates)?;
-    let lists = try_lists(site.alloc, &tables, &operators, &mut dates, &mut best)?;
+    let mut judge = Judge::new(site.alloc, &tables, effort.goal, site.archi.depth())?;
+    let mut best = first(site.alloc, &tables, start, &mut judge)?;
+    let lists = try_lists(site.alloc, &tables, &operators, &mut judge, &mut best)?;
+    if let Goal::Period = effort.goal {
+        try_pipelines(site.alloc, &tables, &mut judge, &mut best)?;
+    }
     let mut annealing = Annealing::new(site.alloc, tables.operations as usize)?;
     let mut chances = Chances::new(effort.seed);
     let tries = effort.tries.saturating_sub(lists);
@@ -29,7 +34,7 @@ pub fn propose(site: &Site, start: &[Stand], effort: Effort) -> Result<Vec<Stand
         &tables,
         tries,
         &mut annealing,
-        &mut dates,
+        &mut judge,
         &mut chances,
         &mut best,
     );
@@ -41,12 +46,12 @@ fn first(
     alloc: Global,
     tables: &Tables,
     start: &[Stand],
-    dates: &mut Dates,
+    judge: &mut Judge,
 ) -> Result<Best, OutOfMemory> {
     let mut plan = Plan::new(alloc, tables.operations as usize)?;
     plan.follow(start);
-    let length = dates.follow(tables, &plan);
-    Ok(Best { plan, length })
+    let cost = judge.cost(tables, &plan);
+    Ok(Best { plan, cost })
 }
 
 /// The groups of operators, as bits, on which lists are tried: all, each alone, and each two at the same
@@ -87,7 +92,7 @@ fn try_lists(
     alloc: Global,
     tables: &Tables,
     groups: &[u32],
-    dates: &mut Dates,
+    judge: &mut Judge,
     best: &mut Best,
 ) -> Result<u32, OutOfMemory> {
     let mut plan = Plan::new(alloc, tables.operations as usize)?;
@@ -96,7 +101,7 @@ fn try_lists(
     let mut count = 0u32;
     for quarters in QUARTERS {
         let ranked = by_rank(alloc, tables, order.order.as_slice(), quarters)?;
-        try_groups(tables, &ranked, groups, &mut plan, dates, best);
+        try_groups(tables, &ranked, groups, &mut plan, judge, best);
         count = count.saturating_add(1);
     }
     Ok(count)
@@ -108,11 +113,11 @@ fn try_groups(
     order: &[u32],
     groups: &[u32],
     plan: &mut Plan,
-    dates: &mut Dates,
+    judge: &mut Judge,
     best: &mut Best,
 ) {
     for group in groups {
-        let length = list(tables, order, *group, plan, dates);
-        best.note(plan, length);
+        list(tables, order, *group, plan, &mut judge.dates);
+        best.note(plan, judge.cost(tables, plan));
     }
 }

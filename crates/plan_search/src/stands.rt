@@ -98,6 +98,18 @@ impl Stands {
         if count == 0 { 0 } else { total / count }
     }
 
+    /// How long all operations that may stand on an operator last there together.
+    pub fn total_ticks(&self, operator: u32) -> u64 {
+        let mut total = 0u64;
+        let count = u32::try_from(self.twins.len()).unwrap_or(0);
+        for op in 0..count {
+            if self.may_stand(op, operator) {
+                total = total.saturating_add(self.ticks(op, operator));
+            }
+        }
+        total
+    }
+
     /// Whether an operation takes no time on any operator on which it may stand.
     pub fn is_instant(&self, op: u32) -> bool {
         (0..self.operators).all(|operator| {
