@@ -11,6 +11,8 @@ mod commands;
 #[cfg(test)]
 mod dates;
 #[cfg(test)]
+mod found;
+#[cfg(test)]
 mod meaning;
 #[cfg(test)]
 mod periods;

@@ -114,3 +114,72 @@ edge n.o f.y
 edge f.z a.i
 end
 ";
+
+/// A case of a delayed value, which stands between two functions.
+pub const DELAYED: &[u8] = b"algorithm 1
+sensor Sense 1
+actuator Act 1
+delay Kept = 0
+function Same
+in x 1
+out y 1 = x[0]
+end
+function Twice
+in x 1
+out y 1 = mul(2,x[0])
+end
+switch Pick
+on which
+in x 1
+out y 1
+case 0 Same
+otherwise Twice
+end
+graph main
+ref s Sense
+ref f Twice
+ref d Kept
+ref p Pick
+ref a Act
+edge s.o f.x
+edge f.y d.i
+edge d.o p.which
+edge d.o p.x
+edge p.y a.i
+end
+";
+
+/// Three operators in a row: the sensor stands on the first one, the actuator on the last one.
+pub const ROW: &[u8] = b"architecture 1
+operator P
+operator Q
+operator R
+medium near p2p 1 1
+medium far p2p 1 1
+connect near P
+connect near Q
+connect far Q
+connect far R
+duration Sense P 1
+duration Twice P 5
+duration Twice Q 5
+duration Twice R 5
+duration Same P 5
+duration Same Q 5
+duration Same R 5
+duration Act R 1
+";
+
+/// Two operators on a bus, whose buffers have two places; the sensor and the actuator stand apart.
+pub const TWO_PLACES: &[u8] = b"architecture 2
+depth 2
+operator P
+operator Q
+medium bus p2p 1 1
+connect bus P
+connect bus Q
+duration Sense P 1
+duration F P 10
+duration F Q 10
+duration Act Q 1
+";
