@@ -1,7 +1,7 @@
 use Rattle.schedule.specs.Acts.{acts}
 use Rattle.self_timed.specs.Told.{end_at}
 use Rattle.self_timed.proofs.Following.{SoFar}
-use Rattle.self_timed.proofs.compute.dates_of.Given as goal
+use Rattle.self_timed.proofs.compute.dates_with.Given as goal
 
 -- the reactions so far have their dates
 abbrev pub invariant-loop-ticks : goal.invariant-loop-ticks
