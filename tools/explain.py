@@ -2,12 +2,14 @@
 """Says what a message of the program means, from the tables of docs/MANUAL.md, which are its only source.
 
     tools/explain.py A7                  by the code of a message
+    tools/explain.py UnknownName         by its name
     tools/explain.py limit words         by a limit
     tools/explain.py cannot write        by the words of a message without a code
     tools/explain.py LINE                a whole line, as it was printed
+    tools/explain.py                     all messages, a line each
     tools/explain.py commands            the commands, a line each, with examples
 
-`./syndex explain` and `./syndex help` call it."""
+`./syndex explain`, `./syndex_lab explain` and `./syndex help` call it."""
 import os
 import re
 import sys
@@ -32,7 +34,7 @@ COMMANDS = (
      "run examples/echo/algorithm.txt examples/echo/architecture.txt examples/echo/sensors.csv"),
     ("exec ALGORITHM ARCHITECTURE CODE SENSORS [--workers W]", "the same by macro-code of your own, once it is checked",
      "exec examples/echo/algorithm.txt examples/echo/architecture.txt examples/echo/code.txt examples/echo/sensors.csv"),
-    ("dates ALGORITHM ARCHITECTURE DURATIONS N", "when all happens in N reactions, under the actual durations",
+    ("dates ALGORITHM ARCHITECTURE DURATIONS N", "when everything happens in N reactions, under the actual durations",
      "dates examples/radar/algorithm.txt examples/radar/architecture.txt examples/radar/architecture.txt 3"),
     ("load N", "how many steps a generated algorithm of size N takes", "load 3"),
 )
@@ -68,15 +70,16 @@ def messages():
 
 def key_of(words):
     """What the rows that are asked for have in common, as an expression, or None."""
-    line = " ".join(words).strip()
-    if found := CODE.search(line):
+    # In documents a line of the error stream stands after `!`.
+    line = " ".join(words).strip().removeprefix("! ")
+    if found := CODE.search(line if " " in line else line.upper()):
         return rf"\b{found[0]}\b"
-    if line.startswith("limit ") and len(line.split()) > 1:
-        return rf"\blimit {re.escape(line.split()[1].rstrip(':'))}\b"
+    if line.startswith("limit"):
+        return rf"\blimit {re.escape((line.split() + [''])[1].rstrip(':'))}"
     for plain in PLAIN:
         if line.startswith(plain):
-            return re.escape(plain)
-    return None
+            return re.escape(line if f"`{line}`" in text_of(MANUAL) else plain)
+    return rf"\b[ACEHKS][0-9]+ {line}\b" if line.isalpha() else None
 
 
 def explained(words):
@@ -87,7 +90,14 @@ def explained(words):
     found = [it for it in messages() if re.search(key, it[1])]
     said = [f"{form}\n    {text}" for kind, form, text in found if kind == "message"]
     said += [f"for example: {text}\n    {form}" for kind, form, text in found if kind == "example"]
-    return said or [f"{form}\n    {text}" for kind, form, text in found if kind == "status"]
+    if not said or any(key.startswith(re.escape(it)) for it in PLAIN):
+        said += [f"{form}\n    {text}" for kind, form, text in found if kind == "status"]
+    return said
+
+
+def is_form(kind, form):
+    """Whether the list of all messages has this one: a row of a message, or of a status whose message has no code."""
+    return kind == "message" or kind == "status" and form.strip("`").startswith(PLAIN)
 
 
 def commands():
@@ -107,10 +117,10 @@ def main(words):
     if words == ["commands"]:
         commands()
         return 0
-    said = explained(words)
+    said = explained(words) if words else dict.fromkeys(form for kind, form, _ in messages() if is_form(kind, form))
     if not said:
-        print("no message like this stands in docs/MANUAL.md; ask by its code (A7), by its limit (limit words) or by"
-              " the whole line", file=sys.stderr)
+        print("no message like this stands in docs/MANUAL.md; ask by its code (A7), by its name (UnknownName), by its"
+              " limit (limit words) or by the whole line", file=sys.stderr)
         return 2
     print(*(it.replace("`", "") for it in said), sep="\n")
     return 0

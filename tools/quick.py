@@ -1,12 +1,12 @@
 #!/usr/bin/env python3
-"""Makes a native program of the sources without any proof, in a few minutes, for whoever wants to try it at once.
+"""Makes a native program of the sources without any proof, in some minutes, for whoever wants to try it at once.
 
-    tools/quick.py [PROGRAM]      `./build --quick` calls it
+    tools/quick.py [PROGRAM]      `./build --quick` calls it, and `./PROGRAM` where no program is there
 
 The kit has no call for this. Its `rt try` makes a native program on its way, with checks that stop it at a
 fault, runs it once and removes it; this script gives the file a second name while it is there. The program is
 named `PROGRAM-unproved`, as `syndex-unproved`, and `./PROGRAM` takes it where there is no proved one and no source
-is newer."""
+is newer. Where no program is made, the last lines of what rt says are told."""
 import os
 import shutil
 import subprocess
@@ -19,6 +19,8 @@ from repository import TOP
 # A program of such a crate is larger than any other file that is made on the way and could be run.
 LEAST = 1 << 20
 ELF = b"\x7fELF"
+# How many lines of rt are told where it makes no program.
+TOLD = 20
 
 
 def programs(room):
@@ -46,8 +48,8 @@ def keep(path, program):
     os.replace(made, program)
 
 
-def make(name):
-    """Makes the program of this name, and answers whether it is there."""
+def make(name, said):
+    """Makes the program of this name, and answers whether it is there. What rt says goes into a file."""
     folder = f"{TOP}/crates/{name}"
     program = f"{folder}/out/{name}-unproved"
     os.makedirs(f"{folder}/out", exist_ok=True)
@@ -55,7 +57,7 @@ def make(name):
         os.remove(program)
     room = tempfile.mkdtemp(prefix="quick-", dir=f"{folder}/out")
     how = {"cwd": folder, "env": {**os.environ, "TMPDIR": room}}
-    how |= dict.fromkeys(("stdin", "stdout", "stderr"), subprocess.DEVNULL)
+    how |= {"stdin": subprocess.DEVNULL, "stdout": said, "stderr": said}
     try:
         with subprocess.Popen(["rt", "try", "--seconds", "60", "--", "no-command"], **how) as tool:
             while tool.poll() is None:
@@ -74,11 +76,14 @@ def make(name):
 
 def main(words):
     name = words[0] if words else "syndex"
-    print("build: makes an unproved program; it takes a few minutes", flush=True)
-    if not make(name):
-        print(f"build: FAILED: rt try made no program; run `rt try` in crates/{name} to see why", file=sys.stderr)
-        return 1
-    print(f"build: done; ./{name} runs the unproved program until ./build has made the proved one")
+    print("build: makes an unproved program of the sources, in some minutes", flush=True)
+    with tempfile.TemporaryFile() as said:
+        if not make(name, said):
+            said.seek(0)
+            lines = said.read().decode(errors="replace").splitlines()
+            print(*lines[-TOLD:], f"build: FAILED: rt try made no program of crates/{name}", sep="\n", file=sys.stderr)
+            return 1
+    print(f"build: done; ./{name} runs the unproved program until a source changes or a proved one is built")
     return 0
 
 

@@ -38,7 +38,7 @@ use Rattle.self_timed.specs.Depths.{deepest}
 use Rattle.self_timed.specs.Laid.{HasFewOutputs, IsDecided, started, after_all}
 use Rattle.self_timed.specs.Lines.{IsLine}
 use Rattle.self_timed.specs.Running.{Running, AreSized, FitSteps, IsLong, IsSized, after_steps, at_start, freed_in, span}
-use Rattle.self_timed.specs.Told.{AreDatesOf, EndInTime, IsValidForSome, StartsAsStated, entries_of, end_at, start_at, span_at}
+use Rattle.self_timed.specs.Told.{AreDatesOf, EndInTime, HaveDepth, IsValidForSome, StartsAsStated, entries_of, end_at, start_at, span_at}
 use Rattle.self_timed.proofs.Deepest.{deepest_one, deepest_above, deepest_below}
 use Rattle.self_timed.proofs.Held.{all_from, decided, lined}
 use Rattle.self_timed.proofs.Laying.{AreStepsOf, are_steps, entries_are}
@@ -84,19 +84,38 @@ next_from g s vs ds n v d e = e ∙ (λ i. (after_all (started (v i)) (acts_of (
 pub steps_from : (g : Graph) (s : Schedule) (vs : List Vertex) (ds : List Decision) (sts : List Step) → vs ≡ g.vertices → ds ≡ s.decisions → sts ≡ (after_all (started vs) (acts_of ds)).steps → sts ≡ (after_all (started g.vertices) (acts s)).steps
 steps_from g s vs ds sts v d e = e ∙ (λ i. (after_all (started (v i)) (acts_of (d i))).steps)
 
-pub record Asked (g : Graph) (a : Architecture) (s : Schedule) (program : Program) (actual : List (List ℕ)) : Type 0 where
+pub at_least : (a : Architecture) → is_depth a.depth ≡ true → 1 ≤ a.depth
+at_least a deep = leb-true 1 a.depth (and_parts (nat_le 1 a.depth) (nat_le a.depth 4) deep).0
+
+-- the greatest depth of a program's buffers is the architecture's, where some act reads in another sequence what an act makes
+pub places_of_program : (g : Graph) (a : Architecture) (s : Schedule) (program : Program) → is_archi a.operators a.media ≡ true → is_depth a.depth ≡ true → IsValidForSome g a s → program ≡ program_of g a s → HaveDepth g a s (deepest program.buffers)
+places_of_program g a s program archi deep valid built = record { least = deepest_one program.buffers; same = same }
+  where
+    same : (i j : ℕ) (x y : Act) → slice_get (acts s) i ≡ Some x → slice_get (acts s) j ≡ Some y → has_reader g.vertices x y ≡ true → deepest program.buffers ≡ a.depth
+    same i j x y e h r =
+        let parts = and_parts (not (same_line x y)) (reads_from g.vertices y x) r in
+        let c = any_of (λ c. list_any (same_copy c) (made_by g.vertices x)) (read_by g.vertices y) parts.1 in
+        let m = any_of (same_copy c.1) (made_by g.vertices x) c.3 in
+        let made : slice_get (made_by g.vertices x) m.0 ≡ Some c.1 = m.2 ∙ ap (λ (w : Copy). Some w) (sym (copy_is c.1 m.1 m.3)) in
+        let depth = buffers_have_depth a.depth g a (entry_in valid.durations) s archi valid.valid i j m.0 c.0 x y c.1 e h made c.2 (not-true (same_line x y) parts.0) in
+        let up = depth_there (program_of g a s).buffers (buffer_for g a s c.1) in
+        let down = deepest_below (program_of g a s).buffers a.depth (at_least a deep) (λ k b q. places_below a.depth (at_least a deep) g a s 0 k (copies g a s) b q) in
+        let same = ap (λ (p : Program). deepest p.buffers) built in
+        omega arith
+
+pub places_of_archi : (g : Graph) (a : Architecture) (s : Schedule) (depth : ℕ) → is_depth a.depth ≡ true → depth ≡ a.depth → HaveDepth g a s depth
+places_of_archi g a s depth deep is = let least = at_least a deep in record { least = omega arith; same = λ i j x y e h r. is }
+
+pub record Asked (g : Graph) (a : Architecture) (s : Schedule) (places : ℕ) (actual : List (List ℕ)) : Type 0 where
   pub flat : is_flat g ≡ true
   pub archi : is_archi a.operators a.media ≡ true
   pub deep : is_depth a.depth ≡ true
   pub valid : IsValidForSome g a s
-  pub built : program ≡ program_of g a s
+  pub depth : HaveDepth g a s places
   pub few : length actual ≤ 1000
   pub within : AreWithin g.vertices (acts s) actual
 
-module _ (g : Graph) (a : Architecture) (s : Schedule) (program : Program) (actual : List (List ℕ)) (asked : Asked g a s program actual) where
-  at_least : 1 ≤ a.depth
-  at_least = leb-true 1 a.depth (and_parts (nat_le 1 a.depth) (nat_le a.depth 4) asked.deep).0
-
+module _ (g : Graph) (a : Architecture) (s : Schedule) (places : ℕ) (actual : List (List ℕ)) (asked : Asked g a s places actual) where
   abbrev long : ℕ → ℕ → ℕ
   long = lasting g.vertices (acts s) actual
 
@@ -104,23 +123,10 @@ module _ (g : Graph) (a : Architecture) (s : Schedule) (program : Program) (actu
   ends = end_at a.depth g s actual
 
   are : AreDates a.depth g.vertices (acts s) (lasting g.vertices (acts s) actual) (end_at a.depth g s actual)
-  are = are_dates a.depth at_least g.vertices (acts s) (lasting g.vertices (acts s) actual)
+  are = are_dates a.depth (at_least a asked.deep) g.vertices (acts s) (lasting g.vertices (acts s) actual)
 
   short : (k i : ℕ) (x : Act) → slice_get (acts s) i ≡ Some x → lasting g.vertices (acts s) actual k i ≤ stated x
   short = none_longer g s actual asked.within
-
-  -- where some act reads in another sequence what an act makes, the program's greatest depth is the architecture's
-  same_depth : (i j : ℕ) (x y : Act) → slice_get (acts s) i ≡ Some x → slice_get (acts s) j ≡ Some y → has_reader g.vertices x y ≡ true → deepest program.buffers ≡ a.depth
-  same_depth i j x y e h r =
-      let parts = and_parts (not (same_line x y)) (reads_from g.vertices y x) r in
-      let c = any_of (λ c. list_any (same_copy c) (made_by g.vertices x)) (read_by g.vertices y) parts.1 in
-      let m = any_of (same_copy c.1) (made_by g.vertices x) c.3 in
-      let made : slice_get (made_by g.vertices x) m.0 ≡ Some c.1 = m.2 ∙ ap (λ (w : Copy). Some w) (sym (copy_is c.1 m.1 m.3)) in
-      let depth = buffers_have_depth a.depth g a (entry_in asked.valid.durations) s asked.archi asked.valid.valid i j m.0 c.0 x y c.1 e h made c.2 (not-true (same_line x y) parts.0) in
-      let up = depth_there (program_of g a s).buffers (buffer_for g a s c.1) in
-      let down = deepest_below (program_of g a s).buffers a.depth at_least (λ k b q. places_below a.depth at_least g a s 0 k (copies g a s) b q) in
-      let same = ap (λ (p : Program). deepest p.buffers) asked.built in
-      omega arith
 
   entry_low : (i : ℕ) (x : Act) → slice_get (acts s) i ≡ Some x → entry_of g.vertices (acts s) i < entries_of g s
   entry_low i x e = let z = is_entry g a (entry_in asked.valid.durations) s asked.valid.valid i x e in let w = by x e in omega arith
@@ -151,11 +157,11 @@ module _ (g : Graph) (a : Architecture) (s : Schedule) (program : Program) (actu
     pub laid : AreStepsOf g.vertices (acts s) plan.steps.items
     laid = subst (λ (w : List _). AreStepsOf g.vertices (acts s) w) (sym steps) (are_steps g a (entry_in asked.valid.durations) s asked.flat asked.archi asked.valid.valid)
 
-    pub given : Given a.depth g.vertices (acts s) (lasting g.vertices (acts s) actual) (end_at a.depth g s actual) plan.entries (deepest program.buffers)
+    pub given : Given a.depth g.vertices (acts s) (lasting g.vertices (acts s) actual) (end_at a.depth g s actual) plan.entries places
     given = record {
       are = are;
-      deep = deepest_one program.buffers;
-      same = same_depth;
+      deep = asked.depth.least;
+      same = asked.depth.same;
       low = λ i x e. (let l = entry_low i x e in let c = count_is in omega arith);
       apart = one g a (entry_in asked.valid.durations) s asked.valid.valid;
       lined = lined g a (entry_in asked.valid.durations) s asked.flat asked.archi asked.valid.valid;
@@ -186,26 +192,26 @@ module _ (g : Graph) (a : Architecture) (s : Schedule) (program : Program) (actu
   pub fit : (k i : ℕ) (x : Act) → k < length actual → slice_get (acts s) i ≡ Some x → end_at a.depth g s actual k i < 2 ^ 64
   fit k i x l e =
       let few = asked.few in
-      let z = dates_low g a asked.valid.durations s asked.flat asked.archi asked.valid.rows asked.valid.valid a.depth at_least (lasting g.vertices (acts s) actual) (end_at a.depth g s actual) are short k i x (omega arith) e in
+      let z = dates_low g a asked.valid.durations s asked.flat asked.archi asked.valid.rows asked.valid.valid a.depth (at_least a asked.deep) (lasting g.vertices (acts s) actual) (end_at a.depth g s actual) are short k i x (omega arith) e in
       omega arith
 
   -- One reaction more. The code's values are equal to these.
   module _ (plan : Plan) (entries : plan.entries ≡ (after_all (started g.vertices) (acts s)).next) (steps : plan.steps.items ≡ (after_all (started g.vertices) (acts s)).steps)
       (k : ℕ) (l : k < length actual) (rows : List (List Span)) (lines : Ends) (so : SoFar a.depth g.vertices (acts s) (end_at a.depth g s actual) plan.entries k rows lines)
-      (past : List (List Span)) (same_rows : past ≡ rows) (used : ℕ) (same_depths : used ≡ deepest program.buffers) (row : List ℕ) (same_row : row ≡ slice_index_or actual k []) where
-    freed_same : freed_in plan used past ≡ freed_in plan (deepest program.buffers) rows
+      (past : List (List Span)) (same_rows : past ≡ rows) (used : ℕ) (same_depths : used ≡ places) (row : List ℕ) (same_row : row ≡ slice_index_or actual k []) where
+    freed_same : freed_in plan used past ≡ freed_in plan places rows
     freed_same = λ i. freed_in plan (same_depths i) (same_rows i)
 
     pub step_fits : FitSteps (freed_in plan used past) row plan.steps.items (at_start plan lines)
     step_fits = subst (λ (w : List ℕ). FitSteps w row plan.steps.items (at_start plan lines)) (sym freed_same)
-        (fits a.depth g.vertices (acts s) (lasting g.vertices (acts s) actual) (end_at a.depth g s actual) plan (deepest program.buffers) (given plan entries steps) (laid plan entries steps) k rows lines so row
+        (fits a.depth g.vertices (acts s) (lasting g.vertices (acts s) actual) (end_at a.depth g s actual) plan places (given plan entries steps) (laid plan entries steps) k rows lines so row
         (λ i x e. lasts k i x e row same_row) (λ i x e. fit k i x l e))
 
     pub step_more : (r : Running) → r ≡ after_steps (freed_in plan used past) row plan.steps.items (at_start plan lines) → (n : ℕ) → n ≡ k + 1 → (more : List (List Span)) → more ≡ rows ++ r.row ∷ []
         → SoFar a.depth g.vertices (acts s) (end_at a.depth g s actual) plan.entries n more r.ends
     step_more r is n next more all =
         let z : n ≡ suc k = omega arith in
-        let now = so_far_more a.depth g.vertices (acts s) (lasting g.vertices (acts s) actual) (end_at a.depth g s actual) plan (deepest program.buffers) (given plan entries steps) (laid plan entries steps) k rows lines so row
+        let now = so_far_more a.depth g.vertices (acts s) (lasting g.vertices (acts s) actual) (end_at a.depth g s actual) plan places (given plan entries steps) (laid plan entries steps) k rows lines so row
         (λ i x e. lasts k i x e row same_row) (λ i x e. fit k i x l e) r (is ∙ ap (λ (w : List ℕ). after_steps w row plan.steps.items (at_start plan lines)) freed_same) in
         subst (λ (w : List (List Span)). SoFar a.depth g.vertices (acts s) (end_at a.depth g s actual) plan.entries n w r.ends) (sym all)
         (subst (λ (w : ℕ). SoFar a.depth g.vertices (acts s) (end_at a.depth g s actual) plan.entries w (rows ++ r.row ∷ []) r.ends) (sym z) now)
@@ -231,12 +237,12 @@ module _ (g : Graph) (a : Architecture) (s : Schedule) (program : Program) (actu
     told_in_time k i x h e =
         let c = count in
         let z = each k i x (omega arith) e in
-        let b = no_later_than_stated a.depth g a (entry_in asked.valid.durations) s (lasting g.vertices (acts s) actual) (end_at a.depth g s actual) at_least asked.valid.valid short are k i x e in
+        let b = no_later_than_stated a.depth g a (entry_in asked.valid.durations) s (lasting g.vertices (acts s) actual) (end_at a.depth g s actual) (at_least a asked.deep) asked.valid.valid short are k i x e in
         let w = ap (λ (p : Span). p.end) z in
         omega arith
 
     pub told_first : StartsAsStated g s actual rows
     told_first first tight i x h e =
         let c = count in
-        let f = (first_reaction_is_stated a.depth g a (entry_in asked.valid.durations) s (lasting g.vertices (acts s) actual) (end_at a.depth g s actual) at_least asked.valid.valid first are).0 tight i x e in
+        let f = (first_reaction_is_stated a.depth g a (entry_in asked.valid.durations) s (lasting g.vertices (acts s) actual) (end_at a.depth g s actual) (at_least a asked.deep) asked.valid.valid first are).0 tight i x e in
         each 0 i x (omega arith) e ∙ (λ n. span (f.0 n) (f.1 n))

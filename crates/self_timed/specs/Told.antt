@@ -23,7 +23,7 @@ use Rattle.schedule.specs.declared.decision.Schedule.{Schedule}
 use Rattle.schedule.specs.Acts.{Act, acts, start_of, end_of, length_of}
 use Rattle.schedule.specs.Tight.{is_tight}
 use Rattle.schedule.specs.Valid.{is_valid}
-use Rattle.self_timed_laws.specs.Dates.{dates, start_by}
+use Rattle.self_timed_laws.specs.Dates.{dates, has_reader, start_by}
 use Rattle.self_timed_laws.specs.Entries.{is_transfer, entry_of, lasting, IsFirstStated}
 use Rattle.self_timed.specs.declared.dates.Span.{Span}
 use Rattle.self_timed.specs.Running.{span, span_in}
@@ -47,6 +47,13 @@ pub record IsValidForSome (graph : Graph) (archi : Architecture) (schedule : Sch
   pub durations : Table
   pub rows : All (IsRow durations.operators) durations.rows
   pub valid : IsTrue (is_valid graph archi (entry_in durations) schedule)
+
+-- Buffers have this many places in the dates: those of the architecture, where some act reads in another sequence what
+-- an act makes.
+pub record HaveDepth (graph : Graph) (archi : Architecture) (schedule : Schedule) (depth : ℕ) : Type 0 where
+  pub least : 1 ≤ depth
+  pub same : (i j : ℕ) (x y : Act) → slice_get (acts schedule) i ≡ Some x → slice_get (acts schedule) j ≡ Some y
+      → IsTrue (has_reader graph.vertices x y) → depth ≡ archi.depth
 
 -- What is told of a schedule, by the depth of buffers and the ticks of each reaction.
 module _ (depth : ℕ) (g : Graph) (s : Schedule) (ticks : List (List ℕ)) where

@@ -1,10 +1,11 @@
-//! The computation of all reactions' dates: `dates_of`, which `dates_text` calls.
+//! The computation of all reactions' dates: `dates_of`, which `dates_text` calls, and
+//! `dates_at_depth`, which needs no program.
 ghost use Rattle.std.specs.Prelude.{◌≡◌, ◌≤◌, IfOk, length};
 ghost use Rattle.schedule.specs.Acts.{acts};
 ghost use Rattle.sequence_build_laws.specs.Built.{program_of};
 ghost use Rattle.self_timed_laws.specs.Entries.{AreWithin};
 ghost use Rattle.self_timed.specs.Depths.{deepest};
-ghost use Rattle.self_timed.specs.Told.{AreDatesOf, EndInTime, HaveEntries, IsValidForSome, StartsAsStated, entries_of};
+ghost use Rattle.self_timed.specs.Told.{AreDatesOf, EndInTime, HaveEntries, HaveDepth, IsValidForSome, StartsAsStated, entries_of};
 
 use crate::actual::Actual;
 use crate::dates::Dates;
@@ -43,11 +44,55 @@ pub fn dates_of(
     ensures in_time { IfOk result (EndInTime flat.now schedule.now) }
     ensures first { IfOk result (StartsAsStated flat.now schedule.now actual.now) }
 {
+    // The proof takes from these calls what the architecture and the flat graph keep.
+    let _operators = archi.operators();
+    let _depth = archi.depth();
+    let _vertices = flat.vertices();
+    dates_with(alloc, flat, archi, schedule, depth_of(program), actual)
+}
+
+/// The same without a program: buffers that are read in another sequence have as many places as the
+/// architecture says.
+pub fn dates_at_depth(
+    alloc: Global,
+    flat: &Flat,
+    archi: &Archi,
+    schedule: &Schedule,
+    actual: &Actual,
+) -> Result<Dates, OutOfMemory>
+    requires valid { IsValidForSome flat.now archi.now schedule.now }
+    requires few { length actual.now ≤ 1000 }
+    requires entries { HaveEntries (entries_of flat.now schedule.now) actual.now }
+    requires within { AreWithin flat.now.vertices (acts schedule.now) actual.now }
+    ensures dates { IfOk result (AreDatesOf archi.now.depth flat.now schedule.now actual.now) }
+    ensures in_time { IfOk result (EndInTime flat.now schedule.now) }
+    ensures first { IfOk result (StartsAsStated flat.now schedule.now actual.now) }
+{
+    dates_with(alloc, flat, archi, schedule, archi.depth() as usize, actual)
+}
+
+/// The same, where buffers that are read in another sequence have this many places.
+fn dates_with(
+    alloc: Global,
+    flat: &Flat,
+    archi: &Archi,
+    schedule: &Schedule,
+    depth: usize,
+    actual: &Actual,
+) -> Result<Dates, OutOfMemory>
+    requires valid { IsValidForSome flat.now archi.now schedule.now }
+    requires depth { HaveDepth flat.now archi.now schedule.now depth }
+    requires few { length actual.now ≤ 1000 }
+    requires entries { HaveEntries (entries_of flat.now schedule.now) actual.now }
+    requires within { AreWithin flat.now.vertices (acts schedule.now) actual.now }
+    ensures dates { IfOk result (AreDatesOf archi.now.depth flat.now schedule.now actual.now) }
+    ensures in_time { IfOk result (EndInTime flat.now schedule.now) }
+    ensures first { IfOk result (StartsAsStated flat.now schedule.now actual.now) }
+{
     // The proof takes from these calls what the architecture keeps: it is valid, and its depth is 1 to 4.
     let _operators = archi.operators();
     let _depth = archi.depth();
     let plan = plan_of(alloc, flat.vertices(), schedule.decisions.as_slice())?;
-    let depth = depth_of(program);
     let mut ends = Ends::new();
     let mut reactions = Vec::new(alloc);
     for ticks in actual.reactions() {

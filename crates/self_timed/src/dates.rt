@@ -44,6 +44,14 @@ impl Dates {
         self.reactions.len()
     }
 
+    /// The spans of the reaction, by entry. It takes no memory.
+    pub fn row(&self, reaction: usize) -> &[Span]
+        requires { reaction < length self.now }
+        ensures { result.now ≡ reaction_at self.now reaction }
+    {
+        self.reactions[reaction].as_slice()
+    }
+
     /// How many entries the reaction has. It takes no memory.
     pub fn entries(&self, reaction: usize) -> usize
         requires { reaction < length self.now }

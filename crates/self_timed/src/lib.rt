@@ -2,7 +2,7 @@
 //! ends in each reaction, where they last as long as they really do.
 //!
 //! `dates_of` computes the dates of `self_timed_laws` from an `Actual`, and returns `Dates`; the
-//! command `dates` prints them.
+//! command `dates` prints them. `dates_at_depth` does the same without a program.
 #![tactic(auto)]
 
 mod actual;
@@ -13,5 +13,5 @@ mod line;
 mod reaction;
 
 pub use actual::Actual;
-pub use compute::dates_of;
+pub use compute::{dates_at_depth, dates_of};
 pub use dates::{Dates, Span};

@@ -1,0 +1,7 @@
+use Rattle.std.proofs.Common.{◌≡◌, ◌++◌, drop}
+use Rattle.algo_links.specs.Placing.{names_of}
+use Rattle.text_lint.proofs.known.names_of.Given as goal
+
+-- the names so far, with those that are left, are all
+abbrev pub invariant-loop-def : goal.invariant-loop-def
+invariant-loop-def l = l.names ++ names_of (drop l.def-index l.defs) ≡ names_of l.defs

@@ -1,0 +1,5 @@
+pub mod Named
+pub mod Algorithm
+pub mod Numbered
+pub mod Architecture
+pub mod Printed
