@@ -3,11 +3,11 @@
 
 The chart, its trace, the drawing of its operations and the plot are what a plain program makes of the listing, the
 chart and the rows (`plain/pictures.py`). Each picture is well-formed XML, each trace is JSON whose complete events do
-not overlap on a thread, and each graph is taken by Graphviz where `dot` is there. Without tries the schedule is the one
+not overlap on a thread, each table to be filled in has the columns of the sensor table, and each graph is taken by Graphviz where `dot` is there. Without tries the schedule is the one
 whose chart stands in the example: the same length, the same macro-code where the example has it, a bar and an event for
 each of its lines, and what its lanes are busy; with tries it is no longer. The pictures of the examples
 (`tools/draw.py`), and the answers to commands in documents, are what the program writes. The same words give the same
-bytes, and words that are no command end with `usage`.
+bytes, words that are no command end with `usage`, and `help` lists what the script lists.
 
     tests/lab.py [PROGRAM [TRIES]]      with the program that `./build --program syndex_lab` makes, and 200 tries
 """
@@ -32,7 +32,8 @@ USAGE = (
     ("chart", "A"), ("chart", "A", "H", "S"), ("charts", "A", "H"), ("chart", "A", "H", "--tries", "0"), ("chart", "A", "H", "--tries"),
     ("chart", "A", "H", "--tries", "1000001"), ("chart", "A", "H", "--tries", "5", "--tries", "5"), ("chart", "A", "H", "--seed", "x"),
     ("dates", "A", "H", "G"), ("dates", "A", "H", "G", "0"), ("dates", "A", "H", "G", "1001"), ("graph", "A", "--tries", "5"),
-    ("graph", "A", "H"), ("plot", "A"), ("plot", "A", "S", "--seed", "5"), ("--tries", "5", "chart", "A", "H"), ("help",), ("--help",), (),
+    ("graph", "A", "H"), ("plot", "A"), ("plot", "A", "S", "--seed", "5"), ("--tries", "5", "chart", "A", "H"), ("help", "chart"), ("chart", "--help"),
+    ("table",), ("table", "A", "H"), ("trace", "A", "H", "G"), ("trace", "A", "H", "G", "0"), ("trace", "A", "H", "G", "1001"), (),
 )
 
 
@@ -101,6 +102,14 @@ def check_trace(trace, acts):
         holds(all(a[1] <= b[0] for a, b in zip(spans, spans[1:])), "events of one thread overlap")
 
 
+def check_table(table, sensors):
+    """The table that an algorithm wants has the columns of the one that it has, in whichever order, and one row of zeros."""
+    header, *rows = table.splitlines()
+    wanted = sensors.splitlines()[0].split(",")
+    holds(sorted(header.split(",")) == sorted(wanted), "the columns of the table")
+    holds(rows == [",".join("0" for _ in wanted)], "one row of zeros")
+
+
 def check_graph(graph):
     """Graphviz takes it, where it is there."""
     if shutil.which("dot"):
@@ -154,6 +163,7 @@ def check_schedule(lab, folder, tries):
         loads = [line for line in report.splitlines() if line.startswith(("operator ", "medium "))]
         holds(length == chart.length and loads == list(chart.loads()), "the report's length and loads")
         check_trace(lab.text("trace", a, h), chart.acts)
+        check_trace(lab.text("trace", a, h, h, "3"), 3 * chart.acts)
         titles = lab.text("chart", a, h).count("<title>")
         holds(titles == chart.acts, f"{titles} titles for {chart.acts} acts")
         if os.path.exists(f"{folder}/flat.txt"):
@@ -177,6 +187,7 @@ def check_example(lab, folder, tries):
     else:
         length = None
     if os.path.exists(sensors):
+        check_table(lab.text("table", algorithm), text_of(sensors))
         check_graph(lab.text("graph", algorithm))
         picture = lab.text("plot", algorithm, sensors)
         ElementTree.fromstring(picture)
@@ -200,6 +211,9 @@ def check_words(lab):
     for words in USAGE:
         answer = lab.run(*words)
         holds(answer == (2, "", "usage\n"), f"{' '.join(words)}: {answer}")
+    told = subprocess.run([f"{TOP}/syndex_lab", "help"], capture_output=True, text=True, check=True).stdout
+    listed = lab.text("help")
+    holds(told.startswith(listed) and lab.text("--help") == listed, "the script lists other commands")
 
 
 def main(words):

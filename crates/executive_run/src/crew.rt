@@ -6,6 +6,7 @@ ghost use Rattle.executive_run.specs.Places.{ArePlaces, IsPlaceOf};
 ghost use Rattle.executive_run.specs.Prepared.{AreGroups, IsRoom};
 
 use crate::group::{Ask, Group};
+use crate::idling::Idling;
 use crate::place::Place;
 use crossbeam_utils::Backoff;
 use std::alloc::AllocError;
@@ -53,21 +54,20 @@ impl<'e, 'a, R, G> Crew<'e, 'a, R, G> {
 
 impl<'e, 'a, R: Wait, G: Ask> Crew<'e, 'a, R, G> {
     /// What the worker of this number does: it drives groups until all are finished, or until it is not needed.
-    /// Where it makes no step it waits a while. A step does not begin the waiting anew: where there are more
-    /// workers than processors, each soon yields at once when it cannot go on, and one that can is not kept
-    /// waiting by others that spin.
+    /// Where it makes no step it waits.
     pub fn work(self, worker: usize) {
         self.at_work.fetch_add(1, Ordering::SeqCst);
-        let backoff = Backoff::new();
+        let mut idling = Idling::new();
         'rounds: for _ in self.rt.forever() {
             if self.unfinished.load(Ordering::SeqCst) == 0 {
                 return;
             }
-            if self.round(worker) == 0 {
-                if self.leaves() {
-                    return;
-                }
-                backoff.snooze();
+            if self.round(worker) > 0 {
+                idling.end();
+            } else if self.leaves() {
+                return;
+            } else {
+                idling.wait(self.rt, self.unfinished);
             }
         }
         unreachable!()
@@ -97,9 +97,16 @@ impl<'e, 'a, R: Wait, G: Ask> Crew<'e, 'a, R, G> {
         let is_finished = progress.waiting == 0;
         place.put_back(self.rt, group, is_finished);
         if is_finished {
-            self.unfinished.fetch_sub(1, Ordering::SeqCst);
+            self.count_finished();
         }
         progress.steps
+    }
+
+    /// Counts one group less that is not finished. After the last one, workers that sleep are woken.
+    fn count_finished(&self) {
+        if self.unfinished.fetch_sub(1, Ordering::SeqCst) == 1 {
+            self.unfinished.wake_all();
+        }
     }
 
     /// The place of the group of this number.

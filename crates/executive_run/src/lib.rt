@@ -14,6 +14,7 @@ mod alone;
 mod busy;
 mod crew;
 mod group;
+mod idling;
 mod place;
 mod progress;
 mod ready;

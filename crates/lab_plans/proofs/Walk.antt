@@ -28,7 +28,7 @@ use Rattle.top_plans.proofs.ArchitectureRefusals as architectures
 use Rattle.top_plans.proofs.DurationRefusals as durations
 use Rattle.top_plans.proofs.TableRefusals as tables
 use Rattle.top_plans.proofs.Walk.{IsTold, told_above, told_algorithm, told_architecture, told_durations, told_sensors}
-use Rattle.lab_words.specs.Command.{Command, schedule, graph, plot, dates, chart, trace, flat, code, report}
+use Rattle.lab_words.specs.Command.{Command, Form, help, schedule, graph, table, plot, dates, chart, trace, flat, code, report}
 use Rattle.lab_plans.specs.Names.{names_for, names_of}
 use Rattle.lab_plans.specs.Asked.{Asked, Problem, of_text, of_schedule, of_dates}
 use Rattle.lab_plans.specs.Answers.{answer, dates_by, limit, within}
@@ -55,21 +55,23 @@ module _ (Q : Asks → Type 0) (refused : (r : Refusal) → IsTold r → Q (refu
       after_so of_architecture told_architecture (description_of text) (architectures.description_safe text) (λ d. after of_architecture (durations_of (flat_of main) d) (next d))
       (λ d. after_so of_architecture told_architecture (durations_of (flat_of main) d) (durations.durations_safe (flat_of main) d) (next d) (h d))
 
-  table_so : (main : Vertex) (table : Bytes) (next : Reactions → Asks) → ((rows : Reactions) → Q (next rows)) → Q (table_in main table next)
-  table_so main table next h =
-      after_so of_sensors told_sensors (rows_of main (records default_config (strip_bom table))) (tables.table_safe main (records default_config (strip_bom table))) next h
+  table_so : (main : Vertex) (text : Bytes) (next : Reactions → Asks) → ((rows : Reactions) → Q (next rows)) → Q (table_in main text next)
+  table_so main text next h =
+      after_so of_sensors told_sensors (rows_of main (records default_config (strip_bom text))) (tables.table_safe main (records default_config (strip_bom text))) next h
 
   abbrev Reads : (File → Option Bytes) → Type 0
   Reads names = (file : File) (name : Bytes) (next : Bytes → Asks) → names file ≡ Some name → ((bytes : Bytes) → Q (next bytes)) → Q (read_file file name next)
 
   -- the plan of each command
   pub walk : (command : Command) → Reads (names_for command) → ((asked : Asked) → Q (give asked)) → Q (plan_for command)
+  walk help reads gives = gives _
   walk (schedule subject a h effort) reads gives = reads Algorithm a _ refl (λ text. algorithm_so text _ (λ defs main.
       reads Architecture h _ refl (λ lines. architecture_so lines main _ (λ d t. gives _))))
   walk (graph a) reads gives = reads Algorithm a _ refl (λ text. algorithm_so text _ (λ defs main. gives _))
+  walk (table a) reads gives = reads Algorithm a _ refl (λ text. algorithm_so text _ (λ defs main. gives _))
   walk (plot a s) reads gives = reads Algorithm a _ refl (λ text. algorithm_so text _ (λ defs main.
-      reads Sensors s _ refl (λ table. table_so main table _ (λ rows. unless_within (excess _) _ (gives _)))))
-  walk (dates a h g n effort) reads gives = reads Algorithm a _ refl (λ text. algorithm_so text _ (λ defs main.
+      reads Sensors s _ refl (λ lines. table_so main lines _ (λ rows. unless_within (excess _) _ (gives _)))))
+  walk (dates form a h g n effort) reads gives = reads Algorithm a _ refl (λ text. algorithm_so text _ (λ defs main.
       reads Architecture h _ refl (λ lines. architecture_so lines main _ (λ d t. reads Durations g _ refl (λ bytes. gives _)))))
 
 -- each file is read under the name that the words give it
@@ -103,9 +105,9 @@ within_told : (o : Option LimitFault) (text : Bytes) (r : Refusal) → within o 
 within_told None text r e = absurd (no_stop text r e)
 within_told (Some fault) text r e = subst IsTold (same_stop (above fault) r e) (told_above fault)
 
-dates_told : (p : Problem) (n : ℕ) (s : Schedule) (ticks : Result (List ℕ) ActualError) → Only durations.Stays ticks → (r : Refusal) → dates_by p n s ticks ≡ Err r → IsTold r
-dates_told p n s (Ok ticks) only r e = within_told (limit p s) _ r e
-dates_told p n s (Err error) only r e = subst IsTold (same_stop (of_durations error) r e) (told_durations error only.error)
+dates_told : (form : Form) (p : Problem) (n : ℕ) (s : Schedule) (ticks : Result (List ℕ) ActualError) → Only durations.Stays ticks → (r : Refusal) → dates_by form p n s ticks ≡ Err r → IsTold r
+dates_told form p n s (Ok ticks) only r e = within_told (limit p s) _ r e
+dates_told form p n s (Err error) only r e = subst IsTold (same_stop (of_durations error) r e) (told_durations error only.error)
 
 -- what is answered of a schedule that was found is no refusal of another kind
 pub answer_told : (asked : Asked) (s : Schedule) (r : Refusal) → answer asked s ≡ Err r → IsTold r
@@ -115,8 +117,8 @@ answer_told (of_schedule trace p) s r e = absurd (no_stop _ r e)
 answer_told (of_schedule flat p) s r e = absurd (no_stop _ r e)
 answer_told (of_schedule code p) s r e = within_told (limit p s) _ r e
 answer_told (of_schedule report p) s r e = absurd (no_stop _ r e)
-answer_told (of_dates p text n) s r e =
-    dates_told p n s (actual_of p.graph p.archi p.table s text) (durations.actual_safe p.graph p.archi p.table s text) r e
+answer_told (of_dates form p text n) s r e =
+    dates_told form p n s (actual_of p.graph p.archi p.table s text) (durations.actual_safe p.graph p.archi p.table s text) r e
 
 pub no_answer_wants : NoAnswerWantsMemory
 no_answer_wants asked s r e = (answer_told asked s r e).no_want

@@ -1,6 +1,7 @@
 -- Plans over worked texts, and what is answered of the pressure run.
 use Rattle.std.proofs.Common.{◌≡◌, ℕ, refl, List, [], ◌∷◌, ◌++◌, length, Option, Some, None, Result, Ok, Err, codes}
 use Rattle.std.specs.Fmt.{digits}
+use Rattle.csv.specs.Writing.{fields_text, is_blank}
 use Rattle.syn_base.specs.Bytes.{Bytes}
 use Rattle.outside.specs.Bytes.{named}
 use Rattle.archi_defs.specs.declared.fault.ArchiCause.TheVariants as archi_cause
@@ -8,7 +9,8 @@ use Rattle.actual_defs.specs.declared.fault.ActualFault.TheVariants.{Longer}
 use Rattle.command_plan.specs.Plan.{outcome}
 use Rattle.command_status.specs.Status.{Refusal, bad_architecture, bad_durations, usage}
 use Rattle.top_plans.specs.Plans.{schedule_of}
-use Rattle.lab_words.specs.Command.{Command, Effort, code, report, schedule, dates}
+use Rattle.lab_words.specs.Command.{Command, Effort, code, report, drawn, traced, help, schedule, table, dates}
+use Rattle.lab_words.specs.Help.{help_text}
 use Rattle.lab_plans.specs.Asked.{Asked, of_text, of_schedule, of_dates}
 use Rattle.lab_plans.specs.Answers.{answer}
 use Rattle.lab_plans.specs.Plans.{plan_of}
@@ -38,7 +40,7 @@ untried = record { tries = 0; seed = 1 }
 abbrev sizes : Option (Result Asked Refusal) → List ℕ
 sizes (Some (Ok (of_text bytes))) = []
 sizes (Some (Ok (of_schedule subject p))) = length p.graph.vertices ∷ []
-sizes (Some (Ok (of_dates p bytes n))) = length p.graph.vertices ∷ n ∷ []
+sizes (Some (Ok (of_dates form p bytes n))) = length p.graph.vertices ∷ n ∷ []
 sizes (Some (Err r)) = []
 sizes None = []
 
@@ -46,7 +48,7 @@ sizes None = []
 abbrev answered : Option (Result Asked Refusal) → Option (Result Bytes Refusal)
 answered (Some (Ok (of_text bytes))) = Some (Ok bytes)
 answered (Some (Ok (of_schedule subject p))) = Some (answer (of_schedule subject p) (schedule_of p.graph p.archi p.table))
-answered (Some (Ok (of_dates p bytes n))) = Some (answer (of_dates p bytes n) (schedule_of p.graph p.archi p.table))
+answered (Some (Ok (of_dates form p bytes n))) = Some (answer (of_dates form p bytes n) (schedule_of p.graph p.archi p.table))
 answered (Some (Err r)) = Some (Err r)
 answered None = None
 
@@ -58,15 +60,15 @@ no_command = refl
 
 -- the durations that really occur are read, and not judged, before a schedule is searched
 asked : (sizes (outcome_of (schedule report (codes "A") (codes "H") untried)) ≡ 2 ∷ [])
-    × (sizes (outcome_of (dates (codes "A") (codes "H") (codes "L") 7 untried)) ≡ 2 ∷ 7 ∷ [])
-    × (sizes (outcome_of (dates (codes "A") (codes "H") (codes "X") 7 untried)) ≡ [])
+    × (sizes (outcome_of (dates drawn (codes "A") (codes "H") (codes "L") 7 untried)) ≡ 2 ∷ 7 ∷ [])
+    × (sizes (outcome_of (dates drawn (codes "A") (codes "H") (codes "X") 7 untried)) ≡ [])
 asked = (refl, refl, refl)
 
 -- an architecture is refused before a file of durations is asked for, which is not told here
-unread : outcome_of (dates (codes "A") (codes "B") (codes "X") 7 untried) ≡ Some (Err (bad_architecture (record { line = 1; cause = archi_cause.BadLine })))
+unread : outcome_of (dates drawn (codes "A") (codes "B") (codes "X") 7 untried) ≡ Some (Err (bad_architecture (record { line = 1; cause = archi_cause.BadLine })))
 unread = refl
 
-undated : answered (outcome_of (dates (codes "A") (codes "H") (codes "L") 7 untried)) ≡ Some (Err (bad_durations (Longer (codes "Act"))))
+undated : answered (outcome_of (dates drawn (codes "A") (codes "H") (codes "L") 7 untried)) ≡ Some (Err (bad_durations (Longer (codes "Act"))))
 undated = refl
 
 coded : answered (outcome_of (schedule code (codes "A") (codes "H") untried))
@@ -78,3 +80,15 @@ reported : answered (outcome_of (schedule report (codes "A") (codes "H") untried
     ≡ Some (Ok (codes "length 3\noperator P busy 3 share 1.000\nalone P 3 speed-up 1.000\nbound 3 ratio 1.000\n"))
 unfolding digits
 reported = refl
+
+-- a trace of dates is refused as their picture is
+untraced : answered (outcome_of (dates traced (codes "A") (codes "H") (codes "L") 7 untried)) ≡ Some (Err (bad_durations (Longer (codes "Act"))))
+untraced = refl
+
+-- help reads nothing, and a table reads the algorithm alone
+helped : answered (outcome_of help) ≡ Some (Ok help_text)
+helped = refl
+
+tabled : answered (outcome_of (table (codes "A"))) ≡ Some (Ok (codes "k,s.0\n0,0\n"))
+unfolding digits fields_text is_blank
+tabled = refl

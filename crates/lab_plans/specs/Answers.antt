@@ -2,7 +2,9 @@
 use Rattle.std.specs.Prelude.{ℕ, List, length, replicate, Option, Some, None, Result, Ok, Err}
 use Rattle.syn_base.specs.Bytes.{Bytes}
 use Rattle.syn_base.specs.declared.limits.LimitFault.{LimitFault}
+use Rattle.archi_graph.specs.Archi.{Architecture as Archi}
 use Rattle.durations.specs.Table.{entry_in}
+use Rattle.flat_graph.specs.Graph.{Graph}
 use Rattle.schedule.specs.declared.decision.Schedule.{Schedule}
 use Rattle.executive_program.specs.declared.program.Program.{Program}
 use Rattle.sequence_build_laws.specs.Built.{program_of}
@@ -12,12 +14,13 @@ use Rattle.actual_defs.specs.declared.fault.ActualError.{ActualError}
 use Rattle.actual_durations.specs.Actual.{actual_of}
 use Rattle.chart_picture.specs.Picture.{picture}
 use Rattle.date_picture.specs.Picture.{dates_picture}
+use Rattle.dates_trace.specs.Trace.{dates_trace}
 use Rattle.trace_events.specs.Trace.{chart_trace}
 use Rattle.graph_drawing.specs.FlatDrawing.{placed_drawing}
 use Rattle.schedule_report.specs.Numbers as numbers
 use Rattle.report_text.specs.Text.{report_text}
 use Rattle.command_status.specs.Status.{Refusal, above, of_durations}
-use Rattle.lab_words.specs.Command.{Subject, chart, trace, flat, code, report}
+use Rattle.lab_words.specs.Command.{Subject, chart, trace, flat, code, report, Form, drawn, traced}
 use Rattle.lab_plans.specs.Asked.{Problem, Asked, of_text, of_schedule, of_dates}
 
 -- the program of a schedule, and the limit that it is above, if any
@@ -40,17 +43,22 @@ subject_text flat p s = Ok (placed_drawing p.graph p.archi s)
 subject_text code p s = within (limit p s) (macro_code (program p s) p.graph p.archi)
 subject_text report p s = Ok (report_text p.archi (numbers.report p.graph p.archi (entry_in p.table) s))
 
+-- the dates of reactions that last these ticks, one after another, in a form
+abbrev pub form_text : Form → Graph → Archi → Schedule → List (List ℕ) → Bytes
+form_text drawn g a s ticks = dates_picture g a s ticks
+form_text traced g a s ticks = dates_trace g a s ticks
+
 -- the dates of so many reactions that last these ticks each, within the limits of the program
-abbrev pub dates_by : Problem → ℕ → Schedule → Result (List ℕ) ActualError → Result Bytes Refusal
-dates_by p n s (Ok ticks) = within (limit p s) (dates_picture p.graph p.archi s (replicate n ticks))
-dates_by p n s (Err error) = Err (of_durations error)
+abbrev pub dates_by : Form → Problem → ℕ → Schedule → Result (List ℕ) ActualError → Result Bytes Refusal
+dates_by form p n s (Ok ticks) = within (limit p s) (form_text form p.graph p.archi s (replicate n ticks))
+dates_by form p n s (Err error) = Err (of_durations error)
 
 -- the same, where operations and transfers of the schedule last as a text says
-abbrev pub dates_of : Problem → Bytes → ℕ → Schedule → Result Bytes Refusal
-dates_of p text n s = dates_by p n s (actual_of p.graph p.archi p.table s text)
+abbrev pub dates_of : Form → Problem → Bytes → ℕ → Schedule → Result Bytes Refusal
+dates_of form p text n s = dates_by form p n s (actual_of p.graph p.archi p.table s text)
 
 -- what is asked for, of this schedule
 abbrev pub answer : Asked → Schedule → Result Bytes Refusal
 answer (of_text text) s = Ok text
 answer (of_schedule subject p) s = subject_text subject p s
-answer (of_dates p text n) s = dates_of p text n s
+answer (of_dates form p text n) s = dates_of form p text n s

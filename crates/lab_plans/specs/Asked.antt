@@ -8,7 +8,7 @@ use Rattle.pressure_heuristic.specs.Adequation.{IsPressureRun}
 use Rattle.schedule.specs.declared.decision.Schedule.{Schedule}
 use Rattle.schedule.specs.Valid.{is_valid}
 use Rattle.schedule_search.specs.Found.{IsNoLongerThanAlone, IsNoLongerThanRun}
-use Rattle.lab_words.specs.Command.{Effort, Subject}
+use Rattle.lab_words.specs.Command.{Effort, Form, Subject}
 
 -- What is to be scheduled: the operations, the architecture, how long each operation lasts on each operator, and how a
 -- schedule is searched.
@@ -18,12 +18,12 @@ pub record Problem : Type 0 where
   pub table : Table
   pub effort : Effort
 
--- a text by itself; something of a schedule; or the dates of so many reactions of one, by a text of the durations that
--- really occur
+-- a text by itself; something of a schedule; or the dates of so many reactions of one in a form, by a text of the
+-- durations that really occur
 pub data Asked : Type 0 where
   of_text : Bytes → Asked
   of_schedule : Subject → Problem → Asked
-  of_dates : Problem → Bytes → ℕ → Asked
+  of_dates : Form → Problem → Bytes → ℕ → Asked
 
 -- A schedule that a search may find: it is valid, and no longer than the pressure run over the least routes. Where
 -- nothing is tried it is that run; else it is no longer than all operations on one operator.
@@ -37,4 +37,4 @@ pub record IsFound (p : Problem) (s : Schedule) : Type 0 where
 abbrev pub IsFoundFor : Asked → Schedule → Type 0
 IsFoundFor (of_text text) s = Unit {0}
 IsFoundFor (of_schedule subject p) s = IsFound p s
-IsFoundFor (of_dates p text n) s = IsFound p s
+IsFoundFor (of_dates form p text n) s = IsFound p s

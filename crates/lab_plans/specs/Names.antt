@@ -2,14 +2,16 @@
 use Rattle.std.specs.Prelude.{Option, Some, None}
 use Rattle.syn_base.specs.Bytes.{Bytes}
 use Rattle.outside.specs.declared.file.File.{File}
-use Rattle.lab_words.specs.Command.{Command, schedule, graph, plot, dates}
+use Rattle.lab_words.specs.Command.{Command, help, schedule, graph, table, plot, dates}
 use Rattle.top_plans.specs.Names.{named}
 
 abbrev pub names_for : Command → File → Option Bytes
+names_for help = named None None None None None
 names_for (schedule subject a h effort) = named (Some a) (Some h) None None None
 names_for (graph a) = named (Some a) None None None None
+names_for (table a) = named (Some a) None None None None
 names_for (plot a s) = named (Some a) None (Some s) None None
-names_for (dates a h g n effort) = named (Some a) (Some h) None None (Some g)
+names_for (dates form a h g n effort) = named (Some a) (Some h) None None (Some g)
 
 -- the name that the words give a file
 abbrev pub names_of : Option Command → File → Option Bytes

@@ -11,11 +11,24 @@ use Rattle.flat_laws.specs.FlatOf.{flat_of}
 use Rattle.act_text.specs.Names.{actuator_names}
 use Rattle.sync_meaning.specs.Simulated.{simulated}
 use Rattle.definition_drawing.specs.Drawing.{drawing}
+use Rattle.table_template.specs.Template.{template_text}
 use Rattle.signal_plot.specs.Plot as signal
 use Rattle.command_plan.specs.Plan.{Plan, give, refuse}
 use Rattle.command_status.specs.Status.{Refusal, usage}
 use Rattle.top_plans.specs.Plans.{algorithm_plan, architecture_plan, table_plan, read_file, unless, excess}
-use Rattle.lab_words.specs.Command.{Command, Effort, Subject, schedule, graph, plot, dates}
+use Rattle.lab_words.specs.Command.{
+  Command,
+  Effort,
+  Form,
+  Subject,
+  help,
+  schedule,
+  graph,
+  table,
+  plot,
+  dates,
+}
+use Rattle.lab_words.specs.Help.{help_text}
 use Rattle.lab_plans.specs.Asked.{Asked, Problem, of_text, of_schedule, of_dates}
 
 abbrev pub Asks : Type 0
@@ -35,6 +48,10 @@ schedule_plan subject a h effort =
 abbrev pub graph_plan : Bytes → Asks
 graph_plan a = algorithm_plan a (λ defs main. give (of_text (drawing defs)))
 
+-- the sensor table that the algorithm wants, with one reaction of zeros
+abbrev pub template_plan : Bytes → Asks
+template_plan a = algorithm_plan a (λ defs main. give (of_text (template_text main)))
+
 -- what the actuators take, as a picture, where it is within its bound
 abbrev pub plotted : Vertex → Reactions → Asks
 plotted main rows =
@@ -45,17 +62,19 @@ abbrev pub plot_plan : Bytes → Bytes → Asks
 plot_plan a s = algorithm_plan a (λ defs main. table_plan main s (plotted main))
 
 -- The durations that really occur are read before a schedule is searched, and judged after.
-abbrev pub dates_plan : Bytes → Bytes → Bytes → ℕ → Effort → Asks
-dates_plan a h g n effort =
+abbrev pub dates_plan : Form → Bytes → Bytes → Bytes → ℕ → Effort → Asks
+dates_plan form a h g n effort =
     algorithm_plan a (λ defs main.
     architecture_plan h main (λ d t.
-    read_file Durations g (λ text. give (of_dates (problem main d t effort) text n))))
+    read_file Durations g (λ text. give (of_dates form (problem main d t effort) text n))))
 
 abbrev pub plan_for : Command → Asks
+plan_for help = give (of_text help_text)
 plan_for (schedule subject a h effort) = schedule_plan subject a h effort
 plan_for (graph a) = graph_plan a
+plan_for (table a) = template_plan a
 plan_for (plot a s) = plot_plan a s
-plan_for (dates a h g n effort) = dates_plan a h g n effort
+plan_for (dates form a h g n effort) = dates_plan form a h g n effort
 
 -- the plan of the words
 abbrev pub plan_of : Option Command → Asks

@@ -27,7 +27,7 @@ use Rattle.compiler.specs.Compiles.{described}
 use Rattle.compiler.specs.Reads.{ReadsAlgorithm, ReadsCompilation, ReadsTable}
 use Rattle.compiler.specs.declared.stages.Algorithm.{Algorithm}
 use Rattle.compiler.specs.declared.stages.Compilation.{Compilation}
-use Rattle.lab_words.specs.Command.{Command, Effort}
+use Rattle.lab_words.specs.Command.{Command, Effort, Form}
 use Rattle.lab_plans.specs.Asked.{Asked, of_dates}
 use Rattle.lab_plans.specs.Answers.{answer}
 use Rattle.lab_plans.specs.Plans.{Asks, problem}
@@ -97,8 +97,8 @@ abbrev pub no_schedule : Schedule
 no_schedule = record { decisions = [] }
 
 -- the plan of dates after an architecture
-abbrev pub dates_behind : Bytes → ℕ → Effort → Vertex → Described → Table → Asks
-dates_behind g n effort main d t = read_file Durations g (λ text. give (of_dates (problem main d t effort) text n))
+abbrev pub dates_behind : Form → Bytes → ℕ → Effort → Vertex → Described → Table → Asks
+dates_behind form g n effort main d t = read_file Durations g (λ text. give (of_dates form (problem main d t effort) text n))
 
 -- a text of durations was read, and then the plan went on with it
 pub read_on : {A : Type 0} (name : Bytes) (a b : Held) (bytes : Bytes) (next : Bytes → Asks) (result : Result (Vec ℕ A) Status)

@@ -7,11 +7,11 @@ use Rattle.schedule.specs.declared.decision.Schedule.{Schedule}
 use Rattle.actual_defs.specs.declared.fault.ActualError.{ActualError}
 use Rattle.actual_defs.specs.declared.fault.ActualError.TheVariants as error
 use Rattle.actual_durations.specs.Answers as durations
-use Rattle.date_picture.specs.Picture.{dates_picture}
 use Rattle.command_status.specs.Status.{ending_of, status_of_durations}
 use Rattle.command_status.specs.declared.status.Status.{Status}
+use Rattle.lab_words.specs.Command.{Form}
 use Rattle.lab_plans.specs.Asked.{Asked, IsFoundFor, Problem}
-use Rattle.lab_plans.specs.Answers.{answer, dates_by, limit, within}
+use Rattle.lab_plans.specs.Answers.{answer, dates_by, form_text, limit, within}
 use Rattle.lab_program.specs.Found.{Builds}
 use Rattle.lab_program.specs.Texts.{Gives, GivesOfFound, Is}
 
@@ -23,32 +23,32 @@ module _ (A : Type 0) where
       inr (subst (λ (o : Option LimitFault). Is {A = A} (within o text) (Err status)) (sym over) (ap ending_of is))
 
   -- so there are no dates
-  pub undated : (p : Problem) (n : ℕ) (s : Schedule) (r : Result (List ℕ) ActualError) (ticks : List ℕ) (status : Status) → r ≡ Ok ticks → Builds p s (Err status)
-      → Gives {A = A} (dates_by p n s r) (Err status)
-  undated p n s r ticks status is failed =
-      subst (λ (x : Result (List ℕ) ActualError). Gives {A = A} (dates_by p n s x) (Err status)) (sym is)
-      (not_built p s (dates_picture p.graph p.archi s (replicate n ticks)) status failed)
+  pub undated : (form : Form) (p : Problem) (n : ℕ) (s : Schedule) (r : Result (List ℕ) ActualError) (ticks : List ℕ) (status : Status) → r ≡ Ok ticks → Builds p s (Err status)
+      → Gives {A = A} (dates_by form p n s r) (Err status)
+  undated form p n s r ticks status is failed =
+      subst (λ (x : Result (List ℕ) ActualError). Gives {A = A} (dates_by form p n s x) (Err status)) (sym is)
+      (not_built p s (form_text form p.graph p.archi s (replicate n ticks)) status failed)
 
   -- a text of actual durations was refused, or memory ran out
-  pub durations_refused : (p : Problem) (n : ℕ) (s : Schedule) (ticks : Result (List ℕ) ActualError) (e : ActualError) → durations.Gives {A = A} (Err e) ticks
-      → Gives {A = A} (dates_by p n s ticks) (Err (status_of_durations e))
-  durations_refused p n s ticks (error.Refused fault) h =
-      inr (subst (λ (x : Result (List ℕ) ActualError). Is {A = A} (dates_by p n s x) (Err (status_of_durations (error.Refused fault)))) (sym h) refl)
-  durations_refused p n s ticks (error.Limit fault) h =
-      inr (subst (λ (x : Result (List ℕ) ActualError). Is {A = A} (dates_by p n s x) (Err (status_of_durations (error.Limit fault)))) (sym h) refl)
-  durations_refused p n s ticks error.OutOfMemory h = inl refl
+  pub durations_refused : (form : Form) (p : Problem) (n : ℕ) (s : Schedule) (ticks : Result (List ℕ) ActualError) (e : ActualError) → durations.Gives {A = A} (Err e) ticks
+      → Gives {A = A} (dates_by form p n s ticks) (Err (status_of_durations e))
+  durations_refused form p n s ticks (error.Refused fault) h =
+      inr (subst (λ (x : Result (List ℕ) ActualError). Is {A = A} (dates_by form p n s x) (Err (status_of_durations (error.Refused fault)))) (sym h) refl)
+  durations_refused form p n s ticks (error.Limit fault) h =
+      inr (subst (λ (x : Result (List ℕ) ActualError). Is {A = A} (dates_by form p n s x) (Err (status_of_durations (error.Limit fault)))) (sym h) refl)
+  durations_refused form p n s ticks error.OutOfMemory h = inl refl
 
 module _ {A : Type 0} where
   -- its text stands within the limits
   pub built : (p : Problem) (s : Schedule) (bytes : Bytes) (text : Vec ℕ A) → limit p s ≡ None → text.items ≡ bytes → Gives (within (limit p s) bytes) (Ok text)
   built p s bytes text is same = inr (subst (λ (o : Option LimitFault). Is (within o bytes) (Ok text)) (sym is) same)
 
-  -- and so does the picture of its dates
-  pub dated : (p : Problem) (n : ℕ) (s : Schedule) (r : Result (List ℕ) ActualError) (ticks : List ℕ) (text : Vec ℕ A) → r ≡ Ok ticks → limit p s ≡ None
-      → text.items ≡ dates_picture p.graph p.archi s (replicate n ticks) → Gives (dates_by p n s r) (Ok text)
-  dated p n s r ticks text is low same =
-      subst (λ (x : Result (List ℕ) ActualError). Gives (dates_by p n s x) (Ok text)) (sym is)
-      (built p s (dates_picture p.graph p.archi s (replicate n ticks)) text low same)
+  -- and so do its dates, in each form
+  pub dated : (form : Form) (p : Problem) (n : ℕ) (s : Schedule) (r : Result (List ℕ) ActualError) (ticks : List ℕ) (text : Vec ℕ A) → r ≡ Ok ticks → limit p s ≡ None
+      → text.items ≡ form_text form p.graph p.archi s (replicate n ticks) → Gives (dates_by form p n s r) (Ok text)
+  dated form p n s r ticks text is low same =
+      subst (λ (x : Result (List ℕ) ActualError). Gives (dates_by form p n s x) (Ok text)) (sym is)
+      (built p s (form_text form p.graph p.archi s (replicate n ticks)) text low same)
 
   -- what is answered of a schedule that was found
   pub of_found : (asked : Asked) (s : Schedule) (result : Result (Vec ℕ A) Status) → IsFoundFor asked s → Gives (answer asked s) result → GivesOfFound asked result

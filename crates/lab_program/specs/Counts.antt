@@ -4,7 +4,7 @@ use Rattle.lab_words.specs.Command.{Command, dates}
 
 -- 1 to 1,000 reactions are dated
 abbrev pub IsCounted : Command → Type 0
-IsCounted (dates a h g n effort) = (1 ≤ n) × (n ≤ 1000)
+IsCounted (dates form a h g n effort) = (1 ≤ n) × (n ≤ 1000)
 IsCounted _ = Unit {0}
 
 abbrev pub AreCounted : Option Command → Type 0

@@ -11,13 +11,17 @@ ghost use Rattle.lab_program.specs.Texts.{Carries, Written};
 
 pub mod dates;
 pub mod graph;
+pub mod help;
 pub mod plot;
 pub mod scheduled;
+pub mod table;
 
 use crate::commands::dates::{Extent, dates_text};
 use crate::commands::graph::graph_text;
+use crate::commands::help::list_text;
 use crate::commands::plot::plot_text;
 use crate::commands::scheduled::schedule_text;
+use crate::commands::table::table_text;
 use command_status::Status;
 use lab_words::Command;
 use outside::{Failed, Shelf, Sink, write_whole};
@@ -51,6 +55,7 @@ fn command_text<S: Shelf>(
     ensures stays { Stays (S.held shelf.old) (S.held shelf.new) }
 {
     match command {
+        Command::Help => list_text(alloc),
         Command::Schedule {
             subject,
             algorithm,
@@ -58,8 +63,10 @@ fn command_text<S: Shelf>(
             effort,
         } => schedule_text(alloc, shelf, algorithm, architecture, *subject, *effort),
         Command::Graph { algorithm } => graph_text(alloc, shelf, algorithm),
+        Command::Table { algorithm } => table_text(alloc, shelf, algorithm),
         Command::Plot { algorithm, sensors } => plot_text(alloc, shelf, algorithm, sensors),
         Command::Dates {
+            form,
             algorithm,
             architecture,
             durations,
@@ -67,6 +74,7 @@ fn command_text<S: Shelf>(
             effort,
         } => {
             let extent = Extent {
+                form: *form,
                 reactions: *reactions,
                 effort: *effort,
             };

@@ -1,7 +1,7 @@
 -- Worked commands, by what is found in the words.
 use Rattle.std.proofs.Common.{◌≡◌, Some, None, refl}
 use Rattle.std.specs.Prelude.{codes}
-use Rattle.lab_words.specs.Command.{Values, chart, trace, report, schedule, graph, plot, dates, command_by}
+use Rattle.lab_words.specs.Command.{Effort, Values, chart, trace, report, drawn, traced, help, schedule, graph, table, plot, dates, command_by}
 
 abbrev nothing : Values
 nothing = record {
@@ -14,11 +14,14 @@ nothing = record {
   seed = None;
 }
 
+abbrev untold : Effort
+untold = record { tries = 0; seed = 1 }
+
 -- `A H`
 abbrev on_a_board : Values
 on_a_board = record nothing { algorithm = Some (codes "A"); architecture = Some (codes "H") }
 
-untried : command_by (codes "chart") on_a_board ≡ Some (schedule chart (codes "A") (codes "H") (record { tries = 0; seed = 1 }))
+untried : command_by (codes "chart") on_a_board ≡ Some (schedule chart (codes "A") (codes "H") untold)
 untried = refl
 
 tried : command_by (codes "trace") (record on_a_board { tries = Some (codes "500"); seed = Some (codes "007") })
@@ -53,8 +56,27 @@ a_plot : command_by (codes "plot") (record on_a_board { sensors = Some (codes "S
 a_plot = refl
 
 some_dates : command_by (codes "dates") (record on_a_board { durations = Some (codes "G"); reactions = Some (codes "1000") })
-    ≡ Some (dates (codes "A") (codes "H") (codes "G") 1000 (record { tries = 0; seed = 1 }))
+    ≡ Some (dates drawn (codes "A") (codes "H") (codes "G") 1000 untold)
 some_dates = refl
 
 too_many_dates : command_by (codes "dates") (record on_a_board { durations = Some (codes "G"); reactions = Some (codes "1001") }) ≡ None
 too_many_dates = refl
+
+-- a trace takes the last two words, or neither
+traced_dates : command_by (codes "trace") (record on_a_board { durations = Some (codes "G"); reactions = Some (codes "2") })
+    ≡ Some (dates traced (codes "A") (codes "H") (codes "G") 2 untold)
+traced_dates = refl
+
+half_traced : command_by (codes "trace") (record on_a_board { durations = Some (codes "G") }) ≡ None
+half_traced = refl
+
+-- what takes no architecture
+a_table : command_by (codes "table") (record nothing { algorithm = Some (codes "A") }) ≡ Some (table (codes "A"))
+a_table = refl
+
+-- help, by both of its names
+helped : command_by (codes "help") nothing ≡ Some help
+helped = refl
+
+flagged : command_by (codes "--help") nothing ≡ Some help
+flagged = refl

@@ -4,11 +4,15 @@ use Rattle.clap.specs.Walk.{Rule}
 use Rattle.clap.specs.Simple.{App, new_app, new_rule, with_rule, with_subcommand, on_top}
 use Rattle.syn_base.specs.Bytes.{Bytes}
 use Rattle.lab_words.specs.declared.app.Takes.{Takes}
-use Rattle.lab_words.specs.declared.app.Takes.TheVariants.{Graph, Plot, Schedule, Dates}
+use Rattle.lab_words.specs.declared.app.Takes.TheVariants.{Help, Graph, Plot, Schedule, Trace, Dates}
 
 -- a plain argument, which has to be there
 abbrev pub needed : Bytes → Rule
 needed id = record (new_rule id) { required = true }
+
+-- a plain argument that may be there
+abbrev pub optional : Bytes → Rule
+optional id = new_rule id
 
 -- an option that may be there, which is named as its value is
 abbrev pub option : Bytes → Rule
@@ -30,15 +34,22 @@ plot_app name = with_rule (algorithm_app name) (needed (codes "sensors"))
 abbrev pub schedule_app : Bytes → App
 schedule_app name = searching (architecture_app name)
 
+abbrev pub trace_app : Bytes → App
+trace_app name =
+    searching (with_rule (with_rule (architecture_app name) (optional (codes "durations")))
+    (optional (codes "reactions")))
+
 abbrev pub dates_app : Bytes → App
 dates_app name =
     searching (with_rule (with_rule (architecture_app name) (needed (codes "durations"))) (needed (codes "reactions")))
 
 -- the command of this name that takes these words
 abbrev pub word_app : Takes → Bytes → App
+word_app Help name = new_app name
 word_app Graph name = algorithm_app name
 word_app Plot name = plot_app name
 word_app Schedule name = schedule_app name
+word_app Trace name = trace_app name
 word_app Dates name = dates_app name
 
 abbrev pub bare_app : App
@@ -54,5 +65,7 @@ with_commands a (c ∷ cs) = with_commands (with_subcommand a (word_app c.1 c.0)
 -- the table
 abbrev pub the_app : App
 the_app = with_commands bare_app (
-    (codes "chart", Schedule) ∷ (codes "trace", Schedule) ∷ (codes "flat", Schedule) ∷ (codes "code", Schedule)
-    ∷ (codes "report", Schedule) ∷ (codes "graph", Graph) ∷ (codes "plot", Plot) ∷ (codes "dates", Dates) ∷ [])
+    (codes "help", Help) ∷ (codes "--help", Help) ∷ (codes "chart", Schedule) ∷ (codes "trace", Trace)
+    ∷ (codes "flat", Schedule) ∷ (codes "code", Schedule) ∷ (codes "report", Schedule) ∷ (codes "graph", Graph)
+    ∷ (codes "table", Graph) ∷ (codes "plot", Plot)
+    ∷ (codes "dates", Dates) ∷ [])

@@ -1,6 +1,8 @@
 -- Which command the words of the command line are. The first word is the program's name.
 use Rattle.std.specs.Prelude.{
   ℕ,
+  Bool,
+  ◌||◌,
   List,
   Option,
   Some,
@@ -27,19 +29,29 @@ pub record Effort : Type 0 where
 pub data Subject : Type 0 where
   chart trace flat code report : Subject
 
+-- dates as a picture, or as trace events
+pub data Form : Type 0 where
+  drawn traced : Form
+
 -- files go by their names
 pub data Command : Type 0 where
+  help : Command
   -- something of a schedule of the algorithm on the architecture
   schedule : Subject → Bytes → Bytes → Effort → Command
-  graph : Bytes → Command
+  -- of the algorithm: its definitions as a graph, and the sensor table that it wants
+  graph table : Bytes → Command
   -- the algorithm and the sensor table
   plot : Bytes → Bytes → Command
   -- the algorithm, the architecture, the actual durations, and the number of reactions
-  dates : Bytes → Bytes → Bytes → ℕ → Effort → Command
+  dates : Form → Bytes → Bytes → Bytes → ℕ → Effort → Command
 
 -- the most schedules that a search tries, and the greatest seed
 abbrev pub most_tries : ℕ
 most_tries = 1000000
+
+-- the most reactions that are dated
+abbrev pub most_reactions : ℕ
+most_reactions = 1000
 
 -- the number of an option, or what stands for it where the option is not given
 abbrev pub number_given : ℕ → ℕ → Option Bytes → Option ℕ
@@ -49,19 +61,6 @@ number_given most usual (Some w) = number_up_to most w
 abbrev pub effort_by : Option ℕ → Option ℕ → Option Effort
 effort_by (Some tries) (Some seed) = Some (record { tries = tries; seed = seed })
 effort_by _ _ = None
-
--- the options of a search: without them nothing is tried
-abbrev pub effort_given : Option Bytes → Option Bytes → Option Effort
-effort_given tries seed = effort_by (number_given most_tries 0 tries) (number_given most_tries 1 seed)
-
--- what a command of this name writes of a schedule
-abbrev pub subject_of : Bytes → Option Subject
-subject_of name =
-    if bytes_eq name (codes "chart") then Some chart else
-    if bytes_eq name (codes "trace") then Some trace else
-    if bytes_eq name (codes "flat") then Some flat else
-    if bytes_eq name (codes "code") then Some code else
-    if bytes_eq name (codes "report") then Some report else None
 
 -- the values that were given for the arguments and options of a command
 pub record Values : Type 0 where
@@ -84,34 +83,70 @@ values_of rows = record {
   seed = first_of (codes "seed") rows;
 }
 
-abbrev pub dates_by : Bytes → Bytes → Bytes → Option ℕ → Option Effort → Option Command
-dates_by a h g (Some n) (Some effort) = Some (dates a h g n effort)
-dates_by a h g _ _ = None
+-- the options of a search: without them nothing is tried
+abbrev pub effort_given : Values → Option Effort
+effort_given v = effort_by (number_given most_tries 0 v.tries) (number_given most_tries 1 v.seed)
+
+-- what a command of this name writes of a schedule, but for traces
+abbrev pub subject_of : Bytes → Option Subject
+subject_of name =
+    if bytes_eq name (codes "chart") then Some chart else
+    if bytes_eq name (codes "flat") then Some flat else
+    if bytes_eq name (codes "code") then Some code else
+    if bytes_eq name (codes "report") then Some report else None
+
+abbrev pub dates_by : Form → Bytes → Bytes → Bytes → Option ℕ → Option Effort → Option Command
+dates_by form a h g (Some n) (Some effort) = Some (dates form a h g n effort)
+dates_by form a h g _ _ = None
 
 abbrev pub schedule_by : Option Subject → Bytes → Bytes → Option Effort → Option Command
 schedule_by (Some subject) a h (Some effort) = Some (schedule subject a h effort)
 schedule_by _ a h _ = None
 
--- dates of an algorithm, where all is there that they take
-abbrev pub dates_given : Bytes → Values → Option Command
-dates_given a v =
-    option_and_then (λ h. option_and_then (λ g. option_and_then (λ n.
-    dates_by a h g (number_up_to 1000 n) (effort_given v.tries v.seed)) v.reactions) v.durations) v.architecture
+-- dates of an algorithm on an architecture, where all is there that they take
+abbrev pub dates_given : Form → Bytes → Bytes → Values → Option Command
+dates_given form a h v =
+    option_and_then (λ g. option_and_then (λ n.
+    dates_by form a h g (number_up_to most_reactions n) (effort_given v)) v.reactions) v.durations
 
--- something of a schedule of an algorithm, likewise
-abbrev pub schedule_given : Bytes → Bytes → Values → Option Command
-schedule_given name a v =
-    option_and_then (λ h. schedule_by (subject_of name) a h (effort_given v.tries v.seed)) v.architecture
+-- something of a schedule of an algorithm on an architecture, likewise
+abbrev pub schedule_given : Option Subject → Bytes → Bytes → Values → Option Command
+schedule_given subject a h v = schedule_by subject a h (effort_given v)
 
--- the command of this name with these values
+-- a trace is that of dates where there are actual durations, and else that of the schedule
+abbrev pub trace_by : Option Bytes → Bytes → Bytes → Values → Option Command
+trace_by None a h v = schedule_given (Some trace) a h v
+trace_by (Some g) a h v = dates_given traced a h v
+
+-- the command of this name of an algorithm on an architecture
+abbrev pub command_on : Bytes → Bytes → Bytes → Values → Option Command
+command_on name a h v =
+    if bytes_eq name (codes "dates") then dates_given drawn a h v else
+    if bytes_eq name (codes "trace") then trace_by v.durations a h v else
+    schedule_given (subject_of name) a h v
+
+-- the same, where there is an architecture
+abbrev pub placed_given : Bytes → Bytes → Values → Option Command
+placed_given name a v = option_and_then (λ h. command_on name a h v) v.architecture
+
+-- the command of this name of an algorithm
 abbrev pub command_for : Bytes → Bytes → Values → Option Command
 command_for name a v =
     if bytes_eq name (codes "graph") then Some (graph a) else
+    if bytes_eq name (codes "table") then Some (table a) else
     if bytes_eq name (codes "plot") then option_map (plot a) v.sensors else
-    if bytes_eq name (codes "dates") then dates_given a v else schedule_given name a v
+    placed_given name a v
 
+abbrev pub is_help : Bytes → Bool
+is_help name = bytes_eq name (codes "help") || bytes_eq name (codes "--help")
+
+-- the command of this name, where there is an algorithm
+abbrev pub algorithm_given : Bytes → Values → Option Command
+algorithm_given name v = option_and_then (λ a. command_for name a v) v.algorithm
+
+-- the command of this name with these values
 abbrev pub command_by : Bytes → Values → Option Command
-command_by name v = option_and_then (λ a. command_for name a v) v.algorithm
+command_by name v = if is_help name then Some help else algorithm_given name v
 
 -- the command of what was found: the name of a command, and what was given for its arguments and options
 abbrev pub command_in : Bytes × List Row → Option Command

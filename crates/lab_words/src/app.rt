@@ -9,10 +9,12 @@ ghost use Rattle.lab_words.specs.App.{
   dates_app,
   needed,
   option,
+  optional,
   plot_app,
   schedule_app,
   searching,
   the_app,
+  trace_app,
   with_commands,
   word_app,
 };
@@ -23,12 +25,16 @@ use std::alloc::{AllocError, Global};
 /// What the words of a command are, after its name.
 #[derive(Clone, Copy, Drop)]
 enum Takes {
+    /// Nothing.
+    Help,
     /// The algorithm.
     Graph,
     /// The algorithm and the sensor table.
     Plot,
     /// The algorithm and the architecture, and options of the search.
     Schedule,
+    /// The same as for a schedule, and the actual durations and the number of reactions if they are there.
+    Trace,
     /// The algorithm, the architecture, the actual durations and the number of reactions, and options of the
     /// search.
     Dates,
@@ -46,6 +52,20 @@ fn with_needed<'a>(
     ensures local { IfOk result (λ c. (fields_of c).has_globals ≡ false) }
 {
     command.arg(Arg::new(alloc, id).required(true))
+}
+
+/// A command that takes one plain argument more, which need not be there.
+fn with_optional<'a>(
+    alloc: Global,
+    command: Command<'a>,
+    id: &'a str,
+) -> Result<Command<'a>, AllocError>
+    requires { (fields_of command).has_globals ≡ false }
+    ensures app { IfOk result (λ c. app_of c ≡
+        with_rule (app_of command.entry) (optional id.entry.now)) }
+    ensures local { IfOk result (λ c. (fields_of c).has_globals ≡ false) }
+{
+    command.arg(Arg::new(alloc, id))
 }
 
 /// A command that takes one option more, which is named as its value is.
@@ -107,6 +127,17 @@ fn schedule<'a>(alloc: Global, name: &'a str) -> Result<Command<'a>, AllocError>
     searching(alloc, command)
 }
 
+/// A command that takes the arguments of dates, of which the last two need not be there, and options of the search.
+fn trace<'a>(alloc: Global, name: &'a str) -> Result<Command<'a>, AllocError>
+    ensures app { IfOk result (λ c. app_of c ≡ trace_app name.entry.now) }
+    ensures local { IfOk result (λ c. (fields_of c).has_globals ≡ false) }
+{
+    let command = architecture(alloc, name)?;
+    let command = with_optional(alloc, command, "durations")?;
+    let command = with_optional(alloc, command, "reactions")?;
+    searching(alloc, command)
+}
+
 /// A command that takes the four arguments of dates, and options of the search.
 fn dates<'a>(alloc: Global, name: &'a str) -> Result<Command<'a>, AllocError>
     ensures app { IfOk result (λ c. app_of c ≡ dates_app name.entry.now) }
@@ -124,14 +155,16 @@ fn taking<'a>(alloc: Global, name: &'a str, takes: Takes) -> Result<Command<'a>,
     ensures local { IfOk result (λ c. (fields_of c).has_globals ≡ false) }
 {
     match takes {
+        Takes::Help => Ok(Command::new(alloc, name)),
         Takes::Graph => algorithm(alloc, name),
         Takes::Plot => plot(alloc, name),
         Takes::Schedule => schedule(alloc, name),
+        Takes::Trace => trace(alloc, name),
         Takes::Dates => dates(alloc, name),
     }
 }
 
-/// The program without its commands. It has no help of its own, and words without a command are refused.
+/// The program without its commands. Its help is a command like any other, and words without a command are refused.
 fn bare<'a>(alloc: Global) -> Command<'a>
     ensures { app_of result ≡ bare_app }
 {
@@ -177,12 +210,15 @@ pub fn command<'a>(alloc: Global) -> Result<Command<'a>, AllocError>
     with_commands(
         alloc,
         &[
+            ("help", Takes::Help),
+            ("--help", Takes::Help),
             ("chart", Takes::Schedule),
-            ("trace", Takes::Schedule),
+            ("trace", Takes::Trace),
             ("flat", Takes::Schedule),
             ("code", Takes::Schedule),
             ("report", Takes::Schedule),
             ("graph", Takes::Graph),
+            ("table", Takes::Graph),
             ("plot", Takes::Plot),
             ("dates", Takes::Dates),
         ],

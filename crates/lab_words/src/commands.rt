@@ -25,9 +25,20 @@ pub enum Subject {
     Report,
 }
 
+/// How dates are written.
+#[derive(Clone, Copy, Drop)]
+pub enum Form {
+    /// `dates A H G N`: as a picture.
+    Drawn,
+    /// `trace A H G N`: as trace events.
+    Traced,
+}
+
 /// A command, with the names of its files as they are given.
 #[derive(Clone, Copy, Drop)]
 pub enum Command<'a> {
+    /// `help` and `--help`: the list of the commands.
+    Help,
     /// A command that writes something of a schedule.
     Schedule {
         subject: Subject,
@@ -39,14 +50,19 @@ pub enum Command<'a> {
     Graph {
         algorithm: &'a str,
     },
+    /// `table A`: the sensor table that the algorithm wants, with one reaction of zeros.
+    Table {
+        algorithm: &'a str,
+    },
     /// `plot A S`: what the actuators take, as a picture.
     Plot {
         algorithm: &'a str,
         sensors: &'a str,
     },
-    /// `dates A H G N`: the dates of 1 to 1,000 reactions, as a picture, where the durations are those of another
+    /// `dates A H G N` and `trace A H G N`: the dates of 1 to 1,000 reactions, where the durations are those of another
     /// architecture text.
     Dates {
+        form: Form,
         algorithm: &'a str,
         architecture: &'a str,
         durations: &'a str,

@@ -7,22 +7,34 @@ ghost use Rattle.command_words.specs.Answer.{wants_memory};
 ghost use Rattle.clap.specs.Matches.{found_of};
 ghost use Rattle.clap.specs.Walk.{rows_of};
 ghost use Rattle.lab_words.specs.Command.{
+  algorithm_given,
   command_by,
+  command_for,
   command_in,
   command_of,
+  command_on,
   dates_given,
   effort_given,
+  is_help,
   most_tries,
   number_given,
+  placed_given,
   plot,
   schedule_given,
   subject_of,
+  trace_by,
   values_of,
 };
-ghost use Rattle.lab_words.specs.View.{effort_view, subject_view, values_view, view_of};
+ghost use Rattle.lab_words.specs.View.{
+  effort_view,
+  form_view,
+  subject_view,
+  values_view,
+  view_of,
+};
 
 use crate::app::command;
-use crate::commands::{Command, Effort, Subject};
+use crate::commands::{Command, Effort, Form, Subject};
 use clap::error::ErrorKind;
 use clap::{ArgMatches, Error};
 use command_words::number_up_to;
@@ -114,15 +126,68 @@ fn values_in<'a>(matches: &ArgMatches<'a>) -> Values<'a>
 fn command_by<'a>(name: &str, values: &Values<'a>) -> Option<Command<'a>>
     ensures { option_map view_of result ≡ command_by name.now (values_view values.now) }
 {
+    if is_help(name) {
+        Some(Command::Help)
+    } else {
+        of_algorithm(name, values)
+    }
+}
+
+/// Whether a command of this name lists the commands.
+fn is_help(name: &str) -> bool
+    ensures { result ≡ is_help name.now }
+{
+    name == "help" || name == "--help"
+}
+
+/// The command of this name, where there is an algorithm.
+fn of_algorithm<'a>(name: &str, values: &Values<'a>) -> Option<Command<'a>>
+    ensures { option_map view_of result ≡ algorithm_given name.now (values_view values.now) }
+{
     let algorithm = values.algorithm?;
+    command_for(name, algorithm, values)
+}
+
+/// The command of this name of an algorithm.
+fn command_for<'a>(name: &str, algorithm: &'a str, values: &Values<'a>) -> Option<Command<'a>>
+    ensures { option_map view_of result ≡ command_for name.now algorithm.now (values_view values.now) }
+{
     if name == "graph" {
         Some(Command::Graph { algorithm })
+    } else if name == "table" {
+        Some(Command::Table { algorithm })
     } else if name == "plot" {
         plot(algorithm, values.sensors)
-    } else if name == "dates" {
-        dates(algorithm, values)
     } else {
-        schedule(name, algorithm, values)
+        placed(name, algorithm, values)
+    }
+}
+
+/// The command of this name of an algorithm, where there is an architecture.
+fn placed<'a>(name: &str, algorithm: &'a str, values: &Values<'a>) -> Option<Command<'a>>
+    ensures { option_map view_of result ≡ placed_given name.now algorithm.now (values_view values.now) }
+{
+    let architecture = values.architecture?;
+    command_on(name, algorithm, architecture, values)
+}
+
+/// The command of this name of an algorithm on an architecture.
+fn command_on<'a>(
+    name: &str,
+    algorithm: &'a str,
+    architecture: &'a str,
+    values: &Values<'a>,
+) -> Option<Command<'a>>
+    ensures { option_map view_of result ≡
+        command_on name.now algorithm.now architecture.now (values_view values.now) }
+{
+    if name == "dates" {
+        dates(Form::Drawn, algorithm, architecture, values)
+    } else if name == "trace" {
+        trace(algorithm, architecture, values.durations, values)
+    } else {
+        let subject = subject_of(name);
+        schedule(subject, algorithm, architecture, values)
     }
 }
 
@@ -135,16 +200,22 @@ fn plot<'a>(algorithm: &'a str, sensors: Option<&'a str>) -> Option<Command<'a>>
     Some(Command::Plot { algorithm, sensors })
 }
 
-/// The command `dates`, where all is there that it takes.
-fn dates<'a>(algorithm: &'a str, values: &Values<'a>) -> Option<Command<'a>>
-    ensures { option_map view_of result ≡ dates_given algorithm.now (values_view values.now) }
+/// Dates in this form, where all is there that they take.
+fn dates<'a>(
+    form: Form,
+    algorithm: &'a str,
+    architecture: &'a str,
+    values: &Values<'a>,
+) -> Option<Command<'a>>
+    ensures { option_map view_of result ≡
+        dates_given (form_view form) algorithm.now architecture.now (values_view values.now) }
 {
-    let architecture = values.architecture?;
     let durations = values.durations?;
     let reactions = values.reactions?;
     let reactions = number_up_to(MOST_REACTIONS, reactions.as_bytes())?;
-    let effort = effort_of(values.tries, values.seed)?;
+    let effort = effort_of(values)?;
     Some(Command::Dates {
+        form,
         algorithm,
         architecture,
         durations,
@@ -153,13 +224,34 @@ fn dates<'a>(algorithm: &'a str, values: &Values<'a>) -> Option<Command<'a>>
     })
 }
 
-/// The command of this name that writes something of a schedule, where all is there that it takes.
-fn schedule<'a>(name: &str, algorithm: &'a str, values: &Values<'a>) -> Option<Command<'a>>
-    ensures { option_map view_of result ≡ schedule_given name.now algorithm.now (values_view values.now) }
+/// The trace of dates where there are actual durations, and else that of a schedule.
+fn trace<'a>(
+    algorithm: &'a str,
+    architecture: &'a str,
+    durations: Option<&'a str>,
+    values: &Values<'a>,
+) -> Option<Command<'a>>
+    ensures { option_map view_of result ≡ trace_by (option_map (λ t. t.now) durations.entry)
+        algorithm.now architecture.now (values_view values.now) }
 {
-    let architecture = values.architecture?;
-    let subject = subject_of(name)?;
-    let effort = effort_of(values.tries, values.seed)?;
+    match durations {
+        Some(_) => dates(Form::Traced, algorithm, architecture, values),
+        None => schedule(Some(Subject::Trace), algorithm, architecture, values),
+    }
+}
+
+/// The command that writes this of a schedule, where all is there that it takes.
+fn schedule<'a>(
+    subject: Option<Subject>,
+    algorithm: &'a str,
+    architecture: &'a str,
+    values: &Values<'a>,
+) -> Option<Command<'a>>
+    ensures { option_map view_of result ≡ schedule_given (option_map subject_view subject)
+        algorithm.now architecture.now (values_view values.now) }
+{
+    let subject = subject?;
+    let effort = effort_of(values)?;
     Some(Command::Schedule {
         subject,
         algorithm,
@@ -168,14 +260,12 @@ fn schedule<'a>(name: &str, algorithm: &'a str, values: &Values<'a>) -> Option<C
     })
 }
 
-/// What a command of this name writes of a schedule.
+/// What a command of this name writes of a schedule, but for traces.
 fn subject_of(name: &str) -> Option<Subject>
     ensures { option_map subject_view result ≡ subject_of name.now }
 {
     if name == "chart" {
         Some(Subject::Chart)
-    } else if name == "trace" {
-        Some(Subject::Trace)
     } else if name == "flat" {
         Some(Subject::Flat)
     } else if name == "code" {
@@ -188,12 +278,11 @@ fn subject_of(name: &str) -> Option<Subject>
 }
 
 /// The options of a search, if they are numbers within their bounds.
-fn effort_of(tries: Option<&str>, seed: Option<&str>) -> Option<Effort>
-    ensures { option_map effort_view result ≡
-        effort_given (option_map (λ t. t.now) tries.entry) (option_map (λ t. t.now) seed.entry) }
+fn effort_of(values: &Values) -> Option<Effort>
+    ensures { option_map effort_view result ≡ effort_given (values_view values.now) }
 {
-    let tries = number_given(0, tries)?;
-    let seed = number_given(1, seed)?;
+    let tries = number_given(0, values.tries)?;
+    let seed = number_given(1, values.seed)?;
     Some(Effort { tries, seed })
 }
 

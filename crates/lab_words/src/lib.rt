@@ -1,11 +1,13 @@
 //! The commands of `syndex_lab`, and which one the words of a command line are, as `clap` reads them. The
 //! program calls `command_of` first; the table of commands stands in `specs/App`, and what their words mean in
-//! `specs/Command`.
+//! `specs/Command`. `help_text` lists them for a reader.
 #![tactic(auto)]
 
 mod app;
 mod commands;
 mod given;
+mod help;
 
-pub use commands::{Command, Effort, Subject};
+pub use commands::{Command, Effort, Form, Subject};
 pub use given::command_of;
+pub use help::help_text;

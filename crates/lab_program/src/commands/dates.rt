@@ -1,17 +1,16 @@
-//! The command `dates A H G N`: when what begins and ends, as a picture. `commands` calls `dates_text`.
+//! The commands `dates A H G N` and `trace A H G N`: when what begins and ends. `commands` calls `dates_text`.
 ghost use Rattle.std.specs.Prelude.{◌≡◌, ◌≤◌, IfOk, IsTrue, length, replicate};
 ghost use Rattle.compiler.specs.Compiles.{HasDurations};
-ghost use Rattle.date_picture.specs.Picture.{dates_picture};
 ghost use Rattle.durations.specs.Table.{entry_in};
-ghost use Rattle.lab_plans.specs.Answers.{dates_of};
+ghost use Rattle.lab_plans.specs.Answers.{dates_of, form_text};
 ghost use Rattle.lab_plans.specs.Asked.{of_dates};
 ghost use Rattle.lab_plans.specs.Plans.{dates_plan};
 ghost use Rattle.lab_words.specs.Command.{Effort as Tried};
-ghost use Rattle.lab_words.specs.View.{effort_view};
+ghost use Rattle.lab_words.specs.View.{effort_view, form_view};
 ghost use Rattle.outside.specs.Shelf.{Stays, file_bound};
 ghost use Rattle.schedule.specs.Acts.{acts};
 ghost use Rattle.schedule.specs.Valid.{is_valid};
-ghost use Rattle.self_timed.specs.Told.{HaveEntries, entries_of};
+ghost use Rattle.self_timed.specs.Told.{HaveEntries, IsValidForSome, entries_of};
 ghost use Rattle.self_timed_laws.specs.Entries.{AreWithin};
 ghost use Rattle.sequence_build_laws.specs.Built.{program_of};
 ghost use Rattle.lab_program.specs.Found.{problem_of};
@@ -23,16 +22,19 @@ use command_status::Status;
 use compiler::{Compilation, read_algorithm, read_architecture, read_file};
 use date_picture::dates_picture;
 use dates_text::{actual_are_within, repeated};
+use dates_trace::dates_trace;
 use executive_program::Program;
-use lab_words::Effort;
+use lab_words::{Effort, Form};
 use outside::{File, Shelf};
 use schedule::Schedule;
+use self_timed::Actual;
 use std::alloc::Global;
 use syn_base::OutOfMemory;
 
-/// How many reactions are dated, and how their schedule is searched.
+/// In which form how many reactions are dated, and how their schedule is searched.
 #[derive(Clone, Copy, Drop)]
 pub struct Extent {
+    pub form: Form,
     pub reactions: u32,
     pub effort: Effort,
 }
@@ -49,8 +51,8 @@ pub fn dates_text<S: Shelf>(
 ) -> Result<Vec<u8>, Status>
     requires few { extent.reactions ≤ 1000 }
     ensures stays { Stays (S.held shelf.old) (S.held shelf.new) }
-    ensures carries { Carries (dates_plan algorithm.now architecture.now durations.now extent.reactions
-        (effort_view extent.effort)) (S.held shelf.old) (S.held shelf.new) result }
+    ensures carries { Carries (dates_plan (form_view extent.form) algorithm.now architecture.now
+        durations.now extent.reactions (effort_view extent.effort)) (S.held shelf.old) (S.held shelf.new) result }
 {
     let algorithm = read_algorithm(alloc, shelf, algorithm)?;
     let compilation = read_architecture(alloc, shelf, architecture, &algorithm.tree)?;
@@ -68,27 +70,27 @@ fn dates_of_found(
     requires few { extent.reactions ≤ 1000 }
     requires short { length text.now ≤ file_bound }
     requires durations { HasDurations compilation.now }
-    ensures { GivesOfFound (of_dates (problem_of compilation.now (effort_view extent.effort)) text.now
-        extent.reactions) result }
+    ensures { GivesOfFound (of_dates (form_view extent.form)
+        (problem_of compilation.now (effort_view extent.effort)) text.now extent.reactions) result }
 {
     let schedule = find_schedule(alloc, compilation, extent.effort)?;
-    date_reactions(alloc, compilation, &schedule, text, extent.reactions)
+    date_reactions(alloc, compilation, &schedule, text, extent)
 }
 
-/// The dates of this many reactions of the schedule by the text of the durations, or why there are none.
+/// The dates of the reactions of the schedule by the text of the durations, or why there are none.
 fn date_reactions(
     alloc: Global,
     compilation: &Compilation,
     schedule: &Schedule,
     text: &[u8],
-    reactions: u32,
+    extent: Extent,
 ) -> Result<Vec<u8>, Status>
-    requires few { reactions ≤ 1000 }
+    requires few { extent.reactions ≤ 1000 }
     requires short { length text.now ≤ file_bound }
     requires valid { IsTrue (is_valid compilation.now.flat compilation.now.text.archi
         (entry_in compilation.now.durations) schedule.now) }
-    ensures { (effort : Tried) → Gives (dates_of (problem_of compilation.now effort) text.now reactions
-        schedule.now) result }
+    ensures { (effort : Tried) → Gives (dates_of (form_view extent.form) (problem_of compilation.now effort)
+        text.now extent.reactions schedule.now) result }
 {
     let ticks = actual_of(
         alloc,
@@ -100,37 +102,56 @@ fn date_reactions(
     )?;
     actual_are_within();
     let program = build_program(alloc, compilation, schedule)?;
-    Ok(draw_reactions(alloc, compilation, schedule, &program, &ticks, reactions)?)
+    Ok(write_reactions(alloc, compilation, schedule, &program, &ticks, extent)?)
 }
 
-/// The picture of the dates of this many reactions that last these ticks each.
-fn draw_reactions(
+/// The dates of so many reactions that last these ticks each.
+fn write_reactions(
     alloc: Global,
     compilation: &Compilation,
     schedule: &Schedule,
     program: &Program,
     ticks: &[u64],
-    reactions: u32,
+    extent: Extent,
 ) -> Result<Vec<u8>, OutOfMemory>
-    requires few { reactions ≤ 1000 }
+    requires few { extent.reactions ≤ 1000 }
     requires valid { IsTrue (is_valid compilation.now.flat compilation.now.text.archi
         (entry_in compilation.now.durations) schedule.now) }
     requires program { program.now ≡ program_of compilation.now.flat compilation.now.text.archi schedule.now }
-    requires entries { HaveEntries (entries_of compilation.now.flat schedule.now) (replicate reactions ticks.now) }
-    requires within { AreWithin compilation.now.flat.vertices (acts schedule.now) (replicate reactions ticks.now) }
-    ensures { IfOk result (λ text. text.items ≡
-        dates_picture compilation.now.flat compilation.now.text.archi schedule.now
-        (replicate reactions ticks.now)) }
+    requires entries { HaveEntries (entries_of compilation.now.flat schedule.now)
+        (replicate extent.reactions ticks.now) }
+    requires within { AreWithin compilation.now.flat.vertices (acts schedule.now)
+        (replicate extent.reactions ticks.now) }
+    ensures { IfOk result (λ text. text.items ≡ form_text (form_view extent.form) compilation.now.flat
+        compilation.now.text.archi schedule.now (replicate extent.reactions ticks.now)) }
 {
     // By this call the proof knows what the table of durations keeps: no duration is above 1,000,000,000.
     let _operators = compilation.durations.operators();
-    let actual = repeated(alloc, ticks, reactions as usize)?;
-    dates_picture(
-        alloc,
-        &compilation.flat,
-        &compilation.text.archi,
-        schedule,
-        program,
-        &actual,
-    )
+    let actual = repeated(alloc, ticks, extent.reactions as usize)?;
+    write_dates(alloc, compilation, schedule, program, &actual, extent.form)
+}
+
+/// The dates of reactions that last these ticks, in this form.
+fn write_dates(
+    alloc: Global,
+    compilation: &Compilation,
+    schedule: &Schedule,
+    program: &Program,
+    actual: &Actual,
+    form: Form,
+) -> Result<Vec<u8>, OutOfMemory>
+    requires valid { IsValidForSome compilation.now.flat compilation.now.text.archi schedule.now }
+    requires program { program.now ≡ program_of compilation.now.flat compilation.now.text.archi schedule.now }
+    requires few { length actual.now ≤ 1000 }
+    requires entries { HaveEntries (entries_of compilation.now.flat schedule.now) actual.now }
+    requires within { AreWithin compilation.now.flat.vertices (acts schedule.now) actual.now }
+    ensures { IfOk result (λ text. text.items ≡ form_text (form_view form) compilation.now.flat
+        compilation.now.text.archi schedule.now actual.now) }
+{
+    let flat = &compilation.flat;
+    let archi = &compilation.text.archi;
+    match form {
+        Form::Drawn => dates_picture(alloc, flat, archi, schedule, program, actual),
+        Form::Traced => dates_trace(alloc, flat, archi, schedule, program, actual),
+    }
 }

@@ -3,11 +3,17 @@ use Rattle.lab_program.proofs.commands.command_text.Goals as goal
 pub dates_text-requires : goal.dates_text-requires
 dates_text-requires g c = record { few = (rw c.in-Dates.is at c.requires).1 }
 
+pub returns-in-Help-clause-carries : goal.returns-in-Help-clause-carries
+returns-in-Help-clause-carries g c = rw c.in-Help.is (c.list_text.ensures (g.S.Shelf.held c.args.shelf.now))
+
 pub returns-in-Schedule-clause-carries : goal.returns-in-Schedule-clause-carries
 returns-in-Schedule-clause-carries g c = rw c.in-Schedule.is c.schedule_text.ensures.carries
 
 pub returns-in-Graph-clause-carries : goal.returns-in-Graph-clause-carries
 returns-in-Graph-clause-carries g c = rw c.in-Graph.is c.graph_text.ensures.carries
+
+pub returns-in-Table-clause-carries : goal.returns-in-Table-clause-carries
+returns-in-Table-clause-carries g c = rw c.in-Table.is c.table_text.ensures.carries
 
 pub returns-in-Plot-clause-carries : goal.returns-in-Plot-clause-carries
 returns-in-Plot-clause-carries g c = rw c.in-Plot.is c.plot_text.ensures.carries

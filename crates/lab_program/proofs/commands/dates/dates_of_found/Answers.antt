@@ -1,6 +1,6 @@
 use Rattle.std.proofs.Common.{inl, refl}
 use Rattle.std.proofs.lemmas.Result.{err_from_is_err_and}
-use Rattle.lab_words.specs.View.{effort_view}
+use Rattle.lab_words.specs.View.{effort_view, form_view}
 use Rattle.lab_plans.specs.Asked.{of_dates}
 use Rattle.lab_program.specs.Found.{problem_of}
 use Rattle.lab_program.proofs.Schedules.{of_found}
@@ -17,4 +17,4 @@ returns-in_err-schedule c =
 pub returns : goal.returns
 returns c =
     let effort = effort_view c.args.extent.effort in
-    of_found (of_dates (problem_of c.args.compilation.now effort) c.args.text.now c.args.extent.reactions) c.in_ok-schedule.schedule _ c.in_ok-schedule.ensures (c.date_reactions.ensures effort)
+    of_found (of_dates (form_view c.args.extent.form) (problem_of c.args.compilation.now effort) c.args.text.now c.args.extent.reactions) c.in_ok-schedule.schedule _ c.in_ok-schedule.ensures (c.date_reactions.ensures effort)

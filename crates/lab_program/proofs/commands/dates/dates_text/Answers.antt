@@ -11,7 +11,7 @@ use Rattle.command_plan.specs.Run.{not_read}
 use Rattle.command_status.specs.Status.{ending_of}
 use Rattle.top_plans.specs.Plans.{architecture_plan}
 use Rattle.compiler.specs.Compiles.{described}
-use Rattle.lab_words.specs.View.{effort_view}
+use Rattle.lab_words.specs.View.{effort_view, form_view}
 use Rattle.lab_plans.specs.Asked.{of_dates}
 use Rattle.lab_program.specs.Found.{problem_of}
 use Rattle.lab_program.specs.Texts.{Carries, GivesOfFound}
@@ -37,13 +37,14 @@ pub returns-in_err-compilation-clause-carries : goal.returns-in_err-compilation-
 returns-in_err-compilation-clause-carries g c =
     let H = g.S.Shelf.held in
     let p = err_from_is_err_and c.from_residual-in_err-compilation.result c.from_residual-in_err-compilation.ensures.1 in
+    let form = form_view c.args.extent.form in
     let n = c.args.extent.reactions in
     let effort = effort_view c.args.extent.effort in
     let status = c.in_err-compilation.field-0.0 in
     let main = c.in_ok-algorithm.algorithm.tree in
     rw (p.1, p.2) (
     went_on c.args.algorithm.now (H c.args.shelf.now) (H c.read_algorithm.new.shelf) (H c.read_architecture.new.shelf) c.in_ok-algorithm.algorithm
-    (λ (defs : Defs) (main : Vertex). architecture_plan c.args.architecture.now main (dates_behind c.args.durations.now n effort main)) _ c.in_ok-algorithm.ensures.reads
+    (λ (defs : Defs) (main : Vertex). architecture_plan c.args.architecture.now main (dates_behind form c.args.durations.now n effort main)) _ c.in_ok-algorithm.ensures.reads
     (stopped _ (H c.read_algorithm.new.shelf) (H c.read_architecture.new.shelf) status
     (architecture_stops (ending_of status) c.args.architecture.now main (H c.read_algorithm.new.shelf) (H c.read_architecture.new.shelf) c.in_err-compilation.ensures.reads _))
     )
@@ -52,14 +53,15 @@ pub returns-in_err-text-clause-carries : goal.returns-in_err-text-clause-carries
 returns-in_err-text-clause-carries g c =
     let H = g.S.Shelf.held in
     let p = err_from_is_err_and c.from_residual-in_err-text.result c.from_residual-in_err-text.ensures.1 in
+    let form = form_view c.args.extent.form in
     let n = c.args.extent.reactions in
     let effort = effort_view c.args.extent.effort in
     let algorithm = c.in_ok-algorithm.algorithm in
     rw (p.1, p.2) (
     went_on c.args.algorithm.now (H c.args.shelf.now) (H c.read_algorithm.new.shelf) (H c.read_file.new.shelf) algorithm
-    (λ (defs : Defs) (main : Vertex). architecture_plan c.args.architecture.now main (dates_behind c.args.durations.now n effort main)) _ c.in_ok-algorithm.ensures.reads
+    (λ (defs : Defs) (main : Vertex). architecture_plan c.args.architecture.now main (dates_behind form c.args.durations.now n effort main)) _ c.in_ok-algorithm.ensures.reads
     (compiled_on algorithm.tree c.args.architecture.now (H c.read_algorithm.new.shelf) (H c.read_architecture.new.shelf) (H c.read_file.new.shelf) c.in_ok-compilation.compilation
-    (dates_behind c.args.durations.now n effort algorithm.tree) _ c.in_ok-compilation.ensures.reads
+    (dates_behind form c.args.durations.now n effort algorithm.tree) _ c.in_ok-compilation.ensures.reads
     (stopped _ (H c.read_architecture.new.shelf) (H c.read_file.new.shelf) c.in_err-text.field-0.0 (not_read c.in_err-text.ensures.not_read)))
     )
 
@@ -67,6 +69,7 @@ pub returns-clause-carries : goal.returns-clause-carries
 returns-clause-carries g c =
     let H = g.S.Shelf.held in
     let held = H c.read_file.new.shelf in
+    let form = form_view c.args.extent.form in
     let n = c.args.extent.reactions in
     let effort = effort_view c.args.extent.effort in
     let algorithm = c.in_ok-algorithm.algorithm in
@@ -74,10 +77,10 @@ returns-clause-carries g c =
     let text = c.in_ok-text.text.items in
     let result = c.dates_of_found.result in
     went_on c.args.algorithm.now (H c.args.shelf.now) (H c.read_algorithm.new.shelf) held algorithm
-    (λ (defs : Defs) (main : Vertex). architecture_plan c.args.architecture.now main (dates_behind c.args.durations.now n effort main)) result c.in_ok-algorithm.ensures.reads
+    (λ (defs : Defs) (main : Vertex). architecture_plan c.args.architecture.now main (dates_behind form c.args.durations.now n effort main)) result c.in_ok-algorithm.ensures.reads
     (compiled_on algorithm.tree c.args.architecture.now (H c.read_algorithm.new.shelf) (H c.read_architecture.new.shelf) held given
-    (dates_behind c.args.durations.now n effort algorithm.tree) result c.in_ok-compilation.ensures.reads
+    (dates_behind form c.args.durations.now n effort algorithm.tree) result c.in_ok-compilation.ensures.reads
     (read_on c.args.durations.now (H c.read_architecture.new.shelf) held text _ result c.in_ok-text.ensures.read
-    (subst (λ (f : Graph). Carries (give (of_dates (record { graph = f; archi = given.text.archi; table = given.durations; effort = effort }) text n)) held held result) c.in_ok-compilation.ensures.reads.2.flattens
-    (found_so (of_dates (problem_of given effort) text n) held result
-    (subst (λ (b : Bytes). GivesOfFound (of_dates (problem_of given effort) b n) result) c.deref.ensures.value c.dates_of_found.ensures)))))
+    (subst (λ (f : Graph). Carries (give (of_dates form (record { graph = f; archi = given.text.archi; table = given.durations; effort = effort }) text n)) held held result) c.in_ok-compilation.ensures.reads.2.flattens
+    (found_so (of_dates form (problem_of given effort) text n) held result
+    (subst (λ (b : Bytes). GivesOfFound (of_dates form (problem_of given effort) b n) result) c.deref.ensures.value c.dates_of_found.ensures)))))

@@ -1,0 +1,23 @@
+pub mod Firsts
+pub mod Places
+pub mod Telling
+pub mod Rising
+pub mod Sequenced
+pub mod NamesTold
+pub mod Called
+pub mod CallsTold
+pub mod TransfersTold
+pub mod BuffersTold
+pub mod ValuesTold
+pub mod Guarding
+pub mod PairsTold
+pub mod Opening
+pub mod PrologueTold
+pub mod Stopped
+pub mod Explained
+pub mod Exact
+pub mod Reasons
+pub mod Rests
+pub mod ByReading
+pub mod ByTable
+mod Worked

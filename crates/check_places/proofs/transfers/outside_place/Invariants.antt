@@ -1,0 +1,8 @@
+use Rattle.std.proofs.Common.{◌≡◌, drop}
+use Rattle.check_places.specs.First.{first_from}
+use Rattle.check_places.specs.Transfers.{outside_place}
+use Rattle.check_places.proofs.transfers.outside_place.Given as goal
+
+-- what is left gives the first
+abbrev pub invariant-loop-sequence : goal.invariant-loop-sequence
+invariant-loop-sequence l = first_from outside_place l.sequence (drop l.sequence l.program.seqs) ≡ first_from outside_place 0 l.program.seqs

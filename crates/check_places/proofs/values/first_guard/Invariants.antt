@@ -1,0 +1,8 @@
+use Rattle.std.proofs.Common.{◌≡◌, drop}
+use Rattle.check_places.specs.First.{first_from}
+use Rattle.check_places.specs.Buffers.{guard_place}
+use Rattle.check_places.proofs.values.first_guard.Given as goal
+
+-- what is left gives the first
+abbrev pub invariant-loop-number : goal.invariant-loop-number
+invariant-loop-number l = first_from (guard_place l.carried.program.now l.carried.vertices.now l.call.operation l.call.sequence l.call.at l.ins) l.number (drop l.number l.guards) ≡ first_from (guard_place l.carried.program.now l.carried.vertices.now l.call.operation l.call.sequence l.call.at l.ins) 0 l.guards

@@ -1,0 +1,9 @@
+pub mod First
+pub mod Calls
+pub mod Transfers
+pub mod Buffers
+pub mod Pairs
+pub mod Names
+pub mod Waits
+pub mod Why
+pub mod Shown

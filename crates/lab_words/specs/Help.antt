@@ -1,0 +1,41 @@
+-- The list of the commands, as `help` writes it.
+use Rattle.std.specs.Prelude.{List, [], ◌∷◌, ◌++◌, codes}
+use Rattle.syn_base.specs.Bytes.{Bytes}
+
+-- lines, each with its end
+abbrev pub lines_text : List Bytes → Bytes
+lines_text [] = []
+lines_text (l ∷ ls) = l ++ 10 ∷ lines_text ls
+
+abbrev pub heading : Bytes
+heading = codes "syndex_lab shows what syndex compiles, in forms that other tools show."
+
+-- of a schedule
+abbrev pub schedule_lines : List Bytes
+schedule_lines =
+    codes "  chart ALGORITHM ARCHITECTURE           the timing chart, as a picture (SVG)"
+    ∷ codes "  trace ALGORITHM ARCHITECTURE           the same as a trace, for Perfetto or chrome://tracing (JSON)"
+    ∷ codes "  flat ALGORITHM ARCHITECTURE            the operations in the colours of their operators (DOT)"
+    ∷ codes "  code ALGORITHM ARCHITECTURE            the macro-code of its program"
+    ∷ codes "  report ALGORITHM ARCHITECTURE          its numbers, and a bound below every schedule"
+    ∷ codes "  dates ALGORITHM ARCHITECTURE DURATIONS N"
+    ∷ codes "                                         when everything happens in N reactions, as a picture (SVG)"
+    ∷ codes "  trace ALGORITHM ARCHITECTURE DURATIONS N"
+    ∷ codes "                                         the same as a trace (JSON)" ∷ []
+
+-- of texts alone
+abbrev pub text_lines : List Bytes
+text_lines =
+    codes "  graph ALGORITHM                        the definitions, for Graphviz (DOT)"
+    ∷ codes "  table ALGORITHM                        the sensor table that it wants, with a reaction of zeros"
+    ∷ codes "  plot ALGORITHM SENSORS                 what the actuators take, as a picture (SVG)"
+    ∷ codes "  help                                   this list" ∷ []
+
+abbrev pub option_lines : List Bytes
+option_lines =
+    codes "What shows a schedule takes --tries N, which searches one by N tries,"
+    ∷ codes "and --seed S, which fixes its chances." ∷ []
+
+abbrev pub help_text : Bytes
+help_text = lines_text (
+    heading ∷ [] ∷ schedule_lines ++ text_lines ++ [] ∷ option_lines ++ codes "The manual is docs/MANUAL.md." ∷ [])

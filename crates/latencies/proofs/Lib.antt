@@ -1,0 +1,4 @@
+pub mod Turning
+pub mod Paths
+pub mod Listing
+pub mod Worked

@@ -1,0 +1,3 @@
+pub mod Latency
+pub mod Turns
+pub mod Laws
