@@ -130,7 +130,7 @@ module _ (t : Task) (given : IsTask t) (ds : List Decision) (v p : ℕ) (may : m
       let w = so.within in
       let l = so.lasting in
       let sum : sum_by stated (acts_of (ds ++ decision t (acts_of ds) v p ∷ [])) ≡ sum_by stated (acts_of ds) + (start t (acts_of ds) v p + ticks_in (t.ticks v p) - start t (acts_of ds) v p)
-      = ap (sum_by stated) shut ∙ sum_by_push (acts_of ds) (run (decision t (acts_of ds) v p)) in
+      = ap (sum_by stated) shut ∙ sum_by_push stated (acts_of ds) (run (decision t (acts_of ds) v p)) in
       record {
         on = ap (list_all (is_on p)) shut ∙ all_append (is_on p) (acts_of ds) (run (decision t (acts_of ds) v p) ∷ []) so.on (both_true (eq-eqb p p refl) refl);
         within = omega arith;

@@ -1,8 +1,8 @@
 -- The measure of schedules: of those on one operator alone, and of the better one of two.
-use Rattle.std.proofs.Common.{◌≡◌, ℕ, zero, suc, ◌+◌, ◌-◌, ◌*◌, ◌≤◌, Bool, true, false, List, [], ◌∷◌, Option, Some, Ok, Err, refl, sym, ap, subst, arith, ◌∙◌}
+use Rattle.std.proofs.Common.{◌≡◌, ℕ, zero, suc, ◌+◌, ◌-◌, ◌*◌, ◌<◌, ◌≤◌, Bool, true, false, inl, inr, List, [], ◌∷◌, Option, Some, Ok, Err, refl, sym, ap, subst, arith, ◌∙◌}
 use Rattle.std.specs.Prelude.{All, IfOk, IsTrue, Result, nat_le, slice_get, sum_by}
 use Rattle.std.specs.List.{list_all}
-use Rattle.std.proofs.lemmas.Bool.{and_parts, leb-true}
+use Rattle.std.proofs.lemmas.Bool.{and_parts, cases_lt, leb-true}
 use Rattle.std.proofs.lemmas.Option.{same_Some}
 use Rattle.syn_base.specs.declared.memory.OutOfMemory.{OutOfMemory}
 use Rattle.flat_graph.specs.Graph.{Graph}
@@ -53,3 +53,10 @@ lone_is_low law s goal p x deep alone (Ok m) is same = low
 
 pub lower : (t : Task) (goal : Goal) (n k : ℕ) → n ≤ k → IsLowAlone t goal k → IsLowAlone t goal n
 lower t goal n k l low p may = let h = low p may in omega arith
+
+-- after one operator more
+pub low_next : (t : Task) (goal : Goal) (k n m : ℕ) → m ≤ n → ((p : ℕ) → p < k → IsLowOn t goal p n) → IsLowOn t goal k m → (p : ℕ) → p < k + 1 → IsLowOn t goal p m
+low_next t goal k n m l before here p lt may = elim (cases_lt p k) [
+  | inl h ↦ (let b = before p h may in omega arith)
+  | inr h ↦ (let e : k ≡ p = omega arith in subst (λ (q : ℕ). IsLowOn t goal q m) e here may)
+]
