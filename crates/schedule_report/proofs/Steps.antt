@@ -23,7 +23,7 @@ no_runs : (o : ℕ) (ts : List Transfer) → busy (is_on o) (map carry ts) ≡ 0
 no_runs o [] = refl
 no_runs o (t ∷ ts) = no_runs o ts
 
-first_of : {A : Type 0} (xs : List A) (i : ℕ) (x : A) → i < length xs → x ≡ get_or xs i x → drop i xs ≡ x ∷ drop (i + 1) xs
+pub first_of : {A : Type 0} (xs : List A) (i : ℕ) (x : A) → i < length xs → x ≡ get_or xs i x → drop i xs ≡ x ∷ drop (i + 1) xs
 first_of xs i x l is =
     let one : suc i ≡ i + 1 = omega arith in
     drop-cons xs i x l ∙ (λ j. sym is j ∷ drop (one j) xs)

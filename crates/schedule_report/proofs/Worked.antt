@@ -1,10 +1,13 @@
 -- The numbers of worked schedules: on one operator, on a bus, of a speed controller.
-use Rattle.std.proofs.Common.{◌≡◌, ℕ, List, [], ◌∷◌, Option, Some, None, refl}
-use Rattle.schedule.proofs.Examples.{entry, plain_graph, plain_archi, plain_schedule, bus_graph, bus_archi, bus_ticks, bus_schedule, speed_graph, speed_archi, speed_ticks, speed_schedule}
+use Rattle.std.proofs.Common.{◌≡◌, ℕ, List, [], ◌∷◌, Option, Some, None, refl, pos}
+use Rattle.flat_graph.specs.Graph.{Graph}
+use Rattle.flat_graph.specs.declared.vertex.Kind.TheVariants.{Actuator, Constant, Get, Set}
+use Rattle.schedule.proofs.Examples.{carried, entry, operation, placed, schedule, source, plain_graph, plain_archi, plain_schedule, bus_graph, bus_archi, bus_ticks, bus_schedule, speed_graph, speed_archi, speed_ticks, speed_schedule}
 use Rattle.schedule_report.specs.declared.ratio.Ratio.{Ratio}
 use Rattle.schedule_report.specs.declared.loads.Load.{Load}
 use Rattle.schedule_report.specs.declared.alone.Alone.{Alone}
 use Rattle.schedule_report.specs.Numbers.{ratio, report}
+use Rattle.schedule_report.specs.Transfers.{transfers}
 
 abbrev times : ℕ → ℕ → Ratio
 times whole thousandths = record { whole = whole; thousandths = thousandths }
@@ -45,3 +48,16 @@ speed : report speed_graph speed_archi speed_ticks speed_schedule ≡ record {
   above = times 1 421;
 }
 speed = refl
+
+-- a constant, the halves of a delay, and an actuator
+abbrev kept_graph : Graph
+kept_graph = record {
+  vertices = operation 107 (Constant (pos 1 ∷ [])) [] [] (1 ∷ []) None ∷ operation 103 (Get (pos 0 ∷ [])) [] [] (1 ∷ []) (Some 2)
+      ∷ operation 104 Set [] (source 1 ∷ []) [] (Some 1) ∷ operation 97 (Actuator 0) [] (source 0 ∷ []) [] None ∷ [];
+  bodies = [];
+}
+
+-- the speed controller's two transfers carry a sensor's value and a function's; a constant and what a delay keeps are counted apart
+counted : (transfers speed_graph speed_schedule ≡ record { all = 2; constants = 0; delays = 0 })
+    × (transfers kept_graph (schedule (placed 3 1 0 1 (carried 0 0 0 1 0 1 ∷ carried 1 0 0 1 1 2 ∷ []) ∷ placed 2 1 3 4 (carried 1 0 0 1 2 3 ∷ []) ∷ [])) ≡ record { all = 3; constants = 1; delays = 2 })
+counted = (refl, refl)

@@ -11,7 +11,7 @@ pub struct Ratio {
 }
 
 /// How often the second number is in the first; 0 where the second is 0.
-pub(crate) fn ratio_of(number: u64, of: u64) -> Ratio
+pub fn ratio_of(number: u64, of: u64) -> Ratio
     ensures { result ≡ ratio number of }
 {
     if of == 0 {

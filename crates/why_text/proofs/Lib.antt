@@ -1,0 +1,5 @@
+pub mod Seeing
+pub mod Heads
+pub mod Beside
+pub mod Saying
+pub mod Worked
