@@ -6,11 +6,9 @@ schedule, the length of the pressure run, of list schedules by upward ranks comp
 insertion), of what the search finds at each number of tries, and its seconds of the processor. At the end the geometric
 means of the ratios to the pressure run.
 
-    search.py [--program FILE] [--tries N,N,..] [--most OPERATIONS] [--for period]
+    search.py [--program FILE] [--tries N,N,..] [--most OPERATIONS]
 
-A schedule that is longer than the pressure run or than HEFT is marked. With `--for period` the table is of the
-examples alone: how many ticks pass from one reaction to the next, where all starts as soon as it may, by the pressure
-run and by what the search finds where that is its goal, each with the length of a reaction."""
+A schedule that is longer than the pressure run or than HEFT is marked."""
 import argparse
 import math
 import os
@@ -304,22 +302,16 @@ def designs(most):
                     yield design, Machine(count, joined, fixed, count)
 
 
-def told(program, files, tries, goal):
-    """What `report` tells, the first word after each name, and the seconds of the processor."""
-    words = [program, "report", *files] + (["--tries", str(tries), "--for", goal] if tries else [])
+def report(program, files, tries):
+    """The length and the bound that `report` tells, and the seconds of the processor."""
+    words = [program, "report", *files] + (["--tries", str(tries)] if tries else [])
     before = resource.getrusage(resource.RUSAGE_CHILDREN)
     ran = subprocess.run(words, capture_output=True, text=True, check=False)
     after = resource.getrusage(resource.RUSAGE_CHILDREN)
     if ran.returncode:
         sys.exit(f"search: {' '.join(words)}: status {ran.returncode}: {ran.stderr.strip()}")
     rows = {line.split()[0]: line.split()[1] for line in ran.stdout.splitlines() if line.strip()}
-    return rows, after.ru_utime - before.ru_utime
-
-
-def report(program, files, tries):
-    """The length and the bound that `report` tells, and the seconds of the processor."""
-    rows, seconds = told(program, files, tries, "length")
-    return int(rows["length"]), int(rows["bound"]), seconds
+    return int(rows["length"]), int(rows["bound"]), after.ru_utime - before.ru_utime
 
 
 class Means:
@@ -351,48 +343,21 @@ def row(options, name, operations, files, plain, means):
     print(" ".join(words), flush=True)
 
 
-def periods(options, names):
-    """A table of the examples by their periods."""
-    heads = "".join(f"{it:>10}{'length':>8}{'s':>7}" for it in options.tries)
-    print(f"{'design':24}{'run':>10}{'length':>8}{heads}")
-    means = Means()
-    for name, files in names:
-        rows, _ = told(options.program, files, 0, "period")
-        run = float(rows["period"])
-        words = [f"{name:24}{run:10.2f}{rows['length']:>8}"]
-        for tries in options.tries:
-            rows, seconds = told(options.program, files, tries, "period")
-            words.append(f"{float(rows['period']):10.2f}{rows['length']:>8}{seconds:7.2f}")
-            if run:
-                means.add(f"{tries} tries", float(rows["period"]) / run)
-        print("".join(words), flush=True)
-    means.show()
-
-
-def examples():
-    """The examples with their two texts."""
-    for name in sorted(os.listdir(f"{TOP}/examples")):
-        files = [f"{TOP}/examples/{name}/{it}.txt" for it in ("algorithm", "architecture")]
-        if all(os.path.isfile(it) for it in files):
-            yield name, files
-
-
 def main():
     options = argparse.ArgumentParser(description=__doc__, formatter_class=argparse.RawDescriptionHelpFormatter)
     options.add_argument("--program", default=LAB)
     options.add_argument("--tries", type=lambda text: [int(it) for it in text.split(",")], default=list(TRIES))
     options.add_argument("--most", type=int, default=2048)
-    options.add_argument("--for", dest="goal", choices=("length", "period"), default="length")
     options = options.parse_args()
     if not os.access(options.program, os.X_OK):
         sys.exit("search: syndex_lab is not built: run ./build first, or name a program")
-    if options.goal == "period":
-        return periods(options, examples())
     heads = "".join(f"{it:>9}{'s':>8}" for it in options.tries)
     print(f"{'design':52}{'ops':>6}{'bound':>8}{'run':>8}{'HEFT':>8} {heads}")
     means = Means()
-    for name, files in examples():
-        row(options, name, "", files, None, means)
+    for name in sorted(os.listdir(f"{TOP}/examples")):
+        files = [f"{TOP}/examples/{name}/{it}.txt" for it in ("algorithm", "architecture")]
+        if all(os.path.isfile(it) for it in files):
+            row(options, name, "", files, None, means)
     with tempfile.TemporaryDirectory() as room:
         for design, machine in designs(options.most):
             files = [written(room, "algorithm", design.text), written(room, "architecture", machine.text(design.operations))]

@@ -7,10 +7,13 @@ use Rattle.std.proofs.lemmas.Option.{same_Some}
 use Rattle.syn_base.specs.declared.memory.OutOfMemory.{OutOfMemory}
 use Rattle.flat_graph.specs.Graph.{Graph}
 use Rattle.archi_graph.specs.Archi.{Architecture, is_depth}
-use Rattle.durations.specs.Table.{IsRow}
+use Rattle.durations.specs.Table.{IsRow, Table}
 use Rattle.schedule.specs.declared.decision.Schedule.{Schedule}
 use Rattle.schedule.specs.Acts.{acts, is_on}
 use Rattle.comm_routing.specs.Task.{Task}
+use Rattle.pressure_heuristic.specs.Adequation.{IsRunOfAny}
+use Rattle.pressure_heuristic.specs.Pressure.{pressure_run}
+use Rattle.pressure_heuristic.specs.Tasks.{task}
 use Rattle.self_timed_laws.specs.Entries.{stated}
 use Rattle.self_timed.specs.Told.{IsValidForSome}
 use Rattle.self_timed_period.specs.Period.{OneOperatorHasItsLengthAsPeriod}
@@ -20,7 +23,7 @@ use Rattle.plan_search.specs.declared.site.Site.{Site}
 use Rattle.schedule_search.specs.declared.measured.Measured.{Measured}
 use Rattle.schedule_search.specs.Alone.{IsAlone, IsLone, IsLowAlone, IsLowOn, MayAllStandOn}
 use Rattle.schedule_search.specs.Drafts.{IsMeasured, IsValidIn, site_task}
-use Rattle.schedule_search.specs.Found.{last_half, measure, measure_alone, time_alone}
+use Rattle.schedule_search.specs.Found.{IsNoSlowerThanAlone, IsNoSlowerThanRun, MayAllStand, last_half, measure, measure_alone, time_alone}
 
 pub valid_for_some : (s : Site) (x : Schedule) → All (IsRow s.durations.now.operators) s.durations.now.rows → IsValidIn (site_task s) x → IsValidForSome s.flat.now s.archi.now x
 valid_for_some s x rows valid = record { durations = s.durations.now; rows = rows; valid = valid }
@@ -60,3 +63,30 @@ low_next t goal k n m l before here p lt may = elim (cases_lt p k) [
   | inl h ↦ (let b = before p h may in omega arith)
   | inr h ↦ (let e : k ≡ p = omega arith in subst (λ (q : ℕ). IsLowOn t goal q m) e here may)
 ]
+
+-- what is no more than one of two that are the same is no more than the other
+pub low_same : {A : Type 0} (f : A → ℕ) (n : ℕ) (x y : A) → n ≤ f x → x ≡ y → n ≤ f y
+low_same f n x y l same = subst (λ z. n ≤ f z) same l
+
+-- the pressure run is no slower than itself
+pub run_is_no_slower : (g : Graph) (a : Architecture) (d : Table) (x : Schedule) → IsRunOfAny g a d x → IsNoSlowerThanRun g a d x
+run_is_no_slower g a d x any r table = low_same (last_half g a) (last_half g a x) x (pressure_run (task g a r d)) (itself (last_half g a x)) (any r table)
+  where
+    itself : (n : ℕ) → n ≤ n
+    itself n = omega arith
+
+-- what is no slower than the pressure run, where the period is the goal
+pub no_slower_than_run : (g : Graph) (a : Architecture) (d : Table) (goal : Goal) (x : Schedule) → IsRunOfAny g a d x → goal ≡ Period
+    → (r : Result Schedule OutOfMemory) → IfOk r (λ s. measure goal g a s ≤ measure goal g a x) → IfOk r (IsNoSlowerThanRun g a d)
+no_slower_than_run g a d goal x any period (Err e) low = low
+no_slower_than_run g a d goal x any period (Ok s) low =
+    let l : last_half g a s ≤ last_half g a x = subst (λ (q : Goal). measure q g a s ≤ measure q g a x) period low in
+    λ r table. low_same (last_half g a) (last_half g a s) x (pressure_run (task g a r d)) l (any r table)
+
+-- and no slower than all on one operator
+pub no_slower_than_alone : (g : Graph) (a : Architecture) (ticks : ℕ → ℕ → Option ℕ) (goal : Goal) → goal ≡ Period
+    → (r : Result Schedule OutOfMemory) → IfOk r (λ s. (p : ℕ) → MayAllStand g a ticks p → measure goal g a s ≤ measure_alone goal (time_alone g a ticks p))
+    → IfOk r (IsNoSlowerThanAlone g a ticks)
+no_slower_than_alone g a ticks goal period (Err e) low = low
+no_slower_than_alone g a ticks goal period (Ok s) low =
+    λ p may. subst (λ (q : Goal). measure q g a s ≤ measure_alone q (time_alone g a ticks p)) period (low p may)

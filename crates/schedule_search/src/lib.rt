@@ -2,8 +2,8 @@
 //! faster.
 //!
 //! `search` returns the best of the pressure run, of the schedules on one operator alone and of a plan
-//! that `plan_search` proposes, made by a draft: the shortest one, or the one with the shortest period. The law says that a draft in which nothing is left
-//! to place is a valid schedule, whoever chose.
+//! that `plan_search` proposes, made by a draft: the shortest one, or the one with the shortest period.
+//! The law says that a draft in which nothing is left to place is a valid schedule, whoever chose.
 #![tactic(auto)]
 
 mod alone;

@@ -11,8 +11,6 @@ mod commands;
 #[cfg(test)]
 mod dates;
 #[cfg(test)]
-mod found;
-#[cfg(test)]
 mod meaning;
 #[cfg(test)]
 mod periods;
