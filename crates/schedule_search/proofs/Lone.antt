@@ -1,11 +1,12 @@
 -- All operations on one operator: nothing is carried, and each one starts when the one before it ends.
-use Rattle.std.proofs.Common.{◌≡◌, ℕ, zero, suc, ◌+◌, ◌<◌, ◌≤◌, Bool, true, false, cond, ◌&&◌, ◌||◌, not, nat_eq, List, [], ◌∷◌, ◌++◌, map, length, Option, Some, None, max, refl, sym, ap, subst, arith, ◌∙◌, eq-eqb}
-use Rattle.std.specs.Prelude.{IsTrue, is_some, nat_le, nat_lt, slice_get}
+use Rattle.std.proofs.Common.{◌≡◌, ℕ, zero, suc, ◌+◌, ◌-◌, ◌<◌, ◌≤◌, Bool, true, false, cond, ◌&&◌, ◌||◌, not, nat_eq, List, [], ◌∷◌, ◌++◌, map, length, Option, Some, None, max, refl, sym, ap, subst, arith, ◌∙◌, eq-eqb}
+use Rattle.std.specs.Prelude.{IsTrue, is_some, nat_le, nat_lt, slice_get, sum_by}
 use Rattle.std.specs.List.{filter, list_all, list_any, range_with_len}
 use Rattle.std.specs.Cmp.Derive.{both_true}
 use Rattle.std.proofs.lemmas.Bool.{false≢true, and_parts, or_left, or_right, lt-ltb, ltb-true, leb-true, eqb-true}
 use Rattle.std.proofs.lemmas.List.{append-nil, append_assoc}
 use Rattle.std.proofs.lemmas.List.Folds.{list_any-append}
+use Rattle.std.proofs.lemmas.List.Sums.{sum_by_push}
 use Rattle.std.proofs.Math.Nat.{le-max_left, le-max_right}
 use Rattle.flat_graph.specs.declared.vertex.Source.{Source}
 use Rattle.flat_graph.specs.Graph.{len_of}
@@ -22,15 +23,16 @@ use Rattle.comm_routing.proofs.Right.{candidate_given, is_given}
 use Rattle.pressure_heuristic.specs.Pressure.{operations}
 use Rattle.pressure_heuristic.proofs.Lists.{left, one_fewer}
 use Rattle.pressure_heuristic.proofs.Whole.{in_range}
+use Rattle.self_timed_laws.specs.Entries.{stated}
 use Rattle.schedule_search.specs.Found.{MayAllStand, time_alone}
-use Rattle.schedule_search.specs.Alone.{SoFar, ran_on, time_left}
+use Rattle.schedule_search.specs.Alone.{SoFar, time_left}
 use Rattle.schedule_search.proofs.Timed.{all_left, less_left}
 
-pub on_operator : (p : ℕ) (acts : List Act) (v : ℕ) → list_all (ran_on p) acts ≡ true → is_placed acts v ≡ true → operator_of acts v ≡ p
+pub on_operator : (p : ℕ) (acts : List Act) (v : ℕ) → list_all (is_on p) acts ≡ true → is_placed acts v ≡ true → operator_of acts v ≡ p
 on_operator p [] v on h = absurd (false≢true h)
-on_operator p (carry c ∷ acts) v on h = on_operator p acts v on h
+on_operator p (carry c ∷ acts) v on h = absurd (false≢true on)
 on_operator p (run d ∷ acts) v on h =
-    let both = and_parts (nat_eq d.operator p) (list_all (ran_on p) acts) on in
+    let both = and_parts (nat_eq d.operator p) (list_all (is_on p) acts) on in
     by (nat_eq d.op v) h (eqb-true d.operator p both.0) (λ e. on_operator p acts v both.1 e)
   where
     by : (b : Bool) → (b || is_placed acts v) ≡ true → d.operator ≡ p → (is_placed acts v ≡ true → operator_of acts v ≡ p) → cond b d.operator (operator_of acts v) ≡ p
@@ -55,7 +57,7 @@ greatest_low f bound low (x ∷ xs) = let a = low x in let b = greatest_low f bo
 
 module _ (t : Task) (p : ℕ) where
   -- what is given is held on the operator already
-  none_fetched : (before : List Act) → list_all (ran_on p) before ≡ true → (xs : List Source) → list_all (is_given t before) xs ≡ true → fetched_all t before p xs ≡ []
+  none_fetched : (before : List Act) → list_all (is_on p) before ≡ true → (xs : List Source) → list_all (is_given t before) xs ≡ true → fetched_all t before p xs ≡ []
   none_fetched before on [] given = refl
   none_fetched before on (x ∷ xs) given =
       let both = and_parts (is_given t before x) (list_all (is_given t before) xs) given in
@@ -85,6 +87,7 @@ pub at_first : (t : Task) (p : ℕ) → SoFar t p []
 at_first t p = record {
   on = refl;
   within = let e = all_left (λ v. ticks_in (t.ticks v p)) (is_placed []) (λ v. refl) (operations t) in omega arith;
+  lasting = let e = all_left (λ v. ticks_in (t.ticks v p)) (is_placed []) (λ v. refl) (operations t) in omega arith;
 }
 
 -- acts, and one operation more for which nothing is carried
@@ -125,9 +128,13 @@ module _ (t : Task) (given : IsTask t) (ds : List Decision) (v p : ℕ) (may : m
       = ap latest shut ∙ latest-append (acts_of ds) (run (decision t (acts_of ds) v p) ∷ []) in
       let less = less_left (λ w. ticks_in (t.ticks w p)) (is_placed (acts_of ds)) (is_placed (acts_of (ds ++ decision t (acts_of ds) v p ∷ []))) more (operations t) v v (in_range (length t.graph.vertices) v there) c.fresh now in
       let w = so.within in
+      let l = so.lasting in
+      let sum : sum_by stated (acts_of (ds ++ decision t (acts_of ds) v p ∷ [])) ≡ sum_by stated (acts_of ds) + (start t (acts_of ds) v p + ticks_in (t.ticks v p) - start t (acts_of ds) v p)
+      = ap (sum_by stated) shut ∙ sum_by_push stated (acts_of ds) (run (decision t (acts_of ds) v p)) in
       record {
-        on = ap (list_all (ran_on p)) shut ∙ all_append (ran_on p) (acts_of ds) (run (decision t (acts_of ds) v p) ∷ []) so.on (both_true (eq-eqb p p refl) refl);
+        on = ap (list_all (is_on p)) shut ∙ all_append (is_on p) (acts_of ds) (run (decision t (acts_of ds) v p) ∷ []) so.on (both_true (eq-eqb p p refl) refl);
         within = omega arith;
+        lasting = omega arith;
       }
 
 -- where all may stand on the operator, a candidate may

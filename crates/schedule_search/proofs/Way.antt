@@ -1,6 +1,6 @@
 -- Drafts under way: one more decision, and what a draft gives in the end.
 use Rattle.std.proofs.Common.{◌≡◌, ℕ, zero, suc, ◌+◌, ◌<◌, ◌≤◌, Bool, true, false, cond, ◌&&◌, not, List, [], ◌∷◌, ◌++◌, length, Option, Some, None, Ok, Err, refl, sym, ap, subst, arith, ◌∙◌, inl, inr, ◌⊎◌}
-use Rattle.std.specs.Prelude.{All, IfOk, IfSome, IsNone, IsSome, IsSomeAnd, IsTrue, Result, nat_lt, slice_get}
+use Rattle.std.specs.Prelude.{All, IfOk, IfSome, IsNone, IsSome, IsSomeAnd, IsTrue, Result, nat_lt, slice_get, sum_by}
 use Rattle.std.specs.List.{filter, list_all, range_with_len}
 use Rattle.std.proofs.lemmas.Bool.{false≢true, true≢false}
 use Rattle.std.proofs.lemmas.Option.{same_Some}
@@ -11,7 +11,7 @@ use Rattle.archi_graph.specs.Archi.{is_archi}
 use Rattle.durations.specs.Table.{IsRow, StandBeside}
 use Rattle.schedule.specs.declared.decision.Decision.{Decision}
 use Rattle.schedule.specs.declared.decision.Schedule.{Schedule}
-use Rattle.schedule.specs.Acts.{acts_of, latest, length_of}
+use Rattle.schedule.specs.Acts.{acts, acts_of, is_on, latest}
 use Rattle.schedule.specs.Valid.{is_valid}
 use Rattle.comm_routing.specs.Task.{Task}
 use Rattle.comm_routing.specs.Given.{IsTask}
@@ -20,13 +20,13 @@ use Rattle.comm_routing.specs.Draft.{Drafted, after_placing, task_of}
 use Rattle.comm_routing.specs.Placing.{decision, is_candidate, is_placed, may_place, needs}
 use Rattle.comm_routing.proofs.Arrivals.{placed_rightly_behind}
 use Rattle.comm_routing.proofs.Sites.{site_of}
+use Rattle.self_timed_laws.specs.Entries.{stated}
 use Rattle.plan_search.specs.declared.site.Site.{Site}
 use Rattle.pressure_heuristic.specs.Pressure.{operations}
 use Rattle.pressure_heuristic.proofs.Lists.{left, none_left}
 use Rattle.pressure_heuristic.proofs.Whole.{all_of, left_within}
-use Rattle.schedule_search.specs.Alone.{IsAlone, MayAllStandOn, SoFar, when}
+use Rattle.schedule_search.specs.Alone.{IsAlone, IsLone, MayAllStandOn, SoFar, when}
 use Rattle.schedule_search.specs.Drafts.{IsDone, IsSite, IsUnderWay, IsValidIn, opened, site_task}
-use Rattle.schedule_search.specs.Found.{time_alone}
 use Rattle.schedule_search.proofs.Lone.{at_first, count_left, may_stand_there, one_less, still_so}
 use Rattle.schedule_search.proofs.Whole.{drafts_are_valid, passes_none}
 
@@ -71,14 +71,27 @@ done_of t ds l =
 pub few_left : (t : Task) → count_left t [] ≤ length t.graph.vertices
 few_left t = let l = left_within t (is_placed []) (operations t) in let m = length-range_with_len 0 (length t.graph.vertices) in omega arith
 
+-- all on one operator, so far and in the end
+pub lone_of : (t : Task) (p : ℕ) (ds : List Decision) (s : Schedule) → acts s ≡ acts_of ds → SoFar t p ds → IsLone t p s
+lone_of t p ds s is so =
+    let w = so.within in
+    let l = so.lasting in
+    let long = ap latest is in
+    let sum = ap (sum_by stated) is in
+    record {
+      long = omega arith;
+      on = ap (list_all (is_on p)) is ∙ so.on;
+      lasting = omega arith;
+    }
+
 -- what a draft with all on one operator gives
 pub alone_of : (t u : Task) (p : ℕ) (ds : List Decision) → t ≡ u → (MayAllStandOn t p → IsDone t ds) → (MayAllStandOn t p → SoFar t p ds)
     → (o : Option Schedule) → (IsDone t ds → IsSome o) → IfSome o (λ s. s.decisions ≡ ds) → IsAlone u p o
 alone_of t u p ds same done so o some is = subst (λ (x : Task). IsAlone x p o) same (λ all. by o (some (done all)) is (so all))
   where
-    by : (o : Option Schedule) → IsSome o → IfSome o (λ s. s.decisions ≡ ds) → SoFar t p ds → IsSomeAnd o (λ s. length_of s ≤ time_alone t.graph t.archi t.ticks p)
+    by : (o : Option Schedule) → IsSome o → IfSome o (λ s. s.decisions ≡ ds) → SoFar t p ds → IsSomeAnd o (IsLone t p)
     by None h is so = absurd (false≢true h)
-    by (Some s) h is so = let w = so.within in let e : latest (acts_of s.decisions) ≡ latest (acts_of ds) = ap (λ (l : List Decision). latest (acts_of l)) is in omega arith
+    by (Some s) h is so = lone_of t p ds s (ap acts_of is) so
 
 -- an operation that is returned where it may be placed may be placed
 pub when_passes : (f : ℕ → Bool) (v : ℕ) (r : Option ℕ) → r ≡ when (f v) v → IfSome r (λ w. IsTrue (f w))

@@ -12,7 +12,10 @@ use Rattle.comm_routing.specs.Given.{IsTask}
 use Rattle.comm_routing.specs.Laws.{AreRight}
 use Rattle.comm_routing.specs.Placing.{is_candidate}
 use Rattle.comm_routing.specs.Draft.{Drafted, task_of}
+use Rattle.plan_search.specs.declared.site.Goal.{Goal}
 use Rattle.plan_search.specs.declared.site.Site.{Site}
+use Rattle.schedule_search.specs.declared.measured.Measured.{Measured}
+use Rattle.schedule_search.specs.Found.{measure}
 
 -- no operation may be placed next
 abbrev pub IsDone : Task → List Decision → Type 0
@@ -48,3 +51,8 @@ pub record IsUnderWay (d : Drafted) : Type 0 where
 
 abbrev pub IsValidIn : Task → Schedule → Type 0
 IsValidIn t s = IsTrue (is_valid t.graph t.archi t.ticks s)
+
+-- a schedule with its measure, by this goal
+pub record IsMeasured (s : Site) (goal : Goal) (m : Measured) : Type 0 where
+  pub valid : IsValidIn (site_task s) m.schedule
+  pub measure : m.measure ≡ measure goal s.flat.now s.archi.now m.schedule

@@ -1,48 +1,65 @@
 //! Schedules on one operator alone.
 ghost use Rattle.std.specs.Prelude.{◌≡◌, ◌≤◌, [], IfOk, IfSome, IsNone, IsTrue, length};
-ghost use Rattle.schedule.specs.Acts.{acts_of, length_of};
+ghost use Rattle.schedule.specs.Acts.{acts_of};
 ghost use Rattle.comm_routing.specs.Draft.{task_of};
 ghost use Rattle.comm_routing.specs.Placing.{may_place};
-ghost use Rattle.durations.specs.Table.{entry_in};
-ghost use Rattle.schedule_search.specs.Alone.{IsAlone, MayAllStandOn, SoFar, when};
-ghost use Rattle.schedule_search.specs.Drafts.{IsDone, IsSite, IsUnderWay, IsValidIn, site_task};
-ghost use Rattle.schedule_search.specs.Found.{IsNoLongerThanAlone};
+ghost use Rattle.schedule_search.specs.Alone.{IsAlone, IsLowAlone, IsLowOn, MayAllStandOn, SoFar, when};
+ghost use Rattle.schedule_search.specs.Drafts.{IsDone, IsMeasured, IsSite, IsUnderWay, IsValidIn, site_task};
 
+use crate::measured::{Measured, better, with_measure};
 use crate::replay::{open, whole};
-use crate::shorter::shorter;
 use comm_routing::Draft;
-use plan_search::Site;
+use plan_search::{Goal, Site};
 use schedule::Schedule;
+use self_timed_period::one_operator_has_its_length_as_period;
 use syn_base::OutOfMemory;
 
-/// The shortest of a schedule and of those on one operator alone.
-pub(crate) fn best_alone(site: &Site, first: Schedule) -> Result<Schedule, OutOfMemory>
+/// The best of a schedule and of those on one operator alone.
+pub(crate) fn best_alone(site: &Site, goal: Goal, first: Measured) -> Result<Measured, OutOfMemory>
     requires site { IsSite site.now }
-    requires valid { IsValidIn (site_task site.now) first }
-    ensures valid { IfOk result (IsValidIn (site_task site.now)) }
-    ensures first { IfOk result (λ s. length_of s ≤ length_of first) }
-    ensures alone { IfOk result (IsNoLongerThanAlone site.now.flat.now site.now.archi.now
-        (entry_in site.now.durations.now)) }
+    requires measured { IsMeasured site.now goal first }
+    ensures measured { IfOk result (IsMeasured site.now goal) }
+    ensures first { IfOk result (λ m. m.measure ≤ first.measure) }
+    ensures alone { IfOk result (λ m. IsLowAlone (site_task site.now) goal m.measure) }
 {
     let mut best = first;
     for operator in 0..site.durations.operators() {
-        best = shorter_alone(site, best, operator)?;
+        best = better_alone(site, goal, best, operator)?;
     }
     Ok(best)
 }
 
-/// The shorter of a schedule and the one on this operator alone, if there is one.
-fn shorter_alone(site: &Site, best: Schedule, operator: u32) -> Result<Schedule, OutOfMemory>
+/// The better of a schedule and the one on this operator alone, if there is one.
+fn better_alone(
+    site: &Site,
+    goal: Goal,
+    best: Measured,
+    operator: u32,
+) -> Result<Measured, OutOfMemory>
     requires site { IsSite site.now }
-    requires valid { IsValidIn (site_task site.now) best }
-    ensures valid { IfOk result (IsValidIn (site_task site.now)) }
-    ensures first { IfOk result (λ s. length_of s ≤ length_of best) }
-    ensures alone { IfOk result (λ s. IsAlone (site_task site.now) operator (Some s)) }
+    requires measured { IsMeasured site.now goal best }
+    ensures measured { IfOk result (IsMeasured site.now goal) }
+    ensures first { IfOk result (λ m. m.measure ≤ best.measure) }
+    ensures alone { IfOk result (λ m. IsLowOn (site_task site.now) goal operator m.measure) }
 {
     match alone(site, operator)? {
-        Some(schedule) => Ok(shorter(best, schedule)),
+        Some(schedule) => Ok(better(best, lone(site, goal, schedule, operator)?)),
         None => Ok(best),
     }
+}
+
+/// The measure of a schedule on this operator alone.
+fn lone(site: &Site, goal: Goal, schedule: Schedule, operator: u32) -> Result<Measured, OutOfMemory>
+    requires site { IsSite site.now }
+    requires valid { IsValidIn (site_task site.now) schedule }
+    requires alone { IsAlone (site_task site.now) operator (Some schedule) }
+    ensures measured { IfOk result (IsMeasured site.now goal) }
+    ensures alone { IfOk result (λ m. IsLowOn (site_task site.now) goal operator m.measure) }
+{
+    one_operator_has_its_length_as_period();
+    // The proof takes from this call that buffers have a place.
+    let _depth = site.archi.depth();
+    with_measure(site, goal, schedule)
 }
 
 /// The schedule on this operator alone, `None` where not all operations may stand there.
