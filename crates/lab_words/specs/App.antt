@@ -4,7 +4,7 @@ use Rattle.clap.specs.Walk.{Rule}
 use Rattle.clap.specs.Simple.{App, new_app, new_rule, with_rule, with_subcommand, on_top}
 use Rattle.syn_base.specs.Bytes.{Bytes}
 use Rattle.lab_words.specs.declared.app.Takes.{Takes}
-use Rattle.lab_words.specs.declared.app.Takes.TheVariants.{Help, Graph, Lint, Plot, Schedule, Trace, Dates}
+use Rattle.lab_words.specs.declared.app.Takes.TheVariants.{Help, Graph, Lint, Plot, Schedule, Report, Trace, Why, Dates}
 
 -- a plain argument, which has to be there
 abbrev pub needed : Bytes → Rule
@@ -20,7 +20,8 @@ option id = record (new_rule id) { long = Some id }
 
 -- with the options of a search
 abbrev pub searching : App → App
-searching a = with_rule (with_rule a (option (codes "tries"))) (option (codes "seed"))
+searching a =
+    with_rule (with_rule (with_rule a (option (codes "tries"))) (option (codes "seed"))) (option (codes "for"))
 
 abbrev pub algorithm_app : Bytes → App
 algorithm_app name = with_rule (new_app name) (needed (codes "algorithm"))
@@ -31,11 +32,17 @@ architecture_app name = with_rule (algorithm_app name) (needed (codes "architect
 abbrev pub lint_app : Bytes → App
 lint_app name = with_rule (algorithm_app name) (optional (codes "architecture"))
 
+abbrev pub why_app : Bytes → App
+why_app name = with_rule (architecture_app name) (needed (codes "code"))
+
 abbrev pub plot_app : Bytes → App
 plot_app name = with_rule (algorithm_app name) (needed (codes "sensors"))
 
 abbrev pub schedule_app : Bytes → App
 schedule_app name = searching (architecture_app name)
+
+abbrev pub report_app : Bytes → App
+report_app name = searching (with_rule (architecture_app name) (optional (codes "reactions")))
 
 abbrev pub trace_app : Bytes → App
 trace_app name =
@@ -53,7 +60,9 @@ word_app Graph name = algorithm_app name
 word_app Lint name = lint_app name
 word_app Plot name = plot_app name
 word_app Schedule name = schedule_app name
+word_app Report name = report_app name
 word_app Trace name = trace_app name
+word_app Why name = why_app name
 word_app Dates name = dates_app name
 
 abbrev pub bare_app : App
@@ -70,6 +79,6 @@ with_commands a (c ∷ cs) = with_commands (with_subcommand a (word_app c.1 c.0)
 abbrev pub the_app : App
 the_app = with_commands bare_app (
     (codes "help", Help) ∷ (codes "--help", Help) ∷ (codes "chart", Schedule) ∷ (codes "trace", Trace)
-    ∷ (codes "flat", Schedule) ∷ (codes "code", Schedule) ∷ (codes "report", Schedule) ∷ (codes "graph", Graph)
-    ∷ (codes "table", Graph) ∷ (codes "lint", Lint) ∷ (codes "plot", Plot)
+    ∷ (codes "flat", Schedule) ∷ (codes "code", Schedule) ∷ (codes "report", Report) ∷ (codes "graph", Graph)
+    ∷ (codes "table", Graph) ∷ (codes "lint", Lint) ∷ (codes "why", Why) ∷ (codes "plot", Plot)
     ∷ (codes "dates", Dates) ∷ [])

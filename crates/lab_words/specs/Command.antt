@@ -20,14 +20,20 @@ use Rattle.syn_base.specs.Bytes.{Bytes}
 use Rattle.command_words.specs.Command.{number_up_to}
 use Rattle.lab_words.specs.App.{the_app}
 
--- how a schedule is searched: the number of schedules that are tried, and from which number the search draws
+-- what a search makes small: the length of the schedule, or its period
+pub data Goal : Type 0 where
+  for_length for_period : Goal
+
+-- how a schedule is searched: the number of schedules that are tried, from which number the search draws, and for what
 pub record Effort : Type 0 where
   pub tries : ℕ
   pub seed : ℕ
+  pub goal : Goal
 
--- what is written of a schedule
+-- what is written of a schedule; a report counts so many reactions
 pub data Subject : Type 0 where
-  chart trace flat code report : Subject
+  chart trace flat code : Subject
+  report : ℕ → Subject
 
 -- dates as a picture, or as trace events
 pub data Form : Type 0 where
@@ -42,6 +48,8 @@ pub data Command : Type 0 where
   graph table : Bytes → Command
   -- what is accepted and probably not meant, in the algorithm and in an architecture beside it
   lint : Bytes → Option Bytes → Command
+  -- where macro-code fails that is checked for the algorithm on the architecture
+  why : Bytes → Bytes → Bytes → Command
   -- the algorithm and the sensor table
   plot : Bytes → Bytes → Command
   -- the algorithm, the architecture, the actual durations, and the number of reactions
@@ -51,7 +59,7 @@ pub data Command : Type 0 where
 abbrev pub most_tries : ℕ
 most_tries = 1000000
 
--- the most reactions that are dated
+-- the most reactions that are dated or counted
 abbrev pub most_reactions : ℕ
 most_reactions = 1000
 
@@ -60,42 +68,59 @@ abbrev pub number_given : ℕ → ℕ → Option Bytes → Option ℕ
 number_given most usual None = Some usual
 number_given most usual (Some w) = number_up_to most w
 
-abbrev pub effort_by : Option ℕ → Option ℕ → Option Effort
-effort_by (Some tries) (Some seed) = Some (record { tries = tries; seed = seed })
-effort_by _ _ = None
+abbrev pub goal_named : Bytes → Option Goal
+goal_named w =
+    if bytes_eq w (codes "length") then Some for_length else
+    if bytes_eq w (codes "period") then Some for_period else None
+
+abbrev pub goal_given : Option Bytes → Option Goal
+goal_given None = Some for_length
+goal_given (Some w) = goal_named w
+
+abbrev pub effort_by : Option ℕ → Option ℕ → Option Goal → Option Effort
+effort_by (Some tries) (Some seed) (Some goal) = Some (record { tries = tries; seed = seed; goal = goal })
+effort_by _ _ _ = None
 
 -- the values that were given for the arguments and options of a command
 pub record Values : Type 0 where
   pub algorithm : Option Bytes
   pub architecture : Option Bytes
+  pub macros : Option Bytes
   pub sensors : Option Bytes
   pub durations : Option Bytes
   pub reactions : Option Bytes
   pub tries : Option Bytes
   pub seed : Option Bytes
+  pub goal : Option Bytes
 
 abbrev pub values_of : List Row → Values
 values_of rows = record {
   algorithm = first_of (codes "algorithm") rows;
   architecture = first_of (codes "architecture") rows;
+  macros = first_of (codes "code") rows;
   sensors = first_of (codes "sensors") rows;
   durations = first_of (codes "durations") rows;
   reactions = first_of (codes "reactions") rows;
   tries = first_of (codes "tries") rows;
   seed = first_of (codes "seed") rows;
+  goal = first_of (codes "for") rows;
 }
 
 -- the options of a search: without them nothing is tried
 abbrev pub effort_given : Values → Option Effort
-effort_given v = effort_by (number_given most_tries 0 v.tries) (number_given most_tries 1 v.seed)
+effort_given v = effort_by (number_given most_tries 0 v.tries) (number_given most_tries 1 v.seed) (goal_given v.goal)
+
+-- a report, of 50 reactions where no number is given
+abbrev pub report_given : Values → Option Subject
+report_given v = option_map (λ n. report n) (number_given most_reactions 50 v.reactions)
 
 -- what a command of this name writes of a schedule, but for traces
-abbrev pub subject_of : Bytes → Option Subject
-subject_of name =
+abbrev pub subject_of : Bytes → Values → Option Subject
+subject_of name v =
     if bytes_eq name (codes "chart") then Some chart else
     if bytes_eq name (codes "flat") then Some flat else
     if bytes_eq name (codes "code") then Some code else
-    if bytes_eq name (codes "report") then Some report else None
+    if bytes_eq name (codes "report") then report_given v else None
 
 abbrev pub dates_by : Form → Bytes → Bytes → Bytes → Option ℕ → Option Effort → Option Command
 dates_by form a h g (Some n) (Some effort) = Some (dates form a h g n effort)
@@ -123,9 +148,10 @@ trace_by (Some g) a h v = dates_given traced a h v
 -- the command of this name of an algorithm on an architecture
 abbrev pub command_on : Bytes → Bytes → Bytes → Values → Option Command
 command_on name a h v =
+    if bytes_eq name (codes "why") then option_map (why a h) v.macros else
     if bytes_eq name (codes "dates") then dates_given drawn a h v else
     if bytes_eq name (codes "trace") then trace_by v.durations a h v else
-    schedule_given (subject_of name) a h v
+    schedule_given (subject_of name v) a h v
 
 -- the same, where there is an architecture
 abbrev pub placed_given : Bytes → Bytes → Values → Option Command

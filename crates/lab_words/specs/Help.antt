@@ -17,7 +17,7 @@ schedule_lines =
     ∷ codes "  trace ALGORITHM ARCHITECTURE           the same as a trace, for Perfetto or chrome://tracing (JSON)"
     ∷ codes "  flat ALGORITHM ARCHITECTURE            the operations in the colours of their operators (DOT)"
     ∷ codes "  code ALGORITHM ARCHITECTURE            the macro-code of its program"
-    ∷ codes "  report ALGORITHM ARCHITECTURE          its numbers, and a bound below every schedule"
+    ∷ codes "  report ALGORITHM ARCHITECTURE [N]      its numbers, a bound, and the period over N reactions"
     ∷ codes "  dates ALGORITHM ARCHITECTURE DURATIONS N"
     ∷ codes "                                         when everything happens in N reactions, as a picture (SVG)"
     ∷ codes "  trace ALGORITHM ARCHITECTURE DURATIONS N"
@@ -29,13 +29,14 @@ text_lines =
     codes "  graph ALGORITHM                        the definitions, for Graphviz (DOT)"
     ∷ codes "  table ALGORITHM                        the sensor table that it wants, with a reaction of zeros"
     ∷ codes "  lint ALGORITHM [ARCHITECTURE]          what is accepted and probably not meant, with lines"
+    ∷ codes "  why ALGORITHM ARCHITECTURE CODE        where macro-code from another source fails"
     ∷ codes "  plot ALGORITHM SENSORS                 what the actuators take, as a picture (SVG)"
     ∷ codes "  help                                   this list" ∷ []
 
 abbrev pub option_lines : List Bytes
 option_lines =
-    codes "What shows a schedule takes --tries N, which searches one by N tries,"
-    ∷ codes "and --seed S, which fixes its chances." ∷ []
+    codes "What shows a schedule takes --tries N, which searches one by N tries, --seed S, which fixes its chances,"
+    ∷ codes "and --for length or --for period, which says what the search makes small." ∷ []
 
 abbrev pub help_text : Bytes
 help_text = lines_text (

@@ -12,10 +12,12 @@ ghost use Rattle.lab_words.specs.App.{
   option,
   optional,
   plot_app,
+  report_app,
   schedule_app,
   searching,
   the_app,
   trace_app,
+  why_app,
   with_commands,
   word_app,
 };
@@ -36,8 +38,12 @@ enum Takes {
     Plot,
     /// The algorithm and the architecture, and options of the search.
     Schedule,
+    /// The same, and the number of reactions if it is there.
+    Report,
     /// The same as for a schedule, and the actual durations and the number of reactions if they are there.
     Trace,
+    /// The algorithm, the architecture and the macro-code.
+    Why,
     /// The algorithm, the architecture, the actual durations and the number of reactions, and options of the
     /// search.
     Dates,
@@ -92,7 +98,8 @@ fn searching<'a>(alloc: Global, command: Command<'a>) -> Result<Command<'a>, All
     ensures local { IfOk result (λ c. (fields_of c).has_globals ≡ false) }
 {
     let command = with_option(alloc, command, "tries")?;
-    with_option(alloc, command, "seed")
+    let command = with_option(alloc, command, "seed")?;
+    with_option(alloc, command, "for")
 }
 
 /// A command that takes the algorithm.
@@ -121,6 +128,15 @@ fn lint<'a>(alloc: Global, name: &'a str) -> Result<Command<'a>, AllocError>
     with_optional(alloc, command, "architecture")
 }
 
+/// A command that takes the algorithm, the architecture and the macro-code.
+fn why<'a>(alloc: Global, name: &'a str) -> Result<Command<'a>, AllocError>
+    ensures app { IfOk result (λ c. app_of c ≡ why_app name.entry.now) }
+    ensures local { IfOk result (λ c. (fields_of c).has_globals ≡ false) }
+{
+    let command = architecture(alloc, name)?;
+    with_needed(alloc, command, "code")
+}
+
 /// A command that takes the algorithm and the sensor table.
 fn plot<'a>(alloc: Global, name: &'a str) -> Result<Command<'a>, AllocError>
     ensures app { IfOk result (λ c. app_of c ≡ plot_app name.entry.now) }
@@ -136,6 +152,16 @@ fn schedule<'a>(alloc: Global, name: &'a str) -> Result<Command<'a>, AllocError>
     ensures local { IfOk result (λ c. (fields_of c).has_globals ≡ false) }
 {
     let command = architecture(alloc, name)?;
+    searching(alloc, command)
+}
+
+/// A command that takes the same, and the number of reactions if it is there.
+fn report<'a>(alloc: Global, name: &'a str) -> Result<Command<'a>, AllocError>
+    ensures app { IfOk result (λ c. app_of c ≡ report_app name.entry.now) }
+    ensures local { IfOk result (λ c. (fields_of c).has_globals ≡ false) }
+{
+    let command = architecture(alloc, name)?;
+    let command = with_optional(alloc, command, "reactions")?;
     searching(alloc, command)
 }
 
@@ -172,7 +198,9 @@ fn taking<'a>(alloc: Global, name: &'a str, takes: Takes) -> Result<Command<'a>,
         Takes::Lint => lint(alloc, name),
         Takes::Plot => plot(alloc, name),
         Takes::Schedule => schedule(alloc, name),
+        Takes::Report => report(alloc, name),
         Takes::Trace => trace(alloc, name),
+        Takes::Why => why(alloc, name),
         Takes::Dates => dates(alloc, name),
     }
 }
@@ -229,10 +257,11 @@ pub fn command<'a>(alloc: Global) -> Result<Command<'a>, AllocError>
             ("trace", Takes::Trace),
             ("flat", Takes::Schedule),
             ("code", Takes::Schedule),
-            ("report", Takes::Schedule),
+            ("report", Takes::Report),
             ("graph", Takes::Graph),
             ("table", Takes::Graph),
             ("lint", Takes::Lint),
+            ("why", Takes::Why),
             ("plot", Takes::Plot),
             ("dates", Takes::Dates),
         ],

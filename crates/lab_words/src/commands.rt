@@ -1,5 +1,14 @@
 //! The commands as types, for the reader of words and for whoever carries them out.
 
+/// What a search makes small.
+#[derive(Clone, Copy, Drop)]
+pub enum Goal {
+    /// The length of the schedule.
+    Length,
+    /// The time that a reaction takes where many of them follow one another, each as early as it may.
+    Period,
+}
+
 /// How a schedule is searched.
 #[derive(Clone, Copy, Drop)]
 pub struct Effort {
@@ -8,6 +17,8 @@ pub struct Effort {
     pub tries: u32,
     /// From which number the search draws, 1 to 1,000,000; it is 1 where the option is not given.
     pub seed: u32,
+    /// What is made small; it is the length where the option is not given.
+    pub goal: Goal,
 }
 
 /// What is written of a schedule.
@@ -21,8 +32,9 @@ pub enum Subject {
     Flat,
     /// `code A H`: the macro-code of its program.
     Code,
-    /// `report A H`: its numbers.
-    Report,
+    /// `report A H [N]`: its numbers, and those of 1 to 1,000 reactions that follow one another; they are 50 where no
+    /// number is given.
+    Report(u32),
 }
 
 /// How dates are written.
@@ -58,6 +70,12 @@ pub enum Command<'a> {
     Lint {
         algorithm: &'a str,
         architecture: Option<&'a str>,
+    },
+    /// `why A H C`: where macro-code from another source fails, and what was expected there.
+    Why {
+        algorithm: &'a str,
+        architecture: &'a str,
+        code: &'a str,
     },
     /// `plot A S`: what the actuators take, as a picture.
     Plot {

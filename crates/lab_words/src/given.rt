@@ -15,26 +15,32 @@ ghost use Rattle.lab_words.specs.Command.{
   command_on,
   dates_given,
   effort_given,
+  goal_given,
+  goal_named,
   is_help,
+  most_reactions,
   most_tries,
   number_given,
   placed_given,
   plot,
+  report_given,
   schedule_given,
   subject_of,
   trace_by,
   values_of,
+  why,
 };
 ghost use Rattle.lab_words.specs.View.{
   effort_view,
   form_view,
+  goal_view,
   subject_view,
   values_view,
   view_of,
 };
 
 use crate::app::command;
-use crate::commands::{Command, Effort, Form, Subject};
+use crate::commands::{Command, Effort, Form, Goal, Subject};
 use clap::error::ErrorKind;
 use clap::{ArgMatches, Error};
 use command_words::number_up_to;
@@ -44,19 +50,24 @@ use syn_base::OutOfMemory;
 /// The most schedules that a search tries, and the greatest seed.
 const MOST_TRIES: u32 = 1_000_000;
 
-/// The most reactions that are dated.
+/// The most reactions that are dated or counted.
 const MOST_REACTIONS: u32 = 1000;
+
+/// The number of reactions that a report counts where none is given.
+const USUAL_REACTIONS: u32 = 50;
 
 /// The values that are given for the arguments and options of a command.
 #[derive(Clone, Copy, Drop)]
 struct Values<'a> {
     algorithm: Option<&'a str>,
     architecture: Option<&'a str>,
+    macros: Option<&'a str>,
     sensors: Option<&'a str>,
     durations: Option<&'a str>,
     reactions: Option<&'a str>,
     tries: Option<&'a str>,
     seed: Option<&'a str>,
+    goal: Option<&'a str>,
 }
 
 /// The command of these words, if they are one. The first word is the program's name. `OutOfMemory` comes
@@ -106,19 +117,23 @@ fn values_in<'a>(matches: &ArgMatches<'a>) -> Values<'a>
 {
     let algorithm = matches.get_str("algorithm");
     let architecture = matches.get_str("architecture");
+    let macros = matches.get_str("code");
     let sensors = matches.get_str("sensors");
     let durations = matches.get_str("durations");
     let reactions = matches.get_str("reactions");
     let tries = matches.get_str("tries");
     let seed = matches.get_str("seed");
+    let goal = matches.get_str("for");
     Values {
         algorithm,
         architecture,
+        macros,
         sensors,
         durations,
         reactions,
         tries,
         seed,
+        goal,
     }
 }
 
@@ -187,12 +202,14 @@ fn command_on<'a>(
     ensures { option_map view_of result ≡
         command_on name.now algorithm.now architecture.now (values_view values.now) }
 {
-    if name == "dates" {
+    if name == "why" {
+        why(algorithm, architecture, values.macros)
+    } else if name == "dates" {
         dates(Form::Drawn, algorithm, architecture, values)
     } else if name == "trace" {
         trace(algorithm, architecture, values.durations, values)
     } else {
-        let subject = subject_of(name);
+        let subject = subject_of(name, values);
         schedule(subject, algorithm, architecture, values)
     }
 }
@@ -204,6 +221,23 @@ fn plot<'a>(algorithm: &'a str, sensors: Option<&'a str>) -> Option<Command<'a>>
 {
     let sensors = sensors?;
     Some(Command::Plot { algorithm, sensors })
+}
+
+/// The command `why`, where there is macro-code.
+fn why<'a>(
+    algorithm: &'a str,
+    architecture: &'a str,
+    macros: Option<&'a str>,
+) -> Option<Command<'a>>
+    ensures { option_map view_of result ≡
+        option_map (why algorithm.now architecture.now) (option_map (λ t. t.now) macros.entry) }
+{
+    let code = macros?;
+    Some(Command::Why {
+        algorithm,
+        architecture,
+        code,
+    })
 }
 
 /// Dates in this form, where all is there that they take.
@@ -267,8 +301,8 @@ fn schedule<'a>(
 }
 
 /// What a command of this name writes of a schedule, but for traces.
-fn subject_of(name: &str) -> Option<Subject>
-    ensures { option_map subject_view result ≡ subject_of name.now }
+fn subject_of(name: &str, values: &Values) -> Option<Subject>
+    ensures { option_map subject_view result ≡ subject_of name.now (values_view values.now) }
 {
     if name == "chart" {
         Some(Subject::Chart)
@@ -277,19 +311,38 @@ fn subject_of(name: &str) -> Option<Subject>
     } else if name == "code" {
         Some(Subject::Code)
     } else if name == "report" {
-        Some(Subject::Report)
+        report(values)
     } else {
         None
     }
 }
 
-/// The options of a search, if they are numbers within their bounds.
+/// A report of so many reactions as are given.
+fn report(values: &Values) -> Option<Subject>
+    ensures { option_map subject_view result ≡ report_given (values_view values.now) }
+{
+    let reactions = reactions_given(values.reactions)?;
+    Some(Subject::Report(reactions))
+}
+
+/// How many reactions are counted.
+fn reactions_given(text: Option<&str>) -> Option<u32>
+    ensures { result ≡ number_given most_reactions 50 (option_map (λ t. t.now) text.entry) }
+{
+    match text {
+        Some(text) => number_up_to(MOST_REACTIONS, text.as_bytes()),
+        None => Some(USUAL_REACTIONS),
+    }
+}
+
+/// The options of a search, if they are numbers within their bounds and a goal.
 fn effort_of(values: &Values) -> Option<Effort>
     ensures { option_map effort_view result ≡ effort_given (values_view values.now) }
 {
     let tries = number_given(0, values.tries)?;
     let seed = number_given(1, values.seed)?;
-    Some(Effort { tries, seed })
+    let goal = goal_given(values.goal)?;
+    Some(Effort { tries, seed, goal })
 }
 
 /// The number of an option, or what stands for it where the option is not given.
@@ -299,5 +352,28 @@ fn number_given(usual: u32, text: Option<&str>) -> Option<u32>
     match text {
         Some(text) => number_up_to(MOST_TRIES, text.as_bytes()),
         None => Some(usual),
+    }
+}
+
+/// What is to be made small: the length, where the option is not given.
+fn goal_given(text: Option<&str>) -> Option<Goal>
+    ensures { option_map goal_view result ≡ goal_given (option_map (λ t. t.now) text.entry) }
+{
+    match text {
+        Some(text) => goal_named(text),
+        None => Some(Goal::Length),
+    }
+}
+
+/// The goal of this name.
+fn goal_named(text: &str) -> Option<Goal>
+    ensures { option_map goal_view result ≡ goal_named text.now }
+{
+    if text == "length" {
+        Some(Goal::Length)
+    } else if text == "period" {
+        Some(Goal::Period)
+    } else {
+        None
     }
 }

@@ -8,6 +8,6 @@ mod commands;
 mod given;
 mod help;
 
-pub use commands::{Command, Effort, Form, Subject};
+pub use commands::{Command, Effort, Form, Goal, Subject};
 pub use given::command_of;
 pub use help::help_text;
