@@ -5,8 +5,8 @@ use Rattle.timing_chart.specs.Chart.{line_text, text_of}
 use Rattle.schedule_report.specs.declared.loads.Load.{Load}
 use Rattle.report_text.specs.Text.{load_line, load_lines}
 use Rattle.report_text.proofs.Lines.{begins, load_here, load_past}
-use Rattle.report_text.proofs.report.append_media.Goals.{then-number-loads+in_ok-append_load, else-number-loads}
-use Rattle.report_text.proofs.report.append_media.Goals as goal
+use Rattle.report_text.proofs.reaction.append_media.Goals.{then-number-loads+in_ok-append_load, else-number-loads}
+use Rattle.report_text.proofs.reaction.append_media.Goals as goal
 
 pub loop-number-preserved : goal.loop-number-preserved
 loop-number-preserved c =

@@ -4,8 +4,8 @@ use Rattle.timing_chart.specs.Chart.{text_of}
 use Rattle.schedule_report.specs.declared.alone.Alone.{Alone}
 use Rattle.report_text.specs.Text.{alone_lines}
 use Rattle.report_text.proofs.Lines.{alone_here, alone_past, begins}
-use Rattle.report_text.proofs.report.append_alone_lines.Goals.{then-number-list+in_ok-append_if_alone, else-number-list}
-use Rattle.report_text.proofs.report.append_alone_lines.Goals as goal
+use Rattle.report_text.proofs.reaction.append_alone_lines.Goals.{then-number-list+in_ok-append_if_alone, else-number-list}
+use Rattle.report_text.proofs.reaction.append_alone_lines.Goals as goal
 
 pub loop-number-preserved : goal.loop-number-preserved
 loop-number-preserved c =
