@@ -9,7 +9,7 @@ use Rattle.actual_defs.specs.declared.fault.ActualFault.TheVariants.{Longer}
 use Rattle.command_plan.specs.Plan.{outcome}
 use Rattle.command_status.specs.Status.{Refusal, bad_architecture, bad_durations, usage}
 use Rattle.top_plans.specs.Plans.{schedule_of}
-use Rattle.lab_words.specs.Command.{Command, Effort, code, report, drawn, traced, help, schedule, table, dates}
+use Rattle.lab_words.specs.Command.{Command, Effort, for_length, code, report, drawn, traced, help, schedule, table, dates}
 use Rattle.lab_words.specs.Help.{help_text}
 use Rattle.lab_plans.specs.Asked.{Asked, of_text, of_schedule, of_dates}
 use Rattle.lab_plans.specs.Answers.{answer}
@@ -34,7 +34,7 @@ abbrev told : Bytes → Option Bytes
 told = named ((codes "A", algorithm) ∷ (codes "H", architecture) ∷ (codes "L", longer) ∷ (codes "B", codes "?\n") ∷ [])
 
 abbrev untried : Effort
-untried = record { tries = 0; seed = 1 }
+untried = record { tries = 0; seed = 1; goal = for_length }
 
 -- what is asked for: the number of operations, and the number of reactions that are dated
 abbrev sizes : Option (Result Asked Refusal) → List ℕ
@@ -59,7 +59,7 @@ no_command : outcome told (plan_of None) ≡ Some (Err usage)
 no_command = refl
 
 -- the durations that really occur are read, and not judged, before a schedule is searched
-asked : (sizes (outcome_of (schedule report (codes "A") (codes "H") untried)) ≡ 2 ∷ [])
+asked : (sizes (outcome_of (schedule (report 50) (codes "A") (codes "H") untried)) ≡ 2 ∷ [])
     × (sizes (outcome_of (dates drawn (codes "A") (codes "H") (codes "L") 7 untried)) ≡ 2 ∷ 7 ∷ [])
     × (sizes (outcome_of (dates drawn (codes "A") (codes "H") (codes "X") 7 untried)) ≡ [])
 asked = (refl, refl, refl)
@@ -76,7 +76,7 @@ coded : answered (outcome_of (schedule code (codes "A") (codes "H") untried))
 unfolding digits
 coded = refl
 
-reported : answered (outcome_of (schedule report (codes "A") (codes "H") untried))
+reported : answered (outcome_of (schedule (report 50) (codes "A") (codes "H") untried))
     ≡ Some (Ok (codes "length 3\noperator P busy 3 share 1.000\nalone P 3 speed-up 1.000\nbound 3 ratio 1.000\n"))
 unfolding digits
 reported = refl
