@@ -137,23 +137,36 @@ class Durations:
         """The times of those operators where all may stand, by number."""
         return {at: sum(it[at] for it in self.ticks) for at in range(self.count) if all(at in it for it in self.ticks)}
 
-    def longest_chain(self):
+    def chains(self):
+        """Of each operation what it depends on, and when the longest chain up to it ends."""
         design, ends = self.design, {}
-        sources = {it.number: [op for op, _ in design.sources(it.number)] for it in design.operations}
+        before = {it.number: [op for op, _ in design.sources(it.number)] for it in design.operations}
         for it in design.operations:
             if it.kind == "set":
                 name, _, stage = it.name.rpartition(":set")
-                sources[it.number].append(design.numbers[f"{name}:get{stage}"])
-        for number in sources:
+                before[it.number].append(design.numbers[f"{name}:get{stage}"])
+        for number in before:
             waiting = [number]
             while waiting:
                 it = waiting[-1]
-                lacking = [op for op in sources[it] if op not in ends]
+                lacking = [op for op in before[it] if op not in ends]
                 waiting += lacking
                 if not lacking:
-                    ends[it] = self.least[it] + max([ends[op] for op in sources[it]], default=0)
+                    ends[it] = self.least[it] + max([ends[op] for op in before[it]], default=0)
                     waiting.pop()
-        return max(ends.values(), default=0)
+        return before, ends
+
+    def chain(self):
+        """The operations of a longest chain by number: of those that end last, and of those before one, the first."""
+        before, ends = self.chains()
+        found, those = [], list(range(len(ends)))
+        while those:
+            found.insert(0, max(those, key=lambda it: ends[it]))
+            those = before[found[0]]
+        return found
+
+    def longest_chain(self):
+        return sum(self.least[it] for it in self.chain())
 
     def bound(self):
         work = {at for it, least in zip(self.ticks, self.least) if least for at in it}

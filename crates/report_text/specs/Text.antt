@@ -4,13 +4,12 @@ use Rattle.std.specs.Prelude.{
   ◌+◌,
   ◌/◌,
   ◌%◌,
-  nat_lt,
-  if◌then◌else◌,
   List,
   [],
   ◌∷◌,
   ◌++◌,
   map,
+  min,
   Option,
   Some,
   None,
@@ -94,7 +93,7 @@ reaction_lines a r t =
 -- the less of a time and the best one before it, if there is one
 abbrev pub sooner : Option ℕ → ℕ → ℕ
 sooner None t = t
-sooner (Some best) t = if nat_lt t best then t else best
+sooner (Some best) t = min best t
 
 -- the least time of operators where all operations may stand, with the best one before them
 abbrev pub best_from : Option ℕ → List (Option Alone) → Option ℕ

@@ -73,13 +73,7 @@ fn sooner(best: Option<u64>, time: u64) -> u64
     ensures { result ≡ sooner best time }
 {
     match best {
-        Some(least) => {
-            if time < least {
-                time
-            } else {
-                least
-            }
-        }
+        Some(least) => least.min(time),
         None => time,
     }
 }
