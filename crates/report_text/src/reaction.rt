@@ -19,11 +19,13 @@ pub fn append_reaction(
     ensures { OnOk result (out.new.items ≡ out.old.items ++
         text_of (reaction_lines archi.now report.now transfers)) }
 {
+    let operators = archi.operators();
+    let media = archi.media();
     append_number(out, b"length", report.length)?;
-    append_operators(out, archi.operators(), report.operators.as_slice())?;
-    append_media(out, archi.media(), report.media.as_slice())?;
+    append_operators(out, operators, report.operators.as_slice())?;
+    append_media(out, media, report.media.as_slice())?;
     append_transfers(out, transfers)?;
-    append_alone_lines(out, archi.operators(), report.alone.as_slice())
+    append_alone_lines(out, operators, report.alone.as_slice())
 }
 
 /// Appends the lines of operators.
