@@ -198,7 +198,8 @@ def report(design, archi, count=50, run=None):
             lines += [f"latency {it.name} {other.name} {reactions.latency(it.number, other.number)}"
                       for other in design.operations if other.kind == "actuator" and other.number in reached]
     bound = known.bound()
-    return lines + [f"bound {bound} ratio {ratio(design.length, bound)}"]
+    chain = [f"chain {design.name(it)} {known.least[it]}" for it in known.chain()]
+    return lines + [f"bound {bound} ratio {ratio(design.length, bound)}", *chain]
 
 
 def design_of(flat, chart):

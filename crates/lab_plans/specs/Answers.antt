@@ -38,6 +38,7 @@ use Rattle.schedule_report.specs.Numbers as numbers
 use Rattle.schedule_report.specs.Transfers.{transfers}
 use Rattle.schedule_report.specs.declared.report.Report.{Report}
 use Rattle.busiest_line.specs.Busiest.{busiest}
+use Rattle.lower_bound.specs.Chain.{chain_links}
 use Rattle.report_text.specs.Text.{report_text}
 use Rattle.report_text.specs.declared.figures.Figures.{Figures}
 use Rattle.report_text.specs.declared.figures.Pace.{Pace}
@@ -82,6 +83,7 @@ figures p n s = record {
   period = period_over p n s;
   busiest = busiest (numbers_of p s) (period_over p n s);
   latencies = latencies_of_schedule p.graph p.archi s n;
+  chain = chain_links p.table.operators (entry_in p.table) p.graph.vertices;
 }
 
 -- what is written of a schedule: the macro-code is that of its program, within its limits

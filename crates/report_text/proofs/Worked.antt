@@ -9,6 +9,7 @@ use Rattle.schedule.proofs.Examples.{archi, medium, source, vertex}
 use Rattle.timing_chart.specs.Chart.{line_text, text_of}
 use Rattle.self_timed_period.specs.declared.period.Period.{Period}
 use Rattle.latencies.specs.declared.latency.Latency.{Latency}
+use Rattle.lower_bound.specs.declared.links.Link.{Link}
 use Rattle.schedule_report.specs.declared.ratio.Ratio.{Ratio}
 use Rattle.schedule_report.specs.declared.loads.Load.{Load}
 use Rattle.schedule_report.specs.declared.alone.Alone.{Alone}
@@ -87,6 +88,9 @@ busiest = (refl, refl)
 abbrev latency : ℕ → ℕ → ℕ → Latency
 latency sensor actuator ticks = record { sensor = sensor; actuator = actuator; ticks = ticks }
 
+abbrev link : ℕ → ℕ → Link
+link op ticks = record { op = op; ticks = ticks }
+
 abbrev numbers : Report
 numbers = record {
   length = 8;
@@ -105,15 +109,16 @@ told beside = record {
   period = over 20 3;
   busiest = record { line = Operator 1; share = times 0 900 };
   latencies = latency 0 1 7 ∷ latency 0 2 10 ∷ [];
+  chain = link 0 1 ∷ link 2 4 ∷ [];
 }
 
 -- all figures in their order, and without what only a search has
 whole : report_text vertices lines (told (Some (record { length = 11; period = over 33 3 })))
-    ≡ codes "length 8\noperator P busy 3 share 0.375\noperator Q busy 6 share 0.750\nmedium m busy 4 share 0.500\ntransfers 2 constants 1 delays 0\nalone P 9 speed-up 1.125\npressure-run 11 period 11.000\nbest-alone 9\nperiod 6.666 reactions 3\nbusiest operator Q share 0.900\nlatency s a 7\nlatency s b 10\nbound 5 ratio 1.600\n"
+    ≡ codes "length 8\noperator P busy 3 share 0.375\noperator Q busy 6 share 0.750\nmedium m busy 4 share 0.500\ntransfers 2 constants 1 delays 0\nalone P 9 speed-up 1.125\npressure-run 11 period 11.000\nbest-alone 9\nperiod 6.666 reactions 3\nbusiest operator Q share 0.900\nlatency s a 7\nlatency s b 10\nbound 5 ratio 1.600\nchain s 1\nchain b 4\n"
 unfolding digits
 whole = refl
 
 unsearched : report_text vertices lines (told None)
-    ≡ codes "length 8\noperator P busy 3 share 0.375\noperator Q busy 6 share 0.750\nmedium m busy 4 share 0.500\ntransfers 2 constants 1 delays 0\nalone P 9 speed-up 1.125\nperiod 6.666 reactions 3\nbusiest operator Q share 0.900\nlatency s a 7\nlatency s b 10\nbound 5 ratio 1.600\n"
+    ≡ codes "length 8\noperator P busy 3 share 0.375\noperator Q busy 6 share 0.750\nmedium m busy 4 share 0.500\ntransfers 2 constants 1 delays 0\nalone P 9 speed-up 1.125\nperiod 6.666 reactions 3\nbusiest operator Q share 0.900\nlatency s a 7\nlatency s b 10\nbound 5 ratio 1.600\nchain s 1\nchain b 4\n"
 unfolding digits
 unsearched = refl

@@ -26,6 +26,7 @@ use Rattle.archi_graph.specs.Archi.{Architecture}
 use Rattle.timing_chart.specs.Chart.{Line, operation_name, operator_name, text_of}
 use Rattle.self_timed_period.specs.declared.period.Period.{Period}
 use Rattle.latencies.specs.declared.latency.Latency.{Latency}
+use Rattle.lower_bound.specs.declared.links.Link.{Link}
 use Rattle.schedule_report.specs.Numbers.{ratio}
 use Rattle.schedule_report.specs.declared.ratio.Ratio.{Ratio}
 use Rattle.schedule_report.specs.declared.loads.Load.{Load}
@@ -154,9 +155,17 @@ module _ (vertices : List Vertex) where
   abbrev pub period_lines : Architecture → Figures → List Line
   period_lines a f = period_line f.period ∷ busiest_line a f.busiest ∷ map latency_line f.latencies
 
+  -- chain NAME TICKS
+  abbrev pub chain_line : Link → Line
+  chain_line k = codes "chain" ∷ name_of k.op ∷ decimal k.ticks ∷ []
+
 -- bound TICKS ratio RATIO
 abbrev pub bound_line : ℕ → Ratio → Line
 bound_line bound above = codes "bound" ∷ decimal bound ∷ codes "ratio" ∷ ratio_word above ∷ []
+
+-- the bound, and the operations of a longest chain
+abbrev pub bound_lines : List Vertex → Figures → List Line
+bound_lines vertices f = bound_line f.numbers.bound f.numbers.above ∷ map (chain_line vertices) f.chain
 
 -- one reaction, what stands beside it, many reactions, and the bound
 abbrev pub report_lines : List Vertex → Architecture → Figures → List Line
@@ -164,7 +173,7 @@ report_lines vertices a f =
     reaction_lines a f.numbers f.transfers ++
     (beside_lines f.beside f.numbers.alone ++
     (period_lines vertices a f ++
-    bound_line f.numbers.bound f.numbers.above ∷ []))
+    bound_lines vertices f))
 
 abbrev pub report_text : List Vertex → Architecture → Figures → Bytes
 report_text vertices a f = text_of (report_lines vertices a f)

@@ -2,6 +2,7 @@
 
 use busiest_line::Busiest;
 use latencies::Latency;
+use lower_bound::Link;
 use schedule_report::{Report, Transfers};
 use self_timed_period::Period;
 use syn_base::Items;
@@ -23,4 +24,6 @@ pub struct Figures {
     pub period: Period,
     pub busiest: Busiest,
     pub latencies: Items<Latency>,
+    /// The operations of a longest chain, from the first to the last.
+    pub chain: Items<Link>,
 }

@@ -5,6 +5,7 @@
 #![tactic(auto)]
 
 mod beside;
+mod bound;
 mod figures;
 mod line;
 mod period;

@@ -4,9 +4,9 @@ ghost use Rattle.std.specs.Fmt.{decimal};
 ghost use Rattle.timing_chart.specs.Chart.{line_text, rest_of_line};
 ghost use Rattle.report_text.specs.Text.{
   alone_line,
-  bound_line,
   digit,
   load_line,
+  name_of,
   number_line,
   period_word,
   ratio_word,
@@ -14,6 +14,7 @@ ghost use Rattle.report_text.specs.Text.{
   transfers_line,
 };
 
+use flat_graph::Vertex;
 use grown_text::{append, append_count};
 use schedule_report::{Alone, Load, Ratio, Transfers, ratio_of};
 use self_timed_period::Period;
@@ -129,17 +130,6 @@ fn append_part(out: &mut Vec<u8>, share: Ratio) -> Result<(), OutOfMemory>
     append(out, b"\n")
 }
 
-/// Appends the line of the bound.
-pub fn append_bound(out: &mut Vec<u8>, bound: u64, above: Ratio) -> Result<(), OutOfMemory>
-    ensures { OnOk result (out.new.items ≡ out.old.items ++ line_text (bound_line bound above)) }
-{
-    append(out, b"bound ")?;
-    append_count(out, bound as usize)?;
-    append(out, b" ratio ")?;
-    append_ratio(out, above)?;
-    append(out, b"\n")
-}
-
 /// Appends how long one reaction of a period takes.
 pub fn append_period_word(out: &mut Vec<u8>, period: Period) -> Result<(), OutOfMemory>
     ensures { OnOk result (out.new.items ≡ out.old.items ++ period_word period) }
@@ -159,6 +149,16 @@ pub fn append_ratio(out: &mut Vec<u8>, ratio: Ratio) -> Result<(), OutOfMemory>
         digit(ratio.thousandths),
     ];
     append(out, &digits)
+}
+
+/// The name of an operation, empty where there is none of this number.
+pub fn name_of(vertices: &[Vertex], op: u32) -> &[u8]
+    ensures { result.now ≡ name_of vertices.now op }
+{
+    match vertices.get(op as usize) {
+        Some(vertex) => vertex.name.as_slice(),
+        None => b"",
+    }
 }
 
 /// The last digit of a number.

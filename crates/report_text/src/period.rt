@@ -7,13 +7,12 @@ ghost use Rattle.report_text.specs.Text.{
   line_name,
   line_word,
   medium_name,
-  name_of,
   period_line,
   period_lines,
 };
 
 use crate::figures::Figures;
-use crate::line::{append_end, append_period_word, append_share};
+use crate::line::{append_end, append_period_word, append_share, name_of};
 use archi_graph::{Archi, Medium};
 use busiest_line::{Busiest, Line};
 use flat_graph::Vertex;
@@ -126,14 +125,4 @@ fn append_latency(
     append(out, b" ")?;
     append(out, name_of(vertices, latency.actuator))?;
     append_end(out, latency.ticks)
-}
-
-/// The name of an operation, empty where there is none of this number.
-fn name_of(vertices: &[Vertex], op: u32) -> &[u8]
-    ensures { result.now ≡ name_of vertices.now op }
-{
-    match vertices.get(op as usize) {
-        Some(vertex) => vertex.name.as_slice(),
-        None => b"",
-    }
 }

@@ -3,8 +3,8 @@ ghost use Rattle.std.specs.Prelude.{◌≡◌, ◌++◌, OnErr, OnOk};
 ghost use Rattle.report_text.specs.Text.{report_text};
 
 use crate::beside::append_beside;
+use crate::bound::append_bound;
 use crate::figures::Figures;
-use crate::line::append_bound;
 use crate::period::append_many;
 use crate::reaction::append_reaction;
 use archi_graph::Archi;
@@ -13,7 +13,7 @@ use std::alloc::Global;
 use syn_base::OutOfMemory;
 
 /// Appends the text of a report: its lines on one reaction, on what the schedule stands beside, and on many
-/// reactions, and the bound. After want of memory `out` is as before.
+/// reactions, the bound, and the operations of a longest chain. After want of memory `out` is as before.
 pub fn print_report(
     alloc: Global,
     flat: &Flat,
@@ -44,5 +44,5 @@ fn append_report(
     append_reaction(out, archi, numbers, figures.transfers)?;
     append_beside(out, figures.beside, numbers.alone.as_slice())?;
     append_many(out, vertices, archi, figures)?;
-    append_bound(out, numbers.bound, numbers.above)
+    append_bound(out, vertices, figures)
 }

@@ -13,12 +13,13 @@ use compiler::{Compilation, find_schedule};
 use durations::durations_fit;
 use lab_words::Effort;
 use latencies::schedule_latencies;
+use lower_bound::chain_of;
 use report_text::{Figures, Pace, print_report};
 use schedule::Schedule;
 use schedule_report::{report_of, transfers_of};
 use self_timed_period::schedule_period;
 use std::alloc::Global;
-use syn_base::OutOfMemory;
+use syn_base::{Items, OutOfMemory};
 
 /// The numbers of a schedule that was found by this effort, and those of this many reactions of it.
 pub fn print_numbers(
@@ -73,6 +74,7 @@ fn figures_of(
     let numbers = report_of(alloc, flat, archi, durations, schedule)?;
     let period = schedule_period(alloc, flat, archi, schedule, reactions as usize)?;
     let latencies = schedule_latencies(alloc, flat, archi, schedule, reactions as usize)?;
+    let chain = chain_of(alloc, flat, durations)?;
     let beside = pace_beside(alloc, compilation, reactions, effort)?;
     let transfers = transfers_of(flat, archi, durations, schedule);
     let busiest = busiest_line(flat, archi, durations, schedule, &numbers, period);
@@ -83,6 +85,7 @@ fn figures_of(
         period,
         busiest,
         latencies,
+        chain: Items::new(chain),
     })
 }
 
