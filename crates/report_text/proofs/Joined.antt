@@ -1,6 +1,5 @@
 -- Texts of lines that are appended one after another.
-use Rattle.std.proofs.Common.{◌≡◌, List, [], ◌∷◌, ◌++◌, ap, sym, append_assoc, ◌∙◌}
-use Rattle.std.proofs.lemmas.List.{append-nil}
+use Rattle.std.proofs.Common.{◌≡◌, List, ◌∷◌, ◌++◌, ap, sym, append_assoc, ◌∙◌}
 use Rattle.std.proofs.lemmas.List.Concat.{flat_map-append}
 use Rattle.syn_base.specs.Bytes.{Bytes}
 use Rattle.timing_chart.specs.Chart.{Line, line_text, text_of}
@@ -15,7 +14,3 @@ module _ (out more all : Bytes) where
   and_lines ls ms e f =
       f ∙ ap (λ (b : Bytes). b ++ text_of ms) e ∙ append_assoc out (text_of ls) (text_of ms)
       ∙ ap (λ (b : Bytes). out ++ b) (sym (flat_map-append line_text ls ms))
-
--- one line alone
-pub one_line : (out all : Bytes) (l : Line) → all ≡ out ++ line_text l → all ≡ out ++ text_of (l ∷ [])
-one_line out all l e = e ∙ ap (λ (b : Bytes). out ++ b) (sym (append-nil (line_text l)))
