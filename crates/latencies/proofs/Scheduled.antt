@@ -105,10 +105,10 @@ module _ (g : Graph) (a : Architecture) (s : Schedule) where
         let ticks = ticks_in v w in
         let many = dated.count in
         let same : (k : ℕ) → k < length rows → ticks (slice_index_or rows k []) ≡ ticks (operation_spans g a s (0 + k)) = λ k l.
-            let none : k ≡ 0 + k = omega arith in
-            let end = agree k w (omega arith) high in
-            let start = agree k v (omega arith) low in
-            (λ i. (end i).end - (start i).start) ∙ ap (λ (m : ℕ). ticks (operation_spans g a s m)) none
+        let none : k ≡ 0 + k = omega arith in
+        let end = agree k w (omega arith) high in
+        let start = agree k v (omega arith) low in
+        (λ i. (end i).end - (start i).start) ∙ ap (λ (m : ℕ). ticks (operation_spans g a s m)) none
         in
         let all = rows_same ticks (operation_spans g a s) rows 0 same ∙ ap (λ (m : ℕ). map ticks (map (operation_spans g a s) (range_with_len 0 m))) many in
         ap (λ (ts : List ℕ). record { sensor = v; actuator = w; ticks = greatest ts }) all
