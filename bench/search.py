@@ -6,9 +6,10 @@ schedule, the length of the pressure run, of list schedules by upward ranks comp
 insertion), of what the search finds at each number of tries, and its seconds of the processor. At the end the geometric
 means of the ratios to the pressure run.
 
-    search.py [--program FILE] [--tries N,N,..] [--most OPERATIONS]
+    search.py [--program FILE] [--for length|period] [--tries N,N,..] [--most OPERATIONS]
 
-A schedule that is longer than the pressure run or than HEFT is marked."""
+With `--for period` the numbers are periods in thousandths of a tick, over the last 25 of 50 reactions, and there is no
+bound and no HEFT. A schedule that is longer, or slower, than the pressure run or than HEFT is marked."""
 import argparse
 import math
 import os
@@ -302,16 +303,19 @@ def designs(most):
                     yield design, Machine(count, joined, fixed, count)
 
 
-def report(program, files, tries):
-    """The length and the bound that `report` tells, and the seconds of the processor."""
-    words = [program, "report", *files] + (["--tries", str(tries)] if tries else [])
+def report(options, files, tries):
+    """What is made small and the bound below it, as `report` tells them, and the seconds of the processor."""
+    words = [options.program, "report", *files, "--for", options.goal] + (["--tries", str(tries)] if tries else [])
     before = resource.getrusage(resource.RUSAGE_CHILDREN)
     ran = subprocess.run(words, capture_output=True, text=True, check=False)
     after = resource.getrusage(resource.RUSAGE_CHILDREN)
     if ran.returncode:
         sys.exit(f"search: {' '.join(words)}: status {ran.returncode}: {ran.stderr.strip()}")
     rows = {line.split()[0]: line.split()[1] for line in ran.stdout.splitlines() if line.strip()}
-    return int(rows["length"]), int(rows["bound"]), after.ru_utime - before.ru_utime
+    seconds = after.ru_utime - before.ru_utime
+    if options.goal == "period":
+        return int(rows["period"].replace(".", "")), "", seconds
+    return int(rows["length"]), int(rows["bound"]), seconds
 
 
 class Means:
@@ -330,22 +334,23 @@ class Means:
 
 def row(options, name, operations, files, plain, means):
     """A line of the table."""
-    run, bound, _ = report(options.program, files, 0)
+    run, bound, _ = report(options, files, 0)
     words = [f"{name:52}{operations:6}{bound:8}{run:8}{plain if plain else '':>8}"]
     if plain and run:
         means.add("HEFT", plain / run)
     for tries in options.tries:
-        length, _, seconds = report(options.program, files, tries)
-        mark = "!" if length > run or plain and length > plain else ""
-        words.append(f"{length:8}{mark:1}{seconds:7.2f}")
+        found, _, seconds = report(options, files, tries)
+        mark = "!" if found > run or plain and found > plain else ""
+        words.append(f"{found:8}{mark:1}{seconds:7.2f}")
         if run:
-            means.add(f"{tries} tries", length / run)
+            means.add(f"{tries} tries", found / run)
     print(" ".join(words), flush=True)
 
 
 def main():
     options = argparse.ArgumentParser(description=__doc__, formatter_class=argparse.RawDescriptionHelpFormatter)
     options.add_argument("--program", default=LAB)
+    options.add_argument("--for", dest="goal", choices=("length", "period"), default="length")
     options.add_argument("--tries", type=lambda text: [int(it) for it in text.split(",")], default=list(TRIES))
     options.add_argument("--most", type=int, default=2048)
     options = options.parse_args()
@@ -361,7 +366,8 @@ def main():
     with tempfile.TemporaryDirectory() as room:
         for design, machine in designs(options.most):
             files = [written(room, "algorithm", design.text), written(room, "architecture", machine.text(design.operations))]
-            row(options, f"{design.name}, {machine.name}", len(design.operations), files, heft(design, machine), means)
+            plain = heft(design, machine) if options.goal == "length" else None
+            row(options, f"{design.name}, {machine.name}", len(design.operations), files, plain, means)
     means.show()
 
 

@@ -1,4 +1,6 @@
+pub mod Back
 pub mod Below
+pub mod Follow
 pub mod Late
 pub mod Least
 pub mod Loads

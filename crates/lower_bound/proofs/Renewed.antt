@@ -72,7 +72,7 @@ module _ (operators : ℕ) (ticks : ℕ → ℕ → Option ℕ) (vertices : List
     pub all_done : (v : ℕ) → v < length vertices → is_done vertices (length vertices) v ≡ true
     all_done v l = all_in_range (is_done vertices (length vertices)) 0 (length vertices) v acyclic (omega arith) (omega arith)
 
-    chain_is : (v : ℕ) → v < length vertices → chain_to operators ticks vertices v ≡ end_after operators ticks vertices (chain_to operators ticks vertices) v
+    pub chain_is : (v : ℕ) → v < length vertices → chain_to operators ticks vertices v ≡ end_after operators ticks vertices (chain_to operators ticks vertices) v
     chain_is v l = no_longer (length vertices) (length vertices) v (omega arith) (all_done v l)
 
     module _ (few : length vertices ≤ 2048) (low : (v : ℕ) → least operators ticks v ≤ 1000000000) where

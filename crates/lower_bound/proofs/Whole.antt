@@ -11,7 +11,7 @@ use Rattle.lower_bound.specs.Laws.{IsBelowAll}
 use Rattle.lower_bound.specs.Turns.{at}
 use Rattle.lower_bound.proofs.Below.{no_valid_schedule_is_shorter}
 
-list_is : (f : ℕ → ℕ) (a n : ℕ) (xs : List ℕ) → length xs ≡ n → ((v : ℕ) → v < n → at xs v ≡ f (a + v)) → xs ≡ map f (range_with_len a n)
+pub list_is : (f : ℕ → ℕ) (a n : ℕ) (xs : List ℕ) → length xs ≡ n → ((v : ℕ) → v < n → at xs v ≡ f (a + v)) → xs ≡ map f (range_with_len a n)
 list_is f a zero [] l h = refl
 list_is f a zero (x ∷ xs) l h = absurd (omega arith)
 list_is f a (suc n) [] l h = absurd (omega arith)

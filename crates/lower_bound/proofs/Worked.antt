@@ -1,10 +1,13 @@
--- The bound computed on worked graphs: by the longest chain, by shared work, by the work of one operator alone.
-use Rattle.std.proofs.Common.{◌≡◌, ℕ, false, List, [], ◌∷◌, Option, Some, None, refl, pos}
-use Rattle.flat_graph.specs.declared.vertex.Kind.TheVariants.{Get, Sensor, Set}
+-- The bound computed on worked graphs: by the longest chain, by shared work, by the work of one operator alone; and the operations of longest chains.
+use Rattle.std.proofs.Common.{◌≡◌, ℕ, true, false, List, [], ◌∷◌, map, Option, Some, None, refl, pos}
+use Rattle.flat_graph.specs.declared.vertex.Kind.TheVariants.{Actuator, Function, Get, Sensor, Set}
+use Rattle.flat_graph.specs.declared.vertex.Guard.{Guard}
 use Rattle.flat_graph.specs.declared.vertex.Vertex.{Vertex}
 use Rattle.schedule.specs.Acts.{length_of}
-use Rattle.schedule.proofs.Examples.{entry, operation, source, vertex, plain_graph, bus_graph, bus_ticks, bus_schedule, speed_graph, speed_ticks, speed_schedule}
+use Rattle.schedule.proofs.Examples.{entry, limits, operation, source, vertex, plain_graph, bus_graph, bus_ticks, bus_schedule, speed_graph, speed_ticks, speed_schedule}
 use Rattle.lower_bound.specs.Bound.{least, needs, chain_to, longest_chain, may_work, shared_work, work_only, greatest_work, lower_bound}
+use Rattle.lower_bound.specs.Chain.{chain_links, goes_back}
+use Rattle.lower_bound.specs.declared.links.Link.{Link}
 
 -- on one operator everything is its work: no schedule is better than one after the other
 abbrev plain_ticks : ℕ → ℕ → Option ℕ
@@ -61,3 +64,46 @@ shared = (refl, refl, refl, refl)
 -- nothing takes time
 nothing : (shared_work 2 three_ticks 0 ≡ 0) × (lower_bound 2 three_ticks [] ≡ 0) × (lower_bound 2 (λ v o. Some 0) three ≡ 0)
 nothing = (refl, refl, refl)
+
+abbrev link : ℕ → ℕ → Link
+link v n = record { op = v; ticks = n }
+
+-- The first sensor, four functions, a case, whose guard is a function's, the merge, which takes no time, an actuator.
+speed_chain : chain_links 2 speed_ticks speed_graph.vertices ≡ link 0 2 ∷ link 4 4 ∷ link 5 6 ∷ link 6 3 ∷ link 7 1 ∷ link 8 1 ∷ link 11 0 ∷ link 12 2 ∷ []
+speed_chain = refl
+
+abbrev read_by_guard : ℕ → List Guard
+read_by_guard v = record { source = source v; values = limits; case = 0 } ∷ []
+
+-- Two sensors, a get half, two functions that end together, one that reads the second in its guard and the first as its input, the set half, which ends with it, an actuator.
+abbrev ways : List Vertex
+ways = operation 97 (Sensor 0) [] [] (1 ∷ []) None ∷ operation 98 (Sensor 1) [] [] (1 ∷ []) None ∷ operation 99 (Get (pos 7 ∷ [])) [] [] (1 ∷ []) (Some 6)
+    ∷ operation 100 (Function 0) [] (source 0 ∷ source 1 ∷ []) (1 ∷ []) None ∷ operation 101 (Function 0) [] (source 1 ∷ []) (1 ∷ []) None ∷ operation 102 (Function 0) (read_by_guard 4) (source 3 ∷ []) (1 ∷ []) None
+    ∷ operation 103 Set [] (source 0 ∷ []) [] (Some 2) ∷ operation 104 (Actuator 0) [] (source 5 ∷ []) [] None ∷ []
+
+-- the first sensor and the set half last this long
+abbrev ways_ticks : ℕ → ℕ → ℕ → ℕ → Option ℕ
+ways_ticks first last = entry ((Some first ∷ []) ∷ (Some 9 ∷ Some 3 ∷ []) ∷ (None ∷ Some 5 ∷ []) ∷ (Some 4 ∷ []) ∷ (Some 6 ∷ Some 4 ∷ []) ∷ (Some 2 ∷ Some 8 ∷ []) ∷ (None ∷ Some last ∷ []) ∷ (Some 0 ∷ []) ∷ [])
+
+-- of three that end at 9 the first by number is taken, and of those that it needs the guard's, which has the greater number
+equal_chains : (map (chain_to 2 (ways_ticks 2 4) ways) (5 ∷ 6 ∷ 7 ∷ []) ≡ 9 ∷ 9 ∷ 9 ∷ []) × (chain_links 2 (ways_ticks 2 4) ways ≡ link 1 3 ∷ link 4 4 ∷ link 5 2 ∷ [])
+equal_chains = (refl, refl)
+
+-- the set half ends last, and comes after its get half, which ends later than what it keeps
+late_half : chain_links 2 (ways_ticks 2 5) ways ≡ link 2 5 ∷ link 6 5 ∷ []
+late_half = refl
+
+-- what it keeps ends with the get half, and stands first
+equal_half : chain_links 2 (ways_ticks 5 7) ways ≡ link 0 5 ∷ link 6 7 ∷ []
+equal_half = refl
+
+-- the last operation takes no time, and has the least number
+abbrev no_time : List Vertex
+no_time = vertex 97 (Actuator 0) (source 1 ∷ []) [] ∷ vertex 98 (Sensor 0) [] (1 ∷ []) ∷ []
+
+no_time_chain : (chain_links 1 (entry ((Some 0 ∷ []) ∷ (Some 4 ∷ []) ∷ [])) no_time ≡ link 1 4 ∷ link 0 0 ∷ []) × (chain_links 1 (λ v o. Some 0) no_time ≡ link 1 0 ∷ link 0 0 ∷ []) × (chain_links 1 (λ v o. Some 0) [] ≡ [])
+no_time_chain = (refl, refl, refl)
+
+-- each needs the one after it, and the last none
+followed : (goes_back 2 (ways_ticks 2 4) ways (5 ∷ 4 ∷ 1 ∷ []) ≡ true) × (goes_back 2 (ways_ticks 2 4) ways (5 ∷ 4 ∷ []) ≡ false) × (goes_back 2 (ways_ticks 2 4) ways (5 ∷ 1 ∷ []) ≡ false) × (goes_back 2 (ways_ticks 2 4) ways (6 ∷ 2 ∷ []) ≡ true)
+followed = (refl, refl, refl, refl)

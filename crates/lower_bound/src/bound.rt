@@ -58,7 +58,7 @@ fn longest_chain(
 }
 
 /// The greatest of these dates, 0 where there is none.
-fn greatest(dates: &[u64]) -> u64
+pub(crate) fn greatest(dates: &[u64]) -> u64
     ensures { result ≡ greatest dates.now }
 {
     let mut greatest = 0;

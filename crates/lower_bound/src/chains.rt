@@ -25,6 +25,7 @@ pub(crate) fn chain_ends(
     requires rows { length durations.now.rows ≡ length vertices.now }
     requires acyclic { IsTrue (is_acyclic vertices.now) }
     ensures size { IfOk result (λ ends. length ends.items ≡ length vertices.now) }
+    ensures low { IfOk result (λ ends. (v : ℕ) → at ends.items v ≤ most_date) }
     ensures chains { IfOk result (λ ends. (v : ℕ) → v < length vertices.now →
         at ends.items v ≡ chain_to durations.now.operators (entry_in durations.now) vertices.now v) }
 {
@@ -42,6 +43,7 @@ fn settle(ends: &mut [u64], vertices: &[Vertex], durations: &Durations)
     requires size { length ends.old ≡ length vertices.now }
     requires zero { (v : ℕ) → at ends.old v ≡ 0 }
     ensures size { length ends.new ≡ length vertices.now }
+    ensures low { (v : ℕ) → at ends.new v ≤ most_date }
     ensures chains { (v : ℕ) → v < length vertices.now →
         at ends.new v ≡ chain_to durations.now.operators (entry_in durations.now) vertices.now v }
 {
@@ -106,7 +108,7 @@ fn renew(ends: &mut [u64], vertices: &[Vertex], durations: &Durations, op: usize
 }
 
 /// The greatest date of those that an operation depends on.
-fn latest_needed(ends: &[u64], vertex: &Vertex) -> u64
+pub(crate) fn latest_needed(ends: &[u64], vertex: &Vertex) -> u64
     requires { (v : ℕ) → at ends.now v ≤ most_date }
     ensures latest { result ≡ greatest (map (at ends.now) (depends_on vertex.now)) }
     ensures low { result ≤ most_date }
@@ -151,7 +153,7 @@ fn end_of_half(ends: &[u64], kind: &Kind, twin: Option<u32>) -> u64
 }
 
 /// The date of an operation, 0 where there is none of this number.
-fn end_at(ends: &[u64], op: u32) -> u64
+pub(crate) fn end_at(ends: &[u64], op: u32) -> u64
     ensures { result ≡ at ends.now op }
 {
     let op = op as usize;
