@@ -1,6 +1,7 @@
 -- Plans over worked texts, and what is answered of the pressure run.
 use Rattle.std.proofs.Common.{◌≡◌, ℕ, refl, List, [], ◌∷◌, ◌++◌, length, Option, Some, None, Result, Ok, Err, codes}
 use Rattle.std.specs.Fmt.{digits}
+use Rattle.code_text.specs.Forms.{macro_of}
 use Rattle.csv.specs.Writing.{fields_text, is_blank}
 use Rattle.syn_base.specs.Bytes.{Bytes}
 use Rattle.outside.specs.Bytes.{named}
@@ -112,8 +113,10 @@ tabled = refl
 
 -- code is checked without durations: it is well formed, or an operation is not called
 explained : answered (outcome_of (why (codes "A") (codes "U") (codes "C"))) ≡ Some (Ok (codes "well formed\n"))
+unfolding macro_of
 explained = refl
 
 uncalled : answered (outcome_of (why (codes "A") (codes "U") (codes "W")))
     ≡ Some (Ok (codes "K2 Calls\neach operation is called once, and this one is not\noperation a\n"))
+unfolding macro_of
 uncalled = refl
