@@ -67,4 +67,4 @@ returns-in_err-print_numbers-in-Report c =
 pub returns : goal.returns
 returns c =
     let effort = effort_view c.args.effort in
-    rw c.in-Report.is (of_found {A = Global} (of_schedule (report c.in-Report.field-0) (problem_of c.args.compilation.now effort)) c.in_ok-schedule.schedule (Ok c.in_ok-print_numbers-in-Report.field-0) c.in_ok-schedule.ensures (inr c.in_ok-print_numbers-in-Report.ensures))
+    rw c.in-Report.is (of_found {A = Global} (of_schedule (report c.in-Report.reactions) (problem_of c.args.compilation.now effort)) c.in_ok-schedule.schedule (Ok c.in_ok-print_numbers-in-Report.field-0) c.in_ok-schedule.ensures (inr c.in_ok-print_numbers-in-Report.ensures))
