@@ -1,4 +1,4 @@
-use Rattle.std.proofs.Common.{◌≡◌, None, drop}
+use Rattle.std.proofs.Common.{◌≡◌, drop}
 use Rattle.report_text.specs.Text.{best_alone, best_from}
 use Rattle.report_text.proofs.beside.best_alone.Given as goal
 

@@ -1,4 +1,4 @@
-use Rattle.std.proofs.Common.{◌≡◌, ◌++◌, List, map, ap, ◌∙◌}
+use Rattle.std.proofs.Common.{◌++◌, List, map, ap, ◌∙◌}
 use Rattle.std.proofs.lemmas.Result.{on_ok_weaker}
 use Rattle.timing_chart.specs.Chart.{Line, text_of}
 use Rattle.lower_bound.specs.declared.links.Link.{Link}

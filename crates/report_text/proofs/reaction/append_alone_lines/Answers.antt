@@ -1,4 +1,4 @@
-use Rattle.std.proofs.Common.{◌≡◌, [], ◌∷◌, ◌+◌, ◌++◌, ℕ, List, Option, None, drop, get_or, ap, sym, append_assoc, ◌∙◌, arith}
+use Rattle.std.proofs.Common.{◌≡◌, [], ◌∷◌, ◌+◌, ◌++◌, Option, None, drop, get_or, ap, sym, append_assoc, ◌∙◌, arith}
 use Rattle.syn_base.specs.Bytes.{Bytes}
 use Rattle.timing_chart.specs.Chart.{text_of}
 use Rattle.schedule_report.specs.declared.alone.Alone.{Alone}

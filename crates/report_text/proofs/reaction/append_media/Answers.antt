@@ -1,4 +1,4 @@
-use Rattle.std.proofs.Common.{◌≡◌, ◌∷◌, ◌+◌, ◌++◌, ℕ, List, drop, map, get_or, ap, sym, append_assoc, ◌∙◌, arith, codes}
+use Rattle.std.proofs.Common.{◌≡◌, ◌∷◌, ◌+◌, ◌++◌, List, drop, map, get_or, ap, sym, append_assoc, ◌∙◌, arith, codes}
 use Rattle.syn_base.specs.Bytes.{Bytes}
 use Rattle.archi_graph.specs.declared.medium.Medium.{Medium}
 use Rattle.timing_chart.specs.Chart.{line_text, text_of}

@@ -1,4 +1,4 @@
-use Rattle.std.proofs.Common.{◌≡◌, ◌∷◌, ◌+◌, ◌++◌, ℕ, List, drop, get_or, ap, sym, append_assoc, ◌∙◌, arith, codes}
+use Rattle.std.proofs.Common.{◌≡◌, ◌∷◌, ◌+◌, ◌++◌, drop, get_or, ap, sym, append_assoc, ◌∙◌, arith, codes}
 use Rattle.syn_base.specs.Bytes.{Bytes}
 use Rattle.timing_chart.specs.Chart.{line_text, text_of}
 use Rattle.schedule_report.specs.declared.loads.Load.{Load}

@@ -1,7 +1,6 @@
-use Rattle.std.proofs.Common.{◌≡◌, ◌∷◌, ◌++◌, List, Option, map, ap, ◌∙◌, codes}
+use Rattle.std.proofs.Common.{◌∷◌, ◌++◌, map, ◌∙◌, codes}
 use Rattle.std.proofs.lemmas.Result.{on_ok_weaker}
 use Rattle.timing_chart.specs.Chart.{text_of}
-use Rattle.schedule_report.specs.declared.alone.Alone.{Alone}
 use Rattle.report_text.specs.Text.{alone_lines, load_lines, number_line, transfers_line}
 use Rattle.report_text.proofs.Joined.{and_lines, then_lines}
 use Rattle.report_text.proofs.reaction.append_reaction.Goals as goal

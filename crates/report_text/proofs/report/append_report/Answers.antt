@@ -1,4 +1,4 @@
-use Rattle.std.proofs.Common.{◌≡◌, ◌++◌, List, Option, ap, ◌∙◌}
+use Rattle.std.proofs.Common.{◌++◌, List, Option, ap, ◌∙◌}
 use Rattle.std.proofs.lemmas.Result.{on_ok_weaker}
 use Rattle.timing_chart.specs.Chart.{text_of}
 use Rattle.schedule_report.specs.declared.alone.Alone.{Alone}

@@ -1,7 +1,4 @@
-use Rattle.std.proofs.Common.{ap, arith}
-use Rattle.busiest_line.specs.Busiest.{busiest}
 use Rattle.compiler.specs.Compiles.{described}
-use Rattle.self_timed_period.specs.declared.period.Period.{Period}
 use Rattle.lab_program.proofs.commands.report.figures_of.Goals as goal
 
 pub report_of-requires-clause-fits : goal.report_of-requires-clause-fits
