@@ -14,4 +14,4 @@ IsBelowAll g a ticks n = (s : Schedule) → IsTrue (is_valid g a ticks s) → n 
 -- no valid schedule is shorter than the bound
 abbrev pub NoValidScheduleIsShorter : Type 0
 NoValidScheduleIsShorter = (g : Graph) (a : Architecture) (ticks : ℕ → ℕ → Option ℕ)
-    → IsBelowAll g a ticks (lower_bound (length a.operators) ticks g.vertices)
+    → IsBelowAll g a ticks (lower_bound (length a.operators) ticks g.vertices a.media)

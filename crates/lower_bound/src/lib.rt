@@ -5,6 +5,7 @@
 //! beside the length of a schedule. `chain_of` tells the operations of a longest chain.
 #![tactic(auto)]
 
+mod arrivals;
 mod bound;
 mod chains;
 mod laws;
