@@ -1,6 +1,7 @@
 -- The code's earliest starts and ends are the defined ones.
 use Rattle.std.proofs.Common.{◌≡◌, ℕ, ◌+◌, ◌<◌, ◌≤◌, List, ◌++◌, map, max, length, Option, Some, None, refl, sym, ap, arith, ◌∙◌}
 use Rattle.std.specs.Prelude.{slice_get, slice_index_or}
+use Rattle.std.proofs.lemmas.List.{map-append}
 use Rattle.std.proofs.lemmas.Option.{slice_get_read}
 use Rattle.flat_graph.specs.declared.vertex.Source.{Source}
 use Rattle.flat_graph.specs.declared.vertex.Vertex.{Vertex}
@@ -8,7 +9,7 @@ use Rattle.flat_graph.specs.Graph.{with_vertex}
 use Rattle.flat_graph.specs.Order.{get_half}
 use Rattle.archi_graph.specs.declared.medium.Medium.{Medium}
 use Rattle.lower_bound.specs.Bound.{arrival, end_on, greatest, later_by, start_on}
-use Rattle.lower_bound.proofs.Renewed.{greatest-append, map-append}
+use Rattle.lower_bound.proofs.Renewed.{greatest-append}
 
 module _ (operators : ℕ) (ticks : ℕ → ℕ → Option ℕ) (vertices : List Vertex) (media : List Medium) (dates : ℕ → ℕ) where
   pub end_is : (op o t start : ℕ) (x : Vertex) → op < length vertices → x ≡ slice_index_or vertices op x → Some t ≡ ticks op o → start ≡ start_on operators ticks vertices media dates o x

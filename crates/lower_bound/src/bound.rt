@@ -18,8 +18,8 @@ use std::alloc::Global;
 use syn_base::OutOfMemory;
 
 /// The greatest of the longest chain with the transfers that it cannot do without, the sum of least
-/// durations divided among the operators that may work, and the work that one operator alone may do. No valid schedule is
-/// shorter. The durations are those of the flat graph and the architecture.
+/// durations divided among the operators that may work, and the work that one operator alone may
+/// do. No valid schedule is shorter. The durations are those of the flat graph and the architecture.
 pub fn lower_bound(
     alloc: Global,
     flat: &Flat,
