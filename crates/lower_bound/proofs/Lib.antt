@@ -6,6 +6,7 @@ pub mod Late
 pub mod Least
 pub mod Lesser
 pub mod Loads
+pub mod Longer
 pub mod Parts
 pub mod Plain
 pub mod Renewed

@@ -13,5 +13,5 @@ mod links;
 mod work;
 
 pub use bound::lower_bound;
-pub use laws::{chain_lasts_longest, no_valid_schedule_is_shorter};
+pub use laws::{chain_lasts_longest, no_valid_schedule_is_shorter, transfers_only_lengthen};
 pub use links::{Link, chain_of};
