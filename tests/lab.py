@@ -2,7 +2,8 @@
 """Whether other tools take what `syndex_lab` writes of the examples, and whether its numbers are those of the charts.
 
 The chart, its trace, the drawing of its operations and the plot are what a plain program makes of the listing, the
-chart and the rows (`plain/pictures.py`). Each picture is well-formed XML, each trace is JSON whose complete events do
+chart and the rows (`plain/pictures.py`). The macro-code of an example is well formed, and where one line of its loops is
+left out it is not, as the lines and rules of the answer say. Each picture is well-formed XML, each trace is JSON whose complete events do
 not overlap on a thread, each table to be filled in has the columns of the sensor table, and each graph is taken by Graphviz where `dot` is there. Without tries the schedule is the one
 whose chart stands in the example: the same length, the same macro-code where the example has it, a bar and an event for
 each of its lines, and what its lanes are busy; with tries it is no longer. The pictures of the examples
@@ -14,9 +15,11 @@ bytes, words that are no command end with `usage`, and `help` lists what the scr
 import collections
 import json
 import os
+import re
 import shutil
 import subprocess
 import sys
+import tempfile
 from xml.etree import ElementTree
 
 from plain import pictures
@@ -27,6 +30,7 @@ sys.path.insert(0, f"{TOP}/tools")
 import draw
 import played
 
+WORD = re.compile(r"op |(Suc|Pre)[01]_|send_|recv_|sync_|thread_|main_")
 PROGRAM = f"{TOP}/crates/syndex_lab/out/syndex_lab"
 USAGE = (
     ("chart", "A"), ("chart", "A", "H", "S"), ("charts", "A", "H"), ("chart", "A", "H", "--tries", "0"), ("chart", "A", "H", "--tries"),
@@ -34,6 +38,8 @@ USAGE = (
     ("dates", "A", "H", "G"), ("dates", "A", "H", "G", "0"), ("dates", "A", "H", "G", "1001"), ("graph", "A", "--tries", "5"),
     ("graph", "A", "H"), ("plot", "A"), ("plot", "A", "S", "--seed", "5"), ("--tries", "5", "chart", "A", "H"), ("help", "chart"), ("chart", "--help"),
     ("table",), ("table", "A", "H"), ("trace", "A", "H", "G"), ("trace", "A", "H", "G", "0"), ("trace", "A", "H", "G", "1001"), (),
+    ("why", "A", "H"), ("why", "A", "H", "C", "C"), ("why", "A", "H", "C", "--tries", "5"), ("chart", "A", "H", "--for"), ("chart", "A", "H", "--for", "speed"),
+    ("chart", "A", "H", "--for", "period", "--for", "period"), ("graph", "A", "--for", "period"),
 )
 
 
@@ -153,6 +159,24 @@ def rows_of(text):
     return names, rows
 
 
+def check_why(lab, a, h, code):
+    """Code that was generated is well formed; without any one line of its loops it is not, and a line that is told
+    says an instruction, or begins a sequence."""
+    holds(lab.text("why", a, h, code) == "well formed\n", "the macro-code is not well formed")
+    lines, looped = text_of(code).splitlines(), False
+    with tempfile.TemporaryDirectory() as folder:
+        for number, line in enumerate(lines):
+            looped = line == "loop_" or looped and line != "endloop_"
+            if looped and line != "loop_":
+                cut = f"{folder}/cut.txt"
+                with open(cut, "w", encoding="utf-8") as it:
+                    it.write("\n".join((*lines[:number], "#", *lines[number + 1:], "")))
+                told = lab.text("why", a, h, cut).splitlines()
+                holds(re.fullmatch("K[2-7] [A-Z][a-z]+", told[0]), f"line {number + 1}: {told[0]}")
+                for at in re.findall(r"line (\d+): ", "\n".join(told)):
+                    holds(WORD.match(lines[int(at) - 1]), f"line {number + 1}: {lines[int(at) - 1]}")
+
+
 def check_schedule(lab, folder, tries):
     """What is written of the schedule of an example."""
     a, h = f"{folder}/algorithm.txt", f"{folder}/architecture.txt"
@@ -170,10 +194,13 @@ def check_schedule(lab, folder, tries):
             check_pictures(lab, a, h, Design(text_of(f"{folder}/flat.txt"), text_of(f"{folder}/chart.txt")))
     if os.path.exists(f"{folder}/code.txt"):
         holds(lab.text("code", a, h) == text_of(f"{folder}/code.txt"), "the macro-code")
+        check_why(lab, a, h, f"{folder}/code.txt")
     for seed in ("1", "7"):
         words = (a, h, "--tries", tries, "--seed", seed)
         holds(length_in(lab.text("report", *words)) <= length, "a search is longer")
-        holds(lab.text("code", *words) == lab.text("code", *words), "the same words give other bytes")
+        for goal in ("length", "period"):
+            holds(lab.text("code", *words, "--for", goal) == lab.text("code", *words, f"--for={goal}"), "the same words give other bytes")
+        holds(lab.text("code", *words, "--for", "length") == lab.text("code", *words), "the length is not what is searched for")
     ElementTree.fromstring(lab.text("chart", a, h))
     ElementTree.fromstring(lab.text("dates", a, h, h, "3"))
     check_graph(lab.text("flat", a, h))

@@ -143,8 +143,8 @@ def main(words):
     words, made = words[as_built:], rt()
     crate = made.rtlib.Crate
     change(crate, as_built)
-    alone = names_alone(made.rtlib.crates_below(os.getcwd()))
-    # A crate that is proved alone anyway is not told to take one processor.
+    # Where all are proved, a crate that is proved alone anyway is not told to take one processor.
+    alone = names_alone(made.rtlib.crates_below(os.getcwd())) if words[:1] == ["all"] else set()
     flags_of = lambda it, flags: [] if it.name in alone else flags
     for name in ("build_rlib", "check"):
         usual = getattr(crate, name, None)

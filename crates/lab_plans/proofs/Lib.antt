@@ -1,3 +1,4 @@
+mod CodeRefusals
 pub mod Walk
 pub mod Replying
 mod Worked

@@ -6,21 +6,27 @@ use Rattle.syn_base.specs.Bytes.{Bytes}
 use Rattle.syn_base.specs.Rows.{Reactions}
 use Rattle.syn_base.specs.declared.limits.LimitFault.{LimitFault}
 use Rattle.outside.specs.declared.file.File.{File}
-use Rattle.outside.specs.declared.file.File.TheVariants.{Algorithm, Architecture, Sensors, Durations}
+use Rattle.outside.specs.declared.file.File.TheVariants.{Algorithm, Architecture, Sensors, Code, Durations}
 use Rattle.algo_defs.specs.declared.definition.Defs.{Defs}
 use Rattle.algo_text.specs.Text.{definitions_of}
 use Rattle.elaboration.specs.Elaborated.{elaboration_of}
 use Rattle.algo_tree.specs.Tree.{Vertex}
 use Rattle.archi_defs.specs.Text.{Described, description_of}
+use Rattle.archi_graph.specs.Archi.{Architecture as Archi}
 use Rattle.durations.specs.Table.{Table, durations_of}
+use Rattle.flat_graph.specs.Graph.{Graph}
 use Rattle.flat_laws.specs.FlatOf.{flat_of}
+use Rattle.executive_program.specs.declared.program.Program.{Program}
+use Rattle.code_text.specs.Text.{program_in}
+use Rattle.code_text.specs.declared.fault.CodeError.{CodeError}
+use Rattle.code_text.specs.declared.fault.CodeError.TheVariants as macros
 use Rattle.sensor_table.specs.SensorTable.{rows_of}
 use Rattle.schedule.specs.declared.decision.Schedule.{Schedule}
 use Rattle.actual_defs.specs.declared.fault.ActualError.{ActualError}
 use Rattle.actual_durations.specs.Actual.{actual_of}
 use Rattle.command_plan.specs.Plan.{give, refuse, after, ReadsOnly, RefusesOnly}
-use Rattle.command_status.specs.Status.{Refusal, above, of_algorithm, of_architecture, of_durations, of_sensors, usage, wants_memory}
-use Rattle.top_plans.specs.Plans.{read_file, unless, algorithm_in, architecture_in, table_in, excess}
+use Rattle.command_status.specs.Status.{Refusal, above, of_algorithm, of_architecture, of_code, of_durations, of_sensors, usage, wants_memory}
+use Rattle.top_plans.specs.Plans.{read_file, unless, algorithm_in, architecture_in, described_in, table_in, excess}
 use Rattle.top_plans.proofs.Only.{Only}
 use Rattle.top_plans.proofs.TextRefusals as texts
 use Rattle.top_plans.proofs.MarkRefusals.{elaboration_safe}
@@ -28,12 +34,18 @@ use Rattle.top_plans.proofs.ArchitectureRefusals as architectures
 use Rattle.top_plans.proofs.DurationRefusals as durations
 use Rattle.top_plans.proofs.TableRefusals as tables
 use Rattle.top_plans.proofs.Walk.{IsTold, told_above, told_algorithm, told_architecture, told_durations, told_sensors}
-use Rattle.lab_words.specs.Command.{Command, Form, help, schedule, graph, table, lint, plot, dates, chart, trace, flat, code, report}
+use Rattle.lab_words.specs.Command.{Command, Form, help, schedule, graph, table, lint, why, plot, dates, chart, trace, flat, code, report}
+use Rattle.lab_plans.proofs.CodeRefusals as codes
 use Rattle.lab_plans.specs.Names.{names_for, names_of}
 use Rattle.lab_plans.specs.Asked.{Asked, Problem, of_text, of_schedule, of_dates}
 use Rattle.lab_plans.specs.Answers.{answer, dates_by, limit, within}
 use Rattle.lab_plans.specs.Plans.{Asks, plan_for, plan_of}
 use Rattle.lab_plans.specs.Refusals.{NoAnswerWantsMemory, NoPlanWantsMemory}
+
+told_code : (e : CodeError) → codes.Stays e → IsTold (of_code e)
+told_code (macros.Refused fault) s = record { no_usage = λ q. cc; no_want = λ q. cc }
+told_code (macros.Limit fault) s = told_above fault
+told_code macros.OutOfMemory s = absurd s
 
 module _ (Q : Asks → Type 0) (refused : (r : Refusal) → IsTold r → Q (refuse r)) where
   after_so : {X E : Type 0} {P : E → Type 0} (refusal : E → Refusal) → ((e : E) → P e → IsTold (refusal e)) → (answer : Result X E) → Only P answer → (next : X → Asks) → ((x : X) → Q (next x))
@@ -55,6 +67,12 @@ module _ (Q : Asks → Type 0) (refused : (r : Refusal) → IsTold r → Q (refu
       after_so of_architecture told_architecture (description_of text) (architectures.description_safe text) (λ d. after of_architecture (durations_of (flat_of main) d) (next d))
       (λ d. after_so of_architecture told_architecture (durations_of (flat_of main) d) (durations.durations_safe (flat_of main) d) (next d) (h d))
 
+  described_so : (text : Bytes) (next : Described → Asks) → ((d : Described) → Q (next d)) → Q (described_in text next)
+  described_so text next h = after_so of_architecture told_architecture (description_of text) (architectures.description_safe text) next h
+
+  program_so : (text : Bytes) (g : Graph) (a : Archi) (next : Program → Asks) → ((p : Program) → Q (next p)) → Q (after of_code (program_in text g a) next)
+  program_so text g a next h = after_so of_code told_code (program_in text g a) (codes.program_safe text g a) next h
+
   table_so : (main : Vertex) (text : Bytes) (next : Reactions → Asks) → ((rows : Reactions) → Q (next rows)) → Q (table_in main text next)
   table_so main text next h =
       after_so of_sensors told_sensors (rows_of main (records default_config (strip_bom text))) (tables.table_safe main (records default_config (strip_bom text))) next h
@@ -72,6 +90,9 @@ module _ (Q : Asks → Type 0) (refused : (r : Refusal) → IsTold r → Q (refu
   walk (lint a None) reads gives = reads Algorithm a _ refl (λ text. algorithm_so text _ (λ defs main. gives _))
   walk (lint a (Some h)) reads gives = reads Algorithm a _ refl (λ text. algorithm_so text _ (λ defs main.
       reads Architecture h _ refl (λ lines. architecture_so lines main _ (λ d t. gives _))))
+  walk (why a h c) reads gives = reads Algorithm a _ refl (λ text. algorithm_so text _ (λ defs main.
+      reads Architecture h _ refl (λ lines. described_so lines _ (λ d.
+      reads Code c _ refl (λ bytes. program_so bytes (flat_of main) d.archi _ (λ p. gives _))))))
   walk (plot a s) reads gives = reads Algorithm a _ refl (λ text. algorithm_so text _ (λ defs main.
       reads Sensors s _ refl (λ lines. table_so main lines _ (λ rows. unless_within (excess _) _ (gives _)))))
   walk (dates form a h g n effort) reads gives = reads Algorithm a _ refl (λ text. algorithm_so text _ (λ defs main.
@@ -119,7 +140,7 @@ answer_told (of_schedule chart p) s r e = absurd (no_stop _ r e)
 answer_told (of_schedule trace p) s r e = absurd (no_stop _ r e)
 answer_told (of_schedule flat p) s r e = absurd (no_stop _ r e)
 answer_told (of_schedule code p) s r e = within_told (limit p s) _ r e
-answer_told (of_schedule report p) s r e = absurd (no_stop _ r e)
+answer_told (of_schedule (report n) p) s r e = absurd (no_stop _ r e)
 answer_told (of_dates form p text n) s r e =
     dates_told form p n s (actual_of p.graph p.archi p.table s text) (durations.actual_safe p.graph p.archi p.table s text) r e
 

@@ -1,6 +1,7 @@
 -- Plans over worked texts, and what is answered of the pressure run.
 use Rattle.std.proofs.Common.{◌≡◌, ℕ, refl, List, [], ◌∷◌, ◌++◌, length, Option, Some, None, Result, Ok, Err, codes}
 use Rattle.std.specs.Fmt.{digits}
+use Rattle.code_text.specs.Forms.{macro_of}
 use Rattle.csv.specs.Writing.{fields_text, is_blank}
 use Rattle.syn_base.specs.Bytes.{Bytes}
 use Rattle.outside.specs.Bytes.{named}
@@ -9,7 +10,7 @@ use Rattle.actual_defs.specs.declared.fault.ActualFault.TheVariants.{Longer}
 use Rattle.command_plan.specs.Plan.{outcome}
 use Rattle.command_status.specs.Status.{Refusal, bad_architecture, bad_durations, usage}
 use Rattle.top_plans.specs.Plans.{schedule_of}
-use Rattle.lab_words.specs.Command.{Command, Effort, code, report, drawn, traced, help, schedule, table, dates}
+use Rattle.lab_words.specs.Command.{Command, Effort, for_length, code, report, drawn, traced, help, schedule, table, why, dates}
 use Rattle.lab_words.specs.Help.{help_text}
 use Rattle.lab_plans.specs.Asked.{Asked, of_text, of_schedule, of_dates}
 use Rattle.lab_plans.specs.Answers.{answer}
@@ -29,12 +30,23 @@ architecture = text (codes "architecture 1" ∷ codes "operator P" ∷ codes "du
 abbrev longer : Bytes
 longer = text (codes "architecture 1" ∷ codes "operator P" ∷ codes "duration Sense P 1" ∷ codes "duration Act P 3" ∷ [])
 
--- files `A`, `H`, `L`, and `B` which is no text of any kind
+-- the operator alone
+abbrev undated_architecture : Bytes
+undated_architecture = text (codes "architecture 1" ∷ codes "operator P" ∷ [])
+
+-- macro-code that calls these after the sensor
+abbrev code_with : List Bytes → Bytes
+code_with calls =
+    text (codes "processor_(P)" ∷ codes "semaphores_()" ∷ codes "alloc_(b0,1)" ∷ codes "main_" ∷ codes "loop_" ∷ codes "op s(;b0)" ∷ calls ++ codes "endloop_" ∷ codes "endmain_" ∷ [])
+
+-- files `A`, `H`, `L`, `U`, the codes `C` and `W`, and `B` which is no text of any kind
 abbrev told : Bytes → Option Bytes
-told = named ((codes "A", algorithm) ∷ (codes "H", architecture) ∷ (codes "L", longer) ∷ (codes "B", codes "?\n") ∷ [])
+told =
+    named ((codes "A", algorithm) ∷ (codes "H", architecture) ∷ (codes "L", longer) ∷ (codes "U", undated_architecture) ∷
+    (codes "C", code_with (codes "op a(b0;)" ∷ [])) ∷ (codes "W", code_with []) ∷ (codes "B", codes "?\n") ∷ [])
 
 abbrev untried : Effort
-untried = record { tries = 0; seed = 1 }
+untried = record { tries = 0; seed = 1; goal = for_length }
 
 -- what is asked for: the number of operations, and the number of reactions that are dated
 abbrev sizes : Option (Result Asked Refusal) → List ℕ
@@ -59,7 +71,7 @@ no_command : outcome told (plan_of None) ≡ Some (Err usage)
 no_command = refl
 
 -- the durations that really occur are read, and not judged, before a schedule is searched
-asked : (sizes (outcome_of (schedule report (codes "A") (codes "H") untried)) ≡ 2 ∷ [])
+asked : (sizes (outcome_of (schedule (report 50) (codes "A") (codes "H") untried)) ≡ 2 ∷ [])
     × (sizes (outcome_of (dates drawn (codes "A") (codes "H") (codes "L") 7 untried)) ≡ 2 ∷ 7 ∷ [])
     × (sizes (outcome_of (dates drawn (codes "A") (codes "H") (codes "X") 7 untried)) ≡ [])
 asked = (refl, refl, refl)
@@ -76,7 +88,7 @@ coded : answered (outcome_of (schedule code (codes "A") (codes "H") untried))
 unfolding digits
 coded = refl
 
-reported : answered (outcome_of (schedule report (codes "A") (codes "H") untried))
+reported : answered (outcome_of (schedule (report 50) (codes "A") (codes "H") untried))
     ≡ Some (Ok (codes "length 3\noperator P busy 3 share 1.000\nalone P 3 speed-up 1.000\nbound 3 ratio 1.000\n"))
 unfolding digits
 reported = refl
@@ -92,3 +104,13 @@ helped = refl
 tabled : answered (outcome_of (table (codes "A"))) ≡ Some (Ok (codes "k,s.0\n0,0\n"))
 unfolding digits fields_text is_blank
 tabled = refl
+
+-- code is checked without durations: it is well formed, or an operation is not called
+explained : answered (outcome_of (why (codes "A") (codes "U") (codes "C"))) ≡ Some (Ok (codes "well formed\n"))
+unfolding macro_of
+explained = refl
+
+uncalled : answered (outcome_of (why (codes "A") (codes "U") (codes "W")))
+    ≡ Some (Ok (codes "K2 Calls\neach operation is called once, and this one is not\noperation a\n"))
+unfolding macro_of
+uncalled = refl

@@ -41,7 +41,7 @@ subject_text chart p s = Ok (picture p.graph p.archi s)
 subject_text trace p s = Ok (chart_trace p.graph p.archi s)
 subject_text flat p s = Ok (placed_drawing p.graph p.archi s)
 subject_text code p s = within (limit p s) (macro_code (program p s) p.graph p.archi)
-subject_text report p s = Ok (report_text p.archi (numbers.report p.graph p.archi (entry_in p.table) s))
+subject_text (report n) p s = Ok (report_text p.archi (numbers.report p.graph p.archi (entry_in p.table) s))
 
 -- the dates of reactions that last these ticks, one after another, in a form
 abbrev pub form_text : Form → Graph → Archi → Schedule → List (List ℕ) → Bytes

@@ -7,8 +7,13 @@ use Rattle.flat_graph.specs.Graph.{Graph}
 use Rattle.pressure_heuristic.specs.Adequation.{IsPressureRun}
 use Rattle.schedule.specs.declared.decision.Schedule.{Schedule}
 use Rattle.schedule.specs.Valid.{is_valid}
-use Rattle.schedule_search.specs.Found.{IsNoLongerThanAlone, IsNoLongerThanRun}
-use Rattle.lab_words.specs.Command.{Effort, Form, Subject}
+use Rattle.schedule_search.specs.Found.{
+  IsNoLongerThanAlone,
+  IsNoLongerThanRun,
+  IsNoSlowerThanAlone,
+  IsNoSlowerThanRun,
+}
+use Rattle.lab_words.specs.Command.{Effort, Form, Subject, for_length, for_period}
 
 -- What is to be scheduled: the operations, the architecture, how long each operation lasts on each operator, and how a
 -- schedule is searched.
@@ -25,12 +30,17 @@ pub data Asked : Type 0 where
   of_schedule : Subject → Problem → Asked
   of_dates : Form → Problem → Bytes → ℕ → Asked
 
--- A schedule that a search may find: it is valid, and no longer than the pressure run over the least routes. Where
--- nothing is tried it is that run; else it is no longer than all operations on one operator.
+-- A schedule that a search may find: it is valid. Where the length is the goal, it is no longer than the pressure run
+-- over the least routes, and where the period is the goal, the last half of 50 reactions takes no longer than that of
+-- the run. Where nothing is tried it is that run; else all operations on one operator are no shorter, or no faster.
 pub record IsFound (p : Problem) (s : Schedule) : Type 0 where
   pub valid : IsTrue (is_valid p.graph p.archi (entry_in p.table) s)
-  pub shorter : IsNoLongerThanRun p.graph p.archi p.table s
-  pub alone : p.effort.tries ≢ 0 → IsNoLongerThanAlone p.graph p.archi (entry_in p.table) s
+  pub shorter : p.effort.goal ≡ for_length → IsNoLongerThanRun p.graph p.archi p.table s
+  pub faster : p.effort.goal ≡ for_period → IsNoSlowerThanRun p.graph p.archi p.table s
+  pub alone : p.effort.goal ≡ for_length → p.effort.tries ≢ 0 →
+      IsNoLongerThanAlone p.graph p.archi (entry_in p.table) s
+  pub faster_alone : p.effort.goal ≡ for_period → p.effort.tries ≢ 0 →
+      IsNoSlowerThanAlone p.graph p.archi (entry_in p.table) s
   pub none : p.effort.tries ≡ 0 → IsPressureRun p.graph p.archi p.table s
 
 -- the schedule may be found for what is asked for; a text by itself is that of none

@@ -2,7 +2,7 @@
 use Rattle.std.specs.Prelude.{Option, Some, None}
 use Rattle.syn_base.specs.Bytes.{Bytes}
 use Rattle.outside.specs.declared.file.File.{File}
-use Rattle.lab_words.specs.Command.{Command, help, schedule, graph, table, lint, plot, dates}
+use Rattle.lab_words.specs.Command.{Command, help, schedule, graph, table, lint, why, plot, dates}
 use Rattle.top_plans.specs.Names.{named}
 
 abbrev pub names_for : Command → File → Option Bytes
@@ -11,6 +11,7 @@ names_for (schedule subject a h effort) = named (Some a) (Some h) None None None
 names_for (graph a) = named (Some a) None None None None
 names_for (table a) = named (Some a) None None None None
 names_for (lint a h) = named (Some a) h None None None
+names_for (why a h c) = named (Some a) (Some h) None (Some c) None
 names_for (plot a s) = named (Some a) None (Some s) None None
 names_for (dates form a h g n effort) = named (Some a) (Some h) None None (Some g)
 

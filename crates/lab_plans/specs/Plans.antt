@@ -2,13 +2,20 @@
 use Rattle.std.specs.Prelude.{◌++◌, ◌*◌, ℕ, length, sum, Option, Some, None}
 use Rattle.syn_base.specs.Bytes.{Bytes}
 use Rattle.syn_base.specs.Rows.{Reactions}
-use Rattle.outside.specs.declared.file.File.TheVariants.{Architecture, Durations}
+use Rattle.outside.specs.declared.file.File.TheVariants.{Architecture, Code, Durations}
 use Rattle.algo_defs.specs.declared.definition.Defs.{Defs}
 use Rattle.algo_tree.specs.Tree.{Vertex}
 use Rattle.algo_tree.specs.Ends.{actuator_lengths}
 use Rattle.archi_defs.specs.Text.{Described}
+use Rattle.archi_graph.specs.Archi.{Architecture as Archi}
+use Rattle.archi_graph.specs.Sequences.{sequences}
 use Rattle.durations.specs.Table.{Table}
+use Rattle.flat_graph.specs.Graph.{Graph}
 use Rattle.flat_laws.specs.FlatOf.{flat_of}
+use Rattle.executive_program.specs.declared.program.Program.{Program}
+use Rattle.code_text.specs.Text.{program_in}
+use Rattle.check_places.specs.Why.{why as reason}
+use Rattle.why_text.specs.Text.{answer_text, setting}
 use Rattle.act_text.specs.Names.{actuator_names}
 use Rattle.sync_meaning.specs.Simulated.{simulated}
 use Rattle.definition_drawing.specs.Drawing.{drawing}
@@ -17,12 +24,13 @@ use Rattle.text_lint.specs.Algorithm.{algorithm_findings}
 use Rattle.text_lint.specs.Architecture.{architecture_findings}
 use Rattle.text_lint.specs.Printed.{findings_text}
 use Rattle.signal_plot.specs.Plot as signal
-use Rattle.command_plan.specs.Plan.{Plan, give, refuse}
-use Rattle.command_status.specs.Status.{Refusal, usage}
+use Rattle.command_plan.specs.Plan.{Plan, after, give, refuse}
+use Rattle.command_status.specs.Status.{Refusal, of_code, usage}
 use Rattle.top_plans.specs.Plans.{
   algorithm_plan,
   architecture_in,
   architecture_plan,
+  described_in,
   table_plan,
   read_file,
   unless,
@@ -38,6 +46,7 @@ use Rattle.lab_words.specs.Command.{
   graph,
   table,
   lint,
+  why,
   plot,
   dates,
 }
@@ -81,6 +90,25 @@ lint_behind (Some h) defs main =
 abbrev pub lint_plan : Bytes → Option Bytes → Asks
 lint_plan a h = algorithm_plan a (lint_behind h)
 
+-- why the program of a text of macro-code is refused, if it is
+abbrev pub why_answer : Bytes → Graph → Archi → Program → Bytes
+why_answer text g a p =
+    answer_text (setting text g a p) (reason p g.vertices (sequences a) (length a.operators) (length a.media))
+
+-- the same of a text for a flat graph on an architecture
+abbrev pub why_of_code : Graph → Archi → Bytes → Asks
+why_of_code g a text = after of_code (program_in text g a) (λ p. give (of_text (why_answer text g a p)))
+
+-- Durations of the architecture are passed over.
+abbrev pub why_behind_text : Bytes → Vertex → Described → Asks
+why_behind_text c main d = read_file Code c (λ text. why_of_code (flat_of main) d.archi text)
+
+abbrev pub why_behind : Bytes → Bytes → Defs → Vertex → Asks
+why_behind h c defs main = read_file Architecture h (λ lines. described_in lines (why_behind_text c main))
+
+abbrev pub why_plan : Bytes → Bytes → Bytes → Asks
+why_plan a h c = algorithm_plan a (why_behind h c)
+
 -- what the actuators take, as a picture, where it is within its bound
 abbrev pub plotted : Vertex → Reactions → Asks
 plotted main rows =
@@ -103,6 +131,7 @@ plan_for (schedule subject a h effort) = schedule_plan subject a h effort
 plan_for (graph a) = graph_plan a
 plan_for (table a) = template_plan a
 plan_for (lint a h) = lint_plan a h
+plan_for (why a h c) = why_plan a h c
 plan_for (plot a s) = plot_plan a s
 plan_for (dates form a h g n effort) = dates_plan form a h g n effort
 

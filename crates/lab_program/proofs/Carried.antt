@@ -6,32 +6,39 @@ use Rattle.syn_base.specs.Rows.{Reactions}
 use Rattle.outside.specs.Shelf.{Held}
 use Rattle.outside.specs.Sink.{Sunk}
 use Rattle.outside.specs.declared.file.File.{File}
-use Rattle.outside.specs.declared.file.File.TheVariants.{Durations}
+use Rattle.outside.specs.declared.file.File.TheVariants.{Architecture, Durations}
 use Rattle.algo_defs.specs.declared.definition.Defs.{Defs}
 use Rattle.algo_text.specs.Text.{definitions_of}
 use Rattle.elaboration.specs.Elaborated.{elaboration_of}
 use Rattle.algo_tree.specs.Tree.{Vertex}
 use Rattle.archi_defs.specs.Text.{Described, description_of}
+use Rattle.archi_defs.specs.declared.text.ArchiText.{ArchiText}
+use Rattle.archi_graph.specs.Archi.{Architecture as Archi}
+use Rattle.flat_graph.specs.Graph.{Graph}
+use Rattle.code_text.specs.Given.{Fails}
+use Rattle.code_text.specs.Text.{program_in}
+use Rattle.code_text.specs.declared.fault.CodeError.{CodeError}
+use Rattle.code_text.specs.declared.fault.CodeError.TheVariants as code
 use Rattle.csv.specs.Reading.{default_config, records, strip_bom}
 use Rattle.durations.specs.Table.{Table, durations_of}
 use Rattle.flat_laws.specs.FlatOf.{flat_of}
 use Rattle.sensor_table.specs.SensorTable.{rows_of}
 use Rattle.schedule.specs.declared.decision.Schedule.{Schedule}
 use Rattle.command_plan.specs.Plan.{after, give}
-use Rattle.command_plan.specs.Ending.{Ending, no_memory}
+use Rattle.command_plan.specs.Ending.{Ending, no_memory, refused}
 use Rattle.command_plan.specs.Run.{Makes, WasRead, was_read}
-use Rattle.command_plan.proofs.Makes.{after_ok, gave, memory}
-use Rattle.command_status.specs.Status.{Refusal, ending_of, of_algorithm, of_architecture, of_sensors}
+use Rattle.command_plan.proofs.Makes.{after_err, after_ok, gave, memory}
+use Rattle.command_status.specs.Status.{Refusal, ending_of, of_algorithm, of_architecture, of_code, of_sensors, status_of_code}
 use Rattle.command_status.specs.declared.status.Status.{Status}
-use Rattle.top_plans.specs.Plans.{algorithm_plan, architecture_in, architecture_plan, read_file, table_plan}
+use Rattle.top_plans.specs.Plans.{algorithm_plan, architecture_in, architecture_plan, described_in, read_file, table_plan}
 use Rattle.compiler.specs.Compiles.{IsCompilation, described}
-use Rattle.compiler.specs.Reads.{ReadsAlgorithm, ReadsCompilation, ReadsTable}
+use Rattle.compiler.specs.Reads.{ReadsAlgorithm, ReadsCompilation, ReadsDescription, ReadsTable}
 use Rattle.compiler.specs.declared.stages.Algorithm.{Algorithm}
 use Rattle.compiler.specs.declared.stages.Compilation.{Compilation}
 use Rattle.lab_words.specs.Command.{Command, Effort, Form}
 use Rattle.lab_plans.specs.Asked.{Asked, of_dates}
 use Rattle.lab_plans.specs.Answers.{answer}
-use Rattle.lab_plans.specs.Plans.{Asks, problem}
+use Rattle.lab_plans.specs.Plans.{Asks, problem, why_of_code}
 use Rattle.lab_plans.specs.Replies.{LeavesUnread}
 use Rattle.lab_plans.specs.Run.{Ends, Ran, Writes}
 use Rattle.lab_program.specs.Texts.{Carries, GivesOfFound, Is, Written}
@@ -81,6 +88,18 @@ compiled_on main name a b c compilation next result (text, read, is) (made, m, h
           (after_ok b c of_architecture (durations_of (flat_of main) d) (next d) made compilation.durations is.lasts m)),
       h,
     )
+
+-- a description was read, and then the plan went on with it
+pub described_on : {A : Type 0} (name : Bytes) (a b c : Held) (text : ArchiText) (next : Described → Asks) (result : Result (Vec ℕ A) Status)
+    → ReadsDescription name a b (Ok text) → Carries (next (described text)) b c result → Carries (read_file Architecture name (λ bytes. described_in bytes next)) a c result
+described_on name a b c text next result (bytes, read, is) (made, m, h) =
+    (made, was_read b bytes read (after_ok b c of_architecture (description_of bytes) next made (described text) is m), h)
+
+-- macro-code was refused, or memory ran out
+pub code_refused : {A : Type 0} (g : Graph) (a : Archi) (text : Bytes) (held : Held) (e : CodeError) → Fails e (program_in text g a) → Carries {A = A} (why_of_code g a text) held held (Err (status_of_code e))
+code_refused g a text held (code.Refused fault) is = (Err (refused (of_code (code.Refused fault))), after_err held of_code (program_in text g a) _ (code.Refused fault) is, refl)
+code_refused g a text held (code.Limit fault) is = (Err (refused (of_code (code.Limit fault))), after_err held of_code (program_in text g a) _ (code.Limit fault) is, refl)
+code_refused g a text held code.OutOfMemory is = wanted (why_of_code g a text) held (status_of_code code.OutOfMemory) refl
 
 -- a table was read, and then the plan went on with its rows
 pub rows_on : {A : Type 0} (main : Vertex) (name : Bytes) (a b c : Held) (rows : Reactions) (next : Reactions → Asks) (result : Result (Vec ℕ A) Status)

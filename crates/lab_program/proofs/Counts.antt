@@ -21,6 +21,7 @@ use Rattle.lab_words.specs.Command.{
   trace,
   drawn,
   traced,
+  why,
   plot,
   command_for,
   command_in,
@@ -80,10 +81,15 @@ of_plot : (a : Bytes) (o : Option Bytes) → AreCounted (option_map (plot a) o)
 of_plot a None = tt
 of_plot a (Some s) = tt
 
+of_why : (a h : Bytes) (o : Option Bytes) → AreCounted (option_map (why a h) o)
+of_why a h None = tt
+of_why a h (Some c) = tt
+
 on_board : (name a h : Bytes) (v : Values) → AreCounted (command_on name a h v)
 on_board name a h v =
-    either AreCounted (bytes_eq name (codes "dates")) _ _ (of_given drawn a h v)
-    (either AreCounted (bytes_eq name (codes "trace")) _ _ (of_trace v.durations a h v) (of_schedule (subject_of name) a h (effort_given v)))
+    either AreCounted (bytes_eq name (codes "why")) _ _ (of_why a h v.macros)
+    (either AreCounted (bytes_eq name (codes "dates")) _ _ (of_given drawn a h v)
+    (either AreCounted (bytes_eq name (codes "trace")) _ _ (of_trace v.durations a h v) (of_schedule (subject_of name v) a h (effort_given v))))
 
 by_name : (name a : Bytes) (v : Values) → AreCounted (command_for name a v)
 by_name name a v =

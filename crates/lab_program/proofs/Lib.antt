@@ -2,3 +2,4 @@ pub mod Stops
 pub mod Carried
 pub mod Counts
 pub mod Schedules
+pub mod Searched

@@ -19,7 +19,7 @@ use Rattle.command_plan.specs.Ending.{Ending, refused, no_memory}
 use Rattle.command_plan.specs.Run.{FailsToRead, Makes, SameFaults, gives, refuses, not_read, was_read}
 use Rattle.command_status.specs.Status.{Refusal, above, of_algorithm, of_architecture, of_sensors}
 use Rattle.top_plans.specs.Given.{Given, written}
-use Rattle.top_plans.specs.Plans.{Made, algorithm_plan, architecture_in, architecture_plan, read_file, table_plan}
+use Rattle.top_plans.specs.Plans.{Made, algorithm_plan, architecture_in, architecture_plan, described_in, read_file, table_plan}
 use Rattle.lab_plans.specs.Asked.{Asked}
 use Rattle.lab_plans.specs.Plans.{Asks}
 
@@ -86,6 +86,12 @@ module _ (ending : Ending Refusal) where
   architecture_stops_in text main held all next =
       after_too of_architecture (description_of text) _ _ (λ d. after_too of_architecture (durations_of (flat_of main) d) _ _ (λ t. given_too nothing (next d t)))
       held held (stop ending) refl (all (λ d t. give nothing))
+
+  -- what a text describes, whatever its durations are
+  pub description_stops : (h : Bytes) (old new : Held) → ((next : Described → Made) → Makes old new (read_file Architecture h (λ bytes. described_in bytes next)) (stop ending))
+      → (next : Described → Asks) → Makes old new (read_file Architecture h (λ bytes. described_in bytes next)) (other ending)
+  description_stops h old new all next =
+      read_too Architecture h _ _ (λ text. after_too of_architecture (description_of text) _ _ (λ d. given_too nothing (next d))) old new (stop ending) refl (all (λ d. give nothing))
 
   pub table_stops : (main : Vertex) (s : Bytes) (old new : Held) → ((next : Reactions → Made) → Makes old new (table_plan main s next) (stop ending))
       → (next : Reactions → Asks) → Makes old new (table_plan main s next) (other ending)

@@ -16,6 +16,7 @@ pub mod lint;
 pub mod plot;
 pub mod scheduled;
 pub mod table;
+pub mod why;
 
 use crate::commands::dates::{Extent, dates_text};
 use crate::commands::graph::graph_text;
@@ -24,6 +25,7 @@ use crate::commands::lint::lint_text;
 use crate::commands::plot::plot_text;
 use crate::commands::scheduled::schedule_text;
 use crate::commands::table::table_text;
+use crate::commands::why::why_text;
 use command_status::Status;
 use lab_words::Command;
 use outside::{Failed, Shelf, Sink, write_whole};
@@ -70,6 +72,11 @@ fn command_text<S: Shelf>(
             algorithm,
             architecture,
         } => lint_text(alloc, shelf, algorithm, *architecture),
+        Command::Why {
+            algorithm,
+            architecture,
+            code,
+        } => why_text(alloc, shelf, algorithm, architecture, code),
         Command::Plot { algorithm, sensors } => plot_text(alloc, shelf, algorithm, sensors),
         Command::Dates {
             form,

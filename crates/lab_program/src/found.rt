@@ -1,20 +1,21 @@
 //! What the commands make of a compilation: a schedule that is searched, and its program.
-ghost use Rattle.std.specs.Prelude.{IfOk, IsTrue};
+ghost use Rattle.std.specs.Prelude.{◌≡◌, IfOk, IsTrue};
 ghost use Rattle.compiler.specs.Compiles.{HasDurations};
 ghost use Rattle.durations.specs.Table.{entry_in};
 ghost use Rattle.schedule.specs.Valid.{is_valid};
 ghost use Rattle.lab_plans.specs.Asked.{IsFound};
-ghost use Rattle.lab_words.specs.Command.{Effort as Tried};
-ghost use Rattle.lab_words.specs.View.{effort_view};
+ghost use Rattle.lab_words.specs.Command.{Effort as Tried, for_length, for_period};
+ghost use Rattle.lab_words.specs.View.{effort_view, goal_view};
+ghost use Rattle.plan_search.specs.declared.site.Goal.TheVariants.{Length, Period};
 ghost use Rattle.lab_program.specs.Found.{Builds, problem_of};
 
 use command_status::Status;
 use compiler::Compilation;
 use durations::durations_fit;
 use executive_program::Program;
-use lab_words::Effort;
+use lab_words::{Effort, Goal};
 use schedule::Schedule;
-use schedule_search::search;
+use schedule_search::{Goal as Sought, search};
 use sequence_build::{BuildError, build};
 use std::alloc::Global;
 use syn_base::OutOfMemory;
@@ -36,9 +37,20 @@ pub fn find_schedule(
     let tried = schedule_search::Effort {
         tries: effort.tries,
         seed: u64::from(effort.seed),
-        goal: schedule_search::Goal::Length,
+        goal: goal_of(effort.goal),
     };
     search(alloc, flat, archi, &compilation.durations, tried)
+}
+
+/// The same goal, as the search knows it.
+fn goal_of(goal: Goal) -> Sought
+    ensures length { goal_view goal ≡ for_length → result ≡ Length }
+    ensures period { goal_view goal ≡ for_period → result ≡ Period }
+{
+    match goal {
+        Goal::Length => Sought::Length,
+        Goal::Period => Sought::Period,
+    }
 }
 
 /// The program of a schedule, or the first limit that refuses it.

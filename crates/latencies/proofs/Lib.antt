@@ -1,4 +1,5 @@
 pub mod Turning
 pub mod Paths
 pub mod Listing
+pub mod Scheduled
 pub mod Worked

@@ -1,3 +1,4 @@
 pub mod Latency
 pub mod Turns
 pub mod Laws
+pub mod Stated

@@ -68,7 +68,7 @@ fn text_of_found(
         Subject::Trace => Ok(print_trace(alloc, compilation, &schedule)?),
         Subject::Flat => Ok(print_flat(alloc, compilation, &schedule)?),
         Subject::Code => print_program(alloc, compilation, &schedule),
-        Subject::Report => Ok(print_numbers(alloc, compilation, &schedule)?),
+        Subject::Report(_) => Ok(print_numbers(alloc, compilation, &schedule)?),
     }
 }
 

@@ -18,6 +18,9 @@ returns-in-Table-clause-carries g c = rw c.in-Table.is c.table_text.ensures.carr
 pub returns-in-Lint-clause-carries : goal.returns-in-Lint-clause-carries
 returns-in-Lint-clause-carries g c = rw c.in-Lint.is c.lint_text.ensures.carries
 
+pub returns-in-Why-clause-carries : goal.returns-in-Why-clause-carries
+returns-in-Why-clause-carries g c = rw c.in-Why.is c.why_text.ensures.carries
+
 pub returns-in-Plot-clause-carries : goal.returns-in-Plot-clause-carries
 returns-in-Plot-clause-carries g c = rw c.in-Plot.is c.plot_text.ensures.carries
 

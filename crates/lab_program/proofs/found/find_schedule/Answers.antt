@@ -1,5 +1,15 @@
 use Rattle.compiler.specs.Compiles.{described}
+use Rattle.lab_words.specs.View.{effort_view}
+use Rattle.lab_program.specs.Found.{problem_of}
+use Rattle.lab_program.proofs.Searched.{all_found}
 use Rattle.lab_program.proofs.found.find_schedule.Goals as goal
 
 pub search-requires : goal.search-requires
 search-requires c = (c.durations_fit.ensures c.args.compilation.now.flat (described c.args.compilation.now.text) c.args.compilation.now.durations c.requires).0
+
+pub returns : goal.returns
+returns c =
+    let found = c.search.ensures in
+    let is = c.goal_of.ensures in
+    all_found (problem_of c.args.compilation.now (effort_view c.args.effort)) c.search.result found.valid
+    (λ e. found.shorter (is.length e)) (λ e. found.faster (is.period e)) (λ e. found.alone (is.length e)) (λ e. found.faster_alone (is.period e)) found.none

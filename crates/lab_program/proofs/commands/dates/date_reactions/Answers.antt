@@ -8,6 +8,7 @@ use Rattle.actual_defs.specs.declared.fault.ActualError.{ActualError}
 use Rattle.actual_durations.specs.Actual.{actual_of}
 use Rattle.actual_durations.specs.Answers as answers
 use Rattle.compiler.proofs.Sizes.{few_lines}
+use Rattle.lab_words.specs.Command.{for_length}
 use Rattle.lab_words.specs.View.{form_view}
 use Rattle.lab_plans.specs.Answers.{form_text}
 use Rattle.lab_program.specs.Found.{problem_of}
@@ -32,7 +33,7 @@ write_reactions-requires-clause-within c =
     subst (λ (row : List ℕ). AreWithin x.flat.vertices (acts s) (replicate c.args.extent.reactions row)) (sym c.deref.ensures.value) both.1
 
 pub write_reactions-requires-clause-program : goal.write_reactions-requires-clause-program
-write_reactions-requires-clause-program c = (c.in_ok-program.ensures (record { tries = 0; seed = 1 })).0
+write_reactions-requires-clause-program c = (c.in_ok-program.ensures (record { tries = 0; seed = 1; goal = for_length })).0
 
 pub returns-in_err-ticks : goal.returns-in_err-ticks
 returns-in_err-ticks c =
