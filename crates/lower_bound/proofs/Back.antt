@@ -7,9 +7,9 @@ use Rattle.std.proofs.lemmas.List.Sums.{sum_by-cons}
 use Rattle.flat_graph.specs.declared.vertex.Vertex.{Vertex}
 use Rattle.flat_graph.specs.Graph.{with_vertex}
 use Rattle.flat_graph.specs.Order.{depends_on, is_acyclic, is_done}
-use Rattle.lower_bound.specs.Bound.{all_operations, chain_to, greatest, least, longest_chain, needs}
+use Rattle.lower_bound.specs.Bound.{all_operations, chain_to, chain_within, end_after, greatest, least, longest_chain, needs}
 use Rattle.lower_bound.specs.Chain.{back_within, chain_back, first_at, goes_back, goes_on, latest_of, ChainLastsLongest}
-use Rattle.lower_bound.proofs.Renewed.{all_done, chain_is}
+use Rattle.lower_bound.proofs.Done.{all_done, done_within, same_where}
 
 -- the first with a date, where there is one
 pub record Found (dates : ℕ → ℕ) (date : ℕ) (vs : List ℕ) : Type 0 where
@@ -75,14 +75,14 @@ module _ (operators : ℕ) (ticks : ℕ → ℕ → Option ℕ) (vertices : List
       by None e = refl
       by (Some x) e = e
 
-  pub done_within : (rounds v : ℕ) → is_done vertices rounds v ≡ true → v < length vertices
-  done_within zero v h = absurd (false≢true h)
-  done_within (suc rounds) v h = within vertices v h
-    where
-      within : (xs : List Vertex) (u : ℕ) → with_vertex (slice_get xs u) false (λ x. list_all (is_done vertices rounds) (depends_on x)) ≡ true → u < length xs
-      within [] u e = absurd (false≢true e)
-      within (y ∷ xs) zero e = omega arith
-      within (y ∷ xs) (suc u) e = let z = within xs u e in omega arith
+  end_same : (f g : ℕ → ℕ) (rounds v : ℕ) → ((u : ℕ) → is_done vertices rounds u ≡ true → f u ≡ g u) → is_done vertices (suc rounds) v ≡ true → end_after operators ticks vertices f v ≡ end_after operators ticks vertices g v
+  end_same f g rounds v same h = let e = same_where f g (is_done vertices rounds) same (needs operators ticks vertices v) (needs_done rounds v h) in omega arith
+
+  -- once enough operations are followed, one more changes nothing
+  no_longer : (k m v : ℕ) → k ≤ m → is_done vertices k v ≡ true → chain_within operators ticks vertices m v ≡ chain_within operators ticks vertices (suc m) v
+  no_longer zero m v l h = absurd (false≢true h)
+  no_longer (suc k) zero v l h = absurd (omega arith)
+  no_longer (suc k) (suc m) v l h = end_same (chain_within operators ticks vertices m) (chain_within operators ticks vertices (suc m)) k v (λ u d. no_longer k m u (omega arith) d) h
 
   pub back_none : (n : ℕ) → back_within operators ticks vertices n None ≡ []
   back_none zero = refl
@@ -129,7 +129,7 @@ module _ (operators : ℕ) (ticks : ℕ → ℕ → Option ℕ) (vertices : List
         let us = needs operators ticks vertices v in
         let rest = back_within operators ticks vertices n (latest_of (chain_to operators ticks vertices) us) in
         let t = over_lasts n us (needs_done n v h) (λ u e. from_lasts n u e) in
-        let c = chain_is operators ticks vertices acyclic v (done_within (suc n) v h) in
+        let c = no_longer (length vertices) (length vertices) v (omega arith) (all_done vertices acyclic v (done_within vertices (suc n) v h)) in
         let s = sum_by-cons (least operators ticks) v rest in
         let z = t.sum in
         record { sum = omega arith; back = and_from (goes_on us rest) (goes_back operators ticks vertices rest) t.on t.back }

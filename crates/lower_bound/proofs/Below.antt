@@ -11,10 +11,10 @@ use Rattle.archi_graph.specs.Archi.{Architecture}
 use Rattle.schedule.specs.declared.decision.Schedule.{Schedule}
 use Rattle.schedule.specs.Acts.{Act, acts, end_of, runs, latest, length_of}
 use Rattle.schedule.specs.Valid.{are_right, are_placed, is_valid}
-use Rattle.lower_bound.specs.Bound.{greatest, divided_up, least, chain_to, takes_time_on, stands_only, work_only, may_work, shared_work}
+use Rattle.lower_bound.specs.Bound.{greatest, divided_up, least, carried_to, takes_time_on, stands_only, work_only, may_work, shared_work}
 use Rattle.lower_bound.specs.Laws.{NoValidScheduleIsShorter}
 use Rattle.lower_bound.proofs.Parts.{Each, one_of, both_of, least_low}
-use Rattle.lower_bound.proofs.Late.{IsLate, all_late, is_run}
+use Rattle.lower_bound.proofs.Late.{IsLate, all_late}
 use Rattle.lower_bound.proofs.Loads.{total, work_low}
 
 ends_low : (xs : List Act) → Each (λ y. end_of y ≤ latest xs) xs
@@ -90,14 +90,13 @@ divided_low n k j date l m o =
     omega arith
 
 module _ (g : Graph) (a : Architecture) (ticks : ℕ → ℕ → Option ℕ) (s : Schedule) (right : are_right g a ticks [] (acts s) ≡ true) (placed : are_placed g a ticks (acts s) ≡ true) where
-  chain_low : (v : ℕ) → v < 0 + length g.vertices → chain_to (length a.operators) ticks g.vertices v ≤ length_of s
+  chain_low : (v : ℕ) → v < 0 + length g.vertices → carried_to (length a.operators) ticks g.vertices a.media v ≤ length_of s
   chain_low v l =
       let late = IsLate g a ticks in
       let r = one_of (λ y. late y × (end_of y ≤ latest (acts s))) (runs v) (acts s)
       (both_of late (λ y. end_of y ≤ latest (acts s)) (acts s) (all_late g a ticks [] (acts s) tt right) (ends_low (acts s)))
       (all_in_range (λ v. list_any (runs v) (acts s)) 0 (length g.vertices) v placed (omega arith) l) in
-      let e = ap (λ (u : ℕ). chain_to (length a.operators) ticks g.vertices u) (is_run v r.0 r.2) in
-      let m = r.1.0 (length g.vertices) in
+      let m = r.1.0.ran (length g.vertices) v r.2 in
       let k = r.1.1 in
       omega arith
 
@@ -156,7 +155,7 @@ module _ (g : Graph) (a : Architecture) (ticks : ℕ → ℕ → Option ℕ) (s 
 pub no_valid_schedule_is_shorter : NoValidScheduleIsShorter
 no_valid_schedule_is_shorter g a ticks s h =
     let both = and_parts (are_right g a ticks [] (acts s)) (are_placed g a ticks (acts s)) h in
-    let chain = greatest_in_range (chain_to (length a.operators) ticks g.vertices) 0 (length g.vertices) (length_of s) (λ v l. chain_low g a ticks s both.0 both.1 v l) in
+    let chain = greatest_in_range (carried_to (length a.operators) ticks g.vertices a.media) 0 (length g.vertices) (length_of s) (λ v l. chain_low g a ticks s both.0 both.1 v l) in
     let shared = shared_low g a ticks s both.0 both.1 in
     let alone = greatest_in_range (work_only (length a.operators) ticks (length g.vertices)) 0 (length a.operators) (length_of s) (λ o l. alone_low g a ticks s both.0 both.1 o l) in
     omega arith

@@ -13,8 +13,8 @@ use Rattle.lower_bound.specs.declared.links.Link.{Link}
 use Rattle.lower_bound.specs.Bound.{all_operations, chain_to, greatest, least, needs}
 use Rattle.lower_bound.specs.Chain.{back_within, first_at, latest_of, link_of}
 use Rattle.lower_bound.specs.Turns.{at}
-use Rattle.lower_bound.proofs.Back.{back_none, done_within, needs_done}
-use Rattle.lower_bound.proofs.Renewed.{all_done}
+use Rattle.lower_bound.proofs.Back.{back_none, needs_done}
+use Rattle.lower_bound.proofs.Done.{all_done, done_within, same_where}
 use Rattle.lower_bound.proofs.Whole.{list_is}
 
 first_append : (dates : ℕ → ℕ) (date : ℕ) (us vs : List ℕ) → first_at dates date (us ++ vs) ≡ option_or (first_at dates date us) (first_at dates date vs)
@@ -76,14 +76,6 @@ all_imply : (f g : ℕ → Bool) → ((u : ℕ) → f u ≡ true → g u ≡ tru
 all_imply f g h [] e = refl
 all_imply f g h (u ∷ us) e = let a = and_parts (f u) (list_all f us) e in and_from (g u) (list_all g us) (h u a.0) (all_imply f g h us a.1)
 
-same_greatest : (f g : ℕ → ℕ) (test : ℕ → Bool) → ((v : ℕ) → test v ≡ true → f v ≡ g v) → (vs : List ℕ) → list_all test vs ≡ true → greatest (map f vs) ≡ greatest (map g vs)
-same_greatest f g test same [] h = refl
-same_greatest f g test same (v ∷ vs) h =
-    let both = and_parts (test v) (list_all test vs) h in
-    let e = same v both.0 in
-    let r = same_greatest f g test same vs both.1 in
-    omega arith
-
 same_first : (f g : ℕ → ℕ) (test : ℕ → Bool) → ((v : ℕ) → test v ≡ true → f v ≡ g v) → (date : ℕ) (vs : List ℕ) → list_all test vs ≡ true → first_at f date vs ≡ first_at g date vs
 same_first f g test same date [] h = refl
 same_first f g test same date (v ∷ vs) h =
@@ -92,7 +84,7 @@ same_first f g test same date (v ∷ vs) h =
 
 -- of dates that are the same the latest is the same
 same_latest : (f g : ℕ → ℕ) (test : ℕ → Bool) → ((v : ℕ) → test v ≡ true → f v ≡ g v) → (vs : List ℕ) → list_all test vs ≡ true → latest_of f vs ≡ latest_of g vs
-same_latest f g test same vs h = ap (λ (n : ℕ). first_at f n vs) (same_greatest f g test same vs h) ∙ same_first f g test same (greatest (map g vs)) vs h
+same_latest f g test same vs h = ap (λ (n : ℕ). first_at f n vs) (same_where f g test same vs h) ∙ same_first f g test same (greatest (map g vs)) vs h
 
 module _ (operators : ℕ) (ticks : ℕ → ℕ → Option ℕ) (vertices : List Vertex) (acyclic : is_acyclic vertices ≡ true) where
   abbrev pub Within : Option ℕ → Type 0
@@ -102,14 +94,14 @@ module _ (operators : ℕ) (ticks : ℕ → ℕ → Option ℕ) (vertices : List
   is_within v = nat_lt v (length vertices)
 
   all_within : list_all is_within (all_operations operators ticks (length vertices)) ≡ true
-  all_within = all_imply (is_done vertices (length vertices)) is_within (λ u h. lt-ltb u (length vertices) (done_within operators ticks vertices (length vertices) u h)) (all_operations operators ticks (length vertices)) acyclic
+  all_within = all_imply (is_done vertices (length vertices)) is_within (λ u h. lt-ltb u (length vertices) (done_within vertices (length vertices) u h)) (all_operations operators ticks (length vertices)) acyclic
 
   needs_within : (v : ℕ) → v < length vertices → list_all is_within (needs operators ticks vertices v) ≡ true
-  needs_within v l = by (length vertices) (all_done operators ticks vertices acyclic v l)
+  needs_within v l = by (length vertices) (all_done vertices acyclic v l)
     where
       by : (n : ℕ) → is_done vertices n v ≡ true → list_all is_within (needs operators ticks vertices v) ≡ true
       by zero h = absurd (false≢true h)
-      by (suc n) h = all_imply (is_done vertices n) is_within (λ u k. lt-ltb u (length vertices) (done_within operators ticks vertices n u k)) (needs operators ticks vertices v) (needs_done operators ticks vertices n v h)
+      by (suc n) h = all_imply (is_done vertices n) is_within (λ u k. lt-ltb u (length vertices) (done_within vertices n u k)) (needs operators ticks vertices v) (needs_done operators ticks vertices n v h)
 
   latest_within : (dates : ℕ → ℕ) (us : List ℕ) → list_all is_within us ≡ true → Within (latest_of dates us)
   latest_within dates us h = by (latest_of dates us) (first_passes is_within dates (greatest (map dates us)) us h)

@@ -1,8 +1,8 @@
 -- The least durations of a table.
-use Rattle.std.proofs.Common.{◌≡◌, ℕ, zero, suc, ◌+◌, ◌<◌, ◌≤◌, List, [], ◌∷◌, map, length, min, Option, Some, None, refl, sym, ap, arith, ◌∙◌, inl, inr}
-use Rattle.std.specs.Prelude.{All, IfSome, slice_index_or, unwrap_or, nat_lt}
-use Rattle.std.specs.List.{range_with_len}
-use Rattle.std.proofs.lemmas.Bool.{cases_lt}
+use Rattle.std.proofs.Common.{◌≡◌, ℕ, zero, suc, ◌+◌, ◌<◌, ◌≤◌, List, [], ◌∷◌, map, length, min, Option, Some, None, refl, sym, ap, subst, true, arith, ◌∙◌, inl, inr}
+use Rattle.std.specs.Prelude.{All, IfSome, is_some, slice_index_or, unwrap_or, nat_lt}
+use Rattle.std.specs.List.{list_any, range_with_len}
+use Rattle.std.proofs.lemmas.Bool.{false≢true, cases_lt}
 use Rattle.std.proofs.lemmas.List.{get_or_past}
 use Rattle.durations.specs.Table.{Table, IsRow, entry_in, least_of, lesser, row_in}
 use Rattle.durations.proofs.Least.{least_bounded}
@@ -44,3 +44,32 @@ module _ (table : Table) (valid : All (IsRow table.operators) table.rows) where
       by : (o : Option ℕ) → least_of (row_in table v) ≡ o → IsRow table.operators (row_in table v) → unwrap_or o 0 ≤ 1000000000
       by None e row = omega arith
       by (Some t) e row = least_bounded table.operators (row_in table v) t row e
+
+  -- no entry is above the most ticks
+  pub entry_low : (v o : ℕ) → IfSome (entry_in table v o) (λ t. t ≤ 1000000000)
+  entry_low v o = elim (cases_lt v (length table.rows)) [
+    | inl l ↦ (elim (cases_lt o (length (row_in table v))) [
+      | inl m ↦ (valid v [] l).bounded o None m
+      | inr far ↦ past (entry_in table v o) (get_or_past (row_in table v) o None far)
+    ])
+    | inr far ↦ past (entry_in table v o) (ap (λ (xs : List (Option ℕ)). slice_index_or xs o None) (get_or_past table.rows v [] far))
+  ]
+    where
+      past : (e : Option ℕ) → e ≡ None → IfSome e (λ t. t ≤ 1000000000)
+      past e is = subst (λ (x : Option ℕ). IfSome x (λ t. t ≤ 1000000000)) (sym is) tt
+
+  -- an operation of the table may stand somewhere
+  pub some_entry : (v : ℕ) → v < length table.rows → (t : ℕ) × (least_of (map (entry_in table v) (range_with_len 0 table.operators)) ≡ Some t)
+  some_entry v l =
+      let r = (valid v [] l).each in
+      let z = least_some (row_in table v) (valid v [] l).some in
+      (z.0, least_entry (entry_in table v) 0 table.operators (row_in table v) (omega arith) (λ i. (let e : 0 + i ≡ i = omega arith in ap (entry_in table v) e)) ∙ z.1)
+    where
+      least_some : (xs : List (Option ℕ)) → list_any (λ (x : Option ℕ). is_some x) xs ≡ true → (t : ℕ) × (least_of xs ≡ Some t)
+      least_some [] h = absurd (false≢true h)
+      least_some (None ∷ xs) h = least_some xs h
+      least_some (Some t ∷ xs) h = by (least_of xs)
+        where
+          by : (o : Option ℕ) → (u : ℕ) × (lesser (Some t) o ≡ Some u)
+          by None = (t, refl)
+          by (Some u) = (min t u, refl)

@@ -1,11 +1,17 @@
 pub mod Back
 pub mod Below
+pub mod Done
 pub mod Follow
 pub mod Late
 pub mod Least
+pub mod Lesser
 pub mod Loads
+pub mod Longer
 pub mod Parts
+pub mod Plain
 pub mod Renewed
+pub mod Short
+pub mod Starting
 pub mod Sums
 pub mod Whole
 mod Worked

@@ -5,6 +5,7 @@ use Rattle.std.specs.Prelude.{
   suc,
   ◌+◌,
   ◌-◌,
+  ◌*◌,
   ◌/◌,
   Bool,
   ◌&&◌,
@@ -17,7 +18,10 @@ use Rattle.std.specs.Prelude.{
   length,
   map,
   max,
+  if◌then◌else◌,
   Option,
+  Some,
+  None,
   is_none,
   is_some,
   unwrap_or,
@@ -27,10 +31,14 @@ use Rattle.std.specs.Prelude.{
   filter,
 }
 use Rattle.std.specs.List.{list_all, list_any, range_with_len}
+use Rattle.flat_graph.specs.declared.vertex.Source.{Source}
 use Rattle.flat_graph.specs.declared.vertex.Vertex.{Vertex}
-use Rattle.flat_graph.specs.Graph.{with_vertex}
-use Rattle.flat_graph.specs.Order.{depends_on}
+use Rattle.flat_graph.specs.Graph.{len_of, with_vertex}
+use Rattle.flat_graph.specs.Order.{depends_on, get_half}
+use Rattle.archi_graph.specs.declared.medium.Medium.{Medium}
+use Rattle.archi_graph.specs.Archi.{stands_at}
 use Rattle.durations.specs.Table.{least_of}
+use Rattle.schedule.specs.Acts.{sources_of}
 
 abbrev pub greatest : List ℕ → ℕ
 greatest [] = 0
@@ -39,6 +47,19 @@ greatest (n ∷ ns) = max n (greatest ns)
 -- the greatest of so many parts that are as equal as can be
 abbrev pub divided_up : ℕ → ℕ → ℕ
 divided_up n parts = (n + (parts - 1)) / parts
+
+-- the sum, where the first part is there
+abbrev pub later_by : Option ℕ → ℕ → Option ℕ
+later_by None n = None
+later_by (Some t) n = Some (t + n)
+
+-- how long the medium takes to carry this many elements to the operator, if that stands at the medium
+abbrev pub brought_in : ℕ → ℕ → Medium → Option ℕ
+brought_in o n m = if stands_at m o then Some (m.fixed + n * m.per) else None
+
+-- the least time in which a medium carries this many elements to the operator, 0 where none does
+abbrev pub least_transfer : List Medium → ℕ → ℕ → ℕ
+least_transfer media o n = unwrap_or (least_of (map (brought_in o n) media)) 0
 
 -- how long each operation lasts on each of this many operators, where it may stand
 module _ (operators : ℕ) (ticks : ℕ → ℕ → Option ℕ) where
@@ -98,6 +119,39 @@ module _ (operators : ℕ) (ticks : ℕ → ℕ → Option ℕ) where
     abbrev pub longest_chain : ℕ
     longest_chain = greatest (map chain_to (all_operations (length vertices)))
 
-    -- the longest chain, the work that is shared, and the greatest work that one operator alone may do
-    abbrev pub lower_bound : ℕ
-    lower_bound = max longest_chain (max (shared_work (length vertices)) (greatest_work (length vertices)))
+    -- the media of an architecture
+    module _ (media : List Medium) where
+      -- No value is there on an operator before its operation has ended, at this date. Where that operation may not
+      -- stand on this operator, a transfer brings the value.
+      abbrev pub arrival : (ℕ → ℕ) → ℕ → Source → ℕ
+      arrival dates o s =
+          dates s.vertex + (if is_some (ticks s.vertex o) then 0 else least_transfer media o (len_of vertices s))
+
+      -- An operation starts once all that it reads has arrived, and of a set half the get half has ended.
+      abbrev pub start_on : (ℕ → ℕ) → ℕ → Vertex → ℕ
+      start_on dates o x =
+          max (greatest (map (arrival dates o) (sources_of (Some x)))) (greatest (map dates (get_half x.kind x.twin)))
+
+      -- when it ends on an operator, if it may stand there
+      abbrev pub end_on : (ℕ → ℕ) → ℕ → ℕ → Option ℕ
+      end_on dates v o = later_by (ticks v o) (with_vertex (slice_get vertices v) 0 (start_on dates o))
+
+      -- when it ends on the operator on which it ends first
+      abbrev pub first_end : (ℕ → ℕ) → ℕ → ℕ
+      first_end dates v = unwrap_or (least_of (map (end_on dates v) all_operators)) 0
+
+      -- The longest time up to the end of an operation, along operations of which each depends on the one before, with
+      -- the transfers that they cannot do without. At most this many are followed.
+      abbrev pub carried_within : ℕ → ℕ → ℕ
+      carried_within zero v = 0
+      carried_within (suc n) v = first_end (carried_within n) v
+
+      abbrev pub carried_to : ℕ → ℕ
+      carried_to v = carried_within (length vertices) v
+
+      abbrev pub longest_carried : ℕ
+      longest_carried = greatest (map carried_to (all_operations (length vertices)))
+
+      -- the longest chain with transfers, the work that is shared, and the greatest work that one operator alone may do
+      abbrev pub lower_bound : ℕ
+      lower_bound = max longest_carried (max (shared_work (length vertices)) (greatest_work (length vertices)))

@@ -5,6 +5,7 @@
 //! beside the length of a schedule. `chain_of` tells the operations of a longest chain.
 #![tactic(auto)]
 
+mod arrivals;
 mod bound;
 mod chains;
 mod laws;
@@ -12,5 +13,5 @@ mod links;
 mod work;
 
 pub use bound::lower_bound;
-pub use laws::{chain_lasts_longest, no_valid_schedule_is_shorter};
+pub use laws::{chain_lasts_longest, no_valid_schedule_is_shorter, transfers_only_lengthen};
 pub use links::{Link, chain_of};

@@ -4,12 +4,13 @@ ghost use Rattle.std.specs.List.{range_with_len};
 ghost use Rattle.syn_base.specs.Limits.{most_operations};
 ghost use Rattle.flat_graph.specs.Order.{depends_on, get_half, is_acyclic};
 ghost use Rattle.durations.specs.Table.{entry_in};
-ghost use Rattle.lower_bound.specs.Bound.{chain_to};
+ghost use Rattle.lower_bound.specs.Bound.{chain_to, greatest};
 ghost use Rattle.lower_bound.specs.Chain.{chain_back, chain_links, first_at, latest_of, link_of};
 ghost use Rattle.lower_bound.specs.Turns.{at, most_date};
 
+use crate::arrivals::{end_at, end_of_half};
 use crate::bound::greatest;
-use crate::chains::{chain_ends, end_at, latest_needed};
+use crate::chains::chain_ends;
 use crate::work::least;
 use durations::Durations;
 use flat_graph::{Flat, Guard, Kind, Source, Vertex};
@@ -51,7 +52,10 @@ fn links_back(
         (link_of durations.now.operators (entry_in durations.now) vertices.now)
         (chain_back durations.now.operators (entry_in durations.now) vertices.now)) }
 {
-    let ends = chain_ends(alloc, vertices, durations)?;
+    // The proof takes from this call that each operation may stand somewhere.
+    let _operations = durations.operations();
+    // Without media there are no transfers.
+    let ends = chain_ends(alloc, vertices, &[], durations)?;
     follow_back(alloc, &ends, vertices, durations)
 }
 
@@ -109,6 +113,41 @@ fn latest_before(ends: &[u64], vertex: &Vertex) -> Option<u32>
     guard
         .or(source)
         .or(half_at(ends, &vertex.kind, vertex.twin, latest))
+}
+
+/// The greatest date of those that an operation depends on.
+fn latest_needed(ends: &[u64], vertex: &Vertex) -> u64
+    requires { (v : ℕ) → at ends.now v ≤ most_date }
+    ensures latest { result ≡ greatest (map (at ends.now) (depends_on vertex.now)) }
+    ensures low { result ≤ most_date }
+{
+    let guards = latest_of_guards(ends, vertex.guards.as_slice());
+    let inputs = latest_of_sources(ends, vertex.ins.as_slice());
+    guards
+        .max(inputs)
+        .max(end_of_half(ends, &vertex.kind, vertex.twin))
+}
+
+/// The greatest date of those that these guards read.
+fn latest_of_guards(ends: &[u64], guards: &[Guard]) -> u64
+    ensures { result ≡ greatest (map (at ends.now) (map (λ g. g.source.vertex) guards.now)) }
+{
+    let mut latest = 0;
+    for guard in guards {
+        latest = end_at(ends, guard.source.vertex).max(latest);
+    }
+    latest
+}
+
+/// The greatest date of those whose outputs these are.
+fn latest_of_sources(ends: &[u64], sources: &[Source]) -> u64
+    ensures { result ≡ greatest (map (at ends.now) (map (λ s. s.vertex) sources.now)) }
+{
+    let mut latest = 0;
+    for source in sources {
+        latest = end_at(ends, source.vertex).max(latest);
+    }
+    latest
 }
 
 /// The first operation of this date of those that these guards read.

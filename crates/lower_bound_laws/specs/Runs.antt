@@ -9,4 +9,4 @@ use Rattle.lower_bound.specs.Bound.{lower_bound}
 -- no pressure run is shorter than the bound
 abbrev pub NoRunIsShorter : Type 0
 NoRunIsShorter = (t : Task) → IsTask t
-    → lower_bound (length t.archi.operators) t.ticks t.graph.vertices ≤ length_of (pressure_run t)
+    → lower_bound (length t.archi.operators) t.ticks t.graph.vertices t.archi.media ≤ length_of (pressure_run t)

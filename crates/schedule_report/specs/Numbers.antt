@@ -76,6 +76,6 @@ report g a ticks s = record {
   operators = loads is_on (length a.operators) s;
   media = loads is_over (length a.media) s;
   alone = map (alone ticks (length g.vertices) (length_of s)) (range_with_len 0 (length a.operators));
-  bound = lower_bound (length a.operators) ticks g.vertices;
-  above = ratio (length_of s) (lower_bound (length a.operators) ticks g.vertices);
+  bound = lower_bound (length a.operators) ticks g.vertices a.media;
+  above = ratio (length_of s) (lower_bound (length a.operators) ticks g.vertices a.media);
 }

@@ -3,15 +3,18 @@ use Rattle.std.specs.Prelude.{IsTrue}
 use Rattle.flat_graph.specs.declared.vertex.Vertex.{Vertex}
 use Rattle.flat_graph.specs.Order.{is_acyclic}
 use Rattle.flat_graph.proofs.Settled.{acyclic_of}
+use Rattle.archi_graph.specs.declared.medium.Medium.{Medium}
 use Rattle.durations.specs.Table.{entry_in}
 use Rattle.schedule.proofs.Archis.{few_operators}
 use Rattle.schedule.proofs.Decided.{few_operations}
-use Rattle.lower_bound.specs.Bound.{longest_chain}
+use Rattle.lower_bound.specs.Bound.{longest_carried}
+use Rattle.lower_bound.specs.Turns.{AreShort}
+use Rattle.lower_bound.proofs.Short.{are_short}
 use Rattle.lower_bound.proofs.Whole.{below_all, bound_is}
 use Rattle.lower_bound.proofs.bound.lower_bound.Goals as goal
 
-pub longest_chain-requires : goal.longest_chain-requires
-longest_chain-requires c =
+pub longest_carried-requires : goal.longest_carried-requires
+longest_carried-requires c =
     let flat = c.args.flat.now in
     let few = few_operations flat c.vertices.ensures.valid in
     let same = ap length c.vertices.ensures.same in
@@ -19,6 +22,7 @@ longest_chain-requires c =
       few = omega arith;
       rows = c.requires.operations ∙ sym same;
       acyclic = subst (λ (vs : List Vertex). IsTrue (is_acyclic vs)) (sym c.vertices.ensures.same) (acyclic_of flat c.vertices.ensures.valid);
+      short = subst (λ (ms : List Medium). AreShort ms c.vertices.result.now) (sym c.media.ensures.same) (subst (λ (vs : List Vertex). AreShort c.args.archi.now.media vs) (sym c.vertices.ensures.same) (are_short flat c.args.archi.now c.vertices.ensures.valid c.media.ensures.valid));
     }
 
 pub shared_work-requires : goal.shared_work-requires
@@ -41,7 +45,7 @@ returns-clause-bound c =
     let one = c.max.ensures in
     let two = c.max-2.ensures in
     bound_is c.args.flat.now c.args.archi.now d c.requires c.in_ok-chain.chain c.shared_work.result c.greatest_work.result c.max-2.result
-    (c.in_ok-chain.ensures ∙ ap (λ (vs : List Vertex). longest_chain d.operators (entry_in d) vs) c.vertices.ensures.same) c.shared_work.ensures c.greatest_work.ensures (omega arith)
+    (c.in_ok-chain.ensures ∙ (λ i. longest_carried d.operators (entry_in d) (c.vertices.ensures.same i) (c.media.ensures.same i))) c.shared_work.ensures c.greatest_work.ensures (omega arith)
 
 pub returns-clause-below : goal.returns-clause-below
 returns-clause-below c =
@@ -50,4 +54,4 @@ returns-clause-below c =
     let two = c.max-2.ensures in
     below_all c.args.flat.now c.args.archi.now d c.max-2.result
     (bound_is c.args.flat.now c.args.archi.now d c.requires c.in_ok-chain.chain c.shared_work.result c.greatest_work.result c.max-2.result
-    (c.in_ok-chain.ensures ∙ ap (λ (vs : List Vertex). longest_chain d.operators (entry_in d) vs) c.vertices.ensures.same) c.shared_work.ensures c.greatest_work.ensures (omega arith))
+    (c.in_ok-chain.ensures ∙ (λ i. longest_carried d.operators (entry_in d) (c.vertices.ensures.same i) (c.media.ensures.same i))) c.shared_work.ensures c.greatest_work.ensures (omega arith))

@@ -8,5 +8,5 @@ abbrev pub invariant-loop-turn : goal.invariant-loop-turn
 invariant-loop-turn l = record {
   size : length l.ends ≡ length l.vertices;
   low : (v : ℕ) → at l.ends v ≤ most_date;
-  chains : AreChains l.durations.operators (entry_in l.durations) l.vertices l._turn l.ends;
+  chains : AreChains l.durations.operators (entry_in l.durations) l.vertices l.media l._turn l.ends;
 }

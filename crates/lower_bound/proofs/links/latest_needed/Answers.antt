@@ -5,7 +5,7 @@ use Rattle.flat_graph.specs.Order.{depends_on}
 use Rattle.lower_bound.specs.Bound.{greatest}
 use Rattle.lower_bound.specs.Turns.{at, most_date}
 use Rattle.lower_bound.proofs.Renewed.{greatest_low, latest_by_parts}
-use Rattle.lower_bound.proofs.chains.latest_needed.Goals as goal
+use Rattle.lower_bound.proofs.links.latest_needed.Goals as goal
 
 pub returns : goal.returns
 returns c =
