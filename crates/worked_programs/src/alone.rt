@@ -1,6 +1,5 @@
 //! Runs of a job to its end by one driver alone, at gates: its rows, counts and words are those of runs by threads,
 //! and the gate is asked once for each step.
-use crate::states::values_of;
 use crate::texts::Worked;
 use crate::two_operators::texts;
 use executive_run::{prepare, run_alone};
@@ -12,7 +11,7 @@ use std::process::Abort;
 use std::test::Fail;
 use syn_base::OutOfMemory;
 use word_table::Driven;
-use worked_parts::{Counting, Holding, Meeting};
+use worked_parts::{Counting, Holding, Meeting, values_of};
 
 /// Whether this is what was driven of the program for two operators in three reactions.
 fn is_driven_so(driven: &Driven, steps: u64) -> bool {

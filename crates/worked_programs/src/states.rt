@@ -1,6 +1,5 @@
 //! Moves of a job as a state: what its sequences answer, which one can go on, and what the actuators hold.
 //! `moves` calls it.
-ghost use Rattle.std.specs.Prelude.{◌<◌, length};
 ghost use Rattle.semaphore_core.specs.Held.{IsOpened};
 
 use crate::moves::{Moves, number_of};
@@ -8,7 +7,8 @@ use phase_laws::run_fresh;
 use progress_laws::first_enabled;
 use semaphore_core::{Job, State, StepAnswer, try_step};
 use std::alloc::Global;
-use syn_base::{ActRows, OutOfMemory};
+use syn_base::OutOfMemory;
+use worked_parts::values_of;
 
 /// The letter of what a sequence answers to a try.
 fn letter_of(job: &Job, state: &mut State, seq: u32) -> u8
@@ -40,25 +40,6 @@ fn letters_of(
         letters.push(letter_of(job, state, number_of(*digit)))?;
     }
     Ok(letters)
-}
-
-/// Adds what the actuators hold in a reaction.
-fn add_reaction(rows: &ActRows, k: usize, values: &mut Vec<i64>) -> Result<(), OutOfMemory>
-    requires { k < length rows.now.reactions }
-{
-    for actuator in 0..rows.lens().len() {
-        values.extend_from_slice(rows.vector(k, actuator))?;
-    }
-    Ok(())
-}
-
-/// What the actuators hold, reaction by reaction.
-pub(crate) fn values_of(alloc: Global, rows: &ActRows) -> Result<Vec<i64>, OutOfMemory> {
-    let mut values = Vec::new(alloc);
-    for k in 0..rows.count() {
-        add_reaction(rows, k, &mut values)?;
-    }
-    Ok(values)
 }
 
 /// Whether the moves of a job come to what they should, as a state. The list of those that are made is run whole.
