@@ -99,10 +99,11 @@ def faults():
 
 
 def names_alone(crates):
-    """The crates each of which stands above or below nearly all others."""
+    """The crates each of which stands above or below nearly all others, where there are others."""
     below = {it.name: {other.name for other in it.below()} for it in crates}
     above = {name: [other for other in below if name in below[other]] for name in below}
-    return {name for name in below if len(below[name]) + len(above[name]) >= 0.95 * (len(below) - 1)}
+    others = len(below) - 1
+    return {name for name in below if others and len(below[name]) + len(above[name]) >= 0.95 * others}
 
 
 def once_each(usual):

@@ -8,6 +8,8 @@
 #[cfg(test)]
 mod graphs;
 #[cfg(test)]
+mod lists;
+#[cfg(test)]
 mod loads;
 #[cfg(test)]
 mod numbers;

