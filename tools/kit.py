@@ -99,11 +99,10 @@ def faults():
 
 
 def names_alone(crates):
-    """The crates each of which stands above or below nearly all others, where there are others."""
+    """The crates each of which stands above or below nearly all others."""
     below = {it.name: {other.name for other in it.below()} for it in crates}
     above = {name: [other for other in below if name in below[other]] for name in below}
-    others = len(below) - 1
-    return {name for name in below if others and len(below[name]) + len(above[name]) >= 0.95 * others}
+    return {name for name in below if len(below[name]) + len(above[name]) >= 0.95 * (len(below) - 1)}
 
 
 def once_each(usual):
@@ -144,8 +143,8 @@ def main(words):
     words, made = words[as_built:], rt()
     crate = made.rtlib.Crate
     change(crate, as_built)
-    alone = names_alone(made.rtlib.crates_below(os.getcwd()))
-    # A crate that is proved alone anyway is not told to take one processor.
+    # Where all are proved, a crate that is proved alone anyway is not told to take one processor.
+    alone = names_alone(made.rtlib.crates_below(os.getcwd())) if words[:1] == ["all"] else set()
     flags_of = lambda it, flags: [] if it.name in alone else flags
     for name in ("build_rlib", "check"):
         usual = getattr(crate, name, None)

@@ -5,7 +5,7 @@ use archi_graph::{Medium, is_archi};
 use flat_graph::{Kind, Source, Vertex, is_flat};
 use std::alloc::Global;
 use std::test::Fail;
-use syn_base::{Items, Name, OutOfMemory};
+use syn_base::{Items, Name};
 
 /// An operation without guards that passes on its inputs, until it is made another one.
 fn operation(
@@ -13,7 +13,7 @@ fn operation(
     name: &[u8],
     ins: &[Source],
     outs: &[u32],
-) -> Result<Vertex, OutOfMemory> {
+) -> Result<Vertex, Fail> {
     let name = Items::new(Vec::from_slice(alloc, name)?);
     let def = Name::new(alloc, b"D")?;
     let ins = Items::new(Vec::from_slice(alloc, ins)?);
@@ -37,52 +37,52 @@ fn made_into(mut operation: Vertex, kind: Kind, twin: Option<u32>) -> Vertex {
 }
 
 /// A constant 7.
-fn constant(alloc: Global) -> Result<Vertex, OutOfMemory> {
+fn constant(alloc: Global) -> Result<Vertex, Fail> {
     let made = operation(alloc, b"c", &[], &[1])?;
     let values = Items::new(Vec::from_slice(alloc, &[7])?);
     Ok(made_into(made, Kind::Constant(values), None))
 }
 
 /// The constant alone.
-pub fn alone(alloc: Global) -> Result<Vec<Vertex>, OutOfMemory> {
-    one(alloc, constant(alloc)?)
+pub fn alone(alloc: Global) -> Result<Vec<Vertex>, Fail> {
+    Ok(one(alloc, constant(alloc)?)?)
 }
 
 /// The constant, and an operation that passes on what this one of both gives.
-pub fn operations(alloc: Global, passed: u32) -> Result<Vec<Vertex>, OutOfMemory> {
+pub fn operations(alloc: Global, passed: u32) -> Result<Vec<Vertex>, Fail> {
     let source = Source {
         vertex: passed,
         port: 0,
     };
     let first = constant(alloc)?;
     let second = operation(alloc, b"p", &[source], &[1])?;
-    two(alloc, first, second)
+    Ok(two(alloc, first, second)?)
 }
 
 /// The get half of a delay of 0 whose set half is operation 2.
-fn get_half(alloc: Global) -> Result<Vertex, OutOfMemory> {
+fn get_half(alloc: Global) -> Result<Vertex, Fail> {
     let made = operation(alloc, b"d:get", &[], &[1])?;
     let initial = Items::new(Vec::from_slice(alloc, &[0])?);
     Ok(made_into(made, Kind::Get(initial), Some(2)))
 }
 
 /// The set half of a delay that keeps what operation 0 gives, and whose get half is operation 1.
-fn set_half(alloc: Global) -> Result<Vertex, OutOfMemory> {
+fn set_half(alloc: Global) -> Result<Vertex, Fail> {
     let source = Source { vertex: 0, port: 0 };
     let made = operation(alloc, b"d:set", &[source], &[])?;
     Ok(made_into(made, Kind::Set, Some(1)))
 }
 
 /// The constant, and both halves of a delay that keeps it.
-pub fn delayed(alloc: Global) -> Result<Vec<Vertex>, OutOfMemory> {
+pub fn delayed(alloc: Global) -> Result<Vec<Vertex>, Fail> {
     let first = constant(alloc)?;
     let second = get_half(alloc)?;
     let third = set_half(alloc)?;
-    three(alloc, first, second, third)
+    Ok(three(alloc, first, second, third)?)
 }
 
 /// Whether these are the operations of a flat graph, where the second one passes on what this one of both gives.
-fn may_pass_on(alloc: Global, passed: u32) -> Result<bool, OutOfMemory> {
+fn may_pass_on(alloc: Global, passed: u32) -> Result<bool, Fail> {
     let operations = operations(alloc, passed)?;
     Ok(is_flat(&operations, &[]))
 }
@@ -95,7 +95,7 @@ fn an_operation_does_not_read_itself(rt: HostRuntime) -> Result<(), Fail> {
 }
 
 /// Operators of these names.
-pub fn operators(alloc: Global, names: &[&[u8]]) -> Result<Vec<Name>, OutOfMemory> {
+pub fn operators(alloc: Global, names: &[&[u8]]) -> Result<Vec<Name>, Fail> {
     let mut operators = Vec::new(alloc);
     for name in names {
         operators.push(Name::new(alloc, name)?)?;
@@ -104,7 +104,7 @@ pub fn operators(alloc: Global, names: &[&[u8]]) -> Result<Vec<Name>, OutOfMemor
 }
 
 /// A bus between the first two operators, as the only medium.
-pub fn bus(alloc: Global) -> Result<Vec<Medium>, OutOfMemory> {
+pub fn bus(alloc: Global) -> Result<Vec<Medium>, Fail> {
     let name = Name::new(alloc, b"bus")?;
     let stands = Items::new(Vec::from_slice(alloc, &[0, 1])?);
     let medium = Medium {
@@ -114,11 +114,11 @@ pub fn bus(alloc: Global) -> Result<Vec<Medium>, OutOfMemory> {
         per: 1,
         stands,
     };
-    one(alloc, medium)
+    Ok(one(alloc, medium)?)
 }
 
 /// Whether operators of these names, of which the first two stand at a bus, are an architecture.
-fn may_be_joined(alloc: Global, names: &[&[u8]]) -> Result<bool, OutOfMemory> {
+fn may_be_joined(alloc: Global, names: &[&[u8]]) -> Result<bool, Fail> {
     let operators = operators(alloc, names)?;
     let media = bus(alloc)?;
     Ok(is_archi(&operators, &media))

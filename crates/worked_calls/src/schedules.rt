@@ -22,7 +22,7 @@ fn flat_graph(rt: &impl Abort, alloc: Global, operations: Vec<Vertex>) -> Flat {
 }
 
 /// Two operators on a bus, and no durations.
-fn two_operators(rt: &impl Abort, alloc: Global) -> Result<ArchiText, OutOfMemory>
+fn two_operators(rt: &impl Abort, alloc: Global) -> Result<ArchiText, Fail>
     ensures { IfOk result (λ text. AreDurations (length text.archi.operators) text.lines) }
 {
     let operators = operators(alloc, &[b"P", b"Q"])?;
@@ -77,7 +77,7 @@ fn may_be_passed_on(
     alloc: Global,
     durations: &Durations,
     at: u64,
-) -> Result<bool, OutOfMemory> {
+) -> Result<bool, Fail> {
     let flat = flat_graph(rt, alloc, operations(alloc, 0)?);
     let text = two_operators(rt, alloc)?;
     let schedule = schedule(alloc, at)?;
