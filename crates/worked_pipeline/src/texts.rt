@@ -11,7 +11,7 @@ pub struct Texts<'a> {
 }
 
 /// Two operators on a bus; the sensor stands on the first one alone.
-const BUS: &[u8] = b"architecture 1
+pub const ARCHITECTURE: &[u8] = b"architecture 1
 operator P
 operator Q
 medium bus p2p 1 1
@@ -24,12 +24,32 @@ duration Act P 1
 duration Act Q 1
 ";
 
+/// What the sensor gives in three reactions.
+pub const SENSORS: &[u8] = b"k,s.0
+0,5
+1,-1
+2,0
+";
+
+/// When and where each operation and the transfer happen.
+pub const CHART: &[u8] = b"operator P
+0 1 s
+1 11 f
+11 12 a
+operator Q
+3 13 g
+13 14 b
+medium bus
+1 3 s 0 P Q
+length 14
+";
+
 /// Two functions of one sensor on these operators.
 pub fn two_operators() -> Texts<'static> {
     Texts {
         algorithm: TWICE,
-        architecture: BUS,
-        table: b"k,s.0\n0,5\n1,-1\n2,0\n",
+        architecture: ARCHITECTURE,
+        table: SENSORS,
         values: &[6, 6, 0, 0, 1, 1],
     }
 }
