@@ -4,7 +4,7 @@ ghost use Rattle.std.specs.Prelude.{IfOk, IsTrue};
 ghost use Rattle.durations.specs.Table.{entry_in};
 ghost use Rattle.schedule.specs.Valid.{is_valid};
 
-use crate::stages::{Site, site_of};
+use crate::stages::{Site, meaning_of, site_of};
 use crate::texts::{Texts, ring, two_operators};
 use executive_program::Program;
 use executive_run::{prepare, run_alone};
@@ -20,7 +20,6 @@ use std::alloc::Global;
 use std::process::Abort;
 use std::test::Fail;
 use syn_base::OutOfMemory;
-use sync_meaning::simulate;
 use word_table::Driven;
 use worked_parts::values_of;
 
@@ -91,12 +90,6 @@ fn taken(alloc: Global, site: &Site, schedule: &Schedule) -> Result<Vec<i64>, Fa
     Ok(run_in(alloc, site, &program, &order)?)
 }
 
-/// What the actuators take by the simulator.
-fn meant(alloc: Global, site: &Site) -> Result<Vec<i64>, Fail> {
-    let acts = simulate(alloc, &site.tree, &site.rows)?;
-    Ok(values_of(alloc, &acts)?)
-}
-
 /// What is to be seen of the schedule that a search finds: that it is valid, and that a run of its program gives these
 /// values.
 fn seen(alloc: Global, site: &Site, goal: Goal, values: &[i64]) -> Result<(bool, bool), Fail> {
@@ -109,7 +102,7 @@ fn seen(alloc: Global, site: &Site, goal: Goal, values: &[i64]) -> Result<(bool,
 /// A search over these texts finds such schedules for both goals, and the simulator gives the same values.
 fn search_texts(rt: &impl Abort, alloc: Global, texts: &Texts) -> Result<(), Fail> {
     let site = site_of(rt, alloc, texts)?;
-    assert_eq!(rt; meant(alloc, &site)?.as_slice(), texts.values);
+    assert_eq!(rt; meaning_of(rt, alloc, texts)?.as_slice(), texts.values);
     assert_eq!(rt;
         seen(alloc, &site, Goal::Length, texts.values)?,
         (true, true)

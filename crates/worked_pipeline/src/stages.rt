@@ -1,7 +1,6 @@
 //! From texts to what a schedule is found for, which the tests begin with.
-ghost use Rattle.std.specs.Prelude.{◌≡◌, ◌≤◌, IfOk, length};
+ghost use Rattle.std.specs.Prelude.{◌≤◌, IfOk, length};
 ghost use Rattle.algo_rules.specs.WellRead.{AreWellRead};
-ghost use Rattle.algo_tree.specs.Ends.{sensor_lengths};
 ghost use Rattle.durations.specs.Fitting.{IsOf};
 ghost use Rattle.durations.specs.Lines.{AreDurations};
 ghost use Rattle.operation_paths.specs.Bounded.{HasBounds};
@@ -25,6 +24,8 @@ use std::alloc::Global;
 use std::process::Abort;
 use std::test::Fail;
 use syn_base::SensorRows;
+use sync_meaning::simulate;
+use worked_parts::values_of;
 
 /// The definitions of a text that is no longer than the texts here.
 #[tactic(auto, using(algo_reader::proofs::LineCounts::lines_at_most))]
@@ -61,17 +62,13 @@ fn read_architecture(alloc: Global, text: &[u8]) -> Result<ArchiText, ArchiError
     read_archi(alloc, text)
 }
 
-/// A tree with its flat graph on an architecture, the durations of its operations, and what its sensors give.
+/// A flat graph on an architecture, the durations of its operations, and what its sensors give.
 pub struct Site {
-    pub tree: Tree,
     pub flat: Flat,
     pub text: ArchiText,
     pub durations: Durations,
     pub rows: SensorRows,
-    ghost named: { HasNames tree },
-    ghost bounded: { HasBounds tree },
     ghost fits: { IsOf flat text.archi durations },
-    ghost sensed: { rows.lens ≡ sensor_lengths tree },
 }
 
 /// By hand, so that a proof walks through what it drops here alone, and not on each way out of each
@@ -79,7 +76,6 @@ pub struct Site {
 impl Drop for Site {
     fn drop(self) {
         let Site {
-            tree: _,
             flat: _,
             text: _,
             durations: _,
@@ -99,12 +95,27 @@ fn read_site(alloc: Global, texts: &Texts) -> Result<Site, Fail>
     let text = read_architecture(alloc, texts.architecture)?;
     let durations = durations_of(alloc, &flat, &text)?;
     Ok(Site {
-        tree,
         flat,
         text,
         durations,
         rows,
     })
+}
+
+/// What the actuators take by the simulator.
+fn simulated(alloc: Global, texts: &Texts) -> Result<Vec<i64>, Fail>
+    requires { length texts.now.algorithm.now ≤ 4000 }
+{
+    let tree = read_tree(alloc, texts.algorithm)?;
+    let rows = read_sensors(alloc, texts.table, &tree)?;
+    let acts = simulate(alloc, &tree, &rows)?;
+    Ok(values_of(alloc, &acts)?)
+}
+
+/// What the actuators take by the simulator. The algorithm's text is not long.
+pub fn meaning_of(rt: &impl Abort, alloc: Global, texts: &Texts) -> Result<Vec<i64>, Fail> {
+    assert!(rt; texts.algorithm.len() <= 4000);
+    simulated(alloc, texts)
 }
 
 /// What the texts say, none of which is long.
