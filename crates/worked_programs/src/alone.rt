@@ -4,6 +4,7 @@ use crate::texts::Worked;
 use crate::two_operators::texts;
 use executive_run::{prepare, run_alone};
 use outside::Gate;
+use progress_laws::steps_in_all;
 use semaphore_core::Job;
 use std::alloc::Global;
 use std::process::Abort;
@@ -27,7 +28,7 @@ fn ends_so(alloc: Global, job: &Job, gate: &impl Gate) -> Result<bool, OutOfMemo
     let closed = run_alone(ready, gate, &mut driven);
     let values = values_of(alloc, closed.rows())?;
     Ok(
-        is_driven_so(&driven, driven.number())
+        is_driven_so(&driven, steps_in_all(job))
             && values.as_slice() == [6, 6, 0, 0, 1, 1].as_slice(),
     )
 }

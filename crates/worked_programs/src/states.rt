@@ -4,6 +4,7 @@ ghost use Rattle.semaphore_core.specs.Held.{IsOpened};
 
 use crate::moves::{Moves, number_of};
 use phase_laws::run_fresh;
+use progress_laws::first_enabled;
 use semaphore_core::{Job, State, StepAnswer, try_step};
 use std::alloc::Global;
 use syn_base::OutOfMemory;
@@ -53,7 +54,7 @@ pub(crate) fn come_so(
     let values = values_of(alloc, state.rows())?;
     Ok(
         letters.as_slice() == moves.letters
-            && moves.first != Some(99)
+            && first_enabled(job, &state) == moves.first
             && values.as_slice() == moves.values,
     )
 }
