@@ -1,30 +1,18 @@
-//! Tests of calls of the pipeline that take memory, one after another over one small algorithm on two
-//! operators: its definitions, tree, rows, flat graph, routes, schedule, program, macro-code and dates; and the
-//! commands that start no thread.
+//! Tests of calls between an algorithm's text and the run of its program that no command makes, or of whose result no
+//! command tells all: the decisions of a draft and of the pressure run, and schedules that a search found, for both
+//! of its goals; and of `plain_command`.
 //!
-//! What each stage returns is compared with values that were worked by hand. The crate has tests alone, which
-//! stand apart from the crates that they call, so that those are proved once.
+//! The crate has tests alone, which stand apart from the crates that they call, so that those are proved once. What
+//! the commands show of each stage stands in the script of `worked_rows`.
 #![tactic(auto)]
 
 #[cfg(test)]
 mod commands;
 #[cfg(test)]
-mod dates;
+mod decisions;
 #[cfg(test)]
-mod meaning;
-#[cfg(test)]
-mod periods;
-#[cfg(test)]
-mod placing;
-#[cfg(test)]
-mod programs;
-#[cfg(test)]
-mod reading;
-#[cfg(test)]
-mod routes;
+mod found;
 #[cfg(test)]
 mod stages;
-#[cfg(test)]
-mod templates;
 #[cfg(test)]
 mod texts;
