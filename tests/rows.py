@@ -77,11 +77,12 @@ def sweep(call):
 
 
 def is_plain(call):
-    """Whether the readers can answer: nothing is said of the call but its output, and its words have no options."""
+    """Whether the readers can answer: nothing is said of the call but its output, and its words have no options and
+    name no file that an earlier call made."""
     words = call.words
     if set(call.said) - {"output", "spoilt"} or len(words) not in WORDS.get(words[0] if words else "", ()):
         return False
-    if any(word.startswith("-") for word in words):
+    if any(word.startswith("-") or word in call.files and call.files[word] is None for word in words):
         return False
     return words[0] != "dates" or "spoilt" in call.said or tuple(words[1:3]) in PLACED and words[4].isdigit()
 

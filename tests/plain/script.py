@@ -20,7 +20,8 @@ def line_of(text):
 
 
 class Call:
-    """The words without the program's name, the files that there are, and what is said: the lines before it."""
+    """The words without the program's name, the files that there are, and what is said: the lines before it. A file
+    that an earlier call made is None."""
 
     def __init__(self, words, files, said):
         self.words = ["" if word == "''" else word for word in words.split()[1:]]
@@ -51,6 +52,8 @@ class Script:
     def play(self, word, rest):
         if word == "$":
             self.calls.append(Call(rest, self.files, self.said))
+            if "keep" in self.said:
+                self.files[self.said["keep"]] = None
             self.said = {}
         elif word == "file":
             self.newest = rest
