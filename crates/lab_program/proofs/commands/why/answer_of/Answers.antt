@@ -15,8 +15,8 @@ returns-in_err-program c =
     let p = err_from_is_err_and c.from_residual.result c.from_residual.ensures.1 in
     rw (p.1, p.2) (λ held. code_refused c.args.flat.now c.args.archi.now c.args.text.now held c.in_err-program.field-0.0 c.in_err-program.ensures)
 
-pub returns-then-not : goal.returns-then-not
-returns-then-not c = λ held. wanted (why_of_code c.args.flat.now c.args.archi.now c.args.text.now) held OutOfMemory refl
+pub returns-then-not-loops_are_short : goal.returns-then-not-loops_are_short
+returns-then-not-loops_are_short c = λ held. wanted (why_of_code c.args.flat.now c.args.archi.now c.args.text.now) held OutOfMemory refl
 
 pub returns-in_err-print_why : goal.returns-in_err-print_why
 returns-in_err-print_why c =
