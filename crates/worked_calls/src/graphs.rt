@@ -1,61 +1,96 @@
 //! Graphs: what is no flat graph and no architecture, each beside what is one (`flat_graph`, `archi_graph`).
 
+use crate::lists::{one, three, two};
 use archi_graph::{Medium, is_archi};
 use flat_graph::{Kind, Source, Vertex, is_flat};
 use std::alloc::Global;
 use std::test::Fail;
 use syn_base::{Items, Name};
 
-/// An operation without guards and without a twin.
+/// An operation without guards that passes on its inputs, until it is made another one.
 fn operation(
     alloc: Global,
     name: &[u8],
-    kind: Kind,
     ins: &[Source],
     outs: &[u32],
 ) -> Result<Vertex, Fail> {
+    let name = Items::new(Vec::from_slice(alloc, name)?);
+    let def = Name::new(alloc, b"D")?;
+    let ins = Items::new(Vec::from_slice(alloc, ins)?);
+    let outs = Items::new(Vec::from_slice(alloc, outs)?);
     Ok(Vertex {
-        name: Items::new(Vec::from_slice(alloc, name)?),
-        def: Name::new(alloc, b"D")?,
-        kind,
+        name,
+        def,
+        kind: Kind::Implode,
         guards: Items::new(Vec::new(alloc)),
-        ins: Items::new(Vec::from_slice(alloc, ins)?),
-        outs: Items::new(Vec::from_slice(alloc, outs)?),
+        ins,
+        outs,
         twin: None,
     })
 }
 
-/// A constant, and an operation that passes on what this one of both gives.
-pub fn operations(alloc: Global, passed: u32) -> Result<Vec<Vertex>, Fail> {
+/// An operation of another kind, with a twin.
+fn made_into(mut operation: Vertex, kind: Kind, twin: Option<u32>) -> Vertex {
+    operation.kind = kind;
+    operation.twin = twin;
+    operation
+}
+
+/// A constant 7.
+fn constant(alloc: Global) -> Result<Vertex, Fail> {
+    let made = operation(alloc, b"c", &[], &[1])?;
     let values = Items::new(Vec::from_slice(alloc, &[7])?);
+    Ok(made_into(made, Kind::Constant(values), None))
+}
+
+/// The constant alone.
+pub fn alone(alloc: Global) -> Result<Vec<Vertex>, Fail> {
+    Ok(one(alloc, constant(alloc)?)?)
+}
+
+/// The constant, and an operation that passes on what this one of both gives.
+pub fn operations(alloc: Global, passed: u32) -> Result<Vec<Vertex>, Fail> {
     let source = Source {
         vertex: passed,
         port: 0,
     };
-    let mut both = Vec::new(alloc);
-    both.push(operation(alloc, b"c", Kind::Constant(values), &[], &[1])?)?;
-    both.push(operation(alloc, b"p", Kind::Implode, &[source], &[1])?)?;
-    Ok(both)
+    let first = constant(alloc)?;
+    let second = operation(alloc, b"p", &[source], &[1])?;
+    Ok(two(alloc, first, second)?)
 }
 
-/// A constant, and both halves of a delay that keeps it.
-pub fn delayed(alloc: Global) -> Result<Vec<Vertex>, Fail> {
-    let values = Items::new(Vec::from_slice(alloc, &[7])?);
+/// The get half of a delay of 0 whose set half is operation 2.
+fn get_half(alloc: Global) -> Result<Vertex, Fail> {
+    let made = operation(alloc, b"d:get", &[], &[1])?;
     let initial = Items::new(Vec::from_slice(alloc, &[0])?);
+    Ok(made_into(made, Kind::Get(initial), Some(2)))
+}
+
+/// The set half of a delay that keeps what operation 0 gives, and whose get half is operation 1.
+fn set_half(alloc: Global) -> Result<Vertex, Fail> {
     let source = Source { vertex: 0, port: 0 };
-    let made = operation(alloc, b"c", Kind::Constant(values), &[], &[1])?;
-    let mut get = operation(alloc, b"d:get", Kind::Get(initial), &[], &[1])?;
-    get.twin = Some(2);
-    let mut set = operation(alloc, b"d:set", Kind::Set, &[source], &[])?;
-    set.twin = Some(1);
-    Ok(vec![in alloc; made, get, set]?)
+    let made = operation(alloc, b"d:set", &[source], &[])?;
+    Ok(made_into(made, Kind::Set, Some(1)))
+}
+
+/// The constant, and both halves of a delay that keeps it.
+pub fn delayed(alloc: Global) -> Result<Vec<Vertex>, Fail> {
+    let first = constant(alloc)?;
+    let second = get_half(alloc)?;
+    let third = set_half(alloc)?;
+    Ok(three(alloc, first, second, third)?)
+}
+
+/// Whether these are the operations of a flat graph, where the second one passes on what this one of both gives.
+fn may_pass_on(alloc: Global, passed: u32) -> Result<bool, Fail> {
+    let operations = operations(alloc, passed)?;
+    Ok(is_flat(&operations, &[]))
 }
 
 #[test]
 fn an_operation_does_not_read_itself(rt: HostRuntime) -> Result<(), Fail> {
-    let alloc = rt.alloc();
-    assert_eq!(rt; is_flat(&operations(alloc, 0)?, &[]), true);
-    assert_eq!(rt; is_flat(&operations(alloc, 1)?, &[]), false);
+    assert_eq!(rt; may_pass_on(rt.alloc(), 0)?, true);
+    assert_eq!(rt; may_pass_on(rt.alloc(), 1)?, false);
     Ok(())
 }
 
@@ -68,21 +103,24 @@ pub fn operators(alloc: Global, names: &[&[u8]]) -> Result<Vec<Name>, Fail> {
     Ok(operators)
 }
 
-/// A bus between the first two operators.
-pub fn bus(alloc: Global) -> Result<Medium, Fail> {
-    Ok(Medium {
-        name: Name::new(alloc, b"bus")?,
+/// A bus between the first two operators, as the only medium.
+pub fn bus(alloc: Global) -> Result<Vec<Medium>, Fail> {
+    let name = Name::new(alloc, b"bus")?;
+    let stands = Items::new(Vec::from_slice(alloc, &[0, 1])?);
+    let medium = Medium {
+        name,
         multi: false,
         fixed: 1,
         per: 1,
-        stands: Items::new(Vec::from_slice(alloc, &[0, 1])?),
-    })
+        stands,
+    };
+    Ok(one(alloc, medium)?)
 }
 
 /// Whether operators of these names, of which the first two stand at a bus, are an architecture.
 fn may_be_joined(alloc: Global, names: &[&[u8]]) -> Result<bool, Fail> {
     let operators = operators(alloc, names)?;
-    let media = vec![in alloc; bus(alloc)?]?;
+    let media = bus(alloc)?;
     Ok(is_archi(&operators, &media))
 }
 
