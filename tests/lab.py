@@ -6,7 +6,8 @@ chart and the rows (`plain/pictures.py`). The macro-code of an example is well f
 left out it is not, as the lines and rules of the answer say. Each picture is well-formed XML, each trace is JSON whose complete events do
 not overlap on a thread, each table to be filled in has the columns of the sensor table, and each graph is taken by Graphviz where `dot` is there. Without tries the schedule is the one
 whose chart stands in the example: the same length, the same macro-code where the example has it, a bar and an event for
-each of its lines, and what its lanes are busy; with tries it is no longer. The pictures of the examples
+each of its lines, and what its lanes are busy; with tries it is no longer. The reports of both are what a plain program makes of
+their charts (`plain/report.py`). The pictures of the examples
 (`tools/draw.py`), and the answers to commands in documents, are what the program writes. The same words give the same
 bytes, words that are no command end with `usage`, and `help` lists what the script lists.
 
@@ -23,6 +24,10 @@ import tempfile
 from xml.etree import ElementTree
 
 from plain import pictures
+from plain import report as plainly
+from plain.algorithm import read
+from plain.architecture import Architecture
+from plain.flat import Flat
 from plain.pictures import Design
 
 TOP = os.path.dirname(os.path.dirname(os.path.abspath(__file__)))
@@ -35,6 +40,7 @@ PROGRAM = f"{TOP}/crates/syndex_lab/out/syndex_lab"
 USAGE = (
     ("chart", "A"), ("chart", "A", "H", "S"), ("charts", "A", "H"), ("chart", "A", "H", "--tries", "0"), ("chart", "A", "H", "--tries"),
     ("chart", "A", "H", "--tries", "1000001"), ("chart", "A", "H", "--tries", "5", "--tries", "5"), ("chart", "A", "H", "--seed", "x"),
+    ("report", "A", "H", "0"), ("report", "A", "H", "1001"), ("report", "A", "H", "5", "5"),
     ("dates", "A", "H", "G"), ("dates", "A", "H", "G", "0"), ("dates", "A", "H", "G", "1001"), ("graph", "A", "--tries", "5"),
     ("graph", "A", "H"), ("plot", "A"), ("plot", "A", "S", "--seed", "5"), ("--tries", "5", "chart", "A", "H"), ("help", "chart"), ("chart", "--help"),
     ("table",), ("table", "A", "H"), ("trace", "A", "H", "G"), ("trace", "A", "H", "G", "0"), ("trace", "A", "H", "G", "1001"), (),
@@ -126,9 +132,19 @@ def check_graph(graph):
 def length_in(report):
     """The length of which a report tells, which is at least its bound."""
     lines = [line.split() for line in report.splitlines()]
-    length = int(lines[0][1])
-    holds(lines[0][0] == "length" and lines[-1][0] == "bound" and int(lines[-1][1]) <= length, "the report's length and bound")
+    length, bounds = int(lines[0][1]), [int(line[1]) for line in lines if line[0] == "bound"]
+    holds(lines[0][0] == "length" and len(bounds) == 1 and bounds[0] <= length, "the report's length and bound")
     return length
+
+
+def check_reports(lab, a, h, chart, tries):
+    """What a plain program makes of the charts is what is written, also beside the pressure run where another one was found."""
+    flat, archi = Flat(read(text_of(a).encode())[1]), Architecture(text_of(h).encode())
+    run = plainly.design_of(flat, chart)
+    for count in (1, 7):
+        holds(lab.text("report", a, h, str(count)).splitlines() == plainly.report(run, archi, count), f"the report of {count}")
+    found = plainly.design_of(flat, plainly.chart_in(lab.text("chart", a, h, "--tries", tries), archi))
+    holds(lab.text("report", a, h, "--tries", tries).splitlines() == plainly.report(found, archi, 50, run), "the report of what was found")
 
 
 def arranged(text):
@@ -180,12 +196,14 @@ def check_why(lab, a, h, code):
 def check_schedule(lab, folder, tries):
     """What is written of the schedule of an example."""
     a, h = f"{folder}/algorithm.txt", f"{folder}/architecture.txt"
-    report = lab.text("report", a, h)
-    length = length_in(report)
+    numbers = lab.text("report", a, h)
+    length = length_in(numbers)
     if os.path.exists(f"{folder}/chart.txt"):
         chart = Chart(text_of(f"{folder}/chart.txt"))
-        loads = [line for line in report.splitlines() if line.startswith(("operator ", "medium "))]
+        loads = [line for line in numbers.splitlines() if line.startswith(("operator ", "medium "))]
         holds(length == chart.length and loads == list(chart.loads()), "the report's length and loads")
+        if " every " not in text_of(a):
+            check_reports(lab, a, h, text_of(f"{folder}/chart.txt"), tries)
         check_trace(lab.text("trace", a, h), chart.acts)
         check_trace(lab.text("trace", a, h, h, "3"), 3 * chart.acts)
         titles = lab.text("chart", a, h).count("<title>")

@@ -88,10 +88,16 @@ coded : answered (outcome_of (schedule code (codes "A") (codes "H") untried))
 unfolding digits
 coded = refl
 
-reported : answered (outcome_of (schedule (report 50) (codes "A") (codes "H") untried))
-    ≡ Some (Ok (codes "length 3\noperator P busy 3 share 1.000\nalone P 3 speed-up 1.000\nbound 3 ratio 1.000\n"))
+reported : answered (outcome_of (schedule (report 2) (codes "A") (codes "H") untried))
+    ≡ Some (Ok (codes "length 3\noperator P busy 3 share 1.000\ntransfers 0 constants 0 delays 0\nalone P 3 speed-up 1.000\nperiod 3.000 reactions 1\nbusiest operator P share 1.000\nlatency s a 3\nbound 3 ratio 1.000\nchain s 1\nchain a 2\n"))
 unfolding digits
 reported = refl
+
+-- beside a schedule that was searched, here the pressure run itself, stands the pressure run
+searched : answered (outcome_of (schedule (report 3) (codes "A") (codes "H") (record { tries = 5; seed = 1; goal = for_length })))
+    ≡ Some (Ok (codes "length 3\noperator P busy 3 share 1.000\ntransfers 0 constants 0 delays 0\nalone P 3 speed-up 1.000\npressure-run 3 period 3.000\nbest-alone 3\nperiod 3.000 reactions 2\nbusiest operator P share 1.000\nlatency s a 3\nbound 3 ratio 1.000\nchain s 1\nchain a 2\n"))
+unfolding digits
+searched = refl
 
 -- a trace of dates is refused as their picture is
 untraced : answered (outcome_of (dates traced (codes "A") (codes "H") (codes "L") 7 untried)) ≡ Some (Err (bad_durations (Longer (codes "Act"))))

@@ -1,11 +1,25 @@
 -- What is answered of the schedule that was found: a text, or why there is none.
-use Rattle.std.specs.Prelude.{ℕ, List, length, replicate, Option, Some, None, Result, Ok, Err}
+use Rattle.std.specs.Prelude.{
+  ℕ,
+  nat_eq,
+  if◌then◌else◌,
+  List,
+  length,
+  replicate,
+  Option,
+  Some,
+  None,
+  Result,
+  Ok,
+  Err,
+}
 use Rattle.syn_base.specs.Bytes.{Bytes}
 use Rattle.syn_base.specs.declared.limits.LimitFault.{LimitFault}
 use Rattle.archi_graph.specs.Archi.{Architecture as Archi}
 use Rattle.durations.specs.Table.{entry_in}
 use Rattle.flat_graph.specs.Graph.{Graph}
 use Rattle.schedule.specs.declared.decision.Schedule.{Schedule}
+use Rattle.schedule.specs.Acts.{length_of}
 use Rattle.executive_program.specs.declared.program.Program.{Program}
 use Rattle.sequence_build_laws.specs.Built.{program_of}
 use Rattle.sequence_build.specs.Limit.{program_limit}
@@ -17,8 +31,18 @@ use Rattle.date_picture.specs.Picture.{dates_picture}
 use Rattle.dates_trace.specs.Trace.{dates_trace}
 use Rattle.trace_events.specs.Trace.{chart_trace}
 use Rattle.graph_drawing.specs.FlatDrawing.{placed_drawing}
+use Rattle.self_timed_period.specs.declared.period.Period.{Period}
+use Rattle.self_timed_period.specs.Period.{period_of_schedule}
+use Rattle.latencies.specs.Stated.{latencies_of_schedule}
 use Rattle.schedule_report.specs.Numbers as numbers
+use Rattle.schedule_report.specs.Transfers.{transfers}
+use Rattle.schedule_report.specs.declared.report.Report.{Report}
+use Rattle.busiest_line.specs.Busiest.{busiest}
+use Rattle.lower_bound.specs.Chain.{chain_links}
 use Rattle.report_text.specs.Text.{report_text}
+use Rattle.report_text.specs.declared.figures.Figures.{Figures}
+use Rattle.report_text.specs.declared.figures.Pace.{Pace}
+use Rattle.top_plans.specs.Plans.{schedule_of}
 use Rattle.command_status.specs.Status.{Refusal, above, of_durations}
 use Rattle.lab_words.specs.Command.{Subject, chart, trace, flat, code, report, Form, drawn, traced}
 use Rattle.lab_plans.specs.Asked.{Problem, Asked, of_text, of_schedule, of_dates}
@@ -35,13 +59,40 @@ abbrev pub within : Option LimitFault → Bytes → Result Bytes Refusal
 within None text = Ok text
 within (Some fault) text = Err (above fault)
 
+-- the numbers of a schedule, and its period over so many reactions
+abbrev pub numbers_of : Problem → Schedule → Report
+numbers_of p s = numbers.report p.graph p.archi (entry_in p.table) s
+
+abbrev pub period_over : Problem → ℕ → Schedule → Period
+period_over p n s = period_of_schedule p.graph p.archi s n
+
+-- how long a schedule is, and how fast so many of its reactions follow each other
+abbrev pub pace : Problem → ℕ → Schedule → Pace
+pace p n s = record { length = length_of s; period = period_over p n s }
+
+-- the pressure run, beside which a schedule stands that was searched
+abbrev pub beside : Problem → ℕ → Option Pace
+beside p n = if nat_eq p.effort.tries 0 then None else Some (pace p n (schedule_of p.graph p.archi p.table))
+
+-- all that a report tells of a schedule, and of so many of its reactions
+abbrev pub figures : Problem → ℕ → Schedule → Figures
+figures p n s = record {
+  numbers = numbers_of p s;
+  transfers = transfers p.graph s;
+  beside = beside p n;
+  period = period_over p n s;
+  busiest = busiest (numbers_of p s) (period_over p n s);
+  latencies = latencies_of_schedule p.graph p.archi s n;
+  chain = chain_links p.table.operators (entry_in p.table) p.graph.vertices;
+}
+
 -- what is written of a schedule: the macro-code is that of its program, within its limits
 abbrev pub subject_text : Subject → Problem → Schedule → Result Bytes Refusal
 subject_text chart p s = Ok (picture p.graph p.archi s)
 subject_text trace p s = Ok (chart_trace p.graph p.archi s)
 subject_text flat p s = Ok (placed_drawing p.graph p.archi s)
 subject_text code p s = within (limit p s) (macro_code (program p s) p.graph p.archi)
-subject_text (report n) p s = Ok (report_text p.archi (numbers.report p.graph p.archi (entry_in p.table) s))
+subject_text (report n) p s = Ok (report_text p.graph.vertices p.archi (figures p n s))
 
 -- the dates of reactions that last these ticks, one after another, in a form
 abbrev pub form_text : Form → Graph → Archi → Schedule → List (List ℕ) → Bytes

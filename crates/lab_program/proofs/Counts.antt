@@ -1,5 +1,5 @@
 -- Words give numbers of reactions from 1 to 1,000.
-use Rattle.std.proofs.Common.{◌≡◌, ℕ, ◌≤◌, Bool, true, false, ◌&&◌, List, length, Option, Some, None, refl}
+use Rattle.std.proofs.Common.{◌≡◌, ℕ, ◌≤◌, Bool, true, false, ◌&&◌, List, length, Option, Some, None, refl, arith}
 use Rattle.std.specs.Prelude.{codes, if◌then◌else◌, nat_le, option_and_then, option_map}
 use Rattle.std.specs.List.{list_all}
 use Rattle.std.specs.Str.{bytes_eq}
@@ -18,6 +18,7 @@ use Rattle.lab_words.specs.Command.{
   Form,
   Subject,
   Values,
+  report,
   trace,
   drawn,
   traced,
@@ -31,12 +32,13 @@ use Rattle.lab_words.specs.Command.{
   dates_given,
   effort_given,
   is_help,
+  number_given,
   schedule_by,
   subject_of,
   trace_by,
   values_of,
 }
-use Rattle.lab_program.specs.Counts.{AreCounted}
+use Rattle.lab_program.specs.Counts.{AreCounted, IsCountedOf, IsReactions}
 
 either : {X : Type 0} (P : X → Type 0) (b : Bool) (x y : X) → P x → P y → P (if b then x else y)
 either P true x y h k = h
@@ -67,14 +69,33 @@ of_dates form a h g (Some effort) = by_number (λ n. AreCounted (dates_by form a
 of_given : (form : Form) (a h : Bytes) (v : Values) → AreCounted (dates_given form a h v)
 of_given form a h v = with_some _ (λ g. with_some _ (λ n. of_dates form a h g (effort_given v) n) v.reactions) v.durations
 
-of_schedule : (o : Option Subject) (a h : Bytes) (e : Option Effort) → AreCounted (schedule_by o a h e)
-of_schedule (Some subject) a h (Some effort) = tt
-of_schedule (Some subject) a h None = tt
-of_schedule None a h (Some effort) = tt
-of_schedule None a h None = tt
+abbrev AreCountedOf : Option Subject → Type 0
+AreCountedOf None = Unit {0}
+AreCountedOf (Some subject) = IsCountedOf subject
+
+-- a report of 50 reactions, or of as many as the words say
+fifty : IsReactions 50
+fifty = (omega arith, omega arith)
+
+of_report : (o : Option Bytes) → AreCountedOf (option_map (λ n. report n) (number_given 1000 50 o))
+of_report None = fifty
+of_report (Some w) = by_number (λ n. AreCountedOf (option_map (λ k. report k) n)) tt (λ n low high. (low, high)) w
+
+of_name : (name : Bytes) (v : Values) → AreCountedOf (subject_of name v)
+of_name name v =
+    either AreCountedOf (bytes_eq name (codes "chart")) _ _ tt
+    (either AreCountedOf (bytes_eq name (codes "flat")) _ _ tt
+    (either AreCountedOf (bytes_eq name (codes "code")) _ _ tt
+    (either AreCountedOf (bytes_eq name (codes "report")) _ _ (of_report v.reactions) tt)))
+
+of_schedule : (o : Option Subject) (a h : Bytes) (e : Option Effort) → AreCountedOf o → AreCounted (schedule_by o a h e)
+of_schedule (Some subject) a h (Some effort) k = k
+of_schedule (Some subject) a h None k = tt
+of_schedule None a h (Some effort) k = tt
+of_schedule None a h None k = tt
 
 of_trace : (o : Option Bytes) (a h : Bytes) (v : Values) → AreCounted (trace_by o a h v)
-of_trace None a h v = of_schedule (Some trace) a h (effort_given v)
+of_trace None a h v = of_schedule (Some trace) a h (effort_given v) tt
 of_trace (Some g) a h v = of_given traced a h v
 
 of_plot : (a : Bytes) (o : Option Bytes) → AreCounted (option_map (plot a) o)
@@ -89,7 +110,7 @@ on_board : (name a h : Bytes) (v : Values) → AreCounted (command_on name a h v
 on_board name a h v =
     either AreCounted (bytes_eq name (codes "why")) _ _ (of_why a h v.macros)
     (either AreCounted (bytes_eq name (codes "dates")) _ _ (of_given drawn a h v)
-    (either AreCounted (bytes_eq name (codes "trace")) _ _ (of_trace v.durations a h v) (of_schedule (subject_of name v) a h (effort_given v))))
+    (either AreCounted (bytes_eq name (codes "trace")) _ _ (of_trace v.durations a h v) (of_schedule (subject_of name v) a h (effort_given v) (of_name name v))))
 
 by_name : (name a : Bytes) (v : Values) → AreCounted (command_for name a v)
 by_name name a v =

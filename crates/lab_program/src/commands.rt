@@ -14,6 +14,7 @@ pub mod graph;
 pub mod help;
 pub mod lint;
 pub mod plot;
+pub mod report;
 pub mod scheduled;
 pub mod table;
 pub mod why;

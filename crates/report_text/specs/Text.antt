@@ -1,13 +1,43 @@
 -- The text of a report.
-use Rattle.std.specs.Prelude.{ℕ, ◌+◌, ◌/◌, ◌%◌, List, [], ◌∷◌, ◌++◌, map, Option, Some, None, codes}
+use Rattle.std.specs.Prelude.{
+  ℕ,
+  ◌+◌,
+  ◌/◌,
+  ◌%◌,
+  List,
+  [],
+  ◌∷◌,
+  ◌++◌,
+  map,
+  min,
+  Option,
+  Some,
+  None,
+  option_map,
+  slice_get,
+  unwrap_or,
+  codes,
+}
 use Rattle.std.specs.Fmt.{decimal}
 use Rattle.syn_base.specs.Bytes.{Bytes}
+use Rattle.flat_graph.specs.declared.vertex.Vertex.{Vertex}
+use Rattle.archi_graph.specs.declared.medium.Medium.{Medium}
 use Rattle.archi_graph.specs.Archi.{Architecture}
-use Rattle.timing_chart.specs.Chart.{Line, text_of}
+use Rattle.timing_chart.specs.Chart.{Line, operation_name, operator_name, text_of}
+use Rattle.self_timed_period.specs.declared.period.Period.{Period}
+use Rattle.latencies.specs.declared.latency.Latency.{Latency}
+use Rattle.lower_bound.specs.declared.links.Link.{Link}
+use Rattle.schedule_report.specs.Numbers.{ratio}
 use Rattle.schedule_report.specs.declared.ratio.Ratio.{Ratio}
 use Rattle.schedule_report.specs.declared.loads.Load.{Load}
 use Rattle.schedule_report.specs.declared.alone.Alone.{Alone}
 use Rattle.schedule_report.specs.declared.report.Report.{Report}
+use Rattle.schedule_report.specs.declared.transfers.Transfers.{Transfers}
+use Rattle.busiest_line.specs.declared.busiest.Busiest.{Busiest}
+use Rattle.busiest_line.specs.declared.busiest.Line as busy
+use Rattle.busiest_line.specs.declared.busiest.Line.TheVariants as busy_line
+use Rattle.report_text.specs.declared.figures.Figures.{Figures}
+use Rattle.report_text.specs.declared.figures.Pace.{Pace}
 
 -- the last digit of a number
 abbrev pub digit : ℕ → ℕ
@@ -19,6 +49,14 @@ ratio_word r =
     decimal r.whole ++ (codes "." ++
     (digit (r.thousandths / 100) ∷ digit (r.thousandths / 10) ∷ digit r.thousandths ∷ []))
 
+-- how long one of the last half of some reactions takes, in the mean
+abbrev pub period_word : Period → Bytes
+period_word p = ratio_word (ratio p.ticks p.reactions)
+
+-- WORD NUMBER
+abbrev pub number_line : Bytes → ℕ → Line
+number_line word n = word ∷ decimal n ∷ []
+
 -- WORD NAME busy TICKS share RATIO
 abbrev pub load_line : Bytes → Bytes → Load → Line
 load_line word name l = word ∷ name ∷ codes "busy" ∷ decimal l.busy ∷ codes "share" ∷ ratio_word l.share ∷ []
@@ -28,6 +66,11 @@ abbrev pub load_lines : Bytes → List Bytes → List Load → List Line
 load_lines word [] ls = []
 load_lines word (n ∷ ns) [] = []
 load_lines word (n ∷ ns) (l ∷ ls) = load_line word n l ∷ load_lines word ns ls
+
+-- transfers COUNT constants COUNT delays COUNT
+abbrev pub transfers_line : Transfers → Line
+transfers_line t =
+    codes "transfers" ∷ decimal t.all ∷ codes "constants" ∷ decimal t.constants ∷ codes "delays" ∷ decimal t.delays ∷ []
 
 -- alone NAME TICKS speed-up RATIO
 abbrev pub alone_line : Bytes → Alone → Line
@@ -40,14 +83,97 @@ alone_lines (n ∷ ns) [] = []
 alone_lines (n ∷ ns) (None ∷ xs) = alone_lines ns xs
 alone_lines (n ∷ ns) (Some x ∷ xs) = alone_line n x ∷ alone_lines ns xs
 
--- the length; operators, media, operators alone; and the bound
-abbrev pub report_lines : Architecture → Report → List Line
-report_lines a r =
-    (codes "length" ∷ decimal r.length ∷ []) ∷
+-- one reaction: its length, how busy operators and media are, its transfers, and how long operators take alone
+abbrev pub reaction_lines : Architecture → Report → Transfers → List Line
+reaction_lines a r t =
+    number_line (codes "length") r.length ∷
     (load_lines (codes "operator") a.operators r.operators ++
     (load_lines (codes "medium") (map (λ m. m.name) a.media) r.media ++
-    (alone_lines a.operators r.alone ++
-    (codes "bound" ∷ decimal r.bound ∷ codes "ratio" ∷ ratio_word r.above ∷ []) ∷ [])))
+    transfers_line t ∷ alone_lines a.operators r.alone))
 
-abbrev pub report_text : Architecture → Report → Bytes
-report_text a r = text_of (report_lines a r)
+-- the less of a time and the best one before it, if there is one
+abbrev pub sooner : Option ℕ → ℕ → ℕ
+sooner None t = t
+sooner (Some best) t = min best t
+
+-- the least time of operators where all operations may stand, with the best one before them
+abbrev pub best_from : Option ℕ → List (Option Alone) → Option ℕ
+best_from best [] = best
+best_from best (None ∷ xs) = best_from best xs
+best_from best (Some x ∷ xs) = best_from (Some (sooner best x.time)) xs
+
+abbrev pub best_alone : List (Option Alone) → Option ℕ
+best_alone xs = best_from None xs
+
+-- pressure-run LENGTH period RATIO
+abbrev pub run_line : Pace → Line
+run_line r = codes "pressure-run" ∷ decimal r.length ∷ codes "period" ∷ period_word r.period ∷ []
+
+-- best-alone TICKS, where there is such an operator
+abbrev pub best_lines : Option ℕ → List Line
+best_lines None = []
+best_lines (Some t) = number_line (codes "best-alone") t ∷ []
+
+-- what a schedule that was searched stands beside: the pressure run, and the best of operators alone
+abbrev pub beside_lines : Option Pace → List (Option Alone) → List Line
+beside_lines None alone = []
+beside_lines (Some run) alone = run_line run ∷ best_lines (best_alone alone)
+
+-- period RATIO reactions COUNT
+abbrev pub period_line : Period → Line
+period_line p = codes "period" ∷ period_word p ∷ codes "reactions" ∷ decimal p.reactions ∷ []
+
+abbrev pub medium_name : List Medium → ℕ → Bytes
+medium_name media m = unwrap_or (option_map (λ x. x.name) (slice_get media m)) []
+
+-- the word of an operator or a medium, and its name
+abbrev pub line_word : busy.Line → Bytes
+line_word (busy_line.Operator o) = codes "operator"
+line_word (busy_line.Medium m) = codes "medium"
+
+abbrev pub line_name : Architecture → busy.Line → Bytes
+line_name a (busy_line.Operator o) = operator_name [] a.operators o
+line_name a (busy_line.Medium m) = medium_name a.media m
+
+-- busiest WORD NAME share RATIO
+abbrev pub share_line : Bytes → Bytes → Ratio → Line
+share_line word name share = codes "busiest" ∷ word ∷ name ∷ codes "share" ∷ ratio_word share ∷ []
+
+abbrev pub busiest_line : Architecture → Busiest → Line
+busiest_line a b = share_line (line_word b.line) (line_name a b.line) b.share
+
+-- of operations by number
+module _ (vertices : List Vertex) where
+  abbrev pub name_of : ℕ → Bytes
+  name_of v = operation_name vertices [] v
+
+  -- latency SENSOR ACTUATOR TICKS
+  abbrev pub latency_line : Latency → Line
+  latency_line l = codes "latency" ∷ name_of l.sensor ∷ name_of l.actuator ∷ decimal l.ticks ∷ []
+
+  -- many reactions: their period, which line is busiest in it, and how long actuators take after sensors
+  abbrev pub period_lines : Architecture → Figures → List Line
+  period_lines a f = period_line f.period ∷ busiest_line a f.busiest ∷ map latency_line f.latencies
+
+  -- chain NAME TICKS
+  abbrev pub chain_line : Link → Line
+  chain_line k = codes "chain" ∷ name_of k.op ∷ decimal k.ticks ∷ []
+
+-- bound TICKS ratio RATIO
+abbrev pub bound_line : ℕ → Ratio → Line
+bound_line bound above = codes "bound" ∷ decimal bound ∷ codes "ratio" ∷ ratio_word above ∷ []
+
+-- the bound, and the operations of a longest chain
+abbrev pub bound_lines : List Vertex → Figures → List Line
+bound_lines vertices f = bound_line f.numbers.bound f.numbers.above ∷ map (chain_line vertices) f.chain
+
+-- one reaction, what stands beside it, many reactions, and the bound
+abbrev pub report_lines : List Vertex → Architecture → Figures → List Line
+report_lines vertices a f =
+    reaction_lines a f.numbers f.transfers ++
+    (beside_lines f.beside f.numbers.alone ++
+    (period_lines vertices a f ++
+    bound_lines vertices f))
+
+abbrev pub report_text : List Vertex → Architecture → Figures → Bytes
+report_text vertices a f = text_of (report_lines vertices a f)

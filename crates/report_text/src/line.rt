@@ -1,12 +1,41 @@
-//! The lines of a report, which `report` puts one after the other.
+//! The lines of a report, which the other modules put one after the other.
 ghost use Rattle.std.specs.Prelude.{◌≡◌, ◌++◌, ◌∷◌, ◌<◌, ◌+◌, ◌%◌, ◌/◌, [], OnOk, codes};
 ghost use Rattle.std.specs.Fmt.{decimal};
 ghost use Rattle.timing_chart.specs.Chart.{line_text, rest_of_line};
-ghost use Rattle.report_text.specs.Text.{alone_line, digit, load_line, ratio_word};
+ghost use Rattle.report_text.specs.Text.{
+  alone_line,
+  digit,
+  load_line,
+  name_of,
+  number_line,
+  period_word,
+  ratio_word,
+  share_line,
+  transfers_line,
+};
 
+use flat_graph::Vertex;
 use grown_text::{append, append_count};
-use schedule_report::{Alone, Load, Ratio};
+use schedule_report::{Alone, Load, Ratio, Transfers, ratio_of};
+use self_timed_period::Period;
 use syn_base::OutOfMemory;
+
+/// Appends a line of a word and a number.
+pub fn append_number(out: &mut Vec<u8>, word: &[u8], number: u64) -> Result<(), OutOfMemory>
+    ensures { OnOk result (out.new.items ≡ out.old.items ++ line_text (number_line word.now number)) }
+{
+    append(out, word)?;
+    append_end(out, number)
+}
+
+/// Appends a number at the end of a line.
+pub fn append_end(out: &mut Vec<u8>, number: u64) -> Result<(), OutOfMemory>
+    ensures { OnOk result (out.new.items ≡ out.old.items ++ rest_of_line (decimal number ∷ [])) }
+{
+    append(out, b" ")?;
+    append_count(out, number as usize)?;
+    append(out, b"\n")
+}
 
 /// Appends the line of an operator or a medium.
 pub fn append_load(
@@ -35,6 +64,25 @@ fn append_busy(out: &mut Vec<u8>, load: Load) -> Result<(), OutOfMemory>
     append(out, b"\n")
 }
 
+/// Appends the line of the transfers.
+pub fn append_transfers(out: &mut Vec<u8>, transfers: Transfers) -> Result<(), OutOfMemory>
+    ensures { OnOk result (out.new.items ≡ out.old.items ++ line_text (transfers_line transfers)) }
+{
+    append(out, b"transfers ")?;
+    append_count(out, transfers.all as usize)?;
+    append_constants(out, transfers.constants)?;
+    append(out, b" delays")?;
+    append_end(out, transfers.delays)
+}
+
+/// Appends how many transfers carry constants, in the midst of a line.
+fn append_constants(out: &mut Vec<u8>, constants: u64) -> Result<(), OutOfMemory>
+    ensures { OnOk result (out.new.items ≡ out.old.items ++ (codes " constants " ++ decimal constants)) }
+{
+    append(out, b" constants ")?;
+    append_count(out, constants as usize)
+}
+
 /// Appends the line of an operator alone.
 pub fn append_alone(out: &mut Vec<u8>, name: &[u8], alone: Alone) -> Result<(), OutOfMemory>
     ensures { OnOk result (out.new.items ≡ out.old.items ++ line_text (alone_line name.now alone)) }
@@ -56,6 +104,39 @@ fn append_speed_up(out: &mut Vec<u8>, speed_up: Ratio) -> Result<(), OutOfMemory
     append(out, b"\n")
 }
 
+/// Appends the line of the operator or medium that is busiest.
+pub fn append_share(
+    out: &mut Vec<u8>,
+    word: &[u8],
+    name: &[u8],
+    share: Ratio,
+) -> Result<(), OutOfMemory>
+    ensures { OnOk result (out.new.items ≡ out.old.items ++ line_text (share_line word.now name.now share)) }
+{
+    append(out, b"busiest ")?;
+    append(out, word)?;
+    append(out, b" ")?;
+    append(out, name)?;
+    append_part(out, share)
+}
+
+/// Appends a share at the end of a line.
+fn append_part(out: &mut Vec<u8>, share: Ratio) -> Result<(), OutOfMemory>
+    ensures { OnOk result (out.new.items ≡ out.old.items ++
+        rest_of_line (codes "share" ∷ ratio_word share ∷ [])) }
+{
+    append(out, b" share ")?;
+    append_ratio(out, share)?;
+    append(out, b"\n")
+}
+
+/// Appends how long one reaction of a period takes.
+pub fn append_period_word(out: &mut Vec<u8>, period: Period) -> Result<(), OutOfMemory>
+    ensures { OnOk result (out.new.items ≡ out.old.items ++ period_word period) }
+{
+    append_ratio(out, ratio_of(period.ticks, period.reactions))
+}
+
 /// Appends a quotient: its whole part, a point, and three digits.
 pub fn append_ratio(out: &mut Vec<u8>, ratio: Ratio) -> Result<(), OutOfMemory>
     ensures { OnOk result (out.new.items ≡ out.old.items ++ ratio_word ratio) }
@@ -68,6 +149,16 @@ pub fn append_ratio(out: &mut Vec<u8>, ratio: Ratio) -> Result<(), OutOfMemory>
         digit(ratio.thousandths),
     ];
     append(out, &digits)
+}
+
+/// The name of an operation, empty where there is none of this number.
+pub fn name_of(vertices: &[Vertex], op: u32) -> &[u8]
+    ensures { result.now ≡ name_of vertices.now op }
+{
+    match vertices.get(op as usize) {
+        Some(vertex) => vertex.name.as_slice(),
+        None => b"",
+    }
 }
 
 /// The last digit of a number.

@@ -2,6 +2,10 @@ pub mod Places
 pub mod Sequencing
 pub mod Noting
 pub mod Adding
+pub mod Touching
+pub mod Counting
+pub mod Lines
+pub mod Micros
 pub mod Deepening
 pub mod Reading
 pub mod Silent
@@ -10,4 +14,5 @@ pub mod Guarding
 pub mod Numbering
 pub mod Covering
 pub mod Assembling
+pub mod Limits
 pub mod Appending

@@ -1,13 +1,10 @@
--- Semaphore lines send nothing, so the words of a program can be counted before they are made.
-use Rattle.std.proofs.Common.{◌≡◌, ℕ, suc, ◌+◌, ◌*◌, cond, max, List, [], ◌∷◌, ◌++◌, length, map, refl, sym, ap, arith, ◌∙◌}
-use Rattle.interleavings.specs.Owners.{sum_below}
+-- Semaphore lines send nothing, so the wires of a program are as long as without them.
+use Rattle.std.proofs.Common.{◌≡◌, ℕ, suc, cond, max, List, [], ◌∷◌, ◌++◌, map, refl, sym, ap, arith, ◌∙◌}
 use Rattle.executive_program.specs.declared.program.Instr.{Instr}
 use Rattle.executive_program.specs.declared.program.Instr.TheVariants.{Suc0, Suc1, Pre0, Pre1}
 use Rattle.executive_program.specs.declared.program.SeqCode.{SeqCode}
-use Rattle.executive_program.specs.declared.program.Buffer.{Buffer}
 use Rattle.executive_program.specs.declared.program.Program.{Program}
-use Rattle.executive_program.specs.Instructions.{len_of, depth_of}
-use Rattle.executive_program.specs.MicroSteps.{sent_len, longest_sent, longest_on, is_on, words}
+use Rattle.executive_program.specs.MicroSteps.{sent_len, longest_sent, longest_on, is_on}
 use Rattle.sequence_build_laws.specs.Serial.{numbers_where}
 use Rattle.sequence_build.specs.declared.pairs.Pair.{Pair}
 use Rattle.sequence_build.specs.declared.around.Moment.TheVariants.{FirstRead, LastRead, Write}
@@ -47,14 +44,7 @@ module _ (p : Program) where
   loop_sends pairs s a (x ∷ xs) =
       longest-append (lines_with pairs s a x) (loop_with pairs s (suc a) xs) ∙ (λ i. max (lines_send pairs s a x i) (loop_sends pairs s (suc a) xs i))
 
-  codes_send : (depth : ℕ) (pairs : List Pair) (s : ℕ) (qs : List SeqCode) (m : ℕ) → longest_on p (codes_with depth pairs s qs) m ≡ longest_on p qs m
+  pub codes_send : (depth : ℕ) (pairs : List Pair) (s : ℕ) (qs : List SeqCode) (m : ℕ) → longest_on p (codes_with depth pairs s qs) m ≡ longest_on p qs m
   codes_send depth pairs s [] m = refl
   codes_send depth pairs s (q ∷ qs) m =
       λ i. max (cond (is_on m q.seq.medium) (loop_sends pairs s 0 q.turn i) 0) (codes_send depth pairs (suc s) qs m i)
-
--- a program with the lines of these pairs has as many words as without
-pub words_same : (depth : ℕ) (pairs : List Pair) (buffers : List Buffer) (operators : List ℕ) (qs : List SeqCode) (media : ℕ)
-    → words (record { buffers = buffers; pairs = operators; seqs = codes_with depth pairs 0 qs }) media ≡ words (record { buffers = buffers; pairs = operators; seqs = qs }) media
-words_same depth pairs buffers operators qs media =
-    let p : Program = record { buffers = buffers; pairs = operators; seqs = qs } in
-    λ i. 2 * length operators + media + sum_below (λ b. depth_of p b * len_of p b) (length buffers) + sum_below (λ m. codes_send p depth pairs 0 qs m i) media

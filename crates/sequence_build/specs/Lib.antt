@@ -6,4 +6,6 @@ pub mod Plain
 pub mod Uses
 pub mod Pairs
 pub mod Around
+pub mod Touched
+pub mod Counted
 pub mod Answers

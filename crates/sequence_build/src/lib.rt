@@ -4,13 +4,16 @@
 #![tactic(auto)]
 
 mod around;
+mod counted;
 mod error;
+mod limit;
 mod made;
 mod numbers;
 mod pairs;
 mod plain;
 mod program;
 mod site;
+mod touched;
 mod uses;
 
 pub use error::BuildError;

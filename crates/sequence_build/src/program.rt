@@ -1,22 +1,21 @@
 //! `build`: the program of a schedule, stage by stage.
-ghost use Rattle.std.specs.Prelude.{◌≡◌, None, IfOk, IfErr};
-ghost use Rattle.executive_program.specs.Sizes.{pair_depths};
+ghost use Rattle.std.specs.Prelude.{◌≡◌, IfOk, IfErr};
 ghost use Rattle.sequence_build.specs.Answers.{IsProgram, IsRefusal, IsValid};
-ghost use Rattle.sequence_build.specs.Limit.{above};
 ghost use Rattle.sequence_build.specs.Pairs.{plain_pairs};
-ghost use Rattle.sequence_build.specs.Program.{IsAssembled, IsExcess, IsLong, lined, paired, steps_limit};
+ghost use Rattle.sequence_build.specs.Program.{assembled, lined, paired};
 
 use crate::around::guarded_codes;
 use crate::error::BuildError;
+use crate::limit::limit_of;
 use crate::pairs::{Pair, deepen_all, operators_of, pairs_of};
 use crate::plain::plain_program;
 use crate::uses::{uses_of, writes_of};
 use archi_graph::Archi;
-use executive_program::{Program, pair_depths, turn_micros, words};
+use executive_program::Program;
 use flat_graph::Flat;
 use schedule::Schedule;
 use std::alloc::Global;
-use syn_base::{Items, LimitFault, LimitKind, OutOfMemory, to_u32};
+use syn_base::{Items, OutOfMemory};
 
 /// The pairs of a program without semaphores.
 fn pairs_in(alloc: Global, plain: &Program) -> Result<Vec<Pair>, OutOfMemory>
@@ -64,58 +63,13 @@ fn with_lines(
     })
 }
 
-/// The fault of a quantity, where it is above its bound.
-fn excess(which: LimitKind, count: u128) -> Option<LimitFault>
-    ensures { result ≡ above which count None }
-{
-    let bound = which.bound();
-    if bound < count {
-        Some(LimitFault {
-            which,
-            count,
-            bound,
-        })
-    } else {
-        None
-    }
-}
-
-/// The program with the instructions of its semaphores, whose micro-steps are counted.
-fn with_lines_counted(
-    alloc: Global,
-    program: Program,
-    pairs: &[Pair],
-    depth: u32,
-) -> Result<Program, BuildError>
-    ensures is { IfOk result (λ p. p ≡ lined depth pairs.now program) }
-    ensures within { IfOk result (λ p. steps_limit p ≡ None) }
-    ensures err { IfErr result (IsLong (lined depth pairs.now program)) }
-{
-    let program = with_lines(alloc, program, pairs, depth)?;
-    let depths = pair_depths(alloc, &program)?;
-    match excess(LimitKind::MicroSteps, turn_micros(&program, &depths)) {
-        Some(fault) => Err(BuildError::Limit(fault)),
-        None => Ok(program),
-    }
-}
-
-/// The program with its semaphores, from the one without. Its words are counted before an instruction of
-/// a semaphore is made.
-fn with_semaphores(
-    alloc: Global,
-    plain: Program,
-    media: u32,
-    depth: u32,
-) -> Result<Program, BuildError>
-    ensures ok { IfOk result (IsAssembled depth plain media) }
-    ensures err { IfErr result (IsExcess depth plain media) }
+/// The program with its semaphores, from the one without.
+fn with_semaphores(alloc: Global, plain: Program, depth: u32) -> Result<Program, OutOfMemory>
+    ensures { IfOk result (λ p. p ≡ assembled depth plain) }
 {
     let pairs = pairs_in(alloc, &plain)?;
     let program = with_pairs(alloc, plain, &pairs, depth)?;
-    match excess(LimitKind::Words, words(&program, media)) {
-        Some(fault) => Err(BuildError::Limit(fault)),
-        None => with_lines_counted(alloc, program, &pairs, depth),
-    }
+    with_lines(alloc, program, &pairs, depth)
 }
 
 /// The program of a schedule that is valid for some durations: for each sequence of the architecture its
@@ -123,8 +77,10 @@ fn with_semaphores(
 /// it reads and writes.
 ///
 /// `Limit` comes exactly where the words of the program's table are above 65,536, or else where the
-/// micro-steps of one reaction of all sequences are above 262,144, and it tells the whole number. Time and
-/// memory are in proportion to the schedule and to the program.
+/// micro-steps of one reaction of all sequences are above 262,144, and it tells the whole number. Both are
+/// counted from the schedule's acts before an instruction is made, so that a refusal takes time in proportion
+/// to the acts and memory in proportion to the copies that they make, each times the sequences. The program
+/// takes time and memory in proportion to the schedule and to the program.
 pub fn build(
     alloc: Global,
     flat: &Flat,
@@ -137,7 +93,13 @@ pub fn build(
 {
     // The clause of `vertices` is that a flat graph is valid, which the law of built programs asks for.
     let _ = flat.vertices();
-    let media = to_u32(archi.media().len())?;
-    let plain = plain_program(alloc, flat, archi, schedule)?;
-    with_semaphores(alloc, plain, media, archi.depth())
+    // That of `media` is that the architecture is.
+    let _ = archi.media();
+    match limit_of(alloc, flat, archi, schedule)? {
+        Some(fault) => Err(BuildError::Limit(fault)),
+        None => {
+            let plain = plain_program(alloc, flat, archi, schedule)?;
+            Ok(with_semaphores(alloc, plain, archi.depth())?)
+        }
+    }
 }

@@ -55,7 +55,7 @@ fn push_step(loops: &mut Vec<Vec<Instr>>, sequence: u32, instr: Instr) -> Result
 }
 
 /// Whether this is a communicator of the transfer's medium at another operator than the transfer's.
-fn is_other(transfer: Transfer, seq: Seq) -> bool
+pub fn is_other(transfer: Transfer, seq: Seq) -> bool
     ensures { result ≡ is_other transfer seq }
 {
     match seq.medium {
@@ -120,7 +120,7 @@ fn ins_of(vertices: &[Vertex], op: u32) -> &[Source]
 
 impl<'a> Site<'a> {
     /// The number of the buffer of a copy.
-    fn buffer(&self, operator: u32, source: Source) -> u32
+    pub fn buffer(&self, operator: u32, source: Source) -> u32
         ensures { result ≡ numbering self.now (copy operator source) }
     {
         let place = place_of(self.vertices.len(), operator, source) as usize;
@@ -132,7 +132,7 @@ impl<'a> Site<'a> {
     }
 
     /// The number of an operator's sequence.
-    fn sequence(&self, operator: u32, medium: Option<u32>) -> Result<u32, OutOfMemory>
+    pub fn sequence(&self, operator: u32, medium: Option<u32>) -> Result<u32, OutOfMemory>
         ensures { IfOk result (λ n. n ≡ sequence_of self.now.sequences.now operator medium) }
     {
         find(self.sequences, Seq { operator, medium })
@@ -227,7 +227,7 @@ impl<'a> Site<'a> {
     }
 
     /// The buffers that the run of an operation reads.
-    fn ins(&self, alloc: Global, decision: &Decision) -> Result<Items<u32>, OutOfMemory>
+    pub fn ins(&self, alloc: Global, decision: &Decision) -> Result<Items<u32>, OutOfMemory>
         ensures { IfOk result (λ ins. ins ≡
             map (numbering self.now) (read_by self.now.vertices.now (run decision.now))) }
     {
@@ -260,7 +260,7 @@ impl<'a> Site<'a> {
     }
 
     /// The buffers that the run of an operation writes.
-    fn outs(&self, alloc: Global, decision: &Decision) -> Result<Items<u32>, OutOfMemory>
+    pub fn outs(&self, alloc: Global, decision: &Decision) -> Result<Items<u32>, OutOfMemory>
         ensures { IfOk result (λ outs. outs ≡
             map (numbering self.now) (made_by self.now.vertices.now (run decision.now))) }
     {

@@ -10,25 +10,22 @@ ghost use Rattle.lab_plans.specs.Plans.{schedule_plan};
 ghost use Rattle.lab_words.specs.Command.{Effort as Tried, code};
 ghost use Rattle.lab_words.specs.View.{effort_view, subject_view};
 ghost use Rattle.outside.specs.Shelf.{Stays};
-ghost use Rattle.report_text.specs.Text.{report_text};
 ghost use Rattle.schedule.specs.Valid.{is_valid};
-ghost use Rattle.schedule_report.specs.Numbers.{report};
 ghost use Rattle.trace_events.specs.Trace.{chart_trace};
+ghost use Rattle.lab_program.specs.Counts.{IsCountedOf};
 ghost use Rattle.lab_program.specs.Found.{problem_of};
 ghost use Rattle.lab_program.specs.Texts.{Carries, Gives, GivesOfFound};
 
+use crate::commands::report::print_numbers;
 use crate::found::{build_program, find_schedule};
 use chart_picture::print_picture;
 use command_status::Status;
 use compiler::{Compilation, read_algorithm, read_architecture};
-use durations::durations_fit;
 use graph_drawing::print_placed_graph;
 use lab_words::{Effort, Subject};
 use macro_code::print_code;
 use outside::Shelf;
-use report_text::print_report;
 use schedule::Schedule;
-use schedule_report::report_of;
 use std::alloc::Global;
 use syn_base::OutOfMemory;
 use trace_events::print_chart_trace;
@@ -42,6 +39,7 @@ pub fn schedule_text<S: Shelf>(
     subject: Subject,
     effort: Effort,
 ) -> Result<Vec<u8>, Status>
+    requires { IsCountedOf (subject_view subject) }
     ensures stays { Stays (S.held shelf.old) (S.held shelf.new) }
     ensures carries { Carries (schedule_plan (subject_view subject) algorithm.now architecture.now
         (effort_view effort)) (S.held shelf.old) (S.held shelf.new) result }
@@ -58,7 +56,8 @@ fn text_of_found(
     subject: Subject,
     effort: Effort,
 ) -> Result<Vec<u8>, Status>
-    requires { HasDurations compilation.now }
+    requires counted { IsCountedOf (subject_view subject) }
+    requires durations { HasDurations compilation.now }
     ensures { GivesOfFound (of_schedule (subject_view subject)
         (problem_of compilation.now (effort_view effort))) result }
 {
@@ -68,7 +67,13 @@ fn text_of_found(
         Subject::Trace => Ok(print_trace(alloc, compilation, &schedule)?),
         Subject::Flat => Ok(print_flat(alloc, compilation, &schedule)?),
         Subject::Code => print_program(alloc, compilation, &schedule),
-        Subject::Report(_) => Ok(print_numbers(alloc, compilation, &schedule)?),
+        Subject::Report(reactions) => Ok(print_numbers(
+            alloc,
+            compilation,
+            &schedule,
+            reactions,
+            effort,
+        )?),
     }
 }
 
@@ -151,28 +156,5 @@ fn print_program(
         &compilation.text.archi,
         &mut text,
     )?;
-    Ok(text)
-}
-
-/// The numbers of a schedule.
-fn print_numbers(
-    alloc: Global,
-    compilation: &Compilation,
-    schedule: &Schedule,
-) -> Result<Vec<u8>, OutOfMemory>
-    requires durations { HasDurations compilation.now }
-    requires valid { IsTrue (is_valid compilation.now.flat compilation.now.text.archi
-        (entry_in compilation.now.durations) schedule.now) }
-    ensures { IfOk result (λ text. text.items ≡ report_text compilation.now.text.archi
-        (report compilation.now.flat compilation.now.text.archi (entry_in compilation.now.durations)
-        schedule.now)) }
-{
-    let flat = &compilation.flat;
-    let archi = &compilation.text.archi;
-    let _operators = archi.operators();
-    durations_fit();
-    let report = report_of(alloc, flat, archi, &compilation.durations, schedule)?;
-    let mut text = Vec::new(alloc);
-    print_report(alloc, archi, &report, &mut text)?;
     Ok(text)
 }

@@ -1,5 +1,8 @@
 use Rattle.lab_program.proofs.commands.command_text.Goals as goal
 
+pub schedule_text-requires : goal.schedule_text-requires
+schedule_text-requires g c = rw c.in-Schedule.is at c.requires
+
 pub dates_text-requires : goal.dates_text-requires
 dates_text-requires g c = record { few = (rw c.in-Dates.is at c.requires).1 }
 

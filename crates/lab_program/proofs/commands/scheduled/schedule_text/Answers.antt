@@ -19,8 +19,8 @@ use Rattle.lab_program.proofs.Carried.{compiled_on, found_so, stopped, went_on}
 use Rattle.lab_program.proofs.Stops.{algorithm_stops, architecture_stops}
 use Rattle.lab_program.proofs.commands.scheduled.schedule_text.Goals as goal
 
-pub text_of_found-requires : goal.text_of_found-requires
-text_of_found-requires g c =
+pub text_of_found-requires-clause-durations : goal.text_of_found-requires-clause-durations
+text_of_found-requires-clause-durations g c =
     let given = c.in_ok-compilation.compilation in
     let is = c.in_ok-compilation.ensures.reads.2 in
     subst (λ (f : Graph). durations_of f (described given.text) ≡ Ok given.durations) (sym is.flattens) is.lasts

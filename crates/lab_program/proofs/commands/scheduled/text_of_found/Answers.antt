@@ -10,8 +10,11 @@ use Rattle.lab_program.proofs.commands.scheduled.text_of_found.Goals as goal
 pub print_program-requires : goal.print_program-requires
 print_program-requires c = c.in_ok-schedule.ensures.valid
 
+pub print_numbers-requires-clause-few : goal.print_numbers-requires-clause-few
+print_numbers-requires-clause-few c = (rw c.in-Report.is at c.requires.counted).1
+
 pub print_numbers-requires-clause-durations : goal.print_numbers-requires-clause-durations
-print_numbers-requires-clause-durations c = c.requires
+print_numbers-requires-clause-durations c = c.requires.durations
 
 pub print_numbers-requires-clause-valid : goal.print_numbers-requires-clause-valid
 print_numbers-requires-clause-valid c = c.in_ok-schedule.ensures.valid
@@ -64,4 +67,4 @@ returns-in_err-print_numbers-in-Report c =
 pub returns : goal.returns
 returns c =
     let effort = effort_view c.args.effort in
-    rw c.in-Report.is (of_found {A = Global} (of_schedule report (problem_of c.args.compilation.now effort)) c.in_ok-schedule.schedule (Ok c.in_ok-print_numbers-in-Report.field-0) c.in_ok-schedule.ensures (inr c.in_ok-print_numbers-in-Report.ensures))
+    rw c.in-Report.is (of_found {A = Global} (of_schedule (report c.in-Report.reactions) (problem_of c.args.compilation.now effort)) c.in_ok-schedule.schedule (Ok c.in_ok-print_numbers-in-Report.field-0) c.in_ok-schedule.ensures (inr c.in_ok-print_numbers-in-Report.ensures))

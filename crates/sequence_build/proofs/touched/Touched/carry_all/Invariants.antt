@@ -1,0 +1,10 @@
+use Rattle.std.proofs.Common.{drop, map}
+use Rattle.std.specs.List.{flat_map}
+use Rattle.schedule.specs.Acts.{carry}
+use Rattle.sequence_build.specs.Plain.{steps_at}
+use Rattle.sequence_build.specs.Touched.{NotesUp}
+use Rattle.sequence_build.proofs.touched.Touched.carry_all.Given as goal
+
+-- what is left makes the whole
+abbrev pub invariant-loop-transfer : goal.invariant-loop-transfer
+invariant-loop-transfer l = NotesUp l.fn.self l.self (flat_map (steps_at l.site) (map carry (drop l.transfer-index l.transfers))) (flat_map (steps_at l.site) (map carry l.transfers))
