@@ -1,18 +1,30 @@
-//! Tests of calls between an algorithm's text and the run of its program that no command makes, or of whose result no
-//! command tells all: the decisions of a draft and of the pressure run, and schedules that a search found, for both
-//! of its goals; and of `plain_command`.
+//! Tests of calls of the pipeline that take memory, one after another over one small algorithm on two
+//! operators: its definitions, tree, rows, flat graph, routes, schedule, program, macro-code and dates; and the
+//! commands that start no thread.
 //!
-//! The crate has tests alone, which stand apart from the crates that they call, so that those are proved once. What
-//! the commands show of each stage stands in the script of `worked_rows`.
+//! What each stage returns is compared with values that were worked by hand. The crate has tests alone, which
+//! stand apart from the crates that they call, so that those are proved once.
 #![tactic(auto)]
 
 #[cfg(test)]
 mod commands;
 #[cfg(test)]
-mod decisions;
+mod dates;
 #[cfg(test)]
-mod found;
+mod meaning;
+#[cfg(test)]
+mod periods;
+#[cfg(test)]
+mod placing;
+#[cfg(test)]
+mod programs;
+#[cfg(test)]
+mod reading;
+#[cfg(test)]
+mod routes;
 #[cfg(test)]
 mod stages;
+#[cfg(test)]
+mod templates;
 #[cfg(test)]
 mod texts;

@@ -1,19 +1,19 @@
-//! Tests of worked programs on the core, made from texts: by calls that no command makes, move by move and by one
-//! driver alone. What the threads make of programs stands in the script of `worked_rows`.
+//! Tests of worked programs on the core, made from texts: they are run by threads and without,
+//! step by step and to the end.
 //!
 //! The crate has tests alone, so that the crates below are proved once.
 #![tactic(auto)]
 
 #[cfg(test)]
-mod alone;
+mod copies;
+#[cfg(test)]
+mod copies_apart;
 #[cfg(test)]
 mod four_operators;
 #[cfg(test)]
 mod limits;
 #[cfg(test)]
-mod moves;
-#[cfg(test)]
-mod states;
+mod runs;
 #[cfg(test)]
 mod texts;
 #[cfg(test)]

@@ -13,3 +13,6 @@ returns-clause-periods c =
 
 pub returns-clause-few : goal.returns-clause-few
 returns-clause-few c = omega (arith, c.accepted_are_few.ensures c.args.text.now c.in_ok-defs.defs c.in_ok-defs.ensures, lines_at_most c.args.text.now, c.requires)
+
+pub returns-clause-printable : goal.returns-clause-printable
+returns-clause-printable c = c.canonical_text_reads_back.ensures.printable c.args.text.now c.in_ok-defs.defs c.in_ok-defs.ensures
