@@ -9,58 +9,6 @@ connect bus P
 connect bus Q
 ";
 
-/// Four copies of a body that gives (acc + v) * w: v is forked, w is 2 in each, and the result is iterated
-/// from 10 on. One actuator takes the last result, the other one all four.
-pub const COPIES: &[u8] = b"algorithm 1
-sensor Sense 4
-actuator One 1
-actuator Four 4
-constant Two = 2
-constant Ten = 10
-function Add
-in x 1
-in y 1
-out z 1 = add(x[0],y[0])
-end
-function Mul
-in x 1
-in y 1
-out z 1 = mul(x[0],y[0])
-end
-graph Cell
-in v 1
-in w 1
-in acc 1
-out r 1
-ref p Add
-ref q Mul
-edge acc p.x
-edge v p.y
-edge p.z q.x
-edge w q.y
-edge q.z r
-end
-repeat Chain 4 Cell
-fork v v
-diffuse w w
-iterate z acc r t
-join r p
-end
-graph main
-ref s Sense
-ref w Two
-ref z Ten
-ref c Chain
-ref a One
-ref b Four
-edge s.o c.v
-edge w.o c.w
-edge z.o c.z
-edge c.t a.i
-edge c.p b.i
-end
-";
-
 /// A sensor, a function that adds 1, twice, and an actuator for each result.
 pub const TWICE: &[u8] = b"algorithm 1
 sensor Sense 1

@@ -1,30 +1,18 @@
-//! Tests of calls of the pipeline that take memory, one after another over one small algorithm on two
-//! operators: its definitions, tree, rows, flat graph, routes, schedule, program, macro-code and dates; and the
-//! commands that start no thread.
+//! Tests of calls of the pipeline over one small algorithm on two operators, as far as the commands tell nothing of
+//! what they return: the decisions of a draft and of the pressure run, and the serial order of the program; and of
+//! `plain_command`.
 //!
-//! What each stage returns is compared with values that were worked by hand. The crate has tests alone, which
-//! stand apart from the crates that they call, so that those are proved once.
+//! What they return is compared with values that were worked by hand. The crate has tests alone, which stand apart
+//! from the crates that they call, so that those are proved once.
 #![tactic(auto)]
 
 #[cfg(test)]
 mod commands;
 #[cfg(test)]
-mod dates;
-#[cfg(test)]
-mod meaning;
-#[cfg(test)]
-mod periods;
-#[cfg(test)]
 mod placing;
 #[cfg(test)]
 mod programs;
 #[cfg(test)]
-mod reading;
-#[cfg(test)]
-mod routes;
-#[cfg(test)]
 mod stages;
-#[cfg(test)]
-mod templates;
 #[cfg(test)]
 mod texts;

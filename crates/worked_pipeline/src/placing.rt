@@ -1,14 +1,11 @@
-//! Schedules: decisions one by one, the pressure run, and its chart.
-use crate::stages::{Site, find_schedule, two_operators};
-use crate::texts::CHART;
+//! Schedules: decisions one by one, and those of the pressure run.
+use crate::stages::{find_schedule, two_operators};
 use comm_routing::Draft;
 use flat_graph::Source;
 use route_table::routes_of;
 use schedule::{Decision, Transfer};
-use std::alloc::Global;
 use std::process::Abort;
 use std::test::Fail;
-use timing_chart::print_chart;
 
 /// Places an operation that may be placed.
 fn place(rt: &impl Abort, draft: &mut Draft, op: u32, operator: u32) -> Result<(), Fail> {
@@ -101,22 +98,5 @@ fn the_pressure_run_decides_in_this_order(rt: HostRuntime) -> Result<(), Fail> {
     assert!(rt; places(&decisions[3], 4, 1, 13, 14));
     assert!(rt; places(&decisions[4], 3, 0, 11, 12));
     assert!(rt; decisions[2].transfers.as_slice() == [carried()].as_slice());
-    Ok(())
-}
-
-/// The chart of the schedule of a site.
-fn chart(alloc: Global, site: &Site) -> Result<Vec<u8>, Fail> {
-    let schedule = find_schedule(alloc, site)?;
-    let mut chart = Vec::new(alloc);
-    print_chart(alloc, &site.flat, &site.text.archi, &schedule, &mut chart)?;
-    Ok(chart)
-}
-
-#[test]
-fn the_chart_of_the_schedule(rt: HostRuntime) -> Result<(), Fail> {
-    let alloc = rt.alloc();
-    let site = two_operators(&rt, alloc)?;
-    let chart = chart(alloc, &site)?;
-    assert!(rt; chart.as_slice() == CHART);
     Ok(())
 }

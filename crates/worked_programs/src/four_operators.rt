@@ -1,19 +1,8 @@
 //! A program for four operators that share a bus. The first sends what its sensor gives to the second, and the
 //! third to the fourth.
-use crate::runs::{By, end_of};
-use crate::texts::{Texts, Worked};
-use crate::three_operators::wait;
-use phase_laws::run_fresh;
-use progress_laws::{first_enabled, steps_in_all};
-use semaphore_core::{Job, State};
-use std::alloc::Global;
-use std::process::Abort;
-use std::sync::Wait;
+use crate::moves::{Moves, play};
+use crate::texts::Texts;
 use std::test::Fail;
-use std::thread::Threads;
-use syn_base::ActRows;
-use word_table::Driven;
-use worked_parts::Meeting;
 
 const ALGORITHM: &[u8] = b"algorithm 1
 sensor Sense 1
@@ -142,64 +131,17 @@ fn texts() -> Texts<'static> {
 /// The last communicator, which begins with a wait for the first transfer, can make no step at first. So a list
 /// that names it alone leaves all as it was: the first that can go on is the communicator that signals before its
 /// loop that its buffer is empty.
-fn wait_at_first(rt: &impl Abort, alloc: Global, job: &Job) -> Result<(), Fail> {
-    let mut state = State::new(alloc, job)?;
-    wait(rt, job, &mut state, 7);
-    let mut named = run_fresh(alloc, job, &[7, 7, 7])?;
-    assert_eq!(rt; first_enabled(job, &named), Some(1));
-    wait(rt, job, &mut named, 7);
-    hold_zeros(rt, named.rows());
-    Ok(())
-}
-
-/// One reaction of two actuators, whose one element each is 0.
-fn hold_zeros(rt: &impl Abort, rows: &ActRows) {
-    assert_eq!(rt; rows.count(), 1);
-    assert_eq!(rt; rows.lens(), [1, 1].as_slice());
-    assert_eq!(rt; rows.vector(0, 0), [0].as_slice());
-    assert_eq!(rt; rows.vector(0, 1), [0].as_slice());
-}
-
-/// As `wait_at_first`, on what was read of the program.
-fn run(rt: &impl Abort, alloc: Global, worked: &Worked) -> Result<(), Fail> {
-    let job = worked.job(rt, alloc)?;
-    wait_at_first(rt, alloc, &job)
+fn waits() -> Moves<'static> {
+    Moves {
+        made: b"777",
+        tried: b"7",
+        letters: b"w",
+        first: Some(1),
+        values: &[0, 0],
+    }
 }
 
 #[test]
 fn a_communicator_waits_for_a_transfer_between_others(rt: HostRuntime) -> Result<(), Fail> {
-    let worked = Worked::read(&rt, rt.alloc(), &texts())?;
-    run(&rt, rt.alloc(), &worked)
-}
-
-/// Runs a job of the program by eight workers, before whose first steps its eight sequences meet.
-fn meet<R: Abort + Threads + Wait + Sync>(rt: &R, alloc: Global, job: &Job) -> Result<(), Fail> {
-    let gate = Meeting::of(8);
-    let mut driven = Driven::new(alloc);
-    let closed = end_of(rt, alloc, job, &gate, By::Workers(8), &mut driven)?;
-    assert_eq!(rt; gate.came(), 8);
-    assert_eq!(rt; gate.given_up(), 0);
-    assert_eq!(rt; driven.number(), steps_in_all(job));
-    let rows = closed.rows();
-    assert_eq!(rt; rows.count(), 1);
-    assert_eq!(rt; rows.lens(), [1, 1].as_slice());
-    assert_eq!(rt; rows.vector(0, 0), [5].as_slice());
-    assert_eq!(rt; rows.vector(0, 1), [10].as_slice());
-    Ok(())
-}
-
-/// As `meet`, on what was read of the program.
-fn run_by_eight<R: Abort + Threads + Wait + Sync>(
-    rt: &R,
-    alloc: Global,
-    worked: &Worked,
-) -> Result<(), Fail> {
-    let job = worked.job(rt, alloc)?;
-    meet(rt, alloc, &job)
-}
-
-#[test]
-fn eight_sequences_of_eight_workers_meet(rt: HostRuntime) -> Result<(), Fail> {
-    let worked = Worked::read(&rt, rt.alloc(), &texts())?;
-    run_by_eight(&rt, rt.alloc(), &worked)
+    play(&rt, rt.alloc(), &texts(), &waits())
 }

@@ -126,56 +126,54 @@ endmain_
 /// What no sensor gives in a reaction.
 const NOTHING: &[i64] = &[];
 
-/// The limit by which the job of a program is refused. The program is for one operator and runs over as many
-/// reactions as a table may have, in which no sensor gives anything.
-fn refused(
-    rt: &impl Abort,
-    alloc: Global,
-    algorithm: &[u8],
-    code: &[u8],
-    order: &[u8],
-) -> Result<Option<LimitFault>, Fail> {
-    let rows = vec![in alloc; NOTHING; 10_000]?;
-    let texts = Texts {
+/// A program for one operator over reactions in which no sensor gives anything.
+fn texts<'a>(
+    algorithm: &'a [u8],
+    code: &'a [u8],
+    order: &'a [u8],
+    rows: &'a [&'a [i64]],
+) -> Texts<'a> {
+    Texts {
         algorithm,
         architecture: b"architecture 1\noperator P\n",
         code,
         order,
-        rows: rows.as_slice(),
-    };
-    let worked = Worked::read(rt, alloc, &texts)?;
-    refused_job(rt, alloc, &worked)
+        rows,
+    }
 }
 
-/// As `refused`, of what was read of a program.
-fn refused_job(
-    rt: &impl Abort,
-    alloc: Global,
-    worked: &Worked,
-) -> Result<Option<LimitFault>, Fail> {
+/// The limit by which the job of what was read of a program is refused.
+fn limit_of(rt: &impl Abort, alloc: Global, worked: &Worked) -> Result<Option<LimitFault>, Fail> {
     Ok(worked.limited_job(rt, alloc)?.err())
 }
 
+/// The job of a program is refused by this limit, which it is above by that count.
+fn refuse(rt: &impl Abort, alloc: Global, texts: &Texts, fault: LimitFault) -> Result<(), Fail> {
+    let worked = Worked::read(rt, alloc, texts)?;
+    assert_eq!(rt; limit_of(rt, alloc, &worked)?, Some(fault));
+    Ok(())
+}
+
+/// Each program runs over as many reactions as a table may have.
 #[test]
-fn a_job_of_too_many_steps_is_refused(rt: HostRuntime) -> Result<(), Fail> {
-    let limit = refused(&rt, rt.alloc(), BUSY, BUSY_CODE, b"00")?;
-    let wanted = LimitFault {
+fn a_job_above_a_limit_is_refused(rt: HostRuntime) -> Result<(), Fail> {
+    let alloc = rt.alloc();
+    let rows = vec![in alloc; NOTHING; 10_000]?;
+    let steps = LimitFault {
         which: LimitKind::Total,
         count: 20_490_000,
         bound: 20_000_000,
     };
-    assert_eq!(rt; limit, Some(wanted));
-    Ok(())
-}
-
-#[test]
-fn a_job_of_too_much_output_is_refused(rt: HostRuntime) -> Result<(), Fail> {
-    let limit = refused(&rt, rt.alloc(), BROAD, BROAD_CODE, b"00000")?;
-    let wanted = LimitFault {
+    refuse(&rt, alloc, &texts(BUSY, BUSY_CODE, b"00", &rows), steps)?;
+    let output = LimitFault {
         which: LimitKind::Output,
         count: 2_560_000,
         bound: 2_000_000,
     };
-    assert_eq!(rt; limit, Some(wanted));
-    Ok(())
+    refuse(
+        &rt,
+        alloc,
+        &texts(BROAD, BROAD_CODE, b"00000", &rows),
+        output,
+    )
 }

@@ -5,6 +5,7 @@ ghost use Rattle.flat_graph.specs.Laws.{sensor_lens};
 ghost use Rattle.operation_paths.specs.Bounded.{HasBounds};
 ghost use Rattle.operation_paths.specs.Named.{HasNames};
 
+use crate::moves::number_of;
 use algo_defs::AlgoError;
 use algo_reader::read_algo;
 use algo_resolve::resolve;
@@ -96,10 +97,10 @@ fn program(alloc: Global, text: &[u8], flat: &Flat, archi: &Archi) -> Result<Pro
 }
 
 /// The numbers of these digits.
-fn numbers(alloc: Global, digits: &[u8]) -> Result<Vec<u32>, Fail> {
+pub(crate) fn numbers(alloc: Global, digits: &[u8]) -> Result<Vec<u32>, OutOfMemory> {
     let mut numbers = Vec::new(alloc);
     for digit in digits {
-        numbers.push(u32::from(digit.saturating_sub(b'0')))?;
+        numbers.push(number_of(*digit))?;
     }
     Ok(numbers)
 }
