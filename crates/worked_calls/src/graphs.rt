@@ -8,12 +8,7 @@ use std::test::Fail;
 use syn_base::{Items, Name};
 
 /// An operation without guards that passes on its inputs, until it is made another one.
-fn operation(
-    alloc: Global,
-    name: &[u8],
-    ins: &[Source],
-    outs: &[u32],
-) -> Result<Vertex, Fail> {
+fn operation(alloc: Global, name: &[u8], ins: &[Source], outs: &[u32]) -> Result<Vertex, Fail> {
     let name = Items::new(Vec::from_slice(alloc, name)?);
     let def = Name::new(alloc, b"D")?;
     let ins = Items::new(Vec::from_slice(alloc, ins)?);
