@@ -19,8 +19,9 @@ class Operation:
     """A line of the listing: NUMBER NAME KIND:DEFINITION GUARDS SOURCES LENGTHS, where a guard is OPERATION.OUTPUT?CASE."""
 
     def __init__(self, line):
-        number, self.name, kind, guards, sources, _ = line.split(" ")
+        number, self.name, kind, guards, sources, lengths = line.split(" ")
         self.number = int(number)
+        self.lengths = [int(it) for it in lengths.split(",")] if lengths != "-" else []
         self.kind, _, self.definition = kind.partition(":")
         pairs = lambda text: [tuple(map(int, it.split("."))) for it in text.split(",")] if text != "-" else []
         self.sources = pairs(sources)

@@ -14,7 +14,8 @@ def listing(flat):
     lines = []
     for number, it in enumerate(flat.all):
         sources = ",".join(f"{op}.{port}" for op, port in it.sources) or "-"
-        lines.append(f"{number} {it.name} {it.kind}:{it.unit} - {sources} -\n")
+        lengths = ",".join(map(str, it.lengths)) or "-"
+        lines.append(f"{number} {it.name} {it.kind}:{it.unit} - {sources} {lengths}\n")
     return "".join(lines)
 
 
@@ -123,7 +124,7 @@ class Durations:
     """How long each operation lasts on each operator where it may stand, and what is known of every schedule."""
 
     def __init__(self, design, archi):
-        self.design, self.count = design, len(archi.operators)
+        self.design, self.archi, self.count = design, archi, len(archi.operators)
         self.ticks = []
         for it in design.operations:
             if it.kind in TIMED:
@@ -137,8 +138,26 @@ class Durations:
         """The times of those operators where all may stand, by number."""
         return {at: sum(it[at] for it in self.ticks) for at in range(self.count) if all(at in it for it in self.ticks)}
 
-    def chains(self):
-        """Of each operation what it depends on, and when the longest chain up to it ends."""
+    def brought(self, operator, source):
+        """The least time in which a medium brings the value of an output to an operator, 0 where none does."""
+        op, port = source
+        name, length = self.archi.operators[operator], self.design.operations[op].lengths[port]
+        media = [(fixed, each) for it, _, fixed, each in self.archi.media if name in self.archi.stand_at(it)]
+        return min([fixed + length * each for fixed, each in media], default=0)
+
+    def carried_end(self, number, before, ends):
+        """When an operation ends on the operator on which it ends first, by the ends of those that it depends on."""
+        sources = self.design.sources(number)
+        halves = [ends[op] for op in before[number][len(sources):]]
+        found = []
+        for at, ticks in self.ticks[number].items():
+            there = [ends[it[0]] + (0 if at in self.ticks[it[0]] else self.brought(at, it)) for it in sources]
+            found.append(max(there + halves, default=0) + ticks)
+        return min(found)
+
+    def chains(self, with_transfers=False):
+        """Of each operation what it depends on, and when the longest chain up to it ends, by least durations or also with
+        the transfers that it cannot do without."""
         design, ends = self.design, {}
         before = {it.number: [op for op, _ in design.sources(it.number)] for it in design.operations}
         for it in design.operations:
@@ -152,7 +171,8 @@ class Durations:
                 lacking = [op for op in before[it] if op not in ends]
                 waiting += lacking
                 if not lacking:
-                    ends[it] = self.least[it] + max([ends[op] for op in before[it]], default=0)
+                    plain = self.least[it] + max([ends[op] for op in before[it]], default=0)
+                    ends[it] = self.carried_end(it, before, ends) if with_transfers else plain
                     waiting.pop()
         return before, ends
 
@@ -165,14 +185,14 @@ class Durations:
             those = before[found[0]]
         return found
 
-    def longest_chain(self):
-        return sum(self.least[it] for it in self.chain())
+    def longest_carried(self):
+        return max(self.chains(with_transfers=True)[1].values(), default=0)
 
     def bound(self):
         work = {at for it, least in zip(self.ticks, self.least) if least for at in it}
         shared = -(-sum(self.least) // max(1, len(work)))
         only = [sum(least for it, least in zip(self.ticks, self.least) if list(it) == [at]) for at in range(self.count)]
-        return max(self.longest_chain(), shared, *only)
+        return max(self.longest_carried(), shared, *only)
 
 
 def pace(design, depth, count):
