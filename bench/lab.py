@@ -1,8 +1,7 @@
 #!/usr/bin/env python3
 """Times `syndex_lab` beside `syndex chart` over the same texts of 2,048 operations on 1, 4 and 16 operators: what it writes of
-a schedule, and its findings; a report once more with 1,000 sensors and 1,000 actuators that all depend on each other; the
-dates of 10, 100 and 1,000 reactions, and a plot of 100, 1,000 and 10,000 reactions, each beside the line before. Prints the
-seconds of the processor, least of several runs, the bytes that are written, and the ratio."""
+a schedule, and its findings; a report once more with 31 sensors and 31 actuators that all depend on each other, over 10, 100
+and 1,000 reactions, and a plot of 100, 1,000 and 10,000 reactions, each beside the line before. Prints the seconds of the processor, least of several runs, the bytes that are written, and the ratio."""
 import os
 import sys
 import tempfile
@@ -17,24 +16,19 @@ COLUMNS = [f"s.{element}" for element in range(16)]
 COMMANDS = ("chart", "trace", "flat", "code", "report", "lint")
 
 
-def all_to_all(count):
-    """Sensors that one function reads, and actuators that all take what it gives."""
-    ins = "".join(f"in x{k} 1\n" for k in range(count // 63 + 1))
-    lines = ["algorithm 1", "sensor S 1", "actuator A 1", "function J", *[f"in x{k} 1" for k in range(63)], "out y 1 = x0[0]", "end"]
-    lines += ["function T", ins.strip(), "out y 1 = x0[0]", "end", "graph In", "out y 1"]
-    lines += [f"ref s{k} S" for k in range(62)] + ["ref j J"] + [f"edge s{min(k, 61)}.o j.x{k}" for k in range(63)] + ["edge j.y y", "end"]
-    lines += ["graph Out", "in x 1"] + [f"ref a{k} A" for k in range(63)] + [f"edge x a{k}.i" for k in range(63)] + ["end"]
-    parts = count // 62
-    lines += ["graph main", *[f"ref i{k} In" for k in range(parts)], "ref t T", *[f"ref o{k} Out" for k in range(parts)]]
-    lines += [f"edge i{min(k, parts - 1)}.y t.x{k}" for k in range(count // 63 + 1)]
-    lines += [f"edge t.y o{k}.x" for k in range(parts)] + ["end", ""]
+def all_to_all():
+    """As many sensors and actuators as one graph holds, of which each actuator depends on each sensor."""
+    ends = range(31)
+    lines = ["algorithm 1", "sensor S 1", "actuator A 1", "function J", *[f"in x{k} 1" for k in ends], "out y 1 = x0[0]", "end"]
+    lines += ["graph main", *[f"ref s{k} S" for k in ends], "ref j J", *[f"ref a{k} A" for k in ends]]
+    lines += [f"edge s{k}.o j.x{k}" for k in ends] + [f"edge j.y a{k}.i" for k in ends] + ["end", ""]
     return "\n".join(lines)
 
 
 def two_operators():
     return "".join(
         ["architecture 1\noperator P\noperator Q\nmedium B multi 2 1\nconnect B P\nconnect B Q\n"]
-        + [f"duration {it} {on} {1 + k}\n" for k, it in enumerate("SAJT") for on in "PQ"]
+        + [f"duration {it} {on} {1 + k}\n" for k, it in enumerate("SAJ") for on in "PQ"]
     )
 
 
@@ -66,8 +60,8 @@ def main():
                 beside_chart(f"{shape}, 2,048 operations, {operators} operators", files)
         for what, (algorithm, archi) in carrying().items():
             beside_chart(what, [written(room, "a", algorithm), written(room, "h", archi)])
-        files = [written(room, "a", all_to_all(1000)), written(room, "h", two_operators())]
-        beside_chart("1,000 sensors and 1,000 actuators", files)
+        files = [written(room, "a", all_to_all()), written(room, "h", two_operators())]
+        beside_chart("31 sensors and 31 actuators", files)
         before = None
         for reactions in (10, 100, 1000):
             before = told(f"report, {reactions} reactions", [LAB, "report", *files, str(reactions)], before)
