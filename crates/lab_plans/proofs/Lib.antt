@@ -1,4 +1,3 @@
-mod CodeRefusals
 pub mod Walk
 pub mod Replying
 mod Worked

@@ -35,7 +35,7 @@ use Rattle.top_plans.proofs.DurationRefusals as durations
 use Rattle.top_plans.proofs.TableRefusals as tables
 use Rattle.top_plans.proofs.Walk.{IsTold, told_above, told_algorithm, told_architecture, told_durations, told_sensors}
 use Rattle.lab_words.specs.Command.{Command, Form, help, schedule, graph, table, lint, why, plot, dates, chart, trace, flat, code, report}
-use Rattle.lab_plans.proofs.CodeRefusals as codes
+use Rattle.top_plans.proofs.CodeRefusals as codes
 use Rattle.lab_plans.specs.Names.{names_for, names_of}
 use Rattle.lab_plans.specs.Asked.{Asked, Problem, of_text, of_schedule, of_dates}
 use Rattle.lab_plans.specs.Answers.{answer, dates_by, limit, within}

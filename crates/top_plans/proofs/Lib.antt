@@ -8,7 +8,7 @@ pub mod MarkRefusals
 pub mod ArchitectureRefusals
 pub mod DurationRefusals
 pub mod TableRefusals
-mod CodeRefusals
+pub mod CodeRefusals
 pub mod Walk
 pub mod Commands
 mod Refusals

@@ -13,4 +13,5 @@ pub mod Closings
 pub mod Gathering
 pub mod Finishing
 pub mod TakingRows
+pub mod LoopPlaces
 mod Worked

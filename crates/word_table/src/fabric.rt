@@ -7,6 +7,7 @@ ghost use Rattle.word_table.specs.Driver.{IsTold};
 use crate::answer::MicroAnswer;
 use crate::driver_parts::DriverParts;
 use crate::fabric_parts::FabricParts;
+use crate::loop_place::{LoopPlace, keep_place, place_of};
 use std::marker::Model;
 use word_rule::job_runs_on_words;
 
@@ -42,6 +43,8 @@ impl<'a> Model for Fabric<'a> {
 #[derive(Drop)]
 pub struct Driver<'a> {
     pub(crate) parts: DriverParts<'a>,
+    /// Where each sequence is in its loop, as a guess.
+    pub(crate) places: Vec<LoopPlace>,
 }
 
 impl<'a> Model for Driver<'a> {
@@ -104,7 +107,10 @@ impl<'a> Fabric<'a> {
         // A driver of every sequence knows all counts.
         ensures alone { DrivesEvery driver.old → AnswersAlone driver.old driver.new seq result }
     {
-        self.parts.try_micro(&mut driver.parts, seq)
+        let mut place = place_of(driver.places.as_slice(), seq);
+        let answer = self.parts.try_micro(&mut driver.parts, &mut place, seq);
+        keep_place(&mut driver.places, seq, place);
+        answer
     }
 }
 

@@ -9,9 +9,10 @@ ghost use Rattle.word_table.specs.Parts.{AreFabricParts, IsOf, SameDriver, CanMa
 
 use crate::answer::MicroAnswer;
 use crate::driver_parts::{DriverParts, count_up};
+use crate::loop_place::{Due, LoopPlace};
 use crate::remains::Remains;
 use executive_program::{MicroStep, OnLoad, OnStore, Place, SeqSteps};
-use semaphore_core::{Job, home, next_in, reaction_at, slot, turn_reached};
+use semaphore_core::{Job, home, slot, turn_reached};
 use word_rule::{Next, WordTable};
 
 /// What a `Fabric` keeps.
@@ -223,8 +224,14 @@ impl<'a> FabricParts<'a> {
         }
     }
 
-    /// Tries a sequence of a driver of this fabric. It takes no memory and waits for nobody.
-    pub fn try_micro(&self, driver: &mut DriverParts<'a>, seq: u32) -> MicroAnswer
+    /// Tries a sequence of a driver of this fabric, whose place in its loop is guessed. It takes no memory and
+    /// waits for nobody.
+    pub fn try_micro(
+        &self,
+        driver: &mut DriverParts<'a>,
+        place: &mut LoopPlace,
+        seq: u32,
+    ) -> MicroAnswer
         requires fabric { AreFabricParts self.now }
         requires of { IsOf self.now driver.old }
         requires there { seq < length self.now.job.now.program.seqs }
@@ -235,10 +242,10 @@ impl<'a> FabricParts<'a> {
     {
         let count = driver.counts[seq as usize];
         let code = &self.steps[seq as usize];
-        match next_in(code, self.job.reactions() as u64, count) {
+        let Due { step, reaction } = place.due(code, self.job.reactions() as u64, count);
+        match step {
             None => MicroAnswer::Finished,
             Some(step) => {
-                let reaction = reaction_at(code, count);
                 let word = self.word_of(step, reaction);
                 let next = Next {
                     seq,
@@ -247,6 +254,7 @@ impl<'a> FabricParts<'a> {
                     step,
                 };
                 if self.make(driver, next) {
+                    place.go_on(code, count);
                     MicroAnswer::Stepped
                 } else {
                     MicroAnswer::NotYet

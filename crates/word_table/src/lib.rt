@@ -15,6 +15,7 @@ mod driven;
 mod driver_parts;
 mod fabric;
 mod fabric_parts;
+mod loop_place;
 mod owners;
 mod remains;
 mod weaving;

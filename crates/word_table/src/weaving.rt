@@ -12,6 +12,7 @@ ghost use Rattle.word_table.specs.Weaving.{DrivesGroup, IsLeft, IsGroup, IsFirst
 use crate::driver_parts::DriverParts;
 use crate::fabric::{Driver, Fabric};
 use crate::fabric_parts::FabricParts;
+use crate::loop_place::LoopPlace;
 use crate::owners::{called_in, callers_of, cell_owners};
 use crate::remains::Remains;
 use executive_program::micro_steps_of;
@@ -201,7 +202,9 @@ fn group_of<'a>(
 {
     let mine = fabric.table.split(seat, fabric.groups, group);
     let parts = driver_of(alloc, fabric, mine, group)?;
-    Ok(Driver { parts })
+    let sequences = fabric.job.program().seqs.as_slice().len();
+    let places = vec![in alloc; LoopPlace::FIRST; sequences]?;
+    Ok(Driver { parts, places })
 }
 
 /// A driver for each group of sequences.

@@ -1,9 +1,10 @@
 //! What one call answered, and where it was given: calls that are made many times tell their answers by these.
 
-use crate::call::{Outside, answered, answered_by_bytes, write_ended, write_output};
+use crate::call::{Outside, answered, write_ended, write_output};
 use crate::conditions::Conditions;
 use crate::file::File;
-use outside::GateFree;
+use crate::gate::CallGate;
+use crate::script::GateKind;
 use std::alloc::{AllocError, Global};
 use std::io;
 use std::rt::Files;
@@ -25,18 +26,9 @@ impl Answer {
         words: &[String],
         outside: &mut Outside,
     ) -> Result<Answer, AllocError> {
-        let number = answered(rt, words, outside, &GateFree);
+        let gate = CallGate::new(GateKind::Free);
+        let number = answered(rt, words, outside, &gate);
         Answer::read(rt.alloc(), number, outside)
-    }
-
-    /// As `of`, where each call on the shelf gives one byte at most.
-    pub fn by_bytes<R: AllocGlobal + Threads + Wait + Sync>(
-        rt: &R,
-        words: &[String],
-        outside: Outside,
-    ) -> Result<Answer, AllocError> {
-        let (number, outside) = answered_by_bytes(rt, words, outside);
-        Answer::read(rt.alloc(), number, &outside)
     }
 
     /// The status of this number, with what stands in both sinks.

@@ -4,10 +4,11 @@ use crate::conditions::{Conditions, Sweep};
 use crate::cuts::call_cuts;
 use crate::faults::call_faults;
 use crate::file::{File, bytes_of};
-use crate::gate::answered_at;
+use crate::gate::CallGate;
+use crate::shelf::PacedShelf;
 use crate::spoilt::call_spoilt;
 use lab_program::syndex_lab;
-use outside::{Gate, GateFree, ShelfMem, SinkMem};
+use outside::{ShelfMem, SinkMem};
 use std::alloc::{AllocError, Global};
 use std::io::Write;
 use std::rt::Files;
@@ -17,12 +18,11 @@ use std::{io, str};
 use syn_base::Items;
 use syndex_program::syndex;
 use word_table::Driven;
-use worked_parts::ByteShelf;
 
 /// What a call reads and writes, and what it drives.
 #[derive(Drop)]
 pub struct Outside {
-    pub shelf: ShelfMem,
+    pub shelf: PacedShelf,
     pub out: SinkMem,
     pub err: SinkMem,
     driven: Driven,
@@ -55,9 +55,10 @@ fn call_once<R: Files + Print + AllocGlobal + Threads + Wait + Sync>(
     holds: &Conditions,
 ) -> io::Result<Option<File>> {
     let mut outside = outside_for(rt, files, words, holds)?;
-    let (number, seen) = answered_at(rt, words, &mut outside, holds.gate);
+    let gate = CallGate::new(holds.gate);
+    let number = answered(rt, words, &mut outside, &gate);
     write_answers(rt, files, holds, &outside, number)?;
-    seen.write(rt)?;
+    gate.seen().write(rt)?;
     match &holds.keep {
         Some(name) => Ok(Some(kept_as(rt.alloc(), name.as_str(), outside.out.bytes())?)),
         None => Ok(None),
@@ -81,7 +82,7 @@ pub fn outside_for<R: Files + AllocGlobal>(
     let alloc = rt.alloc();
     let out = holds.out.sink(alloc)?;
     let err = holds.err.sink(alloc)?;
-    let shelf = shelf_for(rt, files, words, &holds.shelf_fails)?;
+    let shelf = shelf_for(rt, files, words, holds)?;
     Ok(Outside {
         shelf,
         out,
@@ -92,11 +93,11 @@ pub fn outside_for<R: Files + AllocGlobal>(
 
 /// The number of the status with which the program answers these words, where this gate is asked before each
 /// step. It stands by itself, so that whoever calls it has no clause of the top call to carry along.
-pub fn answered<R: AllocGlobal + Threads + Wait + Sync, G: Gate>(
+pub fn answered<R: AllocGlobal + Threads + Wait + Sync>(
     rt: &R,
     words: &[String],
     outside: &mut Outside,
-    gate: &G,
+    gate: &CallGate,
 ) -> u8 {
     let alloc = rt.alloc();
     let Outside {
@@ -112,40 +113,6 @@ pub fn answered<R: AllocGlobal + Threads + Wait + Sync, G: Gate>(
         return syndex_lab(alloc, words, shelf, out, err).number();
     }
     syndex(rt, alloc, words, shelf, out, err, gate, driven).number()
-}
-
-/// As `answered` without a gate, where each call on the shelf gives one byte at most; with the outside after it.
-pub fn answered_by_bytes<R: AllocGlobal + Threads + Wait + Sync>(
-    rt: &R,
-    words: &[String],
-    outside: Outside,
-) -> (u8, Outside) {
-    let alloc = rt.alloc();
-    let Outside {
-        shelf,
-        mut out,
-        mut err,
-        mut driven,
-    } = outside;
-    let mut shelf = ByteShelf { shelf };
-    let status = syndex(
-        rt,
-        alloc,
-        words,
-        &mut shelf,
-        &mut out,
-        &mut err,
-        &GateFree,
-        &mut driven,
-    );
-    let ByteShelf { shelf } = shelf;
-    let outside = Outside {
-        shelf,
-        out,
-        err,
-        driven,
-    };
-    (status.number(), outside)
 }
 
 /// Writes the output of a call, its line, its status, and what else is asked for.
@@ -164,7 +131,7 @@ fn write_answers<R: Files + Print + AllocGlobal>(
     write_line(rt, outside.err.bytes())?;
     println!(rt; "= {number}")?;
     if holds.counts {
-        write_counts(rt, &outside.shelf, &outside.out)?;
+        write_counts(rt, &outside.shelf.files, &outside.out)?;
     }
     if holds.driven {
         write_driven(rt, &outside.driven)?;
@@ -190,8 +157,8 @@ fn shelf_for<R: Files + AllocGlobal>(
     rt: &R,
     files: &[File],
     words: &[String],
-    fails: &[u64],
-) -> io::Result<ShelfMem> {
+    holds: &Conditions,
+) -> io::Result<PacedShelf> {
     let mut held = Vec::new(rt.alloc());
     for word in words {
         if let Some(bytes) = bytes_of(rt, files, word.as_str())? {
@@ -199,8 +166,11 @@ fn shelf_for<R: Files + AllocGlobal>(
             held.push((Items::new(name), Items::new(bytes)))?;
         }
     }
-    let fails = Vec::from_slice(rt.alloc(), fails)?;
-    Ok(ShelfMem::new(Items::new(held), Items::new(fails)))
+    let fails = Vec::from_slice(rt.alloc(), &holds.shelf_fails)?;
+    Ok(PacedShelf {
+        files: ShelfMem::new(Items::new(held), Items::new(fails)),
+        most: holds.shelf_gives,
+    })
 }
 
 /// Writes the output, or the name of the file that holds it.

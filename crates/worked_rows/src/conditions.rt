@@ -49,6 +49,7 @@ pub enum Sweep {
 #[derive(Drop)]
 pub struct Conditions {
     pub shelf_fails: Vec<u64>,
+    pub shelf_gives: usize,
     pub out: SinkSays,
     pub err: SinkSays,
     pub output: Option<String>,
@@ -67,6 +68,7 @@ impl Conditions {
     pub fn new(alloc: Global) -> Conditions {
         Conditions {
             shelf_fails: Vec::new(alloc),
+            shelf_gives: usize::MAX,
             out: SinkSays::new(alloc),
             err: SinkSays::new(alloc),
             output: None,
@@ -85,6 +87,7 @@ impl Conditions {
     pub fn add(&mut self, alloc: Global, condition: Condition<'_>) -> Result<(), AllocError> {
         match condition {
             Condition::ShelfFails(call) => self.shelf_fails.push(call)?,
+            Condition::ShelfGives(most) => self.shelf_gives = most,
             Condition::OutFails(call) => self.out.fails.push(call)?,
             Condition::OutTakes(most) => self.out.takes = most,
             Condition::OutHolds(room) => self.out.holds = room,

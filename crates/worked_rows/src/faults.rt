@@ -65,7 +65,7 @@ impl Part {
     /// Whether a call of the part failed.
     fn has_failed(self, outside: &Outside) -> bool {
         match self {
-            Part::Shelf => outside.shelf.faults.iter().any(|count| *count > 0),
+            Part::Shelf => outside.shelf.files.faults.iter().any(|count| *count > 0),
             Part::Out | Part::OutBytes => outside.out.faults() > 0,
             Part::ErrBytes => outside.err.faults() > 0,
         }
@@ -187,9 +187,10 @@ impl<'a> Called<'a> {
         rt: &R,
     ) -> io::Result<()> {
         let (usual, _) = self.answer(rt, Part::Shelf, None)?;
-        let holds = Conditions::new(rt.alloc());
-        let outside = outside_for(rt, self.files, self.words, &holds)?;
-        let answer = Answer::by_bytes(rt, self.words, outside)?;
+        let mut holds = Conditions::new(rt.alloc());
+        holds.add(rt.alloc(), Condition::ShelfGives(1))?;
+        let mut outside = outside_for(rt, self.files, self.words, &holds)?;
+        let answer = Answer::of(rt, self.words, &mut outside)?;
         let end = end_of(&answer, &usual);
         println!(rt; "shelf by bytes: {end}")
     }

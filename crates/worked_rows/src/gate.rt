@@ -1,12 +1,59 @@
-//! The gate of a call, and what it has seen. `call` asks for it.
+//! The gate of a call, and what it has seen. `call` makes it.
 
-use crate::call::{Outside, answered};
 use crate::script::GateKind;
-use outside::GateFree;
+use outside::{Gate, GateFree};
 use std::io;
-use std::sync::Wait;
-use std::thread::Threads;
 use worked_parts::{Counting, Holding, Meeting};
+
+/// What is asked before each step of a call: one type for all kinds of gates, so that the program is made for one.
+#[derive(Drop)]
+pub enum CallGate {
+    Free(GateFree),
+    Meeting(Meeting),
+    Counting(Counting),
+    Holding(Holding),
+}
+
+impl CallGate {
+    /// A gate of this kind, which nobody has asked yet.
+    pub fn new(kind: GateKind) -> CallGate {
+        match kind {
+            GateKind::Free => CallGate::Free(GateFree),
+            GateKind::Meeting(sequences) => CallGate::Meeting(Meeting::of(sequences)),
+            GateKind::Counting => CallGate::Counting(Counting::new()),
+            GateKind::Holding => CallGate::Holding(Holding::new()),
+        }
+    }
+
+    /// What it has seen.
+    pub fn seen(&self) -> Seen {
+        match self {
+            CallGate::Free(_) => Seen::Nothing,
+            CallGate::Meeting(gate) => Seen::Meeting {
+                came: gate.came(),
+                given_up: gate.given_up(),
+            },
+            CallGate::Counting(gate) => Seen::Counting {
+                asked: gate.asked(),
+                out_of_turn: gate.out_of_turn(),
+            },
+            CallGate::Holding(gate) => Seen::Holding {
+                at_release: gate.at_release(),
+            },
+        }
+    }
+}
+
+impl Gate for CallGate {
+    fn pass(&self, seq: u32, n: u64) {
+        match self {
+            CallGate::Free(gate) => gate.pass(seq, n),
+            CallGate::Meeting(gate) => gate.pass(seq, n),
+            CallGate::Counting(gate) => gate.pass(seq, n),
+            CallGate::Holding(gate) => gate.pass(seq, n),
+        }
+    }
+}
 
 /// What a gate has seen.
 #[derive(Clone, Copy)]
@@ -36,56 +83,4 @@ impl Seen {
             Seen::Holding { at_release } => println!(rt; "gate: let go at step {at_release}"),
         }
     }
-}
-
-/// The number of the status with which the program answers these words, and what the gate of this kind has seen.
-pub fn answered_at<R: AllocGlobal + Threads + Wait + Sync>(
-    rt: &R,
-    words: &[String],
-    outside: &mut Outside,
-    kind: GateKind,
-) -> (u8, Seen) {
-    match kind {
-        GateKind::Free => (answered(rt, words, outside, &GateFree), Seen::Nothing),
-        GateKind::Meeting(sequences) => answered_at_meeting(rt, words, outside, sequences),
-        GateKind::Counting => answered_at_counting(rt, words, outside),
-        GateKind::Holding => answered_at_holding(rt, words, outside),
-    }
-}
-
-/// As `answered_at`, with a gate at which this many sequences wait for each other.
-fn answered_at_meeting<R: AllocGlobal + Threads + Wait + Sync>(
-    rt: &R,
-    words: &[String],
-    outside: &mut Outside,
-    sequences: usize,
-) -> (u8, Seen) {
-    let gate = Meeting::of(sequences);
-    let number = answered(rt, words, outside, &gate);
-    let (came, given_up) = (gate.came(), gate.given_up());
-    (number, Seen::Meeting { came, given_up })
-}
-
-/// As `answered_at`, with a gate that counts steps.
-fn answered_at_counting<R: AllocGlobal + Threads + Wait + Sync>(
-    rt: &R,
-    words: &[String],
-    outside: &mut Outside,
-) -> (u8, Seen) {
-    let gate = Counting::new();
-    let number = answered(rt, words, outside, &gate);
-    let (asked, out_of_turn) = (gate.asked(), gate.out_of_turn());
-    (number, Seen::Counting { asked, out_of_turn })
-}
-
-/// As `answered_at`, with a gate that holds sequence 1.
-fn answered_at_holding<R: AllocGlobal + Threads + Wait + Sync>(
-    rt: &R,
-    words: &[String],
-    outside: &mut Outside,
-) -> (u8, Seen) {
-    let gate = Holding::new();
-    let number = answered(rt, words, outside, &gate);
-    let at_release = gate.at_release();
-    (number, Seen::Holding { at_release })
 }

@@ -21,6 +21,7 @@ mod file;
 mod gate;
 mod player;
 mod script;
+mod shelf;
 mod spoilt;
 
 use player::Player;

@@ -52,6 +52,8 @@ pub enum GateKind {
 pub enum Condition<'a> {
     /// `shelf fails N`: call N on the shelf fails.
     ShelfFails(u64),
+    /// `shelf gives N`: a call on the shelf gives at most N bytes, and one where there is one.
+    ShelfGives(usize),
     /// `out fails N`: call N on the output fails.
     OutFails(u64),
     /// `out takes N`: a call on the output takes at most N bytes.
@@ -178,6 +180,7 @@ fn gate_of(name: &str) -> Option<GateKind> {
 fn limit_of<'a>(part: &str, verb: &str, number: u64) -> Option<Condition<'a>> {
     match (part, verb) {
         ("shelf", "fails") => Some(Condition::ShelfFails(number)),
+        ("shelf", "gives") => Some(Condition::ShelfGives(number as usize)),
         ("out", "fails") => Some(Condition::OutFails(number)),
         ("out", "takes") => Some(Condition::OutTakes(number as usize)),
         ("out", "holds") => Some(Condition::OutHolds(number as usize)),

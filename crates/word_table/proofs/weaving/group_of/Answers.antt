@@ -22,3 +22,7 @@ returns-clause-left c = let a = c.args in let w = a.fabric.now in
 pub returns-in_err-parts-clause-left : goal.returns-in_err-parts-clause-left
 returns-in_err-parts-clause-left c = let a = c.args in let w = a.fabric.now in
     subst (λ (s : SeatData). IsLeft w.job.now w.groups (a.group + 1) s.view) (sym c.split-mine.ensures.left) (left_rest w.job.now w.groups a.group a.seat.now.view c.requires.left)
+
+pub returns-in_err-places-clause-left : goal.returns-in_err-places-clause-left
+returns-in_err-places-clause-left c = let a = c.args in let w = a.fabric.now in
+    subst (λ (s : SeatData). IsLeft w.job.now w.groups (a.group + 1) s.view) (sym c.split-mine.ensures.left) (left_rest w.job.now w.groups a.group a.seat.now.view c.requires.left)
