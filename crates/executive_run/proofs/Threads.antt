@@ -21,6 +21,7 @@ use Rattle.word_rule.proofs.table.WordSeat.TheSendSync as seat
 use Rattle.word_rule.specs.contracts.table.WordSeat as WordSeat
 use Rattle.word_rule.specs.contracts.table.WordSeat.TheInside as AsWordSeat
 use Rattle.word_rule.proofs.table.WordTable.TheSendSync as table
+use Rattle.word_table.proofs.loop_place.LoopPlace.TheSendSync as loop_place
 use Rattle.word_table.specs.contracts.driver_parts.DriverParts as DriverParts
 use Rattle.word_table.specs.contracts.fabric_parts.FabricParts as FabricParts
 use Rattle.word_table.specs.contracts.fabric.Driver as Driver
@@ -47,7 +48,7 @@ FabricParts-sync : (a : NamedLft) → IsSync (FabricParts.the_row a)
 FabricParts-sync a = search (sendable, std.crosses, table.the_sync, steps.the_sync, Job-sync) depth 40
 
 pub Driver-send : (a : NamedLft) → IsSend (Driver.the_row a)
-Driver-send a = view_send (AsDriver.the_row a) _ _ _ _ (declared_send (AsDriver.the_type a) (DriverParts-send a, tt))
+Driver-send a = view_send (AsDriver.the_row a) _ _ _ _ (declared_send (AsDriver.the_type a) (DriverParts-send a, (search (sendable, std.crosses, loop_place.the_send) depth 20, tt)))
 
 pub Fabric-sync : (a : NamedLft) → IsSync (Fabric.the_row a)
 Fabric-sync a = view_sync (AsFabric.the_row a) _ _ _ _ (declared_sync (AsFabric.the_type a) (FabricParts-sync a, tt))
@@ -63,7 +64,7 @@ DriverParts-sync : (a : NamedLft) → IsSync (DriverParts.the_row a)
 DriverParts-sync a = search (sendable, std.crosses, WordSeat-sync, own.the_sync, Job-sync) depth 40
 
 Driver-sync : (a : NamedLft) → IsSync (Driver.the_row a)
-Driver-sync a = view_sync (AsDriver.the_row a) _ _ _ _ (declared_sync (AsDriver.the_type a) (DriverParts-sync a, tt))
+Driver-sync a = view_sync (AsDriver.the_row a) _ _ _ _ (declared_sync (AsDriver.the_type a) (DriverParts-sync a, (search (sendable, std.crosses, loop_place.the_sync) depth 20, tt)))
 
 Group-send : (a : NamedLft) → IsSend (Group.the_row a)
 Group-send a = declared_send (Group.the_type a) (Driver-send a, (search (sendable, std.crosses) depth 20, tt))
