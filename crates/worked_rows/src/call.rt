@@ -169,7 +169,7 @@ fn shelf_for<R: Files + AllocGlobal>(
     let fails = Vec::from_slice(rt.alloc(), &holds.shelf_fails)?;
     Ok(PacedShelf {
         files: ShelfMem::new(Items::new(held), Items::new(fails)),
-        most: holds.shelf_gives,
+        pace: holds.shelf_pace,
     })
 }
 

@@ -1,6 +1,7 @@
 //! The conditions that hold for the next call. `player` collects them, and `call` keeps to them.
 
 use crate::script::{Condition, GateKind};
+use crate::shelf::Pace;
 use outside::SinkMem;
 use std::alloc::{AllocError, Global};
 
@@ -49,7 +50,7 @@ pub enum Sweep {
 #[derive(Drop)]
 pub struct Conditions {
     pub shelf_fails: Vec<u64>,
-    pub shelf_gives: usize,
+    pub shelf_pace: Pace,
     pub out: SinkSays,
     pub err: SinkSays,
     pub output: Option<String>,
@@ -68,7 +69,7 @@ impl Conditions {
     pub fn new(alloc: Global) -> Conditions {
         Conditions {
             shelf_fails: Vec::new(alloc),
-            shelf_gives: usize::MAX,
+            shelf_pace: Pace::Whole,
             out: SinkSays::new(alloc),
             err: SinkSays::new(alloc),
             output: None,
@@ -87,7 +88,7 @@ impl Conditions {
     pub fn add(&mut self, alloc: Global, condition: Condition<'_>) -> Result<(), AllocError> {
         match condition {
             Condition::ShelfFails(call) => self.shelf_fails.push(call)?,
-            Condition::ShelfGives(most) => self.shelf_gives = most,
+            Condition::ShelfByBytes => self.shelf_pace = Pace::ByBytes,
             Condition::OutFails(call) => self.out.fails.push(call)?,
             Condition::OutTakes(most) => self.out.takes = most,
             Condition::OutHolds(room) => self.out.holds = room,

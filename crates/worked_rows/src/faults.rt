@@ -188,7 +188,7 @@ impl<'a> Called<'a> {
     ) -> io::Result<()> {
         let (usual, _) = self.answer(rt, Part::Shelf, None)?;
         let mut holds = Conditions::new(rt.alloc());
-        holds.add(rt.alloc(), Condition::ShelfGives(1))?;
+        holds.add(rt.alloc(), Condition::ShelfByBytes)?;
         let mut outside = outside_for(rt, self.files, self.words, &holds)?;
         let answer = Answer::of(rt, self.words, &mut outside)?;
         let end = end_of(&answer, &usual);

@@ -52,8 +52,8 @@ pub enum GateKind {
 pub enum Condition<'a> {
     /// `shelf fails N`: call N on the shelf fails.
     ShelfFails(u64),
-    /// `shelf gives N`: a call on the shelf gives at most N bytes, and one where there is one.
-    ShelfGives(usize),
+    /// `shelf by bytes`: a call on the shelf gives one byte at most.
+    ShelfByBytes,
     /// `out fails N`: call N on the output fails.
     OutFails(u64),
     /// `out takes N`: a call on the output takes at most N bytes.
@@ -147,6 +147,7 @@ fn condition_of<'a>(word: &str, rest: &'a str) -> Option<Condition<'a>> {
         "count" => Some(Condition::Count),
         "tell" => told_by(rest),
         "gate" => Some(Condition::Gate(gate_of(rest)?)),
+        "shelf" if rest == "by bytes" => Some(Condition::ShelfByBytes),
         _ => {
             let (verb, number) = rest.split_once(' ')?;
             limit_of(word, verb, number.parse::<u64>().ok()?)
@@ -180,7 +181,6 @@ fn gate_of(name: &str) -> Option<GateKind> {
 fn limit_of<'a>(part: &str, verb: &str, number: u64) -> Option<Condition<'a>> {
     match (part, verb) {
         ("shelf", "fails") => Some(Condition::ShelfFails(number)),
-        ("shelf", "gives") => Some(Condition::ShelfGives(number as usize)),
         ("out", "fails") => Some(Condition::OutFails(number)),
         ("out", "takes") => Some(Condition::OutTakes(number as usize)),
         ("out", "holds") => Some(Condition::OutHolds(number as usize)),

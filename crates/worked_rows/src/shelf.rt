@@ -1,11 +1,20 @@
-//! The shelf of a call, which gives no more bytes at a time than it is told. `call` reads from it.
+//! The shelf of a call, which gives all that it is asked for, or byte by byte. `call` reads from it.
 use outside::{Failed, File, Shelf, ShelfMem};
 
-/// Files in memory, of which each call gives as many bytes as this at most, and one at least where there is one.
+/// How much a call on a shelf gives at most.
+#[derive(Clone, Copy, Debug, PartialEq, Eq)]
+pub enum Pace {
+    /// As many bytes as it is asked for.
+    Whole,
+    /// One byte.
+    ByBytes,
+}
+
+/// Files in memory, which are given at this pace.
 #[derive(Drop)]
 pub struct PacedShelf {
     pub files: ShelfMem,
-    pub most: usize,
+    pub pace: Pace,
 }
 
 impl Shelf for PacedShelf {
@@ -14,7 +23,12 @@ impl Shelf for PacedShelf {
     ghost held = { λ s. memory_held s.files };
 
     fn piece(&mut self, file: File, name: &str, at: u64, into: &mut [u8]) -> Result<usize, Failed> {
-        let room = into.len().min(self.most.max(1));
-        self.files.piece(file, name, at, &mut into[..room])
+        match self.pace {
+            Pace::Whole => self.files.piece(file, name, at, into),
+            Pace::ByBytes => {
+                let room = into.len().min(1);
+                self.files.piece(file, name, at, &mut into[..room])
+            }
+        }
     }
 }
