@@ -13,17 +13,6 @@ pub trait Ask {
     fn ask(&self, seq: u32, n: u64);
 }
 
-/// Sets what stands at a sequence, and writes nothing where it stands there: the lists of several groups may share
-/// a line of a cache, and workers that drive others would wait for each write.
-fn set(list: &mut Vec<bool>, seq: u32, value: bool)
-    requires { seq < vec_len list.old }
-    ensures { vec_len list.new ≡ vec_len list.old }
-{
-    if list[seq as usize] != value {
-        list[seq as usize] = value;
-    }
-}
-
 /// The sequences of a driver, and of each whether the gate was asked for its next step.
 #[derive(Drop)]
 pub struct Group<'a> {
@@ -59,7 +48,7 @@ impl<'a> Group<'a> {
             self.ask_for_next(fabric, gate, seq);
         }
         let answer = fabric.try_micro(&mut self.driver, seq);
-        set(&mut self.asked, seq, answer != MicroAnswer::Stepped);
+        self.asked[seq as usize] = answer != MicroAnswer::Stepped;
         answer
     }
 
