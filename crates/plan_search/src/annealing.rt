@@ -72,7 +72,21 @@ impl Annealing {
         judge.find_chain(&self.current, &mut self.chain);
     }
 
-    /// Tries one change: it is kept where the plan costs more by at most the threshold.
+    /// One try: some changes, one after another.
+    fn try_once(
+        &mut self,
+        tables: &Tables,
+        judge: &mut Judge,
+        chances: &mut Chances,
+        threshold: u32,
+        best: &mut Best,
+    ) {
+        for _change in 0..judge.changes() {
+            self.step(tables, judge, chances, threshold, best);
+        }
+    }
+
+    /// Makes one change: it is kept where the plan costs more by at most the threshold.
     fn step(
         &mut self,
         tables: &Tables,
@@ -113,7 +127,8 @@ impl Annealing {
     }
 }
 
-/// This many tries from the best plan, in rounds, each of which begins from the best plan so far.
+/// This many tries from the best plan, each of some changes, in rounds, each of which begins from the best
+/// plan so far.
 pub(crate) fn anneal(
     tables: &Tables,
     tries: u32,
@@ -130,15 +145,16 @@ pub(crate) fn anneal(
             annealing.begin(tables, judge, &best.plan);
         }
         let threshold = threshold(best.cost, tables.operations, span - done, span);
-        annealing.step(tables, judge, chances, threshold, best);
+        annealing.try_once(tables, judge, chances, threshold, best);
     }
 }
 
-/// The threshold where this many tries of a round are left: at first the cost over the number of
-/// operations, then less by the square of what is left.
+/// The threshold where this many tries of a round are left: at first one and a half times the cost over the
+/// number of operations, then less by the square of what is left.
 fn threshold(cost: u64, operations: u32, left: u32, span: u32) -> u32 {
     let step = u64::from(left).saturating_mul(STEPS) / u64::from(span.max(1));
-    let part = cost / u64::from(operations.max(1));
+    let twice = u64::from(operations.max(1)).saturating_mul(2);
+    let part = cost.saturating_mul(3) / twice.max(1);
     let now = part.saturating_mul(step).saturating_mul(step) / (STEPS * STEPS);
     u32::try_from(now).unwrap_or(NOBODY)
 }

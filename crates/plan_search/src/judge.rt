@@ -42,6 +42,14 @@ impl Judge {
         Ok(Judge { dates, pace })
     }
 
+    /// How many changes a try makes: fewer where each of them is judged by several reactions.
+    pub fn changes(&self) -> u32 {
+        match &self.pace {
+            Some(_pace) => 2,
+            None => 8,
+        }
+    }
+
     /// What a plan costs.
     pub fn cost(&mut self, tables: &Tables, plan: &Plan) -> u64 {
         match &mut self.pace {

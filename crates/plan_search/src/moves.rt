@@ -1,4 +1,5 @@
 //! Random changes of a plan.
+use crate::crowds::{exchange, move_chain};
 use crate::numbers::{NOBODY, number_at};
 use crate::plan::Plan;
 use crate::random::Chances;
@@ -14,7 +15,7 @@ pub(crate) fn change(
     cause: u32,
 ) -> bool {
     if tables.stands.operators() > 1 && chances.holds(50) {
-        move_over(tables, plan, chances, op)
+        change_operator(tables, plan, chances, op)
     } else {
         let wish = if chances.holds(50) {
             plan.place(cause)
@@ -25,10 +26,24 @@ pub(crate) fn change(
     }
 }
 
-/// Moves an operation to another operator, some of its sources with it.
-fn move_over(tables: &Tables, plan: &mut Plan, chances: &mut Chances, op: u32) -> bool {
+/// Moves an operation to another operator: with a chain of its neighbours, with all that stands on both
+/// operators, or with some of its sources. Returns whether that changed the plan.
+fn change_operator(tables: &Tables, plan: &mut Plan, chances: &mut Chances, op: u32) -> bool {
     let from = plan.operator(op);
     let to = other_operator(tables, plan, chances, op, from);
+    if chances.holds(40) {
+        return move_chain(tables, plan, chances, op, to);
+    }
+    if chances.holds(5) {
+        exchange(tables, plan, from, to);
+        return true;
+    }
+    move_over(tables, plan, chances, op, to)
+}
+
+/// Moves an operation to another operator, some of its sources with it. Returns whether it moved.
+fn move_over(tables: &Tables, plan: &mut Plan, chances: &mut Chances, op: u32, to: u32) -> bool {
+    let from = plan.operator(op);
     if !move_one(tables, plan, op, to) {
         return false;
     }
@@ -74,7 +89,7 @@ pub(crate) fn one_of(chances: &mut Chances, numbers: &[u32]) -> u32 {
 }
 
 /// Moves an operation, with its other half, to an operator where both may stand.
-fn move_one(tables: &Tables, plan: &mut Plan, op: u32, to: u32) -> bool {
+pub(crate) fn move_one(tables: &Tables, plan: &mut Plan, op: u32, to: u32) -> bool {
     let twin = tables.stands.twin(op);
     let alone = twin == NOBODY;
     if !tables.stands.may_stand(op, to) || !(alone || tables.stands.may_stand(twin, to)) {

@@ -14,6 +14,8 @@ pub(crate) struct Outputs {
     makers: Vec<u32>,
     /// By output and medium how long it is carried.
     times: Vec<u64>,
+    /// By output how long it is carried over a medium, in the mean of all media.
+    means: Vec<u64>,
     /// How many media there are.
     media: u32,
 }
@@ -29,6 +31,7 @@ impl Outputs {
             firsts: Vec::new(alloc),
             makers: Vec::new(alloc),
             times: Vec::new(alloc),
+            means: Vec::new(alloc),
             media: to_u32(media.len())?,
         };
         outputs.add_all(vertices, media)?;
@@ -56,13 +59,16 @@ impl Outputs {
         Ok(())
     }
 
-    /// Adds how long each medium carries an output of this length.
+    /// Adds how long each medium carries an output of this length, and the mean.
     fn add_times(&mut self, len: u32, media: &[Medium]) -> Result<(), OutOfMemory> {
+        let mut total = 0u64;
         for medium in media {
             let elements = u64::from(medium.per).saturating_mul(u64::from(len));
             let time = u64::from(medium.fixed).saturating_add(elements);
+            total = total.saturating_add(time);
             self.times.push(time)?;
         }
+        self.means.push(total / u64::from(self.media.max(1)))?;
         Ok(())
     }
 
@@ -101,14 +107,7 @@ impl Outputs {
 
     /// How long an output is carried over a medium, in the mean of all media.
     pub fn mean_time(&self, output: u32) -> u64 {
-        let mut total = 0u64;
-        for medium in 0..self.media {
-            total = total.saturating_add(self.time(output, medium));
-        }
-        if self.media == 0 {
-            0
-        } else {
-            total / u64::from(self.media)
-        }
+        let mean = date_at(self.means.as_slice(), output);
+        if mean == NEVER { 0 } else { mean }
     }
 }

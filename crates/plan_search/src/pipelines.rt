@@ -3,7 +3,7 @@ use crate::annealing::Best;
 use crate::depth_first::depth_first;
 use crate::judge::Judge;
 use crate::plan::Plan;
-use crate::ranks::by_rank;
+use crate::ranks::{by_rank, ranks};
 use crate::stages::Pipeline;
 use crate::tables::Tables;
 use std::alloc::Global;
@@ -21,7 +21,8 @@ pub(crate) fn try_pipelines(
 ) -> Result<(), OutOfMemory> {
     let mut plan = Plan::new(alloc, tables.operations as usize)?;
     let given = Vec::from_slice(alloc, best.plan.order.as_slice())?;
-    let ranked = by_rank(alloc, tables, given.as_slice(), 4)?;
+    let ranks = ranks(alloc, tables, given.as_slice(), 4)?;
+    let ranked = by_rank(alloc, ranks.as_slice(), given.as_slice())?;
     let deep = depth_first(alloc, tables, given.as_slice())?;
     for order in [&given, &ranked, &deep] {
         try_splits(tables, order.as_slice(), &mut plan, judge, best);

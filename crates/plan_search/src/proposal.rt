@@ -1,35 +1,40 @@
 //! The proposal: a plan that the search has found. Nothing is said of it, since a draft makes its schedule
 //! and refuses what cannot be placed.
 use crate::annealing::{Annealing, Best, anneal};
+use crate::clusters::Clusters;
+use crate::groups::{by_pace, groups};
+use crate::homes::Homes;
 use crate::judge::Judge;
-use crate::listing::{bit, list};
+use crate::listing::list;
 use crate::pipelines::try_pipelines;
 use crate::plan::Plan;
 use crate::random::Chances;
-use crate::ranks::by_rank;
+use crate::ranks::{by_rank, ranks};
 use crate::site::{Effort, Goal, Site, Stand};
 use crate::tables::Tables;
-use archi_graph::Medium;
 use std::alloc::Global;
 use syn_base::OutOfMemory;
 
 /// How many quarters of the mean time of what is carried count in ranks.
 const QUARTERS: [u64; 3] = [0, 4, 8];
 
-/// A plan that likely costs little by the goal: of the lists, where the period is to become short of the
-/// pipelines too, and of the changes of the best of them.
+/// How many quarters of the time of what is carried count as load of the operator of a cluster.
+const WEIGHTS: [u64; 3] = [0, 4, 16];
+
+/// A plan that likely costs little by the goal: of the lists, of those by clusters, where the period is to
+/// become short of the pipelines too, and of the changes of the best of them.
 pub fn propose(site: &Site, start: &[Stand], effort: Effort) -> Result<Vec<Stand>, OutOfMemory> {
     let tables = Tables::new(site)?;
-    let operators = groups(site.alloc, site.archi.media(), tables.stands.operators())?;
     let mut judge = Judge::new(site.alloc, &tables, effort.goal, site.archi.depth())?;
     let mut best = first(site.alloc, &tables, start, &mut judge)?;
-    let lists = try_lists(site.alloc, &tables, &operators, &mut judge, &mut best)?;
+    let lists = try_lists(site, &tables, effort.tries / 4, &mut judge, &mut best)?;
+    let clusters = try_clusters(site.alloc, &tables, effort.tries / 4, &mut judge, &mut best)?;
     if let Goal::Period = effort.goal {
         try_pipelines(site.alloc, &tables, &mut judge, &mut best)?;
     }
     let mut annealing = Annealing::new(site.alloc, tables.operations as usize)?;
     let mut chances = Chances::new(effort.seed);
-    let tries = effort.tries.saturating_sub(lists);
+    let tries = effort.tries.saturating_sub(lists).saturating_sub(clusters);
     anneal(
         &tables,
         tries,
@@ -54,70 +59,110 @@ fn first(
     Ok(Best { plan, cost })
 }
 
-/// The groups of operators, as bits, on which lists are tried: all, each alone, and each two at the same
-/// medium.
-fn groups(alloc: Global, media: &[Medium], operators: u32) -> Result<Vec<u32>, OutOfMemory> {
-    let mut groups = Vec::new(alloc);
-    groups.push(u32::MAX)?;
-    for operator in 0..operators {
-        groups.push(bit(operator))?;
-    }
-    for medium in media {
-        add_pairs(&mut groups, medium.stands.as_slice())?;
-    }
-    Ok(groups)
-}
-
-/// Adds each two of these operators.
-fn add_pairs(groups: &mut Vec<u32>, stands: &[u32]) -> Result<(), OutOfMemory> {
-    for (place, operator) in stands.iter().enumerate() {
-        add_pairs_of(groups, *operator, &stands[..place])?;
-    }
-    Ok(())
-}
-
-/// Adds this operator with each of the others.
-fn add_pairs_of(groups: &mut Vec<u32>, operator: u32, others: &[u32]) -> Result<(), OutOfMemory> {
-    for other in others {
-        let pair = bit(operator) | bit(*other);
-        if !groups.as_slice().contains(&pair) {
-            groups.push(pair)?;
-        }
-    }
-    Ok(())
-}
-
-/// Tries the lists of each weight of what is carried over each group. Returns how many.
+/// Tries lists over groups of operators, by each order, but only one group more than this many tries
+/// admit. Returns how many were tried.
 fn try_lists(
-    alloc: Global,
+    site: &Site,
     tables: &Tables,
-    groups: &[u32],
+    most: u32,
     judge: &mut Judge,
     best: &mut Best,
 ) -> Result<u32, OutOfMemory> {
-    let mut plan = Plan::new(alloc, tables.operations as usize)?;
-    let mut order = Plan::new(alloc, tables.operations as usize)?;
-    order.copy(&best.plan);
+    let mut plan = Plan::new(site.alloc, tables.operations as usize)?;
+    let orders = orders(site.alloc, tables, best.plan.order.as_slice())?;
+    let groups = groups(site.alloc, tables, site.archi.media())?;
     let mut count = 0u32;
-    for quarters in QUARTERS {
-        let ranked = by_rank(alloc, tables, order.order.as_slice(), quarters)?;
-        try_groups(tables, &ranked, groups, &mut plan, judge, best);
-        count = count.saturating_add(1);
+    for group in &groups {
+        if count == 0 || count < most {
+            count = count.saturating_add(try_group(
+                tables, &orders, *group, &mut plan, judge, best,
+            ));
+        }
     }
     Ok(count)
 }
 
-/// Tries the lists of an order over each group.
-fn try_groups(
+/// Tries the lists over a group of operators. Returns how many.
+fn try_group(
     tables: &Tables,
-    order: &[u32],
-    groups: &[u32],
+    orders: &[Vec<u32>],
+    group: u32,
     plan: &mut Plan,
     judge: &mut Judge,
     best: &mut Best,
-) {
-    for group in groups {
-        list(tables, order, *group, plan, &mut judge.dates);
+) -> u32 {
+    let mut count = 0u32;
+    for order in orders {
+        list(tables, order.as_slice(), group, plan, &mut judge.dates);
         best.note(plan, judge.cost(tables, plan));
+        count = count.saturating_add(1);
     }
+    count
+}
+
+/// The operations by falling rank, for each weight of what is carried, those of equal rank in the order of
+/// a plan, or by number.
+fn orders(alloc: Global, tables: &Tables, given: &[u32]) -> Result<Vec<Vec<u32>>, OutOfMemory> {
+    let numbers = by_number(alloc, tables)?;
+    let mut orders = Vec::new(alloc);
+    for quarters in QUARTERS {
+        let ranks = ranks(alloc, tables, given, quarters)?;
+        orders.push(by_rank(alloc, ranks.as_slice(), given)?)?;
+        orders.push(by_rank(alloc, ranks.as_slice(), numbers.as_slice())?)?;
+    }
+    Ok(orders)
+}
+
+/// The operations by number.
+fn by_number(alloc: Global, tables: &Tables) -> Result<Vec<u32>, OutOfMemory> {
+    let mut numbers = Vec::with_capacity(alloc, tables.operations as usize)?;
+    for op in 0..tables.operations {
+        numbers.push(op)?;
+    }
+    Ok(numbers)
+}
+
+/// Tries plans by clusters over the fastest operators, but only one number of them more than this many
+/// tries admit. Returns how many were tried.
+fn try_clusters(
+    alloc: Global,
+    tables: &Tables,
+    most: u32,
+    judge: &mut Judge,
+    best: &mut Best,
+) -> Result<u32, OutOfMemory> {
+    let given = best.plan.order.as_slice();
+    let ranks = ranks(alloc, tables, given, 4)?;
+    let order = by_rank(alloc, ranks.as_slice(), given)?;
+    let clusters = Clusters::new(alloc, tables, order)?;
+    let fastest = by_pace(alloc, tables)?;
+    let mut count = 0u32;
+    for used in 1..=fastest.len() {
+        if count == 0 || count < most {
+            let operators = &fastest.as_slice()[..used];
+            let tried = try_homes(alloc, tables, &clusters, operators, judge, best)?;
+            count = count.saturating_add(tried);
+        }
+    }
+    Ok(count)
+}
+
+/// Tries plans by clusters over these operators, by each weight of what is carried. Returns how many.
+fn try_homes(
+    alloc: Global,
+    tables: &Tables,
+    clusters: &Clusters,
+    operators: &[u32],
+    judge: &mut Judge,
+    best: &mut Best,
+) -> Result<u32, OutOfMemory> {
+    let mut plan = Plan::new(alloc, tables.operations as usize)?;
+    let mut count = 0u32;
+    for quarters in WEIGHTS {
+        let homes = Homes::new(alloc, tables, clusters, operators, quarters)?;
+        homes.fill(tables, &mut plan);
+        best.note(&plan, judge.cost(tables, &plan));
+        count = count.saturating_add(1);
+    }
+    Ok(count)
 }

@@ -4,21 +4,33 @@ use crate::tables::Tables;
 use std::alloc::Global;
 use syn_base::OutOfMemory;
 
-/// The operations by falling rank, those of equal rank in their old order, in which each stands after
-/// those it depends on. What is carried counts this many quarters of its mean time.
-pub(crate) fn by_rank(
+/// Parts of a tick in which ranks are counted.
+const PARTS: u64 = 64;
+
+/// How much follows each operation, in parts of a tick. What is carried counts this many quarters of its
+/// mean time. In the order each operation stands after those it depends on; its rank is less than theirs.
+pub(crate) fn ranks(
     alloc: Global,
     tables: &Tables,
     order: &[u32],
     quarters: u64,
-) -> Result<Vec<u32>, OutOfMemory> {
+) -> Result<Vec<u64>, OutOfMemory> {
     let mut ranks = vec![in alloc; 0; order.len()]?;
     for op in order.iter().rev() {
         let rank = rank_of(tables, &ranks, *op, quarters);
         put_date(ranks.as_mut_slice(), *op, rank);
     }
+    Ok(ranks)
+}
+
+/// The operations by falling rank, those of equal rank in their old order.
+pub(crate) fn by_rank(
+    alloc: Global,
+    ranks: &[u64],
+    order: &[u32],
+) -> Result<Vec<u32>, OutOfMemory> {
     let mut ranked = Vec::from_slice(alloc, order)?;
-    ranked.sort_by_key(|op| u64::MAX - date_at(ranks.as_slice(), *op))?;
+    ranked.sort_by_key(|op| u64::MAX - date_at(ranks, *op))?;
     Ok(ranked)
 }
 
@@ -27,9 +39,15 @@ fn rank_of(tables: &Tables, ranks: &[u64], op: u32, quarters: u64) -> u64 {
     let mut greatest = 0u64;
     for next in tables.links.after.of(op) {
         let carried = carried_to(tables, op, *next).saturating_mul(quarters) / 4;
-        greatest = greatest.max(date_at(ranks, *next).saturating_add(carried));
+        let follows = date_at(ranks, *next).saturating_add(carried.saturating_mul(PARTS));
+        greatest = greatest.max(follows);
     }
-    greatest.saturating_add(tables.stands.mean_ticks(op))
+    let own = tables
+        .stands
+        .mean_ticks(op)
+        .saturating_mul(PARTS)
+        .saturating_add(1);
+    greatest.saturating_add(own)
 }
 
 /// How long the outputs that one operation reads of another are carried in the mean.

@@ -1,6 +1,7 @@
 //! Pipelines: the operations in a given order, split into stages, each of which stands on an operator of its
 //! own, next to that of the stage before.
-use crate::listing::{beside, bit};
+use crate::filling::Filling;
+use crate::listing::bit;
 use crate::numbers::{NOBODY, number_at, put_number};
 use crate::plan::Plan;
 use crate::tables::Tables;
@@ -21,12 +22,11 @@ pub(crate) struct Pipeline {
     most: u64,
 }
 
-/// The stage that is filled, and where the next operation goes in the order of the plan.
+/// The stage that is filled.
 #[derive(Drop)]
-struct Filling {
-    stage: u32,
+struct Stage {
+    number: u32,
     load: u64,
-    place: u32,
 }
 
 impl Pipeline {
@@ -50,56 +50,30 @@ impl Pipeline {
     /// Splits an order into the stages.
     pub fn split(&self, tables: &Tables, order: &[u32], plan: &mut Plan) {
         plan.clear();
-        let mut filling = Filling {
-            stage: 0,
-            load: 0,
-            place: 0,
-        };
+        let mut filling = Filling::new();
+        let mut stage = Stage { number: 0, load: 0 };
         for op in order {
             if !tables.is_ready_made(*op) {
-                self.add(tables, plan, &mut filling, *op);
+                self.fill(tables, &mut stage, *op);
+                filling.add(tables, plan, *op, self.operator(stage.number));
             }
         }
     }
 
-    /// Places an operation, in the next stage where this one is full.
-    fn add(&self, tables: &Tables, plan: &mut Plan, filling: &mut Filling, op: u32) {
-        let now = self.operator(filling.stage);
+    /// Takes an operation into the stage, or into the next one where this one is full.
+    fn fill(&self, tables: &Tables, stage: &mut Stage, op: u32) {
+        let now = self.operator(stage.number);
         let ticks = if tables.stands.may_stand(op, now) {
             tables.stands.ticks(op, now)
         } else {
             0
         };
-        let last = filling.stage.saturating_add(1) >= self.stages;
-        if !last && filling.load.saturating_add(ticks / 2) > self.most {
-            filling.stage = filling.stage.saturating_add(1);
-            filling.load = 0;
+        let last = stage.number.saturating_add(1) >= self.stages;
+        if !last && stage.load.saturating_add(ticks / 2) > self.most {
+            stage.number = stage.number.saturating_add(1);
+            stage.load = 0;
         }
-        let half = plan.operator(tables.stands.get_half(op));
-        let operator = if half == NOBODY {
-            beside(tables, op, self.operator(filling.stage))
-        } else {
-            half
-        };
-        filling.load = filling.load.saturating_add(ticks);
-        put_sources(tables, plan, filling, op, operator);
-        put(plan, filling, op, operator);
-    }
-}
-
-/// Places an operation next.
-fn put(plan: &mut Plan, filling: &mut Filling, op: u32, operator: u32) {
-    plan.assign(op, operator);
-    plan.put(filling.place, op);
-    filling.place = filling.place.saturating_add(1);
-}
-
-/// Places those on which an operation depends and which are not placed.
-fn put_sources(tables: &Tables, plan: &mut Plan, filling: &mut Filling, op: u32, operator: u32) {
-    for source in tables.links.before.of(op) {
-        if plan.operator(*source) == NOBODY {
-            put(plan, filling, *source, beside(tables, *source, operator));
-        }
+        stage.load = stage.load.saturating_add(ticks);
     }
 }
 
