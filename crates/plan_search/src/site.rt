@@ -24,7 +24,7 @@ pub enum Goal {
     Period,
 }
 
-/// How long to search, and for what: so many plans are tried, by the chances of a seed.
+/// How long to search, and for what: this many tries, by the chances of a seed.
 #[derive(Clone, Copy, Debug, PartialEq, Eq)]
 pub struct Effort {
     pub tries: u32,
