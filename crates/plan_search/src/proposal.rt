@@ -27,23 +27,51 @@ pub fn propose(site: &Site, start: &[Stand], effort: Effort) -> Result<Vec<Stand
     let tables = Tables::new(site)?;
     let mut judge = Judge::new(site.alloc, &tables, effort.goal, site.archi.depth())?;
     let mut best = first(site.alloc, &tables, start, &mut judge)?;
-    let lists = try_lists(site, &tables, effort.tries / 4, &mut judge, &mut best)?;
-    let clusters = try_clusters(site.alloc, &tables, effort.tries / 4, &mut judge, &mut best)?;
-    if let Goal::Period = effort.goal {
-        try_pipelines(site.alloc, &tables, &mut judge, &mut best)?;
-    }
-    let mut annealing = Annealing::new(site.alloc, tables.operations as usize)?;
-    let mut chances = Chances::new(effort.seed);
-    let tries = effort.tries.saturating_sub(lists).saturating_sub(clusters);
-    anneal(
-        &tables,
-        tries,
-        &mut annealing,
-        &mut judge,
-        &mut chances,
-        &mut best,
-    );
+    let tried = try_starts(site, &tables, effort, &mut judge, &mut best)?;
+    let left = Effort {
+        tries: effort.tries.saturating_sub(tried),
+        ..effort
+    };
+    try_changes(site.alloc, &tables, left, &mut judge, &mut best)?;
     best.plan.stands(site.alloc)
+}
+
+/// Tries what changes may begin with. Returns how many tries that were.
+fn try_starts(
+    site: &Site,
+    tables: &Tables,
+    effort: Effort,
+    judge: &mut Judge,
+    best: &mut Best,
+) -> Result<u32, OutOfMemory> {
+    let most = effort.tries / 4;
+    let lists = try_lists(site, tables, most, judge, best)?;
+    let clusters = try_clusters(site.alloc, tables, most, judge, best)?;
+    if let Goal::Period = effort.goal {
+        try_pipelines(site.alloc, tables, judge, best)?;
+    }
+    Ok(lists.saturating_add(clusters))
+}
+
+/// Tries changes of the best plan.
+fn try_changes(
+    alloc: Global,
+    tables: &Tables,
+    effort: Effort,
+    judge: &mut Judge,
+    best: &mut Best,
+) -> Result<(), OutOfMemory> {
+    let mut annealing = Annealing::new(alloc, tables.operations as usize)?;
+    let mut chances = Chances::new(effort.seed);
+    anneal(
+        tables,
+        effort.tries,
+        &mut annealing,
+        judge,
+        &mut chances,
+        best,
+    );
+    Ok(())
 }
 
 /// The plan by which a schedule was made, as the best one so far.

@@ -22,7 +22,7 @@ impl Chances {
         if bound == 0 { 0 } else { word % bound }
     }
 
-    /// Whether a chance of so many out of a hundred holds.
+    /// Whether a chance of this many out of a hundred holds.
     pub fn holds(&mut self, hundredths: u32) -> bool {
         self.below(100) < hundredths
     }

@@ -30,7 +30,7 @@ struct Stage {
 }
 
 impl Pipeline {
-    /// This many stages, the first one on this operator, whose operations last together at most so many
+    /// This many stages, the first one on this operator, whose operations last together at most this many
     /// eighths of an equal part.
     pub fn new(tables: &Tables, first: u32, stages: u32, eighths: u64) -> Pipeline {
         let operators = operators_from(tables, first);
