@@ -6,7 +6,10 @@ schedule, the length of the pressure run, of list schedules by upward ranks comp
 insertion), of what the search finds at each number of tries, and its seconds of the processor. At the end the geometric
 means of the ratios to the pressure run.
 
-    search.py [--program FILE] [--for length|period] [--tries N,N,..] [--most OPERATIONS]
+    search.py [--program FILE] [--for length|period] [--tries N,N,..] [--most OPERATIONS] [--dense]
+
+With `--dense` it tells instead how long 1, 100 and 1,000 tries take over 2,048 operations that read up to 64 values each, and
+have most of them carried.
 
 With `--for period` the numbers are periods in thousandths of a tick, over the last 25 of 50 reactions, and there is no
 bound and no HEFT. A schedule that is longer, or slower, than the pressure run or than HEFT is marked."""
@@ -20,6 +23,7 @@ import sys
 import tempfile
 
 from program import TOP, written
+from shapes import carrying
 
 TRIES = (2_000, 20_000, 200_000)
 LAB = os.path.join(TOP, "crates", "syndex_lab", "out", "syndex_lab")
@@ -347,15 +351,29 @@ def row(options, name, operations, files, plain, means):
     print(" ".join(words), flush=True)
 
 
+def tell_dense(options):
+    """How long the search takes where most operations have something carried for them."""
+    with tempfile.TemporaryDirectory() as room:
+        for name, texts in carrying().items():
+            files = [written(room, kind, text) for kind, text in zip(("algorithm", "architecture"), texts)]
+            for tries in (1, 100, 1_000):
+                found, bound, seconds = report(options, files, tries)
+                print(f"{name}, {tries} tries: {found}, bound {bound}, {seconds:.2f} s of the processor", flush=True)
+
+
 def main():
     options = argparse.ArgumentParser(description=__doc__, formatter_class=argparse.RawDescriptionHelpFormatter)
     options.add_argument("--program", default=LAB)
     options.add_argument("--for", dest="goal", choices=("length", "period"), default="length")
     options.add_argument("--tries", type=lambda text: [int(it) for it in text.split(",")], default=list(TRIES))
     options.add_argument("--most", type=int, default=2048)
+    options.add_argument("--dense", action="store_true")
     options = options.parse_args()
     if not os.access(options.program, os.X_OK):
         sys.exit("search: syndex_lab is not built: run ./build first, or name a program")
+    if options.dense:
+        tell_dense(options)
+        return
     heads = "".join(f"{it:>9}{'s':>8}" for it in options.tries)
     print(f"{'design':52}{'ops':>6}{'bound':>8}{'run':>8}{'HEFT':>8} {heads}")
     means = Means()
