@@ -1,10 +1,15 @@
 #!/usr/bin/env python3
-"""The processor time of the gate, crate by crate: for its proof, its tests and its must-fail edits.
+"""The processor time of the gate, crate by crate: for its proof, the code of a program, its tests and
+its must-fail edits.
 
     tools/gate.py ci               runs `rt ci` and measures it: while it runs, the time of each process
                                    of the prover is looked at every half second, and booked on the crate
                                    and the kind of work that its words name. A process's last half
-                                   second is not seen.
+                                   second is not seen. Each proof has one processor: left to itself,
+                                   rt gives a proof those that are idle, which takes a tenth more of
+                                   them, and starts it only where its estimate of memory fits, which is
+                                   three times what a proof takes. RT_JOBS, where it is set, says how
+                                   many proofs run side by side.
     tools/gate.py parts [NAME..]   measures the parts themselves, one crate at a time, in a copy of the
                                    repository: the tests from nothing, the proof from nothing, the edits
                                    that stand in the gate. Crates below those named are proved first,
@@ -22,7 +27,9 @@ import time
 from repository import TOP, Listing, files, text_of
 
 TICK = os.sysconf("SC_CLK_TCK")
-KINDS = ("proof", "tests", "edits")
+KINDS = ("proof", "code", "tests", "edits")
+# The most memory that one proof has been seen to take, in bytes, and some more.
+MEMORY = 4_000_000_000
 
 
 class Table:
@@ -36,7 +43,8 @@ class Table:
         row[kind] += seconds
 
     def show(self):
-        print(f"{'crate':24}{'proof':>8}{'tests':>8}{'edits':>8}{'all':>8}  minutes of a processor")
+        head = "".join(f"{kind:>8}" for kind in (*KINDS, "all"))
+        print(f"{'crate':24}{head}  minutes of a processor")
         for name, row in sorted(self.seconds.items(), key=lambda it: -sum(it[1].values())):
             self.line(name, [row[kind] for kind in KINDS])
         self.line("all", [sum(row[kind] for row in self.seconds.values()) for kind in KINDS])
@@ -53,6 +61,8 @@ def work_of(words, folder):
     name = words[words.index("--crate-name") + 1]
     if os.path.basename(folder).startswith("rt-edit-"):
         return name, "edits"
+    if "--crate-checked" in words:
+        return name, "code"
     return name, "tests" if "--test" in words else "proof"
 
 
@@ -94,10 +104,17 @@ def watch(process):
     return table
 
 
+def lanes():
+    """How many proofs run side by side: one a processor, as far as the memory serves that is there."""
+    memory = os.sysconf("SC_PAGE_SIZE") * os.sysconf("SC_PHYS_PAGES")
+    return max(1, min(len(os.sched_getaffinity(0)), memory // MEMORY))
+
+
 def measure_ci():
     """Runs the gate with its own output, and prints the table."""
     start = time.monotonic()
-    with subprocess.Popen(["rt", "ci"], cwd=TOP, stdin=subprocess.DEVNULL) as process:
+    how = {"cwd": TOP, "stdin": subprocess.DEVNULL, "env": {"RT_JOBS": str(lanes()), **os.environ}}
+    with subprocess.Popen(["rt", "ci"], **how) as process:
         try:
             table = watch(process)
         except (OSError, ValueError, IndexError) as fault:
