@@ -1,13 +1,10 @@
 //! Tests of calls of the pipeline over one small algorithm on two operators, as far as the commands tell nothing of
-//! what they return: the decisions of a draft and of the pressure run, and the serial order of the program; and of
-//! `plain_command`.
+//! what they return: the decisions of a draft and of the pressure run, and the serial order of the program.
 //!
 //! What they return is compared with values that were worked by hand. The crate has tests alone, which stand apart
 //! from the crates that they call, so that those are proved once.
 #![tactic(auto)]
 
-#[cfg(test)]
-mod commands;
 #[cfg(test)]
 mod placing;
 #[cfg(test)]

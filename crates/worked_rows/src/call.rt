@@ -16,7 +16,7 @@ use std::sync::Wait;
 use std::thread::Threads;
 use std::{io, str};
 use syn_base::Items;
-use syndex_program::syndex;
+use syndex_program::{plain_command, syndex};
 use word_table::Driven;
 
 /// What a call reads and writes, and what it drives.
@@ -100,19 +100,41 @@ pub fn answered<R: AllocGlobal + Threads + Wait + Sync>(
     gate: &CallGate,
 ) -> u8 {
     let alloc = rt.alloc();
+    if is_called(words, "syndex_plain") {
+        return answered_plainly(alloc, words, outside);
+    }
     let Outside {
         shelf,
         out,
         err,
         driven,
     } = outside;
-    if words
-        .first()
-        .is_some_and(|word| word.as_str() == "syndex_lab")
-    {
+    if is_called(words, "syndex_lab") {
         return syndex_lab(alloc, words, shelf, out, err).number();
     }
     syndex(rt, alloc, words, shelf, out, err, gate, driven).number()
+}
+
+/// Whether the first word, which names the program, is this one.
+fn is_called(words: &[String], name: &str) -> bool {
+    words.first().is_some_and(|word| word.as_str() == name)
+}
+
+/// What stands in the transcript for a command that `plain_command` leaves, which is the number of no status.
+const LEFT: u8 = 255;
+
+/// The number of the status that `plain_command` answers.
+fn answered_plainly(alloc: Global, words: &[String], outside: &mut Outside) -> u8 {
+    let Outside {
+        shelf,
+        out,
+        err,
+        ..
+    } = outside;
+    match plain_command(alloc, words, shelf, out, err) {
+        Some(status) => status.number(),
+        None => LEFT,
+    }
 }
 
 /// Writes the output of a call, its line, its status, and what else is asked for.

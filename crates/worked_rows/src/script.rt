@@ -6,8 +6,8 @@
 pub enum Line<'a> {
     /// An empty line, or a comment after `#`: it goes into the transcript.
     Comment,
-    /// `$ WORDS`: a call of the program with these words, of which the first is its own name: `syndex_lab`, or any other
-    /// word for `syndex`.
+    /// `$ WORDS`: a call of the program with these words, of which the first is its own name: `syndex_lab`,
+    /// `syndex_plain` for `plain_command`, or any other word for `syndex`.
     Call(&'a str),
     /// `file NAME`: the lines up to the next such one write this file, in place of an earlier one.
     File(&'a str),
