@@ -6,7 +6,7 @@ ghost use Rattle.schedule.specs.Valid.{is_valid};
 ghost use Rattle.lab_plans.specs.Asked.{IsFound};
 ghost use Rattle.lab_words.specs.Command.{Effort as Tried, for_length, for_period};
 ghost use Rattle.lab_words.specs.View.{effort_view, goal_view};
-ghost use Rattle.plan_search.specs.declared.site.Goal.TheVariants.{Length, Period};
+ghost use Rattle.plan_costs.specs.declared.site.Goal.TheVariants.{Length, Period};
 ghost use Rattle.lab_program.specs.Found.{Builds, problem_of};
 
 use command_status::Status;

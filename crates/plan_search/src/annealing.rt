@@ -1,12 +1,8 @@
 //! Threshold accepting: random changes of a plan, of which those are kept by which it costs less, and those
 //! by which it costs more by less than a threshold, which falls to nothing.
-use crate::chain::Chain;
-use crate::judge::Judge;
 use crate::moves::change;
-use crate::numbers::NOBODY;
-use crate::plan::Plan;
 use crate::random::Chances;
-use crate::tables::Tables;
+use plan_costs::{Chain, Judge, NOBODY, Plan, Tables};
 use std::alloc::Global;
 use syn_base::OutOfMemory;
 

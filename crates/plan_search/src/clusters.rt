@@ -1,6 +1,5 @@
 //! Clusters: chains of operations, each of which is to stand on one operator, so that little is carried.
-use crate::numbers::{NOBODY, number_at, put_number};
-use crate::tables::Tables;
+use plan_costs::{NOBODY, Tables, number_at, put_number};
 use std::alloc::Global;
 use syn_base::{OutOfMemory, to_u32};
 

@@ -1,10 +1,7 @@
 //! Changes of a plan that move many operations at once.
-use crate::lists::Lists;
 use crate::moves::move_one;
-use crate::numbers::{NOBODY, number_at};
-use crate::plan::Plan;
 use crate::random::Chances;
-use crate::tables::Tables;
+use plan_costs::{Lists, NOBODY, Plan, Tables, number_at};
 
 /// How many operations a chain has at most, by chance.
 const LENGTHS: [u32; 12] = [1, 2, 4, 8, 16, 32, 64, 128, 256, 512, 1024, 2048];

@@ -1,7 +1,6 @@
 //! An order of the operations that goes from each as soon as it may to those that depend on it, so that what
 //! belongs together stands together.
-use crate::numbers::{NOBODY, number_at, put_number};
-use crate::tables::Tables;
+use plan_costs::{NOBODY, Tables, number_at, put_number};
 use std::alloc::Global;
 use syn_base::OutOfMemory;
 

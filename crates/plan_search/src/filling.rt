@@ -1,8 +1,6 @@
 //! A plan that is filled in order.
 use crate::listing::beside;
-use crate::numbers::NOBODY;
-use crate::plan::Plan;
-use crate::tables::Tables;
+use plan_costs::{NOBODY, Plan, Tables};
 
 /// Where the next operation goes in the order of a plan.
 #[derive(Drop)]

@@ -1,8 +1,7 @@
 //! The groups of operators on which lists are tried.
 use crate::listing::bit;
-use crate::numbers::date_at;
-use crate::tables::Tables;
 use archi_graph::Medium;
+use plan_costs::{Tables, date_at};
 use std::alloc::Global;
 use syn_base::OutOfMemory;
 

@@ -1,9 +1,7 @@
 //! The operators on which clusters stand.
 use crate::clusters::Clusters;
 use crate::filling::Filling;
-use crate::numbers::{NEVER, NOBODY, date_at, number_at, put_date, put_number};
-use crate::plan::Plan;
-use crate::tables::Tables;
+use plan_costs::{NEVER, NOBODY, Plan, Tables, date_at, number_at, put_date, put_number};
 use std::alloc::Global;
 use syn_base::OutOfMemory;
 

@@ -9,33 +9,22 @@
 //! proposed by a draft, and gives up what cannot be placed.
 #![tactic(auto)]
 
-mod acts;
 mod annealing;
-mod chain;
 mod clusters;
 mod crowds;
-mod dates;
 mod depth_first;
+mod effort;
 mod filling;
 mod groups;
 mod homes;
-mod judge;
-mod links;
 mod listing;
-mod lists;
 mod moves;
-mod numbers;
-mod outputs;
 mod pipelines;
-mod plan;
 mod proposal;
 mod random;
 mod ranks;
-mod reactions;
-mod site;
 mod stages;
-mod stands;
-mod tables;
 
+pub use effort::Effort;
+pub use plan_costs::{Goal, Site, Stand};
 pub use proposal::propose;
-pub use site::{Effort, Goal, Site, Stand};

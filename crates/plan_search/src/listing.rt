@@ -1,8 +1,5 @@
 //! List schedules: operations in a given order, each where it ends first.
-use crate::dates::Dates;
-use crate::numbers::{NEVER, NOBODY};
-use crate::plan::Plan;
-use crate::tables::Tables;
+use plan_costs::{Dates, NEVER, NOBODY, Plan, Tables};
 
 /// The plan of a list schedule: in the order, each operation on the operator of these (as bits) where it
 /// ends first, or on any other where it may stand on none of them. Those that are ready made are placed

@@ -1,9 +1,7 @@
 //! Random changes of a plan.
 use crate::crowds::{exchange, move_chain};
-use crate::numbers::{NOBODY, number_at};
-use crate::plan::Plan;
 use crate::random::Chances;
-use crate::tables::Tables;
+use plan_costs::{NOBODY, Plan, Tables, number_at};
 
 /// Moves an operation to another operator, or to another place of the order. Returns whether that
 /// changed the plan.

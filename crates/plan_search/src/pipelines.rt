@@ -1,11 +1,9 @@
 //! Which pipelines a search tries for a short period.
 use crate::annealing::Best;
 use crate::depth_first::depth_first;
-use crate::judge::Judge;
-use crate::plan::Plan;
 use crate::ranks::{by_rank, ranks};
 use crate::stages::Pipeline;
-use crate::tables::Tables;
+use plan_costs::{Judge, Plan, Tables};
 use std::alloc::Global;
 use syn_base::OutOfMemory;
 

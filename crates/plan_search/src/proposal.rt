@@ -2,16 +2,14 @@
 //! and refuses what cannot be placed.
 use crate::annealing::{Annealing, Best, anneal};
 use crate::clusters::Clusters;
+use crate::effort::Effort;
 use crate::groups::{by_pace, groups};
 use crate::homes::Homes;
-use crate::judge::Judge;
 use crate::listing::list;
 use crate::pipelines::try_pipelines;
-use crate::plan::Plan;
 use crate::random::Chances;
 use crate::ranks::{by_rank, ranks};
-use crate::site::{Effort, Goal, Site, Stand};
-use crate::tables::Tables;
+use plan_costs::{Goal, Judge, Plan, Site, Stand, Tables};
 use std::alloc::Global;
 use syn_base::OutOfMemory;
 

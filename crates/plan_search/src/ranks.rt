@@ -1,6 +1,5 @@
 //! Upward ranks: how much follows an operation, with what is carried. By them lists are ordered.
-use crate::numbers::{date_at, put_date};
-use crate::tables::Tables;
+use plan_costs::{Tables, date_at, put_date};
 use std::alloc::Global;
 use syn_base::OutOfMemory;
 

@@ -2,9 +2,7 @@
 //! own, next to that of the stage before.
 use crate::filling::Filling;
 use crate::listing::bit;
-use crate::numbers::{NOBODY, number_at, put_number};
-use crate::plan::Plan;
-use crate::tables::Tables;
+use plan_costs::{NOBODY, Plan, Tables, number_at, put_number};
 
 /// The most operators.
 const OPERATORS: usize = 16;

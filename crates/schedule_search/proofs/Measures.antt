@@ -17,9 +17,9 @@ use Rattle.pressure_heuristic.specs.Tasks.{task}
 use Rattle.self_timed_laws.specs.Entries.{stated}
 use Rattle.self_timed.specs.Told.{IsValidForSome}
 use Rattle.self_timed_period.specs.Period.{OneOperatorHasItsLengthAsPeriod}
-use Rattle.plan_search.specs.declared.site.Goal.{Goal}
-use Rattle.plan_search.specs.declared.site.Goal.TheVariants.{Length, Period}
-use Rattle.plan_search.specs.declared.site.Site.{Site}
+use Rattle.plan_costs.specs.declared.site.Goal.{Goal}
+use Rattle.plan_costs.specs.declared.site.Goal.TheVariants.{Length, Period}
+use Rattle.plan_costs.specs.declared.site.Site.{Site}
 use Rattle.schedule_search.specs.declared.measured.Measured.{Measured}
 use Rattle.schedule_search.specs.Alone.{IsAlone, IsLone, IsLowAlone, IsLowOn, MayAllStandOn}
 use Rattle.schedule_search.specs.Drafts.{IsMeasured, IsValidIn, site_task}

@@ -21,7 +21,7 @@ use Rattle.comm_routing.specs.Placing.{decision, is_candidate, is_placed, may_pl
 use Rattle.comm_routing.proofs.Arrivals.{placed_rightly_behind}
 use Rattle.comm_routing.proofs.Sites.{site_of}
 use Rattle.self_timed_laws.specs.Entries.{stated}
-use Rattle.plan_search.specs.declared.site.Site.{Site}
+use Rattle.plan_costs.specs.declared.site.Site.{Site}
 use Rattle.pressure_heuristic.specs.Pressure.{operations}
 use Rattle.pressure_heuristic.proofs.Lists.{left, none_left}
 use Rattle.pressure_heuristic.proofs.Whole.{all_of, left_within}

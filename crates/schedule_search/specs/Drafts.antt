@@ -12,8 +12,8 @@ use Rattle.comm_routing.specs.Given.{IsTask}
 use Rattle.comm_routing.specs.Laws.{AreRight}
 use Rattle.comm_routing.specs.Placing.{is_candidate}
 use Rattle.comm_routing.specs.Draft.{Drafted, task_of}
-use Rattle.plan_search.specs.declared.site.Goal.{Goal}
-use Rattle.plan_search.specs.declared.site.Site.{Site}
+use Rattle.plan_costs.specs.declared.site.Goal.{Goal}
+use Rattle.plan_costs.specs.declared.site.Site.{Site}
 use Rattle.schedule_search.specs.declared.measured.Measured.{Measured}
 use Rattle.schedule_search.specs.Found.{measure}
 

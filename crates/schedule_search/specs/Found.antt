@@ -11,8 +11,8 @@ use Rattle.self_timed_period.specs.Period.{period_of_schedule}
 use Rattle.comm_routing.specs.Placing.{ticks_in}
 use Rattle.pressure_heuristic.specs.Pressure.{pressure_run}
 use Rattle.pressure_heuristic.specs.Tasks.{task}
-use Rattle.plan_search.specs.declared.site.Goal.{Goal}
-use Rattle.plan_search.specs.declared.site.Goal.TheVariants.{Length, Period}
+use Rattle.plan_costs.specs.declared.site.Goal.{Goal}
+use Rattle.plan_costs.specs.declared.site.Goal.TheVariants.{Length, Period}
 
 -- it is no longer than the pressure run over the least routes
 abbrev pub IsNoLongerThanRun : Graph → Architecture → Table → Schedule → Type 0

@@ -4,7 +4,7 @@ ghost use Rattle.durations.specs.Fitting.{IsOf};
 ghost use Rattle.durations.specs.Table.{entry_in};
 ghost use Rattle.schedule.specs.Valid.{is_valid};
 ghost use Rattle.pressure_heuristic.specs.Adequation.{IsPressureRun};
-ghost use Rattle.plan_search.specs.declared.site.Goal.TheVariants.{Length, Period};
+ghost use Rattle.plan_costs.specs.declared.site.Goal.TheVariants.{Length, Period};
 ghost use Rattle.schedule_search.specs.Alone.{IsLowAlone};
 ghost use Rattle.schedule_search.specs.Drafts.{IsMeasured, IsSite, IsValidIn, site_task};
 ghost use Rattle.schedule_search.specs.Found.{IsNoLongerThanAlone, IsNoLongerThanRun, IsNoSlowerThanAlone, IsNoSlowerThanRun, measure};

@@ -6,7 +6,7 @@ use syn_base::OutOfMemory;
 
 /// An order of the operations, and an operator for each.
 #[derive(Drop)]
-pub(crate) struct Plan {
+pub struct Plan {
     /// The operations in their order.
     pub order: Vec<u32>,
     /// By operation its place in the order.

@@ -2,13 +2,13 @@
 //! is written there is lost. So the untrusted part of the search is safe whatever it computes.
 
 /// What stands where there is no operation and no operator.
-pub(crate) const NOBODY: u32 = u32::MAX;
+pub const NOBODY: u32 = u32::MAX;
 
 /// The date of what does not happen.
-pub(crate) const NEVER: u64 = u64::MAX;
+pub const NEVER: u64 = u64::MAX;
 
 /// The number at a place, `NOBODY` where there is none.
-pub(crate) fn number_at(numbers: &[u32], place: u32) -> u32 {
+pub fn number_at(numbers: &[u32], place: u32) -> u32 {
     match numbers.get(place as usize) {
         Some(number) => *number,
         None => NOBODY,
@@ -16,7 +16,7 @@ pub(crate) fn number_at(numbers: &[u32], place: u32) -> u32 {
 }
 
 /// The date at a place, `NEVER` where there is none.
-pub(crate) fn date_at(dates: &[u64], place: u32) -> u64 {
+pub fn date_at(dates: &[u64], place: u32) -> u64 {
     match dates.get(place as usize) {
         Some(date) => *date,
         None => NEVER,
@@ -24,14 +24,14 @@ pub(crate) fn date_at(dates: &[u64], place: u32) -> u64 {
 }
 
 /// Writes a number at a place, if there is one.
-pub(crate) fn put_number(numbers: &mut [u32], place: u32, number: u32) {
+pub fn put_number(numbers: &mut [u32], place: u32, number: u32) {
     if let Some(it) = numbers.get_mut(place as usize) {
         *it = number;
     }
 }
 
 /// Writes a date at a place, if there is one.
-pub(crate) fn put_date(dates: &mut [u64], place: u32, date: u64) {
+pub fn put_date(dates: &mut [u64], place: u32, date: u64) {
     if let Some(it) = dates.get_mut(place as usize) {
         *it = date;
     }

@@ -7,7 +7,7 @@ use syn_base::OutOfMemory;
 
 /// By operation the outputs that it reads, those on which it depends, and those that depend on it.
 #[derive(Drop)]
-pub(crate) struct Links {
+pub struct Links {
     pub reads: Lists,
     pub before: Lists,
     pub after: Lists,

@@ -9,7 +9,7 @@ use syn_base::{OutOfMemory, to_u32};
 
 /// The operations and the architecture.
 #[derive(Drop)]
-pub(crate) struct Tables<'a> {
+pub struct Tables<'a> {
     /// How many operations there are.
     pub operations: u32,
     pub outputs: Outputs,

@@ -5,7 +5,7 @@ use syn_base::OutOfMemory;
 
 /// Operations, the last one first.
 #[derive(Drop)]
-pub(crate) struct Chain {
+pub struct Chain {
     ops: Vec<u32>,
     /// How many of the places are used.
     pub links: u32,

@@ -1,4 +1,4 @@
-//! What a search is asked for: what is to be scheduled, on what, and how long to look.
+//! What is to be scheduled, on what, and what is to become short.
 use archi_graph::Archi;
 use durations::Durations;
 use flat_graph::Flat;
@@ -22,14 +22,6 @@ pub enum Goal {
     Length,
     /// The time from one reaction to the next, where each operation and each transfer starts as soon as it may.
     Period,
-}
-
-/// How long to search, and for what: this many tries, by the chances of a seed.
-#[derive(Clone, Copy, Debug, PartialEq, Eq)]
-pub struct Effort {
-    pub tries: u32,
-    pub seed: u64,
-    pub goal: Goal,
 }
 
 /// An operation on an operator. A plan is a list of these, in the order in which they are placed.

@@ -19,7 +19,7 @@ struct Pace {
 
 /// Who says what a plan costs.
 #[derive(Drop)]
-pub(crate) struct Judge {
+pub struct Judge {
     /// The dates of one reaction, which make lists, and are the cost where there is no pace.
     pub dates: Dates,
     /// What is looked at where the period is to become short.

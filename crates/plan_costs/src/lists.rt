@@ -4,7 +4,7 @@ use syn_base::OutOfMemory;
 
 /// For each number from 0 on a list of numbers.
 #[derive(Drop)]
-pub(crate) struct Lists {
+pub struct Lists {
     lists: Vec<Vec<u32>>,
 }
 

@@ -19,7 +19,7 @@ struct Arrival {
 
 /// What was done so far.
 #[derive(Drop)]
-pub(crate) struct Dates {
+pub struct Dates {
     /// By output and operator since when it is held there, or `NEVER`.
     held: Vec<u64>,
     /// By operation its end.

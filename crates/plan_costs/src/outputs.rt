@@ -7,7 +7,7 @@ use syn_base::{OutOfMemory, to_u32};
 
 /// The outputs by number.
 #[derive(Drop)]
-pub(crate) struct Outputs {
+pub struct Outputs {
     /// By operation the number of its first output, and one more at the end.
     firsts: Vec<u32>,
     /// By output the operation that makes it.

@@ -7,7 +7,7 @@ use syn_base::OutOfMemory;
 
 /// By operation its durations, and its half of a delay.
 #[derive(Drop)]
-pub(crate) struct Stands {
+pub struct Stands {
     /// How many operators there are.
     operators: u32,
     /// By operation and operator how long it lasts, `NEVER` where it may not stand.
