@@ -6,7 +6,9 @@ schedule, the length of the pressure run, of list schedules by upward ranks comp
 insertion), of what the search finds at each number of tries, and its seconds of the processor. At the end the geometric
 means of the ratios to the pressure run.
 
-    search.py [--program FILE] [--for length|period] [--tries N,N,..] [--most OPERATIONS] [--dense]
+    search.py [--program FILE] [--for length|period] [--tries N,N,..] [--most OPERATIONS] [--jobs N] [--dense]
+
+With `--jobs` as many designs are tried side by side: more of them than there are processors would not end sooner.
 
 With `--dense` it tells instead how long 1, 100 and 1,000 tries take over 2,048 operations that read up to 64 values each, and
 have most of them carried.
@@ -14,6 +16,7 @@ have most of them carried.
 With `--for period` the numbers are periods in thousandths of a tick, over the last 25 of 50 reactions, and there is no
 bound and no HEFT. A schedule that is longer, or slower, than the pressure run or than HEFT is marked."""
 import argparse
+import concurrent.futures
 import math
 import os
 import random
@@ -336,19 +339,33 @@ class Means:
             print(f"{column}: {math.exp(sum(logs) / len(logs)):.3f} of the pressure run in the geometric mean of {len(logs)} designs")
 
 
-def row(options, name, operations, files, plain, means):
-    """A line of the table."""
+def row(options, name, operations, files, plain):
+    """A line of the table, and the ratios to the pressure run by column."""
     run, bound, _ = report(options, files, 0)
-    words = [f"{name:52}{operations:6}{bound:8}{run:8}{plain if plain else '':>8}"]
+    words, ratios = [f"{name:52}{operations:6}{bound:8}{run:8}{plain if plain else '':>8}"], []
     if plain and run:
-        means.add("HEFT", plain / run)
+        ratios.append(("HEFT", plain / run))
     for tries in options.tries:
         found, _, seconds = report(options, files, tries)
         mark = "!" if found > run or plain and found > plain else ""
         words.append(f"{found:8}{mark:1}{seconds:7.2f}")
         if run:
-            means.add(f"{tries} tries", found / run)
-    print(" ".join(words), flush=True)
+            ratios.append((f"{tries} tries", found / run))
+    return " ".join(words), ratios
+
+
+def example_row(options, name):
+    """The line of an example."""
+    return row(options, name, "", [f"{TOP}/examples/{name}/{it}.txt" for it in ("algorithm", "architecture")], None)
+
+
+def design_row(options, number):
+    """The line of a design, by its number."""
+    design, machine = list(designs(options.most))[number]
+    with tempfile.TemporaryDirectory() as room:
+        files = [written(room, "algorithm", design.text), written(room, "architecture", machine.text(design.operations))]
+        plain = heft(design, machine) if options.goal == "length" else None
+        return row(options, f"{design.name}, {machine.name}", len(design.operations), files, plain)
 
 
 def tell_dense(options):
@@ -367,6 +384,7 @@ def main():
     options.add_argument("--for", dest="goal", choices=("length", "period"), default="length")
     options.add_argument("--tries", type=lambda text: [int(it) for it in text.split(",")], default=list(TRIES))
     options.add_argument("--most", type=int, default=2048)
+    options.add_argument("--jobs", type=int, default=1)
     options.add_argument("--dense", action="store_true")
     options = options.parse_args()
     if not os.access(options.program, os.X_OK):
@@ -377,16 +395,21 @@ def main():
     heads = "".join(f"{it:>9}{'s':>8}" for it in options.tries)
     print(f"{'design':52}{'ops':>6}{'bound':>8}{'run':>8}{'HEFT':>8} {heads}")
     means = Means()
-    for name in sorted(os.listdir(f"{TOP}/examples")):
-        files = [f"{TOP}/examples/{name}/{it}.txt" for it in ("algorithm", "architecture")]
-        if all(os.path.isfile(it) for it in files):
-            row(options, name, "", files, None, means)
-    with tempfile.TemporaryDirectory() as room:
-        for design, machine in designs(options.most):
-            files = [written(room, "algorithm", design.text), written(room, "architecture", machine.text(design.operations))]
-            plain = heft(design, machine) if options.goal == "length" else None
-            row(options, f"{design.name}, {machine.name}", len(design.operations), files, plain, means)
+    examples = [it for it in sorted(os.listdir(f"{TOP}/examples")) if has_design(f"{TOP}/examples/{it}")]
+    numbers = range(len(list(designs(options.most))))
+    with concurrent.futures.ProcessPoolExecutor(options.jobs) as pool:
+        rows = [pool.submit(example_row, options, it) for it in examples]
+        rows += [pool.submit(design_row, options, it) for it in numbers]
+        for line, ratios in (it.result() for it in rows):
+            print(line, flush=True)
+            for column, ratio in ratios:
+                means.add(column, ratio)
     means.show()
+
+
+def has_design(folder):
+    """Whether an example has an algorithm and an architecture of these names."""
+    return all(os.path.isfile(f"{folder}/{it}.txt") for it in ("algorithm", "architecture"))
 
 
 if __name__ == "__main__":
