@@ -6,10 +6,10 @@ its must-fail edits.
                                    of the prover is looked at every half second, and booked on the crate
                                    and the kind of work that its words name. A process's last half
                                    second is not seen. Each proof has one processor: left to itself,
-                                   rt gives a proof those that are idle, which takes a tenth more of
-                                   them, and starts it only where its estimate of memory fits, which is
-                                   three times what a proof takes. RT_JOBS, where it is set, says how
-                                   many proofs run side by side.
+                                   rt gives a proof those that are idle, which takes more of them in
+                                   all, and starts it only where its estimate of memory fits, which is
+                                   two to three times what a proof takes. RT_JOBS, where it is set,
+                                   says how many proofs run side by side.
     tools/gate.py parts [NAME..]   measures the parts themselves, one crate at a time, in a copy of the
                                    repository: the tests from nothing, the proof from nothing, the edits
                                    that stand in the gate. Crates below those named are proved first,
@@ -28,7 +28,7 @@ from repository import TOP, Listing, files, text_of
 
 TICK = os.sysconf("SC_CLK_TCK")
 KINDS = ("proof", "code", "tests", "edits")
-# The most memory that one proof has been seen to take, in bytes, and some more.
+# Memory for each proof that runs beside others, in bytes: the largest takes 5 GB, most take 1 to 2.
 MEMORY = 4_000_000_000
 
 
