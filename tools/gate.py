@@ -8,7 +8,7 @@ its must-fail edits.
                                    second is not seen. Each proof has one processor: left to itself,
                                    rt gives a proof those that are idle, which takes more of them in
                                    all, and starts it only where its estimate of memory fits, which is
-                                   two to three times what a proof takes. RT_JOBS, where it is set,
+                                   two to five times what a proof takes. RT_JOBS, where it is set,
                                    says how many proofs run side by side.
     tools/gate.py parts [NAME..]   measures the parts themselves, one crate at a time, in a copy of the
                                    repository: the tests from nothing, the proof from nothing, the edits
