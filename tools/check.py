@@ -1,8 +1,8 @@
 #!/usr/bin/env python3
-"""What can be told of the repository without a proof, in seconds. `.ci/run` begins with it.
+"""What can be told of the repository without a proof, in seconds. `.ci/run` ends with it.
 
-    tools/check.py [CHECK..]   runs these checks, or all; a line for each fault, and status 1 where
-                               there is one
+    tools/check.py [CHECK..]   runs these checks, or all: a line for each fault, the line
+                               'N passed, M failed' of checks at the end, and status 1 if one failed
 
 Each check is a call `faults` of the script of its name, which says what it looks at."""
 import filecmp
@@ -24,8 +24,7 @@ CHECKS = {
     "definitions": "each definition that a clause of the top names has its row in DEFINITIONS",
     "names": "what the documents name is there",
     "widths": "no line of a contract is too wide",
-    "kit": "rt still has what tools/kit.py and tools/plant.py change in it",
-    "edits": "each wrong body can still be written",
+    "wrong_bodies": "each wrong body can be written, and those that CLAIMS names are there",
     "examples": "the worked rows run on the examples",
     "played": "the commands in documents are worked rows, with the same answers",
     "explain": "each message that the manual names has a row there",
@@ -66,7 +65,9 @@ def main(words):
         print(__doc__, f"\nThe checks are: {' '.join(CHECKS)}.", file=sys.stderr)
         return 2
     counts = [run(name) for name in words or CHECKS]
-    return 1 if any(counts) else 0
+    failed = sum(map(bool, counts))
+    print(f"{len(counts) - failed} passed, {failed} failed")
+    return 1 if failed else 0
 
 
 if __name__ == "__main__":

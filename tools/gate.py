@@ -1,6 +1,6 @@
 #!/usr/bin/env python3
 """The processor time of the gate, crate by crate: for its proof, the code of a program, its tests and
-its must-fail edits.
+its wrong bodies. It is for runs by hand: `.ci/run` does not call it.
 
     tools/gate.py ci               runs `rt ci` and measures it: while it runs, the time of each process
                                    of the prover is looked at every half second, and booked on the crate

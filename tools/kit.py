@@ -1,18 +1,17 @@
 #!/usr/bin/env python3
-"""The kit's `rt` as a module, for scripts that need of it what no word of the command line gives.
+"""A contributor's `rt`, for work in a clone in which the gate has run. Neither the gate nor `./build` calls it.
 
-    tools/kit.py [--as-built] WORDS ..   `rt WORDS ..` for whoever builds what has passed the gate
+    tools/kit.py [--as-built] WORDS ..   `rt WORDS ..` with four calls of it changed while it runs
 
-It leaves out the quick pass over all sources, which tells of errors before the first proof: over
-ninety crates that are not built it takes a quarter of an hour and 15 GB. A crate beside which hardly
-another one can be proved gets as many processors as rt gives a crate that is proved by itself, also
-under `all --jobs N`. The sum of a crate's files and of all below it takes those of each crate once,
-not once for each path that leads there, of which there are millions. With --as-built the libraries
-of the repository are taken as they stand, whatever their sources say now: for whoever has just built
-them, as a run of the gate does.
+What it changes: the quick pass over all sources before the first proof is left out, which over many crates
+that are not built takes a quarter of an hour and 15 GB; a crate beside which hardly another one can be proved
+gets as many processors as rt gives a crate that is proved by itself, also under `all --jobs N`; the sum of a
+crate's files and of all below it takes those of each crate once, not once for each path that leads there, of
+which there are millions; and with --as-built the libraries of the repository are taken as they stand, whatever
+their sources say now, for whoever has just built them by a run of the gate. What it says is no verdict: the
+gate alone gives one.
 
-`faults` tells which of the calls that are changed here is no longer as it was: then `build` and the
-other scripts that stand on this one would run without the change, or not at all."""
+Where a call that is changed here is no longer as it was, it says so and runs nothing."""
 import importlib.machinery
 import importlib.util
 import inspect
@@ -139,6 +138,10 @@ def with_flags(usual, flags_of):
 
 
 def main(words):
+    wrong = list(faults())
+    if wrong:
+        print(*wrong, sep="\n", file=sys.stderr)
+        return 2
     as_built = words[:1] == ["--as-built"]
     words, made = words[as_built:], rt()
     crate = made.rtlib.Crate

@@ -1,9 +1,9 @@
 #!/usr/bin/env python3
-"""`rt plant` with time for large crates: in a crate's folder,
+"""A contributor's `rt plant`, with time for large crates. Neither the gate nor `./build` calls it. In a crate's folder,
 
     ../../tools/plant.py [SECONDS] [LOG] [--as-built] WORDS ..
 
-runs `rt plant WORDS ..`, of which each batch of wrong bodies gets that many seconds, 1,500 if left
+changes how many wrong bodies rt plant tries at once and for how long, and runs `rt plant WORDS ..`, of which each batch of wrong bodies gets that many seconds, 1,500 if left
 out. LOG is what an earlier run over the same sources told on standard error: what it judged is not
 tried again.
 

@@ -1,26 +1,41 @@
 #!/usr/bin/env python3
-"""Makes a native program of the sources without any proof, in some minutes, for whoever wants to try it at once.
+"""Makes a native program of the sources without any proof, for whoever wants to try it at once.
 
     tools/quick.py [PROGRAM]      `./build --quick` calls it, and `./PROGRAM` where no program is there
 
 The kit has no call for this. Its `rt try` makes a native program on its way, with checks that stop it at a
 fault, runs it once and removes it; this script gives the file a second name while it is there. The program is
 named `PROGRAM-unproved`, as `syndex-unproved`, and `./PROGRAM` takes it where there is no proved one and no source
-is newer. Where no program is made, the last lines of what rt says are told."""
+is newer. Nothing is done where it is newer than all its sources. Where no program is made, the last lines of what
+rt says are told. A stop (Ctrl-C) ends what was started and leaves nothing behind."""
 import os
 import shutil
+import signal
 import subprocess
 import sys
 import tempfile
 import time
 
-from repository import TOP
+from repository import TOP, Listing, files
 
 # A program of such a crate is larger than any other file that is made on the way and could be run.
 LEAST = 1 << 20
 ELF = b"\x7fELF"
 # How many lines of rt are told where it makes no program.
 TOLD = 20
+# Each how many seconds it is told that the work goes on, and how many it takes on four processors that are idle.
+BEAT, TAKES = 10, 90
+
+
+def is_made(name, program):
+    """Whether the unproved program is there and no source of the crates below it is newer."""
+    if not os.path.exists(program):
+        return False
+    listing = Listing()
+    crates = listing.lowest_first([name])
+    sources = (path for it in crates for path in files(f"{TOP}/crates/{it}", ["src"], (".rt",)))
+    made = os.path.getmtime(program)
+    return all(os.path.getmtime(path) <= made for path in [f"{TOP}/crates.txt", *sources])
 
 
 def programs(room):
@@ -48,25 +63,48 @@ def keep(path, program):
     os.replace(made, program)
 
 
-def make(name, said):
+def keep_what_comes(tool, room, program):
+    """Keeps the program that rt makes in this folder, until rt ends, and tells that the work goes on."""
+    start, told = time.monotonic(), 0
+    while tool.poll() is None:
+        for path in programs(room):
+            try:
+                keep(path, program)
+            except OSError:
+                continue
+        past = int(time.monotonic() - start)
+        if past >= told + BEAT:
+            told = past
+            print(f"build: at work for {past} s; on four idle processors it takes about {TAKES} s", flush=True)
+        time.sleep(0.05)
+
+
+def end(tool):
+    """Ends what rt has started, and rt."""
+    if tool.poll() is None:
+        os.killpg(tool.pid, signal.SIGTERM)
+        try:
+            tool.wait(10)
+        except subprocess.TimeoutExpired:
+            os.killpg(tool.pid, signal.SIGKILL)
+            tool.wait()
+
+
+def make(name, program, said):
     """Makes the program of this name, and answers whether it is there. What rt says goes into a file."""
     folder = f"{TOP}/crates/{name}"
-    program = f"{folder}/out/{name}-unproved"
     os.makedirs(f"{folder}/out", exist_ok=True)
     if os.path.exists(program):
         os.remove(program)
     room = tempfile.mkdtemp(prefix="quick-", dir=f"{folder}/out")
-    how = {"cwd": folder, "env": {**os.environ, "TMPDIR": room}}
+    how = {"cwd": folder, "env": {**os.environ, "TMPDIR": room}, "start_new_session": True}
     how |= {"stdin": subprocess.DEVNULL, "stdout": said, "stderr": said}
     try:
-        with subprocess.Popen(["rt", "try", "--seconds", "60", "--", "no-command"], **how) as tool:
-            while tool.poll() is None:
-                for path in programs(room):
-                    try:
-                        keep(path, program)
-                    except OSError:
-                        continue
-                time.sleep(0.05)
+        tool = subprocess.Popen(["rt", "try", "--seconds", "60", "--", "no-command"], **how)
+        try:
+            keep_what_comes(tool, room, program)
+        finally:
+            end(tool)
     finally:
         shutil.rmtree(room, ignore_errors=True)
     if os.path.exists(program):
@@ -74,15 +112,29 @@ def make(name, said):
     return os.path.exists(program)
 
 
+def stop(_number, _frame):
+    raise KeyboardInterrupt
+
+
 def main(words):
     name = words[0] if words else "syndex"
-    print("build: makes an unproved program of the sources, in some minutes", flush=True)
-    with tempfile.TemporaryFile() as said:
-        if not make(name, said):
-            said.seek(0)
-            lines = said.read().decode(errors="replace").splitlines()
-            print(*lines[-TOLD:], f"build: FAILED: rt try made no program of crates/{name}", sep="\n", file=sys.stderr)
-            return 1
+    program = f"{TOP}/crates/{name}/out/{name}-unproved"
+    if is_made(name, program):
+        print(f"build: the unproved program is newer than its sources; ./{name} runs it")
+        return 0
+    signal.signal(signal.SIGTERM, stop)
+    print("build: makes an unproved program of the sources; stop it with Ctrl-C", flush=True)
+    try:
+        with tempfile.TemporaryFile() as said:
+            if not make(name, program, said):
+                said.seek(0)
+                lines = said.read().decode(errors="replace").splitlines()
+                failed = f"build: FAILED: rt try made no program of crates/{name}"
+                print(*lines[-TOLD:], failed, sep="\n", file=sys.stderr)
+                return 1
+    except KeyboardInterrupt:
+        print("\nbuild: stopped; nothing was kept, and ./build --quick begins anew", file=sys.stderr)
+        return 130
     print(f"build: done; ./{name} runs the unproved program until a source changes or a proved one is built")
     return 0
 
