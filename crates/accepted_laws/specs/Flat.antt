@@ -28,6 +28,8 @@ pub record HasFlat (main : Vertex) : Type 0 where
   pub taken : (rows : List Values) (k : ℕ) →
       flat_act_row (flat_of main) rows (initial_cells (flat_of main).vertices) k ≡ act_row main rows k
 
+-- If a tree is valid, has its names and is within its bounds, then its flat graph is valid and
+-- takes in each reaction what the tree takes.
 abbrev pub TreesHaveFlat : Type 0
 TreesHaveFlat = (main : Vertex) → IsTree main → HasNames main → HasBounds main → HasFlat main
 

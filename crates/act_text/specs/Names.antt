@@ -8,9 +8,11 @@ abbrev pub actuator_name : Kind → List ℕ → List (List ℕ)
 actuator_name (actuator n) name = name ∷ []
 actuator_name _ name = []
 
+-- The names of the actuators among these vertices, in order. Vertices inside them do not count.
 abbrev pub actuator_names_in : Vertices → List (List ℕ)
 actuator_names_in no_vertices = []
 actuator_names_in (and_vertex (vertex l vs) us) = actuator_name l.kind (name_of l.part) ++ actuator_names_in us
 
+-- The names of the actuators of the main graph, in declared order.
 abbrev pub actuator_names : Vertex → List (List ℕ)
 actuator_names (vertex l us) = actuator_names_in us

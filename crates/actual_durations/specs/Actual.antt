@@ -120,9 +120,12 @@ abbrev pub carrying_ticks : ℕ → Option Medium → ℕ
 carrying_ticks n None = 0
 carrying_ticks n (Some m) = m.fixed + n * m.per
 
+-- How many ticks a transfer lasts over these media, by the length of its source, and 0 if its
+-- medium is not among them.
 abbrev pub transfer_ticks : List Vertex → List Medium → Transfer → ℕ
 transfer_ticks vertices media t = carrying_ticks (len_of vertices t.source) (slice_get media t.medium)
 
+-- The transfers of these decisions, in their order.
 abbrev pub transfers_of : List Decision → List Transfer
 transfers_of ds = flat_map (λ d. d.transfers) ds
 
@@ -132,6 +135,7 @@ entries_ticks g s d =
     operations_ticks d.durations g.vertices (operators_of s.decisions (length g.vertices)) ++
     map (transfer_ticks g.vertices d.archi.media) (transfers_of s.decisions)
 
+-- The refusal of the fault if there is one, and these ticks otherwise.
 abbrev pub unless_fault : Option ActualFault → List ℕ → Result (List ℕ) ActualError
 unless_fault (Some f) ticks = Err (Refused f)
 unless_fault None ticks = Ok ticks
@@ -142,6 +146,7 @@ actual_by g a t s d =
     if same_architecture a d.archi then unless_fault (first_fault g a t s d) (entries_ticks g s d) else
     Err (Refused Differs)
 
+-- What comes next for a text that describes an architecture, and otherwise the refusal of the text.
 abbrev pub if_described : Result Described ArchiError → (Described → Result (List ℕ) ActualError)
     → Result (List ℕ) ActualError
 if_described (Ok d) next = next d

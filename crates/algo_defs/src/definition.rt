@@ -58,6 +58,7 @@ pub enum Frontier {
     },
 }
 
+/// A frontier line of a repetition: `fork`, `diffuse`, `iterate` or `join`.
 #[derive(Drop)]
 pub struct FrontierLine {
     pub frontier: Frontier,

@@ -8,6 +8,7 @@ use Rattle.algo_defs.specs.declared.fault.AlgoCause.TheVariants.{UnknownName}
 use Rattle.syn_base.specs.Bytes.{Bytes}
 use Rattle.algo_rules.specs.Links.{fault, first_of, Mention, mentions, misplaced_by}
 
+-- The names of the definitions, in order.
 abbrev pub names_of : List Def → List Bytes
 names_of ds = map (λ d. d.name) ds
 

@@ -37,6 +37,7 @@ abbrev pub joined : List Bytes → Bytes
 joined [] = []
 joined (w ∷ ws) = w ++ spaced ws
 
+-- The line of these words: one space between each two of them, and a line feed at the end.
 abbrev pub line_of : List Bytes → Bytes
 line_of ws = joined ws ++ 10 ∷ []
 
@@ -45,9 +46,11 @@ abbrev pub text_of : List (List Bytes) → Bytes
 text_of [] = []
 text_of (ws ∷ lines) = line_of ws ++ text_of lines
 
+-- The word of a natural number, in decimal.
 abbrev pub count : ℕ → Bytes
 count n = signed_decimal (pos n)
 
+-- The words of the line of a port: the key, `in` or `out`, and then its name and its length.
 abbrev pub port_words : Bytes → Port → List Bytes
 port_words key p = key ∷ p.name ∷ count p.len ∷ []
 
@@ -61,31 +64,40 @@ abbrev pub mark_words : Option ℕ → List Bytes
 mark_words None = []
 mark_words (Some n) = codes "every" ∷ count n ∷ []
 
+-- The words of the line of a reference, with `every N` at the end if it has a mark.
 abbrev pub reference_words : Reference → List Bytes
 reference_words r = codes "ref" ∷ r.name ∷ r.def ∷ mark_words r.every
 
+-- The word of a port: `OWNER.PORT` if a reference owns it, and only `PORT` if none does.
 abbrev pub owned : Option Bytes → Bytes → Bytes
 owned None port = port
 owned (Some owner) port = owner ++ 46 ∷ port
 
+-- The word of an end of an edge: the name of a port, with its reference and a dot in
+-- front if it has one.
 abbrev pub end_word : End → Bytes
 end_word e = owned e.owner e.port
 
+-- The words of the line of an edge.
 abbrev pub edge_words : Edge → List Bytes
 edge_words e = codes "edge" ∷ end_word e.from ∷ end_word e.to ∷ []
 
+-- The words of a line `case VALUE DEF`.
 abbrev pub case_words : Case → List Bytes
 case_words c = codes "case" ∷ signed_decimal c.value ∷ c.def ∷ []
 
+-- The words of a frontier line, in the order in which the text has its ports.
 abbrev pub words_of_frontier : Frontier → List Bytes
 words_of_frontier (Fork outer inner) = codes "fork" ∷ outer ∷ inner ∷ []
 words_of_frontier (Diffuse outer inner) = codes "diffuse" ∷ outer ∷ inner ∷ []
 words_of_frontier (Iterate outer inner given last) = codes "iterate" ∷ outer ∷ inner ∷ given ∷ last ∷ []
 words_of_frontier (Join given outer) = codes "join" ∷ given ∷ outer ∷ []
 
+-- The same for a frontier line with its number, which is not printed.
 abbrev pub frontier_words : FrontierLine → List Bytes
 frontier_words l = words_of_frontier l.frontier
 
+-- The words of a line `KEY NAME = V0 V1 ..`, of a constant or of a delay in version 1.
 abbrev pub value_words : Bytes → Bytes → List ℤ → List Bytes
 value_words key name values = key ∷ name ∷ codes "=" ∷ map signed_decimal values
 
@@ -95,6 +107,7 @@ delay_words version name depth values =
     if version == 1 then value_words (codes "delay") name values else
     codes "delay" ∷ name ∷ count depth ∷ codes "=" ∷ map signed_decimal values
 
+-- The one word of the last line of a block.
 abbrev pub end_words : List Bytes
 end_words = codes "end" ∷ []
 
@@ -102,6 +115,7 @@ end_words = codes "end" ∷ []
 abbrev pub function_lines : List Port → List Output → List (List Bytes)
 function_lines ins outs = map (port_words (codes "in")) ins ++ map (output_words ins) outs
 
+-- The lines of a graph between its first and its last: inputs, outputs, references and edges.
 abbrev pub graph_lines : List Port → List Port → List Reference → List Edge → List (List Bytes)
 graph_lines ins outs references edges =
     map (port_words (codes "in")) ins ++ (map (port_words (codes "out")) outs
@@ -117,17 +131,21 @@ switch_lines on ins outs cases =
 abbrev pub otherwise_lines : Bytes → List (List Bytes)
 otherwise_lines def = (codes "otherwise" ∷ def ∷ []) ∷ end_words ∷ []
 
+-- All lines of a switch of this name, `end` included.
 abbrev pub whole_switch : Bytes → Bytes → List Port → List Port → List Case → Bytes → List (List Bytes)
 whole_switch name on ins outs cases otherwise =
     (codes "switch" ∷ name ∷ []) ∷ (switch_lines on ins outs cases ++ otherwise_lines otherwise)
 
+-- All lines of a function of this name, `end` included.
 abbrev pub whole_function : Bytes → List Port → List Output → List (List Bytes)
 whole_function name ins outs = (codes "function" ∷ name ∷ []) ∷ (function_lines ins outs ++ end_words ∷ [])
 
+-- All lines of a graph of this name, `end` included.
 abbrev pub whole_graph : Bytes → List Port → List Port → List Reference → List Edge → List (List Bytes)
 whole_graph name ins outs references edges =
     (codes "graph" ∷ name ∷ []) ∷ (graph_lines ins outs references edges ++ end_words ∷ [])
 
+-- All lines of a repetition of this name, `end` included.
 abbrev pub whole_repeat : Bytes → ℕ → Bytes → List FrontierLine → List (List Bytes)
 whole_repeat name copies def lines =
     (codes "repeat" ∷ name ∷ count copies ∷ def ∷ []) ∷ (map frontier_words lines ++ end_words ∷ [])
@@ -143,10 +161,12 @@ body_lines version name (Graph ins outs references edges) = whole_graph name ins
 body_lines version name (Switch on ins outs cases otherwise line) = whole_switch name on ins outs cases otherwise
 body_lines version name (Repeat copies def lines) = whole_repeat name copies def lines
 
+-- The lines of these definitions, in order, in a text of this version.
 abbrev pub definition_lines : ℕ → List Def → List (List Bytes)
 definition_lines version [] = []
 definition_lines version (d ∷ ds) = body_lines version d.name d.body ++ definition_lines version ds
 
+-- The words of the first line of a text of this version.
 abbrev pub version_words : ℕ → List Bytes
 version_words version = codes "algorithm" ∷ count version ∷ []
 
@@ -159,5 +179,7 @@ abbrev pub IsPrintable : Body → Type 0
 IsPrintable (Function ins outs) = All (λ o. IsRead (map (λ p. p.name) ins) o.formula) outs
 IsPrintable _ = Unit {0}
 
+-- Each expression of each function among these definitions is what some text over its inputs says,
+-- so that it can be printed and read back.
 abbrev pub ArePrintable : List Def → Type 0
 ArePrintable ds = All (λ d. IsPrintable d.body) ds

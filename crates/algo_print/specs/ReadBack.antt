@@ -24,15 +24,19 @@ use Rattle.algo_text.specs.Text.{definitions_of}
 abbrev pub bare_reference : Reference → Reference
 bare_reference r = record { name = r.name; def = r.def; every = r.every; line = 0 }
 
+-- The edge with 0 for the number of its line.
 abbrev pub bare_edge : Edge → Edge
 bare_edge e = record { from = e.from; to = e.to; line = 0 }
 
+-- The case with 0 for the number of its line.
 abbrev pub bare_case : Case → Case
 bare_case c = record { value = c.value; def = c.def; line = 0 }
 
+-- The frontier line with 0 for its number.
 abbrev pub bare_frontier : FrontierLine → FrontierLine
 bare_frontier l = record { frontier = l.frontier; line = 0 }
 
+-- The body with 0 for the number of each line in it.
 abbrev pub bare_body : Body → Body
 bare_body (Sensor len) = Sensor len
 bare_body (Actuator len) = Actuator len
@@ -43,6 +47,7 @@ bare_body (Graph ins outs references edges) = Graph ins outs (map bare_reference
 bare_body (Switch on ins outs cases otherwise line) = Switch on ins outs (map bare_case cases) otherwise 0
 bare_body (Repeat copies def lines) = Repeat copies def (map bare_frontier lines)
 
+-- The definition with 0 for the number of each of its lines, so that what it says can be compared.
 abbrev pub bare : Def → Def
 bare d = record { name = d.name; line = 0; body = bare_body d.body }
 

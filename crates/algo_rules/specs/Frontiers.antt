@@ -37,6 +37,7 @@ use Rattle.algo_rules.specs.Links.{fault, first_of}
 use Rattle.algo_rules.specs.Ports.{has_port, len_of, same_ports}
 use Rattle.algo_rules.specs.declared.ports.Ports.{Ports}
 
+-- The refusal by the limit on lengths, if this length is above it.
 abbrev pub too_long : ℕ → Option AlgoError
 too_long len =
     if nat_lt 64 len
@@ -67,6 +68,8 @@ module _ (copies : ℕ) (inner : Ports) where
   frontier_fault used n (Join y q) =
       if has_port inner.outs y then too_long (copies * len_of inner.outs y) else fault n BadRepeat
 
+  -- For each of these frontier lines in order its fault, if it has one. The lines before them use
+  -- the inner inputs `used`.
   abbrev pub frontier_faults : List Bytes → List FrontierLine → List (Option AlgoError)
   frontier_faults used [] = []
   frontier_faults used (l ∷ ls) =
@@ -86,15 +89,20 @@ module _ (copies : ℕ) (inner : Ports) where
 abbrev pub fits : List Port → List Port → Ports → Bool
 fits ins outs p = same_ports p.ins ins && same_ports p.outs outs
 
+-- The number v is one of these.
 abbrev pub has_value : List ℤ → ℤ → Bool
 has_value [] v = false
 has_value (x ∷ xs) v = int_eq x v || has_value xs v
 
 module _ (of : Bytes → Ports) (ins outs : List Port) where
+  -- The fault of a case, if it has one: its value is one of those of the cases before it, which are
+  -- given, or its definition does not have the ports of the switch.
   abbrev pub case_fault : List ℤ → Case → Option AlgoError
   case_fault before c =
       if not (has_value before c.value) && fits ins outs (of c.def) then None else fault c.line BadCase
 
+  -- For each of these cases in order its fault, if it has one. The cases before them have the
+  -- values `before`.
   abbrev pub case_faults : List ℤ → List Case → List (Option AlgoError)
   case_faults before [] = []
   case_faults before (c ∷ cs) = case_fault before c ∷ case_faults (before ++ c.value ∷ []) cs

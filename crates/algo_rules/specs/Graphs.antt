@@ -46,15 +46,18 @@ abbrev pub written_by : Option Bytes → Bytes → Bytes
 written_by None port = port
 written_by (Some r) port = r ++ 46 ∷ port
 
+-- An end as a text has it: `PORT` for a port of the graph itself, `R.PORT` for one of reference R.
 abbrev pub written : End → Bytes
 written e = written_by e.owner e.port
 
+-- Both owners are the graph itself, or both are the reference of the same name.
 abbrev pub same_owner : Option Bytes → Option Bytes → Bool
 same_owner None None = true
 same_owner None (Some s) = false
 same_owner (Some r) None = false
 same_owner (Some r) (Some s) = bytes_eq r s
 
+-- Both ends are the same port of the same owner, by name.
 abbrev pub same_end : End → End → Bool
 same_end e f = same_owner e.owner f.owner && bytes_eq e.port f.port
 
@@ -79,6 +82,8 @@ module _ (of : Bytes → Ports) (own : Ports) (references : List Reference) wher
   givers None = own.ins
   givers (Some r) = (ports_at of references r).outs
 
+  -- The ports into which edges may lead: the outputs of the graph, or the inputs of this reference.
+  -- A name that is no reference has none.
   abbrev pub takers : Option Bytes → List Port
   takers None = own.outs
   takers (Some r) = (ports_at of references r).ins
@@ -92,10 +97,13 @@ module _ (of : Bytes → Ports) (own : Ports) (references : List Reference) wher
       if is_connected before e.to then fault e.line (TwiceConnected (written e.to)) else
       None
 
+  -- The fault of an edge, if it has one: an end that is not there, the source first; unequal
+  -- lengths; or a target into which one of the edges before it leads.
   abbrev pub edge_fault : List Edge → Edge → Option AlgoError
   edge_fault before e = joins before e
       (port_len (givers e.from.owner) e.from.port) (port_len (takers e.to.owner) e.to.port)
 
+  -- For each of these edges in order its fault, if it has one. The edges `before` come before them.
   abbrev pub edge_faults : List Edge → List Edge → List (Option AlgoError)
   edge_faults before [] = []
   edge_faults before (e ∷ es) = edge_fault before e ∷ edge_faults (before ++ e ∷ []) es
@@ -113,6 +121,7 @@ module _ (of : Bytes → Ports) (own : Ports) (references : List Reference) wher
       map (λ r. open_fault edges r.line (Some r.name) (of r.def).ins) references ++
       open_fault edges line None own.outs ∷ []
 
+-- There is a definition, and it is that of a delay.
 abbrev pub is_delay : Option Def → Bool
 is_delay (Some d) = delays d.body
   where
@@ -121,6 +130,7 @@ is_delay (Some d) = delays d.body
     delays _ = false
 is_delay None = false
 
+-- The number of the reference of this name, from 0; the number of all references if there is none.
 abbrev pub place : List Reference → Bytes → ℕ
 place references w = position_or_len (λ r. bytes_eq w r.name) references
 
@@ -132,10 +142,13 @@ module _ (ds : List Def) (references : List Reference) where
       if list_any (λ r. bytes_eq s r.name && is_delay (definition ds r.def)) references then [] else
       place references s ∷ []
 
+  -- The owner of the end is the reference w.
   abbrev pub leads_to : Bytes → Option Bytes → Bool
   leads_to w None = false
   leads_to w (Some r) = bytes_eq w r
 
+  -- The numbers of the references from which edges lead into reference w. Delays do not count, so
+  -- that a cycle through a delay is none.
   abbrev pub sources : List Edge → Bytes → List ℕ
   sources edges w = flat_map (λ e. if leads_to w e.to.owner then source_of e.from.owner else []) edges
 
@@ -149,10 +162,14 @@ module _ (ds : List Def) (references : List Reference) where
   names_of links i (r ∷ rs) =
       if reaches_itself links i then r.name ∷ names_of links (suc i) rs else names_of links (suc i) rs
 
+  -- The refusal of a graph at this line for a cycle of these references; none if there
+  -- are no references.
   abbrev pub cycle_by : ℕ → List Bytes → Option AlgoError
   cycle_by line [] = None
   cycle_by line (r ∷ rs) = fault line (Cycle (r ∷ rs))
 
+  -- The refusal of a graph at this line for its cycles, if it has any: it names, in order, every
+  -- reference that depends on itself.
   abbrev pub cycle_fault : ℕ → List Edge → Option AlgoError
   cycle_fault line edges = cycle_by line (names_of (dependences edges) 0 references)
 

@@ -60,6 +60,7 @@ mentions_in n (Switch on ins outs cases otherwise last) =
 mentions_in n (Repeat copies def lines) = record { line = n; def = def; is_reference = false } ∷ []
 mentions_in n _ = []
 
+-- The lines of a definition that name definitions, in order.
 abbrev pub mentions : Def → List Mention
 mentions d = mentions_in d.line d.body
 
@@ -73,12 +74,15 @@ abbrev pub unknown_by : Mention → Option Def → Option AlgoError
 unknown_by m None = fault m.line (UnknownName m.def)
 unknown_by m (Some d) = None
 
+-- The refusal of the first line that names a definition which is not there.
 abbrev pub unknown : List Def → Option AlgoError
 unknown ds = first_of (map (λ m. unknown_by m (definition ds m.def)) (flat_map mentions ds))
 
+-- The name is `main`.
 abbrev pub is_main : Bytes → Bool
 is_main w = bytes_eq w (codes "main")
 
+-- The body is that of a sensor or an actuator.
 abbrev pub is_end : Body → Bool
 is_end (Sensor n) = true
 is_end (Actuator n) = true
@@ -103,6 +107,7 @@ abbrev pub misplaced_by : List Def → Bytes → Mention → Option AlgoError
 misplaced_by ds owner m =
     if may_stand owner m (definition ds m.def) then None else fault m.line (Misplaced m.def)
 
+-- The refusal of the first line that names a definition which may not be used there.
 abbrev pub misplaced : List Def → Option AlgoError
 misplaced ds = first_of (flat_map (λ d. map (misplaced_by ds d.name) (mentions d)) ds)
 
@@ -110,6 +115,8 @@ misplaced ds = first_of (flat_map (λ d. map (misplaced_by ds d.name) (mentions 
 abbrev pub links_of : List Def → Links
 links_of ds = map (λ d. map (λ m. position_or_len (λ e. bytes_eq m.def e.name) ds) (mentions d)) ds
 
+-- The refusal of the definition with this number, at its line, because it reaches itself; none if
+-- there is no number.
 abbrev pub recursive_by : List Def → Option ℕ → Option AlgoError
 recursive_by ds None = None
 recursive_by ds (Some i) = named (slice_get ds i)
@@ -122,6 +129,8 @@ recursive_by ds (Some i) = named (slice_get ds i)
 abbrev pub recursive : List Def → Option AlgoError
 recursive ds = recursive_by ds (first_recursive (links_of ds))
 
+-- The refusal by the limit on depth, with the first of these depths that is above 8;
+-- none if no depth is.
 abbrev pub too_deep_by : List ℕ → Option AlgoError
 too_deep_by [] = None
 too_deep_by (d ∷ ds) =

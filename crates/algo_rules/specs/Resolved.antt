@@ -99,17 +99,23 @@ is_portless [] [] = true
 is_portless [] (p ∷ ps) = false
 is_portless (p ∷ ps) qs = false
 
+-- The body is that of a graph without ports.
 abbrev pub is_main_graph : Body → Bool
 is_main_graph (Graph ins outs references edges) = is_portless ins outs
 is_main_graph _ = false
 
+-- The refusal for want of a main graph, unless there is a definition and it is a
+-- graph without ports.
 abbrev pub no_main_by : Option Def → Option AlgoError
 no_main_by None = fault 0 NoMain
 no_main_by (Some d) = if is_main_graph d.body then None else fault 0 NoMain
 
+-- The refusal of definitions among which no graph without ports is called `main`. It is at line 0.
 abbrev pub no_main : List Def → Option AlgoError
 no_main ds = no_main_by (definition ds (codes "main"))
 
+-- How many vertices a frontier line adds to the copies: 1 for `fork` (an explode) and for `join`
+-- (an implode), and 0 for the others.
 abbrev pub is_fork : FrontierLine → ℕ
 is_fork l = forks l.frontier
   where
@@ -130,17 +136,23 @@ count_by of (Switch on ins outs cases otherwise last) =
 count_by of (Repeat copies def lines) = copies * of def + sum_by is_fork lines
 count_by of _ = 1
 
+-- The number of flat operations of a definition, from those of the definitions that it names; 0 if
+-- there is no definition.
 abbrev pub count_in : (Bytes → ℕ) → Option Def → ℕ
 count_in of None = 0
 count_in of (Some d) = count_by of d.body
 
+-- The number of flat operations of the definition of this name, if all that is more than n
+-- definitions deep counts as none.
 abbrev pub count_within : List Def → ℕ → Bytes → ℕ
 count_within ds zero w = 0
 count_within ds (suc n) w = count_in (count_within ds n) (definition ds w)
 
+-- The number of flat operations of the main graph, with all that it refers to.
 abbrev pub operations : List Def → ℕ
 operations ds = count_within ds 8 (codes "main")
 
+-- The refusal by the limit on operations, if the main graph has more than 2,048.
 abbrev pub too_many : List Def → Option AlgoError
 too_many ds =
     if nat_lt 2048 (operations ds)
@@ -153,6 +165,8 @@ refusal ds = first_of
 
 -- The source of a value in a graph: an own input, or an output of a reference.
 module _ (of : Bytes → Ports) (ins : List Port) (references : List Reference) where
+  -- The port with this owner and name as a source, by numbers: an input of the graph, or an output
+  -- of the reference.
   abbrev pub source_from : Option Bytes → Bytes → Source
   source_from None p = Own (number_of ins p)
   source_from (Some r) p = Of (place references r) (number_of (ports_at of references r).outs p)
@@ -162,14 +176,18 @@ module _ (of : Bytes → Ports) (ins : List Port) (references : List Reference) 
   source_to [] e = Own 0
   source_to (f ∷ fs) e = if same_end f.to e then source_from f.from.owner f.from.port else source_to fs e
 
+  -- The source of each of these ports of one owner, in order: the inputs of a reference, or the
+  -- outputs of the graph.
   abbrev pub sources_to : List Edge → Option Bytes → List Port → List Source
   sources_to edges owner ps = map (λ p. source_to edges (record { owner = owner; port = p.name })) ps
 
+-- As sources, n own inputs in order, of which the first has the number `first`.
 abbrev pub owns : ℕ → ℕ → List Source
 owns first n = map Own (range_with_len first n)
 
 -- How the inner input x is fed: by the line that uses it.
 module _ (inner outer : Ports) where
+  -- How this frontier line feeds the inner input w; none if it does not.
   abbrev pub feed_by : Bytes → Frontier → Option Feed
   feed_by w (Fork p x) =
       if bytes_eq w x then Some (feed.Fork p (number_of outer.ins p) (len_of inner.ins x)) else None
@@ -178,14 +196,19 @@ module _ (inner outer : Ports) where
       if bytes_eq w x then Some (feed.Iterate (number_of outer.ins p) (number_of inner.outs y)) else None
   feed_by w (Join y q) = None
 
+  -- The first feed, if there is one, and else the second.
   abbrev pub first_feed : Option Feed → Feed → Feed
   first_feed (Some f) g = f
   first_feed None g = g
 
+  -- How the first of these lines that feeds the inner input w does so. If none does, every copy
+  -- gets the outer input 0; a repetition that is accepted feeds all of them.
   abbrev pub feed_of : List FrontierLine → Bytes → Feed
   feed_of [] w = feed.Diffuse 0
   feed_of (l ∷ ls) w = first_feed (feed_by w l.frontier) (feed_of ls w)
 
+  -- A list that holds what a frontier line gives to the outer output that it names; `fork` and
+  -- `diffuse` name none.
   abbrev pub give_by : Frontier → List Give
   give_by (Fork p x) = []
   give_by (Diffuse p x) = []
@@ -214,6 +237,8 @@ abbrev pub groups : ℕ → ℕ → List ℤ → List (List ℤ)
 groups zero len values = []
 groups (suc n) len values = take len values ∷ groups n len (drop len values)
 
+-- 1 if there is a definition and it is that of a sensor, else 0. The sum over the references before
+-- one is the number of the next sensor.
 abbrev pub is_sensor : Option Def → ℕ
 is_sensor None = 0
 is_sensor (Some d) = senses d.body
@@ -222,6 +247,8 @@ is_sensor (Some d) = senses d.body
     senses (Sensor n) = 1
     senses _ = 0
 
+-- 1 if there is a definition and it is that of an actuator, else 0. The sum over the references
+-- before one is the number of the next actuator.
 abbrev pub is_actuator : Option Def → ℕ
 is_actuator None = 0
 is_actuator (Some d) = acts d.body
@@ -231,6 +258,7 @@ is_actuator (Some d) = acts d.body
     acts _ = 0
 
 module _ (ds : List Def) (make : Making) where
+  -- The ports of the definition of this name.
   abbrev pub of : Bytes → Ports
   of w = ports_of ds w
 
@@ -247,6 +275,8 @@ module _ (ds : List Def) (make : Making) where
   cases_from ins c [] = []
   cases_from ins c (w ∷ ws) = make (Numbered c) w (owns 1 ins) 0 0 ∷ cases_from ins (suc c) ws
 
+  -- The kind of the vertex that a body with these ports becomes. A sensor or an actuator has the
+  -- number that is given for it.
   abbrev pub kind_by : Ports → ℕ → ℕ → Body → tree.Kind
   kind_by own sensors actuators (Sensor n) = tree.sensor sensors
   kind_by own sensors actuators (Actuator n) = tree.actuator actuators
@@ -261,6 +291,8 @@ module _ (ds : List Def) (make : Making) where
       tree.repeat copies (map (λ p. feed_of (of def) own lines p.name) (of def).ins)
       (flat_map (λ l. give_by (of def) own l.frontier) lines)
 
+  -- The vertices inside the vertex that a body becomes: the references of a graph, the cases of a
+  -- switch with `otherwise` as the last, the one body of a repetition. The others have none.
   abbrev pub inner_by : Body → List tree.Vertex
   inner_by (Graph ins outs references edges) = references_from ins references edges 0 0 references
   inner_by (Switch on ins outs cases otherwise last) =
@@ -268,11 +300,15 @@ module _ (ds : List Def) (make : Making) where
   inner_by (Repeat copies def lines) = make (Numbered 0) def (owns 0 (length (of def).ins)) 0 0 ∷ []
   inner_by _ = []
 
+  -- The vertex that the definition of this name becomes, from what becomes of those that it names;
+  -- an empty graph without outputs if there is no definition.
   abbrev pub vertex_by : Part → Bytes → List Source → ℕ → ℕ → Option Def → tree.Vertex
   vertex_by part w ins sensors actuators None = vertex part w ins [] (tree.graph []) []
   vertex_by part w ins sensors actuators (Some d) =
       vertex part w ins (of w).outs (kind_by (of w) sensors actuators d.body) (inner_by d.body)
 
+-- The vertex that the definition of a name becomes, if all that is more than n definitions deep
+-- becomes an empty graph without outputs.
 abbrev pub vertex_within : List Def → ℕ → Making
 vertex_within ds zero part w ins sensors actuators = vertex part w ins [] (tree.graph []) []
 vertex_within ds (suc n) part w ins sensors actuators =
@@ -282,6 +318,7 @@ vertex_within ds (suc n) part w ins sensors actuators =
 abbrev pub tree_of : List Def → tree.Vertex
 tree_of ds = vertex_within ds 8 (Named (codes "main")) (codes "main") [] 0 0
 
+-- The tree of the definitions, or this refusal of them, if there is one.
 abbrev pub resolved_by : List Def → Option AlgoError → Result tree.Vertex AlgoError
 resolved_by ds None = Ok (tree_of ds)
 resolved_by ds (Some e) = Err e

@@ -96,6 +96,7 @@ new_block first name line = record {
   frontier = [];
 }
 
+-- The refusal of the text at this line for this cause.
 abbrev pub refused : {A : Type 0} → ℕ → AlgoCause → Result A AlgoError
 refused line cause = Err (Refused (record { line = line; cause = cause }))
 
@@ -103,6 +104,7 @@ refused line cause = Err (Refused (record { line = line; cause = cause }))
 abbrev pub is_above : LimitKind → ℕ → Bool
 is_above which count = nat_lt (bound_of which) count
 
+-- The refusal of this count, which is above the bound of its quantity.
 abbrev pub above : {A : Type 0} → LimitKind → ℕ → Result A AlgoError
 above which count = Err (Limit (record { which = which; count = count; bound = bound_of which }))
 
@@ -123,6 +125,7 @@ port_names block = block.on ∷
     (map (λ o. o.port.name) block.results ++
     (map (λ p. p.name) block.outs ++ all_outer block.frontier)))
 
+-- A port of the block, its conditioning input included, has this name already.
 abbrev pub is_taken : Block → Bytes → Bool
 is_taken block w = is_among w (port_names block)
 
@@ -139,6 +142,8 @@ port_line line before words go = all_names line (word words 1 ∷ [])
     if is_above PortLength len then above PortLength len else
     go (record { name = word words 1; len = len })))
 
+-- The block with this port after its other inputs, or the refusal of the line if a port of the
+-- block has this name already.
 abbrev pub with_in : Block → ℕ → Port → Result Block AlgoError
 with_in block line port =
     if is_taken block port.name then refused line (DuplicateName port.name) else
@@ -150,6 +155,8 @@ in_line block line words =
     if not (length words == 3) || not (admits block.part parts.Inputs) then refused line BadLine else
     port_line line (length block.ins) words (with_in block line)
 
+-- The block of a graph or a switch with this port after its other outputs, or the refusal of the
+-- line if a port of the block has this name already.
 abbrev pub with_out : Block → ℕ → Port → Result Block AlgoError
 with_out block line port =
     if is_taken block port.name then refused line (DuplicateName port.name) else
@@ -161,6 +168,8 @@ out_line block line words =
     if not (length words == 3) || not (admits block.part parts.Outputs) then refused line BadLine else
     port_line line (length block.outs) words (with_out block line)
 
+-- The block of a function with this port and its expression after the other outputs, or the refusal
+-- of the line if a port of the block has this name already.
 abbrev pub with_result : Block → ℕ → Port → Expr → Result Block AlgoError
 with_result block line port formula =
     if is_taken block port.name then refused line (DuplicateName port.name) else
@@ -176,13 +185,16 @@ result_words block line words text =
     port_line line (length block.results) words (λ port.
     and_then (formula_of line (map (λ i. i.name) block.ins) text) (with_result block line port))
 
+-- The byte is the sign `=`.
 abbrev pub is_equals : ℕ → Bool
 is_equals b = b == 61
 
+-- A line `out` of a function, given the place of its first `=`. A line without one is refused.
 abbrev pub result_at : Block → ℕ → Bytes → Option ℕ → Result Block AlgoError
 result_at block line code None = refused line BadLine
 result_at block line code (Some at) = result_words block line (words_of (take at code)) (drop (at + 1) code)
 
+-- A line `out P LEN = EXPRESSION` of a function, given without its comment.
 abbrev pub result_line : Block → ℕ → Bytes → Result Block AlgoError
 result_line block line code = result_at block line code (position is_equals code)
 

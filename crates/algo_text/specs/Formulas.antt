@@ -28,11 +28,14 @@ use Rattle.algo_defs.specs.declared.fault.AlgoError.TheVariants.{Refused, Limit}
 use Rattle.algo_defs.specs.declared.fault.AlgoCause.TheVariants.{BadExpression, UnknownName}
 use Rattle.syn_base.specs.Bytes.{Bytes}
 
+-- The name that the token is; the empty text if it is no name, or if there is no token.
 abbrev pub name_in : Option Token → Bytes
 name_in (Some (name p)) = p
 name_in _ = []
 
 module _ (line : ℕ) (ports : List Bytes) (text : Bytes) where
+  -- The expression, if no token is given; otherwise the refusal of the name that the token of this
+  -- number is, since no port has it.
   abbrev pub known_by : Option ℕ → Expr → Result Expr AlgoError
   known_by None e = Ok e
   known_by (Some place) e =
@@ -47,6 +50,8 @@ module _ (line : ℕ) (ports : List Bytes) (text : Bytes) where
         cause = BadExpression (place_of text (length (tokens text) - length rest));
       }))
 
+  -- The expression over these ports that the text writes, or its first refusal: for too many
+  -- tokens, else by the grammar, else for a name that is none of the ports.
   abbrev pub formula_of : Result Expr AlgoError
   formula_of =
       if nat_le (length (tokens text)) (bound_of Tokens)

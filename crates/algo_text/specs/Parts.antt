@@ -25,10 +25,12 @@ rank Whole = 4
 abbrev pub admits : Part → Part → Bool
 admits last next = nat_lt 0 (rank last) && nat_le (rank last) (rank next)
 
+-- The next line has to be the line `on` of a switch.
 abbrev pub is_conditioning : Part → Bool
 is_conditioning Conditioning = true
 is_conditioning _ = false
 
+-- The switch has its line `otherwise`, so that only `end` may follow.
 abbrev pub is_whole : Part → Bool
 is_whole Whole = true
 is_whole _ = false

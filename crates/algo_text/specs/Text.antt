@@ -87,9 +87,12 @@ pub record Reading : Type 0 where
   pub defs : List Def
   pub block : Block
 
+-- What has been read before the first line: nothing. The first line with words has to
+-- give the version.
 abbrev pub start : Reading
 start = record { stage = before_version; version = 0; names = []; defs = []; block = new_block Inputs [] 0 }
 
+-- The first of these words is this one.
 abbrev pub begins : List Bytes → Bytes → Bool
 begins words key = bytes_eq (word words 0) key
 
@@ -227,6 +230,8 @@ function_line reading number words code =
     (Function reading.block.ins reading.block.results) reading number words else
     refused number BadLine
 
+-- A line of a graph: an input, an output, a reference, an edge, or `end`. Any other
+-- line is refused.
 abbrev pub graph_line : Reading → ℕ → List Bytes → Result Reading AlgoError
 graph_line reading number words =
     if begins words (codes "in") then in_block reading (in_line reading.block number words) else
@@ -238,6 +243,8 @@ graph_line reading number words =
     reading number words else
     refused number BadLine
 
+-- A line of a switch: its conditioning input, an input, an output, a case, `otherwise`, or `end`.
+-- Any other line is refused.
 abbrev pub switch_line : Reading → ℕ → List Bytes → Result Reading AlgoError
 switch_line reading number words =
     if begins words (codes "on") then in_block reading (on_line reading.block number words) else
@@ -251,6 +258,7 @@ switch_line reading number words =
     reading number words else
     refused number BadLine
 
+-- A line of a repetition: a frontier line, or `end`. Any other line is refused.
 abbrev pub frontier_line : Reading → ℕ → List Bytes → Result Reading AlgoError
 frontier_line reading number words =
     if begins words (codes "fork") then in_block reading (fork_line reading.block number words) else
@@ -270,6 +278,8 @@ by_stage in_graph reading number words code = graph_line reading number words
 by_stage in_switch reading number words code = switch_line reading number words
 by_stage in_repeat reading number words code = frontier_line reading number words
 
+-- What has been read after a line, given the place of its first foreign byte, if it has one. Such a
+-- byte refuses the line before anything else, and a line without words changes nothing.
 abbrev pub line_by : Reading → ℕ → Bytes → Option ℕ → Result Reading AlgoError
 line_by reading number line (Some place) = refused number (NotText place)
 line_by reading number line None =

@@ -35,6 +35,7 @@ abbrev pub number_by : Result ℤ NumFault → Option ℤ
 number_by (Ok v) = Some v
 number_by (Err e) = None
 
+-- The number that a word is, or none if it is no number or 64 bits do not hold it.
 abbrev pub number_of : Bytes → Option ℤ
 number_of w = number_by (integer_of w)
 
@@ -48,6 +49,7 @@ count_by None = None
 abbrev pub count_of : Bytes → Option ℕ
 count_of w = count_by (number_of w)
 
+-- The count as the number of a mark; none if there is no count, or if it is above 16.
 abbrev pub period_by : Option ℕ → Option ℕ
 period_by (Some n) = if nat_le n 16 then Some n else None
 period_by None = None
@@ -56,6 +58,7 @@ period_by None = None
 abbrev pub period_of : Bytes → Option ℕ
 period_of w = period_by (count_of w)
 
+-- The byte is the dot between a reference and its port.
 abbrev pub is_dot : ℕ → Bool
 is_dot b = b == 46
 

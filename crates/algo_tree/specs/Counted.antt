@@ -14,9 +14,11 @@ operations_by (repeat n feeds gives) inner = length (fork_names feeds) + n * inn
 operations_by _ inner = 1
 
 abbrev mutual
+  -- The number of flat operations that flattening makes of a vertex with all that is inside it.
   pub operations : Vertex → ℕ
   operations (vertex l us) = operations_by l.kind (operations_in us)
 
+  -- The same for several vertices together.
   pub operations_in : Vertices → ℕ
   operations_in no_vertices = 0
   operations_in (and_vertex u us) = operations u + operations_in us

@@ -115,6 +115,7 @@ abbrev mutual
   pub behaviour : Vertex → Behaviour
   behaviour (vertex l us) = behaviour_of l (nodes us)
 
+  -- A vertex, with all that is inside it, as a node of its level.
   pub node : Vertex → Node
   node (vertex l us) = node_of l (nodes us)
 

@@ -8,6 +8,7 @@ abbrev mutual
   pub size : Vertex → ℕ
   size (vertex l us) = suc (size_all us)
 
+  -- The number of these vertices together with all vertices inside them.
   pub size_all : Vertices → ℕ
   size_all no_vertices = 0
   size_all (and_vertex u us) = size u + size_all us
@@ -19,9 +20,12 @@ made_by (repeat n feeds gives) inner = suc (length (fork_names feeds) + n * inne
 made_by _ inner = suc inner
 
 abbrev mutual
+  -- The number of vertices, itself included, that a vertex becomes once each repetition in it has
+  -- its copies, and an explode or an implode for each of its fork and join lines.
   pub vertices_made : Vertex → ℕ
   vertices_made (vertex l us) = made_by l.kind (vertices_made_in us)
 
+  -- The same for several vertices together.
   pub vertices_made_in : Vertices → ℕ
   vertices_made_in no_vertices = 0
   vertices_made_in (and_vertex u us) = vertices_made u + vertices_made_in us

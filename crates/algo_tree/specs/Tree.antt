@@ -34,9 +34,11 @@ pub record Label : Type 0 where
   pub kind : Kind
 
 mutual
+  -- A vertex of the tree: its label, and the vertices inside it.
   pub data Vertex : Type 0 where
     vertex : Label → Vertices → Vertex
 
+  -- The vertices inside one, in order; they are numbered from 0.
   pub data Vertices : Type 0 where
     no_vertices : Vertices
     and_vertex : Vertex → Vertices → Vertices

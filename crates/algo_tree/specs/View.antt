@@ -32,6 +32,7 @@ kind_view (Graph outs) = plain.graph outs
 kind_view (Switch values names) = plain.switch values names
 kind_view (Repeat n feeds gives) = plain.repeat n feeds gives
 
+-- A list of vertices, in order, as the vertices inside one.
 abbrev pub vertices_of : List plain.Vertex → plain.Vertices
 vertices_of [] = plain.no_vertices
 vertices_of (u ∷ us) = plain.and_vertex u (vertices_of us)

@@ -51,6 +51,7 @@ fork_names (Fork name k len ∷ fs) = name ∷ fork_names fs
 fork_names (Diffuse k ∷ fs) = fork_names fs
 fork_names (Iterate k y ∷ fs) = fork_names fs
 
+-- The names of the outer outputs of the join lines, in the order of the lines.
 abbrev pub join_names : List Give → List (List ℕ)
 join_names [] = []
 join_names (Join name y ∷ gs) = name ∷ join_names gs
@@ -117,9 +118,13 @@ IsKindWell implode gs us = IsEmpty us
 IsKindWell (merge values) gs us = IsEmpty us
 
 abbrev mutual
+  -- The vertex and every vertex inside it have the form that their kinds require (`IsKindWell`):
+  -- graphs without cycles, switches with one case more than values, repetitions with one body, and
+  -- nothing inside any other vertex.
   pub IsWell : Vertex → Type 0
   IsWell (vertex l us) = IsKindWell l.kind l.guards us × AllWell us
 
+  -- The same holds for each of these vertices.
   pub AllWell : Vertices → Type 0
   AllWell no_vertices = Unit {0}
   AllWell (and_vertex u us) = IsWell u × AllWell us

@@ -83,12 +83,16 @@ pub record Reading : Type 0 where
   pub connections : ℕ
   pub durations : List DurationLine
 
+-- What has been read before the first line: nothing. The first line with words has to
+-- give the version.
 abbrev pub start : Reading
 start = record { version = None; depth = None; operators = []; media = []; lines = []; connections = 0; durations = [] }
 
+-- Word k of a line, counted from 0; the empty word if there is none.
 abbrev pub word : List Bytes → ℕ → Bytes
 word ws k = slice_index_or ws k []
 
+-- The refusal of a text at this line for this cause. Line 0 is for what concerns the whole text.
 abbrev pub refused : {A : Type 0} → ℕ → ArchiCause → Result A ArchiError
 refused line cause = Err (Refused (record { line = line; cause = cause }))
 
@@ -96,6 +100,7 @@ refused line cause = Err (Refused (record { line = line; cause = cause }))
 abbrev pub is_above : LimitKind → ℕ → Bool
 is_above which count = nat_lt (bound_of which) count
 
+-- The refusal of this count, which is above the bound of its quantity.
 abbrev pub above : {A : Type 0} → LimitKind → ℕ → Result A ArchiError
 above which count = Err (Limit (record { which = which; count = count; bound = bound_of which }))
 
@@ -104,6 +109,7 @@ abbrev pub with_some : {A B : Type 0} → Option A → Result B ArchiError → (
 with_some (Some x) missing go = go x
 with_some None missing go = missing
 
+-- What follows, with what was read; a refusal stays.
 abbrev pub and_then : {A B : Type 0} → Result A ArchiError → (A → Result B ArchiError) → Result B ArchiError
 and_then (Ok x) go = go x
 and_then (Err e) go = Err e
@@ -119,12 +125,16 @@ up_to most (Ok (pos n)) = if nat_le n most then Some n else None
 up_to most (Ok (negsuc n)) = None
 up_to most (Err e) = None
 
+-- What follows, with the number from 0 to `most` that the word is; if it is none, the word is
+-- refused at line n.
 abbrev pub with_number : {A : Type 0} → ℕ → ℕ → Bytes → (ℕ → Result A ArchiError) → Result A ArchiError
 with_number n most w go = with_some (up_to most (integer_of w)) (refused n (BadNumber w)) go
 
+-- The place of the word among these names, counted from 0; none if it is not one of them.
 abbrev pub place_of : Bytes → List Bytes → Option ℕ
 place_of w names = position (bytes_eq w) names
 
+-- The names of the media that have been read, in order.
 abbrev pub medium_names : Reading → List Bytes
 medium_names r = map (λ m. m.name) r.media
 
@@ -132,6 +142,7 @@ medium_names r = map (λ m. m.name) r.media
 abbrev pub is_taken : Reading → Bytes → Bool
 is_taken r w = list_any (bytes_eq w) (r.operators ++ medium_names r)
 
+-- The version that a word is, 1 or 2; none for any other word.
 abbrev pub version_of : Bytes → Option ℕ
 version_of w =
     if bytes_eq w (codes "1") then Some 1 else
@@ -191,9 +202,12 @@ abbrev pub with_stand : ℕ → List ℕ → List ℕ
 with_stand o [] = o ∷ []
 with_stand o (p ∷ ps) = if nat_lt o p then o ∷ p ∷ ps else p ∷ with_stand o ps
 
+-- A medium without a name and without operators, in place of one that is not there.
 abbrev pub no_medium : Medium
 no_medium = record { name = []; multi = false; fixed = 0; per = 0; stands = [] }
 
+-- What has been read once operator o is connected to medium m. Line n is refused if they are
+-- connected already, for the name w of the operator, or if there are too many connections.
 abbrev pub connected : Reading → ℕ → Bytes → ℕ → ℕ → Result Reading ArchiError
 connected r n w m o =
     if list_any (λ p. p == o) (slice_index_or r.media m no_medium).stands then refused n (DuplicateName w) else
@@ -225,6 +239,7 @@ duration_line r n ws =
     then refused n (DuplicateName (word ws 1)) else
     Ok (record r { durations = r.durations ++ record { def = word ws 1; operator = o; ticks = ticks } ∷ [] }))))
 
+-- The first of these words is this one.
 abbrev pub begins : List Bytes → Bytes → Bool
 begins ws key = bytes_eq (word ws 0) key
 
@@ -238,6 +253,8 @@ described_line r n version ws =
     if begins ws (codes "depth") then depth_line r n version ws else
     refused n BadLine
 
+-- What has been read after a line, given the place of its first foreign byte, if it has one. Such a
+-- byte refuses the line before anything else, and a line without words changes nothing.
 abbrev pub line_by : Reading → ℕ → Bytes → Option ℕ → Result Reading ArchiError
 line_by r n line (Some place) = refused n (NotText place)
 line_by r n line None =
@@ -271,6 +288,7 @@ media_are_right (m ∷ ms) lines go =
 abbrev pub apart : Reading → Option ℕ
 apart r = position (λ o. not (reached_within r.media (length r.operators) o)) (range_with_len 0 (length r.operators))
 
+-- The name of operator o, empty if there is none.
 abbrev pub operator_name : Reading → ℕ → Bytes
 operator_name r o = slice_index_or r.operators o []
 
@@ -287,6 +305,8 @@ described r version = record {
   durations = r.durations;
 }
 
+-- What a text of this version gives, if routes lead from operator 0 to all others; if none leads to
+-- the given one, the refusal that names both.
 abbrev pub all_joined : Reading → ℕ → Option ℕ → Result Described ArchiError
 all_joined r version None = Ok (described r version)
 all_joined r version (Some o) = refused 0 (Disconnected (operator_name r 0) (operator_name r o))
@@ -301,6 +321,8 @@ whole_of r version =
 abbrev pub whole : Reading → ℕ → Result Described ArchiError
 whole r n = with_some r.version (refused n BadLine) (whole_of r)
 
+-- What the whole text gives, or its first refusal, from what has been read and the lines that are
+-- left, of which the first has the number n.
 abbrev pub rest_of : Reading → ℕ → List Bytes → Result Described ArchiError
 rest_of r n [] = whole r n
 rest_of r n (line ∷ lines) = and_then (next_line r n line) (λ after. rest_of after (n + 1) lines)

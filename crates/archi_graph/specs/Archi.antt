@@ -50,9 +50,11 @@ is_medium operators m =
     may_stand m.multi (length m.stands) && ascends_from 0 m.stands && list_all (λ o. nat_lt o operators) m.stands &&
     nat_le m.fixed 1000000 && nat_le m.per 1000000
 
+-- Exactly one of the names is this one.
 abbrev pub occurs_once : List (List ℕ) → List ℕ → Bool
 occurs_once names name = count_by (bytes_eq name) names == 1
 
+-- No two of the names are the same.
 abbrev pub are_distinct : List (List ℕ) → Bool
 are_distinct names = list_all (occurs_once names) names
 
@@ -60,6 +62,7 @@ are_distinct names = list_all (occurs_once names) names
 abbrev pub names_of : List (List ℕ) → List Medium → List (List ℕ)
 names_of operators media = operators ++ map (λ m. m.name) media
 
+-- How many connections the media have together: one for each operator at each medium.
 abbrev pub stands_in_all : List Medium → ℕ
 stands_in_all media = sum_by (λ m. length m.stands) media
 

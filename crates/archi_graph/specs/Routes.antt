@@ -13,6 +13,8 @@ abbrev pub IsRoute : List Medium → ℕ → List Hop → ℕ → Type 0
 IsRoute media from [] to = from ≡ to
 IsRoute media from (h ∷ hops) to = IsHop media from h × IsRoute media h.to hops to
 
+-- Some route leads from the first operator to the second. From an operator to itself one
+-- without a hop does.
 abbrev pub IsReachable : List Medium → ℕ → ℕ → Type 0
 IsReachable media from to = (hops : List Hop) × IsRoute media from hops to
 

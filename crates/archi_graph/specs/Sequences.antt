@@ -5,9 +5,11 @@ use Rattle.archi_graph.specs.declared.medium.Medium.{Medium}
 use Rattle.archi_graph.specs.declared.medium.Seq.{Seq}
 use Rattle.archi_graph.specs.Archi.{Architecture, stands_at}
 
+-- The sequence of operator o that runs its operations.
 abbrev pub computation : ℕ → Seq
 computation o = record { operator = o; medium = None }
 
+-- The sequence of operator o that takes part in the transfers over medium m.
 abbrev pub communicator : ℕ → ℕ → Seq
 communicator o m = record { operator = o; medium = Some m }
 

@@ -38,6 +38,7 @@ abbrev pub text_of : List Words → Bytes
 text_of [] = []
 text_of (ws ∷ lines) = joined ws ++ 10 ∷ text_of lines
 
+-- The word of a number, in decimal.
 abbrev pub number : ℕ → Bytes
 number n = signed_decimal (pos n)
 
@@ -45,9 +46,11 @@ number n = signed_decimal (pos n)
 abbrev pub version_word : ℕ → Bytes
 version_word version = if version == 1 then codes "1" else codes "2"
 
+-- The words of the first line of a text of this version.
 abbrev pub version_words : ℕ → Words
 version_words version = codes "architecture" ∷ version_word version ∷ []
 
+-- The words of the line of the depth.
 abbrev pub depth_words : ℕ → Words
 depth_words depth = codes "depth" ∷ number depth ∷ []
 
@@ -59,19 +62,24 @@ depth_lines version depth = if version == 1 then [] else depth_words depth ∷ [
 abbrev pub opening_lines : ℕ → ℕ → List Words
 opening_lines version depth = version_words version ∷ depth_lines version depth
 
+-- The words of the line of an operator.
 abbrev pub operator_words : Bytes → Words
 operator_words name = codes "operator" ∷ name ∷ []
 
+-- The word of the kind of a medium: `multi` if it may have more than two operators, else `p2p`.
 abbrev pub kind_word : Bool → Bytes
 kind_word true = codes "multi"
 kind_word false = codes "p2p"
 
+-- The words of the line of a medium.
 abbrev pub medium_words : Medium → Words
 medium_words m = codes "medium" ∷ m.name ∷ kind_word m.multi ∷ number m.fixed ∷ number m.per ∷ []
 
+-- The name of operator o, empty if there is none.
 abbrev pub name_at : List Bytes → ℕ → Bytes
 name_at operators o = slice_index_or operators o []
 
+-- The words of the line that connects operator o to the medium of this name.
 abbrev pub connect_words : List Bytes → Bytes → ℕ → Words
 connect_words operators medium o = codes "connect" ∷ medium ∷ name_at operators o ∷ []
 
@@ -79,6 +87,7 @@ connect_words operators medium o = codes "connect" ∷ medium ∷ name_at operat
 abbrev pub connections_of : List Bytes → Medium → List Words
 connections_of operators m = map (connect_words operators m.name) m.stands
 
+-- The words of the line of a duration.
 abbrev pub duration_words : List Bytes → DurationLine → Words
 duration_words operators d = codes "duration" ∷ d.def ∷ name_at operators d.operator ∷ number d.ticks ∷ []
 
@@ -88,5 +97,6 @@ canonical_lines version a durations =
     opening_lines version a.depth ++ map operator_words a.operators ++ map medium_words a.media ++
     flat_map (connections_of a.operators) a.media ++ map (duration_words a.operators) durations
 
+-- The canonical text of what a text describes, in the version of that text.
 abbrev pub canonical_text : Described → Bytes
 canonical_text d = text_of (canonical_lines d.version d.archi d.durations)

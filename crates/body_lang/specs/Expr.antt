@@ -52,6 +52,7 @@ view (NegOf' p e) = negation (view e)
 view (Apply' op p a q b) = apply op (view a) (view b)
 view (Select' p c q a r b) = select (view c) (view a) (view b)
 
+-- The value at a port in one reaction: its elements, in order.
 abbrev pub Vector : Type 0
 Vector = List ℤ
 

@@ -10,6 +10,8 @@ ends_from at (len ∷ lens) = (at + len) ∷ ends_from (at + len) lens
 abbrev pub bounds_of : List ℕ → List ℕ
 bounds_of lens = 0 ∷ ends_from 0 lens
 
+-- The lengths of vectors that lie one after another in a flat row and end at these places, if the
+-- first one begins at the given place.
 abbrev pub lengths_from : ℕ → List ℕ → List ℕ
 lengths_from at [] = []
 lengths_from at (end ∷ ends) = (end - at) ∷ lengths_from end ends

@@ -8,6 +8,7 @@ use Rattle.body_text.specs.Grammar.{word_of}
 use Rattle.body_text.specs.Reads.{IsBody}
 
 module _ (ports : List Bytes) where
+  -- The name of the port with this number, counted from 0; the empty text if there is no such port.
   abbrev pub port_name : ℕ → Bytes
   port_name k = slice_index_or ports k []
 

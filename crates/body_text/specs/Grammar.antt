@@ -73,6 +73,7 @@ IsProper (select c a b) = IsProper c × (IsProper a × IsProper b)
 abbrev pub AreWritten : List Token → Written → Type 0
 AreWritten ts w = IsProper w × (ts ≡ written w)
 
+-- These are the tokens of one whole expression of the grammar.
 abbrev pub IsExpression : List Token → Type 0
 IsExpression ts = (w : Written) × AreWritten ts w
 

@@ -23,6 +23,7 @@ abbrev pub andthen : Parse → (Written → List Token → Parse) → Parse
 andthen (good w rest) go = go w rest
 andthen (stops rest) go = stops rest
 
+-- The token is this mark.
 abbrev pub is_mark : Mark → Token → Bool
 is_mark OpenRound open_round = true
 is_mark CloseRound close_round = true
@@ -31,10 +32,12 @@ is_mark CloseSquare close_square = true
 is_mark Comma comma = true
 is_mark _ _ = false
 
+-- The first of these tokens, or none if the list is empty.
 abbrev pub first_token : List Token → Option Token
 first_token [] = None
 first_token (t ∷ ts) = Some t
 
+-- There is a token, and it is this mark.
 abbrev pub is_first : Mark → Option Token → Bool
 is_first m None = false
 is_first m (Some t) = is_mark m t

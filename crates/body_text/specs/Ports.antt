@@ -24,6 +24,7 @@ namings at (select c a b) = namings (at + 2) c ++
     (namings (at + 3 + length (written c)) a ++ namings (at + 4 + length (written c) + length (written a)) b)
 
 module _ (ports : List Bytes) where
+  -- One of the ports has this name.
   abbrev pub is_port : Bytes → Bool
   is_port p = list_any (bytes_eq p) ports
 

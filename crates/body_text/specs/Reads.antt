@@ -11,6 +11,7 @@ use Rattle.body_text.specs.Tokens.{Placed, placed, tokens}
 use Rattle.body_text.specs.Grammar.{Written, AreWritten, FailsAt}
 use Rattle.body_text.specs.Ports.{unknown, resolved}
 
+-- The place at which a token begins in its text, or the given place if there is no token.
 abbrev pub place_or : ℕ → Option Placed → ℕ
 place_or end None = end
 place_or end (Some p) = p.place

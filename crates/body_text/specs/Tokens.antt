@@ -29,6 +29,8 @@ use Rattle.syn_base.specs.Integer.{integer_of}
 use Rattle.syn_base.specs.declared.integer.NumFault.{NumFault}
 use Rattle.text_lines.specs.Text.{is_blank}
 
+-- A token of an expression's text: a number, a name, a mark of the grammar, or what
+-- is none of these.
 pub data Token : Type 0 where
   number : ℤ → Token
   name : Bytes → Token
@@ -40,6 +42,7 @@ pub data Token : Type 0 where
   -- Another byte, a `-` without digits, or a number that 64 bits do not hold.
   bad : Token
 
+-- A token of a text, and the number of the byte at which it begins, from 0.
 pub record Placed : Type 0 where
   pub token : Token
   -- The place of its first byte in the text.
@@ -73,6 +76,8 @@ mark_of b = if b == 40 then Some open_round else
     (if b == 93 then Some close_square else
     (if b == 44 then Some comma else None))))
 
+-- The token of these bytes: the mark that is given, or else the name or the number that they write,
+-- or `bad` if they write neither.
 abbrev pub mark_or_word : Option Token → Bytes → Token
 mark_or_word (Some t) word = t
 mark_or_word None word = word_token word
@@ -93,5 +98,6 @@ tokens_from place zero (b ∷ bs) = if is_blank b then tokens_from (suc place) z
 abbrev pub placed : Bytes → List Placed
 placed text = tokens_from 0 0 text
 
+-- The tokens of a text in order, without their places.
 abbrev pub tokens : Bytes → List Token
 tokens text = map (λ p. p.token) (placed text)

@@ -36,9 +36,11 @@ writes_only b port here (Call v ins outs) = all_at (λ k c. implies (nat_eq c b)
 writes_only b port here (Recv c q) = implies (nat_eq c b) (here && nat_eq 0 port)
 writes_only b port here _ = true
 
+-- The instruction writes buffer b or reads it.
 abbrev pub touches : ℕ → Instr → Bool
 touches b x = writes b x || reads b x
 
+-- There is a buffer, and it is on operator o.
 abbrev pub is_operator : Option Buffer → ℕ → Bool
 is_operator None o = false
 is_operator (Some x) o = nat_eq x.operator o
@@ -62,13 +64,17 @@ module _ (p : Program) where
   abbrev pub has_places : ℕ → Bool
   has_places b = nat_le 1 (depth_of p b) && nat_le (depth_of p b) 4 && (nat_eq (depth_of p b) 1 || is_guarded p b)
 
+  -- With this place as its write, buffer b is written there and nowhere else, touched on its own
+  -- operator only, read by its writer only later, and has an allowed number of places.
   abbrev pub is_buffer_at : ℕ → ℕ → ℕ → ℕ → Bool
   is_buffer_at b writer at port =
       writes_at b port (slice_get (turn p writer) at) && is_written_once b writer at port && is_near b &&
       is_written_first b writer at && has_places b
 
+  -- Buffer b is right with the first instruction that writes it; it is not right if none does.
   abbrev pub is_buffer : ℕ → Bool
   is_buffer b = is_buffer_at b (writing p b).writer (writing p b).at (writing p b).port
 
+  -- Every buffer of the program is right.
   abbrev pub are_buffers : Bool
   are_buffers = all_below is_buffer (length p.buffers)

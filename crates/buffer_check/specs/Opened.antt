@@ -39,6 +39,8 @@ module _ (p : Program) where
   abbrev pub signals_for : Reader → ℕ → ℕ
   signals_for x s = cond (nat_eq x.sequence s) (depth_of p x.buffer) 0
 
+  -- Sequence s, with this code, signals the empty semaphore of pair q in its prologue as often as
+  -- it has to: once for each place of the buffer if it is this reader, and otherwise never.
   abbrev pub signals_right : ℕ → Reader → ℕ → SeqCode → Bool
   signals_right q x s code = nat_eq (count_by (signals_empty q) code.prologue) (signals_for x s)
 
@@ -51,5 +53,7 @@ module _ (p : Program) where
   rise None = false
   rise (Some n) = list_all (λ (q : SeqCode). rises n 0 q.prologue) p.seqs
 
+  -- Each reader has a pair, and each prologue only opens the pairs by which its
+  -- sequence reads: in ascending order, once for each place of the buffer.
   abbrev pub are_opened : Bool
   are_opened = rise (passed opens 0 (readers p))

@@ -15,6 +15,8 @@ has_operator (Some a) (Some b) = nat_eq a b
 has_operator _ _ = false
 
 module _ (p : Program) where
+  -- The first instruction of the loop of s that passes the test has this place; it is
+  -- the length of the loop if none passes.
   abbrev pub first_place : (Instr → Bool) → ℕ → ℕ
   first_place test s = position_or_len test (turn p s)
 
@@ -23,6 +25,8 @@ module _ (p : Program) where
   is_written_within q s at take signal =
       is_only p (takes_empty q) s take && is_only p (signals_full q) s signal && nat_lt take at && nat_lt at signal
 
+  -- Sequence s takes the empty semaphore of pair q before place `at` and signals the
+  -- full one after it; nothing else in the loops of the program does either.
   abbrev pub is_written_between : ℕ → ℕ → ℕ → Bool
   is_written_between q s at = is_written_within q s at (first_place (takes_empty q) s) (first_place (signals_full q) s)
 
@@ -35,6 +39,8 @@ module _ (p : Program) where
   is_read_within q b s take signal =
       is_only p (takes_full q) s take && is_only p (signals_empty q) s signal && reads_between b s take signal
 
+  -- Sequence s takes the full semaphore of pair q and signals the empty one, which nothing else in
+  -- the loops of the program does, and it reads buffer b only between the two.
   abbrev pub is_read_between : ℕ → ℕ → ℕ → Bool
   is_read_between q b s = is_read_within q b s (first_place (takes_full q) s) (first_place (signals_empty q) s)
 
@@ -50,8 +56,12 @@ module _ (p : Program) where
       nat_lt q (length p.pairs) && has_operator (slice_get p.pairs q) (operator_of p x.buffer) &&
       is_written_between q writer at && is_read_between q x.buffer x.sequence && is_full_first order q writer x.sequence
 
+  -- Pair q is on the buffer's operator and round the buffer's first write and the reader's
+  -- reads, and in the order its full semaphore is signalled before it is taken.
   abbrev pub guards : List ℕ → ℕ → Reader → Bool
   guards order q x = guards_from order q x (writer_of p x.buffer) (written_at p x.buffer)
 
+  -- There is one pair for each reader of the program, in the order of the readers, and
+  -- each guards the buffer for its reader.
   abbrev pub are_pairs : List ℕ → Bool
   are_pairs order = nat_eq (length p.pairs) (length (readers p)) && all_at (guards order) 0 (readers p)

@@ -9,6 +9,7 @@ use Rattle.busiest_line.specs.declared.busiest.Line.TheVariants.{Operator, Mediu
 use Rattle.busiest_line.specs.declared.busiest.Busy.{Busy}
 use Rattle.busiest_line.specs.declared.busiest.Busiest.{Busiest}
 
+-- This operator or medium, which is busy for this many ticks of a reaction.
 abbrev pub busy_line : Line → ℕ → Busy
 busy_line line ticks = record { line = line; ticks = ticks }
 

@@ -20,6 +20,8 @@ lane_of operators (carry t) = operators + t.medium
 abbrev pub edge_from : ℕ → ℕ → ℕ
 edge_from from to = if nat_lt to from then 36 * from + 6 else 36 * from + 30
 
+-- The height at which an arrow between two lanes arrives, in units below the top of all lanes: the
+-- lower edge of a bar if it comes from a lane below, and the upper edge otherwise.
 abbrev pub edge_to : ℕ → ℕ → ℕ
 edge_to from to = if nat_lt to from then 36 * to + 30 else 36 * to + 6
 
@@ -51,5 +53,7 @@ module _ (vertices : List Vertex) (operators : ℕ) (scale : Scale) where
   links_from xs (run d) = []
   links_from xs (carry t) = links_to t xs
 
+  -- The group of all arrows among these acts, one from each transfer to each act that takes the
+  -- copy that it brings.
   unfoldable pub arrows_text : List Act → Bytes
   arrows_text xs = group_text (codes "arrows") [] (point 0 0) ++ (flat_map (links_from xs) xs ++ END_GROUP.now)

@@ -68,6 +68,7 @@ label_text left right label =
     if fits (length label) left right
     then label_words (middle left right) label else []
 
+-- The text of a bar with its title, and after it the label if that fits into the bar.
 unfoldable pub bar_line : Bar → Bytes
 bar_line b = bar_text b.class b.left b.right ++ (b.title ++ (bar_end ++ label_text b.left b.right b.label))
 
@@ -75,10 +76,12 @@ bar_line b = bar_text b.class b.left b.right ++ (b.title ++ (bar_end ++ label_te
 unfoldable pub dates_text : ℕ → ℕ → Bytes
 dates_text start end = codes ": " ++ (decimal start ++ (codes " to " ++ decimal end))
 
+-- The name of a medium, and the empty text if there is no medium.
 abbrev pub name_or_none : Option Medium → Bytes
 name_or_none None = []
 name_or_none (Some m) = m.name
 
+-- The name of medium m, and the empty text if there is no such medium.
 abbrev pub medium_name : List Medium → ℕ → Bytes
 medium_name media m = name_or_none (slice_get media m)
 
@@ -99,6 +102,8 @@ module _ (g : Graph) (a : Architecture) where
       operation_name g.vertices [] t.source.vertex ++
       (codes ", output " ++ (decimal t.source.port ++ (dates_text start end ++ way_text a t.medium t.from t.to)))
 
+  -- The class of the bar of an act: that of the kind of its operation for a run, empty if there is
+  -- no such operation, and `transfer` for a transfer.
   abbrev pub act_class : Act → Bytes
   act_class (run d) = with_vertex (slice_get g.vertices d.op) [] (λ x. class_of x.kind)
   act_class (carry t) = codes "transfer"
@@ -122,5 +127,6 @@ module _ (g : Graph) (a : Architecture) where
   abbrev pub bars_of : Scale → (Act → Bool) → List Act → List Bar
   bars_of scale test xs = map (bar_of scale) (filter test xs)
 
+  -- The text of the bars of the acts that pass, in their order.
   abbrev pub bars_text : Scale → (Act → Bool) → List Act → Bytes
   bars_text scale test xs = flat_map bar_line (bars_of scale test xs)

@@ -12,6 +12,7 @@ use Rattle.svg_text.specs.Shapes.{aside_text, class_text, group_text, point, wor
 abbrev pub margin : Architecture → ℕ
 margin a = 20 + 7 * min 32 (max (longest a.operators) (longest (map (λ m. m.name) a.media)))
 
+-- The height of all lanes together, 36 units for each operator and each medium.
 abbrev pub height_of_lanes : Architecture → ℕ
 height_of_lanes a = 36 * (length a.operators + length a.media)
 
@@ -24,6 +25,7 @@ unfoldable pub ground_text : Bytes → ℕ → Bytes
 ground_text class width =
     codes "<path" ++ (class_text class ++ (codes " d=\"M0 2H" ++ (decimal width ++ codes "V34H0z\"/>\n")))
 
+-- The name of a lane, as a text left of the lane.
 unfoldable pub name_text : Bytes → Bytes
 name_text name = aside_text (codes "name") (codes "22") ++ (name ++ words_end)
 

@@ -56,6 +56,8 @@ legend_text a = group_text (codes "legend") [] (point 0 (height_of_lanes a + 14)
 unfoldable pub begin_text : Architecture → Scale → Bytes
 begin_text a scale = head_text (size_of a scale) ++ group_text (codes "chart") [] (point (margin a) 44)
 
+-- The text of a whole picture of these acts at a scale: its head, the chart with its axis, lanes
+-- and arrows, and the legend below.
 unfoldable pub whole_text : Graph → Architecture → Scale → List Act → Bytes
 whole_text g a scale xs =
     begin_text a scale ++ (plot_text g a scale xs ++ (legend_text a ++ (END_GROUP.now ++ END.now)))

@@ -104,6 +104,8 @@ module _ (p : Program) where
         s ≢ (transfer p m t).sender → s ≢ (transfer p m t).receiver →
         x ≡ Sync (operator p (transfer p m t).sender) (operator p (transfer p m t).receiver)
 
+  -- Of this many media, only communicators have communications in their loops, one for each
+  -- transfer of their medium, in which one sends, one receives and all others wait.
   pub record AreTransferred (media : ℕ) : Type 0 where
     pub communicators : (s a : ℕ) (x : Instr) → Stands p s a x → is_communication x ≡ true →
         (m : ℕ) × (medium p s ≡ Some m)
@@ -165,6 +167,8 @@ module _ (p : Program) where
     pub numbered : map (λ o. Some o) p.pairs ≡ map (λ r. operator_of p r.buffer) (readers p)
     pub pairs : (q : ℕ) → q < length p.pairs → IsGuarded q
 
+  -- Each prologue opens the pairs by which its sequence reads, by number and once for
+  -- each place, and does nothing else.
   abbrev pub AreOpened : Type 0
   AreOpened = (s : ℕ) → s < length p.seqs → prologue p s ≡ opening_of p s
 

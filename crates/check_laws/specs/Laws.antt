@@ -49,12 +49,18 @@ WellFormedHasItems = (p : Program) (g : Graph) (a : Architecture) → IsTrue (is
 -- What each cause says: what is asked before it is there, and it is not; or all is there, there is no serial order,
 -- and the run stops at these places.
 module _ (p : Program) (g : Graph) (seqs : List Seq) (operators media : ℕ) where
+  -- The sequences are those of the architecture, and what any instruction names is one
+  -- of the program, the flat graph or the architecture.
   abbrev pub Named : Type 0
   Named = AreNamed p (length g.vertices) operators seqs
 
+  -- Each operation of the flat graph is called once, in a computation sequence, and
+  -- the get half of a delay before its set half.
   abbrev pub Called : Type 0
   Called = (v : ℕ) (x : Vertex) → slice_get g.vertices v ≡ Some x → IsCalledOnce p v x
 
+  -- All conditions before this cause hold and its own does not; a run that is stuck is the cause if
+  -- all conditions hold, there is no serial order, and the run stops at these places.
   abbrev pub IsCause : Cause → Type 0
   IsCause sequences_differ = Named → ⊥
   IsCause calls_wrong = Named × (Called → ⊥)

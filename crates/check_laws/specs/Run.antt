@@ -45,25 +45,33 @@ abbrev pub lowest : (ℕ → Bool) → ℕ → ℕ → Option ℕ
 lowest test s zero = None
 lowest test s (suc n) = cond (test s) (Some s) (lowest test (suc s) n)
 
+-- This is what f gives for the given medium, and none if no medium is given.
 abbrev pub on_medium : Option ℕ → (ℕ → Option Place) → Option Place
 on_medium None f = None
 on_medium (Some m) f = f m
 
+-- If a sequence is given, it is added to the order and the run goes on by f; if none
+-- is given, the run ends with this order.
 abbrev pub step_with : Option ℕ → List ℕ → (List ℕ → List ℕ) → List ℕ
 step_with None order f = order
 step_with (Some s) order f = f (order ++ s ∷ [])
 
 module _ (p : Program) where
+  -- Transfer t of medium m is sent at this place.
   abbrev pub send_of : ℕ → ℕ → Option Place
   send_of m t = Some (record { sequence = (transfer p m t).sender; at = (transfer p m t).send_at })
 
+  -- Transfer t of medium m is received at this place.
   abbrev pub receive_of : ℕ → ℕ → Option Place
   receive_of m t = Some (record { sequence = (transfer p m t).receiver; at = (transfer p m t).receive_at })
 
+  -- The transfer before transfer t of medium m is received at this place; it is none
+  -- for transfer 0.
   abbrev pub receive_before : ℕ → ℕ → Option Place
   receive_before m zero = None
   receive_before m (suc t) = receive_of m t
 
+  -- The full semaphore of pair q is signalled at this place.
   abbrev pub signal_of : ℕ → Option Place
   signal_of q = Some (record { sequence = (writing p (pair p q).buffer).writer; at = (pair p q).signal_full })
 
@@ -81,10 +89,13 @@ module _ (p : Program) where
   Keeps order = (s a : ℕ) (x : Instr) (y : Place) → Stands p s a x → awaited s a x ≡ Some y →
       place_in order y.sequence y.at < place_in order s a
 
+  -- The instruction at the given place is among those that these entries make; it is
+  -- true if no place is given.
   abbrev pub is_past : List ℕ → Option Place → Bool
   is_past order None = true
   is_past order (Some x) = nat_lt x.at (made order x.sequence)
 
+  -- There is an instruction, number a of s, and these entries make what it awaits.
   abbrev pub may_go : List ℕ → ℕ → ℕ → Option Instr → Bool
   may_go order s a None = false
   may_go order s a (Some x) = is_past order (awaited s a x)
@@ -93,9 +104,12 @@ module _ (p : Program) where
   abbrev pub is_ready : List ℕ → ℕ → Bool
   is_ready order s = may_go order s (made order s) (slice_get (turn p s) (made order s))
 
+  -- This is the lowest sequence that is ready after these entries; it is none if no sequence is.
   abbrev pub next : List ℕ → Option ℕ
   next order = lowest (is_ready order) 0 (length p.seqs)
 
+  -- After these entries the run takes at most this many more, each the lowest ready
+  -- sequence, and stops earlier if none is ready.
   abbrev pub run_from : ℕ → List ℕ → List ℕ
   run_from zero order = order
   run_from (suc n) order = step_with (next order) order (λ o. run_from n o)

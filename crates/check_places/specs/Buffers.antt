@@ -70,6 +70,9 @@ module _ (p : Program) where
       (unless (has_places p b) (broken WrongPlaces (Buffer b) (in_loop m.sequence m.at))))
   buffer_place_by b (m ∷ u ∷ ms) reads = broken WrittenAgain (Buffer b) (in_loop u.sequence u.at)
 
+  -- The first place at which buffer b by itself is wrong, and None if it is right: it has to be
+  -- written once, touched on its own operator only, read by its writer after the write only, and as
+  -- deep as it may be.
   abbrev pub buffer_place : ℕ → Option Place
   buffer_place b = buffer_place_by b (marks_of p Written b) (marks_of p Read b)
 
@@ -85,6 +88,8 @@ module _ (p : Program) where
       (unless (has_same_len p m t) (broken UnequalLengths (Transfer m t) (in_loop c.receiver c.receive_at)))
       (unless (is_kept p m t) (broken OtherValue (Transfer m t) (in_loop c.receiver c.receive_at)))
 
+  -- The receive of transfer t of medium m if the buffer that is received has another length or
+  -- carries another value than the one that is sent, and None otherwise.
   abbrev pub kept_place : ℕ → ℕ → Option Place
   kept_place m t = kept_place_by m t (crossing p m t)
 
@@ -95,6 +100,8 @@ module _ (p : Program) (vertices : List Vertex) where
   guard_place v s a ins k d =
       unless (carries p vertices d.source (slice_get ins k)) (broken OtherInput (Input v k) (in_loop s a))
 
+  -- The call of operation v, as instruction a of sequence s, if its buffer k of these, which come
+  -- after those of its guards, does not carry source x in its length, and None if it does.
   abbrev pub input_place : ℕ → ℕ → ℕ → ℕ → List ℕ → ℕ → Source → Option Place
   input_place v s a guards ins k x =
       unless (carries p vertices x (slice_get ins k)) (broken OtherInput (Input v (guards + k)) (in_loop s a))
@@ -108,6 +115,8 @@ module _ (p : Program) (vertices : List Vertex) where
       (first_of (first_from (guard_place v s a ins) 0 x.guards)
       (first_from (input_place v s a (length x.guards) (drop (length x.guards) ins)) 0 x.ins))
 
+  -- The call of operation v, as instruction a of sequence s, if its buffer k of these does not
+  -- carry output k, which has length `len`, and None if it does.
   abbrev pub output_place : ℕ → ℕ → ℕ → List ℕ → ℕ → ℕ → Option Place
   output_place v s a outs k len =
       unless (gives_at p v k len (slice_get outs k)) (broken OtherOutput (Output v k) (in_loop s a))
@@ -119,11 +128,14 @@ module _ (p : Program) (vertices : List Vertex) where
       (unless (nat_eq (length outs) (length x.outs)) (broken UnequalOutputs (Operation v) (in_loop s a)))
       (first_from (output_place v s a outs) 0 x.outs)
 
+  -- The first thing that is wrong with what the call of operation v, as instruction a of sequence
+  -- s, reads and writes, and None if it reads and writes what the operation takes and gives.
   abbrev pub fit_place_at : ℕ → Vertex → ℕ → ℕ → Option Place
   fit_place_at v x s a =
       first_of (taken_place v x s a (ins_in (slice_get (turn p s) a)))
       (given_place v x s a (outs_in (slice_get (turn p s) a)))
 
+  -- The same for the first call of operation v in the program.
   abbrev pub fit_place : ℕ → Vertex → Option Place
   fit_place v x = fit_place_at v x (caller_of p v) (called_at p v)
 

@@ -32,5 +32,7 @@ module _ (p : Program) where
   abbrev pub call_place : ℕ → Vertex → Option Place
   call_place v x = call_place_by v x (marks_of p Called v)
 
+  -- The first place at which an operation is not called as it has to be, in the order of the
+  -- operations, and None if there is none.
   abbrev pub calls_place : List Vertex → Option Place
   calls_place vertices = first_from call_place 0 vertices

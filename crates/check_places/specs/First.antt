@@ -10,6 +10,8 @@ use Rattle.check_places.specs.declared.place.Subject.{Subject}
 use Rattle.check_places.specs.declared.place.Rule.{Rule}
 use Rattle.check_places.specs.declared.place.Place.{Place}
 
+-- Instruction a of this part of sequence s, or the end of the part if a is past its last
+-- instruction.
 abbrev pub spot_at : Part → ℕ → ℕ → Option Spot
 spot_at part s a = Some (record { part = part; sequence = s; at = a })
 

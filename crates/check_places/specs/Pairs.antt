@@ -58,6 +58,7 @@ use Rattle.check_places.specs.First.{broken, first_failing, first_from, in_loop,
 abbrev pub is_taken_before : ℕ → ℕ → List Mark → Bool
 is_taken_before s a takes = lone s takes && nat_lt (first_at takes) a
 
+-- These places are one instruction of sequence s, after its instruction a.
 abbrev pub is_signalled_after : ℕ → ℕ → List Mark → Bool
 is_signalled_after s a signals = lone s signals && nat_lt a (first_at signals)
 
@@ -66,10 +67,12 @@ abbrev pub is_taken_first : ℕ → List Mark → List Mark → Bool
 is_taken_first s reads takes =
     lone s takes && list_all (λ m. implies (nat_eq m.sequence s) (nat_lt (first_at takes) m.at)) reads
 
+-- These signals are one instruction of sequence s, after all of its reads among these places.
 abbrev pub is_signalled_last : ℕ → List Mark → List Mark → Bool
 is_signalled_last s reads signals =
     lone s signals && list_all (λ m. implies (nat_eq m.sequence s) (nat_lt m.at (first_at signals))) reads
 
+-- The instruction of a loop at this mark, and None if there is no mark.
 abbrev pub spot_of : Option Mark → Option Spot
 spot_of None = None
 spot_of (Some m) = in_loop m.sequence m.at
@@ -100,6 +103,8 @@ module _ (p : Program) where
       first_of (unless (is_taken_first s reads (marks_of p FullTaken q)) (broken FullNotTaken (Pair q) read))
       (unless (is_signalled_last s reads (marks_of p EmptySignalled q)) (broken EmptyNotSignalled (Pair q) read))
 
+  -- The first place at which pair q is wrong for a buffer that is read at these places and for this
+  -- reader of it, and None if there is none: of its declaration, then its writer, then its reader.
   abbrev pub pair_place_by : ℕ → Reader → List Mark → Option Place
   pair_place_by q x reads =
       first_of (declared_place q x.buffer (spot_in x.sequence reads))
@@ -129,5 +134,7 @@ signal_place s a [] (q ∷ qs) = broken MissingSignal (Pair q) (spot_at Prologue
 signal_place s a (x ∷ xs) (q ∷ qs) =
     cond (signals_empty q x) (signal_place s (a + 1) xs qs) (broken MissingSignal (Pair q) (spot_at Prologue s a))
 
+-- The first place at which a prologue is not as it has to be, by sequence and then by instruction,
+-- and None if there is none.
 abbrev pub prologue_place : Program → Option Place
 prologue_place p = first_from (λ s (c : SeqCode). signal_place s 0 c.prologue (pairs_signalled p s)) 0 p.seqs

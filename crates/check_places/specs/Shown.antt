@@ -129,6 +129,8 @@ module _ (p : Program) (g : Graph) (seqs : List Seq) (operators media : ℕ) whe
     pub on_media : (m : ℕ) → medium p s ≡ Some m → m < media
     pub counts : (m : ℕ) → medium p s ≡ Some m → count_by is_communication (turn p s) ≡ transfers p m
 
+  -- Sequence s has a communication and is no thread, or it is at a medium that is not there, or it
+  -- has more or fewer communications than its medium has transfers.
   abbrev pub IsMiscommunicating : ℕ → Type 0
   IsMiscommunicating s = Communicates s → ⊥
 
@@ -136,6 +138,8 @@ module _ (p : Program) (g : Graph) (seqs : List Seq) (operators media : ℕ) whe
   abbrev pub IsMistransferred : ℕ → ℕ → Type 0 → Type 0
   IsMistransferred m t Right = (m < media) × (t < transfers p m) × (Right → ⊥)
 
+  -- Buffer b is there, but it is not written once, touched on its own operator only, read by its
+  -- writer after the write only, as deep as it may be, and made by a call in the end.
   abbrev pub IsMiswritten : ℕ → Type 0
   IsMiswritten b = (b < length p.buffers) × (IsWrittenOnce p b → ⊥)
 
@@ -145,6 +149,7 @@ module _ (p : Program) (g : Graph) (seqs : List Seq) (operators media : ℕ) whe
       CarryInOrder p [] (places p) (carried p) g (calling p v).ins (map (λ d. d.source) x.guards ++ x.ins) ×
       CarryOutputs p [] (places p) (carried p) g v 0 (calling p v).outs x.outs
 
+  -- Operation v is there, but the buffers of its call do not carry what it takes and gives.
   abbrev pub IsMisfitting : ℕ → Type 0
   IsMisfitting v = (x : Vertex) × (slice_get g.vertices v ≡ Some x) × (Fits v x → ⊥)
 
@@ -160,6 +165,8 @@ module _ (p : Program) (g : Graph) (seqs : List Seq) (operators media : ℕ) whe
       (slice_get (map (λ o. Some o) p.pairs) q ≡ slice_get (map (λ r. operator_of p r.buffer) (readers p)) q) ×
       IsGuarded p q
 
+  -- Pair q is not right: it is missing or one too many, is on another operator than its buffer, or
+  -- does not guard it. A number beyond all pairs is not right either.
   abbrev pub IsMisguarded : ℕ → Type 0
   IsMisguarded q = IsPaired q → ⊥
 
@@ -183,6 +190,8 @@ module _ (p : Program) (g : Graph) (seqs : List Seq) (operators media : ℕ) whe
   ShowsBy prologue_wrong x (Some y) = IsMisopened y.sequence
   ShowsBy _ _ _ = ⊥
 
+  -- The place shows its cause: what the cause asks of the program does not hold of the subject of
+  -- the place, or of its instruction.
   abbrev pub Shows : Place → Type 0
   Shows x = ShowsBy (cause_of x.rule) x.subject x.spot
 

@@ -30,10 +30,14 @@ outside_place s q =
     unless (is_at_medium q.seq.medium q.turn)
     (broken OutsideThread (Sequence s) (in_loop s (communication_at q.turn 0)))
 
+-- Sequence s, without an instruction, if it is at a medium that is not one of this many, and None
+-- otherwise.
 abbrev pub medium_place : ℕ → ℕ → SeqCode → Option Place
 medium_place media s q = unless (is_medium media q.seq.medium) (broken UnknownMedium (Sequence s) None)
 
 module _ (p : Program) where
+  -- Sequence s, without an instruction, if it is at a medium and its loop has more or fewer
+  -- communications than the medium has transfers, and None otherwise.
   abbrev pub count_place : ℕ → SeqCode → Option Place
   count_place s q = unless (is_counted p q.seq.medium q.turn) (broken UnequalTransfers (Sequence s) None)
 
@@ -57,6 +61,8 @@ module _ (p : Program) where
       (broken ReceivedElsewhere (Transfer m t) (in_loop c.receiver c.receive_at)))
       (first_from (awaited_place m t c) 0 p.seqs))))
 
+  -- The first thing that is wrong with how transfer t of medium m is sent, received and waited for,
+  -- and None if nothing is.
   abbrev pub moved_place : ℕ → ℕ → Option Place
   moved_place m t = moved_place_by m t (crossing p m t)
 
@@ -64,6 +70,8 @@ module _ (p : Program) where
   abbrev pub first_on : (ℕ → ℕ → Option Place) → ℕ → Option Place
   first_on place m = first_below (place m) (transfers p m)
 
+  -- The first place that is given for a transfer of one of this many media, by medium and then by
+  -- transfer, and None if there is none.
   abbrev pub first_over : (ℕ → ℕ → Option Place) → ℕ → Option Place
   first_over place media = first_below (first_on place) media
 

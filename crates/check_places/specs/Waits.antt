@@ -11,15 +11,20 @@ use Rattle.check_places.specs.declared.place.Part.TheVariants.{Loop}
 use Rattle.check_places.specs.declared.place.Spot.{Spot}
 use Rattle.check_places.specs.declared.place.Waiting.{Waiting}
 
+-- The instruction of a loop that is meant, and None if there is none.
 abbrev pub spot_of : Option Stand → Option Spot
 spot_of None = None
 spot_of (Some y) = Some (record { part = Loop; sequence = y.sequence; at = y.at })
 
 module _ (p : Program) where
+  -- The instruction for which instruction a of the loop of sequence s waits, and None if it waits
+  -- for none or is not there.
   abbrev pub awaits : ℕ → ℕ → Option Instr → Option Spot
   awaits s a None = None
   awaits s a (Some x) = spot_of (stand_or (awaited p s a x))
 
+  -- The loop that has come to this instruction and is not at its end, with the instruction for
+  -- which it waits.
   abbrev pub waiting : run.Place → Waiting
   waiting y = record {
     sequence = y.sequence;
@@ -27,5 +32,6 @@ module _ (p : Program) where
     awaits = awaits y.sequence y.at (slice_get (turn p y.sequence) y.at);
   }
 
+  -- The same for each of these, in their order.
   abbrev pub waitings : List run.Place → List Waiting
   waitings ys = map waiting ys

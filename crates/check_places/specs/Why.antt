@@ -27,6 +27,7 @@ use Rattle.check_places.specs.Pairs.{pairs_place, prologue_place}
 use Rattle.check_places.specs.Names.{names_place}
 use Rattle.check_places.specs.Waits.{waitings}
 
+-- The place as the reason why a program is not well formed, and None if there is no place.
 abbrev pub breaks : Option Place → Option Why
 breaks None = None
 breaks (Some x) = Some (Breaks x)
@@ -49,6 +50,8 @@ RightBefore p media (stuck_at places) = MayRun p media
 RightBefore p media _ = Unit {0}
 
 module _ (p : Program) (vertices : List Vertex) (seqs : List Seq) (operators media : ℕ) where
+  -- What is found for a cause: the first place that shows it or, if the loops wait for each other,
+  -- what each of them waits for. It is None if no place shows it.
   abbrev pub why_of : Cause → Option Why
   why_of sequences_differ = breaks (names_place p (length vertices) operators seqs)
   why_of calls_wrong = by_tables p vertices media calls_wrong
@@ -58,6 +61,7 @@ module _ (p : Program) (vertices : List Vertex) (seqs : List Seq) (operators med
   why_of prologue_wrong = by_tables p vertices media prologue_wrong
   why_of (stuck_at places) = by_tables p vertices media (stuck_at places)
 
+  -- The same for a cause if there is one, and None otherwise.
   abbrev pub why_by : Option Cause → Option Why
   why_by None = None
   why_by (Some c) = why_of c

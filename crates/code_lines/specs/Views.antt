@@ -93,6 +93,7 @@ AreWords (told.One w) ws = ws ≡ w.now ∷ []
 AreWords (told.Two w v) ws = ws ≡ w.now ∷ v.now ∷ []
 AreWords told.Many ws = 2 < length ws
 
+-- What was found is what is asked for: the same two arguments, or none.
 abbrev pub AreTwo : Option (Bor Bytes × Bor Bytes) → Option Two → Type 0
 AreTwo None asked = asked ≡ None
 AreTwo (Some p) asked = asked ≡ Some (record { first = p.0.now; second = p.1.now })
@@ -100,11 +101,13 @@ AreTwo (Some p) asked = asked ≡ Some (record { first = p.0.now; second = p.1.n
 abbrev pub texts_of : List (Bor Bytes) → List Bytes
 texts_of ws = map (λ w. w.now) ws
 
+-- A form that the code has found is this form of the definition, with the same bytes.
 abbrev pub form_view : declared_form.Form → Form
 form_view (read.Bare name) = bare name.now
 form_view (read.Listed name list) = listed name.now list.now
 form_view (read.Call operation ins outs) = call operation.now ins.now outs.now
 
+-- What was found is what is asked for: the same form, or none.
 abbrev pub IsForm : Option declared_form.Form → Option Form → Type 0
 IsForm None asked = asked ≡ None
 IsForm (Some f) asked = asked ≡ Some (form_view f)
@@ -140,6 +143,7 @@ abbrev pub call_in : List Bytes → ℕ → List ℕ → Operation → Result In
 call_in operations line here o =
     call_of operations line here o.name.now (arguments_of o.ins.now) (arguments_of o.outs.now)
 
+-- A declaration that the code has read is this one of the definition, with the same numbers.
 abbrev pub declaration_view : declared_declaration.Declaration → Declaration
 declaration_view d = record { number = d.number; len = d.len; depth = d.depth }
 
@@ -152,14 +156,20 @@ abbrev pub GivesWord : Result (Bor (List ℕ)) CodeError → Result Bytes CodeEr
 GivesWord (Ok w) read = read ≡ Ok w.now
 GivesWord (Err e) read = Fails e read
 
+-- The medium that was read, with its word, is the one that is defined; an error is the
+-- refusal that is defined, or want of memory.
 abbrev pub GivesJoined : Result declared_joined.Joined CodeError → Result Joined CodeError → Type 0
 GivesJoined (Ok j) read = read ≡ Ok (record { word = j.word.now; medium = j.medium })
 GivesJoined (Err e) read = Fails e read
 
+-- The buffer and the operator that were read are those that are defined; an error is
+-- the refusal that is defined, or want of memory.
 abbrev pub GivesMoved : Result declared_moved.Moved CodeError → Result Moved CodeError → Type 0
 GivesMoved (Ok m) read = read ≡ Ok (record { buffer = m.buffer; operator = m.operator })
 GivesMoved (Err e) read = Fails e read
 
+-- The two operators that were read are those that are defined; an error is the refusal
+-- that is defined, or want of memory.
 abbrev pub GivesEnds : Result declared_ends.Ends CodeError → Result Ends CodeError → Type 0
 GivesEnds (Ok e) read = read ≡ Ok (record { from = e.from; to = e.to })
 GivesEnds (Err e) read = Fails e read

@@ -65,12 +65,15 @@ pub data Form : Type 0 where
   listed : Bytes → Bytes → Form
   call : Bytes → Bytes → Bytes → Form
 
+-- The byte is an opening parenthesis.
 abbrev pub is_open : ℕ → Bool
 is_open b = b == 40
 
+-- The byte is a semicolon.
 abbrev pub is_semicolon : ℕ → Bool
 is_semicolon b = b == 59
 
+-- The byte is a comma.
 abbrev pub is_comma : ℕ → Bool
 is_comma b = b == 44
 
@@ -86,6 +89,7 @@ is_unmarked bs = not (list_any is_mark bs)
 abbrev pub before : (ℕ → Bool) → Bytes → Bytes
 before test bs = take (position_or_len test bs) bs
 
+-- This is what comes after the first byte that passes the test; it is empty if none passes.
 abbrev pub after : (ℕ → Bool) → Bytes → Bytes
 after test bs = drop (position_or_len test bs + 1) bs
 
@@ -93,9 +97,11 @@ after test bs = drop (position_or_len test bs + 1) bs
 abbrev pub is_closed : Bytes → Bool
 is_closed bs = bytes_eq (drop (length bs - 1) bs) (codes ")")
 
+-- These are all bytes but the last, which is the closing parenthesis if the text is closed.
 abbrev pub inside : Bytes → Bytes
 inside bs = take (length bs - 1) bs
 
+-- The text is not empty.
 abbrev pub has_bytes : Bytes → Bool
 has_bytes [] = false
 has_bytes (b ∷ bs) = true
@@ -109,6 +115,8 @@ abbrev pub list_form : Bytes → Bytes → Option Form
 list_form name rest =
     if may_name name && is_closed rest && is_unmarked (inside rest) then Some (listed name (inside rest)) else None
 
+-- A word has the form of a macro without parentheses if it is a name other than `op`,
+-- and otherwise none.
 abbrev pub name_form : Bytes → Option Form
 name_form w = if may_name w then Some (bare w) else None
 
@@ -122,6 +130,8 @@ lists_form operation lists =
     if list_any is_semicolon lists && is_unmarked (before is_semicolon lists) && is_unmarked (after is_semicolon lists)
     then Some (call operation (before is_semicolon lists) (after is_semicolon lists)) else None
 
+-- An operation and what comes after its opening parenthesis form a call if the operation is not
+-- empty and has no mark, and the rest is closed and has two lists; otherwise there is no form.
 abbrev pub operation_form : Bytes → Bytes → Option Form
 operation_form operation rest =
     if has_bytes operation && is_unmarked operation && is_closed rest then lists_form operation (inside rest) else None
@@ -151,6 +161,7 @@ abbrev pub found_in : List Macro → Bytes → Option Macro
 found_in [] name = None
 found_in (m ∷ ms) name = if bytes_eq name (word_of m) then Some m else found_in ms name
 
+-- This is the macro of this name, and none if no macro has it.
 unfoldable pub macro_of : Bytes → Option Macro
 macro_of name = found_in macros name
 
@@ -159,6 +170,8 @@ abbrev pub arguments_of : Bytes → List Bytes
 arguments_of [] = []
 arguments_of (b ∷ bs) = slice_split is_comma (b ∷ bs)
 
+-- An integer that was read is this number if it is not negative; a negative one, and a
+-- word that is no integer, give none.
 abbrev pub natural : Result ℤ NumFault → Option ℕ
 natural (Ok (pos n)) = Some n
 natural (Ok (negsuc n)) = None
@@ -173,6 +186,7 @@ abbrev pub buffer_in : Bytes → Option ℕ
 buffer_in [] = None
 buffer_in (b ∷ bs) = if b == 98 then number_in bs else None
 
+-- The number is put before the list; the result is none if either of them is.
 abbrev pub with_first : Option ℕ → Option (List ℕ) → Option (List ℕ)
 with_first None ns = None
 with_first (Some n) None = None
@@ -188,6 +202,7 @@ abbrev pub from_to : ℕ → ℕ → Option ℕ → Option ℕ
 from_to least most None = None
 from_to least most (Some n) = if nat_le least n && nat_le n most then Some n else None
 
+-- A number that is not below `least` is kept; a lesser one, and none, give none.
 abbrev pub at_least : ℕ → Option ℕ → Option ℕ
 at_least least None = None
 at_least least (Some n) = if nat_le least n then Some n else None
@@ -198,6 +213,7 @@ pub record Declaration : Type 0 where
   pub len : ℕ
   pub depth : ℕ
 
+-- A declaration has this number, length and number of places; it is none if any of them is.
 abbrev pub declared_by : Option ℕ → Option ℕ → Option ℕ → Option Declaration
 declared_by (Some number) (Some len) (Some depth) = Some (record { number = number; len = len; depth = depth })
 declared_by (Some number) (Some len) None = None

@@ -20,6 +20,7 @@ abbrev pub Steps : {S T : Type 0} → Result T CodeError → S → Result S Code
 Steps (Ok _) new read = read ≡ Ok new
 Steps (Err e) new read = Fails e read
 
+-- This is the error by which a text is refused at line n for this cause.
 abbrev pub stop : ℕ → CodeCause → CodeError
 stop n why = Refused (record { line = n; cause = why })
 

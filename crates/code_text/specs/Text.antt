@@ -121,6 +121,7 @@ pub record Reading : Type 0 where
   pub prologue : List Instr
   pub turn : List Instr
 
+-- Nothing was read so far: no processor has begun, nothing is declared, and there is no sequence.
 abbrev pub start : Reading
 start = record {
   stage = Outside;
@@ -141,12 +142,15 @@ start = record {
   turn = [];
 }
 
+-- The text is refused at this line for this cause.
 abbrev pub refused : {A : Type 0} → ℕ → CodeCause → Result A CodeError
 refused line cause = Err (Refused (record { line = line; cause = cause }))
 
+-- The program is refused because its count is above the bound of this limit.
 abbrev pub above : {A : Type 0} → LimitKind → ℕ → Result A CodeError
 above which count = Err (Limit (record { which = which; count = count; bound = bound_of which }))
 
+-- If a value was read, reading goes on with it; an error is final.
 abbrev pub and_then : {A B : Type 0} → Result A CodeError → (A → Result B CodeError) → Result B CodeError
 and_then (Ok x) go = go x
 and_then (Err e) go = Err e
@@ -156,14 +160,19 @@ abbrev pub argument : {A : Type 0} → ℕ → Option A → Result A CodeError
 argument n None = refused n BadArgument
 argument n (Some x) = Ok x
 
+-- A name that was found gives what it names; if it was not found, line n is refused
+-- because the name w is unknown.
 abbrev pub known : {A : Type 0} → ℕ → Bytes → Option A → Result A CodeError
 known n w None = refused n (UnknownName w)
 known n w (Some x) = Ok x
 
+-- A macro that was found is given; if it was not found, line n is refused because w is
+-- not the name of a macro.
 abbrev pub known_macro : ℕ → Bytes → Option Macro → Result Macro CodeError
 known_macro n w None = refused n (UnknownMacro w)
 known_macro n w (Some m) = Ok m
 
+-- The form of a line is given; if it has none, line n is refused as a bad line.
 abbrev pub formed : ℕ → Option Form → Result Form CodeError
 formed n None = refused n BadLine
 formed n (Some f) = Ok f
@@ -172,19 +181,24 @@ formed n (Some f) = Ok f
 abbrev pub Arguments : Type 0
 Arguments = Option (List Bytes)
 
+-- A line without parentheses goes on; one with parentheses is refused for its
+-- arguments, even if nothing is between them.
 abbrev pub without : {A : Type 0} → ℕ → Arguments → Result A CodeError → Result A CodeError
 without n arguments go = if is_none arguments then go else refused n BadArgument
 
+-- This is the argument of a line that has exactly one, and none for any other line.
 abbrev pub one_of : Arguments → Option Bytes
 one_of None = None
 one_of (Some []) = None
 one_of (Some (w ∷ [])) = Some w
 one_of (Some (w ∷ v ∷ ws)) = None
 
+-- A line has exactly these two arguments, in this order.
 pub record Two : Type 0 where
   pub first : Bytes
   pub second : Bytes
 
+-- These are the arguments of a line that has exactly two, and none for any other line.
 abbrev pub two_of : Arguments → Option Two
 two_of None = None
 two_of (Some []) = None
@@ -200,6 +214,8 @@ named w = if is_name w then Some w else None
 abbrev pub name_of : ℕ → Arguments → Result Bytes CodeError
 name_of n arguments = and_then (argument n (one_of arguments)) (λ w. argument n (named w))
 
+-- The name w is first found at this place of the list, counted from 0; it is none if
+-- the list does not have it.
 abbrev pub place_in : List Bytes → Bytes → Option ℕ
 place_in names w = position (bytes_eq w) names
 
@@ -208,9 +224,11 @@ abbrev pub follows : Option ℕ → ℕ → Bool
 follows None n = true
 follows (Some last) n = nat_lt last n
 
+-- This is the last number of the list, and none if the list is empty.
 abbrev pub last_of : List ℕ → Option ℕ
 last_of ns = slice_get ns (length ns - 1)
 
+-- The number n is in the list.
 abbrev pub is_among : List ℕ → ℕ → Bool
 is_among ns n = list_any (λ k. nat_eq k n) ns
 
@@ -224,6 +242,7 @@ abbrev pub first_unknown : List ℕ → List Bytes → Option Bytes
 first_unknown here [] = None
 first_unknown here (w ∷ ws) = if is_known here (buffer_in w) then first_unknown here ws else Some w
 
+-- If no name is unknown, reading goes on; otherwise line n is refused because of that name.
 abbrev pub unless_unknown : {A : Type 0} → ℕ → Option Bytes → Result A CodeError → Result A CodeError
 unless_unknown n None go = go
 unless_unknown n (Some w) go = refused n (UnknownName w)
@@ -233,26 +252,33 @@ abbrev pub is_outside : Stage → Bool
 is_outside Outside = true
 is_outside _ = false
 
+-- A processor has begun, and the line of its semaphores comes next.
 abbrev pub is_named : Stage → Bool
 is_named Named = true
 is_named _ = false
 
+-- The semaphores of a processor are declared, and its buffers, its first thread or its
+-- main part may come next.
 abbrev pub is_declared : Stage → Bool
 is_declared Declared = true
 is_declared _ = false
 
+-- A thread of a processor has ended, and another thread or the main part comes next.
 abbrev pub is_threaded : Stage → Bool
 is_threaded Threaded = true
 is_threaded _ = false
 
+-- A thread or a main part has begun, and its loop has not.
 abbrev pub is_prologue : Stage → Bool
 is_prologue Prologue = true
 is_prologue _ = false
 
+-- A loop has begun and has not ended.
 abbrev pub is_turn : Stage → Bool
 is_turn Turn = true
 is_turn _ = false
 
+-- A loop has ended, and the thread or main part that has it has not.
 abbrev pub is_ended : Stage → Bool
 is_ended Ended = true
 is_ended _ = false
@@ -261,6 +287,8 @@ is_ended _ = false
 abbrev pub starts_more : Reading → Bool
 starts_more r = not (is_some r.medium) && nat_lt (length r.spawned) (length r.media)
 
+-- The main part waits for the ends of fewer threads than the processor has, so that it
+-- may not end yet.
 abbrev pub awaits_more : Reading → Bool
 awaits_more r = not (is_some r.medium) && nat_lt (length r.awaited) (length r.media)
 
@@ -268,9 +296,12 @@ awaits_more r = not (is_some r.medium) && nat_lt (length r.awaited) (length r.me
 abbrev pub is_opening : Reading → Bool
 is_opening r = is_prologue r.stage && not (starts_more r)
 
+-- An instruction may come next: in a loop, or before it if all threads are started
+-- that a main part has to start.
 abbrev pub takes_instr : Reading → Bool
 takes_instr r = is_turn r.stage || is_opening r
 
+-- A line of this macro may come next after what was read.
 abbrev pub may_stand : Reading → Macro → Bool
 may_stand r Processor = is_outside r.stage
 may_stand r Semaphores = is_named r.stage
@@ -291,6 +322,7 @@ may_stand r Send = takes_instr r
 may_stand r Recv = takes_instr r
 may_stand r Sync = takes_instr r
 
+-- The processor that began last is this operator; it is 0 if none has begun.
 abbrev pub operator_here : Reading → ℕ
 operator_here r = number_or 0 r.operator
 
@@ -304,6 +336,7 @@ abbrev pub with_instr : Reading → Instr → Reading
 with_instr r x =
     if is_turn r.stage then record r { turn = r.turn ++ x ∷ [] } else record r { prologue = r.prologue ++ x ∷ [] }
 
+-- A pair or a buffer is declared with this number, in this line.
 abbrev pub numbered : ℕ → ℕ → Numbered
 numbered line number = record { number = number; line = line }
 
@@ -318,13 +351,18 @@ with_pairs r n qs =
       pairs_here = qs;
     }
 
+-- Numbers that ascend strictly are kept; otherwise line n is refused for its arguments.
 abbrev pub ascending : ℕ → List ℕ → Result (List ℕ) CodeError
 ascending n qs = if ascends_from 0 qs then Ok qs else refused n BadArgument
 
+-- A line `semaphores_` declares these pairs, which may be none; it is refused for its arguments
+-- if it has no parentheses, if one is not a number, or if they do not ascend.
 abbrev pub pairs_of : ℕ → Arguments → Result (List ℕ) CodeError
 pairs_of n arguments =
     and_then (argument n arguments) (λ ws. and_then (argument n (each_in number_in ws)) (λ qs. ascending n qs))
 
+-- This is what was read after line n, a line `semaphores_` with these arguments, or
+-- the refusal of the line.
 abbrev pub semaphores_line : Reading → ℕ → Arguments → Result Reading CodeError
 semaphores_line r n arguments = and_then (pairs_of n arguments) (λ qs. Ok (with_pairs r n qs))
 
@@ -343,6 +381,8 @@ declaration_of n here arguments =
     and_then (argument n (declaration_in ws)) (λ d.
     if follows (last_of here) d.number then Ok d else refused n BadArgument))
 
+-- This is what was read after line n, a line `alloc_` with these arguments, or the
+-- refusal of the line.
 abbrev pub alloc_line : Reading → ℕ → Arguments → Result Reading CodeError
 alloc_line r n arguments = and_then (declaration_of n r.buffers_here arguments) (λ d. Ok (with_buffer r n d))
 
@@ -355,9 +395,12 @@ main_line r n arguments =
 abbrev pub loop_line : Reading → ℕ → Arguments → Result Reading CodeError
 loop_line r n arguments = without n arguments (Ok (record r { stage = Turn }))
 
+-- This is what was read after line n, a line `endloop_`, or its refusal if it has arguments.
 abbrev pub end_loop_line : Reading → ℕ → Arguments → Result Reading CodeError
 end_loop_line r n arguments = without n arguments (Ok (record r { stage = Ended }))
 
+-- This is what was read after line n, a line `endthread_` with which a thread of the
+-- processor ends, or its refusal if it has arguments.
 abbrev pub end_thread_line : Reading → ℕ → Arguments → Result Reading CodeError
 end_thread_line r n arguments =
     without n arguments
@@ -380,6 +423,8 @@ pair_of n here arguments =
     and_then (argument n (number_in w)) (λ q.
     if is_among here q then Ok q else refused n (UnknownName w)))
 
+-- This is what was read after line n, whose instruction `make` makes of the pair that
+-- it names, or the refusal of the line.
 abbrev pub pair_line : Reading → ℕ → (ℕ → Instr) → Arguments → Result Reading CodeError
 pair_line r n make arguments = and_then (pair_of n r.pairs_here arguments) (λ q. Ok (with_instr r (make q)))
 
@@ -397,14 +442,18 @@ pub record Moved : Type 0 where
   pub buffer : ℕ
   pub operator : ℕ
 
+-- A line `sync_` names these two operators, the sender and the receiver of the transfer.
 pub record Ends : Type 0 where
   pub from : ℕ
   pub to : ℕ
 
 module _ (a : Architecture) where
+  -- The media of the architecture have these names, by number.
   abbrev pub medium_names : List Bytes
   medium_names = map (λ m. m.name) a.media
 
+  -- The operator of the name w has this number; if there is none, line n is refused
+  -- because the name is unknown.
   abbrev pub operator_of : ℕ → Bytes → Result ℕ CodeError
   operator_of n w = known n w (place_in a.operators w)
 
@@ -415,9 +464,12 @@ module _ (a : Architecture) where
       and_then (operator_of n w) (λ o.
       if follows last o then Ok o else refused n BadArgument))
 
+  -- The processor of operator o has begun, and it has no pairs, buffers and threads yet.
   abbrev pub at_processor : Reading → ℕ → Reading
   at_processor r o = record r { stage = Named; operator = Some o; pairs_here = []; buffers_here = []; media = [] }
 
+  -- This is what was read after line n, a line `processor_` with these arguments, or
+  -- the refusal of the line.
   abbrev pub processor_line : Reading → ℕ → Arguments → Result Reading CodeError
   processor_line r n arguments = and_then (processor_of n r.operator arguments) (λ o. Ok (at_processor r o))
 
@@ -432,6 +484,8 @@ module _ (a : Architecture) where
   abbrev pub at_thread : Reading → ℕ → Reading
   at_thread r m = record r { stage = Prologue; media = r.media ++ m ∷ []; medium = Some m }
 
+  -- This is what was read after line n, a line `thread_` with these arguments, or the
+  -- refusal of the line.
   abbrev pub thread_line : Reading → ℕ → Arguments → Result Reading CodeError
   thread_line r n arguments = and_then (medium_of n r.media arguments) (λ j. Ok (at_thread r j.medium))
 
@@ -442,10 +496,14 @@ module _ (a : Architecture) where
       and_then (medium_of n media arguments) (λ j.
       if is_among threads j.medium then Ok j.medium else refused n (UnknownName j.word))
 
+  -- This is what was read after line n, a line `spawn_thread_` with these arguments,
+  -- or the refusal of the line.
   abbrev pub spawn_line : Reading → ℕ → Arguments → Result Reading CodeError
   spawn_line r n arguments =
       and_then (thread_of n r.media r.spawned arguments) (λ m. Ok (record r { spawned = r.spawned ++ m ∷ [] }))
 
+  -- This is what was read after line n, a line `wait_endthread_` with these arguments,
+  -- or the refusal of the line.
   abbrev pub wait_line : Reading → ℕ → Arguments → Result Reading CodeError
   wait_line r n arguments =
       and_then (thread_of n r.media r.awaited arguments) (λ m. Ok (record r { awaited = r.awaited ++ m ∷ [] }))
@@ -459,6 +517,8 @@ module _ (a : Architecture) where
       and_then (declared_buffer n here t.first b) (λ _.
       and_then (operator_of n t.second) (λ o. Ok (record { buffer = b; operator = o }))))))
 
+  -- This is what was read after line n, whose instruction `make` makes of the buffer
+  -- and the operator that it names, or the refusal of the line.
   abbrev pub transfer_line : Reading → ℕ → (ℕ → ℕ → Instr) → Arguments → Result Reading CodeError
   transfer_line r n make arguments =
       and_then (moved_of n r.buffers_here arguments) (λ t. Ok (with_instr r (make t.buffer t.operator)))
@@ -472,9 +532,13 @@ module _ (a : Architecture) where
       and_then (operator_of n t.first) (λ from.
       and_then (operator_of n t.second) (λ to. Ok (record { from = from; to = to }))))))
 
+  -- This is what was read after line n, a line `sync_` with these arguments, or the
+  -- refusal of the line.
   abbrev pub sync_line : Reading → ℕ → Arguments → Result Reading CodeError
   sync_line r n arguments = and_then (ends_of n arguments) (λ e. Ok (with_instr r (instr.Sync e.from e.to)))
 
+  -- This is what was read after line n, a line of this macro that may come next, or
+  -- the refusal of the line for its arguments or for a name.
   abbrev pub macro_line : Reading → ℕ → Arguments → Macro → Result Reading CodeError
   macro_line r n arguments Processor = processor_line r n arguments
   macro_line r n arguments Semaphores = semaphores_line r n arguments
@@ -499,9 +563,12 @@ module _ (a : Architecture) where
   abbrev pub placed_line : Reading → ℕ → Arguments → Macro → Result Reading CodeError
   placed_line r n arguments m = if may_stand r m then macro_line r n arguments m else refused n BadLine
 
+  -- This is what was read after line n, which begins with this name, or the refusal of the line:
+  -- first if it names no macro, then if that may not come next, then for its arguments.
   abbrev pub named_line : Reading → ℕ → Bytes → Arguments → Result Reading CodeError
   named_line r n name arguments = and_then (known_macro n name (macro_of name)) (placed_line r n arguments)
 
+-- The operations of the flat graph have these names, by number.
 abbrev pub operation_names : Graph → List Bytes
 operation_names g = map (λ x. x.name) g.vertices
 
@@ -517,6 +584,8 @@ module _ (operations : List Bytes) where
       (unless_unknown n (first_unknown here outs)
       (Ok (instr.Call v is os))))))
 
+  -- This is what was read after line n, a call of this operation on these buffers, or the
+  -- refusal of the line; it is a bad line if no instruction may come next.
   abbrev pub call_line : Reading → ℕ → Bytes → List Bytes → List Bytes → Result Reading CodeError
   call_line r n operation ins outs =
       if takes_instr r then and_then (call_of n r.buffers_here operation ins outs) (λ x. Ok (with_instr r x))
@@ -527,6 +596,8 @@ abbrev pub place_from : ℕ → ℕ → List Numbered → Option ℕ
 place_from number place [] = None
 place_from number place (d ∷ ds) = if nat_eq d.number number then Some place else place_from number (place + 1) ds
 
+-- The first of the declarations with this number has this place, counted from 0; it is
+-- none if there is no such declaration.
 abbrev pub place_of : ℕ → List Numbered → Option ℕ
 place_of number ds = place_from number 0 ds
 
@@ -537,6 +608,8 @@ first_wrong count before (d ∷ ds) =
     if nat_le count d.number || is_some (place_of d.number before) then Some d.line
     else first_wrong count (before ++ d ∷ []) ds
 
+-- This is the line of the first declaration whose number was used before or is not below the
+-- number of declarations; it is none if the numbers from 0 on are used, each once.
 abbrev pub misnumbered : List Numbered → Option ℕ
 misnumbered ds = first_wrong (length ds) [] ds
 
@@ -550,16 +623,23 @@ earlier (Some n) (Some m) = Some (min n m)
 abbrev pub no_size : Size
 no_size = record { operator = 0; len = 0; depth = 0 }
 
+-- A buffer has the operator, the length and the places that its declaration says.
 abbrev pub sized : Size → Buffer
 sized s = record { operator = s.operator; len = s.len; depth = s.depth }
 
+-- This is the element at the given place of the list, or `missing` if no place is
+-- given or the list ends before it.
 abbrev pub at_place : {A : Type 0} → List A → A → Option ℕ → A
 at_place xs missing None = missing
 at_place xs missing (Some k) = slice_index_or xs k missing
 
+-- Buffer b is the one that was declared with this number; if none was, its operator,
+-- length and places are 0.
 abbrev pub buffer_of : Reading → ℕ → Buffer
 buffer_of r b = sized (at_place r.sizes no_size (place_of b r.buffers))
 
+-- The pair of number q was declared on this operator; it is 0 if none was declared
+-- with this number.
 abbrev pub owner_of : Reading → ℕ → ℕ
 owner_of r q = at_place r.owners 0 (place_of q r.pairs)
 
@@ -575,10 +655,14 @@ program_of r = record {
 abbrev pub longest_in : Program → ℕ → SeqCode → ℕ
 longest_in p m q = cond (is_on m q.seq.medium) (max (longest_sent p q.prologue) (longest_sent p q.turn)) 0
 
+-- The longest buffer that any of these sequences sends over medium m, before its loop
+-- or in it, has this many elements; it is 0 if none sends over it.
 abbrev pub longest_on : Program → ℕ → List SeqCode → ℕ
 longest_on p m [] = 0
 longest_on p m (q ∷ qs) = max (longest_in p m q) (longest_on p m qs)
 
+-- The wire of medium m has this many elements, enough for any buffer that a thread of
+-- m sends, before its loop or in it; it is 0 if none sends.
 abbrev pub wire_len : Program → ℕ → ℕ
 wire_len p m = longest_on p m p.seqs
 
@@ -590,12 +674,18 @@ words p media = 2 * length p.pairs + media + sum_by (λ x. x.depth * x.len) p.bu
 abbrev pub within_steps : Program → Result Program CodeError
 within_steps p = if nat_lt (bound_of MicroSteps) (all_turns p) then above MicroSteps (all_turns p) else Ok p
 
+-- A program within the limits on words and on micro-steps of a reaction is kept;
+-- otherwise it is refused by the first limit, words first.
 abbrev pub limited : ℕ → Program → Result Program CodeError
 limited media p = if nat_lt (bound_of Words) (words p media) then above Words (words p media) else within_steps p
 
+-- This is the first line that declares a pair or a buffer with a wrong number; it is
+-- none if pairs and buffers each use the numbers from 0 on, each once.
 abbrev pub first_misnumbered : Reading → Option ℕ
 first_misnumbered r = earlier (misnumbered r.pairs) (misnumbered r.buffers)
 
+-- If a line has a wrong number, the text is refused there; otherwise this is its
+-- program, or the limit that it is above.
 abbrev pub counted : ℕ → Reading → Option ℕ → Result Program CodeError
 counted media r (Some line) = refused line BadArgument
 counted media r None = limited media (program_of r)
@@ -606,6 +696,7 @@ abbrev pub whole : ℕ → Reading → ℕ → Result Program CodeError
 whole media r n = if is_outside r.stage then counted media r (first_misnumbered r) else refused n BadLine
 
 module _ (operations : List Bytes) (a : Architecture) where
+  -- This is what was read after line n of this form, or the refusal of the line.
   abbrev pub line_of : Reading → ℕ → Form → Result Reading CodeError
   line_of r n (bare name) = named_line a r n name None
   line_of r n (listed name list) = named_line a r n name (Some (arguments_of list))
@@ -621,9 +712,13 @@ module _ (operations : List Bytes) (a : Architecture) where
   line_by r n line None =
       if nat_eq (length (words_of (code_of line))) 0 then Ok r else words_line r n (words_of (code_of line))
 
+  -- This is what was read after line n, or the refusal of the line; a byte that no
+  -- line may have refuses it first.
   abbrev pub next_line : Reading → ℕ → Bytes → Result Reading CodeError
   next_line r n line = line_by r n line (foreign_place line)
 
+  -- A text whose lines from line n on are these says this program after what was read,
+  -- or has this first refusal.
   abbrev pub rest_of : Reading → ℕ → List Bytes → Result Program CodeError
   rest_of r n [] = whole (length a.media) r n
   rest_of r n (line ∷ lines) = and_then (next_line r n line) (λ after. rest_of after (n + 1) lines)

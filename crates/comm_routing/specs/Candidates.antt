@@ -84,6 +84,7 @@ pub record HasWalks (w : Walks) : Type 0 where
 abbrev pub AreUnknown : List (Option ℕ) → Type 0
 AreUnknown row = (p : ℕ) → slice_index_or row p None ≡ None
 
+-- The arrivals that are kept of operation v, by operator, and the empty row if there is none for v.
 abbrev pub row_at : List (List (Option ℕ)) → ℕ → List (Option ℕ)
 row_at rows v = slice_index_or rows v []
 
@@ -116,15 +117,20 @@ pub record HasSize (operations : ℕ) (c : Candidates) : Type 0 where
   pub arrivals : length c.arrivals.items ≡ operations
   pub dependents : length c.dependents.items ≡ operations
 
+-- Operation v is marked as a candidate. An operation outside the table is not.
 abbrev pub flag_in : Ready → ℕ → Bool
 flag_in r v = slice_index_or r.flags.items v false
 
+-- The same in all that is kept of candidates: operation v is marked as one.
 abbrev pub flag_at : Candidates → ℕ → Bool
 flag_at c v = flag_in c.ready v
 
+-- The arrival of operation v on operator p, as a date in ticks, if it is kept, and None otherwise.
 abbrev pub kept_at : Candidates → ℕ → ℕ → Option ℕ
 kept_at c v p = kept_in c.arrivals.items v p
 
+-- The operations that are listed as candidates, by number: as many from the front of the list as
+-- its count says.
 abbrev pub ready_in : Candidates → List ℕ
 ready_in c = take c.ready.count c.ready.list.items
 

@@ -30,10 +30,12 @@ abbrev pub dependents_from : ℕ → ℕ → List Vertex → List ℕ
 dependents_from u s [] = []
 dependents_from u s (x ∷ xs) = repeated s u (depends_on x) ++ dependents_from u (s + 1) xs
 
+-- The elements of a vector, and none if there is no vector.
 abbrev pub elements : Option (Vec ℕ) → List ℕ
 elements None = []
 elements (Some xs) = xs.items
 
+-- The list of operation u, by number, and the empty list if there is none for u.
 abbrev pub list_at : List (Vec ℕ) → ℕ → List ℕ
 list_at lists u = elements (slice_get lists u)
 

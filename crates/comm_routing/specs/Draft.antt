@@ -42,6 +42,8 @@ use Rattle.comm_routing.specs.Candidates.{HasSize, flag_at, kept_at, places_from
 use Rattle.comm_routing.specs.declared.site.Site.{Site}
 use Rattle.comm_routing.specs.declared.candidates.Candidates.{Candidates}
 
+-- A draft: the graph to be scheduled, the architecture with its routes, the durations, and the
+-- decisions that were made so far, in their order.
 pub record Drafted : Type 0 where
   pub graph : Graph
   pub archi : Architecture

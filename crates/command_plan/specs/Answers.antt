@@ -25,6 +25,7 @@ module _ {A J : Type 0} (stages : A → List (Stage J)) where
   abbrev pub IsOnce : A → Type 0
   IsOnce a = length (stages a) ≤ 1
 
+  -- No job is run for what is to be made.
   abbrev pub RunsNone : A → Type 0
   RunsNone a = jobs_of (stages a) ≡ []
 

@@ -53,10 +53,14 @@ pub record Arguments : Type 0 where
   pub plain : List Bytes
   pub workers : List Bytes
 
+-- The arguments with this word before their plain ones, and None if the words after it are no
+-- arguments.
 abbrev pub with_plain : Bytes → Option Arguments → Option Arguments
 with_plain w None = None
 with_plain w (Some a) = Some (record a { plain = w ∷ a.plain })
 
+-- The arguments with this word before what is given as workers, and None if the words after it are
+-- no arguments.
 abbrev pub with_workers : Bytes → Option Arguments → Option Arguments
 with_workers w None = None
 with_workers w (Some a) = Some (record a { workers = w ∷ a.workers })
@@ -67,6 +71,7 @@ is_option [] = false
 is_option (b ∷ []) = false
 is_option (b ∷ c ∷ w) = b == 45
 
+-- The word begins with `--workers=`, and its rest is what is given as workers.
 abbrev pub is_joined : Bytes → Bool
 is_joined w = bytes_eq (take 10 w) (codes "--workers=")
 
@@ -88,31 +93,39 @@ abbrev pub one : (Bytes → Option Command) → List Bytes → Option Command
 one go (a ∷ []) = go a
 one go _ = None
 
+-- The command of two plain arguments, and None if there are more or fewer.
 abbrev pub two : (Bytes → Bytes → Option Command) → List Bytes → Option Command
 two go (a ∷ b ∷ []) = go a b
 two go _ = None
 
+-- The command of one plain argument or of two, and None if there are more or none.
 abbrev pub one_or_two : (Bytes → Option Bytes → Option Command) → List Bytes → Option Command
 one_or_two go (a ∷ []) = go a None
 one_or_two go (a ∷ b ∷ []) = go a (Some b)
 one_or_two go _ = None
 
+-- The command of three plain arguments, and None if there are more or fewer.
 abbrev pub three : (Bytes → Bytes → Bytes → Option Command) → List Bytes → Option Command
 three go (a ∷ b ∷ c ∷ []) = go a b c
 three go _ = None
 
+-- The command of four plain arguments, and None if there are more or fewer.
 abbrev pub four : (Bytes → Bytes → Bytes → Bytes → Option Command) → List Bytes → Option Command
 four go (a ∷ b ∷ c ∷ d ∷ []) = go a b c d
 four go _ = None
 
+-- The command `load` with this number, and None if there is no number.
 abbrev pub loaded : Option ℕ → Option Command
 loaded None = None
 loaded (Some n) = Some (load n)
 
+-- The command `dates` of these three files and this number of reactions, and None if there is no
+-- number.
 abbrev pub dated : Bytes → Bytes → Bytes → Option ℕ → Option Command
 dated a h g None = None
 dated a h g (Some n) = Some (dates a h g n)
 
+-- The command with this number of workers, and None if there is no number.
 abbrev pub with_count : (Option ℕ → Option Command) → Option ℕ → Option Command
 with_count go None = None
 with_count go (Some n) = go (Some n)
@@ -123,23 +136,31 @@ counted go [] = go None
 counted go (w ∷ []) = with_count go (number_up_to 80 w)
 counted go (w ∷ v ∷ ws) = None
 
+-- The command of the plain arguments, and None if there are no arguments.
 abbrev pub plain_by : (List Bytes → Option Command) → Option Arguments → Option Command
 plain_by go None = None
 plain_by go (Some a) = go a.plain
 
+-- The command `run` of these arguments: three files, and a number of workers if one is given. It is
+-- None if the arguments are others.
 abbrev pub run_by : Option Arguments → Option Command
 run_by None = None
 run_by (Some a) =
     counted (λ workers. three (λ alg archi sensors. Some (run alg archi sensors workers)) a.plain) a.workers
 
+-- The command `exec` of these arguments: four files, and a number of workers if one is given. It is
+-- None if the arguments are others.
 abbrev pub exec_by : Option Arguments → Option Command
 exec_by None = None
 exec_by (Some a) =
     counted (λ workers. four (λ alg archi code sensors. Some (exec alg archi code sensors workers)) a.plain) a.workers
 
+-- The command of the words after its name, for one that takes plain arguments only. It is None if a
+-- word is taken for an option.
 abbrev pub plain : (List Bytes → Option Command) → List Bytes → Option Command
 plain go ws = plain_by go (arguments_of false false ws)
 
+-- The command of this name and of the words after it, and None if they are no command.
 abbrev pub command_by : Bytes → List Bytes → Option Command
 command_by name ws =
     if bytes_eq name (codes "check") then plain (one_or_two (λ a h. Some (check a h))) ws else

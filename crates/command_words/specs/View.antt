@@ -23,6 +23,7 @@ job_view (Run a h s workers) = table.run a.now h.now s.now workers
 job_view (Load n) = table.load n
 job_view (Exec a h c s workers) = table.exec a.now h.now c.now s.now workers
 
+-- A command of the program as a command of the table, whether or not it runs jobs.
 abbrev pub view_of : Command → table.Command
 view_of (Plain command) = plain_view command
 view_of (Job command) = job_view command

@@ -16,9 +16,11 @@ abbrev pub shift : ℕ → Source → Source
 shift n (Own k) = Own (n + k)
 shift n (Of r p) = Of r p
 
+-- The same guard in a level that has n further inputs before its own.
 abbrev pub shift_guard : ℕ → Guard → Guard
 shift_guard n g = record { source = shift n g.source; values = g.values; case = g.case }
 
+-- The sources of the guards, in order.
 abbrev pub guard_sources : List Guard → List Source
 guard_sources gs = map (λ g. g.source) gs
 
@@ -105,6 +107,7 @@ abbrev mutual
       (λ inside m. guarded_all inside m us)
       (λ inside m values. guarded_cases inside m values 0 us)
 
+  -- The same for each of the vertices of a level, in order.
   pub guarded_all : List Guard → ℕ → Vertices → Vertices
   guarded_all gs n no_vertices = no_vertices
   guarded_all gs n (and_vertex u us) = and_vertex (guarded gs n u) (guarded_all gs n us)

@@ -7,6 +7,8 @@ pub record Event : Type 0 where
   pub sequence : ℕ
   pub number : ℕ
 
+-- A precedence has this many sequences, of which sequence s makes `full s` events one after
+-- the other. An event needs at most one event, which has to be made before it.
 pub record Precedence : Type 0 where
   pub sequences : ℕ
   pub full : ℕ → ℕ
@@ -22,6 +24,8 @@ event s n = record { sequence = s; number = n }
 abbrev pub IsMade : (ℕ → ℕ) → Event → Type 0
 IsMade c e = e.number < c e.sequence
 
+-- An event is one of the precedence if its sequence is and its number is below the
+-- number of events that the sequence makes in all.
 abbrev pub IsEvent : Precedence → Event → Type 0
 IsEvent p e = (e.sequence < p.sequences) × (e.number < p.full e.sequence)
 

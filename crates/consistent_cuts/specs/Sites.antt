@@ -23,6 +23,8 @@ use Rattle.std.specs.Prelude.{
   slice_get,
 }
 
+-- The code of a sequence is a prologue, which is made once, and a turn, which is made
+-- in each reaction.
 pub record Code (A : Type 0) : Type 0 where
   pub prologue : List A
   pub turn : List A
@@ -38,6 +40,8 @@ module _ {A : Type 0} where
   abbrev pub reaction_at : Code A → ℕ → ℕ
   reaction_at c n = (n - length c.prologue) / length c.turn
 
+  -- Step n, counted from 0 with the steps of the prologue, has this place in the turn;
+  -- for a step of the prologue it is 0.
   abbrev pub place_at : Code A → ℕ → ℕ
   place_at c n = (n - length c.prologue) % length c.turn
 

@@ -55,6 +55,7 @@ module _ (g : Graph) (a : Architecture) (scale : Scale) where
       tile_text (place scale d.when.start) (place scale d.when.end) (36 * lane_of (length a.operators) d.act + 6) ++
       (number_text d.reaction ++ (title_of g a d.when.start d.when.end d.act ++ bar_end))
 
+  -- The tiles of these acts at their dates, in their order.
   abbrev pub tiles_text : List Dated → Bytes
   tiles_text ds = flat_map dated_text ds
 
@@ -87,6 +88,8 @@ medium_lanes width k (x ∷ media) =
 unfoldable pub repeat_text : Scale → ℕ → ℕ → ℕ → Bytes
 repeat_text scale height ticks k = line_text (codes "end") (point (place scale (repeated (k + 1) ticks)) 0) height
 
+-- The group of n vertical lines of this height, one for each date at which a repetition of the
+-- chart would end, if the chart takes these ticks.
 unfoldable pub repeats_text : Scale → ℕ → ℕ → ℕ → Bytes
 repeats_text scale height ticks n =
     group_text (codes "repetitions") [] (point 0 0) ++
@@ -96,6 +99,8 @@ repeats_text scale height ticks n =
 unfoldable pub note_words : ℕ → Bytes
 note_words ticks = words_text (codes "note") 0 (codes "10") ++ (NOTE.now ++ (decimal ticks ++ words_end))
 
+-- The group below the lanes with the note on the lines and the shades, which also has the ticks of
+-- the chart.
 unfoldable pub note_text : Architecture → ℕ → Bytes
 note_text a ticks =
     group_text (codes "note") [] (point 0 (height_of_lanes a + 14)) ++ (note_words ticks ++ END_GROUP.now)

@@ -35,9 +35,11 @@ pub record Dated : Type 0 where
   pub when : Span
   pub act : Act
 
+-- Act x in reaction k, with its span w there.
 abbrev pub dated : ℕ → Span → Act → Dated
 dated k w x = record { reaction = k; when = w; act = x }
 
+-- The date at which the act ends in its reaction.
 abbrev pub end_in_date : Dated → ℕ
 end_in_date d = d.when.end
 
@@ -57,10 +59,12 @@ module _ (when : ℕ → ℕ → Act → Span) where
   dated_in zero xs = []
   dated_in (suc k) xs = dated_in k xs ++ dated_from k 0 xs
 
+-- The name of a medium, and the empty text if there is no medium.
 abbrev pub name_or_none : Option Medium → Bytes
 name_or_none None = []
 name_or_none (Some m) = m.name
 
+-- The name of medium m, and the empty text if there is no such medium.
 abbrev pub medium_name : List Medium → ℕ → Bytes
 medium_name media m = name_or_none (slice_get media m)
 
@@ -74,6 +78,7 @@ module _ (g : Graph) (a : Architecture) where
   act_line k w (run d) =
       decimal k ∷ codes "op" ∷ decimal w.start ∷ decimal w.end ∷ operation_name g.vertices a.operators d.op ∷ []
 
+  -- The line of an act in its reaction, word by word.
   abbrev pub dated_line : Dated → Line
   dated_line d = act_line d.reaction d.when d.act
 
@@ -81,6 +86,8 @@ module _ (g : Graph) (a : Architecture) where
   abbrev pub dated_lines : List Dated → List Line
   dated_lines ds = map dated_line ds ++ (codes "latest" ∷ decimal (latest_end ds) ∷ []) ∷ []
 
+  -- The text of these acts with their dates: a line for each, in their order, and a last line with
+  -- their latest end.
   abbrev pub dated_text : List Dated → Bytes
   dated_text ds = text_of (dated_lines ds)
 
@@ -93,5 +100,7 @@ module _ (g : Graph) (a : Architecture) where
   abbrev pub dates_lines : Schedule → List ℕ → ℕ → List Line
   dates_lines s ticks n = dated_lines (all_dates s (replicate n ticks))
 
+  -- The text of the dates of n reactions of a schedule, if in each reaction its operations, by
+  -- number, and then its transfers, in their order, last these ticks.
   abbrev pub dates_text : Schedule → List ℕ → ℕ → Bytes
   dates_text s ticks n = dated_text (all_dates s (replicate n ticks))

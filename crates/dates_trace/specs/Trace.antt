@@ -17,11 +17,13 @@ use Rattle.trace_events.specs.Trace.{act_events, lanes}
 abbrev pub moment_in : ℕ → Span → Moment
 moment_in k w = record { reaction = k; start = w.start; end = w.end }
 
+-- The reaction of an act with its dates there, as a moment of the trace.
 abbrev pub moment_of : Dated → Moment
 moment_of d = moment_in d.reaction d.when
 
 -- the events of acts when these dates say
 module _ (vertices : List Vertex) (operators : List Bytes) (ds : List Decision) where
+  -- The events of an act in its reaction, at its dates there.
   abbrev pub events_of : Dated → List Event
   events_of d = act_events vertices operators ds (moment_of d) d.act
 
@@ -29,6 +31,7 @@ module _ (vertices : List Vertex) (operators : List Bytes) (ds : List Decision) 
   abbrev pub told : List Dated → Bytes
   told xs = flat_map (λ d. text_of (events_of d)) xs
 
+-- The events of all these acts with their dates, in their order.
 abbrev pub dates_events : Graph → Architecture → Schedule → List Dated → List Event
 dates_events g a s xs = flat_map (events_of g.vertices a.operators s.decisions) xs
 

@@ -57,6 +57,7 @@ use Rattle.definition_drawing.specs.declared.word.Word.TheVariants.{
   Closing,
 }
 
+-- The bytes of each fixed word.
 unfoldable pub word_text : Word → Bytes
 word_text Begin = codes "    \""
 word_text Frame = codes "  subgraph \"cluster_"

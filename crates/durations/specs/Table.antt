@@ -47,6 +47,7 @@ pub record Table : Type 0 where
   pub rows : List (List (Option ℕ))
   pub halves : List (Option ℕ)
 
+-- The table for this many operators with these rows and get halves, one of each for each operation.
 abbrev pub of_columns : ℕ → List (List (Option ℕ)) → List (Option ℕ) → Table
 of_columns operators rows halves = record { operators = operators; rows = rows; halves = halves }
 
@@ -61,6 +62,8 @@ is_timed _ = false
 abbrev pub entry : List DurationLine → Vertex → ℕ → Option ℕ
 entry lines x o = if is_timed x.kind then ticks_of lines x.def o else Some 0
 
+-- The ticks of an operation on each of this many operators, in order; none for one on which it
+-- may not be placed.
 abbrev pub row : ℕ → List DurationLine → Vertex → List (Option ℕ)
 row operators lines x = map (entry lines x) (range_with_len 0 operators)
 
@@ -73,6 +76,8 @@ half_by _ twin = None
 abbrev pub get_half_of : Vertex → Option ℕ
 get_half_of x = half_by x.kind x.twin
 
+-- The table of these operations for this many operators by the durations of a text, even if
+-- some are missing.
 abbrev pub table : List Vertex → ℕ → List DurationLine → Table
 table vertices operators lines = of_columns operators (map (row operators lines) vertices) (map get_half_of vertices)
 
@@ -105,6 +110,8 @@ pub record IsRow (operators : ℕ) (entries : List (Option ℕ)) : Type 0 where
 abbrev pub row_in : Table → ℕ → List (Option ℕ)
 row_in t v = slice_index_or t.rows v []
 
+-- The ticks of operation v on operator o; none if it may not be placed there, or if one of
+-- them is not there.
 abbrev pub entry_in : Table → ℕ → ℕ → Option ℕ
 entry_in t v o = slice_index_or (row_in t v) o None
 

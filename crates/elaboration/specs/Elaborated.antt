@@ -18,14 +18,18 @@ abbrev pub of_periods : PeriodError → AlgoError
 of_periods (period.Limit fault) = Limit fault
 of_periods period.OutOfMemory = OutOfMemory
 
+-- The tree with its marks made, or its limit as a refusal of the text.
 abbrev pub made_by : Result Vertex PeriodError → Result Vertex AlgoError
 made_by (Ok made) = Ok made
 made_by (Err e) = Err (of_periods e)
 
+-- The tree with these marks made, or a refusal: that of the marks, if they are refused, or else the
+-- limit of the tree that is made.
 abbrev pub marked_by : Vertex → Result (List Mark) AlgoError → Result Vertex AlgoError
 marked_by main (Ok marks) = made_by (made_within marks main)
 marked_by main (Err e) = Err e
 
+-- The tree to which these definitions resolve with their marks made, or the first refusal.
 abbrev pub resolved_by : List Def → Result Vertex AlgoError → Result Vertex AlgoError
 resolved_by ds (Ok main) = marked_by main (marking_of ds)
 resolved_by ds (Err e) = Err e
@@ -35,6 +39,7 @@ resolved_by ds (Err e) = Err e
 abbrev pub elaboration_of : Defs → Result Vertex AlgoError
 elaboration_of defs = resolved_by defs.defs (resolution_of defs.defs)
 
+-- The same, but a tree that is above the bound on vertices once its marks are made is refused too.
 abbrev pub bounded_by : List Def → Result Vertex AlgoError → Result Vertex AlgoError
 bounded_by ds (Ok main) = within_bound (marked_by main (marking_of ds))
 bounded_by ds (Err e) = Err e

@@ -30,6 +30,8 @@ pub record IsElaborated (ds : List Def) (made : Vertex) : Type 0 where
   pub named : HasNames made
   pub bounded : HasBounds made
 
+-- What is made of every accepted text is the tree to which its definitions resolve, with its marks
+-- made; it is a tree with names and bounds, and does what the meaning with marks says.
 abbrev pub AcceptedAreElaborated : Type 0
 AcceptedAreElaborated =
     (text : Bytes) (defs : Defs) (made : Vertex) → definitions_of text ≡ Ok defs → elaboration_of defs ≡ Ok made →

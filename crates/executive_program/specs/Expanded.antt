@@ -8,6 +8,8 @@ use Rattle.executive_program.specs.declared.expand.SeqSteps.{SeqSteps}
 use Rattle.executive_program.specs.Instructions.{number_or}
 use Rattle.executive_program.specs.Steps.{steps_in_list}
 
+-- These are the micro-steps of the prologue and of the loop of a sequence. A computation
+-- sequence counts as on medium 0, which matters to communications only.
 abbrev pub expanded : Program → SeqCode → SeqSteps
 expanded p q = record {
   prologue = steps_in_list p (number_or 0 q.seq.medium) q.prologue;
@@ -18,6 +20,7 @@ expanded p q = record {
 abbrev pub AreSteps : Program → List SeqSteps → Type 0
 AreSteps p list = list ≡ map (expanded p) p.seqs
 
+-- This is the code of a sequence in the theory of interleavings, with the same prologue and turn.
 abbrev pub code_of : SeqSteps → Code MicroStep
 code_of q = record { prologue = q.prologue; turn = q.turn }
 

@@ -28,6 +28,8 @@ use Rattle.executive_program.specs.declared.program.SeqCode.{SeqCode}
 use Rattle.executive_program.specs.declared.program.Program.{Program}
 use Rattle.executive_program.specs.Blocks.{blocks}
 
+-- An instruction is a communication if it is a send, a receive or a sync, and so takes
+-- part in a transfer.
 abbrev pub is_communication : Instr → Bool
 is_communication (Send b q) = true
 is_communication (Recv b q) = true
@@ -40,6 +42,7 @@ reads b (Call v ins outs) = list_any (λ c. nat_eq c b) ins
 reads b (Send c q) = nat_eq c b
 reads b _ = false
 
+-- An instruction writes buffer b if it is a call with b among its outputs, or receives into b.
 abbrev pub writes : ℕ → Instr → Bool
 writes b (Call v ins outs) = list_any (λ c. nat_eq c b) outs
 writes b (Recv c q) = nat_eq c b
@@ -50,22 +53,28 @@ abbrev pub turn_of : Option SeqCode → List Instr
 turn_of None = []
 turn_of (Some q) = q.turn
 
+-- These are the instructions of a sequence's prologue, and none if there is no sequence.
 abbrev pub prologue_of : Option SeqCode → List Instr
 prologue_of None = []
 prologue_of (Some q) = q.prologue
 
+-- A communicator has this medium; it is none for the computation sequence of an
+-- operator, and if there is no sequence.
 abbrev pub medium_in : Option SeqCode → Option ℕ
 medium_in None = None
 medium_in (Some q) = q.seq.medium
 
+-- A sequence belongs to this operator, and to operator 0 if there is no sequence.
 abbrev pub operator_in : Option SeqCode → ℕ
 operator_in None = 0
 operator_in (Some q) = q.seq.operator
 
+-- This is the given number, and d if none is given.
 abbrev pub number_or : ℕ → Option ℕ → ℕ
 number_or d None = d
 number_or d (Some m) = m
 
+-- A buffer has this many elements in each of its places, and 0 if there is no buffer.
 abbrev pub len_in : Option Buffer → ℕ
 len_in None = 0
 len_in (Some x) = x.len
@@ -80,6 +89,8 @@ pub record Reader : Type 0 where
   pub buffer : ℕ
   pub sequence : ℕ
 
+-- The loop of this sequence reads buffer b and does not write it, so that the sequence
+-- has to wait until another one has written b.
 abbrev pub waits_for : ℕ → SeqCode → Bool
 waits_for b q = list_any (reads b) q.turn && not (list_any (writes b) q.turn)
 
@@ -90,21 +101,30 @@ readers_from s (q ∷ qs) b = cond (waits_for b q) (record { buffer = b; sequenc
     (readers_from (suc s) qs b)
 
 module _ (p : Program) where
+  -- These are the instructions of the loop of sequence s, and none if the program has
+  -- no sequence s.
   abbrev pub turn : ℕ → List Instr
   turn s = turn_of (slice_get p.seqs s)
 
+  -- These are the instructions of the prologue of sequence s, and none if the program
+  -- has no sequence s.
   abbrev pub prologue : ℕ → List Instr
   prologue s = prologue_of (slice_get p.seqs s)
 
+  -- Sequence s is a communicator of this medium; it is none for a computation
+  -- sequence, and if the program has no sequence s.
   abbrev pub medium : ℕ → Option ℕ
   medium s = medium_in (slice_get p.seqs s)
 
+  -- Sequence s belongs to this operator, and to operator 0 if the program has no sequence s.
   abbrev pub operator : ℕ → ℕ
   operator s = operator_in (slice_get p.seqs s)
 
+  -- Buffer b has this many elements in each of its places, and 0 if the program has no buffer b.
   abbrev pub len_of : ℕ → ℕ
   len_of b = len_in (slice_get p.buffers b)
 
+  -- Buffer b has this many places, and 1 if the program has no buffer b.
   abbrev pub depth_of : ℕ → ℕ
   depth_of b = depth_in (slice_get p.buffers b)
 
@@ -125,6 +145,7 @@ module _ (p : Program) where
   depth_at None = 1
   depth_at (Some x) = depth_of x.buffer
 
+  -- The buffer of pair q has this many places; it is 1 if the readers have no entry q.
   abbrev pub pair_depth : ℕ → ℕ
   pair_depth q = depth_at (slice_get readers q)
 

@@ -44,6 +44,7 @@ use Rattle.executive_program.specs.Instructions.{
   pair_depth,
 }
 
+-- This is the first value if there is one, and otherwise the second, which may be none too.
 abbrev pub first_of : {A : Type 0} → Option A → Option A → Option A
 first_of (Some x) y = Some x
 first_of None y = y
@@ -63,6 +64,7 @@ sent_in (Pre0 q ∷ xs) t = sent_in xs t
 sent_in (Pre1 q ∷ xs) t = sent_in xs t
 sent_in (Call v ins outs ∷ xs) t = sent_in xs t
 
+-- It is true if the given medium is m, and false if it is another one or none is given.
 abbrev pub is_on : ℕ → Option ℕ → Bool
 is_on m None = false
 is_on m (Some n) = nat_eq n m
@@ -83,16 +85,23 @@ abbrev pub takes : ℕ → ℕ → List Micro
 takes depth x = cond (nat_eq depth 1) (taken x ∷ []) (see x ∷ sub x ∷ [])
 
 module _ (p : Program) where
+  -- Medium m has this many transfers in a reaction, counted at its first communicator,
+  -- and 0 if it has no communicator.
   abbrev pub transfers : ℕ → ℕ
   transfers m = transfers_on p.seqs m
 
+  -- Transfer t of medium m sends this buffer; it is none if communication t of no
+  -- communicator of m is a send.
   abbrev pub sent : ℕ → ℕ → Option ℕ
   sent m t = sent_by p.seqs m t
 
+  -- A buffer that is sent has this many elements, and 0 if none is sent.
   abbrev pub len_sent : Option ℕ → ℕ
   len_sent None = 0
   len_sent (Some b) = len_of p b
 
+  -- Transfer t of medium m carries this many elements, as many as the buffer that is
+  -- sent has, and 0 if none is sent.
   abbrev pub transfer_len : ℕ → ℕ → ℕ
   transfer_len m t = len_sent (sent m t)
 
@@ -100,6 +109,8 @@ module _ (p : Program) where
   abbrev pub uses : ℕ → ℕ → ℕ → ℕ
   uses m j t = cond (nat_lt j (transfer_len m t)) 1 0
 
+  -- Of the transfers of medium m before transfer t, this many use element j of its
+  -- wire in a reaction, so that it is the number of t's own access.
   abbrev pub access : ℕ → ℕ → ℕ → ℕ
   access m j t = sum_below (uses m j) t
 
@@ -108,17 +119,25 @@ module _ (p : Program) where
   sent_len (Send b q) = len_of p b
   sent_len _ = 0
 
+  -- The longest buffer that these instructions send has this many elements; it is 0 if
+  -- they send none.
   abbrev pub longest_sent : List Instr → ℕ
   longest_sent [] = 0
   longest_sent (x ∷ xs) = max (sent_len x) (longest_sent xs)
 
+  -- The longest buffer that this sequence sends over medium m in its loop has this
+  -- many elements; it is 0 if it sends none, or is no communicator of m.
   abbrev pub longest_in : ℕ → SeqCode → ℕ
   longest_in m q = cond (is_on m q.seq.medium) (longest_sent q.turn) 0
 
+  -- The longest buffer that any of these sequences sends over medium m has this many
+  -- elements; it is 0 if none sends over it.
   abbrev pub longest_on : List SeqCode → ℕ → ℕ
   longest_on [] m = 0
   longest_on (q ∷ qs) m = max (longest_in m q) (longest_on qs m)
 
+  -- The wire of medium m has this many elements, enough for the longest buffer that is
+  -- sent over m, and 0 if nothing is sent.
   abbrev pub wire_len : ℕ → ℕ
   wire_len m = longest_on p.seqs m
 
@@ -126,15 +145,23 @@ module _ (p : Program) where
   abbrev pub element_of : ℕ → ℕ → ℕ
   element_of b j = sum_below (len_of p) b + j
 
+  -- The buffers have this many elements together, each element counted once for all
+  -- its places; the elements of wires are numbered from here on.
   abbrev pub buffer_elements : ℕ
   buffer_elements = sum_below (len_of p) (length p.buffers)
 
+  -- Element j of the wire of medium m has this number among all elements, after those
+  -- of the buffers and of the wires of lower media.
   abbrev pub wire_of : ℕ → ℕ → ℕ
   wire_of m j = buffer_elements + (sum_below wire_len m + j)
 
+  -- Element j of buffer b is loaded by one micro-step; its access is 0, since it is
+  -- stored once in a reaction.
   abbrev pub load_at : ℕ → ℕ → List Micro
   load_at b j = load (element_of b j) 0 ∷ []
 
+  -- Element j of buffer b is stored by one micro-step, the only store of it in a
+  -- reaction, so access 0.
   abbrev pub store_at : ℕ → ℕ → List Micro
   store_at b j = store (element_of b j) 0 ∷ []
 
@@ -143,19 +170,29 @@ module _ (p : Program) where
   loads_of None = []
   loads_of (Some b) = blocks (load_at b) (len_of p b)
 
+  -- These are the stores of all elements of an output's buffer, in order; without a
+  -- buffer there are none.
   abbrev pub stores_of : Option ℕ → List Micro
   stores_of None = []
   stores_of (Some b) = blocks (store_at b) (len_of p b)
 
+  -- These are the loads of input k of a call that reads these buffers, and none if it
+  -- has no input k.
   abbrev pub loads_at : List ℕ → ℕ → List Micro
   loads_at ins k = loads_of (slice_get ins k)
 
+  -- These are the stores of output k of a call that writes these buffers, and none if
+  -- it has no output k.
   abbrev pub stores_at : List ℕ → ℕ → List Micro
   stores_at outs k = stores_of (slice_get outs k)
 
+  -- Transfer t of medium m sends element j of buffer b by a load from the buffer and a
+  -- store into the wire.
   abbrev pub send_at : ℕ → ℕ → ℕ → ℕ → List Micro
   send_at m t b j = load (element_of b j) 0 ∷ store (wire_of m j) (access m j t) ∷ []
 
+  -- Transfer t of medium m receives element j of buffer b by a load from the wire and
+  -- a store into the buffer.
   abbrev pub receive_at : ℕ → ℕ → ℕ → ℕ → List Micro
   receive_at m t b j = load (wire_of m j) (access m j t) ∷ store (element_of b j) 0 ∷ []
 
@@ -174,6 +211,8 @@ module _ (p : Program) where
       (blocks (receive_at m before buffer) (len_of p buffer) ++ advance m (2 * before + 1) ∷ [])
   micros_of m before (Sync from to) = await m (2 * before + 2) false ∷ []
 
+  -- These are the micro-steps of an instruction on medium m with t communications
+  -- before it; without an instruction there are none.
   abbrev pub micros_in : ℕ → ℕ → Option Instr → List Micro
   micros_in m t None = []
   micros_in m t (Some x) = micros_of m t x
@@ -186,15 +225,19 @@ module _ (p : Program) where
   abbrev pub block : ℕ → ℕ → List Micro
   block s a = block_in (number_or 0 (medium p s)) (turn p s) a
 
+  -- Instruction a of the prologue of s has these micro-steps, and none if a is beyond its end.
   abbrev pub front_block : ℕ → ℕ → List Micro
   front_block s a = block_in (number_or 0 (medium p s)) (prologue p s) a
 
+  -- The code of sequence s has the micro-steps of its prologue and of its loop, which
+  -- are both empty if the program has no sequence s.
   abbrev pub code : ℕ → Code Micro
   code s = record {
     prologue = blocks (front_block s) (length (prologue p s));
     turn = blocks (block s) (length (turn p s));
   }
 
+  -- Instruction a of the loop of s has this many micro-steps, and 0 if a is beyond its end.
   abbrev pub size : ℕ → ℕ → ℕ
   size s a = length (block s a)
 

@@ -46,6 +46,8 @@ abbrev pub is_last : ℕ → Option ℕ → Bool
 is_last q None = false
 is_last q (Some r) = nat_eq q r
 
+-- These instructions have this many runs of two or more signals of the same empty semaphore. A run
+-- of pair `last` may go on at their front, which is not counted again if `again` is true.
 abbrev pub opened_after : Option ℕ → Bool → List Instr → ℕ
 opened_after last again [] = 0
 opened_after last again (Pre0 q ∷ xs) =
@@ -57,6 +59,8 @@ module _ (p : Program) where
   abbrev pub depths_of : ℕ → List ℕ
   depths_of b = replicate (count_by (waits_for b) p.seqs) (depth_of p b)
 
+  -- The buffers of the pairs have these numbers of places, with an entry for each
+  -- entry of the readers.
   abbrev pub pair_depths : List ℕ
   pair_depths = blocks depths_of (length p.buffers)
 
@@ -68,6 +72,8 @@ module _ (p : Program) where
   plain_of (Recv b q) = 2 + 2 * len_of p b
   plain_of _ = 1
 
+  -- These instructions have this many micro-steps together, if each take of a
+  -- semaphore counts as one.
   abbrev pub plain_in : List Instr → ℕ
   plain_in xs = sum_by plain_of xs
 
@@ -75,6 +81,8 @@ module _ (p : Program) where
   abbrev pub plain_prologues : ℕ
   plain_prologues = sum_by (λ (q : SeqCode). plain_in q.prologue) p.seqs
 
+  -- All loops together have this many micro-steps in a reaction, if each take of a
+  -- semaphore counts as one.
   abbrev pub plain_turns : ℕ
   plain_turns = sum_by (λ (q : SeqCode). plain_in q.turn) p.seqs
 

@@ -63,6 +63,8 @@ on_load vertex loads micros number = cond (nat_eq (number + 1) loads)
     (ComputeIn vertex number (nat_lt (number + 1) micros))
     (Gather number)
 
+-- Micro-step `number` of a call, which is a store, gives the register of its place among the
+-- stores; the first store of a call without loads computes the operation as well.
 abbrev pub on_store : ℕ → ℕ → ℕ → ℕ → OnStore
 on_store vertex loads micros number = cond (nat_eq number 0)
     (ComputeOut vertex (nat_lt (number + 1) micros))
@@ -70,9 +72,11 @@ on_store vertex loads micros number = cond (nat_eq number 0)
 
 -- the load, or the store, of one element of a buffer whose first element is access `first` of the call
 module _ (vertex loads micros : ℕ) where
+  -- This element of the buffer is loaded by one micro-step, number `first + element` of the call.
   abbrev pub load_step : ℕ → ℕ → ℕ → List MicroStep
   load_step buffer first element = Load (Buffer buffer element) (on_load vertex loads micros (first + element)) ∷ []
 
+  -- This element of the buffer is stored by one micro-step, number `first + element` of the call.
   abbrev pub store_step : ℕ → ℕ → ℕ → List MicroStep
   store_step buffer first element = Store (Buffer buffer element) (on_store vertex loads micros (first + element)) ∷ []
 
@@ -80,10 +84,12 @@ module _ (vertex loads micros : ℕ) where
 abbrev pub send_step : ℕ → ℕ → ℕ → List MicroStep
 send_step medium buffer element = Load (Buffer buffer element) CarryIn ∷ Store (Wire medium element) CarryOut ∷ []
 
+-- One element is received by a load from the wire of the medium and a store into the buffer.
 abbrev pub receive_step : ℕ → ℕ → ℕ → List MicroStep
 receive_step medium buffer element = Load (Wire medium element) CarryIn ∷ Store (Buffer buffer element) CarryOut ∷ []
 
 module _ (p : Program) where
+  -- A given buffer has this many elements in each place, and 0 if none is given.
   abbrev pub len_by : Option ℕ → ℕ
   len_by None = 0
   len_by (Some buffer) = len_of p buffer
@@ -92,6 +98,8 @@ module _ (p : Program) where
   abbrev pub len_at : List ℕ → ℕ → ℕ
   len_at buffers place = len_by (slice_get buffers place)
 
+  -- These buffers have this many elements together, each buffer counted as often as it
+  -- is in the list.
   abbrev pub elements_in : List ℕ → ℕ
   elements_in buffers = sum_below (len_at buffers) (length buffers)
 
@@ -101,6 +109,8 @@ module _ (p : Program) where
     load_steps first None = []
     load_steps first (Some buffer) = blocks (load_step vertex loads micros buffer first) (len_of p buffer)
 
+    -- These are the stores of an output's buffer, of which the first is micro-step
+    -- `first` of the call; without a buffer there are none.
     abbrev pub store_steps : ℕ → Option ℕ → List MicroStep
     store_steps first None = []
     store_steps first (Some buffer) = blocks (store_step vertex loads micros buffer first) (len_of p buffer)
@@ -109,6 +119,8 @@ module _ (p : Program) where
     abbrev pub input_steps : List ℕ → ℕ → List MicroStep
     input_steps ins place = load_steps (sum_below (len_at ins) place) (slice_get ins place)
 
+    -- These are the stores of the output at this place of a call, and none if the call
+    -- has no such output.
     abbrev pub output_steps : List ℕ → ℕ → List MicroStep
     output_steps outs place = store_steps (loads + sum_below (len_at outs) place) (slice_get outs place)
 
@@ -135,6 +147,7 @@ module _ (p : Program) where
       (blocks (receive_step medium buffer) (len_of p buffer) ++ Advance medium ∷ [])
   steps_of medium communications before (Sync from to) = Await medium (2 * before + 2) (2 * communications) false ∷ []
 
+  -- These are the micro-steps of an instruction that may be missing; without one there are none.
   abbrev pub steps_in : ℕ → ℕ → ℕ → Option Instr → List MicroStep
   steps_in medium communications before None = []
   steps_in medium communications before (Some instr) = steps_of medium communications before instr
@@ -145,6 +158,8 @@ module _ (p : Program) where
       steps_in medium (count_by is_communication list) (count_by is_communication (take_list place list))
       (slice_get list place)
 
+  -- These are the micro-steps of all instructions of a list on this medium, one
+  -- instruction after the other.
   abbrev pub steps_in_list : ℕ → List Instr → List MicroStep
   steps_in_list medium list = blocks (steps_at medium list) (length list)
 
@@ -156,6 +171,8 @@ module _ (p : Program) where
     turn = steps_in_list (number_or 0 code.seq.medium) code.turn;
   }
 
+  -- The sequence of this number has these micro-steps, in its prologue and in its
+  -- turn; both are empty if the program has no such sequence.
   abbrev pub steps : ℕ → Code MicroStep
   steps sequence = steps_by (slice_get p.seqs sequence)
 
@@ -163,5 +180,6 @@ module _ (p : Program) where
   abbrev pub all_prologues : ℕ
   all_prologues = sum_below (λ s. length (steps s).prologue) (length p.seqs)
 
+  -- All loops together have this many micro-steps in one reaction.
   abbrev pub all_turns : ℕ
   all_turns = sum_below (λ s. length (steps s).turn) (length p.seqs)

@@ -63,12 +63,15 @@ WritesAt (Call v ins outs) k b = slice_get outs k ≡ Some b
 WritesAt (Recv o q) k b = (o ≡ b) × (k ≡ 0)
 WritesAt _ k b = ⊥
 
+-- An instruction reads buffer b as its input k if b is input k of a call, guards
+-- counted first, or if k is 0 and it sends b.
 abbrev pub ReadsAt : Instr → ℕ → ℕ → Type 0
 ReadsAt (Call v ins outs) k b = slice_get ins k ≡ Some b
 ReadsAt (Send o q) k b = (o ≡ b) × (k ≡ 0)
 ReadsAt _ k b = ⊥
 
 module _ (p : Program) where
+  -- Instruction a of the loop of sequence s is x.
   abbrev pub Stands : ℕ → ℕ → Instr → Type 0
   Stands s a x = slice_get (turn p s) a ≡ Some x
 
@@ -84,14 +87,17 @@ module _ (p : Program) where
     pub is_one : is_communication x ≡ true
     pub number : communications p s a ≡ t
 
+  -- There is a buffer, and it is on operator o.
   abbrev pub operator_is : Option Buffer → ℕ → Type 0
   operator_is None o = ⊥
   operator_is (Some x) o = x.operator ≡ o
 
+  -- There is a buffer, and it has n elements in each of its places.
   abbrev pub len_is : Option Buffer → ℕ → Type 0
   len_is None n = ⊥
   len_is (Some x) n = x.len ≡ n
 
+  -- Buffer b is on this operator; it is none if the program has no buffer b.
   abbrev pub operator_of : ℕ → Option ℕ
   operator_of b = of (slice_get p.buffers b)
     where
@@ -100,6 +106,8 @@ module _ (p : Program) where
       of (Some x) = Some x.operator
 
   module _ (order : List ℕ) where
+    -- Instruction a of the loop of s has this place in the serial order; it is the
+    -- length of the order if that names s too few times.
     abbrev pub place : ℕ → ℕ → ℕ
     place s a = place_in order s a
 
@@ -128,6 +136,7 @@ module _ (p : Program) where
         pub few_places : depth_of p b ≤ 4
         pub one_place : is_guarded p b ≡ false → depth_of p b ≡ 1
 
+      -- The buffer of pair q is written by this sequence.
       abbrev pub writer_of : ℕ → ℕ
       writer_of q = (w.writing (w.pair q).buffer).writer
 

@@ -27,10 +27,12 @@ use Rattle.semaphore_core.specs.Job.{JobData}
 abbrev pub is_busy : SeqCode → Bool
 is_busy s = not (length s.prologue == 0) || not (length s.turn == 0)
 
+-- There is a sequence, and it has an instruction.
 abbrev pub is_busy_by : Option SeqCode → Bool
 is_busy_by None = false
 is_busy_by (Some s) = is_busy s
 
+-- Sequence s of these has an instruction; it is false if there is no sequence s.
 abbrev pub is_busy_at : List SeqCode → ℕ → Bool
 is_busy_at seqs s = is_busy_by (slice_get seqs s)
 

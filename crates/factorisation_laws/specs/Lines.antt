@@ -17,6 +17,7 @@ abbrev pub put_line : Feed → List Feed → List Feed
 put_line f [] = f ∷ []
 put_line f (g ∷ gs) = if nat_le (outer_of f) (outer_of g) then f ∷ g ∷ gs else g ∷ put_line f gs
 
+-- The lines in the order of the text, which is that of the outer inputs that they name.
 abbrev pub in_line_order : List Feed → List Feed
 in_line_order [] = []
 in_line_order (f ∷ fs) = put_line f (in_line_order fs)

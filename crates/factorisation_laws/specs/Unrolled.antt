@@ -143,6 +143,7 @@ abbrev mutual
   pub unroll : Vertex → Vertex
   unroll (vertex l us) = unrolled_at l l.kind (unroll_all us)
 
+  -- These vertices, in order, with the repetitions in each of them unrolled.
   pub unroll_all : Vertices → Vertices
   unroll_all no_vertices = no_vertices
   unroll_all (and_vertex u us) = and_vertex (unroll u) (unroll_all us)

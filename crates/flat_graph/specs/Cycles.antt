@@ -14,6 +14,7 @@ pub data LeadsTo (vertices : List Vertex) : ℕ → ℕ → Type 0 where
   at_once : {v u : ℕ} → DependsOn vertices v u → LeadsTo vertices v u
   through : {v u w : ℕ} → DependsOn vertices v u → LeadsTo vertices u w → LeadsTo vertices v w
 
+-- No operation depends on itself, at once or through others.
 abbrev pub NoneLeadsToItself : List Vertex → Type 0
 NoneLeadsToItself vertices = (v : ℕ) → LeadsTo vertices v v → ⊥
 

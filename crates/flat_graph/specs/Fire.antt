@@ -59,6 +59,8 @@ abbrev pub fired : List (List Expr) → Vertex → Vector → Vector → Values 
 fired bodies x cell seen conditions ins =
     if guards_hold x.guards conditions then kind_outputs bodies x.kind x.outs cell seen ins else map zeros x.outs
 
+-- What the cell holds afterwards: the input, if the operation is a set half and active, and
+-- otherwise what it held before.
 abbrev pub stored : Kind → Bool → Vector → Vector → Vector
 stored Set true cell input = input
 stored Set false cell input = cell
@@ -81,6 +83,7 @@ kind_seen_len _ outs = 0
 
 -- Operation v of a graph, by its number.
 module _ (g : Graph) (v : ℕ) where
+  -- What f gives for it, or the value a if there is no such operation.
   abbrev pub of_vertex : {A : Type 0} → A → (Vertex → A) → A
   of_vertex a f = with_vertex (slice_get g.vertices v) a f
 
@@ -88,12 +91,15 @@ module _ (g : Graph) (v : ℕ) where
   abbrev pub read_lens : List ℕ
   read_lens = of_vertex [] (λ x. lens_of g.vertices x.ins ++ replicate (length x.guards) 1)
 
+  -- The lengths of its outputs, in order; none if there is no such operation.
   abbrev pub out_lens : List ℕ
   out_lens = of_vertex [] (λ x. x.outs)
 
+  -- The length of its cell, if it is a half of a delay; 0 for any other.
   abbrev pub cell_len : ℕ
   cell_len = of_vertex 0 (λ x. kind_cell_len x.kind (lens_of g.vertices x.ins))
 
+  -- The length of what it senses, if it is a sensor; 0 for any other.
   abbrev pub seen_len : ℕ
   seen_len = of_vertex 0 (λ x. kind_seen_len x.kind x.outs)
 
@@ -102,5 +108,7 @@ module _ (g : Graph) (v : ℕ) where
   fired_at cell seen read =
       of_vertex [] (λ x. fired g.bodies x cell seen (drop (length x.ins) read) (take (length x.ins) read))
 
+  -- Its cell after it was fired, from its cell before and the values of its inputs and then of its
+  -- guards' sources. Only a set half whose guards hold changes its cell.
   abbrev pub kept_at : Vector → Values → Vector
   kept_at cell read = of_vertex cell (λ x. kept x cell (drop (length x.ins) read) (take (length x.ins) read))

@@ -10,6 +10,7 @@ pub record Graph : Type 0 where
   pub vertices : List Vertex
   pub bodies : List (List Expr)
 
+-- What f gives for the operation, or the value a if there is none.
 abbrev pub with_vertex : {A : Type 0} → Option Vertex → A → (Vertex → A) → A
 with_vertex None a f = a
 with_vertex (Some x) a f = f x
@@ -18,6 +19,7 @@ with_vertex (Some x) a f = f x
 abbrev pub len_of : List Vertex → Source → ℕ
 len_of vertices s = with_vertex (slice_get vertices s.vertex) 0 (λ x. slice_index_or x.outs s.port 0)
 
+-- The lengths of the sources, in order; 0 for one that is not there.
 abbrev pub lens_of : List Vertex → List Source → List ℕ
 lens_of vertices sources = map (len_of vertices) sources
 

@@ -49,6 +49,7 @@ RunsInWindows = (g : Graph) (before after : List Values) (opening : Values) (k :
     × ((v : ℕ) → flat_outputs g (before ++ after) opening v (length before + k) ≡ flat_outputs g after left v k)
     × (flat_act_row g (before ++ after) opening (length before + k) ≡ flat_act_row g after left k)
 
+-- A list that holds the length of a sensor's vector, or nothing if the kind is no sensor.
 abbrev pub sensor_len : Kind → List ℕ → List ℕ
 sensor_len (Sensor i) outs = slice_index_or outs 0 0 ∷ []
 sensor_len _ outs = []
@@ -58,6 +59,7 @@ abbrev pub sensor_lens : List Vertex → List ℕ
 sensor_lens [] = []
 sensor_lens (x ∷ xs) = sensor_len x.kind x.outs ++ sensor_lens xs
 
+-- A list that holds the length of a delay's cell, or nothing if the kind is no get half.
 abbrev pub delay_len : Kind → List ℕ
 delay_len (Get z) = length z ∷ []
 delay_len _ = []

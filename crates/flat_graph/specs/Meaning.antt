@@ -35,9 +35,11 @@ use Rattle.flat_graph.specs.declared.vertex.Vertex.{Vertex}
 use Rattle.flat_graph.specs.Graph.{Graph, with_vertex}
 use Rattle.flat_graph.specs.Fire.{kind_outputs, kept}
 
+-- A source of a flat graph as a source of a level.
 abbrev pub level_source : Source → of_level.Source
 level_source s = Of s.vertex s.port
 
+-- A guard of a flat graph as a guard of a level.
 abbrev pub level_guard : Guard → guard_of_level.Guard
 level_guard g = record { source = level_source g.source; values = g.values; case = g.case }
 
@@ -46,6 +48,7 @@ abbrev pub sensed : Kind → Values → Vector
 sensed (Sensor i) row = vector_at row i
 sensed _ row = []
 
+-- The kind is that of a get half.
 abbrev pub is_get : Kind → Bool
 is_get (Get z) = true
 is_get _ = false
@@ -77,6 +80,7 @@ node_of bodies cell x = record {
 
 -- Cells are those of the delays, by number.
 module _ (g : Graph) (cells : Values) where
+  -- The cell of the delay whose get half is operation v; it says nothing of any other operation.
   abbrev pub cell_of : ℕ → Vector
   cell_of v = vector_at cells (delay_number g.vertices v)
 
@@ -85,6 +89,7 @@ module _ (g : Graph) (cells : Values) where
   nodes_from v [] = []
   nodes_from v (x ∷ xs) = node_of g.bodies (cell_of v) x ∷ nodes_from (suc v) xs
 
+  -- The operations, in order, as the nodes of one level.
   abbrev pub level : List Node
   level = nodes_from 0 g.vertices
 
@@ -100,6 +105,7 @@ module _ (g : Graph) (cells : Values) where
 abbrev pub conditions : (Source → Vector) → Vertex → Values
 conditions look x = map (λ g. look g.source) x.guards
 
+-- The values of the sources of an operation's inputs, in order.
 abbrev pub inputs : (Source → Vector) → Vertex → Values
 inputs look x = map look x.ins
 
@@ -121,9 +127,11 @@ next_from vertices look (x ∷ xs) cells =
     then next_cell vertices look x.twin (vector_at cells 0) ∷ next_from vertices look xs (drop 1 cells)
     else next_from vertices look xs cells
 
+-- The cells of the delays after a reaction with this row of the sensors, from those before it.
 abbrev pub next_cells : Graph → Values → Values → Values
 next_cells g cells row = next_from g.vertices (value_in g cells row) g.vertices cells
 
+-- A list that holds the initial value of a get half, or nothing for any other kind.
 abbrev pub initial_cell : Kind → Values
 initial_cell (Get z) = z ∷ []
 initial_cell _ = []
@@ -138,12 +146,14 @@ abbrev pub taken_by : (Source → Vector) → Vertex → Kind → Values
 taken_by look x (Actuator i) = vector_at (inputs look x) 0 ∷ []
 taken_by look x _ = []
 
+-- What the actuators among these operations take, in order.
 abbrev pub taken : (Source → Vector) → List Vertex → Values
 taken look [] = []
 taken look (x ∷ xs) = taken_by look x x.kind ++ taken look xs
 
 -- A run over these rows of the sensors, from opening cells.
 module _ (g : Graph) (rows : List Values) (opening : Values) where
+  -- The vectors of the sensors in reaction k; none past the last row.
   abbrev pub row_of : ℕ → Values
   row_of k = slice_index_or rows k []
 

@@ -48,6 +48,7 @@ use Rattle.flat_graph.specs.Order.{is_acyclic}
 abbrev pub is_path_byte : ℕ → Bool
 is_path_byte b = is_name_byte b || (b == 46) || (b == 47) || (b == 58)
 
+-- The text may be the name of an operation: one or more letters, digits, `_`, `.`, `/` and `:`.
 abbrev pub is_path : List ℕ → Bool
 is_path name = nat_le 1 (length name) && list_all is_path_byte name
 
@@ -56,6 +57,7 @@ abbrev pub are_named_apart : List Vertex → Bool
 are_named_apart [] = true
 are_named_apart (x ∷ xs) = not (list_any (λ y. bytes_eq x.name y.name) xs) && are_named_apart xs
 
+-- The number is the length of a vector: 1 to 64.
 abbrev pub is_len : ℕ → Bool
 is_len n = nat_le 1 n && nat_le n 64
 
@@ -101,10 +103,13 @@ fits bodies Explode lens outs = is_only (sum outs) lens
 fits bodies Implode lens outs = is_only (sum lens) outs
 fits bodies (Merge values) lens outs = is_merge (length values) lens outs
 
+-- There is a twin, and it is operation v.
 abbrev pub names : Option ℕ → ℕ → Bool
 names None v = false
 names (Some u) v = u == v
 
+-- The operation y, of this kind, is the set half of a delay of this length, whose get
+-- half is operation v.
 abbrev pub is_set_half_by : List Vertex → ℕ → ℕ → Vertex → Kind → Bool
 is_set_half_by vertices v len y Set = names y.twin v && is_only len (lens_of vertices y.ins)
 is_set_half_by vertices v len y _ = false
@@ -113,6 +118,7 @@ is_set_half_by vertices v len y _ = false
 abbrev pub is_set_half_of : List Vertex → ℕ → ℕ → Vertex → Bool
 is_set_half_of vertices v len y = is_set_half_by vertices v len y y.kind
 
+-- The operation y, of this kind, is the get half of a delay whose set half is operation v.
 abbrev pub is_get_half_by : ℕ → Vertex → Kind → Bool
 is_get_half_by v y (Get z) = names y.twin v
 is_get_half_by v y _ = false
@@ -121,11 +127,13 @@ is_get_half_by v y _ = false
 abbrev pub is_get_half_of : ℕ → Vertex → Bool
 is_get_half_of v y = is_get_half_by v y y.kind
 
+-- The twin of the get half v of a delay of this length is its set half, a later operation.
 abbrev pub has_set_half : List Vertex → ℕ → ℕ → Option ℕ → Bool
 has_set_half vertices v len None = false
 has_set_half vertices v len (Some t) =
     nat_lt v t && with_vertex (slice_get vertices t) false (is_set_half_of vertices v len)
 
+-- The twin of the set half v is its get half, an earlier operation.
 abbrev pub has_get_half : List Vertex → ℕ → Option ℕ → Bool
 has_get_half vertices v None = false
 has_get_half vertices v (Some u) = nat_lt u v && with_vertex (slice_get vertices u) false (is_get_half_of v)
@@ -146,6 +154,7 @@ is_vertex g v x =
     fits g.bodies x.kind (lens_of g.vertices x.ins) x.outs &&
     has_twin g.vertices v x.kind x.twin
 
+-- Each of these operations, numbered from v on, passes the test together with its number.
 abbrev pub all_from : (ℕ → Vertex → Bool) → ℕ → List Vertex → Bool
 all_from test v [] = true
 all_from test v (x ∷ xs) = test v x && all_from test (v + 1) xs
@@ -156,11 +165,13 @@ sensors_from n [] = true
 sensors_from n (Sensor i ∷ kinds) = (i == n) && sensors_from (n + 1) kinds
 sensors_from n (_ ∷ kinds) = sensors_from n kinds
 
+-- The actuators are numbered from this number on, in order.
 abbrev pub actuators_from : ℕ → List Kind → Bool
 actuators_from n [] = true
 actuators_from n (Actuator i ∷ kinds) = (i == n) && actuators_from (n + 1) kinds
 actuators_from n (_ ∷ kinds) = actuators_from n kinds
 
+-- The kinds of the operations, in order.
 abbrev pub kinds_of : List Vertex → List Kind
 kinds_of vertices = map (λ x. x.kind) vertices
 

@@ -18,6 +18,7 @@ abbrev pub actuator_lens : Graph → List Vertex → List ℕ
 actuator_lens g [] = []
 actuator_lens g (x ∷ xs) = actuator_len g x x.kind ++ actuator_lens g xs
 
+-- The sensors and the actuators of the flat graph have, in order, the lengths of those of the tree.
 pub record HasEndLengths (main : tree.Vertex) (g : Graph) : Type 0 where
   pub sensors : sensor_lens g.vertices ≡ sensor_lengths main
   pub actuators : actuator_lens g g.vertices ≡ actuator_lengths main

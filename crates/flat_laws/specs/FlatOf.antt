@@ -32,6 +32,7 @@ abbrev pub flat_source : of_level.Source → Source
 flat_source (Of r p) = record { vertex = r; port = p }
 flat_source (Own k) = record { vertex = 0; port = 0 }
 
+-- A guard of the flat list as a guard of the flat graph.
 abbrev pub flat_guard : guard_of_level.Guard → Guard
 flat_guard g = record { source = flat_source g.source; values = g.values; case = g.case }
 
@@ -46,6 +47,7 @@ kind_of body tree.implode = Implode
 kind_of body (tree.merge values) = Merge values
 kind_of body _ = Set
 
+-- The kind of an operation with this task, if the next body has the number `body`.
 abbrev pub flat_kind : ℕ → Task → Kind
 flat_kind body (runs k) = kind_of body k
 flat_kind body (gets v) = Get v
@@ -57,6 +59,7 @@ twin_of v (runs k) = None
 twin_of v (gets z) = Some (suc v)
 twin_of v sets = Some (v - 1)
 
+-- A list that holds the body of a function, or nothing for any other kind.
 abbrev pub kind_body : tree.Kind → List (List Expr)
 kind_body (tree.function es) = es ∷ []
 kind_body _ = []
@@ -84,10 +87,12 @@ abbrev pub vertices_from : ℕ → ℕ → List Operation → List Vertex
 vertices_from v body [] = []
 vertices_from v body (op ∷ ops) = vertex_of v body op ∷ vertices_from (suc v) (body + length (body_of op.task)) ops
 
+-- The bodies of the functions among these operations, one for each, in order.
 abbrev pub bodies_of : List Operation → List (List Expr)
 bodies_of [] = []
 bodies_of (op ∷ ops) = body_of op.task ++ bodies_of ops
 
+-- The flat graph of these operations, which are numbered from 0 in their order.
 abbrev pub graph_of : List Operation → Graph
 graph_of ops = record { vertices = vertices_from 0 0 ops; bodies = bodies_of ops }
 

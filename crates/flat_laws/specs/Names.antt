@@ -15,5 +15,7 @@ half_text (runs k) i = []
 half_text (gets v) i = codes ":get" ++ stage_text i
 half_text sets i = codes ":set" ++ stage_text i
 
+-- The name of an operation: the text of its path, and for a half of a delay which half it is
+-- and of which stage.
 abbrev pub name_of : Operation → List ℕ
 name_of op = path_text op.path ++ half_text op.task op.stage

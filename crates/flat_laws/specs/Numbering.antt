@@ -10,6 +10,7 @@ abbrev pub IsNumbered : ℕ → Kind → Type 0
 IsNumbered body (Function number) = number ≡ body
 IsNumbered body _ = Unit {0}
 
+-- How many bodies an operation of this kind has: 1 if it is a function, else 0.
 abbrev pub bodies_in : Kind → ℕ
 bodies_in (Function number) = 1
 bodies_in _ = 0
@@ -19,5 +20,7 @@ abbrev pub AreNumbered : ℕ → ℕ → List Vertex → Type 0
 AreNumbered body count [] = body ≡ count
 AreNumbered body count (x ∷ xs) = IsNumbered body x.kind × AreNumbered (body + bodies_in x.kind) count xs
 
+-- The functions of the graph, in order, have the bodies 0, 1 and so on, and there are
+-- no other bodies.
 abbrev pub HasBodiesInOrder : Graph → Type 0
 HasBodiesInOrder g = AreNumbered 0 (length g.bodies) g.vertices

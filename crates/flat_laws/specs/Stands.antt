@@ -66,6 +66,7 @@ AllStand bodies v [] (op ∷ ops) = ⊥
 AllStand bodies v (x ∷ xs) [] = ⊥
 AllStand bodies v (x ∷ xs) (op ∷ ops) = StandsFor bodies v x op × AllStand bodies (suc v) xs ops
 
+-- The flat graph represents these operations: it has one vertex for each, in order, and no other.
 abbrev pub Stands : Graph → List Operation → Type 0
 Stands g ops = AllStand g.bodies 0 g.vertices ops
 

@@ -19,6 +19,7 @@ use Rattle.flat_graph.specs.declared.vertex.Kind.TheVariants.{
 use Rattle.flat_graph.specs.declared.vertex.Vertex.{Vertex}
 use Rattle.flat_graph.specs.Graph.{Graph}
 
+-- The word by which a listing names the kind of an operation.
 abbrev pub kind_word : Kind → Bytes
 kind_word (Sensor i) = codes "sensor"
 kind_word (Actuator i) = codes "actuator"
@@ -68,5 +69,6 @@ abbrev pub lines_from : ℕ → List Vertex → Bytes
 lines_from v [] = []
 lines_from v (x ∷ xs) = vertex_line v x ++ lines_from (suc v) xs
 
+-- The listing of a flat graph: a line for each operation, in order.
 abbrev pub listing : Graph → Bytes
 listing g = lines_from 0 g.vertices

@@ -9,6 +9,7 @@ use Rattle.algo_rules.specs.declared.ports.Ports.{Ports}
 abbrev pub AreShort : List Port → Type 0
 AreShort ps = All (λ p. p.len ≤ 64) ps
 
+-- No input and no output has more than 64 elements.
 abbrev pub HasShortPorts : Ports → Type 0
 HasShortPorts p = AreShort p.ins × AreShort p.outs
 

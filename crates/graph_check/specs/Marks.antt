@@ -41,6 +41,7 @@ abbrev pub spot : GraphParts → Option Bytes → Bytes → Option ℕ
 spot g None w = spot_in (length g.references.now) g.outs.now w
 spot g (Some r) w = spot_in (place g.references.now r) (named g r).ins w
 
+-- There is such a place, and it has a mark.
 abbrev pub marked : List Bool → Option ℕ → Bool
 marked marks None = false
 marked marks (Some at) = slice_index_or marks at false

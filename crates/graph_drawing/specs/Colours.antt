@@ -22,5 +22,6 @@ colour_at colours n = slice_range colours (n % 16 * 7) (n % 16 * 7 + 7)
 unfoldable pub fill_of : ℕ → Bytes
 fill_of o = colour_at fills o
 
+-- The colour in which lines over medium m are drawn, one of sixteen in turn.
 unfoldable pub stroke_of : ℕ → Bytes
 stroke_of m = colour_at strokes m

@@ -30,6 +30,7 @@ IsMade vertices st = (n : ℕ) × (slice_get (statements_from 0 vertices) n ≡ 
 abbrev pub DrawsExactly : Type 0
 DrawsExactly = (vertices : List Vertex) (st : Statement) → IsMade vertices st ↔ Holds vertices st
 
+-- A drawing makes each statement at one place at most.
 abbrev pub DrawsOnce : Type 0
 DrawsOnce = (vertices : List Vertex) (st : Statement) (m n : ℕ)
     → slice_get (statements_from 0 vertices) m ≡ Some st →

@@ -59,6 +59,7 @@ operator_of ds v = option_map (λ d. d.operator) (find (λ d. nat_eq d.op v) ds)
 abbrev pub brings : ℕ → Source → Transfer → Bool
 brings o s t = nat_eq t.to o && nat_eq t.source.vertex s.vertex && nat_eq t.source.port s.port
 
+-- The medium of the transfer if there is one, and otherwise the other medium, if there is one.
 abbrev pub medium_or : Option Transfer → Option ℕ → Option ℕ
 medium_or (Some t) rest = Some t.medium
 medium_or None rest = rest
@@ -73,6 +74,8 @@ abbrev pub medium_by : List Decision → Source → Option ℕ → Option ℕ
 medium_by ds s None = None
 medium_by ds s (Some o) = medium_to ds s o
 
+-- The medium over which the value of source s comes to the operator of operation v. It is None if
+-- no transfer brings the value there, or if v is not placed.
 abbrev pub medium_for : List Decision → ℕ → Source → Option ℕ
 medium_for ds v s = medium_by ds s (operator_of ds v)
 
@@ -81,6 +84,7 @@ abbrev pub filled : Option ℕ → Bytes
 filled None = []
 filled (Some o) = word_text word.Fill ++ (fill_of o ++ word_text word.Quote)
 
+-- The attributes of a broad line in the colour of its medium, and nothing if there is no medium.
 abbrev pub coloured : Option ℕ → Bytes
 coloured None = []
 coloured (Some m) = word_text word.Stroke ++ (stroke_of m ++ word_text word.Quote)
@@ -107,11 +111,14 @@ label_text v x =
     word_text word.Operation ++ (decimal v ++ (word_text word.Label ++ (x.name ++
     (word_text word.Line ++ x.def))))
 
+-- How the node of operation v looks: the shape of its kind and, if it is placed, the colour of its
+-- operator. The statement ends after it.
 abbrev pub look_text : List Decision → ℕ → Vertex → Bytes
 look_text ds v x =
     word_text word.Shape ++ (shape_of x.kind ++ (filled (operator_of ds v) ++
     word_text word.Finish))
 
+-- The node of operation v, with its label and its look.
 abbrev pub operation_text : List Decision → ℕ → Vertex → Bytes
 operation_text ds v x = label_text v x ++ look_text ds v x
 
@@ -121,6 +128,8 @@ ends_text port i =
     word_text word.Tail ++ (decimal port ++ (word_text word.Head ++ (decimal i ++
     word_text word.Quote)))
 
+-- The edge to input i of operation v from its source, in the colour of the medium that brings the
+-- value, if one does.
 abbrev pub input_text : List Decision → ℕ → ℕ → Source → Bytes
 input_text ds v i s =
     edge_text s.vertex v ++ (ends_text s.port i ++ (coloured (medium_for ds v s) ++
@@ -132,15 +141,19 @@ condition_text ds v g =
     edge_text g.source.vertex v ++ (word_text word.Condition ++ (decimal g.case ++
     (word_text word.Quote ++ (coloured (medium_for ds v g.source) ++ word_text word.Finish))))
 
+-- The dashed edge of a delay, from its set half v back to its get half u.
 abbrev pub keeps_text : ℕ → ℕ → Bytes
 keeps_text v u = edge_text v u ++ word_text word.Delay
 
+-- The line of a drawing that makes this statement, in the colours of the operators and media of
+-- these decisions.
 abbrev pub statement_text : List Decision → Statement → Bytes
 statement_text ds (operation v x) = operation_text ds v x
 statement_text ds (input v i s) = input_text ds v i s
 statement_text ds (condition v i g) = condition_text ds v g
 statement_text ds (keeps v u) = keeps_text v u
 
+-- The lines of these statements, in their order.
 abbrev pub statements_text : List Decision → List Statement → Bytes
 statements_text ds xs = flat_map (statement_text ds) xs
 
@@ -154,6 +167,7 @@ operator_key o name =
     named (word_text word.Operator) o name ++
     (word_text word.OperatorColour ++ (fill_of o ++ word_text word.QuoteFinish))
 
+-- The name of medium m in the legend, in a box whose outline has its colour.
 abbrev pub medium_key : ℕ → Bytes → Bytes
 medium_key m name =
     named (word_text word.Medium) m name ++
@@ -165,22 +179,26 @@ operator_keys o [] = []
 operator_keys o (name ∷ names) =
     operator_key o name ++ operator_keys (suc o) names
 
+-- The names of these media in the legend, of which the first has number m.
 abbrev pub medium_keys : ℕ → List Medium → Bytes
 medium_keys m [] = []
 medium_keys m (x ∷ xs) =
     medium_key m x.name ++ medium_keys (suc m) xs
 
+-- The legend of a drawing, with each operator and each medium in its colour.
 unfoldable pub legend : Architecture → Bytes
 legend a =
     word_text word.Legend ++
     (operator_keys 0 a.operators ++ (medium_keys 0 a.media ++ word_text word.LegendFinish))
 
+-- The beginning of a drawing, with what holds for all its nodes and edges.
 unfoldable pub opening : Bytes
 opening =
     codes "digraph flat {\n  rankdir=LR;\n  fontname=\"sans-serif\";\n" ++
     (codes "  node [shape=box,style=filled,fillcolor=white,fontname=\"sans-serif\"];\n" ++
     codes "  edge [fontname=\"sans-serif\",fontsize=9,labeldistance=1.5];\n")
 
+-- The end of a drawing.
 unfoldable pub closing : Bytes
 closing = codes "}\n"
 

@@ -20,14 +20,18 @@ abbrev pub inputs_from : ℕ → ℕ → List Source → List Statement
 inputs_from v i [] = []
 inputs_from v i (s ∷ ss) = input v i s ∷ inputs_from v (suc i) ss
 
+-- The statements of these guards of operation v, of which the first has number i.
 abbrev pub conditions_from : ℕ → ℕ → List Guard → List Statement
 conditions_from v i [] = []
 conditions_from v i (g ∷ gs) = condition v i g ∷ conditions_from v (suc i) gs
 
+-- The statement that operation v keeps what operation u gives in the next reaction, and none if
+-- there is no u.
 abbrev pub kept : ℕ → Option ℕ → List Statement
 kept v None = []
 kept v (Some u) = keeps v u ∷ []
 
+-- The same if this is the kind of a set half, and no statement otherwise.
 unfoldable pub keeping : ℕ → Kind → Option ℕ → List Statement
 keeping v Set twin = kept v twin
 keeping v _ twin = []

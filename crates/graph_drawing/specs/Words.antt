@@ -25,6 +25,7 @@ use Rattle.graph_drawing.specs.declared.word.Word.TheVariants.{
   LegendFinish,
 }
 
+-- The bytes of each fixed word.
 unfoldable pub word_text : Word → Bytes
 word_text Operation = codes "  v"
 word_text Arrow = codes " -> v"

@@ -16,6 +16,7 @@ use Rattle.flat_laws.specs.Numbering.{IsNumbered, bodies_in, HasBodiesInOrder}
 use Rattle.flat_laws.specs.Stands.{Stands}
 use Rattle.hierarchy.specs.declared.operation.Inlined.{Inlined}
 
+-- The flat graph that has been built so far.
 abbrev pub graph_of : Inlined → Graph
 graph_of all = record { vertices = all.vertices.items; bodies = all.bodies.items }
 

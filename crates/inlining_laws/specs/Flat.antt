@@ -77,6 +77,7 @@ node_of cells op = record {
   };
 }
 
+-- The operations, in order, as the nodes of one level, with these cells.
 abbrev pub flat_level : Stages → List Operation → List Node
 flat_level cells ops = map (node_of cells) ops
 
@@ -84,6 +85,7 @@ flat_level cells ops = map (node_of cells) ops
 abbrev pub flat_value : List Operation → Values → Stages → Source → Vector
 flat_value ops row cells = level_value (flat_level cells ops) row no_state []
 
+-- The paths are the same, part by part.
 abbrev pub same_path : Path → Path → Bool
 same_path [] [] = true
 same_path [] (p ∷ q) = false
@@ -100,6 +102,7 @@ pick test value other [] q i = other q i
 pick test value other (op ∷ ops) q i =
     if test op.task && is_cell op q i then value op else pick test value other ops q i
 
+-- The task is that of a set half.
 abbrev pub is_set : Task → Bool
 is_set (runs k) = false
 is_set (gets v) = false
@@ -113,11 +116,13 @@ set_value look cells op = if all_hold look op.guards then vector_at (map look op
 abbrev pub next_cells : (Source → Vector) → Stages → List Operation → Stages
 next_cells look cells ops = pick is_set (set_value look cells) cells ops
 
+-- The task is that of a get half.
 abbrev pub is_get : Task → Bool
 is_get (runs k) = false
 is_get (gets v) = true
 is_get sets = false
 
+-- The value with which the stage of a get half begins; empty for any other task.
 abbrev pub initial_value : Task → Vector
 initial_value (gets v) = v
 initial_value (runs k) = []
@@ -138,6 +143,7 @@ abbrev pub taken : (Source → Vector) → Operation → Task → Values
 taken look op (runs (actuator n)) = input_value look op.ins ∷ []
 taken look op _ = []
 
+-- What the actuators among these operations take, in order.
 abbrev pub flat_taken : (Source → Vector) → List Operation → Values
 flat_taken look [] = []
 flat_taken look (op ∷ ops) = taken look op op.task ++ flat_taken look ops

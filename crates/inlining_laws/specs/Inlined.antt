@@ -36,6 +36,7 @@ pub record Wiring : Type 0 where
   pub asked : List Source
   pub gives : List Source → ℕ → Source
 
+-- What f gives for the wiring, or the value a if there is none.
 abbrev pub with_wiring : {A : Type 0} → Option Wiring → A → (Wiring → A) → A
 with_wiring None a f = a
 with_wiring (Some w) a f = f w
@@ -61,6 +62,8 @@ gives_by first (graph outs) inner own p = slice_index_or (map (wire (inner first
 gives_by first k inner own p = Of first p
 
 abbrev mutual
+  -- The outputs of a vertex whose first operation has the number `first`, as sources
+  -- of the flat list.
   pub wiring : ℕ → Vertex → Wiring
   wiring first (vertex l us) =
       record { asked = asked_by l.kind l.ins; gives = gives_by first l.kind (λ c. wirings c us) }
@@ -70,6 +73,7 @@ abbrev mutual
   wirings first no_vertices = []
   wirings first (and_vertex u us) = wiring first u ∷ wirings (first + count u) us
 
+-- The same guard, with its source replaced by the one to which w leads it.
 abbrev pub wire_guard : (Source → Source) → Guard → Guard
 wire_guard w g = record { source = w g.source; values = g.values; case = g.case }
 
@@ -109,10 +113,13 @@ inlined_by w first at l (delay vs) inner = stages w first (at (l.part ∷ [])) l
 inlined_by w first at l k inner = operation_of w (at (l.part ∷ [])) 0 l (map w l.ins) l.outs (runs k) ∷ []
 
 abbrev mutual
+  -- The operations of a vertex, with all inside it; the first has the number `first`. The sources
+  -- of its level lead as w says, and `at` makes a path below the level one of the whole.
   pub inlined : (Source → Source) → ℕ → (Path → Path) → Vertex → List Operation
   inlined w first at (vertex l us) =
       inlined_by w first at l l.kind (λ own c below. inlined_all (wire (wirings c us) own) c below us)
 
+  -- The same for the vertices of a level, one after another.
   pub inlined_all : (Source → Source) → ℕ → (Path → Path) → Vertices → List Operation
   inlined_all w first at no_vertices = []
   inlined_all w first at (and_vertex u us) = inlined w first at u ++ inlined_all w (first + count u) at us

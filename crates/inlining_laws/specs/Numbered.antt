@@ -46,9 +46,12 @@ abbrev pub numbered_level : Cells → ℕ → List Operation → List Node
 numbered_level cells v [] = []
 numbered_level cells v (op ∷ ops) = numbered_node (cells v) op ∷ numbered_level cells (suc v) ops
 
+-- The value of a source in a reaction with this row of the sensors and these cells,
+-- which go by number.
 abbrev pub numbered_value : List Operation → Values → Cells → Source → Vector
 numbered_value ops row cells = level_value (numbered_level cells 0 ops) row no_state []
 
+-- What f gives for the operation, or the value a if there is none.
 abbrev pub with_operation : {A : Type 0} → Option Operation → A → (Operation → A) → A
 with_operation None a f = a
 with_operation (Some op) a f = f op
@@ -57,9 +60,12 @@ with_operation (Some op) a f = f op
 abbrev pub numbered_set : (Source → Vector) → Vector → Operation → Vector
 numbered_set look kept op = if all_hold look op.guards then vector_at (map look op.ins) 0 else kept
 
+-- The cells after a reaction with these values: the cell of get half v holds what set half v + 1
+-- leaves in it. Only the cells of get halves say something.
 abbrev pub numbered_next : (Source → Vector) → Cells → List Operation → Cells
 numbered_next look cells ops v = with_operation (slice_get ops (suc v)) (cells v) (numbered_set look (cells v))
 
+-- The cells before the first reaction: for each get half the initial value of its stage.
 abbrev pub numbered_first : List Operation → Cells
 numbered_first ops v = with_operation (slice_get ops v) [] (λ op. initial_value op.task)
 

@@ -20,6 +20,8 @@ module _ {P : Type 0} (w : System P) (c : ℕ → ℕ) where
     pub round : reaction * w.period y + access ≡ t
     pub made : WasMade sequence place reaction
 
+  -- The counts c are fresh if no value was overwritten before its last load, and no
+  -- load was made before the store of its own round.
   pub record IsFresh : Type 0 where
     -- where the store of round t was made, every load of a round below t in that place was made
     pub kept : (y t s l i j : ℕ) → IsStored y t → slice_get (w.codes s).turn l ≡ Some (load y i) →

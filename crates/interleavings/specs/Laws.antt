@@ -79,15 +79,21 @@ abbrev pub RunsAreTold : Type 0
 RunsAreTold = (w : System (List ℤ)) (d : Discipline) (stored : ℕ → ℕ → ℤ) (owned : ℕ → ℕ → List ℤ) →
     IsDisciplined w d stored owned → (list : List ℕ) → run w list ≡ told w stored owned (run w list).counts
 
+-- In every run of a disciplined system no value is overwritten before its last load,
+-- and no load is made before the store of its own round.
 abbrev pub RunsAreFresh : Type 0
 RunsAreFresh = (w : System (List ℤ)) (d : Discipline) (stored : ℕ → ℕ → ℤ) (owned : ℕ → ℕ → List ℤ) →
     IsDisciplined w d stored owned → (list : List ℕ) → IsFresh w (run w list).counts
 
+-- In every run of a disciplined system some sequence is enabled as long as any
+-- sequence is not at its end, so that no run deadlocks.
 abbrev pub RunsProgress : Type 0
 RunsProgress = (w : System (List ℤ)) (d : Discipline) (stored : ℕ → ℕ → ℤ) (owned : ℕ → ℕ → List ℤ) →
     IsDisciplined w d stored owned → (list : List ℕ) (s : ℕ) → s < w.sequences → (run w list).counts s < full w s →
     (t : ℕ) × (t < w.sequences) × (enabled w (run w list) t ≡ true)
 
+-- If a sequence is enabled in the state that reached counts determine, the counts with
+-- its step are reached too, and they determine the state after that step.
 abbrev pub RunsGoOn : Type 0
 RunsGoOn = (w : System (List ℤ)) (d : Discipline) (stored : ℕ → ℕ → ℤ) (owned : ℕ → ℕ → List ℤ) →
     IsDisciplined w d stored owned → (c : ℕ → ℕ) (s : ℕ) → IsReached w c →

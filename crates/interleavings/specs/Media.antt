@@ -45,9 +45,13 @@ pub record Half : Type 0 where
   pub waits : ℕ
   pub advances : ℕ
 
+-- The owner of a half's advance is the sequence of the half, at the place of the
+-- advance in its turn; it makes none in its prologue.
 abbrev pub owner_of : Half → Owner
 owner_of h = record { sequence = h.sequence; site = record { first = 0; early = 0; place = h.advances } }
 
+-- A micro-step advances half i of medium m if it is an advance of m with the number i
+-- in the reaction.
 abbrev pub advances_half : ℕ → ℕ → Micro → Bool
 advances_half m i (advance n j) = nat_eq n m && nat_eq j i
 advances_half m i _ = false
@@ -77,6 +81,8 @@ module _ {P : Type 0} (w : System P) (signaller : ℕ → Owner) (half : ℕ →
     rank = rank;
   }
 
+  -- Medium m works by turns if it has at least one half in a reaction and each half is advanced at
+  -- one place only, in the turn of the half's sequence, after the wait there for exactly this half.
   pub record IsMedium (m : ℕ) : Type 0 where
     pub family : IsFamily w (w.halves m) (advances m) (advances_half m) (λ i. owner_of (half m i))
     pub before : (i : ℕ) → i < w.halves m → (half m i).waits < (half m i).advances
@@ -89,11 +95,14 @@ module _ {P : Type 0} (w : System P) (signaller : ℕ → Owner) (half : ℕ →
     pub same : s ≡ (half m i).sequence
     pub early : l < (half m i).advances
 
+-- A micro-step makes store i of element y if it is a store of y with the number i in the reaction.
 abbrev pub stores_access : ℕ → ℕ → Micro → Bool
 stores_access y i (store z j) = nat_eq z y && nat_eq j i
 stores_access y i _ = false
 
 module _ {P : Type 0} (w : System P) (half : ℕ → ℕ → Half) where
+  -- The owner of store i of an element of the wire of medium m is the sequence of half
+  -- `half_of i`, at place `place_of i` of its turn.
   abbrev pub writer_of : ℕ → (ℕ → ℕ) → (ℕ → ℕ) → ℕ → Owner
   writer_of m half_of place_of i =
       record { sequence = (half m (half_of i)).sequence; site = record { first = 0; early = 0; place = place_of i } }

@@ -10,6 +10,8 @@ pub record Owner : Type 0 where
   pub sequence : ℕ
   pub site : Site
 
+-- Owner o owns the test p if its sequence is one of the system, p holds in the code of this
+-- sequence at the owner's site only, and p holds at no step of another sequence.
 pub record IsOwned {P : Type 0} (w : System P) (p : Micro → Bool) (o : Owner) : Type 0 where
   pub here : o.sequence < w.sequences
   pub site : IsSite p (w.codes o.sequence) o.site
@@ -18,6 +20,7 @@ pub record IsOwned {P : Type 0} (w : System P) (p : Micro → Bool) (o : Owner) 
 abbrev pub nth_of : {P : Type 0} → System P → Owner → ℕ → Event
 nth_of w o j = event o.sequence (nth (w.codes o.sequence) o.site j)
 
+-- This is the sum of f over all numbers below n, so 0 if n is 0.
 abbrev pub sum_below : (ℕ → ℕ) → ℕ → ℕ
 sum_below f zero = 0
 sum_below f (suc n) = sum_below f n + f n
@@ -27,6 +30,8 @@ abbrev pub nth_in : {P : Type 0} → System P → ℕ → (ℕ → Owner) → �
 nth_in w size owner a = nth_of w (owner (a % size)) (a / size)
 
 module _ {P : Type 0} (w : System P) where
+  -- These tests, at least one, make up the test `all`: each is owned and holds in no prologue, and
+  -- a step passes `all` if and only if it passes one of them, and then only one.
   pub record IsFamily (size : ℕ) (all : Micro → Bool) (one : ℕ → Micro → Bool) (owner : ℕ → Owner) : Type 0 where
     pub some : 0 < size
     pub owned : (i : ℕ) → i < size → IsOwned w (one i) (owner i)

@@ -3,6 +3,8 @@ use Rattle.std.specs.Prelude.{◌≡◌, ℕ, ◌<◌, ◌≤◌, ◌⊎◌, Som
 use Rattle.interleavings.specs.System.{System, take, see, is_take, is_signal}
 use Rattle.interleavings.specs.Owners.{Owner, IsOwned}
 
+-- This owner passes its test at place a of the turn of s, so once in each reaction,
+-- and never in the prologue.
 abbrev pub late : ℕ → ℕ → Owner
 late s a = record { sequence = s; site = record { first = 0; early = 0; place = a } }
 

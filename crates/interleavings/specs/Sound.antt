@@ -56,6 +56,8 @@ module _ {P : Type 0} (w : System P) where
       (owned s (n + 1) ≡ w.after s n (owned s n))
   IsRightAt stored owned s n _ = owned s (n + 1) ≡ owned s n
 
+  -- These are the values of elements, by round, and the private states, by count, if each sequence
+  -- begins with its start and goes on as its micro-steps say when loads find their own rounds.
   pub record AreValues (stored : ℕ → ℕ → ℤ) (owned : ℕ → ℕ → P) : Type 0 where
     pub first : (s : ℕ) → owned s 0 ≡ w.start s
     pub right : (s n : ℕ) (m : Micro) → n < full w s → step_at (w.codes s) n ≡ Some m → IsRightAt stored owned s n m

@@ -37,19 +37,24 @@ pub data Micro : Type 0 where
   advance : (m i : ℕ) → Micro
   load store : (y i : ℕ) → Micro
 
+-- A micro-step takes semaphore x if it is a take of x, or the sub that lowers x after
+-- a see; a see takes nothing.
 abbrev pub is_take : ℕ → Micro → Bool
 is_take x (take y) = nat_eq y x
 is_take x (sub y) = nat_eq y x
 is_take x _ = false
 
+-- A micro-step signals semaphore x if it adds 1 to it.
 abbrev pub is_signal : ℕ → Micro → Bool
 is_signal x (signal y) = nat_eq y x
 is_signal x _ = false
 
+-- A micro-step advances medium m if it adds 1 to the turn of m, for any half.
 abbrev pub advances : ℕ → Micro → Bool
 advances m (advance n i) = nat_eq n m
 advances m _ = false
 
+-- A micro-step stores element y if it is a store of y, with any number in the reaction.
 abbrev pub stores : ℕ → Micro → Bool
 stores y (store z i) = nat_eq z y
 stores y _ = false
@@ -69,6 +74,8 @@ pub record System (P : Type 0) : Type 0 where
   pub emit : ℕ → ℕ → P → ℤ
   pub after : ℕ → ℕ → P → P
 
+-- The state of a run has the count of each sequence, the semaphores, the turns of media, the
+-- values in the places of elements, and the private state of each sequence.
 pub record State (P : Type 0) : Type 0 where
   pub counts : ℕ → ℕ
   pub semaphores : ℕ → ℕ
@@ -76,16 +83,22 @@ pub record State (P : Type 0) : Type 0 where
   pub elements : ℕ → ℕ → ℤ
   pub own : ℕ → P
 
+-- The function f is changed to the value a at i, and is as before everywhere else.
 abbrev pub put : {A : Type 0} → (ℕ → A) → ℕ → A → ℕ → A
 put f i a j = cond (nat_eq j i) a (f j)
 
 module _ {P : Type 0} (w : System P) where
+  -- Sequence s makes this many micro-steps in all, its prologue once and its turn in each reaction.
   abbrev pub full : ℕ → ℕ
   full s = length (w.codes s).prologue + w.reactions * length (w.codes s).turn
 
+  -- This is the micro-step that sequence s makes next after the counts c, and none if
+  -- s is at its end or is no sequence of the system.
   abbrev pub next : (ℕ → ℕ) → ℕ → Option Micro
   next c s = cond (nat_lt s w.sequences) (cond (nat_lt (c s) (full s)) (step_at (w.codes s) (c s)) None) None
 
+  -- In the state before the first step all counts, semaphores, turns and elements are
+  -- 0, and each sequence has its start as its private state.
   abbrev pub opening : State P
   opening = record { counts = λ _. 0; semaphores = λ _. 0; turns = λ _. 0; elements = λ _ _. pos 0; own = w.start }
 
@@ -93,12 +106,18 @@ module _ {P : Type 0} (w : System P) where
   abbrev pub half_number : ℕ → ℕ → ℕ → ℕ → ℕ
   half_number s n m i = reaction_at (w.codes s) n * w.halves m + i
 
+  -- Access i of element y at step n of s belongs to this round, which is counted from
+  -- 0 over all reactions, with `period y` rounds in each.
   abbrev pub round_number : ℕ → ℕ → ℕ → ℕ → ℕ
   round_number s n y i = reaction_at (w.codes s) n * w.period y + i
 
+  -- Access i of element y at step n of s uses this place of y, since successive rounds
+  -- use its `depth y` places in turn.
   abbrev pub place_number : ℕ → ℕ → ℕ → ℕ → ℕ
   place_number s n y i = round_number s n y i % w.depth y
 
+  -- A turn lets a wait for half a go on if it is a, or, if the wait is not exact, also
+  -- if it is above a.
   abbrev pub turn_reached : Bool → ℕ → ℕ → Bool
   turn_reached true turn a = nat_eq turn a
   turn_reached false turn a = nat_le a turn
@@ -115,9 +134,13 @@ module _ {P : Type 0} (w : System P) where
   enabled_by z s (Some (load y i)) = true
   enabled_by z s (Some (store y i)) = true
 
+  -- Sequence s is enabled in state z if it has a next micro-step that can be made
+  -- there; at its end it is not enabled.
   abbrev pub enabled : State P → ℕ → Bool
   enabled z s = enabled_by z s (next z.counts s)
 
+  -- This is the state after sequence s made this micro-step in state z, enabled or
+  -- not; with no micro-step it is z.
   abbrev pub done_by : State P → ℕ → Option Micro → State P
   done_by z s None = z
   done_by z s (Some (take x)) = record z { counts = one_more z.counts s; semaphores = put z.semaphores x 0 }
@@ -143,13 +166,19 @@ module _ {P : Type 0} (w : System P) where
     own = put z.own s (w.after s (z.counts s) (z.own s));
   }
 
+  -- A step of s leads to the state after its next micro-step if s is enabled, and
+  -- changes nothing if it is not.
   abbrev pub step : State P → ℕ → State P
   step z s = cond (enabled z s) (done_by z s (next z.counts s)) z
 
+  -- From state z, steps of the listed sequences in order lead to this state; a number
+  -- whose sequence is not enabled at that time changes nothing.
   abbrev pub run_from : State P → List ℕ → State P
   run_from z [] = z
   run_from z (s ∷ ss) = run_from (step z s) ss
 
+  -- This is the state to which a list of sequence numbers, one interleaving, leads
+  -- from the opening state.
   abbrev pub run : List ℕ → State P
   run list = run_from opening list
 
@@ -158,6 +187,7 @@ module _ {P : Type 0} (w : System P) where
   total_to p c zero = 0
   total_to p c (suc n) = total_to p c n + passes p (w.codes n) (c n)
 
+  -- All sequences together have passed the test p this often when their counts are c.
   abbrev pub total : (Micro → Bool) → (ℕ → ℕ) → ℕ
   total p c = total_to p c w.sequences
 

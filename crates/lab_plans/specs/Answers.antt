@@ -51,6 +51,7 @@ use Rattle.lab_plans.specs.Asked.{Problem, Asked, of_text, of_schedule, of_dates
 abbrev pub program : Problem → Schedule → Program
 program p s = program_of p.graph p.archi s
 
+-- The first limit that the program of a schedule is above, and None if it is within all of them.
 abbrev pub limit : Problem → Schedule → Option LimitFault
 limit p s = program_limit (program p s) (length p.archi.media)
 
@@ -63,6 +64,8 @@ within (Some fault) text = Err (above fault)
 abbrev pub numbers_of : Problem → Schedule → Report
 numbers_of p s = numbers.report p.graph p.archi (entry_in p.table) s
 
+-- The period of a schedule over n reactions: how long the last half of them takes, and how many
+-- they are.
 abbrev pub period_over : Problem → ℕ → Schedule → Period
 period_over p n s = period_of_schedule p.graph p.archi s n
 

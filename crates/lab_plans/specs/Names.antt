@@ -5,6 +5,7 @@ use Rattle.outside.specs.declared.file.File.{File}
 use Rattle.lab_words.specs.Command.{Command, help, schedule, graph, table, lint, why, plot, dates}
 use Rattle.top_plans.specs.Names.{named}
 
+-- The name that a command gives a file, and None if the command has no such file.
 abbrev pub names_for : Command → File → Option Bytes
 names_for help = named None None None None None
 names_for (schedule subject a h effort) = named (Some a) (Some h) None None None

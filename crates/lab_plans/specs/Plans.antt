@@ -53,6 +53,7 @@ use Rattle.lab_words.specs.Command.{
 use Rattle.lab_words.specs.Help.{help_text}
 use Rattle.lab_plans.specs.Asked.{Asked, Problem, of_text, of_schedule, of_dates}
 
+-- The plan of a command of the second program: in the end it gives what is asked for, or refuses.
 abbrev pub Asks : Type 0
 Asks = Plan Refusal Asked
 
@@ -78,6 +79,8 @@ template_plan a = algorithm_plan a (λ defs main. give (of_text (template_text m
 abbrev pub lint_of_algorithm : Defs → Bytes
 lint_of_algorithm defs = findings_text (algorithm_findings defs.defs)
 
+-- The findings in the definitions of an algorithm, and after them those in the text of an
+-- architecture.
 abbrev pub lint_of_both : Defs → Bytes → Described → Bytes
 lint_of_both defs text d = lint_of_algorithm defs ++ findings_text (architecture_findings defs.defs text d)
 
@@ -87,6 +90,8 @@ lint_behind None defs main = give (of_text (lint_of_algorithm defs))
 lint_behind (Some h) defs main =
     read_file Architecture h (λ text. architecture_in text main (λ d t. give (of_text (lint_of_both defs text d))))
 
+-- The plan of `lint`: the findings in the algorithm in file a and, if one is named, in the
+-- architecture in file h.
 abbrev pub lint_plan : Bytes → Option Bytes → Asks
 lint_plan a h = algorithm_plan a (lint_behind h)
 
@@ -103,9 +108,13 @@ why_of_code g a text = after of_code (program_in text g a) (λ p. give (of_text 
 abbrev pub why_behind_text : Bytes → Vertex → Described → Asks
 why_behind_text c main d = read_file Code c (λ text. why_of_code (flat_of main) d.archi text)
 
+-- The plan of `why` after the algorithm: it reads the file of the architecture, and then that of
+-- the macro-code.
 abbrev pub why_behind : Bytes → Bytes → Defs → Vertex → Asks
 why_behind h c defs main = read_file Architecture h (λ lines. described_in lines (why_behind_text c main))
 
+-- The plan of `why`: the reason, if there is one, why the macro-code in file c is refused for the
+-- algorithm in file a on the architecture in file h.
 abbrev pub why_plan : Bytes → Bytes → Bytes → Asks
 why_plan a h c = algorithm_plan a (why_behind h c)
 
@@ -115,6 +124,8 @@ plotted main rows =
     unless (excess (length rows.reactions * sum (actuator_lengths main)))
     (give (of_text (signal.plot (actuator_names main) (simulated main rows))))
 
+-- The plan of `plot`: a picture of what the actuators of the algorithm in file a take over the rows
+-- of the table in file s, if the output is within its bound.
 abbrev pub plot_plan : Bytes → Bytes → Asks
 plot_plan a s = algorithm_plan a (λ defs main. table_plan main s (plotted main))
 
@@ -125,6 +136,7 @@ dates_plan form a h g n effort =
     architecture_plan h main (λ d t.
     read_file Durations g (λ text. give (of_dates form (problem main d t effort) text n))))
 
+-- The plan of a command.
 abbrev pub plan_for : Command → Asks
 plan_for help = give (of_text help_text)
 plan_for (schedule subject a h effort) = schedule_plan subject a h effort

@@ -23,32 +23,44 @@ abbrev pub searching : App → App
 searching a =
     with_rule (with_rule (with_rule a (option (codes "tries"))) (option (codes "seed"))) (option (codes "for"))
 
+-- The command of this name that takes an algorithm.
 abbrev pub algorithm_app : Bytes → App
 algorithm_app name = with_rule (new_app name) (needed (codes "algorithm"))
 
+-- The command of this name that takes an algorithm and an architecture.
 abbrev pub architecture_app : Bytes → App
 architecture_app name = with_rule (algorithm_app name) (needed (codes "architecture"))
 
+-- The command of this name that takes an algorithm and, if one is given, an architecture.
 abbrev pub lint_app : Bytes → App
 lint_app name = with_rule (algorithm_app name) (optional (codes "architecture"))
 
+-- The command of this name that takes an algorithm, an architecture and a text of macro-code.
 abbrev pub why_app : Bytes → App
 why_app name = with_rule (architecture_app name) (needed (codes "code"))
 
+-- The command of this name that takes an algorithm and a sensor table.
 abbrev pub plot_app : Bytes → App
 plot_app name = with_rule (algorithm_app name) (needed (codes "sensors"))
 
+-- The command of this name that takes an algorithm, an architecture and the options of a search.
 abbrev pub schedule_app : Bytes → App
 schedule_app name = searching (architecture_app name)
 
+-- The command of this name that takes an algorithm, an architecture, a number of reactions if one
+-- is given, and the options of a search.
 abbrev pub report_app : Bytes → App
 report_app name = searching (with_rule (architecture_app name) (optional (codes "reactions")))
 
+-- The command of this name that takes an algorithm, an architecture, actual durations and a number
+-- of reactions if they are given, and the options of a search.
 abbrev pub trace_app : Bytes → App
 trace_app name =
     searching (with_rule (with_rule (architecture_app name) (optional (codes "durations")))
     (optional (codes "reactions")))
 
+-- The command of this name that takes an algorithm, an architecture, actual durations, a number of
+-- reactions, and the options of a search.
 abbrev pub dates_app : Bytes → App
 dates_app name =
     searching (with_rule (with_rule (architecture_app name) (needed (codes "durations"))) (needed (codes "reactions")))
@@ -65,6 +77,7 @@ word_app Trace name = trace_app name
 word_app Why name = why_app name
 word_app Dates name = dates_app name
 
+-- The program without its commands. It requires a command, and it has no help that `clap` makes.
 abbrev pub bare_app : App
 bare_app =
     on_top (λ s. record s { disable_help_flag = true; disable_help_subcommand = true; subcommand_required = true })

@@ -68,15 +68,19 @@ abbrev pub number_given : ℕ → ℕ → Option Bytes → Option ℕ
 number_given most usual None = Some usual
 number_given most usual (Some w) = number_up_to most w
 
+-- The goal that this word names, `length` or `period`, and None for any other word.
 abbrev pub goal_named : Bytes → Option Goal
 goal_named w =
     if bytes_eq w (codes "length") then Some for_length else
     if bytes_eq w (codes "period") then Some for_period else None
 
+-- The goal of a search by its option. Without the option it is the length, and it is None if the
+-- option names no goal.
 abbrev pub goal_given : Option Bytes → Option Goal
 goal_given None = Some for_length
 goal_given (Some w) = goal_named w
 
+-- The effort of a search with these numbers and this goal, and None if one of them is missing.
 abbrev pub effort_by : Option ℕ → Option ℕ → Option Goal → Option Effort
 effort_by (Some tries) (Some seed) (Some goal) = Some (record { tries = tries; seed = seed; goal = goal })
 effort_by _ _ _ = None
@@ -93,6 +97,8 @@ pub record Values : Type 0 where
   pub seed : Option Bytes
   pub goal : Option Bytes
 
+-- The values that were found for the arguments and options of a command, by their names. Of each
+-- name the first value counts.
 abbrev pub values_of : List Row → Values
 values_of rows = record {
   algorithm = first_of (codes "algorithm") rows;
@@ -122,10 +128,14 @@ subject_of name v =
     if bytes_eq name (codes "code") then Some code else
     if bytes_eq name (codes "report") then report_given v else None
 
+-- The command that writes dates in this form, and None if the number of reactions or the effort is
+-- missing.
 abbrev pub dates_by : Form → Bytes → Bytes → Bytes → Option ℕ → Option Effort → Option Command
 dates_by form a h g (Some n) (Some effort) = Some (dates form a h g n effort)
 dates_by form a h g _ _ = None
 
+-- The command that writes this of a schedule, and None if what it is to write or the effort is
+-- missing.
 abbrev pub schedule_by : Option Subject → Bytes → Bytes → Option Effort → Option Command
 schedule_by (Some subject) a h (Some effort) = Some (schedule subject a h effort)
 schedule_by _ a h _ = None
@@ -166,6 +176,7 @@ command_for name a v =
     if bytes_eq name (codes "plot") then option_map (plot a) v.sensors else
     placed_given name a v
 
+-- The name is one of the two by which the list of the commands is asked for, `help` and `--help`.
 abbrev pub is_help : Bytes → Bool
 is_help name = bytes_eq name (codes "help") || bytes_eq name (codes "--help")
 

@@ -7,6 +7,7 @@ abbrev pub lines_text : List Bytes → Bytes
 lines_text [] = []
 lines_text (l ∷ ls) = l ++ 10 ∷ lines_text ls
 
+-- The first line of the list of the commands.
 abbrev pub heading : Bytes
 heading = codes "syndex_lab shows what syndex compiles, in forms that other tools show."
 
@@ -33,11 +34,14 @@ text_lines =
     ∷ codes "  plot ALGORITHM SENSORS                 what the actuators take, as a picture (SVG)"
     ∷ codes "  help                                   this list" ∷ []
 
+-- The lines on the options of a search.
 abbrev pub option_lines : List Bytes
 option_lines =
     codes "What shows a schedule takes --tries N, which searches one by N tries, --seed S, which fixes its chances,"
     ∷ codes "and --for length or --for period, which says what the search makes small." ∷ []
 
+-- The text that `help` writes: the heading, a line or two for each command, and the options of a
+-- search.
 abbrev pub help_text : Bytes
 help_text = lines_text (
     heading ∷ [] ∷ schedule_lines ++ text_lines ++ [] ∷ option_lines ++ codes "The manual is docs/MANUAL.md." ∷ [])

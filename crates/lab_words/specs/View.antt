@@ -21,13 +21,16 @@ use Rattle.lab_words.specs.declared.commands.Goal.TheVariants.{Length, Period}
 use Rattle.lab_words.specs.declared.commands.Subject.{Subject}
 use Rattle.lab_words.specs.declared.commands.Subject.TheVariants.{Chart, Trace, Flat, Code, Report}
 
+-- A goal of the program as a goal of the table.
 abbrev pub goal_view : Goal → table.Goal
 goal_view Length = table.for_length
 goal_view Period = table.for_period
 
+-- An effort of the program as an effort of the table.
 abbrev pub effort_view : Effort → table.Effort
 effort_view effort = record { tries = effort.tries; seed = effort.seed; goal = goal_view effort.goal }
 
+-- What the program writes of a schedule, as the table has it.
 abbrev pub subject_view : Subject → table.Subject
 subject_view Chart = table.chart
 subject_view Trace = table.trace
@@ -35,10 +38,12 @@ subject_view Flat = table.flat
 subject_view Code = table.code
 subject_view (Report n) = table.report n
 
+-- A form of dates in the program as a form of the table.
 abbrev pub form_view : Form → table.Form
 form_view Drawn = table.drawn
 form_view Traced = table.traced
 
+-- A command of the program as a command of the table.
 abbrev pub view_of : Command → table.Command
 view_of Help = table.help
 view_of (Schedule subject a h effort) = table.schedule (subject_view subject) a.now h.now (effort_view effort)

@@ -34,15 +34,19 @@ use Rattle.latencies.specs.declared.latency.Latency.{Latency}
 abbrev pub reads_of : Vertex → List ℕ
 reads_of x = map (λ g. g.source.vertex) x.guards ++ map (λ s. s.vertex) x.ins
 
+-- The kind is that of a sensor.
 abbrev pub senses : Kind → Bool
 senses (Sensor n) = true
 senses _ = false
 
+-- The kind is that of an actuator.
 abbrev pub drives : Kind → Bool
 drives (Actuator n) = true
 drives _ = false
 
 module _ (vertices : List Vertex) where
+  -- The operations whose outputs operation w reads, those of its guards first, each as often as it
+  -- is read, and none if there is no operation w.
   abbrev pub reads : ℕ → List ℕ
   reads w = with_vertex (slice_get vertices w) [] reads_of
 
@@ -56,12 +60,17 @@ module _ (vertices : List Vertex) where
   leads_within zero v w = false
   leads_within (suc n) v w = is_after v (leads_within n v) w
 
+  -- Operation w depends on operation v in the same reaction: it reads what v gives, or what another
+  -- operation gives that depends on v in this way. What a delay has kept comes from a reaction
+  -- before.
   abbrev pub leads_to : ℕ → ℕ → Bool
   leads_to v w = leads_within (length vertices) v w
 
+  -- Operation v is there, and it is a sensor.
   abbrev pub is_sensor : ℕ → Bool
   is_sensor v = with_vertex (slice_get vertices v) false (λ x. senses x.kind)
 
+  -- Operation v is there, and it is an actuator.
   abbrev pub is_actuator : ℕ → Bool
   is_actuator v = with_vertex (slice_get vertices v) false (λ x. drives x.kind)
 
@@ -78,6 +87,7 @@ abbrev pub latency : List (List Span) → ℕ → ℕ → Latency
 latency rows v w = record { sensor = v; actuator = w; ticks = greatest (map (ticks_in v w) rows) }
 
 module _ (vertices : List Vertex) (rows : List (List Span)) where
+  -- All operations of the graph, by their numbers from 0.
   abbrev pub all_operations : List ℕ
   all_operations = range_with_len 0 (length vertices)
 
@@ -86,5 +96,7 @@ module _ (vertices : List Vertex) (rows : List (List Span)) where
   latencies_from v =
       if is_sensor vertices v then map (latency rows v) (filter (is_reached vertices v) all_operations) else []
 
+  -- The latency over these reactions from each sensor to each actuator that depends on it in the
+  -- same reaction, by sensor and then by actuator.
   abbrev pub latencies : List Latency
   latencies = flat_map latencies_from all_operations

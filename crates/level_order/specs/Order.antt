@@ -31,6 +31,7 @@ nodes_of us = map node (map view us)
 abbrev pub is_done : List Bool → ℕ → Bool
 is_done done r = slice_index_or done r false
 
+-- The number r is in the list.
 abbrev pub is_among : List ℕ → ℕ → Bool
 is_among [] r = false
 is_among (x ∷ xs) r = (x == r) || is_among xs r

@@ -66,9 +66,11 @@ abbrev pub output_end : ℕ → ℕ → Bytes
 output_end zero i = codes "s.o"
 output_end (suc below) i = mix_name (suc below) i ++ codes ".z"
 
+-- The line of the main graph that places function i of a layer.
 abbrev pub mix_reference : ℕ → ℕ → Bytes
 mix_reference layer i = codes "ref " ++ (mix_name layer i ++ codes " Mix\n")
 
+-- The lines of the main graph that place the four functions of a layer.
 abbrev pub layer_references : ℕ → Bytes
 layer_references layer =
     mix_reference layer 0 ++ (mix_reference layer 1 ++ (mix_reference layer 2 ++ mix_reference layer 3))
@@ -89,6 +91,7 @@ last_references =
     ∷ codes "ref b Dst"
     ∷ []
 
+-- The line of the main graph with an edge from the first end to the second one.
 abbrev pub edge : Bytes → Bytes → Bytes
 edge from to = codes "edge " ++ (from ++ (codes " " ++ (to ++ codes "\n")))
 
@@ -99,6 +102,7 @@ mix_edges below i =
     edge (output_end below i) (mix_name (below + 1) i ++ codes ".x")
     ++ edge (output_end below ((i + 1) % 4)) (mix_name (below + 1) i ++ codes ".y")
 
+-- The lines of the eight edges from layer `below` to the layer after it.
 abbrev pub layer_edges : ℕ → Bytes
 layer_edges below = mix_edges below 0 ++ (mix_edges below 1 ++ (mix_edges below 2 ++ mix_edges below 3))
 
@@ -113,6 +117,8 @@ edges_from_layer last =
     edge (output_end last 0) (codes "g.x")
     ++ (edge (output_end last 1) (codes "w.x") ++ edge (output_end last 2) (codes "r.x"))
 
+-- The lines of the edges behind the layers: to the switch, to the repetition and to both actuators.
+-- The block of the main graph ends after them.
 abbrev pub last_edges : List Bytes
 last_edges =
     codes "edge g.c w.c"
@@ -122,14 +128,17 @@ last_edges =
     ∷ codes "end"
     ∷ []
 
+-- The first lines of the main graph, with all its references, if it has this many layers.
 abbrev pub main_references : ℕ → Bytes
 main_references layers =
     lines_text (codes "graph main" ∷ codes "ref s Src" ∷ [])
     ++ (references_of_layers layers ++ lines_text last_references)
 
+-- The last lines of the main graph, with all its edges and its end, if it has this many layers.
 abbrev pub main_edges : ℕ → Bytes
 main_edges layers = edges_of_layers layers ++ (edges_from_layer layers ++ lines_text last_edges)
 
+-- The block of the main graph with this many layers.
 abbrev pub main_graph : ℕ → Bytes
 main_graph layers = main_references layers ++ main_edges layers
 

@@ -46,6 +46,7 @@ short_durations =
     ++ (durations_everywhere (codes "Same") (codes "1")
     ++ (durations_everywhere (codes "Flip") (codes "1") ++ durations_everywhere (codes "Acc") (codes "1")))
 
+-- The text of the architecture, which is the same for every load.
 abbrev pub architecture_text : Bytes
 architecture_text =
     lines_text graph_lines

@@ -45,5 +45,7 @@ rows load (suc k) = rows load k ++ row k (state_before load k)
 abbrev pub reactions_of : ℕ → ℕ
 reactions_of load = 100 + load
 
+-- The text of the sensor table of the load of this number: a header, and a row for each of its
+-- reactions.
 abbrev pub table_text : ℕ → Bytes
 table_text load = lines_text (codes "k,s.0,s.1,s.2,s.3" ∷ []) ++ rows load (reactions_of load)

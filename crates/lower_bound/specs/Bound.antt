@@ -40,6 +40,7 @@ use Rattle.archi_graph.specs.Archi.{stands_at}
 use Rattle.durations.specs.Table.{least_of}
 use Rattle.schedule.specs.Acts.{sources_of}
 
+-- The greatest of these numbers, and 0 if there are none.
 abbrev pub greatest : List ℕ → ℕ
 greatest [] = 0
 greatest (n ∷ ns) = max n (greatest ns)
@@ -63,6 +64,7 @@ least_transfer media o n = unwrap_or (least_of (map (brought_in o n) media)) 0
 
 -- how long each operation lasts on each of this many operators, where it may stand
 module _ (operators : ℕ) (ticks : ℕ → ℕ → Option ℕ) where
+  -- All operators of the architecture, by their numbers from 0.
   abbrev pub all_operators : List ℕ
   all_operators = range_with_len 0 operators
 
@@ -79,6 +81,7 @@ module _ (operators : ℕ) (ticks : ℕ → ℕ → Option ℕ) where
   stands_only o v = list_all (λ p. nat_eq p o || is_none (ticks v p)) all_operators
 
   module _ (operations : ℕ) where
+    -- All operations of the graph, by their numbers from 0.
     abbrev pub all_operations : List ℕ
     all_operations = range_with_len 0 operations
 
@@ -113,9 +116,13 @@ module _ (operators : ℕ) (ticks : ℕ → ℕ → Option ℕ) where
     chain_within zero v = 0
     chain_within (suc n) v = end_after (chain_within n) v
 
+    -- The longest time up to the end of operation v, by least durations and without transfers,
+    -- along operations of which each depends on the one before. The duration of v counts too.
     abbrev pub chain_to : ℕ → ℕ
     chain_to v = chain_within (length vertices) v
 
+    -- How many ticks a longest chain of operations takes by least durations and without transfers,
+    -- and 0 if there are no operations.
     abbrev pub longest_chain : ℕ
     longest_chain = greatest (map chain_to (all_operations (length vertices)))
 
@@ -146,9 +153,12 @@ module _ (operators : ℕ) (ticks : ℕ → ℕ → Option ℕ) where
       carried_within zero v = 0
       carried_within (suc n) v = first_end (carried_within n) v
 
+      -- The end of operation v if each operation runs on the operator on which it ends first, waits
+      -- for nothing but what it depends on, and has only the transfers that it cannot do without.
       abbrev pub carried_to : ℕ → ℕ
       carried_to v = carried_within (length vertices) v
 
+      -- The latest of these ends of all operations, and 0 if there are no operations.
       abbrev pub longest_carried : ℕ
       longest_carried = greatest (map carried_to (all_operations (length vertices)))
 

@@ -58,6 +58,7 @@ module _ (operators : ℕ) (ticks : ℕ → ℕ → Option ℕ) (vertices : List
       back_within (length vertices)
       (latest_of (chain_to operators ticks vertices) (all_operations operators ticks (length vertices)))
 
+  -- Operation v as a link of the chain, with its least duration in ticks.
   abbrev pub link_of : ℕ → Link
   link_of v = record { op = v; ticks = least operators ticks v }
 

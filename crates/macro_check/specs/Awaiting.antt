@@ -43,9 +43,11 @@ use Rattle.check_cause.specs.declared.cause.Stop.{Stop}
 use Rattle.check_laws.specs.Items.{AreGuarded, AreTransferred}
 use Rattle.check_laws.specs.Run.{Place, IsRun, awaited, is_ready, left_from, made, next}
 
+-- A place of the definitions is this place of the code, with the same numbers.
 abbrev pub stand_of : Place → Stand
 stand_of y = record { sequence = y.sequence; at = y.at }
 
+-- A given place is this place of the code; it is none if no place is given.
 abbrev pub stand_or : Option Place → Option Stand
 stand_or None = None
 stand_or (Some y) = Some (stand_of y)
@@ -117,6 +119,7 @@ abbrev pub stop_at : Program → List ℕ → ℕ → List Place
 stop_at p done s =
     cond (nat_lt (slice_index done s) (length (turn p s))) (record { sequence = s; at = slice_index done s } ∷ []) []
 
+-- A stop of a refusal is this place of the definitions, with the same numbers.
 abbrev pub place_of : Stop → Place
 place_of x = record { sequence = x.sequence; at = x.at }
 

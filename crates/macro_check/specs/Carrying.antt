@@ -38,6 +38,7 @@ further (Made v port) f = Made v port
 further (Received b) f = f b
 further Nowhere f = Nowhere
 
+-- The value comes from an output of a call, and not from another buffer or nowhere.
 abbrev pub is_call : Origin → Bool
 is_call (Made v port) = true
 is_call (Received b) = false
@@ -63,6 +64,7 @@ abbrev pub from_transfer : Option Crossing → Origin
 from_transfer None = Nowhere
 from_transfer (Some c) = Received c.sent
 
+-- This is the given origin, and nowhere if none is given.
 abbrev pub origin_or : Option Origin → Origin
 origin_or None = Nowhere
 origin_or (Some o) = o

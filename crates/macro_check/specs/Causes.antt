@@ -36,6 +36,7 @@ use Rattle.macro_check.specs.declared.cause.CheckError.{CheckError}
 use Rattle.macro_check.specs.declared.cause.CheckError.TheVariants.{Refused, OutOfMemory}
 use Rattle.macro_check.specs.Awaiting.{place_of}
 
+-- A cause that the code has found is this cause of the definitions, with the same places.
 abbrev pub cause_of : CheckCause → Cause
 cause_of Sequences = sequences_differ
 cause_of Calls = calls_wrong

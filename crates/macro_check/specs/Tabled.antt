@@ -34,6 +34,8 @@ use Rattle.program_tables.specs.declared.readings.Reading.{Reading}
 use Rattle.check_laws.specs.Tests.{guards}
 use Rattle.macro_check.specs.declared.tables.Tables.{Tables}
 
+-- The tables have, for their numbers of media and operations, the program's communications,
+-- communicators and transfers, the places at which it names numbers, and its readers.
 pub record AreTables (p : Program) (t : Tables) : Type 0 where
   pub numbers : t.numbers.items ≡ numbers_of p
   pub places : t.places.items ≡ places_of p

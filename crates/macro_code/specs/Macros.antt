@@ -22,6 +22,7 @@ use Rattle.macro_code.specs.declared.macros.Macro.TheVariants.{
   Sync,
 }
 
+-- A macro has this name in the text, in ASCII.
 abbrev pub word_of : Macro → List ℕ
 word_of Processor = codes "processor_"
 word_of Semaphores = codes "semaphores_"

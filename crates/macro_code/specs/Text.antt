@@ -58,9 +58,12 @@ joined (w ∷ ws) = w ++ each_after_comma ws
 abbrev pub word_line : Macro → Bytes
 word_line x = word_of x ++ codes "\n"
 
+-- A line of a macro has its arguments between parentheses, separated by commas; the
+-- parentheses are there without an argument too.
 abbrev pub line : Macro → List Bytes → Bytes
 line x arguments = word_of x ++ (codes "(" ++ (joined arguments ++ codes ")\n"))
 
+-- A buffer is called by the letter b and its number in decimal.
 abbrev pub buffer_name : ℕ → Bytes
 buffer_name b = codes "b" ++ decimal b
 
@@ -68,6 +71,8 @@ buffer_name b = codes "b" ++ decimal b
 abbrev pub places_of : ℕ → List Bytes
 places_of depth = cond (nat_lt 1 depth) (decimal depth ∷ []) []
 
+-- Buffer b is declared by this line, with its length, and with its number of places if
+-- that is above 1.
 abbrev pub alloc_line : ℕ → Buffer → Bytes
 alloc_line b x = line macros.Alloc (buffer_name b ∷ decimal x.len ∷ places_of x.depth)
 
@@ -85,6 +90,7 @@ pairs_on o q (x ∷ xs) = cond (nat_eq x o) (q ∷ []) [] ++ pairs_on o (suc q) 
 abbrev pub declarations : ℕ → List ℕ → List Buffer → Bytes
 declarations o pairs buffers = line macros.Semaphores (map decimal (pairs_on o 0 pairs)) ++ alloc_lines o 0 buffers
 
+-- A medium has this name, which is empty if there is no medium.
 abbrev pub medium_in : Option Medium → Bytes
 medium_in None = []
 medium_in (Some m) = m.name
@@ -94,9 +100,11 @@ module _ (n : Names) where
   abbrev pub operation_name : ℕ → Bytes
   operation_name v = with_vertex (slice_get n.vertices v) [] (λ x. x.name)
 
+  -- An operator has this name, which is empty if there is no operator of this number.
   abbrev pub operator_name : ℕ → Bytes
   operator_name o = slice_index_or n.operators o []
 
+  -- A medium has this name, which is empty if there is no medium of this number.
   abbrev pub medium_name : ℕ → Bytes
   medium_name m = medium_in (slice_get n.media m)
 
@@ -106,6 +114,7 @@ module _ (n : Names) where
       codes "op " ++ (operation_name v ++
       (codes "(" ++ (joined (map buffer_name ins) ++ (codes ";" ++ (joined (map buffer_name outs) ++ codes ")\n")))))
 
+  -- An instruction is written as this line.
   abbrev pub instr_line : Instr → Bytes
   instr_line (Suc0 q) = line macros.Suc0 (decimal q ∷ [])
   instr_line (Suc1 q) = line macros.Suc1 (decimal q ∷ [])
@@ -116,6 +125,7 @@ module _ (n : Names) where
   instr_line (Sync o r) = line macros.Sync (operator_name o ∷ operator_name r ∷ [])
   instr_line (Call v ins outs) = call_line v ins outs
 
+  -- Instructions are written as one line each, in order.
   abbrev pub body_text : List Instr → Bytes
   body_text xs = flat_map instr_line xs
 
@@ -128,6 +138,8 @@ module _ (n : Names) where
   thread_by q None = []
   thread_by q (Some m) = line macros.Thread (medium_name m ∷ []) ++ (code_text q ++ word_line macros.EndThread)
 
+  -- A sequence is written as a thread of operator o if it is a communicator there;
+  -- otherwise nothing is written.
   abbrev pub thread_text : ℕ → SeqCode → Bytes
   thread_text o q = cond (nat_eq q.seq.operator o) (thread_by q q.seq.medium) []
 
@@ -136,9 +148,13 @@ module _ (n : Names) where
   medium_by x None = []
   medium_by x (Some m) = line x (medium_name m ∷ [])
 
+  -- The medium of a sequence is named in a line of macro x if the sequence is a
+  -- communicator of operator o; otherwise nothing is written.
   abbrev pub medium_line : Macro → ℕ → SeqCode → Bytes
   medium_line x o q = cond (nat_eq q.seq.operator o) (medium_by x q.seq.medium) []
 
+  -- The media of the communicators of operator o are named in a line of macro x each,
+  -- in the order of the sequences.
   abbrev pub medium_lines : Macro → ℕ → List SeqCode → Bytes
   medium_lines x o qs = flat_map (medium_line x o) qs
 
@@ -149,6 +165,8 @@ module _ (n : Names) where
       (code_text q ++ (medium_lines macros.WaitEndThread o qs ++ word_line macros.EndMain)))
   main_by qs o q (Some m) = []
 
+  -- A sequence is written as the main part of operator o if it is the computation
+  -- sequence there; otherwise nothing is written.
   abbrev pub main_text : List SeqCode → ℕ → SeqCode → Bytes
   main_text qs o q = cond (nat_eq q.seq.operator o) (main_by qs o q q.seq.medium) []
 

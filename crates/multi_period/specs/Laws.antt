@@ -15,6 +15,8 @@ use Rattle.multi_period.specs.Periods.{periods, period}
 abbrev pub DoesAsMarked : List Mark → Vertex → Vertex → Type 0
 DoesAsMarked marks main made = (rows : List Values) (k : ℕ) → act_row made rows k ≡ act_row_at marks main rows k
 
+-- The tree with its marks made has the meaning of the marked tree: over any rows of the sensors its
+-- actuators take the same values in every reaction.
 abbrev pub PeriodsKeep : List Mark → Vertex → Type 0
 PeriodsKeep marks main = DoesAsMarked marks main (periods marks main)
 
@@ -23,6 +25,8 @@ PeriodsKeep marks main = DoesAsMarked marks main (periods marks main)
 abbrev pub PeriodCounts : Mark → Label → Vertices → Type 0
 PeriodCounts m l us = operations (period m l us) ≡ operations (vertex l us) + (2 * m.every + 3 * length l.outs)
 
+-- The number of operations that the mark on a reference adds, 0 without a mark: two for each
+-- reaction that its count looks back, and three for each output.
 abbrev pub added_by : Option Mark → Label → ℕ
 added_by None l = 0
 added_by (Some m) l = 2 * m.every + 3 * length l.outs
@@ -32,6 +36,8 @@ abbrev pub added : (ℕ → Option Mark) → Vertices → ℕ
 added mark no_vertices = 0
 added mark (and_vertex (vertex l vs) us) = added_by (mark 0) l + added (λ r. mark (suc r)) us
 
+-- The number of operations of the tree with its marks made is that of the tree before, plus
+-- what the marks add.
 abbrev pub PeriodsCount : List Mark → Vertex → Type 0
 PeriodsCount marks main = operations (periods marks main) ≡ operations main + added (mark_at marks) (vertices_in main)
 
@@ -44,6 +50,8 @@ abbrev pub moved : Option Mark → Path → Path
 moved None q = q
 moved (Some m) q = Named (codes "body") ∷ Numbered 0 ∷ Named (codes "run") ∷ q
 
+-- For each of these vertices, what the first state keeps below it the second state keeps at the
+-- path to which making the marks has moved it.
 abbrev pub ValuesMoved : (ℕ → Option Mark) → State → State → Vertices → Type 0
 ValuesMoved mark before after no_vertices = Unit {0}
 ValuesMoved mark before after (and_vertex (vertex l vs) us) =

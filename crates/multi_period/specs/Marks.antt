@@ -57,6 +57,7 @@ pub record IsMark (mark : Mark) (label : Label) : Type 0 where
   pub named : length label.names ≡ length label.outs
   pub distinct : AreDistinctNames label.names
 
+-- If there is a mark, a reference with this label may have it.
 abbrev pub MayHave : Option Mark → Label → Type 0
 MayHave None l = Unit {0}
 MayHave (Some m) l = IsMark m l

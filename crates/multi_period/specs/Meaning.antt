@@ -38,6 +38,8 @@ held vs c = record {
   does = record { outputs = λ row st ins. vs; next = λ row st ins. st; initial = c.does.initial };
 }
 
+-- A node that gives these values and whose delays stand still, or the node unchanged if no
+-- values are given.
 abbrev pub held_by : Option Values → Node → Node
 held_by None c = c
 held_by (Some vs) c = held vs c
@@ -56,12 +58,16 @@ held_in (Some m) k gave = if (k % m.every) == 0 then None else Some (gave (k - (
 abbrev pub level_in : (ℕ → Option Mark) → List Node → ℕ → (ℕ → ℕ → Values) → List Node
 level_in mark cs k gave = holding (λ r. held_in (mark r) k (λ j. gave j r)) cs
 
+-- The history before reaction k + 1, given that before reaction k, if this level runs in reaction k
+-- over this row of the sensors.
 abbrev pub after : List Node → Values → ℕ → History → History
 after cs row k h = record {
   past = graph_next cs row h.past [];
   gave = λ j. if j == k then out cs row h.past [] (length cs) else h.gave j;
 }
 
+-- What was kept and what was given before reaction k, over these rows of the sensors. Before
+-- reaction 0 the initial values are kept and nothing was given.
 abbrev pub history : (ℕ → Option Mark) → Vertex → List Values → ℕ → History
 history mark main rows zero = record { past = (behaviour main).initial; gave = λ j r. [] }
 history mark main rows (suc k) =

@@ -43,6 +43,8 @@ turns n = (pos 0 ∷ []) ∷ replicate (n - 1) (pos 1 ∷ [])
 abbrev pub count : ℕ → Vertex
 count n = made (Named (codes "count")) (Of 0 0 ∷ []) (1 ∷ []) (delay (turns n)) no_vertices
 
+-- The name of the delay that keeps output i of a marked reference: `keep_` and the
+-- name of the output.
 abbrev pub keep_name : List (List ℕ) → ℕ → List ℕ
 keep_name names i = codes "keep_" ++ slice_index_or names i []
 
@@ -76,6 +78,7 @@ run l us = vertex (record {
   kind = l.kind;
 }) us
 
+-- The case in which the reference runs: a graph round it that gives its outputs.
 abbrev pub when_runs : Label → Vertices → Vertex
 when_runs l us =
     made (Numbered 0) (inputs_from 1 (length l.ins)) l.outs
@@ -89,6 +92,8 @@ otherwise l =
     (graph (inputs_from 0 (length l.outs)))
     no_vertices
 
+-- The switch of a marked reference: it gives the outputs of the reference in reactions in which the
+-- count gives 0, and the kept values in all others.
 abbrev pub body : Label → Vertices → Vertex
 body l us =
     made (Named (codes "body")) (Of 0 0 ∷ (inputs_from 0 (length l.ins) ++ firsts (length l.outs))) l.outs
@@ -110,13 +115,16 @@ period m l us = vertex (record {
   kind = graph (outputs_of (suc (length l.outs)) (length l.outs));
 }) (vertices_of (parts m l us))
 
+-- The graph that a vertex with this mark becomes, or the vertex unchanged if there is no mark.
 abbrev pub period_by : Option Mark → Vertex → Vertex
 period_by None u = u
 period_by (Some m) (vertex l us) = period m l us
 
+-- The vertices of a level, in order, of which those with a mark have become graphs.
 abbrev pub all_periods : (ℕ → Option Mark) → Vertices → Vertices
 all_periods mark no_vertices = no_vertices
 all_periods mark (and_vertex u us) = and_vertex (period_by (mark 0) u) (all_periods (λ r. mark (suc r)) us)
 
+-- The main graph with its marks made: each marked reference has become a graph.
 abbrev pub periods : List Mark → Vertex → Vertex
 periods marks (vertex l us) = vertex l (all_periods (mark_at marks) us)

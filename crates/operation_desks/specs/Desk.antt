@@ -27,6 +27,8 @@ use Rattle.flat_graph.specs.Fire.{read_lens, out_lens}
 use Rattle.flat_graph.specs.Meaning.{is_get, delay_number}
 use Rattle.operation_desks.specs.Operation.{vectors_from, delay_of}
 
+-- The desk of an operation has the vectors that it reads and those that it gives, and
+-- what is needed to find its guards, its inputs and its cell.
 pub record DeskData : Type 0 where
   -- the inputs' vectors, and then those of the guards' sources
   pub read : Values
@@ -40,6 +42,8 @@ pub record DeskData : Type 0 where
 abbrev pub load_lens : DeskData → List ℕ
 load_lens d = drop d.inputs (map length d.read) ++ take d.inputs (map length d.read)
 
+-- The elements of a row, in the order in which they were loaded, make up these
+-- vectors, the guards' sources first; an element that is missing is 0.
 abbrev pub loaded_in : DeskData → List ℤ → Values
 loaded_in d row = vectors_from row 0 (load_lens d)
 
@@ -51,6 +55,7 @@ pub record DeskLens : Type 0 where
   pub inputs : ℕ
   pub delay : Option ℕ
 
+-- A desk has these lengths and numbers, which no computation changes.
 abbrev pub lens_of_desk : DeskData → DeskLens
 lens_of_desk d = record {
   reads = map length d.read;

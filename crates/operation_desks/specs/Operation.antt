@@ -33,6 +33,7 @@ use Rattle.flat_graph.specs.Meaning.{sensed, delay_number}
 abbrev pub conditions_in : Vertex → Values → Values
 conditions_in x vs = take (length x.guards) vs
 
+-- These are the values of the inputs of operation x, which come after those of its guards' sources.
 abbrev pub inputs_in : Vertex → Values → Values
 inputs_in x vs = drop (length x.guards) vs
 
@@ -51,6 +52,7 @@ delay_by vs v (Get z) twin = Some (delay_number vs v)
 delay_by vs v Set (Some u) = Some (delay_number vs u)
 delay_by vs v _ twin = None
 
+-- This is the cell of the given delay; it is the empty vector if no delay is given.
 abbrev pub cell_at : Values → Option ℕ → Vector
 cell_at cells None = []
 cell_at cells (Some d) = vector_at cells d
@@ -60,6 +62,7 @@ abbrev pub HasCell : Values → Option ℕ → ℕ → Type 0
 HasCell cells None n = n ≡ 0
 HasCell cells (Some d) n = (d < length cells) × (length (vector_at cells d) ≡ n)
 
+-- The cell of the given delay becomes z; if no delay is given, the cells are as before.
 abbrev pub with_cell : Values → Option ℕ → Vector → Values
 with_cell cells None z = cells
 with_cell cells (Some d) z = slice_set cells d z
@@ -74,6 +77,8 @@ module _ (g : Graph) where
   abbrev pub lens_in : Vertex → List ℕ
   lens_in x = replicate (length x.guards) 1 ++ lens_of g.vertices x.ins
 
+  -- Operation v, which is x, is a half of the delay of this number; it is none if the
+  -- operation is no half of a delay.
   abbrev pub delay_of : ℕ → Vertex → Option ℕ
   delay_of v x = delay_by g.vertices v x.kind x.twin
 
@@ -88,6 +93,8 @@ module _ (g : Graph) where
   cells_left v x vs cells = with_cell cells (delay_of v x)
       (kept x (cell_at cells (delay_of v x)) (conditions_in x vs) (inputs_in x vs))
 
+  -- These are the rows after operation x was computed in reaction k on the values vs of its
+  -- sources: an actuator takes its input, and any other operation changes nothing.
   abbrev pub rows_left : Vertex → ℕ → Values → List Values → List Values
   rows_left x k vs rows = rows_by x.kind k (vector_at (inputs_in x vs) 0) rows
 

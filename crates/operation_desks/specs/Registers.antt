@@ -36,6 +36,7 @@ pub record Own : Type 0 where
   -- by reaction and actuator
   pub rows : List Values
 
+-- The registers become r; the cells and the rows are as before.
 abbrev pub with_registers : Own → List ℤ → Own
 with_registers c r = record { registers = r; cells = c.cells; rows = c.rows }
 
@@ -57,6 +58,8 @@ module _ (g : Graph) (sensors : List Values) where
     rows = rows_left g x k vs c.rows;
   }
 
+  -- This is what a sequence has of its own after it computed operation v in reaction k on what was
+  -- loaded; if there is no operation v, its registers become empty and the rest is as before.
   abbrev pub compute : ℕ → ℕ → List ℤ → Own → Own
   compute v k loaded c = compute_by v k loaded c (slice_get g.vertices v)
 
@@ -72,6 +75,8 @@ module _ (g : Graph) (sensors : List Values) where
   emit_by (Give r more) k c = element_at c.registers r
   emit_by (ComputeOut v more) k c = element_at (compute v k [] c).registers 0
 
+  -- This is what a sequence has of its own after a store in reaction k. The registers are
+  -- empty after a store of a transfer, and after the last micro-step of a call.
   abbrev pub after_by : OnStore → ℕ → Own → Own
   after_by CarryOut k c = with_registers c []
   after_by (Give r more) k c = kept more c
@@ -82,10 +87,14 @@ module _ (g : Graph) (sensors : List Values) where
   absorb_at (Some (Load x then)) k c z = absorb_by then k c z
   absorb_at _ k c z = c
 
+  -- A micro-step that is a store stores this value in reaction k; it is 0 for any
+  -- other micro-step, and for none.
   abbrev pub emit_at : Option MicroStep → ℕ → Own → ℤ
   emit_at (Some (Store x what)) k c = emit_by what k c
   emit_at _ k c = pos 0
 
+  -- This is what a sequence has of its own after a micro-step that is a store; any
+  -- other micro-step, and none, leaves it as it was.
   abbrev pub after_at : Option MicroStep → ℕ → Own → Own
   after_at (Some (Store x what)) k c = after_by what k c
   after_at _ k c = c

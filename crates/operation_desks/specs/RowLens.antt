@@ -10,6 +10,8 @@ abbrev pub actuator_len : Graph → Vertex → Kind → List ℕ
 actuator_len g x (Actuator i) = lens_of g.vertices x.ins
 actuator_len g x _ = []
 
+-- The actuators among these operations take vectors of these lengths, in the order of
+-- the operations.
 abbrev pub actuator_lens : Graph → List Vertex → List ℕ
 actuator_lens g [] = []
 actuator_lens g (x ∷ xs) = actuator_len g x x.kind ++ actuator_lens g xs

@@ -11,6 +11,7 @@ IsPartBounded (Named x) = Unit {0}
 IsPartBounded (Numbered n) = n < 2 ^ 32
 IsPartBounded (Port x) = Unit {0}
 
+-- The number of every case and of every copy on the path has 32 bits.
 abbrev pub IsPathBounded : Path → Type 0
 IsPathBounded [] = Unit {0}
 IsPathBounded (p ∷ q) = IsPartBounded p × IsPathBounded q
@@ -27,9 +28,12 @@ pub record IsLabelBounded (label : Label) : Type 0 where
   pub kind : IsKindBounded label.kind label.outs
 
 abbrev mutual
+  -- The vertex and every vertex inside it keep these bounds: on the numbers of cases and copies, on
+  -- the outputs of functions, and on how many copies a repetition has.
   pub IsBounded : Vertex → Type 0
   IsBounded (vertex l us) = IsLabelBounded l × AllBounded us
 
+  -- The same holds for each of these vertices.
   pub AllBounded : Vertices → Type 0
   AllBounded no_vertices = Unit {0}
   AllBounded (and_vertex u us) = IsBounded u × AllBounded us

@@ -15,15 +15,18 @@ use Rattle.operation_paths.specs.Bounded.{IsPathBounded}
 abbrev pub is_word : List ℕ → Bool
 is_word x = begins_name x && list_all is_name_byte x
 
+-- If the part is a reference or a port, its name is a word; a number needs no name.
 abbrev pub IsPartNamed : Part → Type 0
 IsPartNamed (Named x) = IsTrue (is_word x)
 IsPartNamed (Numbered n) = Unit {0}
 IsPartNamed (Port x) = IsTrue (is_word x)
 
+-- The name of every reference and of every port on the path is a word.
 abbrev pub IsPathNamed : Path → Type 0
 IsPathNamed [] = Unit {0}
 IsPathNamed (p ∷ q) = IsPartNamed p × IsPathNamed q
 
+-- Each of these names is a word.
 abbrev pub AreNames : List (List ℕ) → Type 0
 AreNames [] = Unit {0}
 AreNames (x ∷ xs) = IsTrue (is_word x) × AreNames xs
@@ -41,9 +44,13 @@ pub record IsLabelNamed (label : Label) : Type 0 where
   pub kind : IsKindNamed label.kind
 
 abbrev mutual
+  -- The vertex and every vertex inside it have names wherever names are required: the
+  -- definition has a name of a text; references, outputs of switches and the ports of fork and
+  -- join lines have words.
   pub IsNamed : Vertex → Type 0
   IsNamed (vertex l us) = IsLabelNamed l × AllNamed us
 
+  -- The same holds for each of these vertices.
   pub AllNamed : Vertices → Type 0
   AllNamed no_vertices = Unit {0}
   AllNamed (and_vertex u us) = IsNamed u × AllNamed us

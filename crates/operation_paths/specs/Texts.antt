@@ -11,6 +11,7 @@ part_text (Named x) = codes "/" ++ x
 part_text (Numbered n) = codes "." ++ decimal n
 part_text (Port x) = codes ":" ++ x
 
+-- The texts of these parts one after another, each with the sign of its kind in front.
 abbrev pub parts_text : Path → List ℕ
 parts_text [] = []
 parts_text (p ∷ q) = part_text p ++ parts_text q

@@ -10,6 +10,7 @@ use Rattle.flat_laws.specs.Stands.{task_of}
 use Rattle.operation_table.specs.Origins.{Origin}
 use Rattle.operation_table.specs.Table.{Condition, Row, table}
 
+-- The names of the operations, in order.
 abbrev pub names_of : List Vertex → List (List ℕ)
 names_of xs = map (λ x. x.name) xs
 
@@ -18,9 +19,12 @@ names_of xs = map (λ x. x.name) xs
 abbrev pub source_origin : List (List ℕ) → Source → Origin
 source_origin names s = record { name = slice_index_or names s.vertex []; output = s.port }
 
+-- A guard as a condition, if the operations have these names in order.
 abbrev pub guard_condition : List (List ℕ) → Guard → Condition
 guard_condition names g = record { source = source_origin names g.source; values = g.values; case = g.case }
 
+-- An operation of a flat graph as a row of the table, if the operations have these names in order,
+-- and the functions these bodies.
 abbrev pub vertex_row : List (List ℕ) → List (List Expr) → Vertex → Row
 vertex_row names bodies x = record {
   name = x.name;
@@ -31,6 +35,7 @@ vertex_row names bodies x = record {
   task = task_of bodies x.kind;
 }
 
+-- The operations of a flat graph as rows of the table, in order.
 abbrev pub flat_rows : Graph → List Row
 flat_rows g = map (vertex_row (names_of g.vertices) g.bodies) g.vertices
 

@@ -98,6 +98,7 @@ pub record Outlet : Type 0 where
   pub asked : List Source
   pub leads : List Origin → ℕ → Origin
 
+-- What f gives for the unit, or the value a if there is none.
 abbrev pub with_outlet : {A : Type 0} → Option Outlet → A → (Outlet → A) → A
 with_outlet None a f = a
 with_outlet (Some u) a f = f u

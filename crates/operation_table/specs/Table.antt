@@ -80,6 +80,7 @@ stage_row path stage definition ins conditions outs task = record {
   task = task;
 }
 
+-- The row of an operation that is no half of a delay.
 abbrev pub row : Path → List ℕ → List Origin → List Condition → List ℕ → Task → Row
 row path definition ins conditions outs task = stage_row path 0 definition ins conditions outs task
 
@@ -97,6 +98,8 @@ delay_rows path conditions definition own outs stage (v ∷ vs) =
     stage_row path stage definition (stage_ins path stage own vs) conditions [] sets ∷
     delay_rows path conditions definition own outs (suc stage) vs
 
+-- An explode for each fork line among these, in order: it takes the outer input that the line
+-- names, and has for each copy an output of the length of the inner input.
 abbrev pub explode_rows : Path → List Condition → List ℕ → List Origin → ℕ → List Feed → List Row
 explode_rows path conditions definition own count [] = []
 explode_rows path conditions definition own count (Fork name input len ∷ fs) =
@@ -152,6 +155,7 @@ rows_by path conditions definition own outs (repeat count feeds gives) i =
 rows_by path conditions definition own outs (delay vs) i = delay_rows path conditions definition own outs 0 vs
 rows_by path conditions definition own outs kind i = row path definition own conditions outs (runs kind) ∷ []
 
+-- A guard as a condition, if the sources of its level lead as `lead` says.
 abbrev pub condition_of : (Source → Origin) → Guard → Condition
 condition_of lead g = record { source = lead g.source; values = g.values; case = g.case }
 

@@ -45,9 +45,11 @@ module _ (p : Program) where
   abbrev pub named : ℕ → Bool
   named operations = list_all (λ q. list_all (names_in operations) q.turn) p.seqs
 
+  -- Each sequence whose loop has a communication is at a medium.
   abbrev pub communicators : Bool
   communicators = list_all (λ q. is_at_medium q.seq.medium q.turn) p.seqs
 
+  -- Each sequence that is at a medium is at one of this many.
   abbrev pub on_media : ℕ → Bool
   on_media media = list_all (λ q. is_medium media q.seq.medium) p.seqs
 
@@ -56,5 +58,6 @@ module _ (p : Program) where
   is_counted None list = true
   is_counted (Some m) list = nat_eq (count_by is_communication list) (transfers p m)
 
+  -- The loop of each communicator has as many communications as its medium has transfers.
   abbrev pub counts : Bool
   counts = list_all (λ q. is_counted q.seq.medium q.turn) p.seqs

@@ -4,6 +4,7 @@ use Rattle.archi_graph.specs.declared.medium.Seq.{Seq}
 use Rattle.executive_program.specs.declared.program.SeqCode.{SeqCode}
 use Rattle.program_walks.specs.Walks.{passed}
 
+-- It is true if both are the same medium, or both are none.
 abbrev pub same_medium : Option ℕ → Option ℕ → Bool
 same_medium None None = true
 same_medium (Some m) (Some n) = nat_eq m n
@@ -14,6 +15,7 @@ abbrev pub is_of : Option SeqCode → Seq → Bool
 is_of None x = false
 is_of (Some q) x = nat_eq q.seq.operator x.operator && same_medium q.seq.medium x.medium
 
+-- The number k is given and is n.
 abbrev pub ends_at : ℕ → Option ℕ → Bool
 ends_at n None = false
 ends_at n (Some k) = nat_eq n k

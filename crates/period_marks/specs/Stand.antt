@@ -15,6 +15,7 @@ abbrev pub IsPeriod : Option ℕ → Type 0
 IsPeriod None = Unit {0}
 IsPeriod (Some n) = (1 ≤ n) × (n ≤ 16)
 
+-- Each mark in these definitions is a number from 1 to 16.
 abbrev pub HavePeriods : List Def → Type 0
 HavePeriods ds = All (λ d. All (λ r. IsPeriod r.every) (references_of d.body)) ds
 
@@ -23,6 +24,8 @@ pub record Stand (marks : List Mark) (main : Vertex) : Type 0 where
   pub may : MayHaveMarks marks main
   pub named : AreNamed (mark_at marks) (vertices_in main)
 
+-- If well-read definitions resolve to a tree and their marks, numbers from 1 to 16, are accepted,
+-- then the marks are on references of that tree that may have them and whose outputs have names.
 abbrev pub AcceptedMarksStand : Type 0
 AcceptedMarksStand =
     (ds : List Def) (main : Vertex) (marks : List Mark) →

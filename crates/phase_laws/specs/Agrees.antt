@@ -62,6 +62,8 @@ module _ (p : Program) (media : ℕ) where
   LoadsHere s CarryIn = Unit {0}
   LoadsHere s (Gather r) = Unit {0}
 
+  -- If the store computes an operation, sequence s calls it; any other store may be
+  -- made by any sequence.
   abbrev pub StoresHere : ℕ → OnStore → Type 0
   StoresHere s (ComputeOut v more) = (calling p v).sequence ≡ s
   StoresHere s CarryOut = Unit {0}
@@ -128,6 +130,7 @@ module _ (j : JobData) where
     pub own_cells_there : (s : ℕ) → length (w.own s).cells ≡ length j.opening
     pub own_rows_there : (s : ℕ) → map length (w.own s).rows ≡ map length (zero_rows j)
 
+-- In each formed job every sequence has the same micro-steps in the core as in the theory.
 abbrev pub StepsAreMatched : Type 0
 StepsAreMatched = (j : JobData) → IsFormed j → (s : ℕ) → IsMatched j.program j.media s
 
@@ -137,9 +140,13 @@ pub record StepsTogether (j : JobData) (z : Core) (w : State Own) (s : ℕ) : Ty
   pub enabled : is_enabled j z s ≡ theory.enabled (system j) w s
   pub steps : Agrees j (step j z s) (theory.step (system j) w s)
 
+-- In states of the core and of the theory that agree, each sequence of a formed job is
+-- enabled in both or in none, and its step leads to states that agree.
 abbrev pub StepsAgree : Type 0
 StepsAgree = (j : JobData) → IsFormed j → (z : Core) (w : State Own) (s : ℕ) → Agrees j z w → StepsTogether j z w s
 
+-- In each formed job every list of sequence numbers leads to states of the core and of
+-- the theory that agree.
 abbrev pub RunsAgree : Type 0
 RunsAgree = (j : JobData) → IsFormed j → (list : List ℕ) → Agrees j (run j list) (theory.run (system j) list)
 

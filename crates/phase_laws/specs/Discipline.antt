@@ -57,6 +57,7 @@ module _ (p : Program) (order : List ℕ) where
   abbrev pub spot : ℕ → ℕ → ℕ
   spot s l = place p order s (block_at (size p s) (length (turn p s)) l) * stride + l
 
+  -- The places of all micro-steps of a reaction in the serial order are below this number.
   abbrev pub steps : ℕ
   steps = length order * stride
 
@@ -64,6 +65,7 @@ module _ (p : Program) (order : List ℕ) where
   abbrev pub front : ℕ
   front = sum_below (λ s. length (code p s).prologue) (length p.seqs)
 
+-- A program with this serial order of its instructions is synchronized in this way.
 abbrev pub discipline : Program → List ℕ → Discipline
 discipline p order = record {
   signaller = signaller p (places p);

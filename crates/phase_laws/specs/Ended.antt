@@ -17,6 +17,8 @@ module _ (j : JobData) where
   abbrev pub last_cells : Values
   last_cells = cells_after j.graph j.sensors j.opening (reactions j)
 
+  -- These are the vectors that the actuators take in each reaction, by the meaning of
+  -- the flat graph.
   abbrev pub all_acts : List Values
   all_acts = map (flat_act_row j.graph j.sensors j.opening) (range_with_len 0 (reactions j))
 
@@ -41,6 +43,8 @@ module _ (j : JobData) where
 abbrev pub RunsEnd : Type 0
 RunsEnd = (j : JobData) → IsSupplied j → (list : List ℕ) → IsDone j (run j list) → HasEnded j (run j list)
 
+-- In every run, also before its end, the rows have what the actuators take in the
+-- reactions in which they were computed, and zeros in all others.
 abbrev pub RunsTakeRows : Type 0
 RunsTakeRows = (j : JobData) → IsSupplied j → (list : List ℕ) → RowsSoFar j (run j list)
 

@@ -10,6 +10,7 @@ pub data Word : Type 0 where
   semaphore : ℕ → Word
   turn : ℕ → Word
 
+-- The word has this value in state z; it is 0 if there is no such semaphore or turn.
 abbrev pub word_in : Core → Word → ℕ
 word_in z (semaphore x) = slice_index_or z.semaphores x 0
 word_in z (turn m) = slice_index_or z.turns m 0
@@ -21,6 +22,8 @@ looked_at (See x) = Some (semaphore x)
 looked_at (Await m i n exact) = Some (turn m)
 looked_at _ = None
 
+-- A given micro-step looks at this word; it is none if it looks at none, and if no
+-- micro-step is given.
 abbrev pub looked_at_by : Option MicroStep → Option Word
 looked_at_by None = None
 looked_at_by (Some m) = looked_at m

@@ -17,6 +17,7 @@ use Rattle.phase_laws.specs.Agrees.{IsFormed, LiesAt, caller, row_at}
 use Rattle.phase_laws.specs.Values.{IsSupplied}
 
 module _ (j : JobData) where
+  -- Sequence s has this count, which is 0 if the list has none for it.
   abbrev pub count_of : List ℕ → ℕ → ℕ
   count_of counts s = slice_index_or counts s 0
 
@@ -63,6 +64,8 @@ module _ (j : JobData) where
   Finds counts s (Store x what) = StoresNext counts s x
   Finds counts s _ = Unit {0}
 
+  -- Reached counts are within the full ones, the words that they determine are at most the number
+  -- of micro-steps made, they are fresh, and each next micro-step finds what it needs.
   pub record ReachedLaws (counts : List ℕ) : Type 0 where
     pub within : AreWithin counts
     pub bounded : AreBounded (told j counts)

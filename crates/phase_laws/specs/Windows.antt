@@ -26,5 +26,7 @@ pub record IsWindow (j : JobData) (from count : ℕ) : Type 0 where
   pub acts : all_acts (window_job j from count) ≡ window from count (all_acts j)
   pub cells : last_cells (window_job j from count) ≡ cells_after j.graph j.sensors j.opening (from + count)
 
+-- Any reactions of a job in succession are a window of it, so that its windows, one
+-- after another, make the whole run.
 abbrev pub WindowsMakeTheRun : Type 0
 WindowsMakeTheRun = (j : JobData) → IsSupplied j → (from count : ℕ) → from + count ≤ reactions j → IsWindow j from count

@@ -15,9 +15,11 @@ with_some None b f = b
 with_some (Some x) b f = f x
 
 module _ (t : Task) where
+  -- All operations of the graph, by their numbers from 0.
   abbrev pub operations : List ℕ
   operations = range_with_len 0 (length t.graph.vertices)
 
+  -- All operators of the architecture, by their numbers from 0.
   abbrev pub operators : List ℕ
   operators = range_with_len 0 (length t.archi.operators)
 
@@ -35,12 +37,19 @@ module _ (t : Task) where
   tail_within zero v = 0
   tail_within (suc n) v = greatest (map (λ s. least s + tail_within n s) (dependents v))
 
+  -- The tail of operation v: the most ticks that a chain of operations after it takes, each of
+  -- which depends on the one before, by least durations and without transfers. It is 0 if none
+  -- depends on v.
   abbrev pub tail : ℕ → ℕ
   tail v = tail_within (length t.graph.vertices) v
 
+  -- The pressure of operation v on operator p, in ticks: the date at which it would start there if
+  -- it were placed now, its duration there, and its tail, in sum.
   abbrev pub pressure : List Act → ℕ → ℕ → ℕ
   pressure before v p = start t before v p + ticks_in (t.ticks v p) + tail v
 
+  -- The candidates after these acts, ascending by number: the operations that are not placed, while
+  -- all that they depend on is.
   abbrev pub candidates : List Act → List ℕ
   candidates before = filter (is_candidate t before) operations
 
@@ -53,6 +62,8 @@ module _ (t : Task) where
   urgency_on before v None = 0
   urgency_on before v (Some p) = pressure before v p
 
+  -- The least pressure of operation v among the operators on which it may stand, and 0 if it may
+  -- stand on none.
   abbrev pub urgency : List Act → ℕ → ℕ
   urgency before v = urgency_on before v (best_operator before v)
 
@@ -67,5 +78,7 @@ module _ (t : Task) where
   run_after zero ds = ds
   run_after (suc n) ds = with_some (next (acts_of ds)) ds (λ d. run_after n (ds ++ d ∷ []))
 
+  -- The pressure run: the schedule in which each decision places the candidate of greatest least
+  -- pressure on its operator of least pressure, until there is no such choice.
   abbrev pub pressure_run : Schedule
   pressure_run = record { decisions = run_after (length t.graph.vertices) [] }

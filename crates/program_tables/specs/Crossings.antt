@@ -44,6 +44,7 @@ module _ (p : Program) where
   abbrev pub crossing : ℕ → ℕ → Crossing
   crossing m t = crossing_by t (sequence_where p (sends_at p m t)) (sequence_where p (receives_at p m t))
 
+  -- These are the transfers of medium m, by number.
   abbrev pub crossings_on : ℕ → List Crossing
   crossings_on m = map (crossing m) (range_with_len 0 (transfers p m))
 

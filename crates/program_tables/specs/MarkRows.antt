@@ -2,6 +2,7 @@
 use Rattle.std.specs.Prelude.{ℕ, List, [], ◌∷◌, ◌++◌, Option, Some, None, slice_get, slice_set}
 use Rattle.program_tables.specs.declared.mark_table.Mark.{Mark}
 
+-- This is the given row, and an empty one if none is given.
 abbrev pub row_or : Option (List Mark) → List Mark
 row_or None = []
 row_or (Some ms) = ms

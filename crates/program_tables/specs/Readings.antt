@@ -33,6 +33,7 @@ abbrev pub is_new : Option ℕ → ℕ → Bool
 is_new None s = true
 is_new (Some t) s = not (nat_eq t s)
 
+-- This is the reading of buffer b by sequence s.
 abbrev pub reading : ℕ → ℕ → Reading
 reading b s = record { buffer = b; sequence = s }
 
@@ -45,9 +46,12 @@ readings_in b writes last (m ∷ ms) =
     (reading b m.sequence ∷ readings_in b writes (Some m.sequence) ms)
     (readings_in b writes (Some m.sequence) ms)
 
+-- A reader of the definitions is this reading of the tables, with the same buffer and sequence.
 abbrev pub reading_of : Reader → Reading
 reading_of r = reading r.buffer r.sequence
 
+-- These are the readers of the program, as the tables have them: by buffer and then by
+-- sequence, one for each pair that there has to be.
 abbrev pub readings : Program → List Reading
 readings p = map reading_of (readers p)
 

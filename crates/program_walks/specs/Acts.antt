@@ -16,6 +16,7 @@ is_act TakeFull = takes_full
 is_act SignalEmpty = signals_empty
 is_act Call = calls
 
+-- There is an instruction, and it passes the test.
 abbrev pub passes : (Instr → Bool) → Option Instr → Bool
 passes test None = false
 passes test (Some x) = test x

@@ -22,6 +22,7 @@ passed test n (x ∷ xs) = cond (test n x) (passed test (n + 1) xs) None
 abbrev pub every : Program → (ℕ → ℕ → Instr → Bool) → Bool
 every p test = all_at (λ s q. all_at (test s) 0 q.turn) 0 p.seqs
 
+-- If a is true, then b is; it is false only if a is true and b is false.
 abbrev pub implies : Bool → Bool → Bool
 implies a b = cond a b true
 

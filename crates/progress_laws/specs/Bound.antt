@@ -4,6 +4,8 @@ use Rattle.semaphore_core.specs.Job.{JobData}
 use Rattle.semaphore_core.specs.Core.{Core, opening, is_enabled, step, run, IsDone}
 
 module _ (j : JobData) where
+  -- From state z on each listed sequence is enabled when its entry comes, after the
+  -- steps of those before it.
   abbrev pub AllEnabledFrom : Core → List ℕ → Type 0
   AllEnabledFrom z [] = Unit {0}
   AllEnabledFrom z (s ∷ ss) = (is_enabled j z s ≡ true) × AllEnabledFrom (step j z s) ss

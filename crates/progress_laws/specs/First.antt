@@ -3,6 +3,7 @@ use Rattle.std.specs.Prelude.{◌≡◌, ℕ, ◌<◌, true, false, length}
 use Rattle.semaphore_core.specs.Job.{JobData}
 use Rattle.semaphore_core.specs.Core.{Core, is_enabled}
 
+-- Sequence s is enabled in state z, and none with a lower number is.
 pub record IsFirstEnabled (j : JobData) (z : Core) (s : ℕ) : Type 0 where
   pub there : s < length j.program.seqs
   pub enabled : is_enabled j z s ≡ true

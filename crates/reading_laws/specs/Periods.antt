@@ -12,10 +12,12 @@ abbrev pub IsPeriod : ℕ → Option ℕ → Type 0
 IsPeriod version None = Unit {0}
 IsPeriod version (Some n) = (version ≡ 3) × (1 ≤ n) × (n ≤ 16)
 
+-- The references of a graph, in order; any other body has none.
 abbrev pub references_of : Body → List Reference
 references_of (Graph ins outs references edges) = references
 references_of _ = []
 
+-- Each mark on a reference of the body is one that a text of this version may have.
 abbrev pub HasPeriods : ℕ → Body → Type 0
 HasPeriods version body = All (λ r. IsPeriod version r.every) (references_of body)
 

@@ -13,6 +13,8 @@ AreInside links = All (All (λ b. b < length links)) links
 abbrev pub Refers : Links → ℕ → ℕ → Type 0
 Refers links a b = Contains (from links a) b
 
+-- What is returned is right: the first vertex that reaches itself, or the depth of
+-- each if none does.
 abbrev pub AreDepths : Links → Depths → Type 0
 AreDepths links (Recursive i) = first_recursive links ≡ Some i
 AreDepths links (Of ds) = (first_recursive links ≡ None) × (ds ≡ depths links)

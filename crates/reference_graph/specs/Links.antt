@@ -18,9 +18,11 @@ use Rattle.std.specs.Prelude.{
 }
 use Rattle.std.specs.List.{list_any, range_with_len}
 
+-- For each vertex, by number from 0, the numbers of the vertices to which it refers.
 abbrev pub Links : Type 0
 Links = List (List ℕ)
 
+-- The vertices to which vertex a refers; none if there is no vertex a.
 abbrev pub from : Links → ℕ → List ℕ
 from links a = slice_index_or links a []
 
@@ -33,6 +35,7 @@ leads_within links (suc n) a b = leads_within links n a b || list_any (λ c. lea
 abbrev pub reaches_itself : Links → ℕ → Bool
 reaches_itself links a = leads_within links (length links) a a
 
+-- The numbers of all vertices, in order.
 abbrev pub numbers : Links → List ℕ
 numbers links = range_with_len 0 (length links)
 
@@ -40,6 +43,7 @@ numbers links = range_with_len 0 (length links)
 abbrev pub first_recursive : Links → Option ℕ
 first_recursive links = position (reaches_itself links) (numbers links)
 
+-- The greatest of these numbers, 0 if there are none.
 abbrev pub greatest : List ℕ → ℕ
 greatest [] = 0
 greatest (n ∷ ns) = max n (greatest ns)
@@ -53,5 +57,6 @@ depth_within links (suc n) a = suc (greatest (map (depth_within links n) (from l
 abbrev pub depth : Links → ℕ → ℕ
 depth links a = depth_within links (length links) a
 
+-- The depth of each vertex, in order. It says something only if no vertex reaches itself.
 abbrev pub depths : Links → List ℕ
 depths links = map (depth links) (numbers links)

@@ -46,6 +46,7 @@ explodes_by path conditions definition ins copies inner own (Diffuse name x) = [
 explodes_by path conditions definition ins copies inner own (Iterate name x y z) = []
 explodes_by path conditions definition ins copies inner own (Join y z) = []
 
+-- The explodes of the fork lines among these lines of a text, in order.
 abbrev pub text_explodes : Path → List Condition → Bytes → List Origin → ℕ → Ports → Ports → List FrontierLine →
     List Row
 text_explodes path conditions definition ins copies inner own lines =
@@ -63,6 +64,7 @@ pub record IsOfText (ds : List Def) (name : Bytes) (copies : ℕ) (feeds : List 
       explode_rows p cs name ins copies (in_line_order feeds) ≡
       text_explodes p cs name ins copies (ports_of ds body) (ports_of ds name) lines
 
+-- If the kind is that of a repetition, it is the repetition that the definition of this name has.
 abbrev pub IsKindOfText : List Def → Bytes → Kind → Type 0
 IsKindOfText ds name (repeat copies feeds gives) = IsOfText ds name copies feeds
 IsKindOfText ds name _ = Unit {0}
@@ -72,10 +74,13 @@ abbrev mutual
   pub IsVertexOfText : List Def → Vertex → Type 0
   IsVertexOfText ds (vertex l us) = IsKindOfText ds l.definition l.kind × AreVerticesOfText ds us
 
+  -- The same for each of these vertices.
   pub AreVerticesOfText : List Def → Vertices → Type 0
   AreVerticesOfText ds no_vertices = Unit {0}
   AreVerticesOfText ds (and_vertex u us) = IsVertexOfText ds u × AreVerticesOfText ds us
 
+-- Each repetition in the tree of accepted definitions has the lines of its
+-- definition, in their order.
 abbrev pub LinesStandInTextOrder : Type 0
 LinesStandInTextOrder = (ds : List Def) → AreWellRead ds → refusal ds ≡ None → IsVertexOfText ds (tree_of ds)
 

@@ -102,6 +102,8 @@ best_from best [] = best
 best_from best (None ∷ xs) = best_from best xs
 best_from best (Some x ∷ xs) = best_from (Some (sooner best x.time)) xs
 
+-- The least time that all operations take one after another on one operator, among the operators on
+-- which all of them may stand, and None if there is no such operator.
 abbrev pub best_alone : List (Option Alone) → Option ℕ
 best_alone xs = best_from None xs
 
@@ -123,6 +125,7 @@ beside_lines (Some run) alone = run_line run ∷ best_lines (best_alone alone)
 abbrev pub period_line : Period → Line
 period_line p = codes "period" ∷ period_word p ∷ codes "reactions" ∷ decimal p.reactions ∷ []
 
+-- The name of medium m, and the empty text if there is no such medium.
 abbrev pub medium_name : List Medium → ℕ → Bytes
 medium_name media m = unwrap_or (option_map (λ x. x.name) (slice_get media m)) []
 
@@ -131,6 +134,8 @@ abbrev pub line_word : busy.Line → Bytes
 line_word (busy_line.Operator o) = codes "operator"
 line_word (busy_line.Medium m) = codes "medium"
 
+-- The name of an operator or a medium, and the empty text if the architecture has none of this
+-- number.
 abbrev pub line_name : Architecture → busy.Line → Bytes
 line_name a (busy_line.Operator o) = operator_name [] a.operators o
 line_name a (busy_line.Medium m) = medium_name a.media m
@@ -139,11 +144,13 @@ line_name a (busy_line.Medium m) = medium_name a.media m
 abbrev pub share_line : Bytes → Bytes → Ratio → Line
 share_line word name share = codes "busiest" ∷ word ∷ name ∷ codes "share" ∷ ratio_word share ∷ []
 
+-- The line of the report for the busiest operator or medium and its share of the period.
 abbrev pub busiest_line : Architecture → Busiest → Line
 busiest_line a b = share_line (line_word b.line) (line_name a b.line) b.share
 
 -- of operations by number
 module _ (vertices : List Vertex) where
+  -- The name of operation v, and the empty text if there is no operation v.
   abbrev pub name_of : ℕ → Bytes
   name_of v = operation_name vertices [] v
 
@@ -175,5 +182,7 @@ report_lines vertices a f =
     (period_lines vertices a f ++
     bound_lines vertices f))
 
+-- The text of a report with these figures: those of one reaction, those of a search if there was
+-- one, those of many reactions, and the bound with a longest chain.
 abbrev pub report_text : List Vertex → Architecture → Figures → Bytes
 report_text vertices a f = text_of (report_lines vertices a f)

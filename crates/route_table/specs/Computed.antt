@@ -50,14 +50,18 @@ abbrev pub lesser : List Hop → Option (List Hop) → List Hop
 lesser r None = r
 lesser r (Some s) = if is_less s r then s else r
 
+-- The least of these routes, none if there are none.
 abbrev pub least_among : List (List Hop) → Option (List Hop)
 least_among [] = None
 least_among (r ∷ rs) = Some (lesser r (least_among rs))
 
+-- The route, or one without a hop if there is none.
 abbrev pub or_no_hop : Option (List Hop) → List Hop
 or_no_hop None = []
 or_no_hop (Some r) = r
 
+-- The least route of at most this many hops from an operator to another; one without a hop if no
+-- route has so few.
 abbrev pub least_route : List Medium → ℕ → ℕ → ℕ → List Hop
 least_route media hops from to = or_no_hop (least_among (routes_within media hops from to))
 
@@ -65,6 +69,7 @@ least_route media hops from to = or_no_hop (least_among (routes_within media hop
 abbrev pub routes_from : Architecture → ℕ → List (List Hop)
 routes_from a from = map (least_route a.media (2 * length a.operators) from) (range_with_len 0 (length a.operators))
 
+-- The table of an architecture: for each pair of operators the least route.
 abbrev pub table_of : Architecture → RouteTable
 table_of a = record {
   operators = length a.operators;

@@ -12,12 +12,15 @@ comes_before [] (y ∷ ys) = true
 comes_before (x ∷ xs) [] = false
 comes_before (x ∷ xs) (y ∷ ys) = nat_lt x y || ((x == y) && comes_before xs ys)
 
+-- The numbers of the media over which the hops lead, in order.
 abbrev pub media_of : List Hop → List ℕ
 media_of hops = map (λ h. h.medium) hops
 
+-- The numbers of the operators to which the hops lead, in order.
 abbrev pub operators_of : List Hop → List ℕ
 operators_of hops = map (λ h. h.to) hops
 
+-- Both lists have the same numbers in the same order.
 abbrev pub are_equal : List ℕ → List ℕ → Bool
 are_equal [] [] = true
 are_equal [] (y ∷ ys) = false

@@ -15,6 +15,7 @@ pub record RouteTable : Type 0 where
   pub operators : ℕ
   pub routes : List (List Hop)
 
+-- The route of the table from the first operator to the second, if both are operators of it.
 abbrev pub route_in : RouteTable → ℕ → ℕ → List Hop
 route_in t from to = slice_index_or t.routes (from * t.operators + to) []
 

@@ -14,6 +14,7 @@ window_bound = 256
 abbrev pub windows_in : ℕ → ℕ
 windows_in n = (n + (window_bound - 1)) / window_bound
 
+-- The first reaction of each window of a run of n reactions, ascending from 0, and none if n is 0.
 abbrev pub starts : ℕ → List ℕ
 starts n = map (λ w. w * window_bound) (range_with_len 0 (windows_in n))
 

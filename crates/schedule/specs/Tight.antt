@@ -61,6 +61,9 @@ module _ (vertices : List Vertex) where
   are_tight before [] = true
   are_tight before (x ∷ xs) = start_of x == earliest before x && are_tight (before ++ x ∷ []) xs
 
+-- A schedule is tight if each act starts as soon as the act before it on its operator or medium and
+-- the acts before it that make what it reads have ended, at 0 if there are none. It need not be
+-- valid.
 abbrev pub is_tight : Graph → Schedule → Bool
 is_tight g s = are_tight g.vertices [] (acts s)
 

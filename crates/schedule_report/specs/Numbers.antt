@@ -37,6 +37,7 @@ ratio n m =
     if nat_eq m 0 then record { whole = 0; thousandths = 0 }
     else record { whole = n / m; thousandths = n % m * 1000 / m }
 
+-- How many ticks an act lasts, from its start to its end.
 abbrev pub lasting : Act → ℕ
 lasting y = end_of y - start_of y
 
@@ -54,9 +55,11 @@ loads test lines s = map (λ n. load (length_of s) (busy (test n) (acts s))) (ra
 
 -- how long each operation lasts on each operator, where it may stand
 module _ (ticks : ℕ → ℕ → Option ℕ) (operations : ℕ) where
+  -- All operations of the graph, by their numbers from 0.
   abbrev pub all_operations : List ℕ
   all_operations = range_with_len 0 operations
 
+  -- Each operation may stand on operator o, so that all of them could run there one after another.
   abbrev pub may_all_stand : ℕ → Bool
   may_all_stand o = list_all (λ v. is_some (ticks v o)) all_operations
 

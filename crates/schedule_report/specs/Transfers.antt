@@ -22,6 +22,7 @@ is_sort _ _ = false
 abbrev pub carries : (Kind → Bool) → List Vertex → Transfer → Bool
 carries test vertices t = with_vertex (slice_get vertices t.source.vertex) false (λ x. test x.kind)
 
+-- The transfers of these decisions, in their order.
 abbrev pub transfers_in : List Decision → List Transfer
 transfers_in ds = flat_map (λ d. d.transfers) ds
 

@@ -26,12 +26,15 @@ use Rattle.self_timed.specs.declared.layout.Plan.{Plan}
 use Rattle.self_timed.specs.declared.line.Ends.{Ends}
 use Rattle.self_timed.specs.Lines.{IsLine, last_in, noted}
 
+-- The span from this start to this end, both dates in ticks.
 abbrev pub span : ℕ → ℕ → Span
 span start end = record { start = start; end = end }
 
+-- The span from 0 to 0, for an entry that has no dates.
 abbrev pub no_span : Span
 no_span = span 0 0
 
+-- The span of entry e in the row of a reaction, and the span from 0 to 0 if the row has none.
 abbrev pub span_in : List Span → ℕ → Span
 span_in row e = slice_index_or row e no_span
 

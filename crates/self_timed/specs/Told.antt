@@ -28,9 +28,11 @@ use Rattle.self_timed_laws.specs.Entries.{is_transfer, entry_of, lasting, IsFirs
 use Rattle.self_timed.specs.declared.dates.Span.{Span}
 use Rattle.self_timed.specs.Running.{span, span_in}
 
+-- The spans of reaction k, by entry, and the empty row if there is no such reaction.
 abbrev pub reaction_at : List (List Span) → ℕ → List Span
 reaction_at reactions k = slice_index_or reactions k []
 
+-- The span of entry e in reaction k, and the span from 0 to 0 if there is none.
 abbrev pub span_at : List (List Span) → ℕ → ℕ → Span
 span_at reactions k e = span_in (reaction_at reactions k) e
 
@@ -57,9 +59,12 @@ pub record HaveDepth (graph : Graph) (archi : Architecture) (schedule : Schedule
 
 -- What is told of a schedule, by the depth of buffers and the ticks of each reaction.
 module _ (depth : ℕ) (g : Graph) (s : Schedule) (ticks : List (List ℕ)) where
+  -- The date at which act i ends in reaction k, in ticks from the beginning of the first reaction.
   abbrev pub end_at : ℕ → ℕ → ℕ
   end_at = dates depth g.vertices (acts s) (lasting g.vertices (acts s) ticks)
 
+  -- The date at which act i, which is x, starts in reaction k, in ticks from the beginning of the
+  -- first reaction.
   abbrev pub start_at : ℕ → ℕ → Act → ℕ
   start_at = start_by depth g.vertices (acts s) end_at
 

@@ -37,9 +37,11 @@ pub record Event : Type 0 where
   pub reaction : ℕ
   pub act : ℕ
 
+-- Act i in reaction k, both counted from 0.
 abbrev pub event : ℕ → ℕ → Event
 event k i = record { reaction = k; act = i }
 
+-- The greatest of these numbers, and 0 if there are none.
 abbrev pub greatest : List ℕ → ℕ
 greatest [] = 0
 greatest (n ∷ ns) = max n (greatest ns)
@@ -54,6 +56,7 @@ abbrev pub with_act : Option Act → (Act → ℕ) → ℕ
 with_act None f = 0
 with_act (Some x) f = f x
 
+-- The act in reaction k as the only event if there is one, and no event otherwise.
 abbrev pub one_of : ℕ → Option ℕ → List Event
 one_of k None = []
 one_of k (Some i) = event k i ∷ []
@@ -102,6 +105,8 @@ module _ (depth : ℕ) (vertices : List Vertex) (xs : List Act) where
     abbrev pub AreDates : (ℕ → ℕ → ℕ) → Type 0
     AreDates ends = (k i : ℕ) (x : Act) → slice_get xs i ≡ Some x → ends k i ≡ start_by ends k i x + lasts k i
 
+    -- The end of act i in reaction k, if what must precede an act is followed back for at most this
+    -- many steps. It is 0 if there is no act i, or no step.
     abbrev pub ends_within : ℕ → ℕ → ℕ → ℕ
     ends_within zero k i = 0
     ends_within (suc fuel) k i =

@@ -66,6 +66,9 @@ module _ (g : Graph) (s : Schedule) where
   abbrev pub FirstAsStated : (ℕ → ℕ → ℕ) → Type 0
   FirstAsStated lasts = (i : ℕ) (x : Act) → slice_get (acts s) i ≡ Some x → lasts 0 i ≡ stated x
 
+-- If the schedule is valid, each buffer has a place and no act lasts longer than stated, then each
+-- act ends in reaction k no later than k times the length of the schedule after its end in the
+-- schedule.
 abbrev pub NoLaterThanStated : Type 0
 NoLaterThanStated = (depth : ℕ) (g : Graph) (a : Architecture) (ticks : ℕ → ℕ → Option ℕ) (s : Schedule)
     (lasts ends : ℕ → ℕ → ℕ) → 1 ≤ depth → IsTrue (is_valid g a ticks s)

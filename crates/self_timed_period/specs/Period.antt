@@ -55,9 +55,12 @@ last_half done n = record { ticks = done n - done (n / 2); reactions = n - n / 2
 
 -- The dates of a schedule where each act lasts as stated.
 module _ (g : Graph) (a : Architecture) (s : Schedule) where
+  -- The date at which act i ends in reaction k, if in every reaction each act lasts as stated.
   abbrev pub stated_end : ℕ → ℕ → ℕ
   stated_end = dates a.depth g.vertices (acts s) (as_stated (acts s))
 
+  -- The date at which act i, which is x, starts in reaction k, if in every reaction each act lasts
+  -- as stated.
   abbrev pub stated_start : ℕ → ℕ → Act → ℕ
   stated_start = start_by a.depth g.vertices (acts s) stated_end
 
@@ -76,12 +79,16 @@ module _ (g : Graph) (a : Architecture) (s : Schedule) where
 abbrev pub end_of_span : Span → ℕ
 end_of_span w = w.end
 
+-- The date at which all of a reaction with these spans is done, and 0 if there are none.
 abbrev pub row_end : List Span → ℕ
 row_end row = greatest (map end_of_span row)
 
+-- The date at which all of these reactions are done, and 0 if there are none.
 abbrev pub all_done : List (List Span) → ℕ
 all_done rows = greatest (map row_end rows)
 
+-- The period of these reactions: how many ticks after the others the last half of them is done, and
+-- how many reactions that half has.
 abbrev pub period_in : List (List Span) → Period
 period_in rows = last_half (λ m. all_done (take m rows)) (length rows)
 

@@ -53,6 +53,8 @@ use Rattle.executive_program.specs.Steps.{steps}
 use Rattle.operation_desks.specs.Registers.{Own, absorb_by, emit_by, after_by}
 use Rattle.semaphore_core.specs.Job.{JobData, reactions, zero_rows}
 
+-- The state of a run has the count of each sequence, the words that all share, and
+-- what the sequences have of their own.
 pub record Core : Type 0 where
   -- micro-steps made, by sequence
   pub counts : List ℕ
@@ -75,6 +77,8 @@ module _ (p : Program) where
   home_of (Buffer b j) = b
   home_of (Wire m j) = length p.buffers + m
 
+  -- In reaction k an element is at this place of its list: that of a buffer in the
+  -- buffer's place for the reaction, that of a wire always at its number.
   abbrev pub slot_of : Place → ℕ → ℕ
   slot_of (Buffer b j) k = k % depth_of p b * len_of p b + j
   slot_of (Wire m j) k = j
@@ -83,9 +87,13 @@ module _ (p : Program) where
 abbrev pub buffer_zeros : Program → List (List ℤ)
 buffer_zeros p = map (λ x. zeros (x.depth * x.len)) p.buffers
 
+-- Before any element is stored, the wire of each of this many media has zeros, as many
+-- as it is long.
 abbrev pub wire_zeros : Program → ℕ → List (List ℤ)
 wire_zeros p media = blocks (λ m. zeros (wire_len p m) ∷ []) media
 
+-- A turn lets a wait for half a go on if it is a, or, if the wait is not exact, also
+-- if it is above a.
 abbrev pub turn_reached : Bool → ℕ → ℕ → Bool
 turn_reached true turn a = nat_eq turn a
 turn_reached false turn a = nat_le a turn
@@ -94,6 +102,7 @@ turn_reached false turn a = nat_le a turn
 abbrev pub count : Core → ℕ → ℕ
 count z s = slice_index_or z.counts s 0
 
+-- These are the counts of state z with one more micro-step of sequence s.
 abbrev pub counted : Core → ℕ → List ℕ
 counted z s = slice_set z.counts s (count z s + 1)
 
@@ -134,10 +143,14 @@ module _ (j : JobData) where
   abbrev pub own : Core → ℕ → Own
   own z s = record { registers = slice_index_or z.registers s []; cells = z.cells; rows = z.rows }
 
+  -- Sequence s can make this micro-step in state z, in the reaction to which its count
+  -- has come; it is false if there is no micro-step.
   abbrev pub enabled_by : Core → ℕ → Option MicroStep → Bool
   enabled_by z s None = false
   enabled_by z s (Some m) = enabled_in z (reaction z s) m
 
+  -- Sequence s has a next micro-step in state z, and can make it there; it is false at
+  -- its end, and if there is no sequence s.
   abbrev pub is_enabled : Core → ℕ → Bool
   is_enabled z s = enabled_by z s (next z s)
 
@@ -145,6 +158,7 @@ module _ (j : JobData) where
   abbrev pub element_of : Core → Place → ℕ → ℤ
   element_of z x k = element_at (slice_index_or z.elements (home_of j.program x) []) (slot_of j.program x k)
 
+  -- These are the elements after v was stored in place x in reaction k; all others are as before.
   abbrev pub with_element : Core → Place → ℕ → ℤ → List (List ℤ)
   with_element z x k v = slice_set z.elements (home_of j.program x)
       (slice_set (slice_index_or z.elements (home_of j.program x) []) (slot_of j.program x k) v)
@@ -161,9 +175,13 @@ module _ (j : JobData) where
     rows = c.rows;
   }
 
+  -- This is the state after sequence s loaded the element in place x in reaction k and
+  -- did with it what the load says.
   abbrev pub load_by : Core → ℕ → Place → OnLoad → ℕ → Core
   load_by z s x then k = with_own z s z.elements (absorb_by j.graph j.sensors then k (own z s) (element_of z x k))
 
+  -- This is the state after sequence s stored into place x in reaction k the value
+  -- that the store says.
   abbrev pub store_by : Core → ℕ → Place → OnStore → ℕ → Core
   store_by z s x what k = with_own z s (with_element z x k (emit_by j.graph j.sensors what k (own z s)))
       (after_by j.graph j.sensors what k (own z s))
@@ -188,6 +206,8 @@ module _ (j : JobData) where
   done_in z s k (Load x then) = load_by z s x then k
   done_in z s k (Store x what) = store_by z s x what k
 
+  -- This is the state after sequence s made this micro-step in state z, enabled or
+  -- not; with no micro-step it is z.
   abbrev pub done_by : Core → ℕ → Option MicroStep → Core
   done_by z s None = z
   done_by z s (Some m) = done_in z s (reaction z s) m
@@ -196,10 +216,14 @@ module _ (j : JobData) where
   abbrev pub step : Core → ℕ → Core
   step z s = cond (is_enabled z s) (done_by z s (next z s)) z
 
+  -- From state z, steps of the listed sequences in order lead to this state; a number
+  -- whose sequence is not enabled at that time changes nothing.
   abbrev pub run_from : Core → List ℕ → Core
   run_from z [] = z
   run_from z (s ∷ ss) = run_from (step z s) ss
 
+  -- This is the state to which a list of sequence numbers, one interleaving, leads
+  -- from the opening state.
   abbrev pub run : List ℕ → Core
   run list = run_from opening list
 
@@ -207,6 +231,7 @@ module _ (j : JobData) where
   abbrev pub IsReached : Core → Type 0
   IsReached z = (list : List ℕ) × (run list ≡ z)
 
+  -- Some list of sequence numbers leads from the opening state to a state with these counts.
   abbrev pub AreReached : List ℕ → Type 0
   AreReached counts = (list : List ℕ) × ((run list).counts ≡ counts)
 

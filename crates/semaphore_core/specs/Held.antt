@@ -76,11 +76,14 @@ LoadIsLaid j lens desks CarryIn = Unit {0}
 LoadIsLaid j lens desks (Gather r) = Unit {0}
 LoadIsLaid j lens desks (ComputeIn v r more) = IsLaid j lens desks v
 
+-- If the store computes an operation, that is laid out; any other store needs nothing.
 abbrev pub StoreIsLaid : JobData → List ℕ → List (Option DeskLens) → OnStore → Type 0
 StoreIsLaid j lens desks (ComputeOut v more) = IsLaid j lens desks v
 StoreIsLaid j lens desks CarryOut = Unit {0}
 StoreIsLaid j lens desks (Give r more) = Unit {0}
 
+-- A state that is stepped holds the state of the run, the micro-steps of each
+-- sequence, and what was laid out for registers and operations.
 pub record Held : Type 0 where
   pub core : Core
   pub steps : List SeqSteps
@@ -90,6 +93,8 @@ pub record Held : Type 0 where
   pub lens : List ℕ
   pub desks : List (Option DeskLens)
 
+-- This is what the operations of a state keep, its cells and rows, with the lengths of
+-- the rows and the desks.
 abbrev pub kept_of : Held → Kept
 kept_of h = record { cells = h.core.cells; rows = h.core.rows; lens = h.lens; desks = h.desks }
 

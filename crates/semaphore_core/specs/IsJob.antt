@@ -57,5 +57,7 @@ FewerMeetNone = (p : Program) (g : Graph) (m n : ℕ) → m ≤ n → limit_in p
 abbrev pub IsJobOn : Architecture → JobData → Type 0
 IsJobOn a j = FitTogether a j × ((limit_of j ≡ None) × AreCut (record { lens = j.lens; reactions = j.sensors }))
 
+-- It is a job: for some architecture its parts fit together, it meets no limit, and
+-- each reaction has vectors of the sensors' lengths.
 abbrev pub IsJob : JobData → Type 0
 IsJob j = (a : Architecture) × IsJobOn a j

@@ -17,6 +17,8 @@ use Rattle.operation_desks.specs.Registers.{Own, absorb_at, emit_at, after_at}
 use Rattle.operation_desks.specs.RowLens.{actuator_lens}
 use Rattle.executive_program.specs.Steps.{steps, all_prologues, all_turns}
 
+-- A job is a program with all that a run of it needs: the flat graph, the number of
+-- media, the sensors' rows, and the opening cells of the delays.
 pub record JobData : Type 0 where
   pub program : Program
   pub graph : Graph
@@ -35,9 +37,11 @@ reactions j = length j.sensors
 -- Elements are numbered by buffer, and then by medium. An element
 -- lies in the places of its buffer, or once in its wire.
 module _ (p : Program) (media : ℕ) where
+  -- If element y is one of a buffer, it is one of this buffer.
   abbrev pub buffer_at : ℕ → ℕ
   buffer_at y = block_at (len_of p) (length p.buffers) y
 
+  -- If element y is one of a wire, it is one of the wire of this medium.
   abbrev pub wire_at : ℕ → ℕ
   wire_at y = block_at (wire_len p) media (y - buffer_elements p)
 
@@ -46,6 +50,7 @@ module _ (p : Program) (media : ℕ) where
   number_at y = cond (nat_lt y (buffer_elements p)) (y - sum_below (len_of p) (buffer_at y))
       (y - buffer_elements p - sum_below (wire_len p) (wire_at y))
 
+  -- Element y has this many places: as many as its buffer, and 1 if it is one of a wire.
   abbrev pub depth_at : ℕ → ℕ
   depth_at y = cond (nat_lt y (buffer_elements p)) (depth_of p (buffer_at y)) 1
 
@@ -77,6 +82,7 @@ system j = record {
 abbrev pub output_elements : Graph → ℕ → ℕ
 output_elements g n = n * sum_by (λ l. l) (actuator_lens g g.vertices)
 
+-- The sequences of a program make this many micro-steps in n reactions, prologues included.
 abbrev pub total_steps : Program → ℕ → ℕ
 total_steps p n = all_prologues p + n * all_turns p
 

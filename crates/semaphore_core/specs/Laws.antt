@@ -11,9 +11,12 @@ module _ (j : JobData) where
   abbrev pub IsFreshState : Core → Type 0
   IsFreshState z = IsFresh (system j) (count z)
 
+  -- Every run of the job leads to the state that its counts determine.
   abbrev pub RunsAreTold : Type 0
   RunsAreTold = (list : List ℕ) → run j list ≡ told j (run j list).counts
 
+  -- In every run of the job no value is overwritten before its last load, and no load
+  -- is made before the store of its own round.
   abbrev pub RunsAreFresh : Type 0
   RunsAreFresh = (list : List ℕ) → IsFreshState (run j list)
 
@@ -22,6 +25,7 @@ module _ (j : JobData) where
   RunsProgress = (list : List ℕ) (s : ℕ) → s < length j.program.seqs → count (run j list) s < full j s
       → (t : ℕ) × (t < length j.program.seqs) × (is_enabled j (run j list) t ≡ true)
 
+  -- These are the counts with one more micro-step of sequence s.
   abbrev pub one_more : List ℕ → ℕ → List ℕ
   one_more counts s = slice_set counts s (slice_index_or counts s 0 + 1)
 
@@ -31,9 +35,13 @@ module _ (j : JobData) where
     pub reached : AreReached j (one_more counts s)
     pub tells : told j (one_more counts s) ≡ step j (told j counts) s
 
+  -- If a sequence is enabled in the state that reached counts determine, the counts with its
+  -- micro-step are reached too, and they determine the state after that step.
   abbrev pub RunsGoOn : Type 0
   RunsGoOn = (counts : List ℕ) (s : ℕ) → AreReached j counts → is_enabled j (told j counts) s ≡ true → GoesOn counts s
 
+  -- In all runs of the job counts determine the state, no value is lost, some sequence is enabled
+  -- until all is done, and an enabled step goes on from reached counts to reached counts.
   pub record HasLaws : Type 0 where
     pub told : RunsAreTold
     pub fresh : RunsAreFresh

@@ -18,6 +18,8 @@ pub record Kept : Type 0 where
   pub lens : List ℕ
   pub desks : List (Option DeskLens)
 
+-- The sequences of a state or of a driver have this of their own: registers, by
+-- sequence, and the cells and rows of the operations that they call.
 pub record Parts : Type 0 where
   -- by sequence: the registers that are in use, and how many it has room for
   pub registers : List (List ℤ)
@@ -33,6 +35,8 @@ own_of r k = record { registers = r.values; cells = k.cells; rows = k.rows }
 abbrev pub own_with : RegisterFile → Values → Reactions → Own
 own_with r cells rows = record { registers = r.values; cells = cells; rows = rows.reactions }
 
+-- Sequence s has this of its own: its registers, which are empty if there is no
+-- sequence s, and the cells and rows of the operations.
 abbrev pub own_at : Parts → ℕ → Own
 own_at p s = record { registers = slice_index_or p.registers s []; cells = p.kept.cells; rows = p.kept.rows }
 
@@ -40,6 +44,7 @@ own_at p s = record { registers = slice_index_or p.registers s []; cells = p.kep
 abbrev pub with_values : RegisterFile → Own → RegisterFile
 with_values r c = record r { values = c.registers }
 
+-- The cells and rows become those of c; the lengths of the rows and the desks are as before.
 abbrev pub with_kept : Kept → Own → Kept
 with_kept kept c = record kept { cells = c.cells; rows = c.rows }
 
@@ -56,6 +61,7 @@ module _ (j : JobData) where
   abbrev pub computed_by : ℕ → Vertex → ℕ → Own → Own
   computed_by v x k c = compute_by j.graph j.sensors v k c.registers c (Some x)
 
+  -- A sequence has this of its own after it loaded element z in reaction k.
   abbrev pub absorbed : OnLoad → ℕ → Own → ℤ → Own
   absorbed then k c z = absorb_by j.graph j.sensors then k c z
 
@@ -63,6 +69,7 @@ module _ (j : JobData) where
   abbrev pub emitted : OnStore → ℕ → Own → ℤ
   emitted what k c = emit_by j.graph j.sensors what k c
 
+  -- A sequence has this of its own after it made a store in reaction k.
   abbrev pub left : OnStore → ℕ → Own → Own
   left what k c = after_by j.graph j.sensors what k c
 
@@ -70,6 +77,7 @@ module _ (j : JobData) where
   abbrev pub with_load : Parts → ℕ → ℕ → OnLoad → ℤ → Parts
   with_load p s k then z = with_own p s (absorbed then k (own_at p s) z)
 
+  -- This is what the sequences have of their own after s made a store in reaction k.
   abbrev pub with_store : Parts → ℕ → ℕ → OnStore → Parts
   with_store p s k what = with_own p s (left what k (own_at p s))
 

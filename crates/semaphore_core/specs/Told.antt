@@ -59,13 +59,18 @@ use Rattle.semaphore_core.specs.Core.{Core}
 
 -- the instruction of the loop at which s stands after n micro-steps, and the place in it
 module _ (p : Program) where
+  -- After n micro-steps of sequence s, the next micro-step of its loop is one of this instruction.
   abbrev pub index_at : ℕ → ℕ → ℕ
   index_at s n = block_at (size p s) (length (turn p s)) (place_at (code p s) n)
 
+  -- Of the instruction to which sequence s has come after n micro-steps, it has made
+  -- this many micro-steps.
   abbrev pub offset_at : ℕ → ℕ → ℕ
   offset_at s n = place_at (code p s) n - begins p s (index_at s n)
 
 module _ (j : JobData) where
+  -- A source has this value in reaction k, by the meaning of the flat graph over the
+  -- job's rows and opening cells.
   abbrev pub source_value : Source → ℕ → Vector
   source_value s k = flat_val j.graph j.sensors j.opening s.vertex s.port k
 
@@ -73,6 +78,7 @@ module _ (j : JobData) where
   abbrev pub buffer_value : ℕ → ℕ → Vector
   buffer_value b k = source_value (carried j.program b) k
 
+  -- A buffer that is sent holds this vector in reaction k; it is the empty vector if none is sent.
   abbrev pub sent_value : Option ℕ → ℕ → Vector
   sent_value None k = []
   sent_value (Some b) k = buffer_value b k
@@ -93,6 +99,8 @@ module _ (j : JobData) where
   abbrev pub copied : ℕ → ℕ → ℕ → List ℤ
   copied b k r = cond (nat_eq (r % 2) 0) (cond (nat_eq r 0) [] (element_at (buffer_value b k) (r / 2 - 1) ∷ [])) []
 
+  -- After r micro-steps of this instruction in reaction k the registers have, of a call, what it
+  -- has loaded, and then its outputs, and of a transfer the element on its way; otherwise none.
   abbrev pub registers_in : ℕ → Option Instr → ℕ → List ℤ
   registers_in k (Some (Call v ins outs)) r = cond (nat_eq r 0) [] (cond (nat_lt r (elements_in j.program ins))
       (take r (all_joined (map (λ b. buffer_value b k) ins)))
@@ -101,6 +109,7 @@ module _ (j : JobData) where
   registers_in k (Some (Recv b o)) r = copied b k r
   registers_in k _ r = []
 
+  -- Sequence s has these registers after n micro-steps.
   abbrev pub registers_after : ℕ → ℕ → List ℤ
   registers_after s n = registers_in (reaction_at (code j.program s) n)
       (slice_get (turn j.program s) (index_at j.program s n)) (offset_at j.program s n)
@@ -116,6 +125,8 @@ module _ (j : JobData) where
 
   -- The cells and the rows, where operation v was computed `done v` times.
   module _ (done : ℕ → ℕ) where
+    -- Delay d has this cell if the given operation, its set half, was computed as often
+    -- as `done` says; if no set half is given, it is the opening cell.
     abbrev pub cell_by : ℕ → Option ℕ → Vector
     cell_by d None = vector_at j.opening d
     cell_by d (Some t) = vector_at (cells_after j.graph j.sensors j.opening (done t)) d
@@ -125,6 +136,7 @@ module _ (j : JobData) where
     cells_from [] d = []
     cells_from (x ∷ xs) d = cond (is_get x.kind) (cell_by d x.twin ∷ cells_from xs (suc d)) (cells_from xs d)
 
+    -- These are the cells of all delays, by number.
     abbrev pub cells_by : Values
     cells_by = cells_from j.graph.vertices 0
 
@@ -132,6 +144,8 @@ module _ (j : JobData) where
     abbrev pub row_by : ℕ → ℕ → ℕ → ℕ → Vector
     row_by v a len k = cond (nat_lt k (done v)) (flat_act j.graph j.sensors j.opening a k) (zeros len)
 
+    -- Operation v, which is x, has taken this in reaction k: if it is an actuator its vector, or
+    -- zeros as long as it was not computed in that reaction; otherwise nothing.
     abbrev pub row_of : ℕ → Vertex → ℕ → Kind → Values
     row_of v x k (Actuator a) = map (λ n. row_by v a n k) (lens_of j.graph.vertices x.ins)
     row_of v x k _ = []
@@ -141,6 +155,8 @@ module _ (j : JobData) where
     rows_from [] v k = []
     rows_from (x ∷ xs) v k = row_of v x k x.kind ++ rows_from xs (suc v) k
 
+    -- These are the rows of all reactions, each with the vectors of the actuators in
+    -- the order of the operations.
     abbrev pub rows_by : List Values
     rows_by = map (rows_from j.graph.vertices 0) (range_with_len 0 (reactions j))
 
@@ -149,6 +165,8 @@ module _ (j : JobData) where
   abbrev pub done_in : (ℕ → ℕ) → ℕ → ℕ
   done_in c v = made (calling j.program v).sequence (last_load v) (c (calling j.program v).sequence)
 
+  -- Sequence s has computed operation v this often after n micro-steps; it is 0 if
+  -- another sequence calls v.
   abbrev pub done_by : ℕ → ℕ → ℕ → ℕ
   done_by s n v = cond (nat_eq (calling j.program v).sequence s) (made s (last_load v) n) 0
 
@@ -165,13 +183,16 @@ module _ (j : JobData) where
   element_told c y q = latest (system j) (stored_value y) (depth_at j.program j.media y)
       (total (system j) (stores y) c) q
 
+  -- Buffer b has these elements when the counts are c, by place and in each place by number.
   abbrev pub buffer_told : (ℕ → ℕ) → ℕ → List ℤ
   buffer_told c b = map (λ i. element_told c (element_of j.program b (i % len_of j.program b))
       (i / len_of j.program b)) (range_with_len 0 (depth_of j.program b * len_of j.program b))
 
+  -- The wire of medium m has these elements when the counts are c, by number.
   abbrev pub wire_told : (ℕ → ℕ) → ℕ → List ℤ
   wire_told c m = map (λ i. element_told c (wire_of j.program m i) 0) (range_with_len 0 (wire_len j.program m))
 
+  -- This is the state that the counts c determine, if `counts` is the list of them by sequence.
   abbrev pub told_by : (ℕ → ℕ) → List ℕ → Core
   told_by c counts = record {
     counts = counts;
@@ -185,5 +206,7 @@ module _ (j : JobData) where
     rows = rows_by (done_in c);
   }
 
+  -- This is the state that counts determine, a function of the micro-steps that each sequence has
+  -- made, with the values of the flat graph; a sequence without a count has made none.
   abbrev pub told : List ℕ → Core
   told counts = told_by (λ s. slice_index_or counts s 0) counts

@@ -15,6 +15,7 @@ abbrev pub columns_of : Kind → List ℕ → ℕ → List (List ℕ)
 columns_of (sensor n) name len = map (column name) (numbers_below len)
 columns_of _ name len = []
 
+-- The columns of the sensors among these vertices, in order. Vertices inside them do not count.
 abbrev pub columns_in : Vertices → List (List ℕ)
 columns_in no_vertices = []
 columns_in (and_vertex (vertex l vs) us) = columns_of l.kind (name_of l.part) (first_length l.outs) ++ columns_in us

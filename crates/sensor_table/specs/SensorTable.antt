@@ -44,13 +44,16 @@ Record = List (List ℕ)
 abbrev pub Row : Type 0
 Row = List (List ℤ)
 
+-- The refusal of a row for this cause. Row 0 is the header, and reaction k has row k + 1.
 abbrev pub refused : ℕ → SensorCause → SensorError
 refused row cause = Refused (record { row = row; cause = cause })
 
+-- The result with f applied to its value; an error stays as it is.
 abbrev pub with_value : {A B E : Type 0} → (A → B) → Result A E → Result B E
 with_value f (Ok x) = Ok (f x)
 with_value f (Err e) = Err e
 
+-- The result with f applied to its error; a value stays as it is.
 abbrev pub with_error : {A E F : Type 0} → (E → F) → Result A E → Result A F
 with_error f (Ok x) = Ok x
 with_error f (Err e) = Err (f e)
@@ -102,9 +105,12 @@ rows_from lens k (fields ∷ records) = before (row_of lens k fields) (rows_from
 abbrev pub rows_after : Reactions → List Record → Result (List Row) SensorError
 rows_after old records = with_value (λ more. old.reactions ++ more) (rows_from old.lens (length old.reactions) records)
 
+-- The reactions that the records after the header give for sensors of these lengths, or
+-- the first error.
 abbrev pub reactions_of : List ℕ → List Record → Result Reactions SensorError
 reactions_of lens records = with_value (λ rows. record { lens = lens; reactions = rows }) (rows_from lens 0 records)
 
+-- The record is the header of the sensor table for this main graph, field by field.
 abbrev pub is_header : Vertex → Record → Bool
 is_header main fields = pointwise bytes_eq fields (header_of main)
 

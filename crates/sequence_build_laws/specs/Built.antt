@@ -34,6 +34,7 @@ use Rattle.executive_program.specs.Instructions.{Reader}
 use Rattle.executive_program.specs.WellFormed.{IsOrder}
 use Rattle.sequence_build_laws.specs.Serial.{Step, projection, codes, copies, buffer, pairs, pairs_where, serial}
 
+-- A copy is on this operator; it is 0 if there is no copy.
 abbrev pub operator_in : Option Copy → ℕ
 operator_in None = 0
 operator_in (Some c) = c.operator
@@ -57,6 +58,8 @@ module _ (depth : ℕ) (g : Graph) (a : Architecture) (s : Schedule) where
   abbrev pub prologue : ℕ → List Instr
   prologue t = flat_map (λ q. repeated (Pre0 q) depth) (pairs_where (pairs g a s) (λ r. nat_eq r.sequence t))
 
+  -- This is the program of the schedule in which each buffer that a pair guards has
+  -- `depth` places, and any other buffer one.
   abbrev pub program_with : Program
   program_with = record {
     buffers = buffers_from 0 (copies g a s);

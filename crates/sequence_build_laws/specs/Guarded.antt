@@ -44,9 +44,12 @@ module _ (pairs : List Reader) (s : ℕ) where
   abbrev pub is_first : Standing Instr → Reader → Bool
   is_first v r = reads_in r v.it && not (list_any (reads_in r) v.before)
 
+  -- The sequence is the pair's reader, and this is the last instruction of the loop
+  -- that reads the pair's buffer.
   abbrev pub is_last : Standing Instr → Reader → Bool
   is_last v r = reads_in r v.it && not (list_any (reads_in r) v.after)
 
+  -- The instruction writes the pair's buffer, so that the sequence is the pair's writer.
   abbrev pub fills : Standing Instr → Reader → Bool
   fills v r = writes r.buffer v.it
 
@@ -57,6 +60,8 @@ module _ (pairs : List Reader) (s : ℕ) where
       (map Suc0 (pairs_where pairs (fills v)) ++
       (v.it ∷ (map Pre0 (pairs_where pairs (is_last v)) ++ map Pre1 (pairs_where pairs (fills v)))))
 
+  -- A loop gets the semaphore lines of these pairs, directly before and after the
+  -- instructions that need them.
   abbrev pub guarded_loop : List Instr → List Instr
   guarded_loop xs = flat_map lines_at (in_turn xs)
 
@@ -64,6 +69,8 @@ module _ (pairs : List Reader) (s : ℕ) where
   abbrev pub opening : ℕ → List Instr
   opening depth = flat_map (λ q. repeated (Pre0 q) depth) (pairs_where pairs (λ r. nat_eq r.sequence s))
 
+-- These sequences, of which the first has number s, get the semaphore lines of these pairs in
+-- their loops, and prologues that open each pair once for each of `depth` places.
 abbrev pub guarded_codes : ℕ → List Reader → ℕ → List SeqCode → List SeqCode
 guarded_codes depth pairs s [] = []
 guarded_codes depth pairs s (q ∷ qs) =
@@ -80,6 +87,7 @@ guarded_buffers depth pairs b (x ∷ xs) =
       depth = cond (list_any (λ (r : Reader). nat_eq r.buffer b) pairs) depth 1;
     } ∷ guarded_buffers depth pairs (suc b) xs
 
+-- A buffer is on this operator; it is 0 if there is no buffer.
 abbrev pub operator_in : Option Buffer → ℕ
 operator_in None = 0
 operator_in (Some x) = x.operator

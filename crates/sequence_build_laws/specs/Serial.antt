@@ -40,6 +40,7 @@ pub record Step : Type 0 where
   pub sequence : ℕ
   pub instr : Instr
 
+-- Instruction x is made by sequence s.
 abbrev pub step : ℕ → Instr → Step
 step s x = record { sequence = s; instr = x }
 
@@ -52,12 +53,15 @@ abbrev pub numbers_where : {A : Type 0} → (A → Bool) → ℕ → List A → 
 numbers_where test n [] = []
 numbers_where test n (x ∷ xs) = cond (test x) (n ∷ numbers_where test (suc n) xs) (numbers_where test (suc n) xs)
 
+-- It is true if both are the same medium, or both are none.
 abbrev pub same_medium : Option ℕ → Option ℕ → Bool
 same_medium None None = true
 same_medium None (Some n) = false
 same_medium (Some m) None = false
 same_medium (Some m) (Some n) = nat_eq m n
 
+-- Two sequences are the same if they belong to one operator, and either to one medium
+-- or both to none.
 abbrev pub same_seq : Seq → Seq → Bool
 same_seq q r = nat_eq q.operator r.operator && same_medium q.medium r.medium
 
@@ -79,15 +83,18 @@ reads_for r x = nat_eq x.sequence r.sequence && reads r.buffer x.instr
 abbrev pub reads_first : Standing Step → Reader → Bool
 reads_first v r = reads_for r v.it && not (list_any (reads_for r) v.before)
 
+-- The pair's reader reads the buffer here, and nowhere later in the order.
 abbrev pub reads_last : Standing Step → Reader → Bool
 reads_last v r = reads_for r v.it && not (list_any (reads_for r) v.after)
 
+-- The pair's buffer is written here.
 abbrev pub is_filled : Standing Step → Reader → Bool
 is_filled v r = writes r.buffer v.it.instr
 
 -- Of these pairs, each with a buffer and its reading sequence: those
 -- that pass, and the semaphore lines round an instruction.
 module _ (pairs : List Reader) where
+  -- These are the numbers of the pairs that pass the test, in ascending order.
   abbrev pub pairs_where : (Reader → Bool) → List ℕ
   pairs_where test = numbers_where test 0 pairs
 
@@ -101,6 +108,8 @@ module _ (pairs : List Reader) where
       (map Suc0 (pairs_where (is_filled v)) ++
       (v.it.instr ∷ (map Pre0 (pairs_where (reads_last v)) ++ map Pre1 (pairs_where (is_filled v)))))
 
+  -- An instruction and its semaphore lines are all made by the instruction's sequence,
+  -- in this order.
   abbrev pub steps_at : Standing Step → List Step
   steps_at v = map (step v.it.sequence) (block v)
 
@@ -109,9 +118,13 @@ module _ (g : Graph) (a : Architecture) (s : Schedule) where
   abbrev pub copies : List Copy
   copies = flat_map (made_by g.vertices) (acts s)
 
+  -- A copy has the buffer of this number; it is the number of copies if the schedule
+  -- does not make this one.
   abbrev pub buffer_for : Copy → ℕ
   buffer_for c = position_or_len (same_copy c) copies
 
+  -- A sequence has this number in the architecture; it is the number of sequences if
+  -- it is none of them.
   abbrev pub number_of : Seq → ℕ
   number_of q = position_or_len (same_seq q) (sequences a)
 
@@ -135,6 +148,8 @@ module _ (g : Graph) (a : Architecture) (s : Schedule) where
   abbrev pub buffer : ℕ → Copy → Buffer
   buffer depth c = record { operator = c.operator; len = len_of g.vertices c.source; depth = depth }
 
+  -- This is the program of the schedule without semaphores: no pairs, empty prologues,
+  -- and each buffer with one place.
   abbrev pub plain_program : Program
   plain_program = record {
     buffers = map (buffer 1) copies;

@@ -24,6 +24,7 @@ abbrev pub least : ℤ → List ℤ → ℤ
 least low [] = low
 least low (v ∷ vs) = least (if int_lt v low then v else low) vs
 
+-- The greatest of a value and of these values.
 abbrev pub greatest : ℤ → List ℤ → ℤ
 greatest high [] = high
 greatest high (v ∷ vs) = greatest (if int_lt high v then v else high) vs
@@ -33,6 +34,7 @@ abbrev pub least_in : ℕ → ℤ → List (List (List ℤ)) → ℤ
 least_in a low [] = low
 least_in a low (row ∷ rows) = least_in a (least low (slice_index_or row a [])) rows
 
+-- The greatest of a value and of all elements of vector a in these reactions.
 abbrev pub greatest_in : ℕ → ℤ → List (List (List ℤ)) → ℤ
 greatest_in a high [] = high
 greatest_in a high (row ∷ rows) = greatest_in a (greatest high (slice_index_or row a [])) rows

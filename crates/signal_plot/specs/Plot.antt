@@ -74,6 +74,8 @@ key_text j =
     (decimal (colour j) ++
     (codes "\" x=\"" ++ (decimal (16 * j) ++ (codes "\" y=\"134\">" ++ (decimal j ++ words_end)))))
 
+-- The number of element j below the panel of actuator a, and the line of its values in these
+-- reactions.
 unfoldable pub element_text : Scale → Range → Bytes → ℕ → List (List (List ℤ)) → ℕ → Bytes
 element_text scale r name a rows j = key_text j ++ curve_text scale r name a j rows
 
@@ -81,6 +83,7 @@ element_text scale r name a rows j = key_text j ++ curve_text scale r name a j r
 abbrev pub top_of : ℕ → ℕ
 top_of a = 160 * min a 65536
 
+-- The ground of a panel, of this width and 120 units high.
 unfoldable pub ground_text : ℕ → Bytes
 ground_text width = codes "<path class=\"lane\" d=\"M0 0H" ++ (decimal width ++ codes "V120H0z\"/>\n")
 
@@ -88,9 +91,11 @@ ground_text width = codes "<path class=\"lane\" d=\"M0 0H" ++ (decimal width ++ 
 unfoldable pub name_text : Bytes → Bytes
 name_text name = aside_text (codes "name") (codes "64") ++ (name ++ words_end)
 
+-- A value as a number left of a panel, at this height.
 unfoldable pub limit_text : Bytes → ℤ → Bytes
 limit_text y v = aside_text (codes "value") y ++ (signed_decimal v ++ words_end)
 
+-- The greatest value of a panel at its top and the least one at its bottom, both left of it.
 unfoldable pub limits_text : Range → Bytes
 limits_text r = limit_text (codes "10") r.high ++ limit_text (codes "120") r.low
 
@@ -120,9 +125,11 @@ scale_of n = record { width = width_for (n / 8); length = n }
 abbrev pub margin : List Bytes → ℕ
 margin names = 20 + 7 * min 32 (max 20 (longest names))
 
+-- The width and the height of the picture of the actuators of these names, in units.
 abbrev pub size_of : List Bytes → Scale → Point
 size_of names scale = point (margin names + scale.width + 24) (top_of (length names) + 44)
 
+-- The beginning of the picture, and of the group of all its panels.
 unfoldable pub head_of : List Bytes → Scale → Bytes
 head_of names scale = head_text (size_of names scale) ++ group_text (codes "plot") [] (point (margin names) 44)
 

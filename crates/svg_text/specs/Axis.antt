@@ -34,6 +34,8 @@ end_text word scale height =
     line_text (codes "end") (point scale.width 0) height ++
     (words_text (codes "length") scale.width (codes "-26") ++ (word ++ (decimal scale.length ++ words_end)))
 
+-- The group of the axis: a line down through all lanes and a date for 0 and for each step, and at
+-- the right end one with this word and the length of all.
 unfoldable pub axis_text : Bytes → Scale → ℕ → Bytes
 axis_text word scale height =
     group_text (codes "axis") [] (point 0 0) ++

@@ -25,6 +25,7 @@ steps_of scale = scale.length / step_of scale
 abbrev pub fits : ℕ → ℕ → ℕ → Bool
 fits bytes left right = nat_lt bytes ((right - left) / 7)
 
+-- The place halfway from the left place to the right one, rounded down.
 abbrev pub middle : ℕ → ℕ → ℕ
 middle left right = left + (right - left) / 2
 

@@ -5,6 +5,7 @@ use Rattle.syn_base.specs.Bytes.{Bytes}
 use Rattle.svg_text.specs.declared.style.TheConstants.{STYLE}
 use Rattle.svg_text.specs.declared.shapes.Point.{Point}
 
+-- The point that is x units right of the origin and y units below it.
 abbrev pub point : ℕ → ℕ → Point
 point x y = record { x = x; y = y }
 
@@ -32,9 +33,11 @@ paper_text size = codes "<rect class=\"paper\"" ++ (sides_text size ++ codes "/>
 unfoldable pub head_text : Point → Bytes
 head_text size = root_text size ++ (STYLE.now ++ paper_text size)
 
+-- The value of an attribute, `"translate(x y)"` with its quotes, that moves the origin to a point.
 unfoldable pub move_text : Point → Bytes
 move_text p = codes "\"translate(" ++ (point_text p ++ codes ")\"")
 
+-- The rest of the tag that begins a group, after its identifier: the move of its origin to a point.
 unfoldable pub origin_text : Point → Bytes
 origin_text p = codes "\" transform=" ++ (move_text p ++ codes ">\n")
 
@@ -71,6 +74,7 @@ shade_text word k =
     codes "<g id=\"" ++
     (word ++ (decimal k ++ (codes "\" class=\"shade" ++ (decimal (k % 8 + 1) ++ codes "\">\n"))))
 
+-- The end of a bar or a tile, after its title, and of its line.
 unfoldable pub bar_end : Bytes
 bar_end = codes "</title></path>\n"
 
@@ -103,5 +107,6 @@ words_text class x y =
 unfoldable pub aside_text : Bytes → Bytes → Bytes
 aside_text class y = codes "<text" ++ (class_text class ++ (codes " x=\"-8\" y=\"" ++ (y ++ codes "\">")))
 
+-- The end of an element of text, after its words, and of its line.
 unfoldable pub words_end : Bytes
 words_end = codes "</text>\n"

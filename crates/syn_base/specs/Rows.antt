@@ -35,6 +35,7 @@ cut_all lens rows = map (cut lens) rows
 abbrev pub vector_of : List (List (List ℤ)) → ℕ → ℕ → List ℤ
 vector_of reactions k v = slice_index_or (slice_index_or reactions k []) v []
 
+-- Element j of vector v of reaction k, each counted from 0; 0 if there is no such element.
 abbrev pub element : List (List (List ℤ)) → ℕ → ℕ → ℕ → ℤ
 element reactions k v j = slice_index_or (vector_of reactions k v) j (pos 0)
 

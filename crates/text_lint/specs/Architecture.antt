@@ -52,6 +52,7 @@ why_of ds name (Some d) =
     if is_among name (named_in ds) then None else
     Some Unused
 
+-- Why a duration of the definition of this name changes nothing; none if it changes something.
 abbrev pub why_idle : List Def → Bytes → Option Why
 why_idle ds name = why_of ds name (definition ds name)
 
@@ -61,6 +62,7 @@ idle_duration n def None operator = []
 idle_duration n def (Some why) None = []
 idle_duration n def (Some why) (Some operator) = IdleDuration n def operator why ∷ []
 
+-- The finding that this duration, whose line has the number n, changes nothing, if that is so.
 abbrev pub duration_by : List Def → List Bytes → ℕ → DurationLine → List Finding
 duration_by ds operators n line =
     idle_duration n line.def (why_idle ds line.def) (slice_get operators line.operator)
@@ -76,6 +78,8 @@ durations_from ds operators numbers i (line ∷ lines) =
 abbrev pub lets_stand : List Def → ℕ → DurationLine → Bool
 lets_stand ds o line = (line.operator == o) && not (is_some (why_idle ds line.def))
 
+-- The finding that operator o is idle, if no duration on it changes something. The lines of all
+-- operators have these numbers.
 abbrev pub operator_by : List Def → List DurationLine → List ℕ → ℕ → Bytes → List Finding
 operator_by ds lines numbers o name =
     if list_any (lets_stand ds o) lines then [] else

@@ -15,6 +15,8 @@ named_by (Switch on ins outs cases otherwise last) = map (λ c. c.def) cases ++ 
 named_by (Repeat copies def lines) = def ∷ []
 named_by _ = []
 
+-- The names by which the lines of these definitions refer to definitions, in order, each as
+-- often as it occurs.
 abbrev pub named_in : List Def → List Bytes
 named_in ds = flat_map (λ d. named_by d.body) ds
 

@@ -18,6 +18,7 @@ use Rattle.std.specs.Str.{bytes_eq}
 use Rattle.syn_base.specs.Bytes.{Bytes}
 use Rattle.text_lines.specs.Text.{code_of, lines_of, words_of}
 
+-- There are words, and the first of them is this one.
 abbrev pub begins_with : Bytes → List Bytes → Bool
 begins_with key words = not (length words == 0) && bytes_eq (slice_index_or words 0 []) key
 

@@ -15,6 +15,7 @@ use Rattle.text_lint.specs.declared.finding.Finding.TheVariants.{
 use Rattle.text_lint.specs.declared.finding.Why.{Why}
 use Rattle.text_lint.specs.declared.finding.Why.TheVariants.{Unknown, Timeless, Unused}
 
+-- The word for why a duration changes nothing, with a space before it.
 abbrev pub why_word : Why → Bytes
 why_word Unknown = codes " unknown"
 why_word Timeless = codes " timeless"
@@ -24,9 +25,11 @@ why_word Unused = codes " unused"
 abbrev pub head : Bytes → ℕ → Bytes → Bytes
 head text n word = text ++ (decimal n ++ (codes ": " ++ word))
 
+-- The beginning of the line of what is found at line n of the algorithm.
 abbrev pub algorithm_head : ℕ → Bytes → Bytes
 algorithm_head n word = head (codes "algorithm line ") n word
 
+-- The beginning of the line of what is found at line n of the architecture.
 abbrev pub architecture_head : ℕ → Bytes → Bytes
 architecture_head n word = head (codes "architecture line ") n word
 
@@ -39,6 +42,7 @@ abbrev pub element_words : Bytes → Bytes → Bytes → ℕ → Bytes
 element_words def port element len =
     two_names def port ++ (codes "[" ++ (element ++ (codes "] " ++ decimal len)))
 
+-- The beginning of the line of a finding: the line of which text it is at, and its kind.
 abbrev pub finding_head : Finding → Bytes
 finding_head (UnusedDefinition n def) = algorithm_head n (codes "L1 UnusedDefinition")
 finding_head (OutsideElement n def port element len) = algorithm_head n (codes "L2 OutsideElement")
@@ -47,6 +51,7 @@ finding_head (UnreadDelay n reference) = algorithm_head n (codes "L4 UnreadDelay
 finding_head (IdleDuration n def operator why) = architecture_head n (codes "L5 IdleDuration")
 finding_head (IdleOperator n operator) = architecture_head n (codes "L6 IdleOperator")
 
+-- The end of the line of a finding: the names and numbers that it is about, with a space first.
 abbrev pub finding_words : Finding → Bytes
 finding_words (UnusedDefinition n def) = codes " " ++ def
 finding_words (OutsideElement n def port element len) =
@@ -56,8 +61,10 @@ finding_words (UnreadDelay n reference) = codes " " ++ reference
 finding_words (IdleDuration n def operator why) = two_names def operator ++ why_word why
 finding_words (IdleOperator n operator) = codes " " ++ operator
 
+-- The whole line of a finding, with its line feed.
 abbrev pub finding_line : Finding → Bytes
 finding_line f = finding_head f ++ (finding_words f ++ codes "\n")
 
+-- The lines of these findings, in order; no byte if there are none.
 abbrev pub findings_text : List Finding → Bytes
 findings_text fs = flat_map finding_line fs

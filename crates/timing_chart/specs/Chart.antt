@@ -24,13 +24,16 @@ abbrev pub line_text : Line → Bytes
 line_text [] = codes "\n"
 line_text (w ∷ ws) = w ++ rest_of_line ws
 
+-- The text of these lines in their order, each with a line feed at its end.
 abbrev pub text_of : List Line → Bytes
 text_of lines = flat_map line_text lines
 
 module _ (vertices : List Vertex) (operators : List Bytes) where
+  -- The name of operation v, and the empty text if there is no operation v.
   abbrev pub operation_name : ℕ → Bytes
   operation_name v = with_vertex (slice_get vertices v) [] (λ x. x.name)
 
+  -- The name of operator o, and the empty text if there is no operator o.
   abbrev pub operator_name : ℕ → Bytes
   operator_name o = slice_index_or operators o []
 
@@ -61,5 +64,7 @@ chart_lines g a s =
     operator_parts g.vertices a.operators (acts s) 0 a.operators
     ++ (medium_parts g.vertices a.operators (acts s) 0 a.media ++ (codes "length" ∷ decimal (length_of s) ∷ []) ∷ [])
 
+-- The timing chart of a schedule: for each operator its operations, for each medium its transfers,
+-- each with its start and end in ticks, and at the end the length of the schedule.
 abbrev pub chart : Graph → Architecture → Schedule → Bytes
 chart g a s = text_of (chart_lines g a s)

@@ -28,9 +28,11 @@ use Rattle.check_laws.specs.Tests.{
   stuck_at,
 }
 
+-- A sequence that is not at its end, with the place of its next instruction, as a status has it.
 abbrev pub stop_of : Place → Stop
 stop_of y = record { sequence = y.sequence; at = y.at }
 
+-- The cause as a status has it.
 abbrev pub told : Cause → CheckCause
 told sequences_differ = Sequences
 told calls_wrong = Calls

@@ -32,6 +32,7 @@ one_job e = job_of e.program (flat_of e.main) e.architecture e.rows (initial_cel
 abbrev pub acts_of : Vertex → List Values → List Values
 acts_of main rows = map (act_row main rows) (numbers_below (length rows))
 
+-- The output text of what the actuators of an algorithm take over these rows of its sensors.
 abbrev pub output_of : Vertex → List Values → Bytes
 output_of main rows = output_text (actuator_names main) (acts_of main rows)
 
@@ -50,6 +51,7 @@ window_stage e s = record {
   text = window_text (actuator_names e.main) (acts_of e.main e.rows.reactions) s;
 }
 
+-- The stages of an execution, one for each window of at most 256 reactions, in their order.
 abbrev pub window_stages : Execution → List (Stage JobData)
 window_stages e = map (window_stage e) (starts (length e.rows.reactions))
 

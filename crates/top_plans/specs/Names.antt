@@ -13,6 +13,7 @@ named a h s c g Sensors = s
 named a h s c g Code = c
 named a h s c g Durations = g
 
+-- The name that a command gives a file, and None if the command has no such file.
 abbrev pub names_for : Command → File → Option Bytes
 names_for (check a h) = named (Some a) h None None None
 names_for (sim a s) = named (Some a) None (Some s) None None

@@ -78,6 +78,7 @@ use Rattle.top_plans.specs.Given.{Given, written, printed, executed, summed, Exe
 use Rattle.top_plans.specs.Loads.{load_algorithm, load_architecture, load_table}
 use Rattle.top_plans.specs.Checks.{lacking}
 
+-- The plan of a command of this program: in the end it gives what is to be made, or refuses.
 abbrev pub Made : Type 0
 Made = Plan Refusal Given
 
@@ -112,9 +113,13 @@ table_in main table next = after of_sensors (rows_of main (records default_confi
 abbrev pub algorithm_plan : {A : Type 0} → Bytes → (Defs → Vertex → Plan Refusal A) → Plan Refusal A
 algorithm_plan a next = read_file Algorithm a (λ text. algorithm_in text next)
 
+-- Read the file of an architecture, and go on with what it describes and how long the algorithm's
+-- operations last on it, or refuse it.
 abbrev pub architecture_plan : {A : Type 0} → Bytes → Vertex → (Described → Table → Plan Refusal A) → Plan Refusal A
 architecture_plan h main next = read_file Architecture h (λ text. architecture_in text main next)
 
+-- Read the file of a sensor table, and go on with its rows for the algorithm's sensors, or refuse
+-- it.
 abbrev pub table_plan : {A : Type 0} → Vertex → Bytes → (Reactions → Plan Refusal A) → Plan Refusal A
 table_plan main s next = read_file Sensors s (λ table. table_in main table next)
 
@@ -144,6 +149,8 @@ rows_plan main rows =
     unless (excess (length rows.reactions * sum (actuator_lengths main)))
     (give (written (output_of main rows.reactions)))
 
+-- The plan of `sim`: the output text of the algorithm in file a over the rows of the table in file
+-- s, if it is within its bound.
 abbrev pub sim_plan : Bytes → Bytes → Made
 sim_plan a s = algorithm_plan a (λ defs main. table_plan main s (rows_plan main))
 
@@ -151,9 +158,12 @@ sim_plan a s = algorithm_plan a (λ defs main. table_plan main s (rows_plan main
 abbrev pub schedule_of : Graph → Archi → Table → Schedule
 schedule_of g a t = pressure_run (task g a (table_of a) t)
 
+-- The timing chart of the pressure run's schedule of this graph on this architecture, with these
+-- durations.
 abbrev pub chart_of : Graph → Described → Table → Bytes
 chart_of g d t = timing.chart g d.archi (schedule_of g d.archi t)
 
+-- The plan of `chart`: the timing chart of the algorithm in file a on the architecture in file h.
 abbrev pub chart_plan : Bytes → Bytes → Made
 chart_plan a h =
     algorithm_plan a (λ defs main. architecture_plan h main (λ d t. give (written (chart_of (flat_of main) d t))))
@@ -162,6 +172,8 @@ chart_plan a h =
 abbrev pub program_by : Graph → Archi → Table → Program
 program_by g a t = program_of g a (schedule_of g a t)
 
+-- Go on with the program of the pressure run's schedule, or refuse it if it is above one of its
+-- limits.
 abbrev pub program_plan : Graph → Archi → Table → (Program → Made) → Made
 program_plan g a t next = unless (program_limit (program_by g a t) (length a.media)) (next (program_by g a t))
 
@@ -169,6 +181,7 @@ program_plan g a t next = unless (program_limit (program_by g a t) (length a.med
 abbrev pub macro_plan : Graph → Archi → Table → Made
 macro_plan g a t = program_plan g a t (λ p. give (written (macro_code p g a)))
 
+-- The plan of `code`: the macro-code of the algorithm in file a on the architecture in file h.
 abbrev pub code_plan : Bytes → Bytes → Made
 code_plan a h = algorithm_plan a (λ defs main. architecture_plan h main (λ d t. macro_plan (flat_of main) d.archi t))
 
@@ -176,6 +189,8 @@ code_plan a h = algorithm_plan a (λ defs main. architecture_plan h main (λ d t
 abbrev pub execution : Vertex → Archi → Program → Reactions → Execution
 execution main a p rows = record { main = main; architecture = a; program = p; rows = rows }
 
+-- Give what is made of an execution, or refuse it if its one job over all rows is above one of the
+-- limits of a run.
 abbrev pub execution_plan : Execution → (Execution → Given) → Made
 execution_plan e what = unless (limit_of (one_job e)) (give (what e))
 
@@ -246,6 +261,7 @@ load_plan a h s =
     program_plan (flat_of main) d.archi t (λ p.
     execution_plan (execution main d.archi p rows) (λ e. summed e (summary e))))))
 
+-- The plan of a command. The number of workers makes no difference to it.
 abbrev pub plan_for : Command → Made
 plan_for (check a h) = check_plan a h
 plan_for (sim a s) = sim_plan a s

@@ -41,6 +41,8 @@ name_text kind name =
 abbrev pub lane_text : ℕ → Bytes → Bytes → Bytes
 lane_text n kind name = word_text word.LaneName ++ (place_text n ++ name_text kind name)
 
+-- The event by which a viewer puts lane n in its order among the lanes, which is that of their
+-- numbers.
 abbrev pub rank_text : ℕ → Bytes
 rank_text n =
     word_text word.Rank ++ (place_text n ++
@@ -58,6 +60,8 @@ rest_of_slice category n m =
     word_text word.Category ++ (category ++ (moment_text m ++ (place_text n ++
     (word_text word.Reaction ++ (decimal m.reaction ++ word_text word.End)))))
 
+-- The complete event of a slice: its name and category, its start and duration in ticks, its lane,
+-- and the number of its reaction.
 abbrev pub slice_text : Slice → Bytes
 slice_text s = word_text word.Slice ++ (s.name ++ rest_of_slice s.category s.lane s.moment)
 
@@ -77,12 +81,16 @@ rest_of_flow s r =
     (place_text r.lane ++
     word_text word.FlowEnd))))
 
+-- The event that begins a flow: the value of a source leaves the transfer that brings it.
 abbrev pub leaves_text : Source → Reader → Bytes
 leaves_text s r = word_text word.Leaves ++ rest_of_flow s r
 
+-- The event that ends a flow: the value of a source reaches an act that reads it.
 abbrev pub arrives_text : Source → Reader → Bytes
 arrives_text s r = word_text word.Arrives ++ rest_of_flow s r
 
+-- The text of an event, which begins with a comma and a line feed. That of a thread is two events,
+-- one for its name and one for its order.
 abbrev pub event_text : Event → Bytes
 event_text (thread n kind name) = lane_text n kind name ++ rank_text n
 event_text (lasts s) = slice_text s
@@ -97,6 +105,7 @@ text_of events = flat_map event_text events
 abbrev pub opening : Bytes
 opening = word_text word.Opening
 
+-- The end of the list of all events, and of the file.
 abbrev pub closing : Bytes
 closing = word_text word.Closing
 

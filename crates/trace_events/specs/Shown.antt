@@ -16,6 +16,7 @@ slice_in (thread n word name) = []
 slice_in (leaves f) = []
 slice_in (arrives f) = []
 
+-- The slices among these events, in their order.
 abbrev pub slices : List Event → List Slice
 slices events = flat_map slice_in events
 

@@ -37,6 +37,7 @@ use Rattle.trace_events.specs.Words.{word_text}
 abbrev pub operator_lane : ℕ → ℕ
 operator_lane o = o + 1
 
+-- The number of the lane of medium m.
 abbrev pub medium_lane : ℕ → ℕ
 medium_lane m = m + 17
 
@@ -46,11 +47,13 @@ operator_lanes o [] = []
 operator_lanes o (name ∷ names) =
     thread (operator_lane o) (word_text word.Operator) name ∷ operator_lanes (suc o) names
 
+-- The events that name the lanes of these media, of which the first has number m.
 abbrev pub medium_lanes : ℕ → List Medium → List Event
 medium_lanes m [] = []
 medium_lanes m (x ∷ xs) =
     thread (medium_lane m) (word_text word.Medium) x.name ∷ medium_lanes (suc m) xs
 
+-- The events that name all lanes of an architecture, those of its operators first.
 abbrev pub lanes : Architecture → List Event
 lanes a = operator_lanes 0 a.operators ++ medium_lanes 0 a.media
 
@@ -62,6 +65,7 @@ brings o s t = nat_eq t.to o && nat_eq t.source.vertex s.vertex && nat_eq t.sour
 abbrev pub is_brought : List Decision → ℕ → Source → Bool
 is_brought ds o s = list_any (λ d. list_any (brings o s) d.transfers) ds
 
+-- The number of the lane of an act, which is that of its operator or of its medium.
 abbrev pub lane_of : Act → ℕ
 lane_of (run d) = operator_lane d.operator
 lane_of (carry t) = medium_lane t.medium
@@ -71,6 +75,8 @@ abbrev pub operator_of : Act → ℕ
 operator_of (run d) = d.operator
 operator_of (carry t) = t.from
 
+-- An act as a reader: in the reaction of this moment, at its start, in the lane of the act, and on
+-- the operator on which the act reads.
 abbrev pub reader_in : Moment → Act → Reader
 reader_in m x =
     record { reaction = m.reaction; date = m.start; lane = lane_of x; operator = operator_of x }
@@ -90,10 +96,12 @@ module _ (vertices : List Vertex) (operators : List Bytes) where
       (operator_name vertices operators t.from ++ (word_text word.To ++
       operator_name vertices operators t.to)))))
 
+  -- The category of an act in the trace, `operation` or `transfer`.
   abbrev pub category_of : Act → Bytes
   category_of (run d) = word_text word.Operation
   category_of (carry t) = word_text word.Transfer
 
+  -- An act as a slice, from the start to the end of this moment.
   abbrev pub slice_of : Moment → Act → Slice
   slice_of m x =
       record { name = act_name x; category = category_of x; lane = lane_of x; moment = m }
@@ -108,6 +116,8 @@ abbrev pub arrival : List Decision → Reader → Source → List Event
 arrival ds r s =
     if is_brought ds r.operator s then arrives (record { source = s; at = r }) ∷ [] else []
 
+-- The events of those of these sources that a transfer brings to the operator of the reader, in the
+-- order of the sources.
 abbrev pub arrivals : List Decision → Reader → List Source → List Event
 arrivals ds r sources = flat_map (arrival ds r) sources
 
@@ -120,6 +130,8 @@ departures m (carry t) = leaves (record { source = t.source; at = bringer_in m t
 -- where it reads
 -- arrives.
 module _ (vertices : List Vertex) (operators : List Bytes) (ds : List Decision) where
+  -- The events of an act at a moment, in this order: its slice, the departure of its value if it is
+  -- a transfer, and an arrival for each value that it reads and that was carried there.
   abbrev pub act_events : Moment → Act → List Event
   act_events m x =
       lasts (slice_of vertices operators m x) ∷
@@ -129,6 +141,7 @@ module _ (vertices : List Vertex) (operators : List Bytes) (ds : List Decision) 
 abbrev pub chart_moment : Act → Moment
 chart_moment x = record { reaction = 0; start = start_of x; end = end_of x }
 
+-- The events of all acts of a schedule, in their order, at the dates of the schedule.
 abbrev pub chart_events : Graph → Architecture → Schedule → List Event
 chart_events g a s =
     flat_map (λ x. act_events g.vertices a.operators s.decisions (chart_moment x) x) (acts s)

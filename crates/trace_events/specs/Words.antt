@@ -32,6 +32,7 @@ use Rattle.trace_events.specs.declared.word.Word.TheVariants.{
   Closing,
 }
 
+-- The bytes of each fixed word.
 unfoldable pub word_text : Word → Bytes
 word_text LaneName = codes ",\n{\"name\":\"thread_name\",\"ph\":\"M\""
 word_text Name = codes ",\"args\":{\"name\":\""

@@ -16,6 +16,8 @@ made_of of (Switch on ins outs cases otherwise last) = suc (sum_by (λ c. of c.d
 made_of of (Repeat copies def lines) = suc (copies * of def + sum_by is_fork lines)
 made_of of _ = 1
 
+-- How many vertices a definition is made of, from those of the definitions that it names; 1 if
+-- there is no definition.
 abbrev pub made_in : (Bytes → ℕ) → Option Def → ℕ
 made_in of None = 1
 made_in of (Some d) = made_of of d.body

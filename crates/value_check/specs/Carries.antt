@@ -17,10 +17,12 @@ abbrev pub sent_by_one : Instr → Option ℕ
 sent_by_one (Send b q) = Some b
 sent_by_one _ = None
 
+-- A received value comes from the buffer that is sent, and from nowhere if none is sent.
 abbrev pub received : Option ℕ → Origin
 received None = Nowhere
 received (Some b) = Received b
 
+-- Both are the same output of the same operation.
 abbrev pub same_source : Source → Source → Bool
 same_source x y = nat_eq x.vertex y.vertex && nat_eq x.port y.port
 
@@ -36,9 +38,13 @@ module _ (p : Program) where
   origin_of s a port (Some (Recv b o)) = received (sent_on (medium p s) (communications p s a))
   origin_of s a port _ = Nowhere
 
+  -- As instruction a of s writes it, the value of buffer b comes from there; it comes
+  -- from nowhere if the instruction is neither a call nor a receive.
   abbrev pub origin_at : ℕ → ℕ → ℕ → Origin
   origin_at b s a = origin_of s a (output_at b (slice_get (turn p s) a)) (slice_get (turn p s) a)
 
+  -- The value of buffer b comes from there, by the first instruction that writes it;
+  -- it comes from nowhere if none does.
   abbrev pub origin : ℕ → Origin
   origin b = origin_at b (writer_of p b) (written_at p b)
 
@@ -53,5 +59,7 @@ module _ (p : Program) where
   is_kept m t =
       same_source (carried p (buffer_at p (receiver_of p m t) t)) (carried p (buffer_at p (sender_of p m t) t))
 
+  -- In each transfer of this many media the received buffer carries the same source as
+  -- the sent one.
   abbrev pub are_kept : ℕ → Bool
   are_kept media = all_below (λ m. all_below (λ t. is_kept m t) (transfers p m)) media

@@ -10,10 +10,12 @@ use Rattle.executive_program.specs.Places.{buffer_in, communication_at, receives
 use Rattle.executive_program.specs.WellFormed.{place_in}
 use Rattle.program_walks.specs.Walks.{all_at, all_below, implies}
 
+-- There is an instruction, and it is a send to operator o, of any buffer.
 abbrev pub is_send_to : ℕ → Option Instr → Bool
 is_send_to o (Some (Send b q)) = nat_eq q o
 is_send_to o _ = false
 
+-- There is an instruction, and it is a receive from operator o, into any buffer.
 abbrev pub is_receive_from : ℕ → Option Instr → Bool
 is_receive_from o (Some (Recv b q)) = nat_eq q o
 is_receive_from o _ = false
@@ -29,9 +31,13 @@ abbrev pub is_other : ℕ → ℕ → ℕ → ℕ → Option ℕ → Bool
 is_other m sender receiver s found = is_on m found && not (nat_eq s sender) && not (nat_eq s receiver)
 
 module _ (p : Program) where
+  -- Transfer t of medium m is sent by this sequence, the first communicator of m that
+  -- sends as its communication t; it is the number of sequences if none does.
   abbrev pub sender_of : ℕ → ℕ → ℕ
   sender_of m t = sequence_where p (sends_at p m t)
 
+  -- Transfer t of medium m is received by this sequence, the first communicator of m that
+  -- receives as its communication t; it is the number of sequences if none does.
   abbrev pub receiver_of : ℕ → ℕ → ℕ
   receiver_of m t = sequence_where p (receives_at p m t)
 
@@ -39,12 +45,18 @@ module _ (p : Program) where
   abbrev pub stands_at : ℕ → ℕ → ℕ
   stands_at s t = communication_at (turn p s) t
 
+  -- Communication t of sequence s sends or receives this buffer; it is 0 for a wait,
+  -- and if there is no such communication.
   abbrev pub buffer_at : ℕ → ℕ → ℕ
   buffer_at s t = buffer_in (slice_get (turn p s) (stands_at s t))
 
+  -- Sequence s is a communicator of medium m, and its communication t is a send to the
+  -- operator of sequence r.
   abbrev pub is_sent : ℕ → ℕ → ℕ → ℕ → Bool
   is_sent m t s r = is_on m (medium p s) && is_send_to (operator p r) (slice_get (turn p s) (stands_at s t))
 
+  -- Sequence r is a communicator of medium m, and its communication t is a receive
+  -- from the operator of sequence s.
   abbrev pub is_received : ℕ → ℕ → ℕ → ℕ → Bool
   is_received m t s r = is_on m (medium p r) && is_receive_from (operator p s) (slice_get (turn p r) (stands_at r t))
 
@@ -73,12 +85,16 @@ module _ (p : Program) where
     is_before_next m t receiver =
         implies (nat_lt (t + 1) (transfers p m)) (nat_lt (place_of receiver t) (place_of (sender_of m (t + 1)) (t + 1)))
 
+    -- Sequences s and r send and receive transfer t of medium m in one length and in this order,
+    -- all others of m wait for it after the receive, and the next send comes after the receive.
     abbrev pub is_transfer_between : ℕ → ℕ → ℕ → ℕ → Bool
     is_transfer_between m t s r =
         is_sent m t s r && is_received m t s r && all_at (waits m t s r) 0 p.seqs &&
         nat_lt (place_of s t) (place_of r t) && is_before_next m t r &&
         nat_eq (len_of p (buffer_at r t)) (len_of p (buffer_at s t))
 
+    -- Transfer t of medium m goes, in the right order and length, from the sequence
+    -- that sends it to the one that receives it.
     abbrev pub is_transfer : ℕ → ℕ → Bool
     is_transfer m t = is_transfer_between m t (sender_of m t) (receiver_of m t)
 

@@ -28,6 +28,8 @@ use Rattle.why_text.specs.declared.lines.Head.{Head}
 use Rattle.why_text.specs.declared.lines.Head.TheVariants.{Begin, Loop, Instruction, EndThread, EndMain, Other}
 use Rattle.why_text.specs.declared.lines.SequenceLines.{SequenceLines}
 
+-- The name is that of a macro that is an instruction of a sequence: a call, a change of a semaphore
+-- or a communication.
 abbrev pub is_instruction : Bytes → Bool
 is_instruction w =
     bytes_eq w (codes "op") || bytes_eq w (codes "Suc0_") || bytes_eq w (codes "Suc1_") ||
@@ -48,6 +50,7 @@ abbrev pub head_in : List Bytes → Head
 head_in [] = Other
 head_in (w ∷ ws) = head_of (before is_open w)
 
+-- What a line of the text is, by its first word up to a parenthesis. A comment does not count.
 abbrev pub head_at : Bytes → Head
 head_at line = head_in (words_of (code_of line))
 
@@ -59,9 +62,11 @@ pub record Seen : Type 0 where
   pub threads : List SequenceLines
   pub done : List SequenceLines
 
+-- The lines of a sequence that begins at line n and has no instruction so far.
 abbrev pub begun_at : ℕ → SequenceLines
 begun_at n = record { begin = n; prologue = []; turn = [] }
 
+-- What was seen before the first line: no sequence has begun, and no loop.
 abbrev pub nothing : Seen
 nothing = record { in_loop = false; here = begun_at 0; threads = []; done = [] }
 
@@ -89,10 +94,12 @@ seen_from w n (line ∷ lines) = seen_from (seen w n (head_at line)) (n + 1) lin
 abbrev pub lines_in : Bytes → List SequenceLines
 lines_in text = (seen_from nothing 1 (lines_of text)).done
 
+-- The numbers of the lines with the instructions of this part of a sequence, in their order.
 abbrev pub lines_of_part : Part → SequenceLines → List ℕ
 lines_of_part part.Prologue x = x.prologue
 lines_of_part part.Loop x = x.turn
 
+-- This line if there is one, and line n otherwise.
 abbrev pub line_or : ℕ → Option ℕ → ℕ
 line_or n None = n
 line_or n (Some m) = m
@@ -102,5 +109,8 @@ abbrev pub line_by : Spot → Option SequenceLines → Option ℕ
 line_by y None = None
 line_by y (Some x) = Some (line_or x.begin (slice_get (lines_of_part y.part x) y.at))
 
+-- The number of the line, counted from 1, that has the instruction at this spot. It is the first
+-- line of the sequence if the spot is past its last instruction, and None if there is no such
+-- sequence.
 abbrev pub line_at : List SequenceLines → Spot → Option ℕ
 line_at all y = line_by y (slice_get all y.sequence)

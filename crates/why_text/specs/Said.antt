@@ -30,6 +30,7 @@ use Rattle.check_places.specs.declared.place.Spot.{Spot}
 use Rattle.check_places.specs.Shown.{instructions}
 use Rattle.why_text.specs.Lines.{line_at, lines_in}
 
+-- The spot of instruction i of this part of sequence s.
 abbrev pub spot : Part → ℕ → ℕ → Spot
 spot part s i = record { part = part; sequence = s; at = i }
 
@@ -38,6 +39,7 @@ abbrev pub number_by : Option ℕ → ℕ → ℕ → ℕ
 number_by None seqs threads = seqs
 number_by (Some m) seqs threads = seqs + 1 + threads
 
+-- The number, in the program, of the sequence that is being read.
 abbrev pub number_here : Reading → ℕ
 number_here r = number_by r.medium (length r.seqs) (length r.threads)
 

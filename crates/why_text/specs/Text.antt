@@ -44,6 +44,7 @@ use Rattle.check_places.specs.Shown.{cause_of}
 use Rattle.why_text.specs.declared.lines.SequenceLines.{SequenceLines}
 use Rattle.why_text.specs.Lines.{line_at, lines_in}
 
+-- The code and the name of a cause, as `syndex exec` reports it.
 abbrev pub cause_words : Cause → Bytes
 cause_words sequences_differ = codes "K1 Sequences"
 cause_words calls_wrong = codes "K2 Calls"
@@ -95,6 +96,7 @@ rule_words rule.MissingSignal =
 rule_words rule.FurtherLine = codes "before a loop stands nothing but Pre0_ of the pairs that it reads by"
 
 module _ (n : Names) where
+  -- The word `main` for a main part, and the name of the medium for a thread.
   abbrev pub part_name : Option ℕ → Bytes
   part_name None = codes "main"
   part_name (Some m) = medium_name n m
@@ -111,14 +113,19 @@ pub record Setting : Type 0 where
   pub expected : List Seq
   pub lines : List SequenceLines
 
+-- The words `line N: ` for line N of the text of macro-code, and nothing if there is no line.
 abbrev pub number_text : Option ℕ → Bytes
 number_text None = []
 number_text (Some line) = codes "line " ++ (decimal line ++ codes ": ")
 
 module _ (x : Setting) where
+  -- The processor and the part of sequence s of the program, and `nothing` if the program has no
+  -- sequence s.
   abbrev pub found_text : ℕ → Bytes
   found_text s = sequence_text x.names (slice_get x.found s)
 
+  -- The processor and the part of sequence s of the architecture, and `nothing` if the architecture
+  -- has no sequence s.
   abbrev pub expected_text : ℕ → Bytes
   expected_text s = sequence_text x.names (slice_get x.expected s)
 
@@ -139,14 +146,18 @@ module _ (x : Setting) where
   abbrev pub spot_text : Spot → Bytes
   spot_text y = number_text (line_at x.lines y) ++ found_text y.sequence
 
+  -- The line with the place of an instruction, and nothing if there is no instruction.
   abbrev pub spot_line : Option Spot → Bytes
   spot_line None = []
   spot_line (Some y) = spot_text y ++ codes "\n"
 
+  -- The words for the instruction that is waited for, and nothing if there is none.
   abbrev pub awaited_text : Option Spot → Bytes
   awaited_text None = []
   awaited_text (Some y) = codes " waits for " ++ spot_text y
 
+  -- The line for a loop that is not at its end: its next instruction, and the one for which it
+  -- waits.
   abbrev pub waiting_line : Waiting → Bytes
   waiting_line w =
       spot_text (record { part = Loop; sequence = w.sequence; at = w.at }) ++ (awaited_text w.awaits ++ codes "\n")

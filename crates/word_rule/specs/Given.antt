@@ -73,6 +73,7 @@ module _ (j : JobData) where
   IsHere x = (k : ℕ) → (home_of j.program x < length (element_lens j)) ×
       (slot_of j.program x k < slice_index_or (element_lens j) (home_of j.program x) 0)
 
+  -- The semaphore, the medium or the place that the micro-step names is one of the job.
   abbrev pub IsThere : MicroStep → Type 0
   IsThere (Take x) = x < 2 * length j.program.pairs
   IsThere (See x) = x < 2 * length j.program.pairs
@@ -83,6 +84,8 @@ module _ (j : JobData) where
   IsThere (Load x then) = IsHere x
   IsThere (Store x what) = IsHere x
 
+  -- A run of the job can be made on words of 64 bits: its runs have the laws, every
+  -- semaphore and turn has room for one more, and what its micro-steps name exists.
   pub record RunsOnWords : Type 0 where
     pub supplied : IsSupplied j
     pub formed : IsFormed j
@@ -104,6 +107,7 @@ enables k (See x) n = nat_le 1 n
 enables k (Await m i halves exact) n = turn_reached exact n (k * halves + i)
 enables k _ n = true
 
+-- The micro-step is a take, of any semaphore; a see and a lower are none.
 abbrev pub IsTake : MicroStep → Type 0
 IsTake m = (x : ℕ) × (m ≡ Take x)
 
@@ -123,6 +127,7 @@ AddsOne _ = ⊥
 abbrev pub IsLower : MicroStep → Type 0
 IsLower m = (x : ℕ) × (m ≡ Lower x)
 
+-- The micro-step is a load, from any place.
 abbrev pub IsLoad : MicroStep → Type 0
 IsLoad m = (x : Place) × (then : OnLoad) × (m ≡ Load x then)
 

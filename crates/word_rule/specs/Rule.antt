@@ -30,6 +30,8 @@ pub record AreTold (j : JobData) (counts : List ℕ) : Type 0 where
   pub reached : AreReached j counts
   pub exact : AreExact (told j counts).elements
 
+-- The table is right at these counts: they are reached and determine every word, and
+-- each sequence is driven by exactly one seat, whose view has its count.
 pub record TellsAt (j : JobData) (t : State (Unit {0}) View) (counts : List ℕ) : Type 0 where
   pub are_told : AreTold j counts
   pub words : t.words ≡ table_of (told j counts)
@@ -39,6 +41,7 @@ pub record TellsAt (j : JobData) (t : State (Unit {0}) View) (counts : List ℕ)
   pub apart : (i h s n m : ℕ) → Drives t.views i s n → Drives t.views h s m → i ≡ h
   pub covered : (s : ℕ) → s < length j.program.seqs → IsDriven t.views s
 
+-- The rule, which every step on the table keeps, is that the table is right at some counts.
 abbrev pub Tells : JobData → State (Unit {0}) View → Type 0
 Tells j t = (counts : List ℕ) × TellsAt j t counts
 
@@ -53,6 +56,8 @@ pub record Finds (k : Knowledge) (word found : ℕ) : Type 0 where
   pub agree : Agree k counts
   pub is : found ≡ slice_index_or (table_of (told k.job counts)) word 0
 
+-- If the view is not spent, some reached counts that agree with it determine that this
+-- was found at the word; of a spent view nothing is said.
 abbrev pub FindsBy : View → ℕ → ℕ → Type 0
 FindsBy Spent word found = Unit {0}
 FindsBy (Holds k) word found = Finds k word found

@@ -31,6 +31,8 @@ looked_at s next found = record s {
 abbrev pub kept_by : ℕ → ℕ → SeatData → SeatData
 kept_by groups g s = record s { view = left_of (λ i. nat_eq (i % groups) g) s.view }
 
+-- The new seat drives the sequences of s whose number leaves g when it is divided by
+-- the number of groups, and it has made no look.
 abbrev pub split_off : ℕ → ℕ → SeatData → SeatData
 split_off groups g s = record s { view = right_of (λ i. nat_eq (i % groups) g) s.view }
 

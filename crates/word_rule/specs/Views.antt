@@ -35,14 +35,18 @@ count_in (x ∷ xs) s = cond (nat_eq x.seq s) (Some x.made) (count_in xs s)
 abbrev pub raised : List Count → ℕ → List Count
 raised xs s = map (λ x. cond (nat_eq x.seq s) (record { seq = x.seq; made = x.made + 1 }) x) xs
 
+-- By this view sequence s has made this many micro-steps; it is none if the view does
+-- not drive s, or is spent.
 abbrev pub count_by : View → ℕ → Option ℕ
 count_by Spent s = None
 count_by (Holds k) s = count_in k.driven s
 
+-- The view is one of the job j; a spent view is one of any job.
 abbrev pub IsFor : JobData → View → Type 0
 IsFor j Spent = Unit {0}
 IsFor j (Holds k) = k.job ≡ j
 
+-- One more micro-step of sequence s is counted, if it is driven; all else is as before.
 abbrev pub stepped : Knowledge → ℕ → Knowledge
 stepped k s = record { job = k.job; driven = raised k.driven s; looks = k.looks; word = k.word; found = k.found }
 
@@ -79,6 +83,7 @@ left_of test (Holds k) = Holds record {
   found = k.found;
 }
 
+-- The new seat gets the sequences that pass the test, and no look; of a spent view it gets nothing.
 abbrev pub right_of : (ℕ → Bool) → View → View
 right_of test Spent = Spent
 right_of test (Holds k) = Holds record { job = k.job; driven = picked test k.driven; looks = 0; word = 0; found = 0 }

@@ -26,6 +26,7 @@ word_of x = cast_unsigned w64 x
 abbrev pub IsExact : ℤ → Type 0
 IsExact x = cast_signed w64 (word_of x) ≡ x
 
+-- Every element of these lists is the one that its word gives back, so that it fits into a word.
 abbrev pub AreExact : List (List ℤ) → Type 0
 AreExact elements = (h q : ℕ) → IsExact (element_in elements h q)
 
@@ -43,6 +44,7 @@ module _ (j : JobData) where
   abbrev pub element_lens : List ℕ
   element_lens = map length (opening j).elements
 
+  -- The turn of medium m is the word of this number in the table.
   abbrev pub turn_word : ℕ → ℕ
   turn_word m = suc (2 * length j.program.pairs + m)
 
@@ -50,6 +52,7 @@ module _ (j : JobData) where
   abbrev pub elements_start : ℕ → ℕ
   elements_start h = suc (2 * length j.program.pairs + (j.media + sum (take h element_lens)))
 
+  -- The element in place x is the word of this number in the table, in reaction k.
   abbrev pub element_word : Place → ℕ → ℕ
   element_word x k = elements_start (home_of j.program x) + slot_of j.program x k
 

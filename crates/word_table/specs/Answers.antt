@@ -76,6 +76,8 @@ abbrev pub answer_by : JobData → Core → ℕ → Option MicroStep → MicroAn
 answer_by j z s None = Finished
 answer_by j z s (Some m) = cond (enabled_in z (reaction j z s) m) Stepped NotYet
 
+-- A try of sequence s in state z of the core is Finished if it has no next micro-step,
+-- Stepped if that is enabled, and otherwise NotYet.
 abbrev pub answer_in : JobData → Core → ℕ → MicroAnswer
 answer_in j z s = answer_by j z s (next j z s)
 

@@ -41,6 +41,7 @@ pub record Look : Type 0 where
   pub word : ℕ
   pub found : ℕ
 
+-- A driver makes the micro-steps of one group of the sequences of a fabric.
 pub record DriverData : Type 0 where
   -- the fabric that it drives, and the number of its group
   pub fabric : FabricData
@@ -117,6 +118,7 @@ pub record IsNew (d : DriverData) : Type 0 where
   pub counts : d.counts ≡ replicate (length d.fabric.job.program.seqs) 0
   pub look : d.look.number ≡ 0
 
+-- None of these drivers has made a micro-step or recorded a look.
 abbrev pub AreNew : List DriverData → Type 0
 AreNew drivers = (g : ℕ) (d : DriverData) → slice_get drivers g ≡ Some d → IsNew d
 
@@ -124,6 +126,7 @@ AreNew drivers = (g : ℕ) (d : DriverData) → slice_get drivers g ≡ Some d �
 abbrev pub IsFinished : DriverData → Type 0
 IsFinished d = (s : ℕ) → Drives d s → slice_index_or d.counts s 0 ≡ full d.fabric.job s
 
+-- Each of these drivers has made all micro-steps of its sequences.
 abbrev pub AreFinished : List DriverData → Type 0
 AreFinished drivers = (g : ℕ) (d : DriverData) → slice_get drivers g ≡ Some d → IsFinished d
 

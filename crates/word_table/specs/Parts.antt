@@ -128,9 +128,12 @@ abbrev pub last_look : View → Look
 last_look Spent = record { number = 0; word = 0; found = 0 }
 last_look (Holds k) = record { number = k.looks; word = k.word; found = k.found }
 
+-- Contracts see a fabric as its table, its job and its number of groups.
 abbrev pub fabric_view : FabricParts → FabricData
 fabric_view f = record { table = f.table.table; job = f.job.now; groups = f.groups }
 
+-- Contracts see a driver as its fabric and group, its counts, its last look, and what
+-- its sequences have of their own.
 abbrev pub driver_view : DriverParts → DriverData
 driver_view d = record {
   fabric = record { table = d.seat.table; job = d.job.now; groups = d.groups };
