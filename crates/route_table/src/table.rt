@@ -42,8 +42,10 @@ impl Routes {
         self.routes[place(self.operators, from, to)].as_slice()
     }
 
-    /// How many hops the least route from one operator to the other has.
-    fn level(&self, from: u32, to: u32) -> u32
+    /// The level of the second operator, seen from the first one: how many hops the least route to it
+    /// has, 0 from an operator to itself. The levels certify the table: each medium changes a level by at
+    /// most one.
+    pub fn level(&self, from: u32, to: u32) -> u32
         requires { (from < self.now.operators) × (to < self.now.operators) }
         ensures { result ≡ level_in self.now from to }
     {
